@@ -1,0 +1,2 @@
+pub mod PortionsLemmas
+pub mod DraftLemmas

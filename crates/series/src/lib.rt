@@ -1,0 +1,9 @@
+//! Series of robots: their listings and diagnostics, written on two channels piece by piece.
+#![tactic(auto)]
+
+mod pen;
+mod sink;
+
+pub use pen::{PAGE, Pen};
+pub use sink::{Sink, put_all};
+pub use tokens::{DeviceFault, Feed};
