@@ -1,2 +1,3 @@
+pub mod TextsLemmas
 pub mod PortionsLemmas
 pub mod DraftLemmas

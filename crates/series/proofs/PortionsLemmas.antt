@@ -1,5 +1,5 @@
 -- What a sink took in one call after another.
-use Rattle.std.proofs.Common.{◌≡◌, ℕ, ◌+◌, List, [], ◌∷◌, ◌++◌, Option, Some, None, length, take, drop, rules, refl, sym, ap, ◌∙◌, append_assoc}
+use Rattle.std.proofs.Common.{◌≡◌, ℕ, List, [], ◌∷◌, ◌++◌, Some, None, length, take, rules, refl, sym, ap, ◌∙◌, append_assoc}
 use Rattle.std.specs.List.{concat, between}
 use Rattle.std.proofs.lemmas.List.{append-nil, take-append-drop}
 use Rattle.std.proofs.lemmas.Slice.{between_to_end}
@@ -24,10 +24,10 @@ nothing_taken p bytes = record { portions = []; told = and_portions_none p; join
 pub one_more : (before now after : Portions) (bytes left : List ℕ) (n : ℕ) → TakesAllBut before now bytes left
     → after ≡ and_portions now (take n left ∷ []) → TakesAllBut before after bytes (between n (length left) left)
 one_more before now after bytes left n so_far told = record {
-    portions = so_far.portions ++ take n left ∷ [];
-    told = told ∙ ap (λ p. and_portions p (take n left ∷ [])) so_far.told ∙ and_portions_twice before so_far.portions (take n left ∷ []);
-    joined = rw (between_to_end left n (length left) (search rules)) (simp (concat-append, append_assoc, append-nil, take-append-drop) so_far.joined)
-  }
+  portions = so_far.portions ++ take n left ∷ [];
+  told = told ∙ ap (λ p. and_portions p (take n left ∷ [])) so_far.told ∙ and_portions_twice before so_far.portions (take n left ∷ []);
+  joined = rw (between_to_end left n (length left) (search rules)) (simp (concat-append, append_assoc, append-nil, take-append-drop) so_far.joined);
+}
 
 -- nothing is left
 pub all_taken : (before after : Portions) (bytes : List ℕ) → TakesAllBut before after bytes [] → Takes before after bytes
@@ -41,10 +41,10 @@ none_left before after bytes all = record { portions = all.portions; told = all.
 pub all_but_then : (before now after : Portions) (bytes left rest : List ℕ) → TakesAllBut before now bytes left
     → TakesAllBut now after left rest → TakesAllBut before after bytes rest
 all_but_then before now after bytes left rest first second = record {
-    portions = first.portions ++ second.portions;
-    told = second.told ∙ ap (λ p. and_portions p second.portions) first.told ∙ and_portions_twice before first.portions second.portions;
-    joined = simp (concat-append, append_assoc, second.joined) first.joined
-  }
+  portions = first.portions ++ second.portions;
+  told = second.told ∙ ap (λ p. and_portions p second.portions) first.told ∙ and_portions_twice before first.portions second.portions;
+  joined = simp (concat-append, append_assoc, second.joined) first.joined;
+}
 
 -- what was left is taken
 pub takes_then : (before now after : Portions) (bytes left : List ℕ) → TakesAllBut before now bytes left
@@ -61,10 +61,10 @@ front_then before now after bytes left first (rest, second) = (rest, all_but_the
 pub all_but_more : (before after : Portions) (bytes left more : List ℕ) → TakesAllBut before after bytes left
     → TakesAllBut before after (bytes ++ more) (left ++ more)
 all_but_more before after bytes left more so_far = record {
-    portions = so_far.portions;
-    told = so_far.told;
-    joined = sym (append_assoc (concat so_far.portions) left more) ∙ ap (λ l. l ++ more) so_far.joined
-  }
+  portions = so_far.portions;
+  told = so_far.told;
+  joined = sym (append_assoc (concat so_far.portions) left more) ∙ ap (λ l. l ++ more) so_far.joined;
+}
 
 -- a front of the bytes is one of more bytes
 pub front_more : (before after : Portions) (bytes more : List ℕ) → TakesFront before after bytes → TakesFront before after (bytes ++ more)

@@ -1,5 +1,5 @@
 -- What a pen has written of a piece.
-use Rattle.std.specs.Prelude.{◌≡◌, ℕ, ◌+◌, ◌-◌, ◌^◌, ◌<◌, Bool, true, false, List, []}
+use Rattle.std.specs.Prelude.{◌≡◌, ℕ, ◌+◌, ◌-◌, ◌^◌, ◌<◌, Bool, true, false, List, [], ◌++◌}
 use Rattle.series.specs.Portions.{Portions, TakesAllBut, TakesFront}
 
 -- a pen: the bytes on its page, and whether a put has failed
@@ -23,3 +23,8 @@ pub record WritesSoFar (before now : Portions) (n failures : ℕ) (pen : Draft) 
   pub calm : pen.failed ≡ false → failures ≡ n
   pub stopped : pen.failed ≡ true → TakesFront before now text
   pub counted : pen.failed ≡ true → failures ≡ n + 1
+
+-- whatever a pen had written of a piece before, it has then written that and these bytes
+abbrev pub Adds : Portions → ℕ → Draft → Portions → ℕ → Draft → List ℕ → Type 0
+Adds old failures pen new count later bytes = (before : Portions) (n : ℕ) (text : List ℕ)
+    → WritesSoFar before old n failures pen text → WritesSoFar before new n count later (text ++ bytes)

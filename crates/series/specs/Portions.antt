@@ -1,5 +1,5 @@
 -- What a sink took: one portion for each call, in the order of the calls.
-use Rattle.std.specs.Prelude.{◌≡◌, ℕ, List, ◌++◌, Option, Some, None}
+use Rattle.std.specs.Prelude.{◌≡◌, ℕ, ◌+◌, List, ◌++◌, Option, Some, None, Result, MatchResult}
 use Rattle.std.specs.List.{concat}
 
 -- what a sink tells of the portions that it took so far; it may tell nothing
@@ -26,3 +26,10 @@ pub record TakesAllBut (before after : Portions) (bytes left : List ℕ) : Type 
 -- it took a front of these bytes
 abbrev pub TakesFront : Portions → Portions → List ℕ → Type 0
 TakesFront before after bytes = (left : List ℕ) × TakesAllBut before after bytes left
+
+-- What a call left that was to put these bytes, from a sink that had failed n times to one that has failed m times:
+-- if it succeeded, the sink took them and has not failed; if it failed, the sink took a front of them and has failed once.
+abbrev pub Puts : {T E : Type 0} → Result T E → Portions → ℕ → Portions → ℕ → List ℕ → Type 0
+Puts result before n after m bytes = MatchResult result
+    (λ _. Takes before after bytes × (m ≡ n))
+    (λ _. TakesFront before after bytes × (m ≡ n + 1))

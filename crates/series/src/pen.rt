@@ -1,8 +1,8 @@
 //! A pen that writes one piece of the output from its fragments.
 
 ghost use Rattle.std.specs.Prelude.{◌≡◌, ℕ, ◌+◌, ◌-◌, ◌^◌, ◌<◌, ◌≤◌, List, [], ◌∷◌, ◌++◌, length, OnOk, OnErr, true, false};
-ghost use Rattle.series.specs.Portions.{Portions, Takes, TakesFront};
-ghost use Rattle.series.specs.Draft.{Draft, blank, MayFail, WritesSoFar};
+ghost use Rattle.series.specs.Portions.{Portions, Puts};
+ghost use Rattle.series.specs.Draft.{Draft, blank, MayFail, WritesSoFar, Adds};
 
 use crate::sink::{Sink, put_all};
 use arrayvec::ArrayVec;
@@ -42,9 +42,7 @@ impl Pen {
     pub fn add<S: Sink>(&mut self, sink: &mut S, bytes: &[u8])
         requires { MayFail self.old (S.failures sink.old) }
         ensures countable { MayFail self.new (S.failures sink.new) }
-        ensures text { (before : Portions) (n : ℕ) (text : List ℕ)
-            → WritesSoFar before (S.portions sink.old) n (S.failures sink.old) self.old text
-            → WritesSoFar before (S.portions sink.new) n (S.failures sink.new) self.new (text ++ bytes.now) }
+        ensures text { Adds (S.portions sink.old) (S.failures sink.old) self.old (S.portions sink.new) (S.failures sink.new) self.new bytes.now }
     {
         if bytes.len() > self.page.remaining_capacity() {
             self.turn(sink);
@@ -76,9 +74,7 @@ impl Pen {
         requires countable { MayFail self.old (S.failures sink.old) }
         requires empty { self.old.failed ≡ false → self.old.page ≡ [] }
         ensures countable { MayFail self.new (S.failures sink.new) }
-        ensures text { (before : Portions) (n : ℕ) (text : List ℕ)
-            → WritesSoFar before (S.portions sink.old) n (S.failures sink.old) self.old text
-            → WritesSoFar before (S.portions sink.new) n (S.failures sink.new) self.new (text ++ bytes.now) }
+        ensures text { Adds (S.portions sink.old) (S.failures sink.old) self.old (S.portions sink.new) (S.failures sink.new) self.new bytes.now }
     {
         if !self.failed {
             self.failed = put_all(sink, bytes).is_err();
@@ -88,12 +84,9 @@ impl Pen {
     /// Ends the piece: puts what stands on the page, and answers whether the sink took the whole piece.
     pub fn done<S: Sink>(self, sink: &mut S) -> Result<(), DeviceFault>
         requires { MayFail self (S.failures sink.old) }
-        ensures taken { (before : Portions) (n : ℕ) (text : List ℕ)
+        ensures { (before : Portions) (n : ℕ) (text : List ℕ)
             → WritesSoFar before (S.portions sink.old) n (S.failures sink.old) self text
-            → OnOk result (Takes before (S.portions sink.new) text × (S.failures sink.new ≡ n)) }
-        ensures front { (before : Portions) (n : ℕ) (text : List ℕ)
-            → WritesSoFar before (S.portions sink.old) n (S.failures sink.old) self text
-            → OnErr result (TakesFront before (S.portions sink.new) text × (S.failures sink.new ≡ n + 1)) }
+            → Puts result before n (S.portions sink.new) (S.failures sink.new) text }
     {
         let Pen { page, failed } = self;
         if failed {

@@ -1,7 +1,7 @@
 //! Devices that take bytes.
 
 ghost use Rattle.std.specs.Prelude.{◌≡◌, ℕ, ◌+◌, ◌-◌, ◌^◌, ◌<◌, ◌≤◌, List, [], ◌∷◌, length, take, IfOk, OnOk, OnErr};
-ghost use Rattle.series.specs.Portions.{Portions, and_portions, Takes, TakesFront};
+ghost use Rattle.series.specs.Portions.{Portions, and_portions, Puts};
 
 use tokens::DeviceFault;
 
@@ -29,10 +29,7 @@ pub trait Sink {
 /// Writes all of `bytes`, by as many calls as the sink needs; fails where the sink does.
 pub fn put_all<S: Sink>(sink: &mut S, bytes: &[u8]) -> Result<(), DeviceFault>
     requires countable { S.failures sink.old < 2 ^ 64 - 1 }
-    ensures taken { OnOk result (Takes (S.portions sink.old) (S.portions sink.new) bytes.now) }
-    ensures calm { OnOk result (S.failures sink.new ≡ S.failures sink.old) }
-    ensures front { OnErr result (TakesFront (S.portions sink.old) (S.portions sink.new) bytes.now) }
-    ensures counted { OnErr result (S.failures sink.new ≡ S.failures sink.old + 1) }
+    ensures { Puts result (S.portions sink.old) (S.failures sink.old) (S.portions sink.new) (S.failures sink.new) bytes.now }
 {
     let mut rest = bytes;
     while !rest.is_empty() {
