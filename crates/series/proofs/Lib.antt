@@ -1,3 +1,4 @@
+pub mod PiecesLemmas
 pub mod TextsLemmas
 pub mod PortionsLemmas
 pub mod DraftLemmas

@@ -25,8 +25,8 @@ pub name_from : (word : List ℕ) (start : ℕ) → start ≤ length word
     → (0 < start → get_or word (start - 1) 0 ≡ 47) → between start (length word) word ≡ file_name word
 name_from word start within none one =
     let tail : suffix_len (λ b. not (b == 47)) word ≡ length word - start =
-        suffix_len_is (λ b. not (b == 47)) word start 0 within
-            (λ k low high. let other : get_or word k 0 ≢ 47 = none k low high in grind (arith, nat_tests))
-            (λ some. let same : get_or word (start - 1) 0 ≡ 47 = one some in grind (arith, nat_tests)) in
+    suffix_len_is (λ b. not (b == 47)) word start 0 within
+    (λ k low high. let other : get_or word k 0 ≢ 47 = none k low high in grind (arith, nat_tests))
+    (λ some. let same : get_or word (start - 1) 0 ≡ 47 = one some in grind (arith, nat_tests)) in
     let begin : length word - (length word - start) ≡ start = omega arith in
     rw (between_to_end word start (length word) (search rules), tail, begin)

@@ -1,3 +1,5 @@
 pub mod Portions
 pub mod Draft
 pub mod Texts
+pub mod Pieces
+pub mod Setup
