@@ -3,3 +3,4 @@ pub mod Draft
 pub mod Texts
 pub mod Pieces
 pub mod Setup
+pub mod Recording
