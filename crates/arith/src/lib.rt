@@ -1,13 +1,18 @@
-// A library with one function.
+//! Numbers.
 #![tactic(auto)]
 
-ghost use Rattle.std.specs.Prelude.{◌≡◌};
-ghost use Rattle.arith.specs.Echo.{echo_of};
+mod bearings;
+mod circle;
+mod degrees;
+pub mod laws;
+mod operators;
+mod roots;
+mod tables;
+mod tangents;
 
-// The `ensures` clause is the contract: what `echo` returns is `echo_of` of its argument, a definition
-// in `specs/Echo.antt`, which a caller's clause can cite too.
-pub fn echo(x: usize) -> usize
-    ensures { result ≡ echo_of x }
-{
-    x
-}
+pub use bearings::bearing;
+pub use circle::{cos, cosine_at, sin, sine_at};
+pub use degrees::norm_degree;
+pub use operators::{Op, binop};
+pub use roots::root;
+pub use tangents::{atan, tan};

@@ -1,0 +1,7 @@
+pub mod Below
+pub mod OpLemmas
+pub mod DegreeLemmas
+pub mod TableLemmas
+pub mod CircleLemmas
+pub mod RootLemmas
+pub mod BearingLemmas

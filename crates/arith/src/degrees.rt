@@ -1,0 +1,13 @@
+//! Whole degrees of the round.
+
+ghost use Rattle.std.specs.Prelude.{◌≡◌, ◌<◌};
+ghost use Rattle.arith.specs.Degree.{degree_of};
+
+/// The degree of the round, 0 to 359, that a number of degrees stands for (docs/numbers.md, "Degrees").
+#[tactic(auto, unfolding(crate::specs::Degree::degree_of))]
+pub fn norm_degree(degrees: i32) -> u16
+    ensures value { result ≡ degree_of degrees }
+    ensures on_the_round { result < 360 }
+{
+    degrees.rem_euclid(360) as u16
+}

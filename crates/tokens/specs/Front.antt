@@ -1,0 +1,67 @@
+-- What a rest of the source begins with.
+use Rattle.std.specs.Prelude.{ℕ, ◌+◌, ◌*◌, ◌-◌, suc, Bool, false, List, [], ◌∷◌, length, take, drop, Option, Some, None, if◌then◌else◌, ◌==◌, ◌&&◌, nat_le, fold}
+use Rattle.std.specs.List.{prefix_len}
+use Rattle.std.specs.Option.{option_map}
+use Rattle.tokens.specs.Characters.{is_blank, is_letter, is_digit, is_name_byte}
+use Rattle.tokens.specs.Words.{word_of}
+use Rattle.tokens.specs.Marks.{longest_mark, spelling}
+use Rattle.tokens.specs.declared.lexemes.Word.{Word}
+use Rattle.tokens.specs.declared.lexemes.Mark.{Mark}
+use Rattle.tokens.specs.declared.lexemes.Flaw.TheVariants.{BadCharacter, NameTooLong, ConstantTooLarge}
+use Rattle.tokens.specs.declared.lexemes.Token.{Token}
+use Rattle.tokens.specs.declared.lexemes.Token.TheVariants as variant
+
+-- nothing, a blank or a comment of so many bytes, a comment that isn't closed, or a token of so many bytes
+pub data Front : Type 0 where
+  Nothing : Front
+  Space : (count : ℕ) → Front
+  Unclosed : Front
+  Sign : (sign : Token) (count : ℕ) → Front
+
+-- whether the first byte is this one
+abbrev pub begins_with : ℕ → List ℕ → Bool
+begins_with c [] = false
+begins_with c (b ∷ rest) = b == c
+
+-- how many bytes there are up to the first `*/` and with it
+abbrev pub up_to_close : List ℕ → Option ℕ
+up_to_close [] = None
+up_to_close (b ∷ rest) = if (b == 42) && begins_with 47 rest then Some 2 else option_map suc (up_to_close rest)
+
+-- a comment, by where the bytes behind its `/*` close it
+abbrev pub comment : Option ℕ → Front
+comment None = Unclosed
+comment (Some count) = Space (suc (suc count))
+
+-- a name, unless the language keeps it for itself
+abbrev pub name_or : List ℕ → Option Word → Token
+name_or name None = variant.Name name
+name_or name (Some word) = variant.Word word
+
+abbrev pub name_token : List ℕ → Token
+name_token name = if nat_le (length name) 31 then name_or name (word_of name) else variant.Fault NameTooLong
+
+-- the value of decimal digits
+abbrev pub number : List ℕ → ℕ
+number digits = fold (λ value digit. 10 * value + (digit - 48)) 0 digits
+
+abbrev pub constant_token : List ℕ → Token
+constant_token digits = if nat_le (number digits) 2147483647 then variant.Constant (number digits) else variant.Fault ConstantTooLarge
+
+-- the longest mark, or else a byte that no token begins with
+abbrev pub mark : Option Mark → Front
+mark None = Sign (variant.Fault BadCharacter) 1
+mark (Some m) = Sign (variant.Mark m) (length (spelling m))
+
+-- the longest run of bytes at the front that pass a test, as a token
+abbrev pub run : (ℕ → Bool) → (List ℕ → Token) → List ℕ → Front
+run test token_of bytes = Sign (token_of (take (prefix_len test bytes) bytes)) (prefix_len test bytes)
+
+abbrev pub front : List ℕ → Front
+front [] = Nothing
+front (b ∷ rest) =
+    if is_blank b then Space 1
+    else (if is_letter b then run is_name_byte name_token (b ∷ rest)
+    else (if is_digit b then run is_digit constant_token (b ∷ rest)
+    else (if (b == 47) && begins_with 42 rest then comment (up_to_close (drop 1 rest))
+    else mark (longest_mark (b ∷ rest)))))

@@ -1,0 +1,10 @@
+pub mod Feed
+pub mod Name
+pub mod Characters
+pub mod Source
+pub mod Words
+pub mod Marks
+pub mod Front
+pub mod Tokens
+pub mod Window
+pub mod Reading

@@ -1,0 +1,76 @@
+-- The tokens of a source.
+use Rattle.std.specs.Prelude.{ℕ, zero, suc, ◌+◌, Bool, true, false, List, [], ◌∷◌, length, take, if◌then◌else◌, ◌==◌, nat_lt}
+use Rattle.tokens.specs.Source.{source}
+use Rattle.tokens.specs.Front.{Front, Nothing, Space, Unclosed, Sign, front}
+use Rattle.tokens.specs.declared.lexemes.Flaw.TheVariants.{CommentNotClosed, SourceTooLong}
+use Rattle.tokens.specs.declared.lexemes.Token.{Token}
+use Rattle.tokens.specs.declared.lexemes.Token.TheVariants as variant
+use Rattle.tokens.specs.declared.lexemes.Lexeme.{Lexeme}
+
+-- a fault is the last token; else the end is
+abbrev pub is_last : Token → Bool
+is_last variant.End = true
+is_last (variant.Fault flaw) = true
+is_last (variant.Name name) = false
+is_last (variant.Word word) = false
+is_last (variant.Constant value) = false
+is_last (variant.Mark mark) = false
+
+-- what lies ahead in a source: the line that it begins on, how many bytes stand before it,
+-- its bytes up to the limit, and whether the source goes on behind that
+pub record Ahead : Type 0 where
+  pub line : ℕ
+  pub place : ℕ
+  pub bytes : List ℕ
+  pub too_long : Bool
+
+-- one byte further; a line ends with byte 10
+abbrev pub behind_byte : Ahead → Ahead
+behind_byte ahead = go ahead.bytes
+  where
+    go : List ℕ → Ahead
+    go [] = ahead
+    go (b ∷ rest) = record { line = if b == 10 then ahead.line + 1 else ahead.line; place = ahead.place + 1; bytes = rest; too_long = ahead.too_long }
+
+-- so many bytes further
+abbrev pub passed : ℕ → Ahead → Ahead
+passed zero ahead = ahead
+passed (suc n) ahead = passed n (behind_byte ahead)
+
+-- behind the last byte
+abbrev pub at_end : Ahead → Ahead
+at_end ahead = passed (length ahead.bytes) ahead
+
+-- the last token where no other is left: this one, unless the source is too long
+abbrev pub closing : Token → Ahead → Lexeme
+closing token ahead =
+    if ahead.too_long then record { token = variant.Fault SourceTooLong; line = (at_end ahead).line; end = (at_end ahead).place + 1 }
+    else record { token = token; line = ahead.line; end = (at_end ahead).place }
+
+-- a token of so many bytes, with its place
+abbrev pub placed : Token → ℕ → Ahead → Lexeme
+placed token count ahead = record { token = token; line = ahead.line; end = ahead.place + count }
+
+-- what a front gives, and then what is made of the rest
+abbrev pub cut_front : Front → Ahead → (Ahead → List Lexeme) → List Lexeme
+cut_front Nothing ahead others = closing variant.End ahead ∷ []
+cut_front Unclosed ahead others = closing (variant.Fault CommentNotClosed) ahead ∷ []
+cut_front (Space count) ahead others = others (passed count ahead)
+cut_front (Sign sign count) ahead others = placed sign count ahead ∷ (if is_last sign then [] else others (passed count ahead))
+
+-- what lies ahead is cut into at most so many pieces
+abbrev pub cut : ℕ → Ahead → List Lexeme
+cut zero ahead = []
+cut (suc n) ahead = cut_front (front ahead.bytes) ahead (cut n)
+
+-- each piece has a byte at least
+abbrev pub lexemes : Ahead → List Lexeme
+lexemes ahead = cut (suc (length ahead.bytes)) ahead
+
+-- the whole of a source
+abbrev pub from_start : List ℕ → Ahead
+from_start bytes = record { line = 1; place = 0; bytes = take 1048576 bytes; too_long = nat_lt 1048576 (length bytes) }
+
+-- the tokens of a file's bytes
+unfoldable pub tokens : List ℕ → List Lexeme
+tokens bytes = lexemes (from_start (source bytes))
