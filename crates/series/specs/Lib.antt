@@ -4,3 +4,4 @@ pub mod Texts
 pub mod Pieces
 pub mod Setup
 pub mod Recording
+pub mod Output

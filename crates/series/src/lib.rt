@@ -2,6 +2,7 @@
 #![tactic(auto)]
 
 mod limits;
+mod listing;
 mod pen;
 mod recorder;
 mod settings;
@@ -9,6 +10,7 @@ mod sink;
 mod texts;
 
 pub use limits::{CYCLES_DEFAULT, CYCLES_MAX, FILES_MAX, MATCHES_MAX, SEED_DEFAULT};
+pub use listing::put_listing;
 pub use pen::{PAGE, Pen};
 pub use recorder::Recorder;
 pub use settings::{Mode, RunFault, Settings, Status};
