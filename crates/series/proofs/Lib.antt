@@ -1,3 +1,4 @@
+pub mod RunsLemmas
 pub mod PiecesLemmas
 pub mod TextsLemmas
 pub mod PortionsLemmas

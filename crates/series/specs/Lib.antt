@@ -5,3 +5,4 @@ pub mod Pieces
 pub mod Setup
 pub mod Recording
 pub mod Output
+pub mod Runs

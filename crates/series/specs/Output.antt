@@ -1,41 +1,54 @@
 -- What a run writes, by the words that name its files and the bytes of these.
-use Rattle.std.specs.Prelude.{ℕ, List, Result, Ok, Err, Bool, map, zip, is_err, if◌then◌else◌}
+use Rattle.std.specs.Prelude.{ℕ, List, Result, Ok, Err, Bool, map, is_err, if◌then◌else◌}
 use Rattle.std.specs.List.{list_any}
 use Rattle.lang.specs.declared.diagnostics.Diagnostic.{Diagnostic}
 use Rattle.lang.specs.Compiled.{compiled}
 use Rattle.lang.specs.Profile.{Profile}
 use Rattle.lang.specs.Texts.{text_of}
 use Rattle.lang.specs.Tree.{File}
-use Rattle.code.specs.Listing.{listing}
+use Rattle.code.specs.Listing.{Code, code_of, lines_of}
 use Rattle.series.specs.declared.settings.Status.{Status}
 use Rattle.series.specs.declared.settings.Status.TheVariants.{Done, Faulty}
 use Rattle.series.specs.Pieces.{Piece, Text, Faults}
-use Rattle.series.specs.Texts.{file_name, diagnostic_line}
+use Rattle.series.specs.Texts.{file_name, listing_text, diagnostic_line}
 
--- the pieces, each on its channel, and the status
+-- a source file: the word that names it, and its bytes
+pub record Source : Type 0 where
+  pub word : List ℕ
+  pub bytes : List ℕ
+
+-- the code of a file, or its fault
+abbrev pub code_or_fault : Profile → Result File Diagnostic → Result Code Diagnostic
+code_or_fault profile (Ok file) = Ok (code_of profile file)
+code_or_fault profile (Err d) = Err d
+
+abbrev pub compiled_code : Profile → List ℕ → Result Code Diagnostic
+compiled_code profile bytes = code_or_fault profile (compiled profile bytes)
+
+-- a good file's listing is text, and a faulty one's diagnostic goes to the channel of faults
+abbrev pub piece_of : List ℕ → Result Code Diagnostic → Piece
+piece_of name (Ok code) = record { channel = Text; bytes = listing_text name (lines_of code) }
+piece_of name (Err d) = record { channel = Faults; bytes = diagnostic_line name d.line (text_of d.code) }
+
+abbrev pub source_piece : Profile → Source → Piece
+source_piece profile source = piece_of (file_name source.word) (compiled_code profile source.bytes)
+
+abbrev pub is_faulty : Profile → Source → Bool
+is_faulty profile source = is_err (compiled profile source.bytes)
+
+-- what is written where files are listed: the piece of each in order
+abbrev pub listings : Profile → List Source → List Piece
+listings profile sources = map (source_piece profile) sources
+
+-- whether a file had a fault
+abbrev pub status_of : Profile → List Source → Status
+status_of profile sources = if list_any (is_faulty profile) sources then Faulty else Done
+
+-- the pieces of a run, and its status
 pub record Output : Type 0 where
   pub pieces : List Piece
   pub status : Status
 
--- the listing of a good file, or the diagnostic of a faulty one
-abbrev pub piece_of : Profile → List ℕ → Result File Diagnostic → Piece
-piece_of profile word (Ok file) = record { channel = Text; bytes = listing profile (file_name word) file }
-piece_of profile word (Err d) = record { channel = Faults; bytes = diagnostic_line (file_name word) d.line (text_of d.code) }
-
--- a file's word and bytes
-abbrev pub file_piece : Profile → List ℕ × List ℕ → Piece
-file_piece profile file = piece_of profile file.0 (compiled profile file.1)
-
-abbrev pub is_faulty : Profile → List ℕ × List ℕ → Bool
-is_faulty profile file = is_err (compiled profile file.1)
-
--- where files are listed: each file in order
-abbrev pub file_pieces : Profile → List (List ℕ × List ℕ) → List Piece
-file_pieces profile files = map (file_piece profile) files
-
-abbrev pub status_of : Profile → List (List ℕ × List ℕ) → Status
-status_of profile files = if list_any (is_faulty profile) files then Faulty else Done
-
--- what a run writes that lists files
-abbrev pub output_of_listing : Profile → List (List ℕ × List ℕ) → Output
-output_of_listing profile files = record { pieces = file_pieces profile files; status = status_of profile files }
+-- the output of a run that lists files
+abbrev pub listing_output : Profile → List Source → Output
+listing_output profile sources = record { pieces = listings profile sources; status = status_of profile sources }

@@ -5,6 +5,7 @@ mod limits;
 mod listing;
 mod pen;
 mod recorder;
+mod runs;
 mod settings;
 mod sink;
 mod texts;
@@ -13,6 +14,7 @@ pub use limits::{CYCLES_DEFAULT, CYCLES_MAX, FILES_MAX, MATCHES_MAX, SEED_DEFAUL
 pub use listing::put_listing;
 pub use pen::{PAGE, Pen};
 pub use recorder::Recorder;
+pub use runs::run;
 pub use settings::{Mode, RunFault, Settings, Status};
 pub use sink::{Sink, put_all};
 pub use texts::{name_of, put_diagnostic};

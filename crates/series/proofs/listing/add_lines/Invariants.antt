@@ -9,4 +9,4 @@ abbrev pub invariant-loop-n : goal.invariant-loop-n
 invariant-loop-n g l =
     MayFail l.pen (g.S.Sink.failures l.sink)
     × Adds (g.S.Sink.portions l.fn.sink) (g.S.Sink.failures l.fn.sink) l.fn.pen
-        (g.S.Sink.portions l.sink) (g.S.Sink.failures l.sink) l.pen (lines_text (take l.n (lines_of l.program)))
+    (g.S.Sink.portions l.sink) (g.S.Sink.failures l.sink) l.pen (lines_text (take l.n (lines_of l.program)))

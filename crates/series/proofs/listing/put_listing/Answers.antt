@@ -1,11 +1,10 @@
-use Rattle.std.proofs.Common.{append_assoc}
 use Rattle.series.proofs.DraftLemmas.{writes_nothing}
 use Rattle.series.proofs.listing.put_listing.Goals as goal
 
 pub returns : goal.returns
 returns g c =
     c.done.ensures _ _ _
-        (c.add_lines.ensures.text _ _ _
-            (c.add-3.ensures.text _ _ _
-                (c.add-2.ensures.text _ _ _
-                    (c.add.ensures.text _ _ _ (writes_nothing _ _ _ c.new-pen.ensures)))))
+    (c.add_lines.ensures.text _ _ _
+    (c.add-3.ensures.text _ _ _
+    (c.add-2.ensures.text _ _ _
+    (c.add.ensures.text _ _ _ (writes_nothing _ _ _ c.new-pen.ensures)))))
