@@ -154,8 +154,8 @@ module _ {X : Type 0} where
 
   -- the name of a source's file
   pub name_here : (bytes : X → List ℕ) (words : List X) (sources : List Source) (told : List (Option (List ℕ))) (file : ℕ) (x : X) (word name : List ℕ)
-      → AreSources sources (map bytes words) told → file < length words → x ≡ get_or words file x → word ≡ bytes x → name ≡ file_name word
+      → AreSources sources (map bytes words) told → file < length words → word ≡ bytes (get_or words file x) → name ≡ file_name word
       → name ≡ file_name (get_or sources file no_source).word
-  name_here bytes words sources told file x word name are within here is named =
+  name_here bytes words sources told file x word name are within is named =
       let in_words : file < length (map bytes words) = rw (length-map words bytes) within in
-      named ∙ ap file_name (is ∙ ap bytes here ∙ sym (get_or-map bytes words file x [] within) ∙ word_here sources (map bytes words) told file are in_words)
+      named ∙ ap file_name (is ∙ sym (get_or-map bytes words file x [] within) ∙ word_here sources (map bytes words) told file are in_words)

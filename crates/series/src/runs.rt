@@ -1,6 +1,6 @@
 //! Runs: the listing or the diagnostic of each file, in order.
 
-ghost use Rattle.std.specs.Prelude.{◌≡◌, ℕ, ◌+◌, ◌-◌, ◌^◌, ◌<◌, ◌≤◌, List, [], ◌∷◌, Option, Some, length, map, All, Result, MatchResult, OnOk, IfOk, OnErr, string_bytes};
+ghost use Rattle.std.specs.Prelude.{◌≡◌, ℕ, ◌+◌, ◌-◌, ◌^◌, ◌<◌, ◌≤◌, List, [], ◌∷◌, Option, Some, length, map, All, Result, MatchResult, OnOk, IfOk, OnErr};
 ghost use Rattle.lang.specs.Profile.{first_profile};
 ghost use Rattle.tokens.specs.Feed.{Counts};
 ghost use Rattle.series.specs.Output.{Source, compiled_code, piece_of};
@@ -41,7 +41,7 @@ pub fn run<F: Feed, O: Sink, E: Sink>(
 
 /// Lists each file, or puts its diagnostic.
 fn list_files<F: Feed, O: Sink, E: Sink>(
-    words: &[String],
+    words: &[&str],
     feeds: &mut [F],
     out: &mut O,
     err: &mut E,
@@ -50,7 +50,7 @@ fn list_files<F: Feed, O: Sink, E: Sink>(
     requires feeds { All (λ feed. F.failures feed < 2 ^ 64 - 1) feeds.old }
     requires text { O.failures out.old < 2 ^ 64 - 1 }
     requires faults { E.failures err.old < 2 ^ 64 - 1 }
-    ensures output { (sources : List Source) → AreSources sources (map string_bytes words.now) (map F.to_come feeds.old)
+    ensures output { (sources : List Source) → AreSources sources (map (λ word. word.now) words.now) (map F.to_come feeds.old)
         → Lists first_profile sources result (taken (O.portions out.old) (E.portions err.old)) (taken (O.portions out.new) (E.portions err.new)) }
     ensures failures { Accounts result
         (failures (map F.failures feeds.old) (O.failures out.old) (E.failures err.old))

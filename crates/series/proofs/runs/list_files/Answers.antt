@@ -1,5 +1,5 @@
 use Rattle.std.proofs.Common.{◌≡◌, ◌<◌, ◌^◌, ◌-◌, ◌∙◌, sym, length, map, arith}
-use Rattle.std.specs.Prelude.{string_bytes, is_err, if◌then◌else◌}
+use Rattle.std.specs.Prelude.{is_err, if◌then◌else◌}
 use Rattle.std.proofs.lemmas.List.{length-map}
 use Rattle.std.proofs.lemmas.List.Elements.{All-get_or}
 use Rattle.lang.specs.Profile.{first_profile}
@@ -26,14 +26,14 @@ pub returns-in-Err-put_compiled-clause-output : goal.returns-in-Err-put_compiled
 returns-in-Err-put_compiled-clause-output g c = λ sources are.
     let within : c.loop-file.file < length c.args.feeds.now = omega arith in
     let in_words : c.loop-file.file < length c.args.words.now = omega arith in
-    let words : length c.args.feeds.now ≡ length (map string_bytes c.args.words.now) = c.requires.files ∙ sym (length-map c.args.words.now string_bytes) in
+    let words : length c.args.feeds.now ≡ length (map (λ word. word.now) c.args.words.now) = c.requires.files ∙ sym (length-map c.args.words.now (λ word. word.now)) in
     let in_sources : c.loop-file.file < length sources = rw (length_sources sources _ _ are, sym words) within in
     lists_cut first_profile sources c.loop-file.file c.loop-file.status _ _ _ c.in-Ok.compiled in_sources
     (c.loop-file.invariant.2 sources are)
-    (c.in-Ok.ensures.file _ (told_here g.F.Feed.to_come c.args.feeds.now c.loop-file.feeds sources (map string_bytes c.args.words.now) c.loop-file.file
+    (c.in-Ok.ensures.file _ (told_here g.F.Feed.to_come c.args.feeds.now c.loop-file.feeds sources (map (λ word. word.now) c.args.words.now) c.loop-file.file
     c.index-feeds-file.result are words within c.loop-file.invariant.0))
-    (rw (name_here string_bytes c.args.words.now sources _ c.loop-file.file c.index-words-file.result c.as_bytes.result.now c.name_of-name.result.now
-    are in_words c.index-words-file.is c.as_bytes.ensures.value c.name_of-name.ensures) at c.in-Err-put_compiled.ensures.taken)
+    (rw (name_here (λ word. word.now) c.args.words.now sources _ c.loop-file.file _ c.as_bytes.result.now c.name_of-name.result.now
+    are in_words c.as_bytes.ensures.value c.name_of-name.ensures) at c.in-Err-put_compiled.ensures.taken)
 
 pub returns-in-Err-put_compiled-clause-failures : goal.returns-in-Err-put_compiled-clause-failures
 returns-in-Err-put_compiled-clause-failures g c =
@@ -51,7 +51,7 @@ loop-file-preserved g c = (
   λ sources are.
       let within : c.loop-file.file < length c.args.feeds.now = omega arith in
       let in_words : c.loop-file.file < length c.args.words.now = omega arith in
-      let words : length c.args.feeds.now ≡ length (map string_bytes c.args.words.now) = c.requires.files ∙ sym (length-map c.args.words.now string_bytes) in
+      let words : length c.args.feeds.now ≡ length (map (λ word. word.now) c.args.words.now) = c.requires.files ∙ sym (length-map c.args.words.now (λ word. word.now)) in
       let in_sources : c.loop-file.file < length sources = rw (length_sources sources _ _ are, sym words) within in
       let status : c.if-is_err.status ≡ (if is_err c.in-Ok.compiled then Faulty else c.loop-file.status) =
       elim c.if-is_err.branch [
@@ -60,9 +60,9 @@ loop-file-preserved g c = (
       ] in
       let more = lists_more first_profile sources c.loop-file.file c.loop-file.status _ _ _ c.in-Ok.compiled in_sources
       (c.loop-file.invariant.2 sources are)
-      (c.in-Ok.ensures.file _ (told_here g.F.Feed.to_come c.args.feeds.now c.loop-file.feeds sources (map string_bytes c.args.words.now) c.loop-file.file
+      (c.in-Ok.ensures.file _ (told_here g.F.Feed.to_come c.args.feeds.now c.loop-file.feeds sources (map (λ word. word.now) c.args.words.now) c.loop-file.file
       c.index-feeds-file.result are words within c.loop-file.invariant.0))
-      (rw (name_here string_bytes c.args.words.now sources _ c.loop-file.file c.index-words-file.result c.as_bytes.result.now c.name_of-name.result.now
-      are in_words c.index-words-file.is c.as_bytes.ensures.value c.name_of-name.ensures) at c.in_default.ensures.taken) in
+      (rw (name_here (λ word. word.now) c.args.words.now sources _ c.loop-file.file _ c.as_bytes.result.now c.name_of-name.result.now
+      are in_words c.as_bytes.ensures.value c.name_of-name.ensures) at c.in_default.ensures.taken) in
       (more.0, status ∙ more.1),
 )

@@ -1,5 +1,4 @@
 use Rattle.std.proofs.Common.{◌≡◌, List, Ok, drop, take, map}
-use Rattle.std.specs.Prelude.{string_bytes}
 use Rattle.lang.specs.Profile.{first_profile}
 use Rattle.series.specs.Output.{Source}
 use Rattle.series.specs.Pieces.{taken}
@@ -12,6 +11,6 @@ invariant-loop-file g l =
     (drop l.file l.feeds ≡ drop l.file l.fn.feeds)
     × (failures (map g.F.Feed.failures l.feeds) (g.O.Sink.failures l.out) (g.E.Sink.failures l.err)
     ≡ failures (map g.F.Feed.failures l.fn.feeds) (g.O.Sink.failures l.fn.out) (g.E.Sink.failures l.fn.err))
-    × ((sources : List Source) → AreSources sources (map string_bytes l.words) (map g.F.Feed.to_come l.fn.feeds)
+    × ((sources : List Source) → AreSources sources (map (λ word. word.now) l.words) (map g.F.Feed.to_come l.fn.feeds)
     → Lists first_profile (take l.file sources) (Ok l.status)
     (taken (g.O.Sink.portions l.fn.out) (g.E.Sink.portions l.fn.err)) (taken (g.O.Sink.portions l.out) (g.E.Sink.portions l.err)))
