@@ -8,8 +8,7 @@ ghost use Rattle.series.specs.Texts.{lines_text, listing_text};
 
 use crate::pen::Pen;
 use crate::sink::Sink;
-use arrayvec::ArrayVec;
-use code::Program;
+use code::{Line, Program};
 use tokens::DeviceFault;
 
 /// Puts the listing of a program: the line of the file's name, and the program's lines.
@@ -31,7 +30,7 @@ fn add_lines<S: Sink>(pen: &mut Pen, sink: &mut S, program: &Program)
     ensures countable { MayFail pen.new (S.failures sink.new) }
     ensures text { Adds (S.portions sink.old) (S.failures sink.old) pen.old (S.portions sink.new) (S.failures sink.new) pen.new (lines_text (lines_of program.now)) }
 {
-    let mut line = ArrayVec::new();
+    let mut line = Line::new();
     for n in 0..program.lines() {
         program.listing_line(n, &mut line);
         pen.add(sink, line.as_slice());
