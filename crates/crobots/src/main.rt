@@ -4,6 +4,8 @@
 mod devices;
 mod endings;
 mod programs;
+#[cfg(test)]
+mod tests;
 mod words;
 
 use crate::devices::StreamSink;

@@ -1,3 +1,4 @@
+pub mod ProgramsLemmas
 pub mod RunsLemmas
 pub mod PiecesLemmas
 pub mod TextsLemmas

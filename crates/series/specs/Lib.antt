@@ -6,3 +6,4 @@ pub mod Setup
 pub mod Recording
 pub mod Output
 pub mod Runs
+pub mod Programs

@@ -4,6 +4,7 @@
 mod limits;
 mod listing;
 mod pen;
+mod programs;
 mod recorder;
 mod runs;
 mod settings;
@@ -13,6 +14,7 @@ mod texts;
 pub use limits::{CYCLES_DEFAULT, CYCLES_MAX, FILES_MAX, MATCHES_MAX, SEED_DEFAULT};
 pub use listing::put_listing;
 pub use pen::{PAGE, Pen};
+pub use programs::Programs;
 pub use recorder::Recorder;
 pub use runs::run;
 pub use settings::{Mode, RunFault, Settings, Status};
