@@ -1,5 +1,5 @@
 -- What a run writes, by the words that name its files and the bytes of these.
-use Rattle.std.specs.Prelude.{ℕ, List, Result, Ok, Err, Bool, map, is_err, if◌then◌else◌}
+use Rattle.std.specs.Prelude.{ℕ, List, [], ◌∷◌, ◌++◌, Option, Some, None, Result, Ok, Err, Bool, map, fold, is_err, if◌then◌else◌}
 use Rattle.std.specs.List.{list_any}
 use Rattle.lang.specs.declared.diagnostics.Diagnostic.{Diagnostic}
 use Rattle.lang.specs.Compiled.{compiled}
@@ -43,6 +43,15 @@ listings profile sources = map (source_piece profile) sources
 -- whether a file had a fault
 abbrev pub status_of : Profile → List Source → Status
 status_of profile sources = if list_any (is_faulty profile) sources then Faulty else Done
+
+-- the codes so far with that of one more file; a faulty file leaves none
+abbrev pub and_code : Option (List Code) → Result Code Diagnostic → Option (List Code)
+and_code (Some codes) (Ok code) = Some (codes ++ code ∷ [])
+and_code _ _ = None
+
+-- the code of each file in order, where none has a fault
+abbrev pub codes_of : Profile → List Source → Option (List Code)
+codes_of profile sources = fold (λ codes source. and_code codes (compiled_code profile source.bytes)) (Some []) sources
 
 -- the pieces of a run, and its status
 pub record Output : Type 0 where

@@ -1,10 +1,11 @@
 -- What a run leaves: what the sinks took, and which devices failed.
-use Rattle.std.specs.Prelude.{◌≡◌, ◌⊎◌, ℕ, ◌+◌, ◌<◌, List, [], ◌∷◌, Option, Some, Result, Ok, Err, MatchResult, length, map, take, slice_index, slice_set}
+use Rattle.std.specs.Prelude.{◌≡◌, ◌⊎◌, ℕ, ◌+◌, ◌<◌, List, [], ◌∷◌, Option, Some, Result, MatchResult, length, map, take, slice_index, slice_set}
 use Rattle.lang.specs.Profile.{Profile}
+use Rattle.code.specs.Listing.{Code}
 use Rattle.series.specs.declared.settings.RunFault.{RunFault}
 use Rattle.series.specs.declared.settings.RunFault.TheVariants as fault
 use Rattle.series.specs.declared.settings.Status.{Status}
-use Rattle.series.specs.Output.{Source, listings, listing_output}
+use Rattle.series.specs.Output.{Source, listings, codes_of, listing_output}
 use Rattle.series.specs.Pieces.{Piece, Taken, Writes, Begins}
 
 -- the sources stand under these words, and the devices tell their bytes
@@ -12,14 +13,24 @@ pub record AreSources (sources : List Source) (words : List (List ℕ)) (told : 
   pub named : map (λ s. s.word) sources ≡ words
   pub bytes : map (λ s. Some s.bytes) sources ≡ told
 
--- What the sinks took in a run that lists files: its output; after a failed write a beginning of it; where
--- reading a file failed what the files before it give.
+-- What the sinks took where files are listed and a device stopped it: after a failed write a beginning of the listings;
+-- where reading a file failed what the files before it give.
+abbrev pub StopsListing : Profile → List Source → RunFault → Taken → Taken → Type 0
+StopsListing profile sources (fault.Read file) before after = Writes before after (listings profile (take file sources))
+StopsListing profile sources fault.Write before after = Begins before after (listings profile sources)
+StopsListing profile sources fault.Memory before after = ⊥
+
+-- the files were listed: the sinks took all of it, and the programs are theirs, where none has a fault
+abbrev pub Compiles : Profile → List Source → Result (Option (List Code)) RunFault → Taken → Taken → Type 0
+Compiles profile sources result before after = MatchResult result
+    (λ programs. Writes before after (listings profile sources) × (programs ≡ codes_of profile sources))
+    (λ fault. StopsListing profile sources fault before after)
+
+-- a run that lists files: the sinks took its output, and it ended with its status
 abbrev pub Lists : Profile → List Source → Result Status RunFault → Taken → Taken → Type 0
-Lists profile sources (Ok status) before after =
-    Writes before after (listing_output profile sources).pieces × (status ≡ (listing_output profile sources).status)
-Lists profile sources (Err (fault.Read file)) before after = Writes before after (listings profile (take file sources))
-Lists profile sources (Err fault.Write) before after = Begins before after (listings profile sources)
-Lists profile sources (Err fault.Memory) before after = ⊥
+Lists profile sources result before after = MatchResult result
+    (λ status. Writes before after (listing_output profile sources).pieces × (status ≡ (listing_output profile sources).status))
+    (λ fault. StopsListing profile sources fault before after)
 
 -- how often each feed, the sink of texts and that of faults have failed
 pub record Failures : Type 0 where
@@ -46,7 +57,7 @@ StoppedBy fault.Write before after = SinkFailed before after
 StoppedBy fault.Memory before after = ⊥
 
 -- no device failed, or the one that stopped the run
-abbrev pub Accounts : Result Status RunFault → Failures → Failures → Type 0
+abbrev pub Accounts : {A : Type 0} → Result A RunFault → Failures → Failures → Type 0
 Accounts result before after = MatchResult result (λ _. after ≡ before) (λ fault. StoppedBy fault before after)
 
 -- the sinks took the piece, or a front of it

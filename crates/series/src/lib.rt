@@ -16,7 +16,7 @@ pub use listing::put_listing;
 pub use pen::{PAGE, Pen};
 pub use programs::Programs;
 pub use recorder::Recorder;
-pub use runs::run;
+pub use runs::{compile_files, run};
 pub use settings::{Mode, RunFault, Settings, Status};
 pub use sink::{Sink, put_all};
 pub use texts::{name_of, put_diagnostic};

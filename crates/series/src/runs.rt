@@ -5,10 +5,11 @@ ghost use Rattle.lang.specs.Profile.{first_profile};
 ghost use Rattle.tokens.specs.Feed.{Counts};
 ghost use Rattle.series.specs.Output.{Source, compiled_code, piece_of};
 ghost use Rattle.series.specs.Pieces.{taken, Writes, Begins};
-ghost use Rattle.series.specs.Runs.{AreSources, Lists, failures, Accounts, PutsPiece, CountsSinks};
+ghost use Rattle.series.specs.Runs.{AreSources, Compiles, Lists, failures, Accounts, PutsPiece, CountsSinks};
 ghost use Rattle.series.specs.Texts.{file_name};
 
 use crate::listing::put_listing;
+use crate::programs::Programs;
 use crate::settings::{Mode, RunFault, Settings, Status};
 use crate::sink::Sink;
 use crate::texts::{name_of, put_diagnostic};
@@ -36,41 +37,49 @@ pub fn run<F: Feed, O: Sink, E: Sink>(
         (failures (map F.failures feeds.old) (O.failures out.old) (E.failures err.old))
         (failures (map F.failures feeds.new) (O.failures out.new) (E.failures err.new)) }
 {
-    list_files(settings.words(), feeds, out, err)
+    match compile_files(settings, feeds, out, err) {
+        Ok(Some(_)) => Ok(Status::Done),
+        Ok(None) => Ok(Status::Faulty),
+        Err(fault) => Err(fault),
+    }
 }
 
-/// Lists each file, or puts its diagnostic.
-fn list_files<F: Feed, O: Sink, E: Sink>(
-    words: &[&str],
+/// Compiles each file and lists it, or puts its diagnostic. Answers the programs where no file has a fault.
+pub fn compile_files<F: Feed, O: Sink, E: Sink>(
+    settings: &Settings,
     feeds: &mut [F],
     out: &mut O,
     err: &mut E,
-) -> Result<Status, RunFault>
-    requires files { length feeds.old ≡ length words.now }
+) -> Result<Option<Programs>, RunFault>
+    requires files { length feeds.old ≡ length settings.now.words }
+    requires listing { settings.now.mode ≡ Mode.Listing }
     requires feeds { All (λ feed. F.failures feed < 2 ^ 64 - 1) feeds.old }
     requires text { O.failures out.old < 2 ^ 64 - 1 }
     requires faults { E.failures err.old < 2 ^ 64 - 1 }
-    ensures output { (sources : List Source) → AreSources sources (map (λ word. word.now) words.now) (map F.to_come feeds.old)
-        → Lists first_profile sources result (taken (O.portions out.old) (E.portions err.old)) (taken (O.portions out.new) (E.portions err.new)) }
+    ensures output { (sources : List Source) → AreSources sources settings.now.words (map F.to_come feeds.old)
+        → Compiles first_profile sources result (taken (O.portions out.old) (E.portions err.old)) (taken (O.portions out.new) (E.portions err.new)) }
     ensures failures { Accounts result
         (failures (map F.failures feeds.old) (O.failures out.old) (E.failures err.old))
         (failures (map F.failures feeds.new) (O.failures out.new) (E.failures err.new)) }
 {
-    let mut status = Status::Done;
+    let words = settings.words();
+    let mut programs = Programs::new();
+    let mut faulty = false;
     for file in 0..feeds.len() {
         let compiled = match compile(&mut feeds[file]) {
             Ok(compiled) => compiled,
             Err(DeviceFault) => return Err(RunFault::Read(file)),
         };
-        if compiled.is_err() {
-            status = Status::Faulty;
-        }
         let name = name_of(words[file].as_bytes());
         if let Err(DeviceFault) = put_compiled(name, &compiled, out, err) {
             return Err(RunFault::Write);
         }
+        match compiled {
+            Ok(program) => programs.push(program),
+            Err(_) => faulty = true,
+        }
     }
-    Ok(status)
+    if faulty { Ok(None) } else { Ok(Some(programs)) }
 }
 
 /// Puts the listing of a good file, or the diagnostic of a faulty one.
