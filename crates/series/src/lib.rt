@@ -23,4 +23,6 @@ pub use texts::{name_of, put_diagnostic};
 pub use tokens::{DeviceFault, Feed};
 
 #[cfg(test)]
+mod run_tests;
+#[cfg(test)]
 mod tests;
