@@ -5,7 +5,7 @@ use Rattle.std.specs.Int.Signed.{≤ℤ_refl}
 use Rattle.std.specs.List.{Contains, All, range_with_len}
 use Rattle.std.specs.Ordering.{int_eq}
 use borrow.Author.Count.{below_more}
-use Rattle.std.proofs.lemmas.Int.{ints, fits_signed_from_abs, unsigned_abs-mul, by_lt_z, fold-int_max_bounds, fold-int_max_reached}
+use Rattle.std.proofs.lemmas.Int.{ints, to_z-of_z, fits_signed_from_abs, unsigned_abs-mul, by_lt_z, fold-int_max_bounds, fold-int_max_reached}
 use Rattle.std.proofs.lemmas.Nat.{mul-le}
 use Rattle.std.proofs.lemmas.List.Sums.{position_or_len_is}
 use Rattle.std.proofs.lemmas.Bool.Decides.{Decides-int_eq}
@@ -15,27 +15,23 @@ use Rattle.arith.specs.Circle.{sine_at, cosine_at}
 use Rattle.arith.specs.Bearing.{reach_of, IsBearing, first_greatest, reaches, bearing_of}
 
 -- a reach fits 32 bits, and so do its two parts
-pub record ReachFits (dx dy cosine sine : ℤ) : Type 0 where
-  pub east : FitsSigned w32 (dx *ℤ cosine)
-  pub north : FitsSigned w32 (dy *ℤ sine)
-  pub whole : FitsSigned w32 (dx *ℤ cosine +ℤ dy *ℤ sine)
-
 size_of_sum : (a b : ℤ) → unsigned_abs (a +ℤ b) ≤ unsigned_abs a + unsigned_abs b
 size_of_sum a b = omega (arith, ints)
 
 part_size : (d s : ℤ) → unsigned_abs d ≤ 999 → unsigned_abs s ≤ 100000 → unsigned_abs (d *ℤ s) ≤ 99900000
 part_size d s p q = rw (unsigned_abs-mul d s) (mul-le (unsigned_abs d) (unsigned_abs s) 999 100000 p q)
 
-pub reach_fits : (dx dy cosine sine : ℤ) → unsigned_abs dx ≤ 999 → unsigned_abs dy ≤ 999 → unsigned_abs cosine ≤ 100000 → unsigned_abs sine ≤ 100000 → ReachFits dx dy cosine sine
+pub part_fits : (d s : ℤ) → unsigned_abs d ≤ 999 → unsigned_abs s ≤ 100000 → FitsSigned w32 (d *ℤ s)
+part_fits d s p q = let size = part_size d s p q in fits_signed_from_abs w32 (d *ℤ s) (omega arith)
+
+pub reach_fits : (dx dy cosine sine : ℤ) → unsigned_abs dx ≤ 999 → unsigned_abs cosine ≤ 100000 → unsigned_abs dy ≤ 999 → unsigned_abs sine ≤ 100000 → FitsSigned w32 (dx *ℤ cosine +ℤ dy *ℤ sine)
 reach_fits dx dy cosine sine p q r s =
-    let east = part_size dx cosine p r in
-    let north = part_size dy sine q s in
+    let east = part_size dx cosine p q in
+    let north = part_size dy sine r s in
     let sum = size_of_sum (dx *ℤ cosine) (dy *ℤ sine) in
-    record {
-      east = fits_signed_from_abs w32 (dx *ℤ cosine) (omega arith);
-      north = fits_signed_from_abs w32 (dy *ℤ sine) (omega arith);
-      whole = fits_signed_from_abs w32 (dx *ℤ cosine +ℤ dy *ℤ sine) (omega arith);
-    }
+    fits_signed_from_abs w32 (dx *ℤ cosine +ℤ dy *ℤ sine) (omega arith)
+
+pub ruleset reach_steps = (to_z-of_z, part_fits, reach_fits)
 
 -- among the places 0 to n, best is the first of the greatest
 record IsFirstGreatest (f : ℕ → ℤ) (n best : ℕ) : Type 0 where
@@ -129,16 +125,17 @@ first_greatest-map f n best is =
     (λ k l. let below : k < n + 1 = omega (arith, is.within) in rw (at k below) (is.least k l))
 
 -- there is one bearing, and `bearing_of` names it
-pub bearing_is : (dx dy : ℤ) (degree : ℕ) → IsBearing dx dy degree → bearing_of dx dy ≡ degree
+pub bearing_is : (dx dy : ℤ) (degree : ℕ) → IsBearing dx dy degree → degree ≡ bearing_of dx dy
 unfolding bearing_of reaches
 bearing_is dx dy degree is =
-    first_greatest-map (reach_of dx dy) 359 degree (record { within = is.on_the_round; greatest = is.greatest; least = is.least })
+    sym
+    (first_greatest-map (reach_of dx dy) 359 degree (record { within = is.on_the_round; greatest = is.greatest; least = is.least }))
 
 pub bearing_of-IsBearing : (dx dy : ℤ) → IsBearing dx dy (bearing_of dx dy)
 bearing_of-IsBearing dx dy =
     let b = first_of_greatest (reach_of dx dy) 359 in
     let is : IsBearing dx dy b.0 = record { on_the_round = b.1.within; greatest = b.1.greatest; least = b.1.least } in
-    subst (λ d. IsBearing dx dy d) (sym (bearing_is dx dy b.0 is)) is
+    subst (λ d. IsBearing dx dy d) (bearing_is dx dy b.0 is) is
 
 -- the reaches along the axes
 reach_east : (dx dy : ℤ) → reach_of dx dy 0 ≡ dx *ℤ pos 100000

@@ -26,7 +26,7 @@ pub fn bearing(dx: i32, dy: i32) -> u16
 }
 
 /// How far a point reaches in the direction of a degree, scaled by 100,000.
-#[tactic(auto, unfolding(crate::specs::Bearing::reach_of))]
+#[tactic(auto, using(crate::proofs::BearingLemmas::reach_steps))]
 fn reach(dx: i32, dy: i32, degree: u16) -> i32
     requires dx_in_field { unsigned_abs dx ≤ 999 }
     requires dy_in_field { unsigned_abs dy ≤ 999 }
