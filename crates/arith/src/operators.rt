@@ -45,7 +45,8 @@ pub enum Op {
     Remainder,
 }
 
-/// What an operator makes of any two numbers. Both sides have been worked out before, also for `&&` and `||`.
+/// What an operator makes of any two numbers. Both have been worked out before, also for `&&` and
+/// `||` (docs/numbers.md, "Operators").
 #[tactic(auto, using(crate::proofs::OpLemmas::op_steps))]
 pub fn binop(op: Op, a: i32, b: i32) -> i32
     ensures { result ≡ value_of op a b }

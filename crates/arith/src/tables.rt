@@ -4,7 +4,8 @@ ghost use Rattle.std.specs.Prelude.{◌≡◌, ◌<◌, ◌≤◌, ◌%◌, unsi
 ghost use Rattle.arith.specs.Table.{tangents};
 ghost use Rattle.arith.specs.Circle.{sine_at};
 
-/// The sines of 0 to 449 degrees, ten a line: one round, and a quarter more, so that a cosine is read 90 places on.
+/// The sines of 0 to 449 degrees, ten a line: one round, and a quarter more, so that a cosine is
+/// read 90 places on.
 static ROUND: [i32; 450] = [
     0, 1745, 3490, 5234, 6976, 8716, 10453, 12187, 13917, 15643, // 0 to 9
     17365, 19081, 20791, 22495, 24192, 25882, 27564, 29237, 30902, 32557, // 10 to 19
@@ -66,7 +67,7 @@ static TANGENTS: [u32; 90] = [
     567128, 631375, 711537, 814435, 951436, 1143005, 1430067, 1908114, 2863625, 5728996, // 80 to 89
 ];
 
-/// The sine of a degree from 0 to 449.
+/// The sine of a degree from 0 to 449, scaled by 100,000.
 pub(crate) fn round_entry(degree: u16) -> i32
     requires { degree < 450 }
     ensures value { result ≡ sine_at (degree % 360) }
@@ -75,7 +76,7 @@ pub(crate) fn round_entry(degree: u16) -> i32
     ROUND[usize::from(degree)]
 }
 
-/// The tangent of a degree from 0 to 89.
+/// The tangent of a degree from 0 to 89, scaled by 100,000.
 pub(crate) fn tangent_entry(degree: u16) -> u32
     requires { degree < 90 }
     ensures value { result ≡ slice_index tangents degree }
