@@ -1,4 +1,5 @@
-//! Laws of the numbers: each function does nothing, and what it ensures is the law.
+//! Laws of the numbers: each function does nothing, and what it ensures is the law. docs/numbers.md
+//! states each beside the rule that it is about.
 
 ghost use Rattle.std.specs.Prelude.{◌≡◌, ◌<◌, ◌≤◌, pos, ◌<ℤ◌};
 ghost use Rattle.std.specs.List.Sorted.{IsStrictlyIncreasing};
