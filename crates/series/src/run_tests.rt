@@ -1,6 +1,6 @@
 //! Runs over files and sinks in memory: what the sinks hold, and how a run ends.
 
-ghost use Rattle.std.specs.Prelude.{◌≡◌, ℕ, length};
+ghost use Rattle.std.specs.Prelude.{◌≡◌, ◌<◌, length};
 
 use crate::{
     CYCLES_DEFAULT, FILES_MAX, Mode, Recorder, RunFault, SEED_DEFAULT, Settings, Status, run,

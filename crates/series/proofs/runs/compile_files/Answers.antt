@@ -1,9 +1,8 @@
-use Rattle.std.proofs.Common.{◌≡◌, ◌<◌, ◌^◌, ◌-◌, ◌∙◌, sym, subst, ap, List, ℕ, Some, None, [], ◌∷◌, length, map, arith, length-append}
+use Rattle.std.proofs.Common.{◌<◌, ◌^◌, ◌-◌, ◌∙◌, sym, subst, ap, List, ℕ, Some, None, [], ◌∷◌, length, map, arith, length-append}
 use Rattle.std.specs.Prelude.{if◌then◌else◌}
-use Rattle.std.proofs.lemmas.List.{length-map, take_all}
+use Rattle.std.proofs.lemmas.List.{length-map}
 use Rattle.std.proofs.lemmas.List.Elements.{All-get_or}
 use Rattle.lang.specs.Profile.{first_profile}
-use Rattle.series.specs.Output.{and_code}
 use Rattle.series.specs.Runs.{AreSources}
 use Rattle.series.proofs.RunsLemmas.{feed_here, told_here, name_here, length_sources, none_failed, rest_more, listed_more, listed_cut, kept_more, kept_good, kept_fault}
 use Rattle.series.proofs.runs.compile_files.Goals as goal
