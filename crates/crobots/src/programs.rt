@@ -26,6 +26,7 @@ pub fn program<R: Files + Alloc, O: Sink, E: Sink>(
     ensures within { result ≤ 5 }
     ensures usage { settings_of (map (λ word. word.now) words.now) ≡ None → (result ≡ 2)
         × (O.portions out.new ≡ O.portions out.old) × TakesFront (E.portions err.old) (E.portions err.new) usage_line }
+    ensures only_usage { result ≡ 2 → settings_of (map (λ word. word.now) words.now) ≡ None }
     // Where the status says that all was written, no write failed.
     ensures whole { result ≤ 1 → (O.failures out.new ≡ O.failures out.old) × (E.failures err.new ≡ E.failures err.old) }
     ensures write { result ≡ 4 → (O.failures out.old < O.failures out.new) ⊎ (E.failures err.old < E.failures err.new) }
@@ -44,6 +45,7 @@ fn ending<'a, R: Files + Alloc, O: Sink, E: Sink>(
     requires faults { E.failures err.old < 2 ^ 64 - 2 }
     ensures usage { settings_of (map (λ word. word.now) words.now) ≡ None → (result ≡ Ending.WrongUsage)
         × (O.portions out.new ≡ O.portions out.old) × (E.portions err.new ≡ E.portions err.old) }
+    ensures only_usage { result ≡ Ending.WrongUsage → settings_of (map (λ word. word.now) words.now) ≡ None }
     ensures failures { Accounts result (O.failures out.old) (E.failures err.old) (O.failures out.new) (E.failures err.new) }
 {
     let settings = match read_words(words) {
