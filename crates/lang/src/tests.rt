@@ -1,5 +1,7 @@
 //! What small sources are, read whole and one byte at a time.
 
+ghost use Rattle.std.specs.Prelude.{◌<◌, false};
+
 use super::*;
 use arrayvec::ArrayVec;
 use std::alloc::{AllocError, Global};
@@ -53,7 +55,7 @@ impl Recorder {
 impl Build for Recorder {
     ghost stands = { λ recorder profile actions. ⊥ };
 
-    ghost allocates = { Rattle.std.specs.Prelude.false };
+    ghost allocates = { false };
 
     fn constant(&mut self, value: i32) -> Result<(), BuildFault> {
         self.tell(Told::Constant(value), 1);
