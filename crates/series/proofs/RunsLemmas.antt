@@ -9,7 +9,7 @@ use Rattle.lang.specs.Profile.{Profile}
 use Rattle.lang.specs.declared.diagnostics.Diagnostic.{Diagnostic}
 use Rattle.lang.specs.Compiled.{compiled}
 use Rattle.lang.specs.Tree.{File}
-use Rattle.code.specs.Listing.{Code, code_of}
+use Rattle.code.specs.Generation.{Code, code_of}
 use Rattle.series.specs.declared.settings.Status.{Status}
 use Rattle.series.specs.declared.settings.Status.TheVariants.{Done, Faulty}
 use Rattle.series.specs.Output.{Source, code_or_fault, compiled_code, and_code, codes_of, piece_of, source_piece, listings, status_of, is_faulty}

@@ -6,11 +6,12 @@ use Rattle.lang.specs.Compiled.{compiled}
 use Rattle.lang.specs.Profile.{Profile}
 use Rattle.lang.specs.Texts.{text_of}
 use Rattle.lang.specs.Tree.{File}
-use Rattle.code.specs.Listing.{Code, code_of, lines_of}
+use Rattle.code.specs.Generation.{Code, code_of}
+use Rattle.code.specs.Listing.{listing_of}
 use Rattle.series.specs.declared.settings.Status.{Status}
 use Rattle.series.specs.declared.settings.Status.TheVariants.{Done, Faulty}
 use Rattle.series.specs.Pieces.{Piece, Text, Faults}
-use Rattle.series.specs.Texts.{file_name, listing_text, diagnostic_line}
+use Rattle.series.specs.Texts.{file_name, diagnostic_line}
 
 -- a source file: the word that names it, and its bytes
 pub record Source : Type 0 where
@@ -27,7 +28,7 @@ compiled_code profile bytes = code_or_fault profile (compiled profile bytes)
 
 -- a good file's listing is text, and a faulty one's diagnostic goes to the channel of faults
 abbrev pub piece_of : List ℕ → Result Code Diagnostic → Piece
-piece_of name (Ok code) = record { channel = Text; bytes = listing_text name (lines_of code) }
+piece_of name (Ok code) = record { channel = Text; bytes = listing_of name code }
 piece_of name (Err d) = record { channel = Faults; bytes = diagnostic_line name d.line (text_of d.code) }
 
 abbrev pub source_piece : Profile → Source → Piece

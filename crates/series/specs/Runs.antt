@@ -1,7 +1,7 @@
 -- What a run leaves: what the sinks took, and which devices failed.
 use Rattle.std.specs.Prelude.{◌≡◌, ◌⊎◌, ℕ, ◌+◌, ◌<◌, List, [], ◌∷◌, Option, Some, Result, MatchResult, length, map, take, slice_index, slice_set}
 use Rattle.lang.specs.Profile.{Profile}
-use Rattle.code.specs.Listing.{Code}
+use Rattle.code.specs.Generation.{Code}
 use Rattle.series.specs.declared.settings.RunFault.{RunFault}
 use Rattle.series.specs.declared.settings.RunFault.TheVariants as fault
 use Rattle.series.specs.declared.settings.Status.{Status}

@@ -18,7 +18,3 @@ diagnostic_line name line text = name ++ codes ":" ++ decimal line ++ codes ": "
 -- lines, each ended
 abbrev pub lines_text : List (List ℕ) → List ℕ
 lines_text lines = concat (map ended_line lines)
-
--- a listing by its lines: the line of the file's name stands first
-abbrev pub listing_text : List ℕ → List (List ℕ) → List ℕ
-listing_text name lines = lines_text ((codes "File " ++ name) ∷ lines)

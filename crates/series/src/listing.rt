@@ -1,10 +1,10 @@
 //! The listing of a program.
 
 ghost use Rattle.std.specs.Prelude.{◌≡◌, ℕ, ◌+◌, ◌-◌, ◌^◌, ◌<◌, ◌≤◌, List, [], ◌∷◌, ◌++◌, length};
-ghost use Rattle.code.specs.Listing.{lines_of};
+ghost use Rattle.code.specs.Listing.{lines_of, listing_of};
 ghost use Rattle.series.specs.Portions.{Puts};
 ghost use Rattle.series.specs.Draft.{MayFail, Adds};
-ghost use Rattle.series.specs.Texts.{lines_text, listing_text};
+ghost use Rattle.series.specs.Texts.{lines_text};
 
 use crate::pen::Pen;
 use crate::sink::Sink;
@@ -14,7 +14,7 @@ use tokens::DeviceFault;
 /// Puts the listing of a program: the line of the file's name, and the program's lines.
 pub fn put_listing<S: Sink>(sink: &mut S, name: &[u8], program: &Program) -> Result<(), DeviceFault>
     requires { S.failures sink.old < 2 ^ 64 - 1 }
-    ensures { Puts result (S.portions sink.old) (S.failures sink.old) (S.portions sink.new) (S.failures sink.new) (listing_text name.now (lines_of program.now)) }
+    ensures { Puts result (S.portions sink.old) (S.failures sink.old) (S.portions sink.new) (S.failures sink.new) (listing_of name.now program.now) }
 {
     let mut pen = Pen::new();
     pen.add(sink, b"File ");

@@ -3,7 +3,7 @@
 ghost use Rattle.std.specs.Prelude.{◌≡◌, ◌<◌, [], ◌∷◌, ◌++◌, List, length, flat_map, slice_get, Some};
 ghost use Rattle.std.specs.Option.{option_to_list};
 ghost use Rattle.series.specs.Programs.{AllSome};
-ghost use Rattle.code.specs.Listing.{Code};
+ghost use Rattle.code.specs.Generation.{Code};
 
 use crate::limits::FILES_MAX;
 use arrayvec::ArrayVec;

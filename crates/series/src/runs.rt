@@ -13,8 +13,8 @@ use crate::programs::Programs;
 use crate::settings::{Mode, RunFault, Settings, Status};
 use crate::sink::Sink;
 use crate::texts::{name_of, put_diagnostic};
-use code::Program;
-use lang::{Code, Diagnostic, ParseFault};
+use code::{Maker, Program};
+use lang::{Diagnostic, ParseFault, parse};
 use tokens::{DeviceFault, Feed};
 
 /// Runs what the settings ask for: each of their words has the feed of its file, in order.
@@ -107,8 +107,11 @@ fn compile<F: Feed>(feed: &mut F) -> Result<Result<Program, Diagnostic>, DeviceF
     ensures file { IfOk result (λ compiled. (bytes : List ℕ) → F.to_come feed.old ≡ Some bytes → compiled ≡ compiled_code first_profile bytes) }
     ensures count { Counts result (F.failures feed.old) (F.failures feed.new) }
 {
-    Ok(Err(Diagnostic {
-        line: 1,
-        code: Code::NoMainFunction,
-    }))
+    let mut maker = Maker::new();
+    match parse(feed, &mut maker) {
+        Ok(names) => Ok(Ok(maker.finish(names))),
+        Err(ParseFault::Source(diagnostic)) => Ok(Err(diagnostic)),
+        Err(ParseFault::Device) => Err(DeviceFault),
+        Err(ParseFault::Memory) => unreachable!(),
+    }
 }
