@@ -1,0 +1,4 @@
+pub mod Generation
+pub mod Making
+pub mod Spelling
+pub mod Listing
