@@ -1,2 +1,3 @@
 mod Rows
 mod Law
+pub mod Standing

@@ -1,5 +1,5 @@
 -- The listing of a file, as lines without their LF.
-use Rattle.std.specs.Prelude.{ℕ, ◌+◌, ◌-◌, List, [], ◌∷◌, ◌++◌, codes, length, replicate, map}
+use Rattle.std.specs.Prelude.{ℕ, ◌+◌, ◌-◌, List, [], ◌∷◌, ◌++◌, codes, length, replicate, map, slice_index}
 use Rattle.std.specs.Fmt.{decimal}
 use Rattle.std.specs.List.{concat}
 use Rattle.lang.specs.Pools.{FunctionNames}
@@ -32,10 +32,11 @@ function_line number f at =
 abbrev pub function_lines : ℕ → FunctionNames → ℕ → List (List ℕ)
 function_lines number f at = function_line number f at ∷ numbered name_line 0 f.variables
 
--- functions from this number on, with their addresses
-abbrev pub functions_lines : ℕ → List FunctionNames → List ℕ → List (List ℕ)
-functions_lines number (f ∷ fs) (at ∷ ats) = function_lines number f at ++ functions_lines (number + 1) fs ats
-functions_lines number _ _ = []
+-- functions from this number on; the addresses are those of all functions by number
+abbrev pub functions_lines : List ℕ → ℕ → List FunctionNames → List (List ℕ)
+functions_lines addresses number [] = []
+functions_lines addresses number (f ∷ fs) =
+    function_lines number f (slice_index addresses number) ++ functions_lines addresses (number + 1) fs
 
 abbrev pub externals_lines : List (List ℕ) → List (List ℕ)
 externals_lines externals = (codes "Externals " ++ decimal (length externals)) ∷ numbered name_line 0 externals
@@ -47,16 +48,19 @@ instrs_lines instrs = (codes "Code " ++ decimal (length instrs)) ∷ numbered in
 abbrev pub lines_of : Code → List (List ℕ)
 lines_of code =
     externals_lines code.names.externals
-    ++ functions_lines 0 code.names.functions code.addresses
+    ++ functions_lines code.addresses 0 code.names.functions
     ++ instrs_lines code.instructions
-
-abbrev pub listing_lines : Profile → File → List (List ℕ)
-listing_lines p file = lines_of (code_of p file)
 
 -- a line's bytes with its LF
 abbrev pub ended_line : List ℕ → List ℕ
 ended_line line = line ++ 10 ∷ []
 
--- the bytes of a file's listing
+-- the bytes of a listing, the name of the file in front
+abbrev pub listing_of : List ℕ → Code → List ℕ
+listing_of name code = concat (map ended_line ((codes "File " ++ name) ∷ lines_of code))
+
+abbrev pub listing_lines : Profile → File → List (List ℕ)
+listing_lines p file = lines_of (code_of p file)
+
 abbrev pub listing : Profile → List ℕ → File → List ℕ
-listing p name file = concat (map ended_line ((codes "File " ++ name) ∷ listing_lines p file))
+listing p name file = listing_of name (code_of p file)

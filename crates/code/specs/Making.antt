@@ -1,5 +1,5 @@
 -- What a maker holds behind a list of actions.
-use Rattle.std.specs.Prelude.{ℕ, ◌+◌, ◌≡◌, ◌<◌, ◌≤◌, List, [], ◌∷◌, ◌++◌, Bool, true, false, length, replicate, slice_set}
+use Rattle.std.specs.Prelude.{ℕ, ◌+◌, ◌≡◌, ◌<◌, ◌≤◌, List, [], ◌∷◌, ◌++◌, Bool, true, false, length, replicate, slice_set, Option, Some, None}
 use Rattle.lang.specs.Actions.{Action, Push, Middle, Apply, Chop, GiveBack, Begin, Finish, code_length}
 use Rattle.lang.specs.Profile.{Profile, first_profile}
 use Rattle.code.specs.declared.instr.Instr.{Instr}
@@ -51,6 +51,14 @@ is_ended (a ∷ b ∷ acts) = is_ended (b ∷ acts)
 -- the code and the last NOP are within the profile's limit
 abbrev pub Fits : Profile → List Action → Type 0
 Fits p acts = code_length acts + 1 ≤ p.instructions
+
+-- the actions that make this instruction and nothing else, and end no function
+abbrev pub instr_of : Action → Option Instr
+instr_of (Push value) = Some (Const value)
+instr_of (Apply op) = Some (Binop op)
+instr_of Chop = Some instr.Chop
+instr_of GiveBack = Some Retsub
+instr_of _ = None
 
 -- A maker stands for these actions: while they fit, it holds what they make; then its code is full.
 -- At a function's end they fit.

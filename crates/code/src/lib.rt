@@ -2,5 +2,11 @@
 #![tactic(auto)]
 
 mod instr;
+mod limits;
+mod maker;
+mod program;
 
 pub use instr::Instr;
+pub use limits::{LINE_BYTES, MOST_INSTRUCTIONS};
+pub use maker::Maker;
+pub use program::Program;
