@@ -1,3 +1,4 @@
 mod Rows
 mod Law
 pub mod Standing
+pub mod Numbers

@@ -5,8 +5,10 @@ mod instr;
 mod limits;
 mod maker;
 mod program;
+mod text;
 
 pub use instr::Instr;
 pub use limits::{LINE_BYTES, MOST_INSTRUCTIONS};
 pub use maker::Maker;
 pub use program::Program;
+pub use text::Line;
