@@ -2,3 +2,4 @@ mod Rows
 mod Law
 pub mod Standing
 pub mod Numbers
+pub mod Lines

@@ -44,12 +44,13 @@ externals_lines externals = (codes "Externals " ++ decimal (length externals)) �
 abbrev pub instrs_lines : List Instr → List (List ℕ)
 instrs_lines instrs = (codes "Code " ++ decimal (length instrs)) ∷ numbered instr_line 0 instrs
 
+-- the lines of the functions from this number on, and then those of the code
+abbrev pub lines_from : Code → ℕ → List FunctionNames → List (List ℕ)
+lines_from code number fs = functions_lines code.addresses number fs ++ instrs_lines code.instructions
+
 -- the lines behind the line that names the file
 abbrev pub lines_of : Code → List (List ℕ)
-lines_of code =
-    externals_lines code.names.externals
-    ++ functions_lines code.addresses 0 code.names.functions
-    ++ instrs_lines code.instructions
+lines_of code = externals_lines code.names.externals ++ lines_from code 0 code.names.functions
 
 -- a line's bytes with its LF
 abbrev pub ended_line : List ℕ → List ℕ

@@ -3,12 +3,15 @@
 
 mod instr;
 mod limits;
+mod listing;
 mod maker;
+mod operators;
 mod program;
 mod text;
 
 pub use instr::Instr;
 pub use limits::{LINE_BYTES, MOST_INSTRUCTIONS};
 pub use maker::Maker;
+pub use operators::operator_mark;
 pub use program::Program;
 pub use text::Line;

@@ -1,6 +1,6 @@
 //! The program of a file: its code and its names.
 
-ghost use Rattle.std.specs.Prelude.{◌≡◌};
+ghost use Rattle.std.specs.Prelude.{◌≡◌, ◌≤◌, length};
 ghost use Rattle.code.specs.Finishing.{IsOfSomeFile};
 
 use crate::instr::Instr;
@@ -43,5 +43,29 @@ impl Program {
             addresses,
             names,
         }
+    }
+
+    /// The instructions: the address of each is its place.
+    pub fn instructions(&self) -> &[Instr]
+        ensures code { result.now ≡ self.now.instructions }
+        ensures most { length result.now ≤ MOST_INSTRUCTIONS }
+    {
+        self.code.as_slice()
+    }
+
+    /// The address of each function, by number.
+    #[tactic(auto, using(crate::proofs::Lines::addresses_of_file))]
+    pub fn addresses(&self) -> &[u16]
+        ensures addresses { result.now ≡ self.now.addresses }
+        ensures each { length result.now ≡ length self.now.names.functions }
+    {
+        self.addresses.as_slice()
+    }
+
+    /// The names of the externals, the functions and their variables.
+    pub fn names(&self) -> &Pools
+        ensures { result.now ≡ self.now.names }
+    {
+        &self.names
     }
 }
