@@ -1,5 +1,5 @@
 -- What a file's actions make is its code, but for the last NOP.
-use Rattle.std.specs.Prelude.{ℕ, zero, suc, pos, ◌+◌, ◌≡◌, ◌<◌, ◌≤◌, List, [], ◌∷◌, ◌++◌, Bool, true, false, length, take, slice_set, if◌then◌else◌}
+use Rattle.std.specs.Prelude.{ℕ, suc, pos, ◌+◌, ◌≡◌, ◌<◌, ◌≤◌, List, [], ◌∷◌, ◌++◌, true, false, length, take, if◌then◌else◌}
 use Rattle.std.proofs.Common.{refl, sym, ap, ◌∙◌, arith, append_assoc, length-append, add-one, zero-add, add-zero}
 use Rattle.std.proofs.lemmas.List.{append-nil, length-set, length-replicate}
 use Rattle.std.proofs.Math.Seq.{take-suc-set}

@@ -1,4 +1,4 @@
-mod Rows
+pub mod Rows
 mod Law
 pub mod Standing
 pub mod Numbers

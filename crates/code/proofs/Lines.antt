@@ -1,6 +1,6 @@
 -- The lines of a listing by number.
 use Rattle.std.specs.Prelude.{ℕ, zero, suc, ◌+◌, ◌-◌, ◌≡◌, ◌<◌, ◌≤◌, List, [], ◌∷◌, ◌++◌, length, drop, get_or, slice_get, Some}
-use Rattle.std.proofs.Common.{refl, sym, ap, ◌∙◌, arith, append_assoc, length-append, add-zero, zero-add, add-one, drop-cons}
+use Rattle.std.proofs.Common.{refl, sym, ap, ◌∙◌, arith, append_assoc, length-append, add-zero, add-one, drop-cons}
 use Rattle.lang.specs.Pools.{FunctionNames, names_of_function}
 use Rattle.lang.specs.Profile.{Profile}
 use Rattle.lang.specs.Tree.{Function}

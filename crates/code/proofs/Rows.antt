@@ -1,24 +1,22 @@
 -- Small files, worked out by hand.
 use Rattle.std.specs.Fmt.{digits}
-use Rattle.std.specs.Prelude.{ℕ, pos, ◌+◌, ◌≡◌, List, [], ◌∷◌, ◌++◌, codes, length, slice_get, Some, None, refl}
+use Rattle.std.specs.Prelude.{pos, ◌≡◌, [], ◌∷◌, codes, refl}
 use Rattle.lang.specs.declared.operators.Op.TheVariants as op
-use Rattle.lang.specs.Actions.{actions}
 use Rattle.lang.specs.Profile.{first_profile}
-use Rattle.lang.specs.Tree.{Expr, Constant, Binary, Body, Done, Alone, Function, File}
-use Rattle.code.specs.Generation.{Code, code_of, start_of}
-use Rattle.code.specs.Making.{made}
+use Rattle.lang.specs.Tree.{Constant, Binary, Body, Done, Alone, File}
+use Rattle.code.specs.Generation.{start_of}
 use Rattle.code.specs.Spelling.{operator_text, instr_text}
 use Rattle.code.specs.Listing.{in_five_columns, name_line, instr_line, function_line, listing_lines, listing}
 
-abbrev file_of : Body → File
+abbrev pub file_of : Body → File
 file_of body = record { externals = []; functions = record { name = codes "main"; parameters = 0; variables = []; body = body } ∷ []; main = 0 }
 
 -- main(){}
-abbrev empty_main : File
+abbrev pub empty_main : File
 empty_main = file_of Done
 
 -- main(){1+2;}
-abbrev sum_main : File
+abbrev pub sum_main : File
 sum_main = file_of (Alone (Binary op.Add (Constant (pos 1)) (Constant (pos 2))) Done)
 
 empty_listing : listing first_profile (codes "a.r") empty_main ≡ codes "File a.r\nExternals 0\nFunction 0 main vars 0 at 0\nCode 3\n    0 CONST 0\n    1 RETSUB\n    2 NOP\n"

@@ -1,5 +1,5 @@
 -- A maker stands for the actions that it was told.
-use Rattle.std.specs.Prelude.{ℕ, suc, ◌+◌, ◌≡◌, ◌<◌, ◌≤◌, List, [], ◌∷◌, ◌++◌, Bool, true, false, length, replicate, slice_set, Option, Some, None}
+use Rattle.std.specs.Prelude.{ℕ, ◌+◌, ◌≡◌, ◌<◌, ◌≤◌, List, [], ◌∷◌, ◌++◌, true, false, length, replicate, Some}
 use Rattle.std.proofs.Common.{refl, sym, ap, ◌∙◌, subst, arith, take, length-append}
 use Rattle.std.proofs.lemmas.List.{set_past, length-map}
 use Rattle.lang.specs.declared.operators.Op.{Op}
@@ -10,7 +10,7 @@ use Rattle.lang.specs.Tree.{File}
 use Rattle.code.specs.declared.instr.Instr.{Instr}
 use Rattle.code.specs.declared.instr.Instr.TheVariants.{Nop}
 use Rattle.code.specs.Generation.{Code, code_of, IsProgramOf}
-use Rattle.code.specs.Making.{Made, made_nothing, with_instr, with_function, making, made_from, made, is_between, is_ended, instr_of, Fits, Stands}
+use Rattle.code.specs.Making.{Made, made_nothing, with_instr, with_function, making, made, is_between, instr_of, Fits, Stands}
 use Rattle.code.proofs.Law.{made_from-append, length-made, code_length-append, is_ended-last, is_ended-actions, made_file}
 
 limit : {m : Made} {p : Profile} {acts : List Action} → Stands m p acts → p.instructions ≡ 2000

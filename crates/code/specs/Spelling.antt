@@ -1,5 +1,5 @@
 -- How the listing spells operators and instructions.
-use Rattle.std.specs.Prelude.{ℕ, List, [], ◌∷◌, ◌++◌, codes}
+use Rattle.std.specs.Prelude.{ℕ, List, ◌++◌, codes}
 use Rattle.std.specs.Fmt.{signed_decimal}
 use Rattle.lang.specs.declared.operators.Op.{Op}
 use Rattle.lang.specs.declared.operators.Op.TheVariants as op

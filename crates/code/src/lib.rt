@@ -7,6 +7,8 @@ mod listing;
 mod maker;
 mod operators;
 mod program;
+#[cfg(test)]
+mod tests;
 mod text;
 
 pub use instr::Instr;

@@ -17,17 +17,16 @@ impl Program {
         ensures { result ≡ length (lines_of self.now) }
     {
         let names = self.names();
-        names.externals().len()
-            + 1
-            + function_line_count(names.functions())
-            + self.instructions().len()
-            + 1
+        let externals = names.externals().len() + 1;
+        let functions = function_line_count(names.functions());
+        let code = self.instructions().len() + 1;
+        externals + functions + code
     }
 
-    #[tactic(auto, using(crate::proofs::Lines::line_of_externals, crate::proofs::Lines::line_of_rest, crate::proofs::Lines::rest_within))]
     /// Makes `line` the line of this number, from 0, among the listing's lines behind the one that names the file.
     ///
     /// Each fits: the longest is a function's, with a name of 31 bytes and three numbers of at most five digits.
+    #[tactic(auto, using(crate::proofs::Lines::line_of_externals, crate::proofs::Lines::line_of_rest, crate::proofs::Lines::rest_within))]
     pub fn listing_line(&self, n: usize, line: &mut Line)
         requires { n < length (lines_of self.now) }
         ensures { slice_get (lines_of self.now) n ≡ Some line.new.items }

@@ -1,4 +1,4 @@
-use Rattle.std.proofs.Common.{◌≡◌, ℕ, ◌<◌, List, [], length, drop, get_or}
+use Rattle.std.proofs.Common.{◌≡◌, ◌<◌, [], length, drop, get_or}
 use Rattle.code.specs.Listing.{lines_from}
 use Rattle.code.proofs.program.Program.put_line_behind_externals.Given as goal
 
