@@ -5,7 +5,7 @@ use lang::Op;
 /// An instruction of the stack machine.
 ///
 /// Where an instruction doesn't fit, the robot is restarted.
-#[derive(Clone, Copy, Debug, PartialEq, Eq)]
+#[derive(Clone, Copy, Debug, Default, PartialEq, Eq)]
 pub enum Instr {
     /// `CONST value`: pushes the value. It doesn't fit where the stack is full.
     Const(i32),
@@ -17,11 +17,6 @@ pub enum Instr {
     /// behind the call. It doesn't fit in main's first frame.
     Retsub,
     /// `NOP`: ends the code.
+    #[default]
     Nop,
-}
-
-impl Default for Instr {
-    fn default() -> Instr {
-        Instr::Nop
-    }
 }
