@@ -5,7 +5,7 @@ use Rattle.std.specs.Int.Signed.{≤ℤ_refl}
 use Rattle.std.specs.List.{Contains, All, range_with_len}
 use Rattle.std.specs.Ordering.{int_eq}
 use borrow.Author.Count.{below_more}
-use Rattle.std.proofs.lemmas.Int.{ints, fits_signed_from_abs, unsigned_abs-mul, by_lt_z, fold-int_max_bounds, fold-int_max_reached}
+use Rattle.std.proofs.lemmas.Int.{ints, to_z-of_z, fits_signed_from_abs, unsigned_abs-mul, by_lt_z, fold-int_max_bounds, fold-int_max_reached}
 use Rattle.std.proofs.lemmas.Nat.{mul-le}
 use Rattle.std.proofs.lemmas.List.Sums.{position_or_len_is}
 use Rattle.std.proofs.lemmas.Bool.Decides.{Decides-int_eq}
@@ -15,66 +15,63 @@ use Rattle.arith.specs.Circle.{sine_at, cosine_at}
 use Rattle.arith.specs.Bearing.{reach_of, IsBearing, first_greatest, reaches, bearing_of}
 
 -- a reach fits 32 bits, and so do its two parts
-pub record ReachFits (dx dy cosine sine : ℤ) : Type 0 where
-  pub east : FitsSigned w32 (dx *ℤ cosine)
-  pub north : FitsSigned w32 (dy *ℤ sine)
-  pub whole : FitsSigned w32 (dx *ℤ cosine +ℤ dy *ℤ sine)
-
 size_of_sum : (a b : ℤ) → unsigned_abs (a +ℤ b) ≤ unsigned_abs a + unsigned_abs b
 size_of_sum a b = omega (arith, ints)
 
 part_size : (d s : ℤ) → unsigned_abs d ≤ 999 → unsigned_abs s ≤ 100000 → unsigned_abs (d *ℤ s) ≤ 99900000
 part_size d s p q = rw (unsigned_abs-mul d s) (mul-le (unsigned_abs d) (unsigned_abs s) 999 100000 p q)
 
-pub reach_fits : (dx dy cosine sine : ℤ) → unsigned_abs dx ≤ 999 → unsigned_abs dy ≤ 999 → unsigned_abs cosine ≤ 100000 → unsigned_abs sine ≤ 100000 → ReachFits dx dy cosine sine
+pub part_fits : (d s : ℤ) → unsigned_abs d ≤ 999 → unsigned_abs s ≤ 100000 → FitsSigned w32 (d *ℤ s)
+part_fits d s p q = let size = part_size d s p q in fits_signed_from_abs w32 (d *ℤ s) (omega arith)
+
+pub reach_fits : (dx dy cosine sine : ℤ) → unsigned_abs dx ≤ 999 → unsigned_abs cosine ≤ 100000 → unsigned_abs dy ≤ 999 → unsigned_abs sine ≤ 100000 → FitsSigned w32 (dx *ℤ cosine +ℤ dy *ℤ sine)
 reach_fits dx dy cosine sine p q r s =
-    let east = part_size dx cosine p r in
-    let north = part_size dy sine q s in
+    let east = part_size dx cosine p q in
+    let north = part_size dy sine r s in
     let sum = size_of_sum (dx *ℤ cosine) (dy *ℤ sine) in
+    fits_signed_from_abs w32 (dx *ℤ cosine +ℤ dy *ℤ sine) (omega arith)
+
+pub ruleset reach_steps = (to_z-of_z, part_fits, reach_fits)
+
+-- among the first n places, best is the first of the greatest
+pub record IsFirstGreatest (f : ℕ → ℤ) (n best : ℕ) : Type 0 where
+  pub within : best < n
+  pub greatest : (k : ℕ) → k < n → f k ≤ℤ f best
+  pub least : (k : ℕ) → k < best → f k <ℤ f best
+
+pub alone : (f : ℕ → ℤ) → IsFirstGreatest f 1 0
+alone f = record {
+  within = omega arith;
+  greatest = below_more (λ k. f k ≤ℤ f 0) 0 (λ k l. absurd (omega arith)) (≤ℤ_refl (f 0));
+  least = λ k l. absurd (omega arith);
+}
+
+-- one place more, which is no greater, or is
+pub kept : (f : ℕ → ℤ) (n best : ℕ) → IsFirstGreatest f n best → f n ≤ℤ f best → IsFirstGreatest f (n + 1) best
+kept f n best is h = record {
+  within = omega (arith, is.within);
+  greatest = below_more (λ k. f k ≤ℤ f best) n is.greatest h;
+  least = is.least;
+}
+
+pub raised : (f : ℕ → ℤ) (n best : ℕ) → IsFirstGreatest f n best → f best <ℤ f n → IsFirstGreatest f (n + 1) n
+raised f n best is h =
+    let lower : (k : ℕ) → k < n → f k <ℤ f n = λ k l. let e = is.greatest k l in omega (arith, ints) in
     record {
-      east = fits_signed_from_abs w32 (dx *ℤ cosine) (omega arith);
-      north = fits_signed_from_abs w32 (dy *ℤ sine) (omega arith);
-      whole = fits_signed_from_abs w32 (dx *ℤ cosine +ℤ dy *ℤ sine) (omega arith);
+      within = omega arith;
+      greatest = below_more (λ k. f k ≤ℤ f n) n (λ k l. let e = lower k l in omega (arith, ints)) (≤ℤ_refl (f n));
+      least = lower;
     }
 
--- among the places 0 to n, best is the first of the greatest
-record IsFirstGreatest (f : ℕ → ℤ) (n best : ℕ) : Type 0 where
-  within : best < n + 1
-  greatest : (k : ℕ) → k < n + 1 → f k ≤ℤ f best
-  least : (k : ℕ) → k < best → f k <ℤ f best
-
--- one place more
-grown : (f : ℕ → ℤ) (n best : ℕ) → IsFirstGreatest f n best → (b : ℕ) × IsFirstGreatest f (n + 1) b
-grown f n best is =
-    by_lt_z (f best) (f (n + 1))
-    (λ h. (
-      n + 1,
-      record {
-        within = omega arith;
-        greatest = below_more (λ k. f k ≤ℤ f (n + 1)) (n + 1) (λ k l. let e = is.greatest k l in omega (arith, ints)) (≤ℤ_refl (f (n + 1)));
-        least = λ k l. let e = is.greatest k l in omega (arith, ints);
-      },
-    ))
-    (λ h. (
-      best,
-      record {
-        within = omega (arith, is.within);
-        greatest = below_more (λ k. f k ≤ℤ f best) (n + 1) is.greatest h;
-        least = is.least;
-      },
-    ))
-
 -- there is one
-first_of_greatest : (f : ℕ → ℤ) (n : ℕ) → (best : ℕ) × IsFirstGreatest f n best
-first_of_greatest f zero = (
-  0,
-  record {
-    within = omega arith;
-    greatest = below_more (λ k. f k ≤ℤ f 0) 0 (λ k l. absurd (omega arith)) (≤ℤ_refl (f 0));
-    least = λ k l. absurd (omega arith);
-  },
-)
-first_of_greatest f (suc n) = let b = first_of_greatest f n in rw (← add-one n) (grown f n b.0 b.1)
+first_of_greatest : (f : ℕ → ℤ) (n : ℕ) → (best : ℕ) × IsFirstGreatest f (n + 1) best
+first_of_greatest f zero = (0, alone f)
+first_of_greatest f (suc n) =
+    let b = first_of_greatest f n in
+    rw (← add-one n)
+    (by_lt_z (f b.0) (f (n + 1))
+    (λ h. (n + 1, raised f (n + 1) b.0 b.1 h))
+    (λ h. (b.0, kept f (n + 1) b.0 b.1 h)))
 
 -- the greatest of a list is what stands at the place of its greatest
 greatest_is : (x : ℤ) (xs : List ℤ) (top most : ℤ) → most ≡ fold int_max x xs → Contains (x ∷ xs) top → ((k : ℕ) → k < length (x ∷ xs) → get_or (x ∷ xs) k top ≤ℤ top) → most ≡ top
@@ -118,27 +115,28 @@ first_greatest_is (x ∷ xs) best top within at greatest least =
     (λ k l. rw most (lesser_fails top (get_or (x ∷ xs) k top) (least k l)))
     (λ l. rw (most, at) (equal_passes top))
 
--- the same of the values at 0 to n
-first_greatest-map : (f : ℕ → ℤ) (n best : ℕ) → IsFirstGreatest f n best → first_greatest (map f (range_with_len 0 (n + 1))) ≡ best
+-- the same of the values at the first n places
+first_greatest-map : (f : ℕ → ℤ) (n best : ℕ) → IsFirstGreatest f n best → first_greatest (map f (range_with_len 0 n)) ≡ best
 first_greatest-map f n best is =
-    let values = map f (range_with_len 0 (n + 1)) in
-    let size = length-map-range_with_len f 0 (n + 1) in
-    let at = λ (k : ℕ) (l : k < n + 1). get_or-map-range_with_len f 0 (n + 1) k k (f best) l (omega arith) in
+    let values = map f (range_with_len 0 n) in
+    let size = length-map-range_with_len f 0 n in
+    let at = λ (k : ℕ) (l : k < n). get_or-map-range_with_len f 0 n k k (f best) l (omega arith) in
     first_greatest_is values best (f best) (omega (arith, is.within, size)) (at best is.within)
-    (λ k l. let below : k < n + 1 = omega (arith, size) in rw (at k below) (is.greatest k below))
-    (λ k l. let below : k < n + 1 = omega (arith, is.within) in rw (at k below) (is.least k l))
+    (λ k l. let below : k < n = omega (arith, size) in rw (at k below) (is.greatest k below))
+    (λ k l. let below : k < n = omega (arith, is.within) in rw (at k below) (is.least k l))
 
--- there is one bearing, and `bearing_of` names it
-pub bearing_is : (dx dy : ℤ) (degree : ℕ) → IsBearing dx dy degree → bearing_of dx dy ≡ degree
+-- the bearing is the first of the greatest reaches, and `bearing_of` names it
+pub bearing_is_first : (dx dy : ℤ) (degree : ℕ) → IsFirstGreatest (reach_of dx dy) 360 degree → IsBearing dx dy degree
+bearing_is_first dx dy degree is = record { on_the_round = is.within; greatest = is.greatest; least = is.least }
+
+pub bearing_of_is_first : (dx dy : ℤ) (degree : ℕ) → IsFirstGreatest (reach_of dx dy) 360 degree → degree ≡ bearing_of dx dy
 unfolding bearing_of reaches
-bearing_is dx dy degree is =
-    first_greatest-map (reach_of dx dy) 359 degree (record { within = is.on_the_round; greatest = is.greatest; least = is.least })
+bearing_of_is_first dx dy degree is = sym (first_greatest-map (reach_of dx dy) 360 degree is)
 
-pub bearing_of-IsBearing : (dx dy : ℤ) → IsBearing dx dy (bearing_of dx dy)
+bearing_of-IsBearing : (dx dy : ℤ) → IsBearing dx dy (bearing_of dx dy)
 bearing_of-IsBearing dx dy =
     let b = first_of_greatest (reach_of dx dy) 359 in
-    let is : IsBearing dx dy b.0 = record { on_the_round = b.1.within; greatest = b.1.greatest; least = b.1.least } in
-    subst (λ d. IsBearing dx dy d) (sym (bearing_is dx dy b.0 is)) is
+    subst (λ d. IsBearing dx dy d) (bearing_of_is_first dx dy b.0 b.1) (bearing_is_first dx dy b.0 b.1)
 
 -- the reaches along the axes
 reach_east : (dx dy : ℤ) → reach_of dx dy 0 ≡ dx *ℤ pos 100000

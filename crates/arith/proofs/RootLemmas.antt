@@ -1,9 +1,10 @@
 -- The root by quarters is the whole root: there is one number whose square fits and whose next square does not.
-use Rattle.std.proofs.Common.{◌≡◌, ℕ, zero, suc, ◌+◌, ◌*◌, ◌/◌, ◌^◌, ◌<◌, ◌≤◌, nat_le, cond, arith, inl, inr}
+use Rattle.std.proofs.Common.{◌≡◌, ℕ, zero, suc, ◌+◌, ◌*◌, ◌/◌, ◌^◌, ◌<◌, ◌≤◌, nat_le, cond, ℤ, pos, unsigned_abs, ap, arith, inl, inr}
 use Rattle.std.proofs.lemmas.Nat.{mul-le}
 use Rattle.std.proofs.lemmas.Bool.{cases_lt}
 use Rattle.std.proofs.lemmas.Bool.Decides.{leb_tells}
-use Rattle.arith.specs.Root.{root_by_quarters}
+use Rattle.std.proofs.lemmas.Int.{to_z-of_z, to_z_pos}
+use Rattle.arith.specs.Root.{root_by_quarters, root_of}
 
 -- n lies from one square up to the next
 pub record Straddles (root n : ℕ) : Type 0 where
@@ -38,3 +39,12 @@ unfolding root_by_quarters
 root_by_quarters_is zero n h = record { square = omega arith; next_square = omega arith }
 root_by_quarters_is (suc digits) n h =
     doubled (root_by_quarters digits (n / 4)) n (root_by_quarters_is digits (n / 4) (omega arith))
+
+-- what the code's root gives
+pub root_gives : (a : ℤ) (r : ℕ) → unsigned_abs a ≤ 2 ^ 31 → r * r ≤ unsigned_abs a → unsigned_abs a < (r + 1) * (r + 1) → pos r ≡ root_of a
+unfolding root_of
+root_gives a r small square next_square =
+    ap pos
+    (one_root r _ (unsigned_abs a) (record { square = square; next_square = next_square }) (root_by_quarters_is 16 (unsigned_abs a) (omega arith)))
+
+pub ruleset root_steps = (to_z-of_z, to_z_pos, root_gives)

@@ -1,4 +1,4 @@
--- The degree, from -90 to 90, whose tangent lies nearest to a number that is scaled by 100,000.
+-- The degree, from -90 to 90, that a number belongs to as a tangent scaled by 100,000.
 use Rattle.std.specs.Prelude.{ℕ, suc, ◌+◌, ◌-◌, ◌/◌, List, ℤ, pos, negsuc, neg_ℤ, nat_lt, nat_le, if◌then◌else◌, slice_index}
 use Rattle.std.specs.List.{count_by, range_with_len}
 use Rattle.arith.specs.Table.{tangents}

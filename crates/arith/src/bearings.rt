@@ -5,8 +5,8 @@ ghost use Rattle.arith.specs.Bearing.{reach_of, IsBearing, bearing_of};
 
 use crate::circle::{cosine_at, sine_at};
 
-/// The bearing of a point `dx` metres east and `dy` metres north: the least degree, 0 to 359, at which it reaches
-/// furthest (docs/numbers.md, "Bearing").
+/// The bearing of a point `dx` metres east and `dy` metres north, both from -999 to 999: the least
+/// degree, 0 to 359, at which it reaches furthest (docs/numbers.md, "Bearing").
 pub fn bearing(dx: i32, dy: i32) -> u16
     requires dx_in_field { unsigned_abs dx ≤ 999 }
     requires dy_in_field { unsigned_abs dy ≤ 999 }
@@ -25,8 +25,8 @@ pub fn bearing(dx: i32, dy: i32) -> u16
     best
 }
 
-/// How far a point reaches in the direction of a degree, scaled by 100,000.
-#[tactic(auto, unfolding(crate::specs::Bearing::reach_of))]
+/// How far a point reaches in the direction of a degree from 0 to 359, scaled by 100,000.
+#[tactic(auto, using(crate::proofs::BearingLemmas::reach_steps))]
 fn reach(dx: i32, dy: i32, degree: u16) -> i32
     requires dx_in_field { unsigned_abs dx ≤ 999 }
     requires dy_in_field { unsigned_abs dy ≤ 999 }

@@ -24,7 +24,8 @@ pub fn cos(degrees: i32) -> i32
     cosine_at(norm_degree(degrees))
 }
 
-/// The sine of a degree from 0 to 359, scaled by 100,000.
+/// The sine of a degree from 0 to 359, scaled by 100,000 (docs/numbers.md, "Sine and cosine").
+/// For a heading, which lies on the round already.
 pub fn sine_at(degree: u16) -> i32
     requires { degree < 360 }
     ensures value { result ≡ sine_at degree }
@@ -33,7 +34,8 @@ pub fn sine_at(degree: u16) -> i32
     round_entry(degree)
 }
 
-/// The cosine of a degree from 0 to 359, scaled by 100,000.
+/// The cosine of a degree from 0 to 359, scaled by 100,000 (docs/numbers.md, "Sine and cosine").
+/// For a heading, which lies on the round already.
 #[tactic(auto, unfolding(crate::specs::Circle::cosine_at))]
 pub fn cosine_at(degree: u16) -> i32
     requires { degree < 360 }

@@ -1,4 +1,5 @@
-//! Laws of the numbers: each function does nothing, and what it ensures is the law.
+//! Laws of the numbers: each function does nothing, and what it ensures is the law. docs/numbers.md
+//! states each beside the rule that it is about.
 
 ghost use Rattle.std.specs.Prelude.{◌≡◌, ◌<◌, ◌≤◌, pos, ◌<ℤ◌};
 ghost use Rattle.std.specs.List.Sorted.{IsStrictlyIncreasing};
@@ -13,7 +14,8 @@ pub fn degree_differs_by_rounds(number: i32)
     ensures { IsDegreeOf number (degree_of number) }
 {}
 
-/// For 0 to 90 degrees the squares of sine and cosine add up to the square of the scale, within 150,000.
+/// For 0 to 90 degrees the squares of sine and cosine add up to the square of the scale, 10^10,
+/// within 150,000.
 pub fn circle_is_nearly_round(degree: u16)
     requires { degree ≤ 90 }
     ensures { IsNearlyOnCircle degree }

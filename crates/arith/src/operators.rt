@@ -4,31 +4,50 @@ ghost use Rattle.std.specs.Prelude.{◌≡◌};
 ghost use Rattle.std.specs.Int.{w32, int_wrap};
 ghost use Rattle.arith.specs.Op.{value_of, quotient, remainder};
 
-/// A binary operator.
+/// A binary operator on two numbers `a` and `b` (docs/numbers.md, "Operators").
 #[derive(Clone, Copy, Debug, PartialEq, Eq)]
 pub enum Op {
+    /// `||`: 1 where `a` or `b` is not 0, else 0.
     Or,
+    /// `&&`: 1 where neither is 0, else 0.
     And,
+    /// `|`: the bits that are in one of the two.
     BitOr,
+    /// `^`: the bits that are in exactly one.
     BitXor,
+    /// `&`: the bits that are in both.
     BitAnd,
+    /// `==`: 1 or 0, as all comparisons.
     Equal,
+    /// `!=`
     NotEqual,
+    /// `<`
     Less,
+    /// `>`
     Greater,
+    /// `<=`
     LessOrEqual,
+    /// `>=`
     GreaterOrEqual,
+    /// `<<`: by the low five bits of `b`; what leaves 32 bits is lost.
     ShiftLeft,
+    /// `>>`: by the low five bits of `b`; the sign is kept.
     ShiftRight,
+    /// `+`: wraps round at 32 bits.
     Add,
+    /// `-`: wraps round at 32 bits.
     Subtract,
+    /// `*`: wraps round at 32 bits.
     Multiply,
+    /// `/`: rounded towards 0; by 0 it is 0.
     Divide,
+    /// `%`: what `/` leaves, with the sign of `a`; by 0 it is 0.
     Remainder,
 }
 
-/// What the operator makes of two numbers.
-#[tactic(auto, unfolding(crate::specs::Op::value_of))]
+/// What an operator makes of any two numbers. Both have been worked out before, also for `&&` and
+/// `||` (docs/numbers.md, "Operators").
+#[tactic(auto, using(crate::proofs::OpLemmas::op_steps))]
 pub fn binop(op: Op, a: i32, b: i32) -> i32
     ensures { result ≡ value_of op a b }
 {
@@ -54,7 +73,8 @@ pub fn binop(op: Op, a: i32, b: i32) -> i32
     }
 }
 
-/// The quotient, rounded towards 0; by 0 it is 0. The least number by -1 comes back to itself.
+/// The quotient, rounded towards 0; by 0 it is 0. The least number by -1 wraps round to itself.
+#[tactic(auto, using(crate::proofs::OpLemmas::op_steps))]
 fn quotient(a: i32, b: i32) -> i32
     ensures { result ≡ int_wrap w32 (quotient a b) }
 {

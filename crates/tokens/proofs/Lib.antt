@@ -1,1 +1,10 @@
 pub mod Examples
+pub mod SourceLemmas
+pub mod WindowLemmas
+pub mod ToRead
+pub mod LexemesLemmas
+pub mod MarkLemmas
+pub mod TokenLemmas
+pub mod CommentLemmas
+pub mod BeginLemmas
+pub mod ReadingLemmas

@@ -1,10 +1,12 @@
 pub mod Feed
 pub mod Name
 pub mod Characters
+pub mod Pieces
 pub mod Source
 pub mod Words
 pub mod Marks
 pub mod Front
 pub mod Tokens
 pub mod Window
+pub mod Lexing
 pub mod Reading

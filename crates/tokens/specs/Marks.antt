@@ -1,7 +1,7 @@
 -- Operators and punctuation marks.
-use Rattle.std.specs.Prelude.{ℕ, List, [], ◌∷◌, Option, Some, None, codes, take, length}
+use Rattle.std.specs.Prelude.{ℕ, List, [], ◌∷◌, map, Option, Some, None, codes, take, if◌then◌else◌}
 use Rattle.std.specs.Option.{option_or}
-use Rattle.tokens.specs.Words.{entry}
+use Rattle.std.specs.Str.{bytes_eq}
 use Rattle.tokens.specs.declared.lexemes.Mark.{Mark}
 use Rattle.tokens.specs.declared.lexemes.Mark.TheVariants.{Plus, Minus, Star, Slash, Percent, And, Or, Xor, Tilde, Not, Less, Greater, Equals, ShiftLeft, ShiftRight, LessEquals, GreaterEquals, EqualsEquals, NotEquals, AndAnd, OrOr, PlusPlus, MinusMinus, PlusEquals, MinusEquals, StarEquals, SlashEquals, PercentEquals, ShiftLeftEquals, ShiftRightEquals, AndEquals, XorEquals, OrEquals, OpenRound, CloseRound, OpenCurly, CloseCurly, Comma, Semicolon}
 
@@ -46,23 +46,26 @@ spelling CloseCurly = codes "}"
 spelling Comma = codes ","
 spelling Semicolon = codes ";"
 
+-- the entry of a table under this spelling
+abbrev pub entry : {T : Type 0} → List ℕ → List (List ℕ × T) → Option T
+entry bytes [] = None
+entry bytes (row ∷ table) = if bytes_eq bytes row.0 then Some row.1 else entry bytes table
+
 -- a mark under its spelling
-abbrev row : Mark → List ℕ × Mark
+abbrev pub row : Mark → List ℕ × Mark
 row mark = (spelling mark, mark)
 
--- each mark under its spelling
-abbrev pub marks : List (List ℕ × Mark)
-marks =
-    row Plus ∷ row Minus ∷ row Star ∷ row Slash ∷ row Percent ∷ row And ∷ row Or ∷ row Xor ∷ row Tilde ∷ row Not
-    ∷ row Less ∷ row Greater ∷ row Equals ∷ row ShiftLeft ∷ row ShiftRight ∷ row LessEquals ∷ row GreaterEquals
-    ∷ row EqualsEquals ∷ row NotEquals ∷ row AndAnd ∷ row OrOr ∷ row PlusPlus ∷ row MinusMinus ∷ row PlusEquals
-    ∷ row MinusEquals ∷ row StarEquals ∷ row SlashEquals ∷ row PercentEquals ∷ row ShiftLeftEquals
-    ∷ row ShiftRightEquals ∷ row AndEquals ∷ row XorEquals ∷ row OrEquals ∷ row OpenRound ∷ row CloseRound
-    ∷ row OpenCurly ∷ row CloseCurly ∷ row Comma ∷ row Semicolon ∷ []
+-- each mark
+abbrev pub all_marks : List Mark
+all_marks =
+    Plus ∷ Minus ∷ Star ∷ Slash ∷ Percent ∷ And ∷ Or ∷ Xor ∷ Tilde ∷ Not ∷ Less ∷ Greater ∷ Equals
+    ∷ ShiftLeft ∷ ShiftRight ∷ LessEquals ∷ GreaterEquals ∷ EqualsEquals ∷ NotEquals ∷ AndAnd ∷ OrOr ∷ PlusPlus ∷ MinusMinus
+    ∷ PlusEquals ∷ MinusEquals ∷ StarEquals ∷ SlashEquals ∷ PercentEquals ∷ ShiftLeftEquals ∷ ShiftRightEquals
+    ∷ AndEquals ∷ XorEquals ∷ OrEquals ∷ OpenRound ∷ CloseRound ∷ OpenCurly ∷ CloseCurly ∷ Comma ∷ Semicolon ∷ []
 
 -- the mark that is spelled so, if there is one
 unfoldable pub mark_of : List ℕ → Option Mark
-mark_of bytes = entry bytes marks
+mark_of bytes = entry bytes (map row all_marks)
 
 -- the mark that these bytes begin with: the longest, and none is longer than three bytes
 abbrev pub longest_mark : List ℕ → Option Mark

@@ -1,7 +1,7 @@
 -- What a cursor stands for: the next token, the one behind it, and what was read behind that.
-use Rattle.std.specs.Prelude.{ℕ, ◌+◌, ◌-◌, List, [], ◌∷◌, Option, if◌then◌else◌}
+use Rattle.std.specs.Prelude.{ℕ, ◌+◌, ◌-◌, List, Option, if◌then◌else◌}
 use Rattle.std.specs.Option.{option_map}
-use Rattle.tokens.specs.Tokens.{is_last, lexemes}
+use Rattle.tokens.specs.Tokens.{is_last, lexemes, followed_by}
 use Rattle.tokens.specs.Window.{Held, ahead}
 use Rattle.tokens.specs.declared.lexemes.Lexeme.{Lexeme}
 
@@ -13,10 +13,6 @@ pub record Reading : Type 0 where
 -- the tokens behind those two, by the device's bytes to come
 unfoldable pub unread : Held → List ℕ → List Lexeme
 unread behind to_come = lexemes (ahead behind to_come)
-
--- a token, and where it isn't the last, those behind it
-abbrev pub followed_by : Lexeme → List Lexeme → List Lexeme
-followed_by lexeme others = lexeme ∷ (if is_last lexeme.token then [] else others)
 
 -- the tokens from the next one on, where the device tells its bytes to come
 abbrev pub shown : Reading → Option (List ℕ) → Option (List Lexeme)

@@ -24,13 +24,17 @@ pub record Ahead : Type 0 where
   pub bytes : List ℕ
   pub too_long : Bool
 
--- one byte further; a line ends with byte 10
+-- the line behind a byte; byte 10 ends a line
+abbrev pub line_behind : ℕ → ℕ → ℕ
+line_behind b line = if b == 10 then line + 1 else line
+
+-- one byte further
 abbrev pub behind_byte : Ahead → Ahead
 behind_byte ahead = go ahead.bytes
   where
     go : List ℕ → Ahead
     go [] = ahead
-    go (b ∷ rest) = record { line = if b == 10 then ahead.line + 1 else ahead.line; place = ahead.place + 1; bytes = rest; too_long = ahead.too_long }
+    go (b ∷ rest) = record { line = line_behind b ahead.line; place = ahead.place + 1; bytes = rest; too_long = ahead.too_long }
 
 -- so many bytes further
 abbrev pub passed : ℕ → Ahead → Ahead
@@ -41,22 +45,30 @@ passed (suc n) ahead = passed n (behind_byte ahead)
 abbrev pub at_end : Ahead → Ahead
 at_end ahead = passed (length ahead.bytes) ahead
 
--- the last token where no other is left: this one, unless the source is too long
+-- the last token, at the end of what lies ahead: this one, unless the source is too long
+abbrev pub last_lexeme : Token → ℕ → Ahead → Lexeme
+last_lexeme token line end =
+    if end.too_long then record { token = variant.Fault SourceTooLong; line = end.line; end = end.place + 1 }
+    else record { token = token; line = line; end = end.place }
+
+-- the last token where no other is left
 abbrev pub closing : Token → Ahead → Lexeme
-closing token ahead =
-    if ahead.too_long then record { token = variant.Fault SourceTooLong; line = (at_end ahead).line; end = (at_end ahead).place + 1 }
-    else record { token = token; line = ahead.line; end = (at_end ahead).place }
+closing token ahead = last_lexeme token ahead.line (at_end ahead)
 
 -- a token of so many bytes, with its place
 abbrev pub placed : Token → ℕ → Ahead → Lexeme
 placed token count ahead = record { token = token; line = ahead.line; end = ahead.place + count }
+
+-- a token, and where it isn't the last, those behind it
+abbrev pub followed_by : Lexeme → List Lexeme → List Lexeme
+followed_by lexeme others = lexeme ∷ (if is_last lexeme.token then [] else others)
 
 -- what a front gives, and then what is made of the rest
 abbrev pub cut_front : Front → Ahead → (Ahead → List Lexeme) → List Lexeme
 cut_front Nothing ahead others = closing variant.End ahead ∷ []
 cut_front Unclosed ahead others = closing (variant.Fault CommentNotClosed) ahead ∷ []
 cut_front (Space count) ahead others = others (passed count ahead)
-cut_front (Sign sign count) ahead others = placed sign count ahead ∷ (if is_last sign then [] else others (passed count ahead))
+cut_front (Sign sign count) ahead others = followed_by (placed sign count ahead) (others (passed count ahead))
 
 -- what lies ahead is cut into at most so many pieces
 abbrev pub cut : ℕ → Ahead → List Lexeme
@@ -64,7 +76,7 @@ cut zero ahead = []
 cut (suc n) ahead = cut_front (front ahead.bytes) ahead (cut n)
 
 -- each piece has a byte at least
-abbrev pub lexemes : Ahead → List Lexeme
+unfoldable pub lexemes : Ahead → List Lexeme
 lexemes ahead = cut (suc (length ahead.bytes)) ahead
 
 -- the whole of a source

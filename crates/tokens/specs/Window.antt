@@ -1,8 +1,9 @@
 -- What a window holds of a source that is read through it.
-use Rattle.std.specs.Prelude.{ℕ, ◌-◌, Bool, true, false, List, [], ◌++◌, length, take, Option, nat_lt}
+use Rattle.std.specs.Prelude.{◌≡◌, ◌≢◌, ℕ, zero, suc, ◌+◌, ◌-◌, ◌<◌, ◌≤◌, Bool, true, false, not, List, [], ◌∷◌, ◌++◌, length, take, Option, nat_lt, if◌then◌else◌, ◌==◌}
+use Rattle.std.specs.List.{prefix_len}
 use Rattle.std.specs.Option.{option_map}
 use Rattle.tokens.specs.Source.{source}
-use Rattle.tokens.specs.Tokens.{Ahead}
+use Rattle.tokens.specs.Tokens.{Ahead, line_behind}
 use Rattle.tokens.specs.declared.windows.Beyond.{Beyond}
 use Rattle.tokens.specs.declared.windows.Beyond.TheVariants.{Unread, Nothing, TooMuch}
 
@@ -39,3 +40,48 @@ ahead held to_come = record {
 -- the same, where the device tells its bytes to come
 abbrev pub seen : Held → Option (List ℕ) → Option Ahead
 seen held told = option_map (ahead held) told
+
+-- a source of which nothing was read
+abbrev pub untouched : Held
+untouched = record { line = 1; place = 0; at_hand = []; taken = 0; beyond = Unread }
+
+-- behind the first byte at hand
+abbrev pub behind_first : Held → Held
+behind_first held = go held.at_hand
+  where
+    go : List ℕ → Held
+    go [] = held
+    go (b ∷ rest) = record held { line = line_behind b held.line; place = held.place + 1; at_hand = rest }
+
+-- behind so many bytes at hand
+abbrev pub behind : ℕ → Held → Held
+behind zero held = held
+behind (suc n) held = behind n (behind_first held)
+
+-- behind the bytes at hand that stand before the next `*`
+abbrev pub behind_plain : Held → Held
+behind_plain held = behind (prefix_len (λ b. not (b == 42)) held.at_hand) held
+
+-- how many of these bytes belong to a source for which there is so much room, and what follows them
+abbrev pub Cuts : List ℕ → ℕ → ℕ → Beyond → Type 0
+Cuts bytes room kept Unread = (source bytes ≡ bytes) × (kept ≡ length bytes) × (0 < length bytes) × (length bytes ≤ room)
+Cuts bytes room kept TooMuch = (source bytes ≡ bytes) × (kept ≡ room) × (room < length bytes)
+Cuts bytes room kept Nothing = (kept ≡ length (source bytes)) × (length (source bytes) ≤ room) × (0 < length bytes → length (source bytes) < length bytes)
+
+-- the same line and place
+pub record IsAtSamePlace (old new : Held) : Type 0 where
+  pub line : new.line ≡ old.line
+  pub place : new.place ≡ old.place
+
+-- a byte is at hand, or what is beyond is known
+abbrev pub IsAtHandOrEnd : Held → Type 0
+IsAtHandOrEnd held = held.at_hand ≡ [] → held.beyond ≢ Unread
+
+-- how the fields of a window go together
+pub record IsWindow (next filled start taken line : ℕ) (beyond : Beyond) : Type 0 where
+  pub ordered : next ≤ filled
+  pub fits : filled ≤ 4096
+  pub within : start + filled ≤ 1048576
+  pub lines : line ≤ start + next + 1
+  pub all_taken : beyond ≡ Unread → start + filled ≡ taken
+  pub bounded : taken ≤ 1048577

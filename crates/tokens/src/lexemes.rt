@@ -1,5 +1,7 @@
 //! Tokens, with their places in the source.
 
+ghost use Rattle.std.specs.Prelude.{◌≡◌};
+
 use crate::names::Name;
 
 /// An operator or a punctuation mark.
@@ -143,4 +145,15 @@ pub struct Lexeme {
     pub line: u32,
     /// How many bytes of the source there are up to its last one.
     pub end: u32,
+}
+
+impl Token {
+    ghost use Rattle.tokens.specs.Tokens.{is_last};
+
+    /// Whether no token is behind this one: a fault is the last token, or else the end is.
+    pub fn is_last(&self) -> bool
+        ensures { result ≡ is_last self.now }
+    {
+        matches!(self, Token::End | Token::Fault(_))
+    }
 }

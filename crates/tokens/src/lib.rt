@@ -2,13 +2,24 @@
 //! cursor that reads them through a window of fixed size.
 #![tactic(auto)]
 
+mod characters;
+mod cursors;
 mod devices;
 mod lexemes;
+mod lexer;
 mod limits;
+mod marks;
+mod memory;
 mod names;
 mod windows;
+mod words;
 
+pub use cursors::Cursor;
 pub use devices::{DeviceFault, Feed};
 pub use lexemes::{Flaw, Lexeme, Mark, Token, Word};
 pub use limits::{CONSTANT_MAX, NAME_BYTES, SOURCE_BYTES, WINDOW};
+pub use memory::Pieces;
 pub use names::Name;
+
+#[cfg(test)]
+mod tests;

@@ -1,11 +1,12 @@
 //! Names, of fixed size.
 
-ghost use Rattle.std.specs.Prelude.{◌≡◌, ◌∷◌, [], ◌++◌, ◌<◌, length};
+ghost use Rattle.std.specs.Prelude.{◌≡◌, ◌∷◌, [], ◌++◌, ◌<◌, ◌≤◌, ◌↔◌, IsTrue, length};
+ghost use Rattle.std.specs.Str.{bytes_eq};
 
 use crate::limits::NAME_BYTES;
 use std::marker::Model;
 
-/// A name of at most `NAME_BYTES` bytes.
+/// A name of at most `NAME_BYTES` bytes. Its value is the list of its bytes.
 #[derive(Clone, Copy, Debug, PartialEq, Eq)]
 pub struct Name {
     bytes: [u8; NAME_BYTES],
@@ -25,4 +26,61 @@ impl Model for Name {
     ghost inverse = { λ name. record { bytes = padded name; len = length name } };
 
     ghost inverse_ok = { λ a h. let e = padded-kept h in let d = length-kept h in Prim.rw (e, d) };
+}
+
+impl Name {
+    /// The name of no bytes.
+    pub fn new() -> Self
+        ensures { result ≡ [] }
+    {
+        Name {
+            bytes: [0; NAME_BYTES],
+            len: 0,
+        }
+    }
+
+    /// How many bytes it has.
+    pub fn len(&self) -> usize
+        ensures value { result ≡ length self.now }
+        ensures bounded { result ≤ 31 }
+    {
+        self.len as usize
+    }
+
+    /// Whether it has no bytes.
+    pub fn is_empty(&self) -> bool
+        ensures { IsTrue result ↔ (length self.now ≡ 0) }
+    {
+        self.len == 0
+    }
+
+    /// Whether it can take no further byte.
+    pub fn is_full(&self) -> bool
+        ensures { IsTrue result ↔ (31 ≤ length self.now) }
+    {
+        self.len() == NAME_BYTES
+    }
+
+    /// Adds a byte at its end.
+    pub fn push(&mut self, byte: u8)
+        requires { length self.old < 31 }
+        ensures { self.new ≡ self.old ++ byte ∷ [] }
+    {
+        self.bytes[self.len as usize] = byte;
+        self.len += 1;
+    }
+
+    /// Its bytes.
+    pub fn as_bytes(&self) -> &[u8]
+        ensures { result.now ≡ self.now }
+    {
+        &self.bytes[..self.len as usize]
+    }
+
+    /// Whether it has these bytes.
+    pub fn is(&self, bytes: &[u8]) -> bool
+        ensures { result ≡ bytes_eq self.now bytes.now }
+    {
+        self.as_bytes() == bytes
+    }
 }

@@ -1,5 +1,21 @@
 //! The window of fixed size through which a source is read.
 
+ghost use Rattle.std.specs.Prelude.{◌≡◌, ◌≢◌, ℕ, ◌+◌, ◌-◌, ◌^◌, ◌<◌, ◌≤◌, List, [], length, take, slice_get, OnOk, IfOk, count_by, ◌==◌, not};
+ghost use Rattle.std.specs.List.{prefix_len};
+ghost use Rattle.tokens.specs.Source.{source};
+ghost use Rattle.tokens.specs.Feed.{Counts};
+ghost use Rattle.tokens.specs.Window.{seen, untouched, behind_first, behind_plain, Cuts, IsAtSamePlace, IsAtHandOrEnd};
+
+use crate::devices::{DeviceFault, Feed};
+use crate::limits::{SOURCE_BYTES, WINDOW};
+use std::marker::Model;
+
+/// The byte that ends a source.
+const END_BYTE: u8 = 26;
+
+/// The byte that ends a line.
+const LINE_FEED: u8 = 10;
+
 /// What is known of the source behind the bytes at hand.
 #[derive(Clone, Copy, Debug, PartialEq, Eq)]
 pub enum Beyond {
@@ -9,4 +25,191 @@ pub enum Beyond {
     Nothing,
     /// The source goes on behind the limit.
     TooMuch,
+}
+
+/// The bytes at hand of a source that is read from a device, in an array that is filled again once it is read out.
+#[derive(Drop)]
+pub struct Window {
+    bytes: [u8; WINDOW],
+    next: usize,
+    filled: usize,
+    start: u32,
+    taken: u32,
+    line: u32,
+    beyond: Beyond,
+}
+
+impl Model for Window {
+    ghost use Rattle.std.specs.Prelude.{◌+◌, slice_range};
+    ghost use Rattle.tokens.specs.Window.{Held, IsWindow};
+
+    ghost Value = { Held };
+
+    ghost view = { λ w. record { line = w.line; place = w.start + w.next; at_hand = slice_range w.bytes w.next w.filled; taken = w.taken; beyond = w.beyond } };
+
+    ghost invariant = { λ w. IsWindow w.next w.filled w.start w.taken w.line w.beyond };
+}
+
+impl Window {
+    /// A window of a source of which nothing was read.
+    pub fn new() -> Self
+        ensures { result ≡ untouched }
+    {
+        Window {
+            bytes: [0; WINDOW],
+            next: 0,
+            filled: 0,
+            start: 0,
+            taken: 0,
+            line: 1,
+            beyond: Beyond::Unread,
+        }
+    }
+
+    /// The line of the next byte, from 1.
+    pub fn line(&self) -> u32
+        ensures { result ≡ self.now.line }
+    {
+        self.line
+    }
+
+    /// How many bytes of the source stand before the next one.
+    pub fn place(&self) -> u32
+        ensures value { result ≡ self.now.place }
+        ensures within { result ≤ 1048576 }
+    {
+        self.start + self.next as u32
+    }
+
+    /// What is known of the source behind the bytes at hand.
+    pub fn beyond(&self) -> Beyond
+        ensures { result ≡ self.now.beyond }
+    {
+        self.beyond
+    }
+
+    /// The next byte, or `None` at the end. The device is asked only where no byte is at hand.
+    #[inline(always)]
+    pub fn peek<F: Feed>(&mut self, feed: &mut F) -> Result<Option<u8>, DeviceFault>
+        requires { F.failures feed.old < 2 ^ 64 - 1 }
+        ensures first { IfOk result (λ first. first ≡ slice_get self.new.at_hand 0) }
+        ensures ready { OnOk result (IsAtHandOrEnd self.new) }
+        ensures seen { OnOk result (seen self.new (F.to_come feed.new) ≡ seen self.old (F.to_come feed.old)) }
+        ensures place { IsAtSamePlace self.old self.new }
+        ensures within { self.new.place ≤ 1048576 }
+        ensures count { Counts result (F.failures feed.old) (F.failures feed.new) }
+    {
+        if self.next == self.filled {
+            self.refill(feed)?;
+        }
+        Ok(self.first())
+    }
+
+    /// Goes behind the next byte.
+    #[inline(always)]
+    pub fn pass(&mut self)
+        requires { 0 < length self.old.at_hand }
+        ensures value { self.new ≡ behind_first self.old }
+        ensures forward { self.new.place ≡ self.old.place + 1 }
+        ensures within { self.new.place ≤ 1048576 }
+    {
+        if self.bytes[self.next] == LINE_FEED {
+            self.line += 1;
+        }
+        self.next += 1;
+    }
+
+    /// Goes behind the bytes at hand that stand before the next `*`.
+    pub fn pass_plain(&mut self)
+        ensures value { self.new ≡ behind_plain self.old }
+        ensures forward { self.old.place ≤ self.new.place }
+        ensures within { self.new.place ≤ 1048576 }
+    {
+        let (count, lines) = plain(&self.bytes[self.next..self.filled]);
+        self.next += count;
+        self.line += lines;
+    }
+
+    fn first(&self) -> Option<u8>
+        ensures { result ≡ slice_get self.now.at_hand 0 }
+    {
+        if self.next < self.filled {
+            Some(self.bytes[self.next])
+        } else {
+            None
+        }
+    }
+
+    #[inline(never)]
+    fn refill<F: Feed>(&mut self, feed: &mut F) -> Result<(), DeviceFault>
+        requires empty { self.old.at_hand ≡ [] }
+        requires countable { F.failures feed.old < 2 ^ 64 - 1 }
+        ensures ready { OnOk result (IsAtHandOrEnd self.new) }
+        ensures seen { OnOk result (seen self.new (F.to_come feed.new) ≡ seen self.old (F.to_come feed.old)) }
+        ensures place { IsAtSamePlace self.old self.new }
+        ensures count { Counts result (F.failures feed.old) (F.failures feed.new) }
+    {
+        if self.beyond != Beyond::Unread {
+            return Ok(());
+        }
+        let room = (SOURCE_BYTES - self.taken) as usize;
+        let size = WINDOW.min(room + 1);
+        let count = feed.fill(&mut self.bytes[..size])?;
+        let (kept, beyond) = cut(&self.bytes[..count], room);
+        self.start += self.filled as u32;
+        self.taken += count as u32;
+        self.next = 0;
+        self.filled = kept;
+        self.beyond = beyond;
+        Ok(())
+    }
+}
+
+/// How many of these bytes belong to the source, of which there is room for so many, and what follows them.
+#[tactic(auto, using(crate::proofs::SourceLemmas::cutting))]
+fn cut(bytes: &[u8], room: usize) -> (usize, Beyond)
+    requires { length bytes.now ≤ room + 1 }
+    ensures { Cuts bytes.now room result.0 result.1 }
+{
+    let length = source_len(bytes);
+    if length < bytes.len() {
+        (length, Beyond::Nothing)
+    } else if length > room {
+        (room, Beyond::TooMuch)
+    } else if length == 0 {
+        (0, Beyond::Nothing)
+    } else {
+        (length, Beyond::Unread)
+    }
+}
+
+/// How many bytes there are before the first that ends a source.
+#[tactic(auto, using(crate::proofs::SourceLemmas::steps))]
+fn source_len(bytes: &[u8]) -> usize
+    ensures { result ≡ length (source bytes.now) }
+{
+    for (i, b) in bytes.iter().enumerate() {
+        if *b == END_BYTE {
+            return i;
+        }
+    }
+    bytes.len()
+}
+
+/// How many bytes there are before the first `*`, and how many of them end a line.
+fn plain(bytes: &[u8]) -> (usize, u32)
+    requires { length bytes.now ≤ 4096 }
+    ensures count { result.0 ≡ prefix_len (λ b. not (b == 42)) bytes.now }
+    ensures lines { result.1 ≡ count_by (λ b. b == 10) (take result.0 bytes.now) }
+{
+    let mut lines = 0;
+    for (i, b) in bytes.iter().enumerate() {
+        if *b == b'*' {
+            return (i, lines);
+        }
+        if *b == LINE_FEED {
+            lines += 1;
+        }
+    }
+    (bytes.len(), lines)
 }

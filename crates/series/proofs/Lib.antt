@@ -1,0 +1,4 @@
+pub mod PiecesLemmas
+pub mod TextsLemmas
+pub mod PortionsLemmas
+pub mod DraftLemmas

@@ -1,0 +1,44 @@
+-- The output as pieces on two channels, and what two sinks took of it.
+use Rattle.std.specs.Prelude.{◌≡◌, ◌⊎◌, ℕ, List, [], ◌∷◌}
+use Rattle.series.specs.Portions.{Portions, Takes, TakesFront}
+
+-- where a piece is written
+pub data Channel : Type 0 where
+  Text : Channel
+  Faults : Channel
+
+-- a listing, a report or a line, which is written whole
+pub record Piece : Type 0 where
+  pub channel : Channel
+  pub bytes : List ℕ
+
+-- what the two sinks have taken
+pub record Taken : Type 0 where
+  pub text : Portions
+  pub faults : Portions
+
+-- these portions on the two channels
+abbrev pub taken : Portions → Portions → Taken
+taken text faults = record { text = text; faults = faults }
+
+-- the channel's sink took exactly these bytes, and the other one nothing
+abbrev pub TakesOn : Channel → Taken → Taken → List ℕ → Type 0
+TakesOn Text before after bytes = Takes before.text after.text bytes × (after.faults ≡ before.faults)
+TakesOn Faults before after bytes = Takes before.faults after.faults bytes × (after.text ≡ before.text)
+
+-- the channel's sink took a front of these bytes, and the other one nothing
+abbrev pub TakesFrontOn : Channel → Taken → Taken → List ℕ → Type 0
+TakesFrontOn Text before after bytes = TakesFront before.text after.text bytes × (after.faults ≡ before.faults)
+TakesFrontOn Faults before after bytes = TakesFront before.faults after.faults bytes × (after.text ≡ before.text)
+
+-- the sinks took these pieces, each whole, in this order, by portions of its own
+abbrev pub Writes : Taken → Taken → List Piece → Type 0
+Writes before after [] = after ≡ before
+Writes before after (piece ∷ pieces) = (between : Taken) × TakesOn piece.channel before between piece.bytes × Writes between after pieces
+
+-- the sinks took a beginning of these pieces: some first ones whole, and perhaps a front of the next
+abbrev pub Begins : Taken → Taken → List Piece → Type 0
+Begins before after [] = after ≡ before
+Begins before after (piece ∷ pieces) =
+    TakesFrontOn piece.channel before after piece.bytes
+    ⊎ ((between : Taken) × TakesOn piece.channel before between piece.bytes × Begins between after pieces)

@@ -1,0 +1,35 @@
+-- What a sink took: one portion for each call, in the order of the calls.
+use Rattle.std.specs.Prelude.{◌≡◌, ℕ, ◌+◌, List, ◌++◌, Option, Some, None, Result, MatchResult}
+use Rattle.std.specs.List.{concat}
+
+-- what a sink tells of the portions that it took so far; it may tell nothing
+abbrev pub Portions : Type 0
+Portions = Option (List (List ℕ))
+
+-- the same, with these portions taken since
+abbrev pub and_portions : Portions → List (List ℕ) → Portions
+and_portions None more = None
+and_portions (Some taken) more = Some (taken ++ more)
+
+-- from before to after the sink took exactly these bytes
+pub record Takes (before after : Portions) (bytes : List ℕ) : Type 0 where
+  pub portions : List (List ℕ)
+  pub told : after ≡ and_portions before portions
+  pub joined : concat portions ≡ bytes
+
+-- it took these bytes but for the ones that are left at their end
+pub record TakesAllBut (before after : Portions) (bytes left : List ℕ) : Type 0 where
+  pub portions : List (List ℕ)
+  pub told : after ≡ and_portions before portions
+  pub joined : concat portions ++ left ≡ bytes
+
+-- it took a front of these bytes
+abbrev pub TakesFront : Portions → Portions → List ℕ → Type 0
+TakesFront before after bytes = (left : List ℕ) × TakesAllBut before after bytes left
+
+-- What a call left that was to put these bytes, from a sink that had failed n times to one that has failed m times:
+-- if it succeeded, the sink took them and has not failed; if it failed, the sink took a front of them and has failed once.
+abbrev pub Puts : {T E : Type 0} → Result T E → Portions → ℕ → Portions → ℕ → List ℕ → Type 0
+Puts result before n after m bytes = MatchResult result
+    (λ _. Takes before after bytes × (m ≡ n))
+    (λ _. TakesFront before after bytes × (m ≡ n + 1))

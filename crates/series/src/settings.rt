@@ -1,0 +1,133 @@
+//! What a run is asked to do, and how it ends.
+
+ghost use Rattle.std.specs.Prelude.{◌≡◌, ℕ, ◌+◌, ◌-◌, ◌^◌, ◌<◌, ◌≤◌, List, [], ◌∷◌, map, length, string_bytes};
+ghost use Rattle.series.specs.Setup.{Setup, IsSetup};
+
+use std::marker::Model;
+
+/// Whether files are listed or play matches.
+#[derive(Clone, Copy, Debug, PartialEq, Eq)]
+pub enum Mode {
+    /// Lists the code of each file.
+    Listing,
+    /// Plays matches of the files.
+    Matches,
+}
+
+/// What a run is asked to do: its mode, how many matches of at most how many cycles it plays, the seed of
+/// its random numbers, and the words that name its files.
+#[derive(Debug, Drop)]
+pub struct Settings {
+    mode: Mode,
+    matches: u32,
+    limit: u32,
+    seed: u64,
+    words: Vec<String>,
+}
+
+impl Model for Settings {
+    ghost Value = { Setup };
+
+    ghost view = { λ s. record {
+      mode = s.mode;
+      matches = s.matches;
+      limit = s.limit;
+      seed = s.seed;
+      words = map string_bytes s.words.items;
+    } };
+
+    ghost invariant = { λ s. IsSetup (record {
+      mode = s.mode;
+      matches = s.matches;
+      limit = s.limit;
+      seed = s.seed;
+      words = map string_bytes s.words.items;
+    }) };
+}
+
+impl Settings {
+    /// The settings of these parts.
+    pub fn new(mode: Mode, matches: u32, limit: u32, seed: u64, words: Vec<String>) -> Settings
+        requires { IsSetup (record {
+          mode = mode;
+          matches = matches;
+          limit = limit;
+          seed = seed;
+          words = map string_bytes words.items;
+        }) }
+        ensures { result ≡ record {
+          mode = mode;
+          matches = matches;
+          limit = limit;
+          seed = seed;
+          words = map string_bytes words.items;
+        } }
+    {
+        Settings {
+            mode,
+            matches,
+            limit,
+            seed,
+            words,
+        }
+    }
+
+    /// Whether files are listed or play matches.
+    pub fn mode(&self) -> Mode
+        ensures value { result ≡ self.now.mode }
+        ensures within { IsSetup self.now }
+    {
+        self.mode
+    }
+
+    /// How many matches are played: 1 where files are listed.
+    pub fn matches(&self) -> u32
+        ensures value { result ≡ self.now.matches }
+        ensures within { IsSetup self.now }
+    {
+        self.matches
+    }
+
+    /// The most cycles of a match.
+    pub fn limit(&self) -> u32
+        ensures value { result ≡ self.now.limit }
+        ensures within { IsSetup self.now }
+    {
+        self.limit
+    }
+
+    /// The seed of the random numbers.
+    pub fn seed(&self) -> u64
+        ensures value { result ≡ self.now.seed }
+    {
+        self.seed
+    }
+
+    /// The words that name the files, one to four.
+    pub fn words(&self) -> &[String]
+        ensures value { map string_bytes result.now ≡ self.now.words }
+        ensures within { IsSetup self.now }
+    {
+        self.words.as_slice()
+    }
+}
+
+/// How a run ends that nothing stopped.
+#[derive(Clone, Copy, Debug, PartialEq, Eq)]
+pub enum Status {
+    /// Each file was good.
+    Done,
+    /// A file had a fault.
+    Faulty,
+}
+
+/// What stopped a run.
+#[derive(Clone, Copy, Debug, PartialEq, Eq)]
+pub enum RunFault {
+    /// Reading the file with this index failed.
+    Read(usize),
+    /// Writing failed.
+    Write,
+    /// Memory was refused.
+    Memory,
+}

@@ -1,0 +1,179 @@
+-- Blanks, comments, names, constants and marks, a byte at a time.
+use Rattle.std.proofs.Common.{◌≡◌, ℕ, zero, suc, ◌+◌, ◌-◌, ◌*◌, ◌<◌, ◌≤◌, Bool, true, false, not, cond, eqb, leb, Option, Some, None, List, [], ◌∷◌, ◌++◌, length, take, drop, fold, min, ◌⊎◌, inl, inr, refl, sym, ap, ◌∙◌, subst, arith, ◌≢◌, add-one, append_assoc, length-append}
+use Rattle.std.specs.Prelude.{◌||◌, ◌&&◌, slice_get}
+use Rattle.std.specs.List.{prefix_len}
+use Rattle.std.specs.Option.{option_and_then}
+use Rattle.std.proofs.lemmas.Bool.{eqb-true, lt-leb, cases_lt}
+use Rattle.std.proofs.lemmas.Bool.Decides.{nat_tests}
+use Rattle.tokens.specs.Characters.{is_blank, is_letter, is_digit, is_name_byte}
+use Rattle.tokens.specs.Marks.{longest_mark, spelling, mark_of}
+use Rattle.tokens.specs.Front.{Front, Nothing, Space, Unclosed, Sign, front, run, comment, mark, up_to_close, begins_with, name_token, constant_token}
+use Rattle.tokens.specs.Tokens.{Ahead, behind_byte, line_behind, passed, at_end, placed, closing, last_lexeme, followed_by, is_last, cut_front, lexemes}
+use Rattle.tokens.specs.Window.{Held, ahead, behind_first, IsAtHandOrEnd}
+use Rattle.tokens.specs.Lexing.{to_read, followed, ending, in_run, in_name, name_going_on, in_constant, constant_going_on, value_token, in_mark, grown, in_comment, closed_at}
+use Rattle.tokens.specs.declared.lexemes.Mark.{Mark}
+use Rattle.tokens.specs.declared.lexemes.Flaw.TheVariants.{BadCharacter, CommentNotClosed, NameTooLong, ConstantTooLarge}
+use Rattle.tokens.specs.declared.lexemes.Token.{Token}
+use Rattle.tokens.specs.declared.lexemes.Token.TheVariants as variant
+use Rattle.tokens.specs.declared.lexemes.Lexeme.{Lexeme}
+use Rattle.tokens.proofs.LexemesLemmas.{lexemes-front}
+use Rattle.tokens.proofs.ToRead.{to_read-here, to_read-pass, first-ahead, none-ahead}
+
+abbrev here : ℕ → ℕ → List ℕ → Bool → Ahead
+here line place bytes too_long = record { line = line; place = place; bytes = bytes; too_long = too_long }
+
+pub chosen : {A : Type 0} (t : Bool) (x y : A) → t ≡ true → cond t x y ≡ x
+chosen true x y e = refl
+chosen false x y e = absurd cc
+
+pub other : {A : Type 0} (t : Bool) (x y : A) → t ≡ false → cond t x y ≡ y
+other true x y e = absurd cc
+other false x y e = refl
+
+-- a blank is skipped
+pub blank-skipped : (b : ℕ) → is_blank b ≡ true → (a : Ahead) (rest : List ℕ) → a.bytes ≡ b ∷ rest → lexemes (behind_byte a) ≡ lexemes a
+blank-skipped b blank a rest e =
+    sym (lexemes-front a ∙ ap (λ f. cut_front f a lexemes) (ap front e ∙ chosen (is_blank b) _ _ blank))
+
+-- nothing is left
+pub nothing-left : (a : Ahead) → a.bytes ≡ [] → followed (last_lexeme variant.End a.line a) a ≡ lexemes a
+unfolding followed
+nothing-left a e =
+    by a.too_long ∙ subst (λ (xs : List ℕ). last_lexeme variant.End a.line a ∷ [] ≡ cut_front (front xs) (here a.line a.place xs a.too_long) lexemes) (sym e) same ∙ sym (lexemes-front a)
+  where
+    by : (t : Bool) → followed_by (last_lexeme variant.End a.line (here a.line a.place a.bytes t)) (lexemes a) ≡ last_lexeme variant.End a.line (here a.line a.place a.bytes t) ∷ []
+    by true = refl
+    by false = refl
+
+    same : last_lexeme variant.End a.line a ∷ [] ≡ cut_front (front []) (here a.line a.place [] a.too_long) lexemes
+    same = refl
+
+prefix_len-passes : (test : ℕ → Bool) (b : ℕ) (rest : List ℕ) → test b ≡ true → prefix_len test (b ∷ rest) ≡ suc (prefix_len test rest)
+prefix_len-passes test b rest e = chosen (test b) _ _ e ∙ omega arith
+
+-- a run goes on
+run-goes_on-here : (test : ℕ → Bool) (token_of : List ℕ → Token) (line place b : ℕ) (rest : List ℕ) (too_long : Bool) → test b ≡ true → eqb b 10 ≡ false → in_run test (λ more. token_of (b ∷ more)) (behind_byte (here line place (b ∷ rest) too_long)) ≡ in_run test token_of (here line place (b ∷ rest) too_long)
+unfolding in_run
+run-goes_on-here test token_of line place b rest t passes no_line =
+    let e = prefix_len-passes test b rest passes in
+    let l : line_behind b line ≡ line = other (eqb b 10) _ _ no_line in
+    let p : place + 1 + prefix_len test rest ≡ place + suc (prefix_len test rest) = omega arith in
+    rw (e, p) (ap (λ n. followed (record { token = token_of (b ∷ take (prefix_len test rest) rest); line = n; end = place + suc (prefix_len test rest) }) (passed (prefix_len test rest) (behind_byte (here line place (b ∷ rest) t)))) l)
+
+pub run-goes_on : (test : ℕ → Bool) (token_of : List ℕ → Token) (b : ℕ) → test b ≡ true → eqb b 10 ≡ false → (a : Ahead) (rest : List ℕ) → a.bytes ≡ b ∷ rest → in_run test (λ more. token_of (b ∷ more)) (behind_byte a) ≡ in_run test token_of a
+run-goes_on test token_of b passes no_line a rest e =
+    subst (λ (xs : List ℕ). in_run test (λ more. token_of (b ∷ more)) (behind_byte (here a.line a.place xs a.too_long)) ≡ in_run test token_of (here a.line a.place xs a.too_long)) (sym e)
+    (run-goes_on-here test token_of a.line a.place b rest a.too_long passes no_line)
+
+-- a run ends
+pub run-ends : (test : ℕ → Bool) (token_of : List ℕ → Token) (a : Ahead) → prefix_len test a.bytes ≡ 0 → followed (ending (token_of []) a) a ≡ in_run test token_of a
+unfolding in_run
+run-ends test token_of a e = let p : a.place + 0 ≡ a.place = omega arith in rw (e, p) refl
+
+in_run-same : (test : ℕ → Bool) (token_of token_of' : List ℕ → Token) (a : Ahead) → ((more : List ℕ) → token_of more ≡ token_of' more) → in_run test token_of a ≡ in_run test token_of' a
+unfolding in_run
+in_run-same test token_of token_of' a h = ap (λ t. followed (placed t (prefix_len test a.bytes) a) (passed (prefix_len test a.bytes) a)) (h (take (prefix_len test a.bytes) a.bytes))
+
+-- a byte that a run has doesn't end a line
+pub no_line : (test : ℕ → Bool) (b : ℕ) → test 10 ≡ false → test b ≡ true → eqb b 10 ≡ false
+no_line test b e h = by (eqb b 10) refl
+  where
+    by : (t : Bool) → eqb b 10 ≡ t → eqb b 10 ≡ false
+    by true q = let d : b ≡ 10 = eqb-true b 10 q in absurd cc
+    by false q = q
+
+pub run-takes : (test : ℕ → Bool) (token_of token_of' : List ℕ → Token) (b : ℕ) → test 10 ≡ false → test b ≡ true → ((more : List ℕ) → token_of' more ≡ token_of (b ∷ more)) → (a : Ahead) (rest : List ℕ) → a.bytes ≡ b ∷ rest → in_run test token_of' (behind_byte a) ≡ in_run test token_of a
+run-takes test token_of token_of' b n h s a rest e = in_run-same test token_of' (λ more. token_of (b ∷ more)) (behind_byte a) s ∙ run-goes_on test token_of b h (no_line test b n h) a rest e
+
+-- a name takes one byte more, while it has room
+pub name-takes : (name : List ℕ) (too_long : Bool) (b : ℕ) → is_name_byte b ≡ true → (a : Ahead) (rest : List ℕ) → a.bytes ≡ b ∷ rest → in_name (name ++ b ∷ []) too_long (behind_byte a) ≡ in_name name too_long a
+name-takes name too_long b h =
+    run-takes is_name_byte (name_going_on name too_long) (name_going_on (name ++ b ∷ []) too_long) b refl h (λ more. ap (λ bytes. cond too_long (variant.Fault NameTooLong) (name_token bytes)) (append_assoc name (b ∷ []) more))
+
+-- and is too long from then on
+pub name-overflows : (name : List ℕ) (too_long : Bool) (b : ℕ) → 31 ≤ length name → is_name_byte b ≡ true → (a : Ahead) (rest : List ℕ) → a.bytes ≡ b ∷ rest → in_name name true (behind_byte a) ≡ in_name name too_long a
+name-overflows name too_long b full h =
+    run-takes is_name_byte (name_going_on name too_long) (name_going_on name true) b refl h (λ more. by too_long more)
+  where
+    by : (t : Bool) (more : List ℕ) → variant.Fault NameTooLong ≡ name_going_on name t (b ∷ more)
+    by true more = refl
+    by false more = sym (other (leb (length (name ++ b ∷ more)) 31) _ _ (lt-leb _ _ (omega (arith, length-append name (b ∷ more), full))))
+
+abbrev digits_on : ℕ → List ℕ → ℕ
+digits_on value more = fold (λ value digit. 10 * value + (digit - 48)) value more
+
+digits_on-grows : (value : ℕ) (more : List ℕ) → value ≤ digits_on value more
+digits_on-grows value [] = omega arith
+digits_on-grows value (d ∷ more) = omega (arith, digits_on-grows (10 * value + (d - 48)) more)
+
+-- a value above the greatest may stand for all such values
+capped : (value : ℕ) (more : List ℕ) → value_token (digits_on (min value 2147483648) more) ≡ value_token (digits_on value more)
+capped value more = by (cases_lt value 2147483648)
+  where
+    by : (value < 2147483648) ⊎ (2147483648 ≤ value) → value_token (digits_on (min value 2147483648) more) ≡ value_token (digits_on value more)
+    by (inl small) = let e : min value 2147483648 ≡ value = omega arith in ap (λ v. value_token (digits_on v more)) e
+    by (inr big) =
+        let e : min value 2147483648 ≡ 2147483648 = omega arith in
+        ap (λ v. value_token (digits_on v more)) e
+        ∙ other (leb (digits_on 2147483648 more) 2147483647) _ _ (lt-leb _ _ (omega (arith, digits_on-grows 2147483648 more)))
+        ∙ sym (other (leb (digits_on value more) 2147483647) _ _ (lt-leb _ _ (omega (arith, digits_on-grows value more))))
+
+-- a constant takes one digit more
+pub constant-takes : (value b : ℕ) → is_digit b ≡ true → (a : Ahead) (rest : List ℕ) → a.bytes ≡ b ∷ rest → in_constant (min (10 * value + (b - 48)) 2147483648) (behind_byte a) ≡ in_constant value a
+constant-takes value b h = run-takes is_digit (constant_going_on value) (constant_going_on (min (10 * value + (b - 48)) 2147483648)) b refl h (capped (10 * value + (b - 48)))
+
+-- a run stops at the end, and at a byte that doesn't pass
+abbrev pub StopsAt : (ℕ → Bool) → Option ℕ → Type 0
+StopsAt test None = Unit {0}
+StopsAt test (Some b) = test b ≡ false
+
+pub run-stops : (test : ℕ → Bool) (token_of : List ℕ → Token) (lexeme : Lexeme) (token : Token) (here : Held) (told : Option (List ℕ)) (first : Option ℕ) → IsAtHandOrEnd here → first ≡ slice_get here.at_hand 0 → StopsAt test first → ((to_come : List ℕ) → lexeme ≡ ending token (ahead here to_come)) → token ≡ token_of [] → to_read (followed lexeme) here told ≡ to_read (in_run test token_of) here told
+run-stops test token_of lexeme token here told first ready f stops x t =
+    to_read-here (followed lexeme) (in_run test token_of) here told (λ to_come.
+    let a = ahead here to_come in
+    ap (λ l. followed l a) (x to_come ∙ ap (λ k. ending k a) t) ∙ run-ends test token_of a (none_passes first f stops to_come))
+  where
+    none_passes : (o : Option ℕ) → o ≡ slice_get here.at_hand 0 → StopsAt test o → (to_come : List ℕ) → prefix_len test (ahead here to_come).bytes ≡ 0
+    none_passes None f stops to_come = ap (prefix_len test) (none-ahead here to_come ready (sym f))
+    none_passes (Some b) f stops to_come =
+        let r = first-ahead here b to_come (sym f) in
+        ap (prefix_len test) r.1 ∙ other (test b) _ _ stops
+
+-- a mark takes one byte more
+mark-grows-here : (old longer : Mark) (line place b : ℕ) (rest : List ℕ) (too_long : Bool) → mark_of (spelling old ++ b ∷ []) ≡ Some longer → in_mark longer (behind_byte (here line place (b ∷ rest) too_long)) ≡ in_mark old (here line place (b ∷ rest) too_long)
+unfolding in_mark
+mark-grows-here old longer line place b rest t e = by (mark_of (spelling old ++ b ∷ [])) e
+  where
+    by : (o : Option Mark) → o ≡ Some longer → grown longer rest (behind_byte (here line place (b ∷ rest) t)) ≡ elim o [ None ↦ followed (ending (variant.Mark old) (here line place (b ∷ rest) t)) (here line place (b ∷ rest) t) | Some longer ↦ grown longer rest (behind_byte (here line place (b ∷ rest) t)) ]
+    by None e = absurd cc
+    by (Some m) e = let d : m ≡ longer = cc in ap (λ k. grown k rest (behind_byte (here line place (b ∷ rest) t))) (sym d)
+
+pub mark-grows : (old longer : Mark) (b : ℕ) → mark_of (spelling old ++ b ∷ []) ≡ Some longer → (a : Ahead) (rest : List ℕ) → a.bytes ≡ b ∷ rest → in_mark longer (behind_byte a) ≡ in_mark old a
+mark-grows old longer b h a rest e =
+    subst (λ (xs : List ℕ). in_mark longer (behind_byte (here a.line a.place xs a.too_long)) ≡ in_mark old (here a.line a.place xs a.too_long)) (sym e)
+    (mark-grows-here old longer a.line a.place b rest a.too_long h)
+
+mark-ends-none : (old : Mark) (a : Ahead) → a.bytes ≡ [] → followed (ending (variant.Mark old) a) a ≡ in_mark old a
+unfolding in_mark
+mark-ends-none old a e = ap (λ xs. grown old xs a) (sym e)
+
+mark-ends-at : (old : Mark) (a : Ahead) (b : ℕ) (rest : List ℕ) → a.bytes ≡ b ∷ rest → mark_of (spelling old ++ b ∷ []) ≡ None → followed (ending (variant.Mark old) a) a ≡ in_mark old a
+unfolding in_mark
+mark-ends-at old a b rest e h = by (mark_of (spelling old ++ b ∷ [])) h ∙ ap (λ xs. grown old xs a) (sym e)
+  where
+    by : (o : Option Mark) → o ≡ None → followed (ending (variant.Mark old) a) a ≡ elim o [ None ↦ followed (ending (variant.Mark old) a) a | Some longer ↦ grown longer rest (behind_byte a) ]
+    by None h = refl
+    by (Some m) h = absurd cc
+
+-- a mark stops at the end, and at a byte that makes no longer one
+pub mark-stops : (old : Mark) (lexeme : Lexeme) (here : Held) (told : Option (List ℕ)) (first : Option ℕ) → IsAtHandOrEnd here → first ≡ slice_get here.at_hand 0 → option_and_then (λ b. mark_of (spelling old ++ b ∷ [])) first ≡ None → ((to_come : List ℕ) → lexeme ≡ ending (variant.Mark old) (ahead here to_come)) → to_read (followed lexeme) here told ≡ to_read (in_mark old) here told
+mark-stops old lexeme here told first ready f stops x =
+    to_read-here (followed lexeme) (in_mark old) here told (λ to_come. ap (λ l. followed l (ahead here to_come)) (x to_come) ∙ by first f stops to_come)
+  where
+    by : (o : Option ℕ) → o ≡ slice_get here.at_hand 0 → option_and_then (λ b. mark_of (spelling old ++ b ∷ [])) o ≡ None → (to_come : List ℕ) → followed (ending (variant.Mark old) (ahead here to_come)) (ahead here to_come) ≡ in_mark old (ahead here to_come)
+    by None f stops to_come = mark-ends-none old (ahead here to_come) (none-ahead here to_come ready (sym f))
+    by (Some b) f stops to_come = let r = first-ahead here b to_come (sym f) in mark-ends-at old (ahead here to_come) b r.0 r.1 stops
+
+pub mark-passes : (old longer : Mark) (new here : Held) (told : Option (List ℕ)) (first : Option ℕ) → new ≡ behind_first here → first ≡ slice_get here.at_hand 0 → option_and_then (λ b. mark_of (spelling old ++ b ∷ [])) first ≡ Some longer → to_read (in_mark longer) new told ≡ to_read (in_mark old) here told
+mark-passes old longer new here told None n f h = absurd cc
+mark-passes old longer new here told (Some b) n f h = to_read-pass (in_mark longer) (in_mark old) new here told (Some b) b n f refl (mark-grows old longer b h)

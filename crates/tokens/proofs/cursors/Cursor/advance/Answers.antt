@@ -1,0 +1,23 @@
+use Rattle.std.proofs.Common.{◌≡◌, ◌∙◌, sym, ap, false, drop}
+use Rattle.tokens.specs.Tokens.{is_last}
+use Rattle.tokens.proofs.ReadingLemmas.{shown-advanced, remaining-advanced, remaining-ended}
+use Rattle.tokens.proofs.cursors.Cursor.advance.Goals as goal
+
+pub returns-in_ok-self-inside-clause-tokens : goal.returns-in_ok-self-inside-clause-tokens
+returns-in_ok-self-inside-clause-tokens g c =
+    let s = c.self.inside in
+    let not_last : is_last s.next.token ≡ false = ap (λ r. is_last r.next.token) c.self.view_is ∙ c.requires.not_last in
+    rw (← c.self.view_is) (shown-advanced s.next s.after c.in_ok-self-inside.field-0 c.read.new.self s.window _ _ not_last c.in_ok-self-inside.ensures.tokens)
+
+pub returns-in_ok-self-inside-clause-progress : goal.returns-in_ok-self-inside-clause-progress
+returns-in_ok-self-inside-clause-progress g c =
+    let s = c.self.inside in
+    let not_last : is_last s.next.token ≡ false = ap (λ r. is_last r.next.token) c.self.view_is ∙ c.requires.not_last in
+    let read = c.in_ok-self-inside.ensures in
+    rw (← c.self.view_is) (remaining-advanced s.next s.after c.in_ok-self-inside.field-0 c.read.new.self s.window not_last (sym c.if-not-is_last.ensures) read.progress read.within)
+
+pub returns-else-not-is_last-clause-progress : goal.returns-else-not-is_last-clause-progress
+returns-else-not-is_last-clause-progress g c =
+    let s = c.self.inside in
+    let not_last : is_last s.next.token ≡ false = ap (λ r. is_last r.next.token) c.self.view_is ∙ c.requires.not_last in
+    rw (← c.self.view_is) (remaining-ended s.next s.after s.after s.window s.window not_last (sym c.if-not-is_last.ensures))

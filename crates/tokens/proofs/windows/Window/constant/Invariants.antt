@@ -1,0 +1,14 @@
+use Rattle.std.proofs.Common.{◌≡◌, ◌-◌, ◌≤◌, false, [], ◌∷◌}
+use Rattle.tokens.specs.Lexing.{to_read, in_constant}
+use Rattle.tokens.proofs.windows.Window.constant.Given as goal
+
+abbrev pub invariant-loop-b : goal.invariant-loop-b
+invariant-loop-b g l = record {
+  tokens : to_read (in_constant l.value) l.self (g.F.Feed.to_come l.feed) ≡ to_read (in_constant l.initial.value) l.initial.self (g.F.Feed.to_come l.initial.feed);
+  bounded : l.value ≤ 2147483648;
+  forward : l.initial.self.place ≤ l.self.place;
+  count : g.F.Feed.failures l.feed ≡ g.F.Feed.failures l.initial.feed;
+}
+
+abbrev pub decreases-loop-b : goal.decreases-loop-b
+decreases-loop-b g l = 1048576 - l.self.place

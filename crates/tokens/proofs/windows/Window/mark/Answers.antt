@@ -1,0 +1,25 @@
+use Rattle.std.proofs.Common.{◌≡◌, ◌∙◌, ◌++◌, ◌∷◌, [], sym, arith, ap, Some}
+use Rattle.std.specs.Option.{option_and_then}
+use Rattle.tokens.specs.Marks.{mark_of, spelling}
+use Rattle.tokens.specs.Lexing.{in_mark}
+use Rattle.tokens.proofs.ToRead.{to_read-seen}
+use Rattle.tokens.proofs.TokenLemmas.{mark-passes, mark-stops}
+use Rattle.tokens.proofs.windows.Window.mark.Goals as goal
+
+pub loop-next-preserved : goal.loop-next-preserved
+loop-next-preserved g c =
+    let now = in_mark c.loop-next.mark in
+    let seen = c.in_ok-next.ensures in
+    record {
+      tokens = mark-passes c.loop-next.mark c.in-Some.longer _ _ _ c.in_ok-next.next c.pass.ensures.value seen.first (sym c.in-Some.ensures)
+          ∙ to_read-seen now _ _ _ _ seen.seen ∙ c.loop-next.invariant.tokens;
+      forward = omega (arith, seen.place.place);
+      count = seen.count ∙ c.loop-next.invariant.count;
+    }
+
+pub returns-in-None-clause-tokens : goal.returns-in-None-clause-tokens
+returns-in-None-clause-tokens g c =
+    let now = in_mark c.loop-next.mark in
+    let seen = c.in_ok-next.ensures in
+    mark-stops c.loop-next.mark c.ending.result _ _ c.in_ok-next.next seen.ready seen.first (sym c.in-None.ensures) c.ending.ensures
+    ∙ to_read-seen now _ _ _ _ seen.seen ∙ c.loop-next.invariant.tokens

@@ -1,0 +1,13 @@
+use Rattle.std.proofs.Common.{◌≡◌, ◌-◌, ◌≤◌, false, [], ◌∷◌}
+use Rattle.tokens.specs.Lexing.{to_read, in_name}
+use Rattle.tokens.proofs.windows.Window.name.Given as goal
+
+abbrev pub invariant-loop-b : goal.invariant-loop-b
+invariant-loop-b g l = record {
+  tokens : to_read (in_name l.name l.too_long) l.self (g.F.Feed.to_come l.feed) ≡ to_read (in_name l.initial.name l.initial.too_long) l.initial.self (g.F.Feed.to_come l.initial.feed);
+  forward : l.initial.self.place ≤ l.self.place;
+  count : g.F.Feed.failures l.feed ≡ g.F.Feed.failures l.initial.feed;
+}
+
+abbrev pub decreases-loop-b : goal.decreases-loop-b
+decreases-loop-b g l = 1048576 - l.self.place

@@ -1,0 +1,19 @@
+use Rattle.std.proofs.Common.{◌∙◌, sym, arith}
+use Rattle.tokens.specs.Tokens.{lexemes}
+use Rattle.tokens.proofs.ToRead.{to_read-pass, to_read-seen}
+use Rattle.tokens.proofs.TokenLemmas.{blank-skipped}
+use Rattle.tokens.proofs.windows.Window.skip_blanks.Goals as goal
+
+pub loop-b-preserved : goal.loop-b-preserved
+loop-b-preserved g c = record {
+  tokens = to_read-pass lexemes lexemes _ _ _ _ c.in-Some.b c.pass.ensures.value c.in_ok-first.ensures.first c.in-Some.is (blank-skipped c.in-Some.b (sym c.if-is_blank.ensures))
+      ∙ to_read-seen lexemes _ _ _ _ c.in_ok-first.ensures.seen ∙ c.loop-b.invariant.tokens;
+  forward = omega (arith, c.in_ok-first.ensures.place.place);
+  count = c.in_ok-first.ensures.count ∙ c.loop-b.invariant.count;
+}
+
+pub returns-in_default-clause-tokens : goal.returns-in_default-clause-tokens
+returns-in_default-clause-tokens g c = to_read-seen lexemes _ _ _ _ c.in_ok-first.ensures.seen ∙ c.loop-b.invariant.tokens
+
+pub returns-in_default-2-clause-tokens : goal.returns-in_default-2-clause-tokens
+returns-in_default-2-clause-tokens g c = to_read-seen lexemes _ _ _ _ c.in_ok-first.ensures.seen ∙ c.loop-b.invariant.tokens

@@ -1,0 +1,48 @@
+use Rattle.std.proofs.Common.{◌≡◌, ◌∙◌, sym, arith, ap, ℕ, refl, false, eqb, Some}
+use Rattle.std.proofs.lemmas.Bool.{ne_eqb}
+use Rattle.tokens.specs.Tokens.{lexemes}
+use Rattle.tokens.specs.Lexing.{to_read, in_comment, after_comment}
+use Rattle.tokens.proofs.ToRead.{to_read-pass, to_read-seen}
+use Rattle.tokens.proofs.CommentLemmas.{in_star, comment-passes, star-passes, star-open, slash-closes, slash-found, plain-passes, comment-ended, ended-beyond}
+use Rattle.tokens.proofs.windows.Window.skip_comment.Goals as goal
+
+pub returns-in-None-clause-tokens : goal.returns-in-None-clause-tokens
+returns-in-None-clause-tokens g c = λ line.
+    let seen = c.in_ok-peek.ensures in
+    comment-ended line _ _ c.in_ok-peek.field-0 seen.ready seen.first c.in-None.is
+    ∙ to_read-seen (in_comment line) _ _ _ _ seen.seen ∙ plain-passes line _ _ _ c.pass_plain.ensures.value ∙ c.loop-self.invariant.tokens line
+
+pub returns-in-None-clause-ended : goal.returns-in-None-clause-ended
+returns-in-None-clause-ended g c = λ _. ended-beyond c.peek.new.self c.in_ok-peek.field-0 c.in_ok-peek.ensures.ready c.in_ok-peek.ensures.first c.in-None.is
+
+pub returns-then-eq-clause-tokens : goal.returns-then-eq-clause-tokens
+returns-then-eq-clause-tokens g c = λ line.
+    let seen = c.in_ok-peek.ensures in
+    let next = c.in_ok-peek-in-Some-eq42.ensures in
+    to_read-pass lexemes (in_star line) _ _ _ _ 47 c.pass-then-eq.ensures.value next.first (slash-found _ (sym c.if-eq.ensures)) (slash-closes line)
+    ∙ to_read-seen (in_star line) _ _ _ _ next.seen
+    ∙ to_read-pass (in_star line) (in_comment line) _ _ _ _ 42 c.pass.ensures.value seen.first (c.in-Some-eq42.is ∙ ap Some c.in-Some-eq42.field-0-test) (star-passes line)
+    ∙ to_read-seen (in_comment line) _ _ _ _ seen.seen ∙ plain-passes line _ _ _ c.pass_plain.ensures.value ∙ c.loop-self.invariant.tokens line
+
+pub loop-self-preserved-else-eq : goal.loop-self-preserved-else-eq
+loop-self-preserved-else-eq g c =
+    let seen = c.in_ok-peek.ensures in
+    let next = c.in_ok-peek-in-Some-eq42.ensures in
+    record {
+      tokens = λ line. star-open line _ _ _ next.ready next.first (sym c.if-eq.ensures)
+          ∙ to_read-seen (in_star line) _ _ _ _ next.seen
+          ∙ to_read-pass (in_star line) (in_comment line) _ _ _ _ 42 c.pass.ensures.value seen.first (c.in-Some-eq42.is ∙ ap Some c.in-Some-eq42.field-0-test) (star-passes line)
+          ∙ to_read-seen (in_comment line) _ _ _ _ seen.seen ∙ plain-passes line _ _ _ c.pass_plain.ensures.value ∙ c.loop-self.invariant.tokens line;
+      forward = omega (arith, seen.place.place, next.place.place);
+      count = next.count ∙ seen.count ∙ c.loop-self.invariant.count;
+    }
+
+pub loop-self-preserved : goal.loop-self-preserved
+loop-self-preserved g c =
+    let seen = c.in_ok-peek.ensures in
+    record {
+      tokens = λ line. to_read-pass (in_comment line) (in_comment line) _ _ _ _ c.in-Some.field-0 c.pass-in-Some.ensures.value seen.first c.in-Some.is (comment-passes line c.in-Some.field-0 (ne_eqb _ _ c.in-Some.field-0-test.1))
+          ∙ to_read-seen (in_comment line) _ _ _ _ seen.seen ∙ plain-passes line _ _ _ c.pass_plain.ensures.value ∙ c.loop-self.invariant.tokens line;
+      forward = omega (arith, seen.place.place);
+      count = seen.count ∙ c.loop-self.invariant.count;
+    }

@@ -1,0 +1,40 @@
+use Rattle.std.proofs.Common.{◌≡◌, ◌∙◌, sym, ap, refl, Some, None, true, false}
+use Rattle.tokens.specs.Tokens.{lexemes}
+use Rattle.tokens.specs.Lexing.{to_read, followed, in_mark, in_comment, after_comment, after_slash}
+use Rattle.tokens.specs.Window.{ahead}
+use Rattle.tokens.specs.declared.lexemes.Flaw.TheVariants.{CommentNotClosed}
+use Rattle.tokens.specs.declared.lexemes.Token.TheVariants as variant
+use Rattle.tokens.proofs.ToRead.{to_read-pass, to_read-pass_line, to_read-seen, to_read-here}
+use Rattle.tokens.proofs.BeginLemmas.{in_slash, slash-begins, star-begins, slash-stays, star-found, not_true, not_false, last-followed}
+use Rattle.tokens.proofs.windows.Window.slash.Goals as goal
+
+pub returns-then-ne-clause-tokens : goal.returns-then-ne-clause-tokens
+returns-then-ne-clause-tokens g c =
+    let line = c.line-line.result in
+    let seen = c.in_ok-peek.ensures in
+    c.in_ok-lexeme.ensures.tokens ∙ slash-stays line _ _ _ seen.ready seen.first (not_true _ c.if-ne.ensures)
+    ∙ to_read-seen (in_slash line) _ _ _ _ seen.seen
+    ∙ to_read-pass_line (in_slash line) lexemes _ _ _ 47 line c.pass.ensures.value c.requires.slash c.line-line.ensures (slash-begins line)
+
+pub returns-then-branch-clause-tokens : goal.returns-then-branch-clause-tokens
+returns-then-branch-clause-tokens g c =
+    let line = c.line-line.result in
+    let seen = c.in_ok-peek.ensures in
+    to_read-here (after_slash None) (after_comment true line) c.skip_comment.new.self _ (λ to_come. refl)
+    ∙ ap (λ closed. to_read (after_comment closed line) c.skip_comment.new.self (g.F.Feed.to_come c.skip_comment.new.feed)) (sym c.if-branch.true)
+    ∙ c.in_ok-skip_comment.ensures.tokens line
+    ∙ to_read-pass (in_comment line) (in_slash line) _ _ _ _ 42 c.pass-2.ensures.value seen.first (star-found _ (not_false _ c.if-ne.ensures)) (star-begins line)
+    ∙ to_read-seen (in_slash line) _ _ _ _ seen.seen
+    ∙ to_read-pass_line (in_slash line) lexemes _ _ _ 47 line c.pass.ensures.value c.requires.slash c.line-line.ensures (slash-begins line)
+
+pub returns-else-branch-clause-tokens : goal.returns-else-branch-clause-tokens
+returns-else-branch-clause-tokens g c =
+    let line = c.line-line.result in
+    let seen = c.in_ok-peek.ensures in
+    to_read-here (after_slash (Some c.last.result)) (after_comment false line) c.skip_comment.new.self _ (λ to_come.
+    let a = ahead c.skip_comment.new.self to_come in ap (λ x. followed x a) (c.last.ensures to_come) ∙ last-followed (variant.Fault CommentNotClosed) line a refl)
+    ∙ ap (λ closed. to_read (after_comment closed line) c.skip_comment.new.self (g.F.Feed.to_come c.skip_comment.new.feed)) (sym c.if-branch.false)
+    ∙ c.in_ok-skip_comment.ensures.tokens line
+    ∙ to_read-pass (in_comment line) (in_slash line) _ _ _ _ 42 c.pass-2.ensures.value seen.first (star-found _ (not_false _ c.if-ne.ensures)) (star-begins line)
+    ∙ to_read-seen (in_slash line) _ _ _ _ seen.seen
+    ∙ to_read-pass_line (in_slash line) lexemes _ _ _ 47 line c.pass.ensures.value c.requires.slash c.line-line.ensures (slash-begins line)

@@ -1,0 +1,76 @@
+-- What is still to be read, at a token's begin or inside of one.
+use Rattle.std.specs.Prelude.{ℕ, Bool, true, false, List, [], ◌∷◌, ◌++◌, Option, Some, None, take, fold, ◌+◌, ◌*◌, ◌-◌, if◌then◌else◌, nat_le}
+use Rattle.std.specs.List.{prefix_len}
+use Rattle.std.specs.Option.{option_map}
+use Rattle.tokens.specs.Characters.{is_name_byte, is_digit}
+use Rattle.tokens.specs.Marks.{mark_of, spelling}
+use Rattle.tokens.specs.Front.{begins_with, up_to_close, name_token}
+use Rattle.tokens.specs.Tokens.{Ahead, behind_byte, passed, at_end, placed, last_lexeme, followed_by, lexemes}
+use Rattle.tokens.specs.Window.{Held, seen}
+use Rattle.tokens.specs.declared.lexemes.Mark.{Mark}
+use Rattle.tokens.specs.declared.lexemes.Mark.TheVariants.{Slash}
+use Rattle.tokens.specs.declared.lexemes.Flaw.TheVariants.{CommentNotClosed, NameTooLong, ConstantTooLarge}
+use Rattle.tokens.specs.declared.lexemes.Token.{Token}
+use Rattle.tokens.specs.declared.lexemes.Token.TheVariants as variant
+use Rattle.tokens.specs.declared.lexemes.Lexeme.{Lexeme}
+
+-- what is made of what a window shows, where the device tells its bytes to come
+unfoldable pub to_read : (Ahead → List Lexeme) → Held → Option (List ℕ) → Option (List Lexeme)
+to_read made held told = option_map made (seen held told)
+
+-- a token, and those that lie ahead behind it
+unfoldable pub followed : Lexeme → Ahead → List Lexeme
+followed lexeme ahead = followed_by lexeme (lexemes ahead)
+
+-- behind a comment, or behind the token that stands there
+abbrev pub after_slash : Option Lexeme → Ahead → List Lexeme
+after_slash None ahead = lexemes ahead
+after_slash (Some lexeme) ahead = followed lexeme ahead
+
+-- a token that ends here
+abbrev pub ending : Token → Ahead → Lexeme
+ending token ahead = record { token = token; line = ahead.line; end = ahead.place }
+
+-- inside a run of bytes that pass a test: the token is made of those ahead
+unfoldable pub in_run : (ℕ → Bool) → (List ℕ → Token) → Ahead → List Lexeme
+in_run test token_of ahead =
+    followed (placed (token_of (take (prefix_len test ahead.bytes) ahead.bytes)) (prefix_len test ahead.bytes) ahead) (passed (prefix_len test ahead.bytes) ahead)
+
+-- the token of a name that goes on, of which these bytes were read and perhaps others left out
+abbrev pub name_going_on : List ℕ → Bool → List ℕ → Token
+name_going_on name too_long more = if too_long then variant.Fault NameTooLong else name_token (name ++ more)
+
+abbrev pub in_name : List ℕ → Bool → Ahead → List Lexeme
+in_name name too_long = in_run is_name_byte (name_going_on name too_long)
+
+-- the token of a constant of this value
+abbrev pub value_token : ℕ → Token
+value_token value = if nat_le value 2147483647 then variant.Constant value else variant.Fault ConstantTooLarge
+
+-- the token of a constant that goes on, whose value is this so far
+abbrev pub constant_going_on : ℕ → List ℕ → Token
+constant_going_on value more = value_token (fold (λ value digit. 10 * value + (digit - 48)) value more)
+
+abbrev pub in_constant : ℕ → Ahead → List Lexeme
+in_constant value = in_run is_digit (constant_going_on value)
+
+-- inside a mark, which may grow by the bytes ahead
+abbrev pub grown : Mark → List ℕ → Ahead → List Lexeme
+grown mark [] ahead = followed (ending (variant.Mark mark) ahead) ahead
+grown mark (b ∷ rest) ahead = elim (mark_of (spelling mark ++ b ∷ [])) [ None ↦ followed (ending (variant.Mark mark) ahead) ahead | Some longer ↦ grown longer rest (behind_byte ahead) ]
+
+unfoldable pub in_mark : Mark → Ahead → List Lexeme
+in_mark mark ahead = grown mark ahead.bytes ahead
+
+-- inside a comment that began on this line
+abbrev pub closed_at : Option ℕ → ℕ → Ahead → List Lexeme
+closed_at None line ahead = last_lexeme (variant.Fault CommentNotClosed) line (at_end ahead) ∷ []
+closed_at (Some count) line ahead = lexemes (passed count ahead)
+
+unfoldable pub in_comment : ℕ → Ahead → List Lexeme
+in_comment line ahead = closed_at (up_to_close ahead.bytes) line ahead
+
+-- behind a comment, or where the source ended within it
+abbrev pub after_comment : Bool → ℕ → Ahead → List Lexeme
+after_comment true line ahead = lexemes ahead
+after_comment false line ahead = last_lexeme (variant.Fault CommentNotClosed) line ahead ∷ []

@@ -1,0 +1,36 @@
+//! The characters that the language tells apart.
+
+ghost use Rattle.std.specs.Prelude.{◌≡◌};
+ghost use Rattle.tokens.specs.Characters.{is_blank, is_letter, is_digit, is_name_byte};
+
+/// Whether a byte is a space, TAB, LF, VT, FF or CR.
+#[inline(always)]
+pub fn is_blank(b: u8) -> bool
+    ensures { result ≡ is_blank b }
+{
+    b == b' ' || (9 <= b && b <= 13)
+}
+
+/// Whether a byte is a decimal digit.
+#[inline(always)]
+pub fn is_digit(b: u8) -> bool
+    ensures { result ≡ is_digit b }
+{
+    b'0' <= b && b <= b'9'
+}
+
+/// Whether a byte is an ASCII letter or `_`.
+#[inline(always)]
+pub fn is_letter(b: u8) -> bool
+    ensures { result ≡ is_letter b }
+{
+    (b'a' <= b && b <= b'z') || (b'A' <= b && b <= b'Z') || b == b'_'
+}
+
+/// Whether a name goes on with this byte.
+#[inline(always)]
+pub fn is_name_byte(b: u8) -> bool
+    ensures { result ≡ is_name_byte b }
+{
+    is_letter(b) || is_digit(b)
+}

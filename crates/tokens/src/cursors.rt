@@ -1,0 +1,83 @@
+//! A cursor over the tokens of a device.
+
+ghost use Rattle.std.specs.Prelude.{◌≡◌, ◌-◌, ◌^◌, ◌<◌, ◌≤◌, drop, false, IfOk, OnOk};
+ghost use Rattle.std.specs.Option.{option_map};
+ghost use Rattle.tokens.specs.Feed.{Counts};
+ghost use Rattle.tokens.specs.Tokens.{tokens, is_last};
+ghost use Rattle.tokens.specs.Reading.{shown, remaining};
+
+use crate::devices::{DeviceFault, Feed};
+use crate::lexemes::Lexeme;
+use crate::windows::Window;
+use std::marker::Model;
+
+/// Reads the tokens of a device through a window of `WINDOW` bytes. It holds the next token and the one
+/// behind it, and nothing more. The device is passed beside it at each call, and is asked for bytes only
+/// where one of these two needs them.
+#[derive(Drop)]
+pub struct Cursor {
+    window: Window,
+    next: Lexeme,
+    after: Lexeme,
+}
+
+impl Model for Cursor {
+    ghost use Rattle.tokens.specs.Reading.{Reading};
+
+    ghost Value = { Reading };
+
+    ghost view = { λ c. record { next = c.next; after = c.after; behind = c.window } };
+}
+
+impl Cursor {
+    /// A cursor at the first token of a device's bytes. The only error is that of the device.
+    pub fn open<F: Feed>(feed: &mut F) -> Result<Cursor, DeviceFault>
+        requires { F.failures feed.old < 2 ^ 64 - 1 }
+        ensures tokens { IfOk result (λ cursor. shown cursor (F.to_come feed.new) ≡ option_map tokens (F.to_come feed.old)) }
+        ensures bounded { IfOk result (λ cursor. remaining cursor ≤ 1048578) }
+        ensures count { Counts result (F.failures feed.old) (F.failures feed.new) }
+    {
+        let mut window = Window::new();
+        let next = window.read(feed)?;
+        let after = if next.token.is_last() {
+            next
+        } else {
+            window.read(feed)?
+        };
+        Ok(Cursor {
+            window,
+            next,
+            after,
+        })
+    }
+
+    /// The next token.
+    pub fn next(&self) -> &Lexeme
+        ensures { result.now ≡ self.now.next }
+    {
+        &self.next
+    }
+
+    /// The token behind the next one. Where the next is the last, there is none, and what this gives says nothing.
+    pub fn after(&self) -> &Lexeme
+        ensures { result.now ≡ self.now.after }
+    {
+        &self.after
+    }
+
+    /// Goes behind the next token. After an `Err`, which is the device's, the cursor is of no more use.
+    pub fn advance<F: Feed>(&mut self, feed: &mut F) -> Result<(), DeviceFault>
+        requires not_last { is_last self.old.next.token ≡ false }
+        requires countable { F.failures feed.old < 2 ^ 64 - 1 }
+        ensures next { OnOk result (self.new.next ≡ self.old.after) }
+        ensures tokens { OnOk result (shown self.new (F.to_come feed.new) ≡ option_map (drop 1) (shown self.old (F.to_come feed.old))) }
+        ensures progress { OnOk result (remaining self.new < remaining self.old) }
+        ensures count { Counts result (F.failures feed.old) (F.failures feed.new) }
+    {
+        self.next = self.after;
+        if !self.next.token.is_last() {
+            self.after = self.window.read(feed)?;
+        }
+        Ok(())
+    }
+}

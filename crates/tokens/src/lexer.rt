@@ -1,0 +1,261 @@
+//! The tokens of a source that is read through a window.
+
+ghost use Rattle.std.specs.Prelude.{◌≡◌, ◌≢◌, ◌∷◌, [], ◌-◌, ◌^◌, ◌<◌, ◌≤◌, ℕ, List, Some, true, false, slice_get, IfOk, IfSome, OnOk};
+ghost use Rattle.tokens.specs.Characters.{is_digit, is_blank};
+ghost use Rattle.tokens.specs.Feed.{Counts};
+ghost use Rattle.tokens.specs.Tokens.{is_last, lexemes, last_lexeme};
+ghost use Rattle.tokens.specs.Window.{IsAtHandOrEnd, ahead};
+ghost use Rattle.tokens.specs.Lexing.{to_read, followed, after_slash, after_comment, in_name, in_constant, in_mark, in_comment, ending, name_going_on, value_token};
+
+use crate::characters::{is_blank, is_digit, is_letter, is_name_byte};
+use crate::devices::{DeviceFault, Feed};
+use crate::lexemes::{Flaw, Lexeme, Mark, Token, Word};
+use crate::limits::CONSTANT_MAX;
+use crate::names::Name;
+use crate::windows::{Beyond, Window};
+
+impl Window {
+    /// The next token.
+    pub fn read<F: Feed>(&mut self, feed: &mut F) -> Result<Lexeme, DeviceFault>
+        requires { F.failures feed.old < 2 ^ 64 - 1 }
+        ensures tokens { IfOk result (λ lexeme. to_read (followed lexeme) self.new (F.to_come feed.new)
+            ≡ to_read lexemes self.old (F.to_come feed.old)) }
+        ensures progress { IfOk result (λ lexeme. is_last lexeme.token ≡ false → self.old.place < self.new.place) }
+        ensures within { self.new.place ≤ 1048576 }
+        ensures count { Counts result (F.failures feed.old) (F.failures feed.new) }
+    {
+        loop {
+            match self.skip_blanks(feed)? {
+                None => return Ok(self.last(Token::End, self.line())),
+                Some(b'/') => {
+                    if let Some(lexeme) = self.slash(feed)? {
+                        return Ok(lexeme);
+                    }
+                }
+                Some(b) => return self.token(b, feed),
+            }
+        }
+    }
+
+    /// Skips blanks. Answers the byte behind them, or `None` at the end.
+    fn skip_blanks<F: Feed>(&mut self, feed: &mut F) -> Result<Option<u8>, DeviceFault>
+        requires { F.failures feed.old < 2 ^ 64 - 1 }
+        ensures tokens { OnOk result (to_read lexemes self.new (F.to_come feed.new)
+            ≡ to_read lexemes self.old (F.to_come feed.old)) }
+        ensures first { IfOk result (λ first. first ≡ slice_get self.new.at_hand 0) }
+        ensures ready { OnOk result (IsAtHandOrEnd self.new) }
+        ensures no_blank { IfOk result (λ first. IfSome first (λ b. is_blank b ≡ false)) }
+        ensures forward { self.old.place ≤ self.new.place }
+        ensures within { self.new.place ≤ 1048576 }
+        ensures count { Counts result (F.failures feed.old) (F.failures feed.new) }
+    {
+        loop {
+            match self.peek(feed)? {
+                Some(b) if is_blank(b) => self.pass(),
+                first => return Ok(first),
+            }
+        }
+    }
+
+    /// At a `/`, skips a comment, or reads the token that begins there.
+    fn slash<F: Feed>(&mut self, feed: &mut F) -> Result<Option<Lexeme>, DeviceFault>
+        requires countable { F.failures feed.old < 2 ^ 64 - 1 }
+        requires slash { slice_get self.old.at_hand 0 ≡ Some 47 }
+        ensures tokens { IfOk result (λ found. to_read (after_slash found) self.new (F.to_come feed.new)
+            ≡ to_read lexemes self.old (F.to_come feed.old)) }
+        ensures forward { self.old.place < self.new.place }
+        ensures within { self.new.place ≤ 1048576 }
+        ensures count { Counts result (F.failures feed.old) (F.failures feed.new) }
+    {
+        let line = self.line();
+        self.pass();
+        if self.peek(feed)? != Some(b'*') {
+            let lexeme = self.mark(Mark::Slash, feed)?;
+            return Ok(Some(lexeme));
+        }
+        self.pass();
+        if self.skip_comment(feed)? {
+            Ok(None)
+        } else {
+            Ok(Some(self.last(Token::Fault(Flaw::CommentNotClosed), line)))
+        }
+    }
+
+    /// Inside a comment, goes behind its `*/`. Answers `false` where there is none.
+    fn skip_comment<F: Feed>(&mut self, feed: &mut F) -> Result<bool, DeviceFault>
+        requires { F.failures feed.old < 2 ^ 64 - 1 }
+        ensures tokens { IfOk result (λ closed. (line : ℕ) → to_read (after_comment closed line) self.new (F.to_come feed.new)
+            ≡ to_read (in_comment line) self.old (F.to_come feed.old)) }
+        ensures ended { IfOk result (λ closed. closed ≡ false → self.new.beyond ≢ Beyond.Unread) }
+        ensures forward { self.old.place ≤ self.new.place }
+        ensures within { self.new.place ≤ 1048576 }
+        ensures count { Counts result (F.failures feed.old) (F.failures feed.new) }
+    {
+        loop {
+            self.pass_plain();
+            match self.peek(feed)? {
+                None => return Ok(false),
+                Some(b'*') => {
+                    self.pass();
+                    if self.peek(feed)? == Some(b'/') {
+                        self.pass();
+                        return Ok(true);
+                    }
+                }
+                Some(_) => self.pass(),
+            }
+        }
+    }
+
+    /// The token that begins with this byte, which is the next one, no blank and no `/`.
+    fn token<F: Feed>(&mut self, first: u8, feed: &mut F) -> Result<Lexeme, DeviceFault>
+        requires countable { F.failures feed.old < 2 ^ 64 - 1 }
+        requires first { slice_get self.old.at_hand 0 ≡ Some first }
+        requires no_blank { is_blank first ≡ false }
+        requires no_slash { first ≢ 47 }
+        ensures tokens { IfOk result (λ lexeme. to_read (followed lexeme) self.new (F.to_come feed.new)
+            ≡ to_read lexemes self.old (F.to_come feed.old)) }
+        ensures forward { self.old.place < self.new.place }
+        ensures within { self.new.place ≤ 1048576 }
+        ensures count { Counts result (F.failures feed.old) (F.failures feed.new) }
+    {
+        self.pass();
+        if is_letter(first) {
+            self.name(first, feed)
+        } else if is_digit(first) {
+            self.constant(first, feed)
+        } else if let Some(mark) = Mark::of_byte(first) {
+            self.mark(mark, feed)
+        } else {
+            Ok(self.ending(Token::Fault(Flaw::BadCharacter)))
+        }
+    }
+
+    /// The name of which the first byte was passed.
+    fn name<F: Feed>(&mut self, first: u8, feed: &mut F) -> Result<Lexeme, DeviceFault>
+        requires { F.failures feed.old < 2 ^ 64 - 1 }
+        ensures tokens { IfOk result (λ lexeme. to_read (followed lexeme) self.new (F.to_come feed.new)
+            ≡ to_read (in_name (first ∷ []) false) self.old (F.to_come feed.old)) }
+        ensures forward { self.old.place ≤ self.new.place }
+        ensures within { self.new.place ≤ 1048576 }
+        ensures count { Counts result (F.failures feed.old) (F.failures feed.new) }
+    {
+        let mut name = Name::new();
+        name.push(first);
+        let mut too_long = false;
+        loop {
+            match self.peek(feed)? {
+                Some(b) if is_name_byte(b) => {
+                    if name.is_full() {
+                        too_long = true;
+                    } else {
+                        name.push(b);
+                    }
+                    self.pass();
+                }
+                _ => return Ok(self.ending(name_token(name, too_long))),
+            }
+        }
+    }
+
+    /// The constant of which the first digit was passed.
+    fn constant<F: Feed>(&mut self, first: u8, feed: &mut F) -> Result<Lexeme, DeviceFault>
+        requires countable { F.failures feed.old < 2 ^ 64 - 1 }
+        requires digit { is_digit first ≡ true }
+        ensures tokens { IfOk result (λ lexeme. to_read (followed lexeme) self.new (F.to_come feed.new)
+            ≡ to_read (in_constant (first - 48)) self.old (F.to_come feed.old)) }
+        ensures forward { self.old.place ≤ self.new.place }
+        ensures within { self.new.place ≤ 1048576 }
+        ensures count { Counts result (F.failures feed.old) (F.failures feed.new) }
+    {
+        let mut value = u64::from(first - b'0');
+        loop {
+            match self.peek(feed)? {
+                Some(b) if is_digit(b) => {
+                    value = (10 * value + u64::from(b - b'0')).min(TOO_LARGE);
+                    self.pass();
+                }
+                _ => return Ok(self.ending(constant_token(value))),
+            }
+        }
+    }
+
+    /// The longest mark that begins with this one, which was passed.
+    fn mark<F: Feed>(&mut self, mut mark: Mark, feed: &mut F) -> Result<Lexeme, DeviceFault>
+        requires { F.failures feed.old < 2 ^ 64 - 1 }
+        ensures tokens { IfOk result (λ lexeme. to_read (followed lexeme) self.new (F.to_come feed.new)
+            ≡ to_read (in_mark mark) self.old (F.to_come feed.old)) }
+        ensures forward { self.old.place ≤ self.new.place }
+        ensures within { self.new.place ≤ 1048576 }
+        ensures count { Counts result (F.failures feed.old) (F.failures feed.new) }
+    {
+        loop {
+            let next = self.peek(feed)?;
+            match mark.longer(next) {
+                Some(longer) => {
+                    mark = longer;
+                    self.pass();
+                }
+                None => return Ok(self.ending(Token::Mark(mark))),
+            }
+        }
+    }
+
+    /// A token that ends before the next byte, on the same line.
+    fn ending(&self, token: Token) -> Lexeme
+        ensures { (to_come : List ℕ) → result ≡ ending token (ahead self.now to_come) }
+    {
+        Lexeme {
+            token,
+            line: self.line(),
+            end: self.place(),
+        }
+    }
+
+    /// The last token, at the end of what can be read: this one, unless the source is too long.
+    fn last(&self, token: Token, line: u32) -> Lexeme
+        requires { self.now.beyond ≢ Beyond.Unread }
+        ensures { (to_come : List ℕ) → result ≡ last_lexeme token line (ahead self.now to_come) }
+    {
+        if self.beyond() == Beyond::TooMuch {
+            Lexeme {
+                token: Token::Fault(Flaw::SourceTooLong),
+                line: self.line(),
+                end: self.place() + 1,
+            }
+        } else {
+            Lexeme {
+                token,
+                line,
+                end: self.place(),
+            }
+        }
+    }
+}
+
+/// A value above the greatest constant, in place of all such values.
+const TOO_LARGE: u64 = CONSTANT_MAX as u64 + 1;
+
+/// The token of a whole name, of which some bytes may have been left out.
+fn name_token(name: Name, is_too_long: bool) -> Token
+    ensures { result ≡ name_going_on name is_too_long [] }
+{
+    if is_too_long {
+        Token::Fault(Flaw::NameTooLong)
+    } else if let Some(word) = Word::of_name(name.as_bytes()) {
+        Token::Word(word)
+    } else {
+        Token::Name(name)
+    }
+}
+
+/// The token of a constant of this value.
+fn constant_token(value: u64) -> Token
+    ensures { result ≡ value_token value }
+{
+    if value < TOO_LARGE {
+        Token::Constant(value as u32)
+    } else {
+        Token::Fault(Flaw::ConstantTooLarge)
+    }
+}
