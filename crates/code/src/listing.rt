@@ -8,7 +8,7 @@ use crate::instr::Instr;
 use crate::limits::MOST_INSTRUCTIONS;
 use crate::operators::operator_mark;
 use crate::program::Program;
-use crate::text::{Line, put_bytes, put_in_five_columns, put_number, put_text, put_value};
+use crate::text::{Line, put_in_five_columns, put_name, put_number, put_text, put_value};
 use lang::{Function, MOST_NAMES, Name};
 
 impl Program {
@@ -110,7 +110,7 @@ fn put_function_head(line: &mut Line, number: u16, function: &Function, at: u16)
     put_text(line, "Function ");
     put_number(line, number);
     put_text(line, " ");
-    put_bytes(line, function.name().as_bytes());
+    put_name(line, function.name());
     put_text(line, " vars ");
     put_number(line, function.variables().len() as u16);
     put_text(line, " at ");
@@ -128,7 +128,7 @@ fn put_name_line(line: &mut Line, names: &[Name], n: usize)
     put_text(line, "  ");
     put_number(line, n as u16);
     put_text(line, " ");
-    put_bytes(line, names[n].as_bytes());
+    put_name(line, &names[n]);
 }
 
 // A line of the code: how many instructions there are, or one of them.

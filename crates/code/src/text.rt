@@ -6,6 +6,7 @@ ghost use Rattle.code.specs.Listing.{in_five_columns};
 
 use crate::limits::LINE_BYTES;
 use arrayvec::ArrayVec;
+use tokens::{NAME_BYTES, Name};
 
 /// A line of a listing, without its LF.
 pub type Line = ArrayVec<u8, LINE_BYTES>;
@@ -29,6 +30,15 @@ pub fn put_text(line: &mut Line, text: &str)
     ensures len { length line.new.items ≡ length line.old.items + length text.now }
 {
     put_bytes(line, text.as_bytes());
+}
+
+/// Appends a name: at most 31 bytes.
+pub fn put_name(line: &mut Line, name: &Name)
+    requires { length line.old.items + NAME_BYTES ≤ LINE_BYTES }
+    ensures items { line.new.items ≡ line.old.items ++ name.now }
+    ensures len { length line.new.items ≤ length line.old.items + NAME_BYTES }
+{
+    put_bytes(line, &name.as_bytes()[..name.len()]);
 }
 
 /// Appends a number in decimal.
