@@ -3,7 +3,7 @@
 ghost use Rattle.std.specs.Prelude.{◌≡◌, ◌≢◌, ◌∷◌, [], ◌-◌, ◌^◌, ◌<◌, ◌≤◌, ℕ, List, Some, true, false, slice_get, IfOk, IfSome, OnOk};
 ghost use Rattle.tokens.specs.Characters.{is_digit, is_blank};
 ghost use Rattle.tokens.specs.Feed.{Counts};
-ghost use Rattle.tokens.specs.Tokens.{is_last, lexemes, last_lexeme};
+ghost use Rattle.tokens.specs.Tokens.{FitsToken, is_last, lexemes, last_lexeme};
 ghost use Rattle.tokens.specs.Window.{IsAtHandOrEnd, ahead};
 ghost use Rattle.tokens.specs.Lexing.{to_read, followed, after_slash, after_comment, in_name, in_constant, in_mark, in_comment, ending, name_going_on, value_token};
 
@@ -22,6 +22,7 @@ impl Window {
             ≡ to_read lexemes self.old (F.to_come feed.old)) }
         ensures progress { IfOk result (λ lexeme. is_last lexeme.token ≡ false → self.old.place < self.new.place) }
         ensures within { self.new.place ≤ 1048576 }
+        ensures fits { IfOk result (λ lexeme. FitsToken lexeme.token) }
         ensures count { Counts result (F.failures feed.old) (F.failures feed.new) }
     {
         loop {
@@ -65,6 +66,7 @@ impl Window {
             ≡ to_read lexemes self.old (F.to_come feed.old)) }
         ensures forward { self.old.place < self.new.place }
         ensures within { self.new.place ≤ 1048576 }
+        ensures fits { IfOk result (λ found. IfSome found (λ lexeme. FitsToken lexeme.token)) }
         ensures count { Counts result (F.failures feed.old) (F.failures feed.new) }
     {
         let line = self.line();
@@ -117,6 +119,7 @@ impl Window {
             ≡ to_read lexemes self.old (F.to_come feed.old)) }
         ensures forward { self.old.place < self.new.place }
         ensures within { self.new.place ≤ 1048576 }
+        ensures fits { IfOk result (λ lexeme. FitsToken lexeme.token) }
         ensures count { Counts result (F.failures feed.old) (F.failures feed.new) }
     {
         self.pass();
@@ -138,6 +141,7 @@ impl Window {
             ≡ to_read (in_name (first ∷ []) false) self.old (F.to_come feed.old)) }
         ensures forward { self.old.place ≤ self.new.place }
         ensures within { self.new.place ≤ 1048576 }
+        ensures fits { IfOk result (λ lexeme. FitsToken lexeme.token) }
         ensures count { Counts result (F.failures feed.old) (F.failures feed.new) }
     {
         let mut name = Name::new();
@@ -166,6 +170,7 @@ impl Window {
             ≡ to_read (in_constant (first - 48)) self.old (F.to_come feed.old)) }
         ensures forward { self.old.place ≤ self.new.place }
         ensures within { self.new.place ≤ 1048576 }
+        ensures fits { IfOk result (λ lexeme. FitsToken lexeme.token) }
         ensures count { Counts result (F.failures feed.old) (F.failures feed.new) }
     {
         let mut value = u64::from(first - b'0');
@@ -187,6 +192,7 @@ impl Window {
             ≡ to_read (in_mark mark) self.old (F.to_come feed.old)) }
         ensures forward { self.old.place ≤ self.new.place }
         ensures within { self.new.place ≤ 1048576 }
+        ensures fits { IfOk result (λ lexeme. FitsToken lexeme.token) }
         ensures count { Counts result (F.failures feed.old) (F.failures feed.new) }
     {
         loop {
@@ -238,7 +244,8 @@ const TOO_LARGE: u64 = CONSTANT_MAX as u64 + 1;
 
 /// The token of a whole name, of which some bytes may have been left out.
 fn name_token(name: Name, is_too_long: bool) -> Token
-    ensures { result ≡ name_going_on name is_too_long [] }
+    ensures token { result ≡ name_going_on name is_too_long [] }
+    ensures fits { FitsToken result }
 {
     if is_too_long {
         Token::Fault(Flaw::NameTooLong)
@@ -251,7 +258,8 @@ fn name_token(name: Name, is_too_long: bool) -> Token
 
 /// The token of a constant of this value.
 fn constant_token(value: u64) -> Token
-    ensures { result ≡ value_token value }
+    ensures token { result ≡ value_token value }
+    ensures fits { FitsToken result }
 {
     if value < TOO_LARGE {
         Token::Constant(value as u32)

@@ -1,4 +1,4 @@
-use Rattle.std.proofs.Common.{◌≡◌, ◌∙◌, ◌+◌, ◌*◌, ◌-◌, min, sym, arith, ap, refl, subst}
+use Rattle.std.proofs.Common.{[], ◌≡◌, ◌∙◌, ◌+◌, ◌*◌, ◌-◌, min, sym, arith, ap, refl, subst}
 use Rattle.tokens.specs.Characters.{is_digit}
 use Rattle.tokens.specs.Lexing.{to_read, in_constant, constant_going_on}
 use Rattle.tokens.proofs.ToRead.{to_read-pass, to_read-seen}
@@ -28,6 +28,9 @@ returns-in_default-clause-tokens g c =
       | in_default-via-in-Some+else-is_digit w ↦ subst (StopsAt is_digit) (sym w.in-Some.is) (sym w.if-is_digit.ensures)
       | in_default-via-in_default w ↦ subst (StopsAt is_digit) (sym w.in_default.is) tt
     ] in
-    run-stops is_digit (constant_going_on c.loop-b.value) c.ending.result c.constant_token.result _ _ _ seen.ready seen.first stops c.ending.ensures c.constant_token.ensures
+    run-stops is_digit (constant_going_on c.loop-b.value) c.ending.result c.constant_token.result _ _ _ seen.ready seen.first stops c.ending.ensures c.constant_token.ensures.token
     ∙ to_read-seen now _ _ _ _ seen.seen ∙ c.loop-b.invariant.tokens
     ∙ ap (λ v. to_read (in_constant v) c.args.self.now (g.F.Feed.to_come c.args.feed.now)) c.from-value.ensures
+
+pub returns-in_default-clause-fits : goal.returns-in_default-clause-fits
+returns-in_default-clause-fits g c = rw (c.ending.ensures []) c.constant_token.ensures.fits

@@ -23,3 +23,6 @@ returns-in-None-clause-tokens g c =
     let seen = c.in_ok-next.ensures in
     mark-stops c.loop-next.mark c.ending.result _ _ c.in_ok-next.next seen.ready seen.first (sym c.in-None.ensures) c.ending.ensures
     ∙ to_read-seen now _ _ _ _ seen.seen ∙ c.loop-next.invariant.tokens
+
+pub returns-in-None-clause-fits : goal.returns-in-None-clause-fits
+returns-in-None-clause-fits g c = rw (c.ending.ensures []) tt

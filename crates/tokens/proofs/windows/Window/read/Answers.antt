@@ -5,7 +5,7 @@ use Rattle.tokens.specs.Lexing.{to_read, followed}
 use Rattle.tokens.specs.declared.lexemes.Token.TheVariants as variant
 use Rattle.tokens.proofs.ToRead.{to_read-here, none-ahead}
 use Rattle.tokens.proofs.TokenLemmas.{nothing-left}
-use Rattle.tokens.proofs.BeginLemmas.{last-is_last}
+use Rattle.tokens.proofs.BeginLemmas.{last-is_last, last-fits}
 use Rattle.tokens.proofs.windows.Window.read.Goals as goal
 
 pub returns-in-None-clause-tokens : goal.returns-in-None-clause-tokens
@@ -22,3 +22,6 @@ pub returns-in-None-clause-progress : goal.returns-in-None-clause-progress
 returns-in-None-clause-progress g c = λ e.
     let last : is_last c.last.result.token ≡ true = ap (λ x. is_last x.token) (c.last.ensures []) ∙ last-is_last variant.End c.line.result (ahead c.skip_blanks.new.self []) refl in
     absurd cc
+
+pub returns-in-None-clause-fits : goal.returns-in-None-clause-fits
+returns-in-None-clause-fits g c = rw (c.last.ensures []) (last-fits variant.End c.line.result (ahead c.skip_blanks.new.self []) tt)

@@ -34,3 +34,6 @@ returns-in_default-clause-tokens g c =
     let bad : Ahead → List Lexeme = λ a. followed (ending (variant.Fault BadCharacter) a) a in
     to_read-here (followed c.ending.result) bad c.pass.new.self _ (λ to_come. ap (λ x. followed x (ahead c.pass.new.self to_come)) (c.ending.ensures to_come))
     ∙ to_read-pass bad lexemes _ _ (g.F.Feed.to_come c.args.feed.now) (Some b) b c.pass.ensures.value (sym c.requires.first) refl (bad-begins b c.requires.no_blank (sym c.if-is_letter.ensures) (sym c.if-is_digit.ensures) c.requires.no_slash (sym c.in_default.ensures))
+
+pub returns-in_default-clause-fits : goal.returns-in_default-clause-fits
+returns-in_default-clause-fits g c = rw (c.ending.ensures []) tt
