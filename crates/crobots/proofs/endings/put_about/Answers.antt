@@ -1,4 +1,3 @@
-use Rattle.std.proofs.Common.{rules}
 use Rattle.crobots.proofs.endings.put_about.Goals as goal
 
 pub returns : goal.returns
