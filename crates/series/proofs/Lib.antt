@@ -1,3 +1,4 @@
+pub mod Examples
 pub mod ProgramsLemmas
 pub mod RunsLemmas
 pub mod PiecesLemmas

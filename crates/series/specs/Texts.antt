@@ -13,7 +13,7 @@ column width n = replicate (width - length (decimal n)) 32 ++ decimal n
 
 -- `{name}:{line}: {text}`
 abbrev pub diagnostic_line : List ℕ → ℕ → List ℕ → List ℕ
-diagnostic_line name line text = name ++ codes ":" ++ decimal line ++ codes ": " ++ text ++ 10 ∷ []
+diagnostic_line name line text = name ++ codes ":" ++ decimal line ++ codes ": " ++ text ++ codes "\n"
 
 -- lines, each ended
 abbrev pub lines_text : List (List ℕ) → List ℕ
