@@ -1,14 +1,13 @@
 -- Where a token begins.
-use Rattle.std.proofs.Common.{◌≡◌, ℕ, zero, suc, ◌+◌, ◌-◌, ◌*◌, ◌<◌, ◌≤◌, Bool, true, false, not, cond, eqb, leb, Option, Some, None, List, [], ◌∷◌, ◌++◌, length, take, drop, fold, refl, sym, ap, ◌∙◌, subst, arith, ◌≢◌}
+use Rattle.std.proofs.Common.{◌≡◌, ℕ, ◌+◌, ◌-◌, ◌*◌, Bool, true, false, not, cond, eqb, Option, Some, None, List, [], ◌∷◌, ◌++◌, length, drop, refl, sym, ap, ◌∙◌, subst, arith, ◌≢◌}
 use Rattle.std.specs.Prelude.{slice_get, ◌&&◌}
-use Rattle.std.specs.List.{prefix_len}
-use Rattle.std.specs.Option.{option_map, option_or, option_eq}
+use Rattle.std.specs.Option.{option_or, option_eq}
 use Rattle.std.proofs.lemmas.Bool.{eqb-true, ne_eqb}
 use Rattle.tokens.specs.Characters.{is_blank, is_letter, is_digit, is_name_byte}
 use Rattle.tokens.specs.Marks.{longest_mark, spelling, mark_of}
-use Rattle.tokens.specs.Front.{Front, Space, run, comment, mark, up_to_close, begins_with, name_token, constant_token, front}
-use Rattle.tokens.specs.Tokens.{Ahead, behind_byte, line_behind, passed, at_end, placed, closing, last_lexeme, followed_by, is_last, cut_front, lexemes}
-use Rattle.tokens.specs.Window.{Held, ahead, behind_first, IsAtHandOrEnd}
+use Rattle.tokens.specs.Front.{Front, run, comment, mark, up_to_close, begins_with, name_token, constant_token, front}
+use Rattle.tokens.specs.Tokens.{Ahead, behind_byte, line_behind, passed, last_lexeme, followed_by, is_last, cut_front, lexemes}
+use Rattle.tokens.specs.Window.{Held, ahead, IsAtHandOrEnd}
 use Rattle.tokens.specs.Lexing.{to_read, followed, ending, in_run, in_name, name_going_on, in_constant, constant_going_on, in_mark, grown, in_comment, closed_at}
 use Rattle.tokens.specs.declared.lexemes.Mark.{Mark}
 use Rattle.tokens.specs.declared.lexemes.Mark.TheVariants.{Slash}
@@ -19,7 +18,7 @@ use Rattle.tokens.specs.declared.lexemes.Lexeme.{Lexeme}
 use Rattle.tokens.proofs.LexemesLemmas.{lexemes-front, letter-is_name_byte}
 use Rattle.tokens.proofs.TokenLemmas.{chosen, other, run-takes, no_line}
 use Rattle.tokens.proofs.MarkLemmas.{mark_of-spelled, mark-lexeme, none-of-two, none-of-three, none-of-four}
-use Rattle.tokens.proofs.ToRead.{to_read-here, to_read-pass, first-ahead, none-ahead}
+use Rattle.tokens.proofs.ToRead.{to_read-here, first-ahead, none-ahead}
 
 abbrev here : ℕ → ℕ → List ℕ → Bool → Ahead
 here line place bytes too_long = record { line = line; place = place; bytes = bytes; too_long = too_long }

@@ -1,12 +1,11 @@
 -- The laws of the tokens of what lies ahead: a blank or a comment is skipped, a token is given.
-use Rattle.std.proofs.Common.{◌≡◌, ℕ, zero, suc, ◌+◌, ◌-◌, ◌<◌, ◌≤◌, Bool, true, false, not, cond, eqb, Option, Some, None, List, [], ◌∷◌, ◌++◌, length, take, drop, refl, sym, ap, ◌∙◌, subst, arith, ◌≢◌, lit<}
+use Rattle.std.proofs.Common.{◌≡◌, ℕ, zero, suc, ◌+◌, ◌-◌, ◌<◌, Bool, true, false, cond, Option, Some, None, List, [], ◌∷◌, length, drop, refl, ap, arith, lit<}
 use Rattle.std.specs.Prelude.{◌||◌}
 use Rattle.std.specs.List.{prefix_len}
-use Rattle.std.specs.Option.{option_map}
 use Rattle.tokens.specs.Characters.{is_blank, is_letter, is_digit, is_name_byte}
-use Rattle.tokens.specs.Marks.{longest_mark, spelling}
-use Rattle.tokens.specs.Front.{Front, Nothing, Space, Unclosed, Sign, front, run, comment, mark, up_to_close, begins_with, name_token, constant_token}
-use Rattle.tokens.specs.Tokens.{Ahead, behind_byte, passed, at_end, placed, closing, last_lexeme, followed_by, is_last, cut, cut_front, lexemes}
+use Rattle.tokens.specs.Marks.{longest_mark}
+use Rattle.tokens.specs.Front.{Front, Nothing, Space, Unclosed, Sign, front, run, comment, mark, up_to_close, name_token, constant_token}
+use Rattle.tokens.specs.Tokens.{Ahead, behind_byte, passed, placed, followed_by, cut, cut_front, lexemes}
 use Rattle.tokens.specs.declared.lexemes.Mark.{Mark}
 use Rattle.tokens.specs.declared.lexemes.Token.{Token}
 use Rattle.tokens.specs.declared.lexemes.Lexeme.{Lexeme}

@@ -4,11 +4,10 @@ use Rattle.std.specs.List.{prefix_len}
 use Rattle.std.specs.Option.{option_map}
 use Rattle.tokens.specs.Characters.{is_name_byte, is_digit}
 use Rattle.tokens.specs.Marks.{mark_of, spelling}
-use Rattle.tokens.specs.Front.{begins_with, up_to_close, name_token}
+use Rattle.tokens.specs.Front.{up_to_close, name_token}
 use Rattle.tokens.specs.Tokens.{Ahead, behind_byte, passed, at_end, placed, last_lexeme, followed_by, lexemes}
 use Rattle.tokens.specs.Window.{Held, seen}
 use Rattle.tokens.specs.declared.lexemes.Mark.{Mark}
-use Rattle.tokens.specs.declared.lexemes.Mark.TheVariants.{Slash}
 use Rattle.tokens.specs.declared.lexemes.Flaw.TheVariants.{CommentNotClosed, NameTooLong, ConstantTooLarge}
 use Rattle.tokens.specs.declared.lexemes.Token.{Token}
 use Rattle.tokens.specs.declared.lexemes.Token.TheVariants as variant

@@ -1,4 +1,4 @@
-use Rattle.std.proofs.Common.{◌≡◌, ◌∙◌, sym, ap, false, drop}
+use Rattle.std.proofs.Common.{◌≡◌, ◌∙◌, sym, ap, false}
 use Rattle.tokens.specs.Tokens.{is_last}
 use Rattle.tokens.proofs.ReadingLemmas.{shown-advanced, remaining-advanced, remaining-ended}
 use Rattle.tokens.proofs.cursors.Cursor.advance.Goals as goal

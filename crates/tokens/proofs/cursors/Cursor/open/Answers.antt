@@ -1,7 +1,7 @@
 use Rattle.std.proofs.Common.{◌≡◌, ◌∙◌, sym, ap}
 use Rattle.std.specs.Option.{option_map}
 use Rattle.tokens.specs.Tokens.{tokens, lexemes}
-use Rattle.tokens.specs.Lexing.{to_read, followed}
+use Rattle.tokens.specs.Lexing.{to_read}
 use Rattle.tokens.specs.Reading.{shown}
 use Rattle.tokens.proofs.ReadingLemmas.{shown-read, shown-last, shown-opened, remaining-bounded}
 use Rattle.tokens.proofs.cursors.Cursor.open.Goals as goal

@@ -1,6 +1,4 @@
-use Rattle.std.proofs.Common.{◌≡◌, ◌∙◌, ◌++◌, ◌∷◌, [], sym, arith, ap, Some}
-use Rattle.std.specs.Option.{option_and_then}
-use Rattle.tokens.specs.Marks.{mark_of, spelling}
+use Rattle.std.proofs.Common.{◌∙◌, sym, arith}
 use Rattle.tokens.specs.Lexing.{in_mark}
 use Rattle.tokens.proofs.ToRead.{to_read-seen}
 use Rattle.tokens.proofs.TokenLemmas.{mark-passes, mark-stops}

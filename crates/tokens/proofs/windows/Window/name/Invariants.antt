@@ -1,4 +1,4 @@
-use Rattle.std.proofs.Common.{◌≡◌, ◌-◌, ◌≤◌, false, [], ◌∷◌}
+use Rattle.std.proofs.Common.{◌≡◌, ◌-◌, ◌≤◌}
 use Rattle.tokens.specs.Lexing.{to_read, in_name}
 use Rattle.tokens.proofs.windows.Window.name.Given as goal
 

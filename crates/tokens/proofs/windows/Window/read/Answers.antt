@@ -1,7 +1,7 @@
-use Rattle.std.proofs.Common.{◌≡◌, ◌∙◌, sym, ap, refl, [], false, true, ◌<◌}
+use Rattle.std.proofs.Common.{◌≡◌, ◌∙◌, sym, ap, refl, [], true}
 use Rattle.tokens.specs.Tokens.{is_last, lexemes, last_lexeme}
 use Rattle.tokens.specs.Window.{ahead}
-use Rattle.tokens.specs.Lexing.{to_read, followed}
+use Rattle.tokens.specs.Lexing.{followed}
 use Rattle.tokens.specs.declared.lexemes.Token.TheVariants as variant
 use Rattle.tokens.proofs.ToRead.{to_read-here, none-ahead}
 use Rattle.tokens.proofs.TokenLemmas.{nothing-left}

@@ -1,4 +1,4 @@
-use Rattle.std.proofs.Common.{◌≡◌, ◌-◌, ◌≤◌, false, [], ◌∷◌}
+use Rattle.std.proofs.Common.{◌≡◌, ◌-◌, ◌≤◌}
 use Rattle.tokens.specs.Tokens.{lexemes}
 use Rattle.tokens.specs.Lexing.{to_read}
 use Rattle.tokens.proofs.windows.Window.read.Given as goal

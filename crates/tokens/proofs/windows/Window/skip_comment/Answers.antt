@@ -1,7 +1,7 @@
-use Rattle.std.proofs.Common.{◌≡◌, ◌∙◌, sym, arith, ap, ℕ, refl, false, eqb, Some}
+use Rattle.std.proofs.Common.{◌∙◌, sym, arith, ap, Some}
 use Rattle.std.proofs.lemmas.Bool.{ne_eqb}
 use Rattle.tokens.specs.Tokens.{lexemes}
-use Rattle.tokens.specs.Lexing.{to_read, in_comment, after_comment}
+use Rattle.tokens.specs.Lexing.{in_comment}
 use Rattle.tokens.proofs.ToRead.{to_read-pass, to_read-seen}
 use Rattle.tokens.proofs.CommentLemmas.{in_star, comment-passes, star-passes, star-open, slash-closes, slash-found, plain-passes, comment-ended, ended-beyond}
 use Rattle.tokens.proofs.windows.Window.skip_comment.Goals as goal

@@ -1,6 +1,6 @@
-use Rattle.std.proofs.Common.{◌≡◌, ◌∙◌, sym, ap, refl, Some, None, true, false}
+use Rattle.std.proofs.Common.{◌∙◌, sym, ap, refl, Some, None, true, false}
 use Rattle.tokens.specs.Tokens.{lexemes}
-use Rattle.tokens.specs.Lexing.{to_read, followed, in_mark, in_comment, after_comment, after_slash}
+use Rattle.tokens.specs.Lexing.{to_read, followed, in_comment, after_comment, after_slash}
 use Rattle.tokens.specs.Window.{ahead}
 use Rattle.tokens.specs.declared.lexemes.Flaw.TheVariants.{CommentNotClosed}
 use Rattle.tokens.specs.declared.lexemes.Token.TheVariants as variant

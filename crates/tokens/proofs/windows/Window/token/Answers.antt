@@ -1,11 +1,11 @@
-use Rattle.std.proofs.Common.{◌≡◌, ◌∙◌, ◌-◌, ◌∷◌, [], sym, ap, refl, Some, false, List}
+use Rattle.std.proofs.Common.{◌∙◌, ◌-◌, ◌∷◌, [], sym, ap, refl, Some, false, List}
 use Rattle.std.proofs.lemmas.Result.{IfOk-weaker}
 use Rattle.tokens.specs.Tokens.{Ahead, lexemes}
 use Rattle.tokens.specs.Window.{ahead}
 use Rattle.tokens.specs.declared.lexemes.Flaw.TheVariants.{BadCharacter}
 use Rattle.tokens.specs.declared.lexemes.Token.TheVariants as variant
 use Rattle.tokens.specs.declared.lexemes.Lexeme.{Lexeme}
-use Rattle.tokens.specs.Lexing.{to_read, followed, ending, in_name, in_constant, in_mark}
+use Rattle.tokens.specs.Lexing.{followed, ending, in_name, in_constant, in_mark}
 use Rattle.tokens.proofs.ToRead.{to_read-pass, to_read-here}
 use Rattle.tokens.proofs.BeginLemmas.{name-begins, constant-begins, other-begins, bad-begins}
 use Rattle.tokens.proofs.windows.Window.token.Goals as goal
