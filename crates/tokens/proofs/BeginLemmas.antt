@@ -162,7 +162,7 @@ bad-begins b no_blank no_letter no_digit no_slash h a rest e =
     ∙ sym (lexemes-by b (mark None) a rest e (front-mark b rest no_blank no_letter no_digit no_slash ∙ ap mark (longest-none b rest h)))
 
 -- behind a `/` on this line
-pub in_slash : ℕ → Ahead → List Lexeme
+unfoldable pub in_slash : ℕ → Ahead → List Lexeme
 in_slash line a = cond (begins_with 42 a.bytes) (in_comment line (behind_byte a)) (in_mark Slash a)
 
 slash-star : (line place : ℕ) (rest : List ℕ) (too_long : Bool) → cut_front (comment (up_to_close rest)) (here line place (47 ∷ 42 ∷ rest) too_long) lexemes ≡ in_comment line (behind_byte (behind_byte (here line place (47 ∷ 42 ∷ rest) too_long)))

@@ -20,7 +20,7 @@ abbrev here : ℕ → ℕ → List ℕ → Bool → Ahead
 here line place bytes too_long = record { line = line; place = place; bytes = bytes; too_long = too_long }
 
 -- behind a `*` inside a comment
-pub in_star : ℕ → Ahead → List Lexeme
+unfoldable pub in_star : ℕ → Ahead → List Lexeme
 in_star line a = cond (begins_with 47 a.bytes) (lexemes (behind_byte a)) (in_comment line a)
 
 goes_on : (close : Option ℕ) (began line place b : ℕ) (rest : List ℕ) (too_long : Bool) → closed_at close began (behind_byte (here line place (b ∷ rest) too_long)) ≡ closed_at (option_map suc close) began (here line place (b ∷ rest) too_long)

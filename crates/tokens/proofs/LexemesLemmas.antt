@@ -15,7 +15,7 @@ abbrev here : ℕ → ℕ → List ℕ → Bool → Ahead
 here line place bytes too_long = record { line = line; place = place; bytes = bytes; too_long = too_long }
 
 -- a piece has at least one byte
-abbrev IsPiece : Front → Type 0
+abbrev pub IsPiece : Front → Type 0
 IsPiece Nothing = Unit {0}
 IsPiece Unclosed = Unit {0}
 IsPiece (Space count) = 0 < count
@@ -47,7 +47,7 @@ letter-is_name_byte b e = by (is_letter b) e
     by true e = refl
     by false e = absurd cc
 
-front-is_piece : (bytes : List ℕ) → IsPiece (front bytes)
+pub front-is_piece : (bytes : List ℕ) → IsPiece (front bytes)
 front-is_piece [] = tt
 front-is_piece (b ∷ rest) =
     either-is_piece (is_blank b) _ _ (λ e. lit< tt) (λ n.
@@ -62,7 +62,7 @@ length-behind_byte a = by a.line a.place a.bytes a.too_long
     by line place [] t = omega arith
     by line place (x ∷ xs) t = omega arith
 
-length-passed : (n : ℕ) (a : Ahead) → length (passed n a).bytes ≡ length a.bytes - n
+pub length-passed : (n : ℕ) (a : Ahead) → length (passed n a).bytes ≡ length a.bytes - n
 length-passed zero a = omega arith
 length-passed (suc n) a = omega (arith, length-passed n (behind_byte a), length-behind_byte a)
 
