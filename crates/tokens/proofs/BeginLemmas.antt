@@ -6,7 +6,7 @@ use Rattle.std.proofs.lemmas.Bool.{eqb-true, ne_eqb}
 use Rattle.tokens.specs.Characters.{is_blank, is_letter, is_digit, is_name_byte}
 use Rattle.tokens.specs.Marks.{longest_mark, spelling, mark_of}
 use Rattle.tokens.specs.Front.{Front, run, comment, mark, up_to_close, begins_with, name_token, constant_token, front}
-use Rattle.tokens.specs.Tokens.{Ahead, behind_byte, line_behind, passed, last_lexeme, followed_by, is_last, cut_front, lexemes}
+use Rattle.tokens.specs.Tokens.{FitsToken, Ahead, behind_byte, line_behind, passed, last_lexeme, followed_by, is_last, cut_front, lexemes}
 use Rattle.tokens.specs.Window.{Held, ahead, IsAtHandOrEnd}
 use Rattle.tokens.specs.Lexing.{to_read, followed, ending, in_run, in_name, name_going_on, in_constant, constant_going_on, in_mark, grown, in_comment, closed_at}
 use Rattle.tokens.specs.declared.lexemes.Mark.{Mark}
@@ -232,4 +232,12 @@ last-is_last token line a h = by a.too_long
   where
     by : (t : Bool) → is_last (last_lexeme token line (here a.line a.place a.bytes t)).token ≡ true
     by true = refl
+    by false = h
+
+-- the last token fits where this one does
+pub last-fits : (token : Token) (line : ℕ) (a : Ahead) → FitsToken token → FitsToken (last_lexeme token line a).token
+last-fits token line a h = by a.too_long
+  where
+    by : (t : Bool) → FitsToken (last_lexeme token line (here a.line a.place a.bytes t)).token
+    by true = tt
     by false = h

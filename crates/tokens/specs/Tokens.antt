@@ -1,5 +1,5 @@
 -- The tokens of a source.
-use Rattle.std.specs.Prelude.{ℕ, zero, suc, ◌+◌, Bool, true, false, List, [], ◌∷◌, length, take, if◌then◌else◌, ◌==◌, nat_lt}
+use Rattle.std.specs.Prelude.{ℕ, zero, suc, ◌+◌, ◌≤◌, Bool, true, false, List, [], ◌∷◌, length, take, if◌then◌else◌, ◌==◌, nat_lt}
 use Rattle.tokens.specs.Source.{source}
 use Rattle.tokens.specs.Front.{Front, Nothing, Space, Unclosed, Sign, front}
 use Rattle.tokens.specs.declared.lexemes.Flaw.TheVariants.{CommentNotClosed, SourceTooLong}
@@ -15,6 +15,15 @@ is_last (variant.Name name) = false
 is_last (variant.Word word) = false
 is_last (variant.Constant value) = false
 is_last (variant.Mark mark) = false
+
+-- a constant is within its limit
+abbrev pub FitsToken : Token → Type 0
+FitsToken (variant.Constant value) = value ≤ 2147483647
+FitsToken (variant.Name name) = Unit {0}
+FitsToken (variant.Word word) = Unit {0}
+FitsToken (variant.Mark mark) = Unit {0}
+FitsToken variant.End = Unit {0}
+FitsToken (variant.Fault flaw) = Unit {0}
 
 -- what lies ahead in a source: the line that it begins on, how many bytes stand before it,
 -- its bytes up to the limit, and whether the source goes on behind that

@@ -3,7 +3,7 @@
 ghost use Rattle.std.specs.Prelude.{◌≡◌, ◌-◌, ◌^◌, ◌<◌, ◌≤◌, ◌∷◌, ℕ, List, Some, drop, false, IfOk, OnOk, OnErr};
 ghost use Rattle.std.specs.Option.{option_map};
 ghost use Rattle.tokens.specs.Feed.{Counts};
-ghost use Rattle.tokens.specs.Tokens.{tokens, is_last};
+ghost use Rattle.tokens.specs.Tokens.{FitsToken, tokens, is_last};
 ghost use Rattle.tokens.specs.Window.{Takes};
 ghost use Rattle.tokens.specs.declared.lexemes.Lexeme.{Lexeme};
 ghost use Rattle.tokens.specs.Reading.{shown, remaining, taken, IsNear, reach_of};
@@ -25,10 +25,13 @@ pub struct Cursor {
 
 impl Model for Cursor {
     ghost use Rattle.tokens.specs.Reading.{Reading};
+    ghost use Rattle.tokens.specs.Tokens.{FitsToken};
 
     ghost Value = { Reading };
 
     ghost view = { λ c. record { next = c.next; after = c.after; behind = c.window } };
+
+    ghost invariant = { λ c. FitsToken c.next.token × FitsToken c.after.token };
 }
 
 impl Cursor {
@@ -62,14 +65,16 @@ impl Cursor {
 
     /// The next token.
     pub fn next(&self) -> &Lexeme
-        ensures { result.now ≡ self.now.next }
+        ensures value { result.now ≡ self.now.next }
+        ensures fits { FitsToken result.now.token }
     {
         &self.next
     }
 
     /// The token behind the next one. Where the next is the last, there is none, and what this gives says nothing.
     pub fn after(&self) -> &Lexeme
-        ensures { result.now ≡ self.now.after }
+        ensures value { result.now ≡ self.now.after }
+        ensures fits { FitsToken result.now.token }
     {
         &self.after
     }

@@ -3,7 +3,7 @@
 ghost use Rattle.std.specs.Prelude.{◌≡◌, ◌≢◌, ◌∷◌, [], ◌+◌, ◌-◌, ◌^◌, ◌<◌, ◌≤◌, ℕ, List, Some, true, false, slice_get, IfOk, IfSome, OnOk, OnErr};
 ghost use Rattle.tokens.specs.Characters.{is_digit, is_blank};
 ghost use Rattle.tokens.specs.Feed.{Counts};
-ghost use Rattle.tokens.specs.Tokens.{is_last, lexemes, last_lexeme};
+ghost use Rattle.tokens.specs.Tokens.{FitsToken, is_last, lexemes, last_lexeme};
 ghost use Rattle.tokens.specs.Window.{IsAtHandOrEnd, Takes, ahead};
 ghost use Rattle.tokens.specs.Lexing.{to_read, StopsWithin, followed, after_slash, after_comment, in_name, in_constant, in_mark, in_comment, name_going_on, value_token};
 
@@ -26,6 +26,7 @@ impl Window {
         ensures took { Takes self.old.taken self.new.taken (F.to_come feed.old) (F.to_come feed.new) }
         ensures near { self.new.taken ≤ self.new.place + 4096 }
         ensures within { self.new.place ≤ 1048576 }
+        ensures fits { IfOk result (λ lexeme. FitsToken lexeme.token) }
         ensures count { Counts result (F.failures feed.old) (F.failures feed.new) }
     {
         loop {
@@ -76,6 +77,7 @@ impl Window {
         ensures took { Takes self.old.taken self.new.taken (F.to_come feed.old) (F.to_come feed.new) }
         ensures near { self.new.taken ≤ self.new.place + 4096 }
         ensures within { self.new.place ≤ 1048576 }
+        ensures fits { IfOk result (λ found. IfSome found (λ lexeme. FitsToken lexeme.token)) }
         ensures count { Counts result (F.failures feed.old) (F.failures feed.new) }
     {
         let line = self.line();
@@ -135,6 +137,7 @@ impl Window {
         ensures took { Takes self.old.taken self.new.taken (F.to_come feed.old) (F.to_come feed.new) }
         ensures near { self.new.taken ≤ self.new.place + 4096 }
         ensures within { self.new.place ≤ 1048576 }
+        ensures fits { IfOk result (λ lexeme. FitsToken lexeme.token) }
         ensures count { Counts result (F.failures feed.old) (F.failures feed.new) }
     {
         self.pass();
@@ -160,6 +163,7 @@ impl Window {
         ensures took { Takes self.old.taken self.new.taken (F.to_come feed.old) (F.to_come feed.new) }
         ensures near { self.new.taken ≤ self.new.place + 4096 }
         ensures within { self.new.place ≤ 1048576 }
+        ensures fits { IfOk result (λ lexeme. FitsToken lexeme.token) }
         ensures count { Counts result (F.failures feed.old) (F.failures feed.new) }
     {
         let mut name = Name::new();
@@ -192,6 +196,7 @@ impl Window {
         ensures took { Takes self.old.taken self.new.taken (F.to_come feed.old) (F.to_come feed.new) }
         ensures near { self.new.taken ≤ self.new.place + 4096 }
         ensures within { self.new.place ≤ 1048576 }
+        ensures fits { IfOk result (λ lexeme. FitsToken lexeme.token) }
         ensures count { Counts result (F.failures feed.old) (F.failures feed.new) }
     {
         let mut value = u64::from(first - b'0');
@@ -217,6 +222,7 @@ impl Window {
         ensures took { Takes self.old.taken self.new.taken (F.to_come feed.old) (F.to_come feed.new) }
         ensures near { self.new.taken ≤ self.new.place + 4096 }
         ensures within { self.new.place ≤ 1048576 }
+        ensures fits { IfOk result (λ lexeme. FitsToken lexeme.token) }
         ensures count { Counts result (F.failures feed.old) (F.failures feed.new) }
     {
         loop {
@@ -269,7 +275,8 @@ const TOO_LARGE: u64 = CONSTANT_MAX as u64 + 1;
 
 /// The token of a whole name, of which some bytes may have been left out.
 fn name_token(name: Name, is_too_long: bool) -> Token
-    ensures { result ≡ name_going_on name is_too_long [] }
+    ensures token { result ≡ name_going_on name is_too_long [] }
+    ensures fits { FitsToken result }
 {
     if is_too_long {
         Token::Fault(Flaw::NameTooLong)
@@ -282,7 +289,8 @@ fn name_token(name: Name, is_too_long: bool) -> Token
 
 /// The token of a constant of this value.
 fn constant_token(value: u64) -> Token
-    ensures { result ≡ value_token value }
+    ensures token { result ≡ value_token value }
+    ensures fits { FitsToken result }
 {
     if value < TOO_LARGE {
         Token::Constant(value as u32)

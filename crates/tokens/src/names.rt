@@ -28,6 +28,12 @@ impl Model for Name {
     ghost inverse_ok = { λ a h. let e = padded-kept h in let d = length-kept h in Prim.rw (e, d) };
 }
 
+impl Default for Name {
+    fn default() -> Name {
+        Name::new()
+    }
+}
+
 impl Name {
     /// The name of no bytes.
     pub fn new() -> Self

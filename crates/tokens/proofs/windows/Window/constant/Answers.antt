@@ -30,7 +30,7 @@ returns-in_default-clause-tokens g c =
       | in_default-via-in-Some+else-is_digit w ↦ subst (StopsAt is_digit) (sym w.in-Some.is) (sym w.if-is_digit.ensures)
       | in_default-via-in_default w ↦ subst (StopsAt is_digit) (sym w.in_default.is) tt
     ] in
-    run-stops is_digit (constant_going_on c.loop-b.value) c.ending.result c.constant_token.result _ _ _ seen.ready seen.first stops (λ _. c.ending.ensures) c.constant_token.ensures
+    run-stops is_digit (constant_going_on c.loop-b.value) c.ending.result c.constant_token.result _ _ _ seen.ready seen.first stops (λ _. c.ending.ensures) c.constant_token.ensures.token
     ∙ to_read-seen now _ _ _ _ seen.seen ∙ c.loop-b.invariant.tokens
     ∙ ap (λ v. to_read (in_constant v) c.args.self.now (g.F.Feed.to_come c.args.feed.now)) c.from-value.ensures
 

@@ -5,7 +5,7 @@ use Rattle.tokens.specs.Lexing.{to_read, followed, after_slash}
 use Rattle.tokens.specs.declared.lexemes.Token.TheVariants as variant
 use Rattle.tokens.proofs.ToRead.{to_read-here, none-ahead}
 use Rattle.tokens.proofs.TokenLemmas.{nothing-left}
-use Rattle.tokens.proofs.BeginLemmas.{last-is_last}
+use Rattle.tokens.proofs.BeginLemmas.{last-is_last, last-fits}
 use Rattle.tokens.proofs.TakenLemmas.{Takes-then}
 use Rattle.tokens.proofs.windows.Window.read.Goals as goal
 
@@ -36,3 +36,6 @@ loop-self-preserved g c =
       forward = omega (arith, blanks.forward, slash.forward);
       count = slash.count ∙ blanks.count ∙ c.loop-self.invariant.count;
     }
+
+pub returns-in-None-clause-fits : goal.returns-in-None-clause-fits
+returns-in-None-clause-fits g c = rw (c.last.ensures.value []) (last-fits variant.End c.line.result (ahead c.skip_blanks.new.self []) tt)

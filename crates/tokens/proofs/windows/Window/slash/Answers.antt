@@ -1,4 +1,4 @@
-use Rattle.std.proofs.Common.{◌∙◌, sym, ap, refl, Some, None, true, false}
+use Rattle.std.proofs.Common.{[], ◌∙◌, sym, ap, refl, Some, None, true, false}
 use Rattle.tokens.specs.Tokens.{lexemes}
 use Rattle.tokens.specs.Lexing.{to_read, followed, in_mark, in_comment, after_comment, after_slash}
 use Rattle.tokens.specs.Window.{ahead}
@@ -6,7 +6,7 @@ use Rattle.tokens.specs.declared.lexemes.Mark.TheVariants.{Slash}
 use Rattle.tokens.specs.declared.lexemes.Flaw.TheVariants.{CommentNotClosed}
 use Rattle.tokens.specs.declared.lexemes.Token.TheVariants as variant
 use Rattle.tokens.proofs.ToRead.{to_read-pass, to_read-pass_line, to_read-seen, to_read-here}
-use Rattle.tokens.proofs.BeginLemmas.{in_slash, slash-begins, star-begins, slash-stays, star-found, not_true, not_false, last-followed}
+use Rattle.tokens.proofs.BeginLemmas.{in_slash, slash-begins, star-begins, slash-stays, star-found, not_true, not_false, last-followed, last-fits}
 use Rattle.tokens.proofs.TakenLemmas.{on_err-from, stops, stops-from, in_slash-ends}
 use Rattle.tokens.proofs.windows.Window.slash.Goals as goal
 
@@ -68,3 +68,6 @@ returns-in_err-skip_comment-clause-stopped g c =
     ∙ to_read-seen (in_slash line) _ _ _ _ seen.seen
     ∙ to_read-pass_line (in_slash line) lexemes _ _ _ 47 line c.pass.ensures.value c.requires.slash c.line-line.ensures (slash-begins line))
     (c.in_err-skip_comment.ensures.stopped line))
+
+pub returns-else-branch-clause-fits : goal.returns-else-branch-clause-fits
+returns-else-branch-clause-fits g c = rw (c.last.ensures.value []) (last-fits (variant.Fault CommentNotClosed) c.line-line.result (ahead c.skip_comment.new.self []) tt)

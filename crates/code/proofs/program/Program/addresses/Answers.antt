@@ -1,0 +1,10 @@
+use Rattle.std.proofs.Common.{◌∙◌, ap, length, List, ℕ}
+use Rattle.code.specs.Generation.{Code}
+use Rattle.code.proofs.Lines.{addresses_of_file}
+use Rattle.code.proofs.program.Program.addresses.Goals as goal
+
+pub returns-clause-each : goal.returns-clause-each
+returns-clause-each c =
+    ap (λ (xs : List ℕ). length xs) c.as_slice.ensures.value
+    ∙ addresses_of_file _ c.self.invariant
+    ∙ ap (λ (code : Code). length code.names.functions) c.self.view_is

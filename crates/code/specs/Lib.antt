@@ -1,0 +1,5 @@
+pub mod Generation
+pub mod Making
+pub mod Finishing
+pub mod Spelling
+pub mod Listing

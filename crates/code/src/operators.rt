@@ -1,0 +1,34 @@
+//! The marks of the operators in a listing.
+
+ghost use Rattle.std.specs.Prelude.{◌≡◌, ◌≤◌, length};
+ghost use Rattle.code.specs.Spelling.{operator_text};
+
+use lang::Op;
+
+/// The mark that spells an operator.
+#[tactic(auto, unfolding(crate::specs::Spelling::operator_text))]
+pub fn operator_mark(op: Op) -> &'static str
+    ensures mark { result.now ≡ operator_text op }
+    ensures short { length result.now ≤ 2 }
+{
+    match op {
+        Op::Or => "||",
+        Op::And => "&&",
+        Op::BitOr => "|",
+        Op::BitXor => "^",
+        Op::BitAnd => "&",
+        Op::Equal => "==",
+        Op::NotEqual => "!=",
+        Op::Less => "<",
+        Op::Greater => ">",
+        Op::LessOrEqual => "<=",
+        Op::GreaterOrEqual => ">=",
+        Op::ShiftLeft => "<<",
+        Op::ShiftRight => ">>",
+        Op::Add => "+",
+        Op::Subtract => "-",
+        Op::Multiply => "*",
+        Op::Divide => "/",
+        Op::Remainder => "%",
+    }
+}

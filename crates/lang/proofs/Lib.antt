@@ -1,0 +1,11 @@
+pub mod Runs
+pub mod Steps
+pub mod Firsts
+pub mod Told
+pub mod Stretches
+pub mod ExpressionLaws
+pub mod StatementLaws
+pub mod Order
+pub mod Endings
+pub mod Verdicts
+pub mod FileLaws
