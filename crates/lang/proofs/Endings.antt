@@ -1,8 +1,7 @@
 -- A derivation ends: each step makes it lighter.
-use Rattle.std.proofs.Common.{◌≡◌, ℕ, zero, suc, ◌+◌, ◌-◌, ◌*◌, ◌<◌, ◌≤◌, List, [], ◌∷◌, ◌++◌, refl, sym, ap, ◌∙◌, subst, Bool, true, false, arith, length, drop}
+use Rattle.std.proofs.Common.{◌≡◌, ℕ, zero, suc, ◌+◌, ◌<◌, ◌≤◌, List, [], ◌∷◌, ◌++◌, refl, sym, ap, ◌∙◌, subst, Bool, true, false, arith}
 use Rattle.std.proofs.lemmas.Bool.Decides.{nat_tests}
-use Rattle.std.specs.Prelude.{Option, Some, None, nat_lt, if◌then◌else◌, codes, unwrap_or}
-use Rattle.std.specs.Str.{bytes_eq}
+use Rattle.std.specs.Prelude.{Option, Some, None, nat_lt, if◌then◌else◌}
 use Rattle.tokens.specs.declared.lexemes.Lexeme.{Lexeme}
 use Rattle.tokens.specs.declared.lexemes.Mark.{Mark}
 use Rattle.tokens.specs.declared.lexemes.Mark.TheVariants as mark
@@ -10,10 +9,10 @@ use Rattle.tokens.specs.declared.lexemes.Token.{Token}
 use Rattle.tokens.specs.declared.lexemes.Token.TheVariants as token
 use Rattle.lang.specs.declared.operators.Op.{Op}
 use Rattle.lang.specs.Derivation.{State, state, Value, step, step_of, stepped, run, next_of, matched, replaced, constant_matched}
-use Rattle.lang.specs.Grammar.{Symbol, Source, FunctionBlock, Statements, Statement, Expression, Level, Tail, Primary, Item, Exactly, AName, AConstant, AnEnd, Part, Make, Shut, Rule, Production, choice, tail_production, is_mark, is_main, is_end, is_fault, opens_statement}
+use Rattle.lang.specs.Grammar.{Symbol, Source, FunctionBlock, Statements, Statement, Expression, Level, Tail, Primary, Item, Exactly, AName, AConstant, AnEnd, Part, Make, Shut, Production, choice, tail_production, is_mark, is_main, is_end, is_fault, opens_statement}
 use Rattle.lang.specs.Operators.{operator_at}
 use Rattle.lang.specs.Tree.{Function}
-use Rattle.lang.specs.Weight.{cost, costs, credit_of, credit, weight}
+use Rattle.lang.specs.Weight.{cost, costs, credit, weight}
 
 abbrev load : List Item → ℕ
 load stack = costs stack + credit stack

@@ -1,5 +1,5 @@
 -- What the parse functions of expressions derive.
-use Rattle.std.proofs.Common.{◌≡◌, ℕ, zero, suc, pos, ◌+◌, ◌-◌, ◌<◌, ◌≤◌, List, [], ◌∷◌, ◌++◌, refl, sym, ap, ◌∙◌, subst, Bool, true, false, arith, drop, append_assoc, append-nil, eqb}
+use Rattle.std.proofs.Common.{◌≡◌, ℕ, pos, ◌+◌, ◌<◌, ◌≤◌, List, [], ◌∷◌, ◌++◌, refl, sym, ap, subst, Bool, true, false, arith, append_assoc, append-nil, eqb}
 use Rattle.std.proofs.lemmas.Bool.Decides.{nat_tests}
 use Rattle.std.specs.Prelude.{Option, Some, None, nat_lt, nat_le}
 use Rattle.tokens.specs.Reading.{Reading, shown}
@@ -17,9 +17,9 @@ use Rattle.lang.specs.declared.operators.Op.{Op}
 use Rattle.lang.specs.Actions.{Action, Apply, expr_actions, middle}
 use Rattle.lang.specs.Building.{Meaning, AppendsAll}
 use Rattle.lang.specs.Compiled.{diagnostic}
-use Rattle.lang.specs.Derivation.{state, Value, AnExpr, next_of, constant_value}
-use Rattle.lang.specs.Faults.{levels, level_faults, misfit_code, fault, only_if, most_levels}
-use Rattle.lang.specs.Grammar.{Item, AConstant, Exactly, Part, Make, Operate, Shut, Symbol, Expression, Level, Tail, Primary, choice, opens, is_fault, is_mark, same_mark}
+use Rattle.lang.specs.Derivation.{state, AnExpr, constant_value}
+use Rattle.lang.specs.Faults.{levels, misfit_code, fault, only_if, most_levels}
+use Rattle.lang.specs.Grammar.{AConstant, Exactly, Part, Make, Operate, Shut, Expression, Level, Tail, Primary, choice, opens, is_fault, is_mark, same_mark}
 use Rattle.lang.specs.Operators.{operator_at}
 use Rattle.lang.specs.Parsing.{AddsExpr, AddsOperand, Passes, Derives, DerivesMark, FailsAt, FailsFrom, FailsOperand, GoesPast, StopsAt}
 use Rattle.lang.specs.Tree.{Constant, Binary, Expr, Function}

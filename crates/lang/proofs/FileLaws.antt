@@ -1,7 +1,7 @@
 -- What the parse functions of a file derive.
-use Rattle.std.proofs.Common.{◌≡◌, ℕ, zero, suc, pos, ◌+◌, ◌<◌, ◌≤◌, List, [], ◌∷◌, ◌++◌, refl, sym, ap, ◌∙◌, subst, Bool, true, false, arith, append_assoc, append-nil, length, eqb→eq, add-zero, zero-add}
+use Rattle.std.proofs.Common.{◌≡◌, ℕ, ◌+◌, ◌<◌, ◌≤◌, List, [], ◌∷◌, ◌++◌, refl, sym, ap, ◌∙◌, subst, Bool, true, false, arith, append_assoc, append-nil, add-zero, zero-add}
 use Rattle.std.proofs.lemmas.Bool.Decides.{nat_tests}
-use Rattle.std.specs.Prelude.{Option, Some, None, Result, Ok, Err, codes, nat_lt, nat_le}
+use Rattle.std.specs.Prelude.{Option, Some, None, codes, nat_lt, nat_le}
 use Rattle.tokens.specs.Reading.{Reading, shown}
 use Rattle.tokens.specs.Tokens.{is_last}
 use Rattle.tokens.specs.declared.lexemes.Lexeme.{Lexeme}
@@ -10,20 +10,20 @@ use Rattle.tokens.specs.declared.lexemes.Token.{Token}
 use Rattle.tokens.specs.declared.lexemes.Token.TheVariants as token
 use Rattle.lang.specs.declared.diagnostics.Code.TheVariants as code
 use Rattle.lang.specs.declared.diagnostics.Diagnostic.{Diagnostic}
-use Rattle.lang.specs.Actions.{Action, Begin, Finish, actions, body_actions, code_length, functions_actions, function_actions, instructions, last_return}
+use Rattle.lang.specs.Actions.{Action, Begin, Finish, body_actions, code_length, functions_actions, last_return}
 use Rattle.lang.specs.Building.{Meaning, AppendsAll}
-use Rattle.lang.specs.Compiled.{compiled_tokens, diagnostic, line_of}
-use Rattle.lang.specs.Derivation.{State, state, start, step, stepped, Value, ABody, next_of, main_function, is_name}
-use Rattle.lang.specs.Faults.{misfit_code, levels, fault, faults_at, is_too_long, length_faults, most_levels, only_if}
+use Rattle.lang.specs.Compiled.{diagnostic, line_of}
+use Rattle.lang.specs.Derivation.{state, start, Value, ABody, next_of, main_function, is_name}
+use Rattle.lang.specs.Faults.{misfit_code, levels, fault, is_too_long, most_levels, only_if}
 use Rattle.lang.specs.Files.{AddsBlock, ClosesFunction, DerivesEnding, DerivesHeading, FailsBlock, FailsEnding, FailsFile, FailsHeading, IsFileOf, TooMuchAt, last_items}
 use Rattle.lang.specs.Grammar.{Item, AName, AnEnd, Define, Empty, Exactly, FunctionBlock, Make, Part, Shut, Source, Statements, choice, is_end, is_fault, is_main, is_mark}
-use Rattle.lang.specs.Parsing.{AddsBody, Derives, DerivesMark, Fails, FailsAt, FailsBody, FailsFrom, GoesPast, IsFirstFault, Passes, StopsAt}
-use Rattle.lang.specs.Pools.{Names, names_of}
+use Rattle.lang.specs.Parsing.{AddsBody, Derives, DerivesMark, Fails, FailsBody, FailsFrom, GoesPast, Passes, StopsAt}
+use Rattle.lang.specs.Pools.{Names}
 use Rattle.lang.specs.Profile.{Profile}
-use Rattle.lang.specs.Tree.{Body, Done, File, Function, join}
+use Rattle.lang.specs.Tree.{Body, Done, File, Function}
 use Rattle.lang.proofs.ExpressionLaws.{mark_is}
-use Rattle.lang.proofs.Firsts.{at_fault, fails_stuck, matched_first, no_mark, no_part}
-use Rattle.lang.proofs.Runs.{back, here, then}
+use Rattle.lang.proofs.Firsts.{at_fault, fails_stuck, matched_first, no_part}
+use Rattle.lang.proofs.Runs.{back, then}
 use Rattle.lang.proofs.Steps.{make, mark as mark_step, one, part, shut}
 use Rattle.lang.proofs.Stretches.{Leads, fails_then, joined, past, stand, stops, under}
 use Rattle.lang.proofs.Told.{Begins, begins}

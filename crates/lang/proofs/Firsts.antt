@@ -1,19 +1,18 @@
 -- Which fault of a derivation is its first.
-use Rattle.std.proofs.Common.{◌≡◌, ℕ, zero, suc, pos, ◌+◌, ◌<◌, ◌≤◌, ◌⊎◌, List, [], ◌∷◌, ◌++◌, refl, sym, ap, ◌∙◌, subst, zero-add, append-nil, inl, inr, Bool, true, false, arith, length, drop, cond, le_refl, le_trans, lt-ltb, le-leb, ltb-false, length-drop}
+use Rattle.std.proofs.Common.{◌≡◌, ℕ, zero, suc, ◌<◌, ◌≤◌, List, [], ◌∷◌, ◌++◌, refl, sym, ap, ◌∙◌, subst, inl, inr, Bool, true, false, arith, length, drop, le_refl, le_trans, lt-ltb}
 use Rattle.std.proofs.lemmas.Bool.Decides.{nat_tests}
-use Rattle.std.specs.Prelude.{Option, Some, None, unwrap_or, nat_le, nat_lt, IsTrue, if◌then◌else◌}
+use Rattle.std.specs.Prelude.{Option, Some, None, unwrap_or, nat_le, nat_lt, if◌then◌else◌}
 use Rattle.tokens.specs.declared.lexemes.Lexeme.{Lexeme}
 use Rattle.tokens.specs.declared.lexemes.Mark.{Mark}
 use Rattle.lang.specs.declared.diagnostics.Code.{Code}
 use Rattle.lang.specs.declared.diagnostics.Code.TheVariants as code
-use Rattle.lang.specs.declared.diagnostics.Diagnostic.{Diagnostic}
 use Rattle.lang.specs.Compiled.{line_of, diagnostic}
-use Rattle.lang.specs.Derivation.{State, state, Value, AnExpr, ABody, stepped, step, step_of, run, next_of, made, defined, constant_value, matched, replaced, constant_matched, main_function}
-use Rattle.lang.specs.Faults.{Fault, fault, faults_at, faults_of, faults_in, is_first, item_faults, level_faults, length_faults, misfits, misfit, misfit_code, levels, number_of, most_levels, is_too_long, only_if}
-use Rattle.lang.specs.Grammar.{Item, Exactly, AName, AConstant, AnEnd, Part, Make, Shut, Symbol, Rule, Operate, Empty, Evaluate, Define, Production, choice, opens, is_mark, is_fault}
-use Rattle.lang.specs.Parsing.{IsIn, IsFault, IsFirstFault, Fails, Passes}
+use Rattle.lang.specs.Derivation.{State, state, Value, AnExpr, ABody, stepped, step, step_of, run, next_of, matched, replaced, constant_matched, main_function}
+use Rattle.lang.specs.Faults.{Fault, fault, faults_at, is_first, item_faults, level_faults, misfits, misfit_code, levels, number_of, most_levels, is_too_long, only_if}
+use Rattle.lang.specs.Grammar.{Item, Exactly, AName, AConstant, AnEnd, Part, Make, Shut, Symbol, Operate, Empty, Evaluate, Define, Production, choice, opens, is_mark, is_fault}
+use Rattle.lang.specs.Parsing.{IsIn, IsFirstFault, Fails}
 use Rattle.lang.specs.Profile.{Profile}
-use Rattle.lang.specs.Tree.{Expr, Constant, Function}
+use Rattle.lang.specs.Tree.{Function}
 
 reflexive_at : (n c : ℕ) → (if nat_lt n n then true else (if nat_lt n n then false else nat_le c c)) ≡ true
 reflexive_at n c = grind (arith, nat_tests)

@@ -1,7 +1,7 @@
 -- The order of faults, and the first of a list.
-use Rattle.std.proofs.Common.{◌≡◌, ℕ, ◌+◌, ◌<◌, ◌≤◌, ◌⊎◌, List, [], ◌∷◌, ◌++◌, refl, sym, ap, ◌∙◌, subst, inl, inr, Bool, true, false, arith, length, lt-ltb, le-leb}
+use Rattle.std.proofs.Common.{◌≡◌, ℕ, ◌<◌, ◌≤◌, ◌⊎◌, List, [], ◌∷◌, refl, sym, ap, ◌∙◌, subst, inl, inr, Bool, true, false, arith, length}
 use Rattle.std.proofs.lemmas.Bool.Decides.{nat_tests}
-use Rattle.std.specs.Prelude.{nat_lt, nat_le, if◌then◌else◌, Option, Some, None, slice_get}
+use Rattle.std.specs.Prelude.{nat_lt, nat_le, if◌then◌else◌, Some, slice_get}
 use Rattle.lang.specs.declared.diagnostics.Code.{Code}
 use Rattle.lang.specs.declared.diagnostics.Code.TheVariants as code
 use Rattle.lang.specs.Faults.{Fault, is_first, first_of, number_of}

@@ -1,8 +1,8 @@
 -- Stretches of a derivation one behind another, and how a first fault goes back along one.
-use Rattle.std.proofs.Common.{◌≡◌, ℕ, zero, suc, ◌+◌, ◌⊎◌, List, [], ◌∷◌, ◌++◌, refl, sym, ap, ◌∙◌, subst, zero-add, suc-add, add-suc, append-nil, append_assoc, inl, inr, Bool, true, false, arith, ◌≤◌, ◌<◌}
+use Rattle.std.proofs.Common.{◌≡◌, ℕ, zero, suc, ◌+◌, List, [], ◌∷◌, ◌++◌, refl, sym, ap, ◌∙◌, subst, zero-add, suc-add, append_assoc}
 use Rattle.lang.specs.declared.diagnostics.Diagnostic.{Diagnostic}
 use Rattle.lang.specs.Derivation.{State, stepped, run}
-use Rattle.lang.specs.Faults.{Fault, faults_at, faults_in, is_first}
+use Rattle.lang.specs.Faults.{Fault, faults_at, faults_in}
 use Rattle.lang.specs.Parsing.{IsIn, IsFault, IsFirstFault, Fails, Passes}
 use Rattle.lang.specs.Profile.{Profile}
 

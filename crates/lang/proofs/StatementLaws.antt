@@ -1,9 +1,8 @@
 -- What the parse functions of statements derive.
-use Rattle.std.proofs.Common.{◌≡◌, ℕ, ◌+◌, List, [], ◌∷◌, ◌++◌, refl, sym, ap, ◌∙◌, subst, Bool, true, false, arith, append_assoc, append-nil}
-use Rattle.std.specs.Prelude.{Option, Some, None}
+use Rattle.std.proofs.Common.{◌≡◌, ℕ, List, [], ◌∷◌, ◌++◌, refl, sym, ap, ◌∙◌, subst, true, false, append_assoc, append-nil}
+use Rattle.std.specs.Prelude.{Option, Some}
 use Rattle.tokens.specs.Reading.{Reading, shown}
 use Rattle.tokens.specs.declared.lexemes.Lexeme.{Lexeme}
-use Rattle.tokens.specs.declared.lexemes.Mark.{Mark}
 use Rattle.tokens.specs.declared.lexemes.Mark.TheVariants as mark
 use Rattle.tokens.specs.declared.lexemes.Token.{Token}
 use Rattle.tokens.specs.declared.lexemes.Token.TheVariants as token
@@ -11,14 +10,14 @@ use Rattle.lang.specs.declared.diagnostics.Diagnostic.{Diagnostic}
 use Rattle.lang.specs.Actions.{Action, Chop, expr_actions, body_actions}
 use Rattle.lang.specs.Building.{Meaning, AppendsAll}
 use Rattle.lang.specs.Compiled.{diagnostic}
-use Rattle.lang.specs.Derivation.{state, Value, AnExpr, ABody, next_of}
+use Rattle.lang.specs.Derivation.{state, AnExpr, ABody}
 use Rattle.lang.specs.Faults.{misfit_code}
-use Rattle.lang.specs.Grammar.{Item, Exactly, Part, Make, Evaluate, Symbol, Expression, Statements, Statement, choice, is_fault, is_mark, opens_statement, same_mark}
+use Rattle.lang.specs.Grammar.{Exactly, Part, Make, Evaluate, Expression, Statements, Statement, choice, is_fault, is_mark, opens_statement}
 use Rattle.lang.specs.Parsing.{AddsBody, AddsExpr, Passes, Derives, DerivesMark, FailsAt, FailsBody, FailsFrom}
 use Rattle.lang.specs.Tree.{Body, Done, Alone, Expr, Function, join}
 use Rattle.lang.proofs.ExpressionLaws.{mark_is}
 use Rattle.lang.proofs.Firsts.{no_part}
-use Rattle.lang.proofs.Runs.{here, then}
+use Rattle.lang.proofs.Runs.{here}
 use Rattle.lang.proofs.Steps.{part, make}
 use Rattle.lang.proofs.Stretches.{Leads, stand, joined, under, fails_then}
 use Rattle.lang.proofs.Told.{Begins, begins}

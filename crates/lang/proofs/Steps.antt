@@ -1,16 +1,14 @@
 -- Single steps of a derivation, by the item in front.
-use Rattle.std.proofs.Common.{◌≡◌, ℕ, zero, suc, pos, ◌+◌, ◌<◌, ◌≤◌, ◌⊎◌, List, [], ◌∷◌, ◌++◌, refl, sym, ap, ◌∙◌, subst, zero-add, append-nil, inl, inr, Bool, true, false, arith, length, drop, cond}
-use Rattle.std.specs.Prelude.{Option, Some, None, unwrap_or, nat_le, nat_lt}
+use Rattle.std.proofs.Common.{◌≡◌, ℕ, pos, List, [], ◌∷◌, ◌++◌, refl, ap, true, false, drop}
+use Rattle.std.specs.Prelude.{Some}
 use Rattle.tokens.specs.declared.lexemes.Lexeme.{Lexeme}
 use Rattle.tokens.specs.declared.lexemes.Mark.{Mark}
-use Rattle.lang.specs.declared.diagnostics.Diagnostic.{Diagnostic}
-use Rattle.lang.specs.Compiled.{line_of, diagnostic}
-use Rattle.lang.specs.Derivation.{State, state, Value, AnExpr, ABody, stepped, step, step_of, run, next_of, made, defined, constant_value}
-use Rattle.lang.specs.Faults.{Fault, fault, faults_at, faults_of, faults_in, is_first, item_faults, level_faults, length_faults, misfits, misfit, misfit_code, levels, number_of, most_levels, is_too_long}
-use Rattle.lang.specs.Grammar.{Item, Exactly, AName, AConstant, AnEnd, Part, Make, Shut, Symbol, Rule, Define, choice, is_mark, is_fault}
-use Rattle.lang.specs.Parsing.{IsIn, IsFault, IsFirstFault, Fails, Passes}
+use Rattle.lang.specs.Derivation.{State, state, Value, AnExpr, stepped, next_of, made, defined, constant_value}
+use Rattle.lang.specs.Faults.{faults_at, item_faults, level_faults}
+use Rattle.lang.specs.Grammar.{Item, Exactly, AConstant, Part, Make, Shut, Symbol, Rule, choice, is_mark, is_fault}
+use Rattle.lang.specs.Parsing.{Passes}
 use Rattle.lang.specs.Profile.{Profile}
-use Rattle.lang.specs.Tree.{Expr, Constant, Function}
+use Rattle.lang.specs.Tree.{Constant, Function}
 
 pub one : (profile : Profile) (s t : State) → faults_at profile s ≡ [] → stepped s ≡ t → Passes profile s t
 one profile s t clean leads = record { steps = 1; leads = leads; clean = ap (λ faults. faults ++ []) clean }

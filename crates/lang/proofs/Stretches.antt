@@ -1,17 +1,17 @@
 -- Stretches of the derivation between two places of a cursor.
-use Rattle.std.proofs.Common.{◌≡◌, ℕ, zero, suc, ◌+◌, List, [], ◌∷◌, ◌++◌, refl, sym, ap, ◌∙◌, subst, Bool, true, false, arith, drop, append_assoc}
-use Rattle.std.specs.Prelude.{Option, Some, None}
+use Rattle.std.proofs.Common.{◌≡◌, ℕ, List, ◌∷◌, ◌++◌, sym, ap, ◌∙◌, subst, true, append_assoc}
+use Rattle.std.specs.Prelude.{Option, Some}
 use Rattle.tokens.specs.Reading.{Reading, shown}
 use Rattle.tokens.specs.declared.lexemes.Lexeme.{Lexeme}
 use Rattle.lang.specs.declared.diagnostics.Diagnostic.{Diagnostic}
 use Rattle.lang.specs.Compiled.{line_of, diagnostic}
-use Rattle.lang.specs.Derivation.{State, state, Value, next_of}
+use Rattle.lang.specs.Derivation.{state, Value, next_of}
 use Rattle.lang.specs.Faults.{misfit_code, levels}
 use Rattle.lang.specs.Grammar.{Item, is_fault}
-use Rattle.lang.specs.Parsing.{Fails, Passes, Derives, FailsAt, GoesPast, StopsAt}
+use Rattle.lang.specs.Parsing.{Passes, Derives, FailsAt, GoesPast, StopsAt}
 use Rattle.lang.specs.Profile.{Profile}
 use Rattle.lang.specs.Tree.{Function}
-use Rattle.lang.proofs.Runs.{here, then, back}
+use Rattle.lang.proofs.Runs.{then, back}
 use Rattle.lang.proofs.Firsts.{at_fault}
 use Rattle.lang.proofs.Told.{Begins, begins}
 

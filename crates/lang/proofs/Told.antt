@@ -1,22 +1,18 @@
 -- The tokens that a cursor shows, and what follows of the derivation at each.
-use Rattle.std.proofs.Common.{◌≡◌, ℕ, zero, suc, ◌+◌, List, [], ◌∷◌, ◌++◌, refl, sym, ap, ◌∙◌, subst, Bool, true, false, arith, drop}
-use Rattle.std.specs.Prelude.{Option, Some, None, IsTrue, if◌then◌else◌}
+use Rattle.std.proofs.Common.{◌≡◌, ℕ, List, [], ◌∷◌, sym, ap, ◌∙◌, subst, Bool, true, false}
+use Rattle.std.specs.Prelude.{Option, Some, None}
 use Rattle.tokens.specs.Reading.{Reading, shown}
-use Rattle.tokens.specs.Tokens.{is_last}
 use Rattle.tokens.specs.declared.lexemes.Lexeme.{Lexeme}
 use Rattle.tokens.specs.declared.lexemes.Mark.{Mark}
-use Rattle.tokens.specs.declared.lexemes.Token.{Token}
 use Rattle.lang.specs.declared.diagnostics.Diagnostic.{Diagnostic}
 use Rattle.lang.specs.declared.diagnostics.ParseFault.{ParseFault}
 use Rattle.lang.specs.declared.diagnostics.ParseFault.TheVariants as refusal
 use Rattle.lang.specs.Compiled.{line_of, diagnostic}
-use Rattle.lang.specs.Derivation.{State, state, Value, next_of}
-use Rattle.lang.specs.Faults.{misfit_code, levels}
-use Rattle.lang.specs.Grammar.{Item, Exactly, is_mark, is_fault}
-use Rattle.lang.specs.Parsing.{Fails, Passes, Derives, DerivesMark, FailsAt, FailsFrom, GoesPast, StopsAt, Refused}
-use Rattle.lang.specs.Profile.{Profile}
-use Rattle.lang.specs.Tree.{Function}
-use Rattle.lang.proofs.Runs.{then, back}
+use Rattle.lang.specs.Derivation.{state, next_of}
+use Rattle.lang.specs.Faults.{misfit_code}
+use Rattle.lang.specs.Grammar.{Exactly, is_mark, is_fault}
+use Rattle.lang.specs.Parsing.{Passes, DerivesMark, FailsFrom, GoesPast, StopsAt, Refused}
+use Rattle.lang.proofs.Runs.{back}
 use Rattle.lang.proofs.Steps.{mark}
 use Rattle.lang.proofs.Firsts.{at_fault, no_mark}
 

@@ -1,16 +1,15 @@
 -- What the derivation of a source leads to is what the source is.
-use Rattle.std.proofs.Common.{◌≡◌, ℕ, zero, suc, ◌+◌, ◌-◌, ◌<◌, ◌≤◌, ◌⊎◌, List, [], ◌∷◌, ◌++◌, refl, sym, ap, ◌∙◌, subst, inl, inr, Bool, true, false, arith, length, drop, append_assoc, append-nil, length-append, le-add_right, le_refl, add-one, ⊎_elim, ap₂}
-use Rattle.std.specs.Prelude.{Option, Some, None, Result, Ok, Err, unwrap_or, if◌then◌else◌}
+use Rattle.std.proofs.Common.{◌≡◌, ℕ, zero, suc, ◌+◌, ◌⊎◌, List, [], ◌∷◌, ◌++◌, refl, sym, ap, ◌∙◌, subst, inl, inr, Bool, true, false, arith, length, drop, append_assoc, length-append, le-add_right, le_refl, add-one, ⊎_elim, ap₂}
+use Rattle.std.specs.Prelude.{Option, Some, None, Err, unwrap_or, if◌then◌else◌}
 use Rattle.tokens.specs.declared.lexemes.Lexeme.{Lexeme}
 use Rattle.lang.specs.declared.diagnostics.Diagnostic.{Diagnostic}
-use Rattle.lang.specs.declared.diagnostics.Code.{Code}
 use Rattle.lang.specs.Compiled.{compiled_tokens, verdict, file_of, enough, diagnostic, line_of}
-use Rattle.lang.specs.Derivation.{State, state, Value, start, step, step_of, stepped, run, next_of, matched, replaced, constant_matched}
-use Rattle.lang.specs.Faults.{Fault, faults_at, faults_in, is_first, first_of}
+use Rattle.lang.specs.Derivation.{State, Value, start, step, step_of, stepped, run, next_of, matched, replaced, constant_matched}
+use Rattle.lang.specs.Faults.{Fault, faults_at, faults_in, first_of}
 use Rattle.lang.specs.Grammar.{Item, Exactly, AName, AConstant, AnEnd, Part, Make, Shut, Production, is_fault}
 use Rattle.lang.specs.Parsing.{IsIn, IsFault, IsFirstFault, Fails, Passes}
 use Rattle.lang.specs.Profile.{Profile}
-use Rattle.lang.specs.Tree.{File, Function}
+use Rattle.lang.specs.Tree.{Function}
 use Rattle.lang.specs.Weight.{weight}
 use Rattle.lang.proofs.Endings.{IsFinal, ends, stays_final, final_stays}
 use Rattle.lang.proofs.Firsts.{at_rest}

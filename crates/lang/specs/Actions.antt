@@ -1,5 +1,5 @@
 -- What a builder is told of a program, in the order of its tokens.
-use Rattle.std.specs.Prelude.{ℕ, ℤ, pos, ◌+◌, List, [], ◌∷◌, ◌++◌, length, if◌then◌else◌, sum_by}
+use Rattle.std.specs.Prelude.{ℕ, ℤ, pos, ◌+◌, List, [], ◌∷◌, ◌++◌, length, if◌then◌else◌}
 use Rattle.lang.specs.declared.operators.Op.{Op}
 use Rattle.lang.specs.Operators.{is_logic}
 use Rattle.lang.specs.Tree.{Expr, Constant, Binary, Body, Done, Alone, Function, File}

@@ -1,5 +1,5 @@
 -- What a builder's calls do to the lists of actions that it stands for.
-use Rattle.std.specs.Prelude.{ℕ, ◌≡◌, ◌+◌, ◌<◌, ◌≤◌, List, [], ◌∷◌, ◌++◌, Bool, Result, Ok, Err, IsTrue}
+use Rattle.std.specs.Prelude.{◌+◌, ◌<◌, ◌≤◌, List, [], ◌∷◌, ◌++◌, Bool, Result, Ok, Err, IsTrue}
 use Rattle.lang.specs.declared.build.BuildFault.{BuildFault}
 use Rattle.lang.specs.declared.build.BuildFault.TheVariants as fault
 use Rattle.lang.specs.Actions.{Action, code_length}

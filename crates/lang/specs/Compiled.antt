@@ -5,7 +5,7 @@ use Rattle.tokens.specs.declared.lexemes.Lexeme.{Lexeme}
 use Rattle.lang.specs.declared.diagnostics.Code.{Code}
 use Rattle.lang.specs.declared.diagnostics.Code.TheVariants as code
 use Rattle.lang.specs.declared.diagnostics.Diagnostic.{Diagnostic}
-use Rattle.lang.specs.Derivation.{State, start, run}
+use Rattle.lang.specs.Derivation.{start, run}
 use Rattle.lang.specs.Faults.{Fault, faults_in, first_of}
 use Rattle.lang.specs.Profile.{Profile}
 use Rattle.lang.specs.Tree.{Function, File}

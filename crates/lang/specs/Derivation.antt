@@ -1,11 +1,10 @@
 -- The leftmost derivation of a file, step by step, and the trees that it makes.
-use Rattle.std.specs.Prelude.{ℕ, pos, ◌+◌, ◌≡◌, List, [], ◌∷◌, ◌++◌, Bool, true, false, Option, Some, None, length, drop, codes, unwrap_or, zero, suc, if◌then◌else◌}
-use Rattle.std.specs.Option.{option_map_or}
+use Rattle.std.specs.Prelude.{ℕ, pos, List, [], ◌∷◌, ◌++◌, Bool, true, false, Option, Some, None, drop, codes, unwrap_or, zero, suc, if◌then◌else◌}
 use Rattle.tokens.specs.declared.lexemes.Lexeme.{Lexeme}
 use Rattle.tokens.specs.declared.lexemes.Token.{Token}
 use Rattle.tokens.specs.declared.lexemes.Token.TheVariants as token
 use Rattle.lang.specs.Tree.{Expr, Constant, Binary, Body, Done, Alone, join, Function}
-use Rattle.lang.specs.Grammar.{Symbol, Source, Item, Exactly, AName, AConstant, AnEnd, Part, Make, Shut, Rule, Operate, Empty, Evaluate, Define, Production, choice, is_end, is_fault, is_mark}
+use Rattle.lang.specs.Grammar.{Source, Item, Exactly, AName, AConstant, AnEnd, Part, Make, Shut, Rule, Operate, Empty, Evaluate, Define, Production, choice, is_end, is_fault, is_mark}
 
 -- a tree that is not yet part of a larger one
 pub data Value : Type 0 where

@@ -1,5 +1,5 @@
 -- The faults of a source, and the first of them.
-use Rattle.std.specs.Prelude.{ℕ, zero, suc, pos, ◌+◌, ◌<◌, ◌≤◌, ◌≡◌, ◌⊎◌, List, [], ◌∷◌, ◌++◌, Bool, true, false, Option, Some, None, length, nat_lt, nat_le, if◌then◌else◌}
+use Rattle.std.specs.Prelude.{ℕ, zero, suc, ◌+◌, List, [], ◌∷◌, ◌++◌, Bool, true, false, Option, Some, None, length, nat_lt, nat_le, if◌then◌else◌}
 use Rattle.tokens.specs.declared.lexemes.Flaw.{Flaw}
 use Rattle.tokens.specs.declared.lexemes.Flaw.TheVariants as flaw
 use Rattle.tokens.specs.declared.lexemes.Lexeme.{Lexeme}
@@ -9,10 +9,10 @@ use Rattle.tokens.specs.declared.lexemes.Word.TheVariants as word
 use Rattle.lang.specs.declared.diagnostics.Code.{Code}
 use Rattle.lang.specs.declared.diagnostics.Code.TheVariants as code
 use Rattle.lang.specs.Actions.{code_length, functions_actions}
-use Rattle.lang.specs.Derivation.{State, Value, ABody, step_of, stepped, run, next_of, main_function}
+use Rattle.lang.specs.Derivation.{State, Value, ABody, step_of, stepped, next_of, main_function}
 use Rattle.lang.specs.Grammar.{Item, Part, Make, Shut, Define, Symbol, is_fault, opens}
 use Rattle.lang.specs.Profile.{Profile}
-use Rattle.lang.specs.Tree.{Function, Body}
+use Rattle.lang.specs.Tree.{Function}
 
 -- the most levels that are open at once
 unfoldable pub most_levels : ℕ

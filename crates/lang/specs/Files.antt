@@ -7,7 +7,7 @@ use Rattle.lang.specs.declared.diagnostics.Diagnostic.{Diagnostic}
 use Rattle.lang.specs.Actions.{Action, Finish, actions, body_actions, code_length, last_return}
 use Rattle.lang.specs.Building.{Meaning, AppendsAll}
 use Rattle.lang.specs.Compiled.{compiled, compiled_tokens, diagnostic}
-use Rattle.lang.specs.Derivation.{State, state, Value, ABody}
+use Rattle.lang.specs.Derivation.{state, Value, ABody}
 use Rattle.lang.specs.Grammar.{Item, AnEnd, Exactly, Define, FunctionBlock, Make, Part, Shut, Source}
 use Rattle.lang.specs.Parsing.{Derives, FailsAt, Fails, Passes}
 use Rattle.lang.specs.Pools.{Names, names_of}

@@ -6,12 +6,12 @@ use Rattle.lang.specs.declared.diagnostics.Diagnostic.{Diagnostic}
 use Rattle.lang.specs.declared.diagnostics.ParseFault.{ParseFault}
 use Rattle.lang.specs.declared.diagnostics.ParseFault.TheVariants as refusal
 use Rattle.lang.specs.declared.operators.Op.{Op}
-use Rattle.lang.specs.Actions.{Action, Apply, body_actions, expr_actions, middle}
+use Rattle.lang.specs.Actions.{Apply, body_actions, expr_actions, middle}
 use Rattle.lang.specs.Building.{Meaning, AppendsAll}
 use Rattle.lang.specs.Compiled.{diagnostic, line_of}
 use Rattle.lang.specs.Derivation.{State, state, run, next_of, Value, AnExpr, ABody}
 use Rattle.lang.specs.Faults.{Fault, faults_at, faults_in, is_first, levels, misfit_code}
-use Rattle.lang.specs.Grammar.{Item, Exactly, Part, Primary, Symbol, Tail, is_fault}
+use Rattle.lang.specs.Grammar.{Item, Exactly, Part, Primary, Tail, is_fault}
 use Rattle.lang.specs.Profile.{Profile}
 use Rattle.lang.specs.Tree.{Expr, Binary, Body, join, Function}
 

@@ -1,7 +1,7 @@
 -- How many more steps a derivation can make at most.
 use Rattle.std.specs.Prelude.{ℕ, ◌+◌, ◌-◌, ◌*◌, List, [], ◌∷◌, length}
 use Rattle.lang.specs.Derivation.{State}
-use Rattle.lang.specs.Grammar.{Item, Exactly, AName, AConstant, AnEnd, Part, Make, Shut, Symbol, Source, FunctionBlock, Statements, Statement, Expression, Level, Tail, Primary}
+use Rattle.lang.specs.Grammar.{Item, AnEnd, Part, Make, Shut, Symbol, Source, FunctionBlock, Statements, Statement, Expression, Level, Tail, Primary}
 
 -- each item costs a step
 abbrev pub cost : Item → ℕ

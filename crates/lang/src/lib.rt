@@ -11,7 +11,7 @@ mod pools;
 mod statements;
 
 pub use build::{Build, BuildFault};
-pub use diagnostics::{Code, Diagnostic, ParseFault, code_of};
+pub use diagnostics::{Code, Diagnostic, ParseFault};
 pub use files::parse;
 pub use operators::Op;
 pub use pools::{Function, MOST_NAMES, Pools};

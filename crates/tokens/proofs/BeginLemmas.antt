@@ -1,14 +1,13 @@
 -- Where a token begins.
-use Rattle.std.proofs.Common.{◌≡◌, ℕ, zero, suc, ◌+◌, ◌-◌, ◌*◌, ◌<◌, ◌≤◌, Bool, true, false, not, cond, eqb, leb, Option, Some, None, List, [], ◌∷◌, ◌++◌, length, take, drop, fold, refl, sym, ap, ◌∙◌, subst, arith, ◌≢◌}
+use Rattle.std.proofs.Common.{◌≡◌, ℕ, ◌+◌, ◌-◌, ◌*◌, Bool, true, false, not, cond, eqb, Option, Some, None, List, [], ◌∷◌, ◌++◌, length, drop, refl, sym, ap, ◌∙◌, subst, arith, ◌≢◌}
 use Rattle.std.specs.Prelude.{slice_get, ◌&&◌}
-use Rattle.std.specs.List.{prefix_len}
-use Rattle.std.specs.Option.{option_map, option_or, option_eq}
+use Rattle.std.specs.Option.{option_or, option_eq}
 use Rattle.std.proofs.lemmas.Bool.{eqb-true, ne_eqb}
 use Rattle.tokens.specs.Characters.{is_blank, is_letter, is_digit, is_name_byte}
 use Rattle.tokens.specs.Marks.{longest_mark, spelling, mark_of}
-use Rattle.tokens.specs.Front.{Front, Space, run, comment, mark, up_to_close, begins_with, name_token, constant_token, front}
-use Rattle.tokens.specs.Tokens.{FitsToken, Ahead, behind_byte, line_behind, passed, at_end, placed, closing, last_lexeme, followed_by, is_last, cut_front, lexemes}
-use Rattle.tokens.specs.Window.{Held, ahead, behind_first, IsAtHandOrEnd}
+use Rattle.tokens.specs.Front.{Front, run, comment, mark, up_to_close, begins_with, name_token, constant_token, front}
+use Rattle.tokens.specs.Tokens.{FitsToken, Ahead, behind_byte, line_behind, passed, last_lexeme, followed_by, is_last, cut_front, lexemes}
+use Rattle.tokens.specs.Window.{Held, ahead, IsAtHandOrEnd}
 use Rattle.tokens.specs.Lexing.{to_read, followed, ending, in_run, in_name, name_going_on, in_constant, constant_going_on, in_mark, grown, in_comment, closed_at}
 use Rattle.tokens.specs.declared.lexemes.Mark.{Mark}
 use Rattle.tokens.specs.declared.lexemes.Mark.TheVariants.{Slash}
@@ -19,7 +18,7 @@ use Rattle.tokens.specs.declared.lexemes.Lexeme.{Lexeme}
 use Rattle.tokens.proofs.LexemesLemmas.{lexemes-front, letter-is_name_byte}
 use Rattle.tokens.proofs.TokenLemmas.{chosen, other, run-takes, no_line}
 use Rattle.tokens.proofs.MarkLemmas.{mark_of-spelled, mark-lexeme, none-of-two, none-of-three, none-of-four}
-use Rattle.tokens.proofs.ToRead.{to_read-here, to_read-pass, first-ahead, none-ahead}
+use Rattle.tokens.proofs.ToRead.{to_read-here, first-ahead, none-ahead}
 
 abbrev here : ℕ → ℕ → List ℕ → Bool → Ahead
 here line place bytes too_long = record { line = line; place = place; bytes = bytes; too_long = too_long }
@@ -163,7 +162,7 @@ bad-begins b no_blank no_letter no_digit no_slash h a rest e =
     ∙ sym (lexemes-by b (mark None) a rest e (front-mark b rest no_blank no_letter no_digit no_slash ∙ ap mark (longest-none b rest h)))
 
 -- behind a `/` on this line
-pub in_slash : ℕ → Ahead → List Lexeme
+unfoldable pub in_slash : ℕ → Ahead → List Lexeme
 in_slash line a = cond (begins_with 42 a.bytes) (in_comment line (behind_byte a)) (in_mark Slash a)
 
 slash-star : (line place : ℕ) (rest : List ℕ) (too_long : Bool) → cut_front (comment (up_to_close rest)) (here line place (47 ∷ 42 ∷ rest) too_long) lexemes ≡ in_comment line (behind_byte (behind_byte (here line place (47 ∷ 42 ∷ rest) too_long)))

@@ -1,5 +1,5 @@
 -- Comments, a byte at a time.
-use Rattle.std.proofs.Common.{◌≡◌, ℕ, zero, suc, ◌+◌, ◌-◌, ◌<◌, ◌≤◌, Bool, true, false, not, cond, eqb, Option, Some, None, List, [], ◌∷◌, ◌++◌, length, refl, sym, ap, ◌∙◌, subst, arith, ◌≢◌}
+use Rattle.std.proofs.Common.{◌≡◌, ℕ, zero, suc, ◌+◌, ◌≤◌, Bool, true, false, not, cond, eqb, Option, Some, None, List, [], ◌∷◌, refl, sym, ap, ◌∙◌, subst, arith, ◌≢◌}
 use Rattle.std.specs.Prelude.{slice_get, ◌&&◌}
 use Rattle.std.specs.List.{prefix_len}
 use Rattle.std.specs.Option.{option_map, option_eq}
@@ -20,7 +20,7 @@ abbrev here : ℕ → ℕ → List ℕ → Bool → Ahead
 here line place bytes too_long = record { line = line; place = place; bytes = bytes; too_long = too_long }
 
 -- behind a `*` inside a comment
-pub in_star : ℕ → Ahead → List Lexeme
+unfoldable pub in_star : ℕ → Ahead → List Lexeme
 in_star line a = cond (begins_with 47 a.bytes) (lexemes (behind_byte a)) (in_comment line a)
 
 goes_on : (close : Option ℕ) (began line place b : ℕ) (rest : List ℕ) (too_long : Bool) → closed_at close began (behind_byte (here line place (b ∷ rest) too_long)) ≡ closed_at (option_map suc close) began (here line place (b ∷ rest) too_long)

@@ -1,12 +1,11 @@
 -- The laws of the tokens of what lies ahead: a blank or a comment is skipped, a token is given.
-use Rattle.std.proofs.Common.{◌≡◌, ℕ, zero, suc, ◌+◌, ◌-◌, ◌<◌, ◌≤◌, Bool, true, false, not, cond, eqb, Option, Some, None, List, [], ◌∷◌, ◌++◌, length, take, drop, refl, sym, ap, ◌∙◌, subst, arith, ◌≢◌, lit<}
+use Rattle.std.proofs.Common.{◌≡◌, ℕ, zero, suc, ◌+◌, ◌-◌, ◌<◌, Bool, true, false, cond, Option, Some, None, List, [], ◌∷◌, length, drop, refl, ap, arith, lit<}
 use Rattle.std.specs.Prelude.{◌||◌}
 use Rattle.std.specs.List.{prefix_len}
-use Rattle.std.specs.Option.{option_map}
 use Rattle.tokens.specs.Characters.{is_blank, is_letter, is_digit, is_name_byte}
-use Rattle.tokens.specs.Marks.{longest_mark, spelling}
-use Rattle.tokens.specs.Front.{Front, Nothing, Space, Unclosed, Sign, front, run, comment, mark, up_to_close, begins_with, name_token, constant_token}
-use Rattle.tokens.specs.Tokens.{Ahead, behind_byte, passed, at_end, placed, closing, last_lexeme, followed_by, is_last, cut, cut_front, lexemes}
+use Rattle.tokens.specs.Marks.{longest_mark}
+use Rattle.tokens.specs.Front.{Front, Nothing, Space, Unclosed, Sign, front, run, comment, mark, up_to_close, name_token, constant_token}
+use Rattle.tokens.specs.Tokens.{Ahead, behind_byte, passed, placed, followed_by, cut, cut_front, lexemes}
 use Rattle.tokens.specs.declared.lexemes.Mark.{Mark}
 use Rattle.tokens.specs.declared.lexemes.Token.{Token}
 use Rattle.tokens.specs.declared.lexemes.Lexeme.{Lexeme}
@@ -16,7 +15,7 @@ abbrev here : ℕ → ℕ → List ℕ → Bool → Ahead
 here line place bytes too_long = record { line = line; place = place; bytes = bytes; too_long = too_long }
 
 -- a piece has at least one byte
-abbrev IsPiece : Front → Type 0
+abbrev pub IsPiece : Front → Type 0
 IsPiece Nothing = Unit {0}
 IsPiece Unclosed = Unit {0}
 IsPiece (Space count) = 0 < count
@@ -48,7 +47,7 @@ letter-is_name_byte b e = by (is_letter b) e
     by true e = refl
     by false e = absurd cc
 
-front-is_piece : (bytes : List ℕ) → IsPiece (front bytes)
+pub front-is_piece : (bytes : List ℕ) → IsPiece (front bytes)
 front-is_piece [] = tt
 front-is_piece (b ∷ rest) =
     either-is_piece (is_blank b) _ _ (λ e. lit< tt) (λ n.
@@ -63,7 +62,7 @@ length-behind_byte a = by a.line a.place a.bytes a.too_long
     by line place [] t = omega arith
     by line place (x ∷ xs) t = omega arith
 
-length-passed : (n : ℕ) (a : Ahead) → length (passed n a).bytes ≡ length a.bytes - n
+pub length-passed : (n : ℕ) (a : Ahead) → length (passed n a).bytes ≡ length a.bytes - n
 length-passed zero a = omega arith
 length-passed (suc n) a = omega (arith, length-passed n (behind_byte a), length-behind_byte a)
 

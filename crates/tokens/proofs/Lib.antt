@@ -1,10 +1,12 @@
 pub mod Examples
 pub mod SourceLemmas
 pub mod WindowLemmas
+pub mod TakenLemmas
 pub mod ToRead
 pub mod LexemesLemmas
 pub mod MarkLemmas
 pub mod TokenLemmas
 pub mod CommentLemmas
 pub mod BeginLemmas
+pub mod EndLemmas
 pub mod ReadingLemmas

@@ -1,12 +1,15 @@
 -- What a cursor shows, when it is opened and as it goes on.
-use Rattle.std.proofs.Common.{◌≡◌, ℕ, ◌+◌, ◌-◌, ◌<◌, ◌≤◌, Bool, true, false, cond, Option, Some, None, List, [], ◌∷◌, drop, refl, sym, ap, ◌∙◌, arith, lit<, lit≤}
+use Rattle.std.proofs.Common.{◌≡◌, ℕ, ◌+◌, ◌-◌, ◌<◌, ◌≤◌, Bool, true, false, cond, Option, Some, None, List, [], ◌∷◌, drop, refl, sym, ap, ◌∙◌, arith, subst}
 use Rattle.std.specs.Option.{option_map}
 use Rattle.std.proofs.lemmas.Option.{same_Some}
-use Rattle.tokens.specs.Tokens.{is_last, followed_by, lexemes, tokens}
+use Rattle.tokens.specs.Source.{source}
+use Rattle.tokens.specs.Tokens.{is_last, followed_by, lexemes, from_start, tokens}
+use Rattle.tokens.specs.Ends.{IsRising}
 use Rattle.tokens.specs.Window.{Held, ahead, untouched}
 use Rattle.tokens.specs.Lexing.{to_read, followed}
-use Rattle.tokens.specs.Reading.{Reading, shown, unread, remaining}
+use Rattle.tokens.specs.Reading.{Reading, shown, unread, remaining, reach_of}
 use Rattle.tokens.specs.declared.lexemes.Lexeme.{Lexeme}
+use Rattle.tokens.proofs.EndLemmas.{lexemes-nonempty, lexemes-rising}
 
 abbrev reading : Lexeme → Lexeme → Held → Reading
 reading next after behind = record { next = next; after = after; behind = behind }
@@ -72,3 +75,40 @@ remaining-ended next after after' new old n a = by (is_last next.token) (is_last
     by true t n a = absurd cc
     by false true n a = omega arith
     by false false n a = absurd cc
+
+-- where a read stopped that failed
+reach-first : (place : ℕ) (first : Lexeme) (others : List Lexeme) → IsRising place (first ∷ others) → first.end ≤ reach_of (first ∷ others)
+reach-first place first [] r = omega arith
+reach-first place first (x ∷ others) r = r.1.0
+
+pub opened-stopped : (bytes : List ℕ) (n : ℕ) (window : Held) (told : Option (List ℕ)) → window ≡ untouched → told ≡ Some bytes → ((first : Lexeme) (others : List Lexeme) → to_read lexemes window told ≡ Some (first ∷ others) → n ≤ first.end) → n ≤ reach_of (tokens bytes)
+unfolding tokens
+opened-stopped bytes n window told w t f =
+    let some = lexemes-nonempty (from_start (source bytes)) in
+    let here = ap (λ h. to_read lexemes h told) w ∙ ap (to_read lexemes untouched) t ∙ shown-opened (Some bytes) in
+    let rising = subst (IsRising 0) some.2 (lexemes-rising (from_start (source bytes))) in
+    subst (λ (xs : List Lexeme). n ≤ reach_of xs) (sym some.2)
+    (omega (arith, f some.0 some.1 (here ∙ ap Some some.2), reach-first 0 some.0 some.1 rising))
+
+pub second-stopped : (bytes : List ℕ) (n : ℕ) (next : Lexeme) (first second : Held) (told told' : Option (List ℕ)) → first ≡ untouched → told ≡ Some bytes → is_last next.token ≡ false → to_read (followed next) second told' ≡ to_read lexemes first told → ((x : Lexeme) (others : List Lexeme) → to_read lexemes second told' ≡ Some (x ∷ others) → n ≤ x.end) → n ≤ reach_of (tokens bytes)
+unfolding to_read followed
+second-stopped bytes n next first second told told' w t last e f =
+    by told' (e ∙ ap (λ h. to_read lexemes h told) w ∙ ap (to_read lexemes untouched) t ∙ shown-opened (Some bytes)) f
+  where
+    by : (told' : Option (List ℕ)) → to_read (followed next) second told' ≡ Some (tokens bytes) → ((x : Lexeme) (others : List Lexeme) → to_read lexemes second told' ≡ Some (x ∷ others) → n ≤ x.end) → n ≤ reach_of (tokens bytes)
+    by None e f = absurd cc
+    by (Some to_come) e f =
+        let some = lexemes-nonempty (ahead second to_come) in
+        let is : tokens bytes ≡ next ∷ some.0 ∷ some.1 = sym (same_Some _ _ e) ∙ ap (λ s. next ∷ cond s [] (lexemes (ahead second to_come))) last ∙ ap (λ xs. next ∷ xs) some.2 in
+        subst (λ (xs : List Lexeme). n ≤ reach_of xs) (sym is) (f some.0 some.1 (ap Some some.2))
+
+pub advanced-stopped : (n : ℕ) (next after : Lexeme) (window : Held) (told : Option (List ℕ)) → is_last next.token ≡ false → is_last after.token ≡ false → ((first : Lexeme) (others : List Lexeme) → to_read lexemes window told ≡ Some (first ∷ others) → n ≤ first.end) → (x : Lexeme) (others : List Lexeme) → shown (reading next after window) told ≡ Some (x ∷ others) → n ≤ reach_of others
+unfolding to_read unread
+advanced-stopped n next after window None l m f x others e = absurd cc
+advanced-stopped n next after window (Some to_come) l m f x others e =
+    let some = lexemes-nonempty (ahead window to_come) in
+    let is : next ∷ after ∷ some.0 ∷ some.1 ≡ x ∷ others =
+    sym (ap (λ s. next ∷ cond s [] (after ∷ cond (is_last after.token) [] (lexemes (ahead window to_come)))) l ∙ ap (λ s. next ∷ after ∷ cond s [] (lexemes (ahead window to_come))) m ∙ ap (λ xs. next ∷ after ∷ xs) some.2)
+    ∙ same_Some _ _ e in
+    let rest : after ∷ some.0 ∷ some.1 ≡ others = cc in
+    subst (λ (xs : List Lexeme). n ≤ reach_of xs) rest (f some.0 some.1 (ap Some some.2))

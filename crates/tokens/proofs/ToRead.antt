@@ -1,14 +1,13 @@
 -- What is still to be read, as a window goes on.
-use Rattle.std.proofs.Common.{◌≡◌, ℕ, zero, suc, ◌+◌, ◌-◌, ◌<◌, ◌≤◌, Bool, true, false, not, cond, eqb, Option, Some, None, List, [], ◌∷◌, ◌++◌, length, refl, sym, ap, ◌∙◌, subst, arith, ◌≢◌}
+use Rattle.std.proofs.Common.{◌≡◌, ℕ, Option, Some, None, List, [], ◌∷◌, ◌++◌, refl, sym, ap, ◌∙◌, ◌≢◌}
 use Rattle.std.specs.Prelude.{slice_get}
 use Rattle.std.specs.List.{prefix_len}
 use Rattle.tokens.specs.Tokens.{Ahead, behind_byte}
-use Rattle.tokens.specs.Window.{Held, seen, ahead, behind, behind_first, behind_plain, later, goes_on, IsAtHandOrEnd}
+use Rattle.tokens.specs.Window.{Held, seen, ahead, behind_first, later, IsAtHandOrEnd}
 use Rattle.tokens.specs.Lexing.{to_read}
 use Rattle.tokens.specs.declared.lexemes.Lexeme.{Lexeme}
 use Rattle.tokens.specs.declared.windows.Beyond.{Beyond}
 use Rattle.tokens.specs.declared.windows.Beyond.TheVariants.{Unread, Nothing, TooMuch}
-use Rattle.tokens.proofs.WindowLemmas.{held}
 
 -- the same is seen, so the same is to be read
 pub to_read-seen : (made : Ahead → List Lexeme) (new old : Held) (told' told : Option (List ℕ)) → seen new told' ≡ seen old told → to_read made new told' ≡ to_read made old told

@@ -1,18 +1,17 @@
 -- Blanks, comments, names, constants and marks, a byte at a time.
-use Rattle.std.proofs.Common.{◌≡◌, ℕ, zero, suc, ◌+◌, ◌-◌, ◌*◌, ◌<◌, ◌≤◌, Bool, true, false, not, cond, eqb, leb, Option, Some, None, List, [], ◌∷◌, ◌++◌, length, take, drop, fold, min, ◌⊎◌, inl, inr, refl, sym, ap, ◌∙◌, subst, arith, ◌≢◌, add-one, append_assoc, length-append}
-use Rattle.std.specs.Prelude.{◌||◌, ◌&&◌, slice_get}
+use Rattle.std.proofs.Common.{◌≡◌, ℕ, suc, ◌+◌, ◌-◌, ◌*◌, ◌<◌, ◌≤◌, Bool, true, false, cond, eqb, leb, Option, Some, None, List, [], ◌∷◌, ◌++◌, length, take, fold, min, ◌⊎◌, inl, inr, refl, sym, ap, ◌∙◌, subst, arith, append_assoc, length-append}
+use Rattle.std.specs.Prelude.{slice_get}
 use Rattle.std.specs.List.{prefix_len}
 use Rattle.std.specs.Option.{option_and_then}
 use Rattle.std.proofs.lemmas.Bool.{eqb-true, lt-leb, cases_lt}
-use Rattle.std.proofs.lemmas.Bool.Decides.{nat_tests}
-use Rattle.tokens.specs.Characters.{is_blank, is_letter, is_digit, is_name_byte}
-use Rattle.tokens.specs.Marks.{longest_mark, spelling, mark_of}
-use Rattle.tokens.specs.Front.{Front, Nothing, Space, Unclosed, Sign, front, run, comment, mark, up_to_close, begins_with, name_token, constant_token}
-use Rattle.tokens.specs.Tokens.{Ahead, behind_byte, line_behind, passed, at_end, placed, closing, last_lexeme, followed_by, is_last, cut_front, lexemes}
+use Rattle.tokens.specs.Characters.{is_blank, is_digit, is_name_byte}
+use Rattle.tokens.specs.Marks.{spelling, mark_of}
+use Rattle.tokens.specs.Front.{front, name_token}
+use Rattle.tokens.specs.Tokens.{Ahead, behind_byte, line_behind, passed, placed, last_lexeme, followed_by, cut_front, lexemes}
 use Rattle.tokens.specs.Window.{Held, ahead, behind_first, IsAtHandOrEnd}
-use Rattle.tokens.specs.Lexing.{to_read, followed, ending, in_run, in_name, name_going_on, in_constant, constant_going_on, value_token, in_mark, grown, in_comment, closed_at}
+use Rattle.tokens.specs.Lexing.{to_read, followed, ending, in_run, in_name, name_going_on, in_constant, constant_going_on, value_token, in_mark, grown}
 use Rattle.tokens.specs.declared.lexemes.Mark.{Mark}
-use Rattle.tokens.specs.declared.lexemes.Flaw.TheVariants.{BadCharacter, CommentNotClosed, NameTooLong, ConstantTooLarge}
+use Rattle.tokens.specs.declared.lexemes.Flaw.TheVariants.{NameTooLong}
 use Rattle.tokens.specs.declared.lexemes.Token.{Token}
 use Rattle.tokens.specs.declared.lexemes.Token.TheVariants as variant
 use Rattle.tokens.specs.declared.lexemes.Lexeme.{Lexeme}

@@ -1,6 +1,5 @@
 -- What a window shows after it was filled, and behind some of the bytes at hand.
-use Rattle.std.proofs.Common.{◌≡◌, ℕ, zero, suc, ◌+◌, ◌-◌, ◌<◌, ◌≤◌, Bool, true, false, not, cond, eqb, ltb, Option, Some, None, List, [], ◌∷◌, ◌++◌, length, take, drop, refl, sym, ap, ◌∙◌, subst, arith, add-one, add-zero, append-nil, length-append}
-use Rattle.std.proofs.lemmas.Grind.{common_steps}
+use Rattle.std.proofs.Common.{◌≡◌, ℕ, zero, suc, ◌+◌, ◌-◌, ◌<◌, ◌≤◌, Bool, true, false, not, cond, eqb, ltb, Option, Some, None, List, [], ◌∷◌, ◌++◌, length, take, drop, refl, sym, ap, ◌∙◌, subst, arith, append-nil, length-append}
 use Rattle.std.proofs.lemmas.Bool.{lt-ltb, le-ltb}
 use Rattle.std.proofs.lemmas.Bool.Decides.{nat_tests}
 use Rattle.std.proofs.lemmas.List.{take-append-le, take-append-drop, drop-drop, take-take, take_all, drop_all, length-take-le}
@@ -9,9 +8,9 @@ use Rattle.std.proofs.lemmas.List.Sums.{sum_by-cons, prefix_len-le-length}
 use Rattle.std.proofs.lemmas.Slice.{between_is, between_from_start}
 use Rattle.std.proofs.Math.Seq.{take-append-add}
 use Rattle.std.specs.List.{count_by, between, prefix_len}
-use Rattle.tokens.specs.Feed.{Gives, GivesFront}
+use Rattle.tokens.specs.Feed.{Gives}
 use Rattle.tokens.specs.Source.{source}
-use Rattle.tokens.specs.Tokens.{Ahead, line_behind}
+use Rattle.tokens.specs.Tokens.{line_behind}
 use Rattle.tokens.specs.Window.{Held, seen, behind, behind_plain, later, goes_on, Cuts}
 use Rattle.tokens.specs.declared.windows.Beyond.{Beyond}
 use Rattle.tokens.specs.declared.windows.Beyond.TheVariants.{Unread, Nothing, TooMuch}

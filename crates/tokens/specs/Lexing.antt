@@ -1,14 +1,13 @@
 -- What is still to be read, at a token's begin or inside of one.
-use Rattle.std.specs.Prelude.{ℕ, Bool, true, false, List, [], ◌∷◌, ◌++◌, Option, Some, None, take, fold, ◌+◌, ◌*◌, ◌-◌, if◌then◌else◌, nat_le}
+use Rattle.std.specs.Prelude.{ℕ, Bool, true, false, List, [], ◌∷◌, ◌++◌, Option, Some, None, take, fold, ◌+◌, ◌*◌, ◌-◌, ◌≤◌, ◌≡◌, if◌then◌else◌, nat_le}
 use Rattle.std.specs.List.{prefix_len}
 use Rattle.std.specs.Option.{option_map}
 use Rattle.tokens.specs.Characters.{is_name_byte, is_digit}
 use Rattle.tokens.specs.Marks.{mark_of, spelling}
-use Rattle.tokens.specs.Front.{begins_with, up_to_close, name_token}
+use Rattle.tokens.specs.Front.{up_to_close, name_token}
 use Rattle.tokens.specs.Tokens.{Ahead, behind_byte, passed, at_end, placed, last_lexeme, followed_by, lexemes}
 use Rattle.tokens.specs.Window.{Held, seen}
 use Rattle.tokens.specs.declared.lexemes.Mark.{Mark}
-use Rattle.tokens.specs.declared.lexemes.Mark.TheVariants.{Slash}
 use Rattle.tokens.specs.declared.lexemes.Flaw.TheVariants.{CommentNotClosed, NameTooLong, ConstantTooLarge}
 use Rattle.tokens.specs.declared.lexemes.Token.{Token}
 use Rattle.tokens.specs.declared.lexemes.Token.TheVariants as variant
@@ -74,3 +73,7 @@ in_comment line ahead = closed_at (up_to_close ahead.bytes) line ahead
 abbrev pub after_comment : Bool → ℕ → Ahead → List Lexeme
 after_comment true line ahead = lexemes ahead
 after_comment false line ahead = last_lexeme (variant.Fault CommentNotClosed) line ahead ∷ []
+
+-- no more was taken than there is up to the end of the first token that is to be read
+abbrev pub StopsWithin : (Ahead → List Lexeme) → Held → Held → Option (List ℕ) → Type 0
+StopsWithin made old new told = (first : Lexeme) (others : List Lexeme) → to_read made old told ≡ Some (first ∷ others) → new.taken ≤ first.end

@@ -9,4 +9,5 @@ pub mod Front
 pub mod Tokens
 pub mod Window
 pub mod Lexing
+pub mod Ends
 pub mod Reading

@@ -1,5 +1,5 @@
 -- How a name is kept in a field of fixed size.
-use Rattle.std.specs.Prelude.{◌≡◌, ℕ, ◌-◌, ◌≤◌, List, ◌++◌, length, take, drop, replicate}
+use Rattle.std.specs.Prelude.{◌≡◌, ℕ, ◌-◌, ◌≤◌, List, ◌++◌, length, take, replicate}
 use Rattle.std.proofs.Common.{sym, ap, arith, length-append, length-take}
 use Rattle.std.proofs.lemmas.List.{length-replicate}
 

@@ -1,5 +1,5 @@
 -- What a cursor stands for: the next token, the one behind it, and what was read behind that.
-use Rattle.std.specs.Prelude.{ℕ, ◌+◌, ◌-◌, List, Option, if◌then◌else◌}
+use Rattle.std.specs.Prelude.{ℕ, ◌+◌, ◌-◌, ◌≤◌, List, [], ◌∷◌, Option, if◌then◌else◌}
 use Rattle.std.specs.Option.{option_map}
 use Rattle.tokens.specs.Tokens.{is_last, lexemes, followed_by}
 use Rattle.tokens.specs.Window.{Held, ahead}
@@ -23,3 +23,21 @@ unfoldable pub remaining : Reading → ℕ
 remaining reading =
     if is_last reading.next.token then 0
     else (if is_last reading.after.token then 1 else 2 + (1048576 - reading.behind.place))
+
+-- how many bytes were taken from the device so far
+abbrev pub taken : Reading → ℕ
+taken reading = reading.behind.taken
+
+-- where the two tokens that are held end
+abbrev pub reach : Reading → ℕ
+reach reading = if is_last reading.next.token then reading.next.end else reading.after.end
+
+-- no more was taken than a window behind these
+abbrev pub IsNear : Reading → Type 0
+IsNear reading = taken reading ≤ reach reading + 4096
+
+-- where the second of these tokens ends, or the first, where it is the last
+abbrev pub reach_of : List Lexeme → ℕ
+reach_of [] = 0
+reach_of (next ∷ []) = next.end
+reach_of (next ∷ after ∷ others) = after.end

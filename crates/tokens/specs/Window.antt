@@ -1,5 +1,5 @@
 -- What a window holds of a source that is read through it.
-use Rattle.std.specs.Prelude.{◌≡◌, ◌≢◌, ℕ, zero, suc, ◌+◌, ◌-◌, ◌<◌, ◌≤◌, Bool, true, false, not, List, [], ◌∷◌, ◌++◌, length, take, Option, nat_lt, if◌then◌else◌, ◌==◌}
+use Rattle.std.specs.Prelude.{◌≡◌, ◌≢◌, ℕ, zero, suc, ◌+◌, ◌-◌, ◌<◌, ◌≤◌, Bool, true, false, not, List, [], ◌∷◌, ◌++◌, length, take, drop, Option, nat_lt, ◌==◌}
 use Rattle.std.specs.List.{prefix_len}
 use Rattle.std.specs.Option.{option_map}
 use Rattle.tokens.specs.Source.{source}
@@ -85,3 +85,8 @@ pub record IsWindow (next filled start taken line : ℕ) (beyond : Beyond) : Typ
   pub lines : line ≤ start + next + 1
   pub all_taken : beyond ≡ Unread → start + filled ≡ taken
   pub bounded : taken ≤ 1048577
+  pub near : taken ≤ start + 4096
+
+-- what a device has still to give is all but the bytes taken, of which there were so many before and are so many now
+pub record Takes (before now : ℕ) (told told' : Option (List ℕ)) : Type 0 where
+  pub rest : (total : Option (List ℕ)) → told ≡ option_map (drop before) total → told' ≡ option_map (drop now) total

@@ -1,10 +1,12 @@
 //! A cursor over the tokens of a device.
 
-ghost use Rattle.std.specs.Prelude.{◌≡◌, ◌-◌, ◌^◌, ◌<◌, ◌≤◌, drop, false, IfOk, OnOk};
+ghost use Rattle.std.specs.Prelude.{◌≡◌, ◌-◌, ◌^◌, ◌<◌, ◌≤◌, ◌∷◌, ℕ, List, Some, drop, false, IfOk, OnOk, OnErr};
 ghost use Rattle.std.specs.Option.{option_map};
 ghost use Rattle.tokens.specs.Feed.{Counts};
 ghost use Rattle.tokens.specs.Tokens.{FitsToken, tokens, is_last};
-ghost use Rattle.tokens.specs.Reading.{shown, remaining};
+ghost use Rattle.tokens.specs.Window.{Takes};
+ghost use Rattle.tokens.specs.declared.lexemes.Lexeme.{Lexeme};
+ghost use Rattle.tokens.specs.Reading.{shown, remaining, taken, IsNear, reach_of};
 
 use crate::devices::{DeviceFault, Feed};
 use crate::lexemes::Lexeme;
@@ -38,6 +40,13 @@ impl Cursor {
         requires { F.failures feed.old < 2 ^ 64 - 1 }
         ensures tokens { IfOk result (λ cursor. shown cursor (F.to_come feed.new) ≡ option_map tokens (F.to_come feed.old)) }
         ensures bounded { IfOk result (λ cursor. remaining cursor ≤ 1048578) }
+
+        // The bytes taken: at an `Ok` no more than a window behind the two tokens, at an `Err` none behind them.
+        ensures took { IfOk result (λ cursor. F.to_come feed.new ≡ option_map (drop (taken cursor)) (F.to_come feed.old)) }
+        ensures near { IfOk result IsNear }
+        ensures stopped { OnErr result ((bytes : List ℕ) → F.to_come feed.old ≡ Some bytes →
+            (count : ℕ) × (F.to_come feed.new ≡ Some (drop count bytes)) × (count ≤ reach_of (tokens bytes))) }
+
         ensures count { Counts result (F.failures feed.old) (F.failures feed.new) }
     {
         let mut window = Window::new();
@@ -77,6 +86,13 @@ impl Cursor {
         ensures next { OnOk result (self.new.next ≡ self.old.after) }
         ensures tokens { OnOk result (shown self.new (F.to_come feed.new) ≡ option_map (drop 1) (shown self.old (F.to_come feed.old))) }
         ensures progress { OnOk result (remaining self.new < remaining self.old) }
+
+        // The bytes taken since the cursor was opened, as of `open`.
+        ensures took { Takes (taken self.old) (taken self.new) (F.to_come feed.old) (F.to_come feed.new) }
+        ensures near { OnOk result (IsNear self.old → IsNear self.new) }
+        ensures stopped { OnErr result ((next : Lexeme) (others : List Lexeme) → shown self.old (F.to_come feed.old) ≡ Some (next ∷ others) →
+            taken self.new ≤ reach_of others) }
+
         ensures count { Counts result (F.failures feed.old) (F.failures feed.new) }
     {
         self.next = self.after;

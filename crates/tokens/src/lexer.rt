@@ -1,11 +1,11 @@
 //! The tokens of a source that is read through a window.
 
-ghost use Rattle.std.specs.Prelude.{◌≡◌, ◌≢◌, ◌∷◌, [], ◌-◌, ◌^◌, ◌<◌, ◌≤◌, ℕ, List, Some, true, false, slice_get, IfOk, IfSome, OnOk};
+ghost use Rattle.std.specs.Prelude.{◌≡◌, ◌≢◌, ◌∷◌, [], ◌+◌, ◌-◌, ◌^◌, ◌<◌, ◌≤◌, ℕ, List, Some, true, false, slice_get, IfOk, IfSome, OnOk, OnErr};
 ghost use Rattle.tokens.specs.Characters.{is_digit, is_blank};
 ghost use Rattle.tokens.specs.Feed.{Counts};
 ghost use Rattle.tokens.specs.Tokens.{FitsToken, is_last, lexemes, last_lexeme};
-ghost use Rattle.tokens.specs.Window.{IsAtHandOrEnd, ahead};
-ghost use Rattle.tokens.specs.Lexing.{to_read, followed, after_slash, after_comment, in_name, in_constant, in_mark, in_comment, ending, name_going_on, value_token};
+ghost use Rattle.tokens.specs.Window.{IsAtHandOrEnd, Takes, ahead};
+ghost use Rattle.tokens.specs.Lexing.{to_read, StopsWithin, followed, after_slash, after_comment, in_name, in_constant, in_mark, in_comment, name_going_on, value_token};
 
 use crate::characters::{is_blank, is_digit, is_letter, is_name_byte};
 use crate::devices::{DeviceFault, Feed};
@@ -21,6 +21,10 @@ impl Window {
         ensures tokens { IfOk result (λ lexeme. to_read (followed lexeme) self.new (F.to_come feed.new)
             ≡ to_read lexemes self.old (F.to_come feed.old)) }
         ensures progress { IfOk result (λ lexeme. is_last lexeme.token ≡ false → self.old.place < self.new.place) }
+        ensures stopped { OnErr result (StopsWithin lexemes self.old self.new (F.to_come feed.old)) }
+        ensures reached { IfOk result (λ lexeme. self.new.place ≤ lexeme.end) }
+        ensures took { Takes self.old.taken self.new.taken (F.to_come feed.old) (F.to_come feed.new) }
+        ensures near { self.new.taken ≤ self.new.place + 4096 }
         ensures within { self.new.place ≤ 1048576 }
         ensures fits { IfOk result (λ lexeme. FitsToken lexeme.token) }
         ensures count { Counts result (F.failures feed.old) (F.failures feed.new) }
@@ -47,6 +51,9 @@ impl Window {
         ensures ready { OnOk result (IsAtHandOrEnd self.new) }
         ensures no_blank { IfOk result (λ first. IfSome first (λ b. is_blank b ≡ false)) }
         ensures forward { self.old.place ≤ self.new.place }
+        ensures stopped { OnErr result (StopsWithin lexemes self.old self.new (F.to_come feed.old)) }
+        ensures took { Takes self.old.taken self.new.taken (F.to_come feed.old) (F.to_come feed.new) }
+        ensures near { self.new.taken ≤ self.new.place + 4096 }
         ensures within { self.new.place ≤ 1048576 }
         ensures count { Counts result (F.failures feed.old) (F.failures feed.new) }
     {
@@ -65,6 +72,10 @@ impl Window {
         ensures tokens { IfOk result (λ found. to_read (after_slash found) self.new (F.to_come feed.new)
             ≡ to_read lexemes self.old (F.to_come feed.old)) }
         ensures forward { self.old.place < self.new.place }
+        ensures stopped { OnErr result (StopsWithin lexemes self.old self.new (F.to_come feed.old)) }
+        ensures reached { IfOk result (λ found. IfSome found (λ lexeme. self.new.place ≤ lexeme.end)) }
+        ensures took { Takes self.old.taken self.new.taken (F.to_come feed.old) (F.to_come feed.new) }
+        ensures near { self.new.taken ≤ self.new.place + 4096 }
         ensures within { self.new.place ≤ 1048576 }
         ensures fits { IfOk result (λ found. IfSome found (λ lexeme. FitsToken lexeme.token)) }
         ensures count { Counts result (F.failures feed.old) (F.failures feed.new) }
@@ -90,6 +101,9 @@ impl Window {
             ≡ to_read (in_comment line) self.old (F.to_come feed.old)) }
         ensures ended { IfOk result (λ closed. closed ≡ false → self.new.beyond ≢ Beyond.Unread) }
         ensures forward { self.old.place ≤ self.new.place }
+        ensures stopped { OnErr result ((line : ℕ) → StopsWithin (in_comment line) self.old self.new (F.to_come feed.old)) }
+        ensures took { Takes self.old.taken self.new.taken (F.to_come feed.old) (F.to_come feed.new) }
+        ensures near { self.new.taken ≤ self.new.place + 4096 }
         ensures within { self.new.place ≤ 1048576 }
         ensures count { Counts result (F.failures feed.old) (F.failures feed.new) }
     {
@@ -118,6 +132,10 @@ impl Window {
         ensures tokens { IfOk result (λ lexeme. to_read (followed lexeme) self.new (F.to_come feed.new)
             ≡ to_read lexemes self.old (F.to_come feed.old)) }
         ensures forward { self.old.place < self.new.place }
+        ensures stopped { OnErr result (StopsWithin lexemes self.old self.new (F.to_come feed.old)) }
+        ensures reached { IfOk result (λ lexeme. self.new.place ≤ lexeme.end) }
+        ensures took { Takes self.old.taken self.new.taken (F.to_come feed.old) (F.to_come feed.new) }
+        ensures near { self.new.taken ≤ self.new.place + 4096 }
         ensures within { self.new.place ≤ 1048576 }
         ensures fits { IfOk result (λ lexeme. FitsToken lexeme.token) }
         ensures count { Counts result (F.failures feed.old) (F.failures feed.new) }
@@ -140,6 +158,10 @@ impl Window {
         ensures tokens { IfOk result (λ lexeme. to_read (followed lexeme) self.new (F.to_come feed.new)
             ≡ to_read (in_name (first ∷ []) false) self.old (F.to_come feed.old)) }
         ensures forward { self.old.place ≤ self.new.place }
+        ensures stopped { OnErr result (StopsWithin (in_name (first ∷ []) false) self.old self.new (F.to_come feed.old)) }
+        ensures reached { IfOk result (λ lexeme. self.new.place ≤ lexeme.end) }
+        ensures took { Takes self.old.taken self.new.taken (F.to_come feed.old) (F.to_come feed.new) }
+        ensures near { self.new.taken ≤ self.new.place + 4096 }
         ensures within { self.new.place ≤ 1048576 }
         ensures fits { IfOk result (λ lexeme. FitsToken lexeme.token) }
         ensures count { Counts result (F.failures feed.old) (F.failures feed.new) }
@@ -169,6 +191,10 @@ impl Window {
         ensures tokens { IfOk result (λ lexeme. to_read (followed lexeme) self.new (F.to_come feed.new)
             ≡ to_read (in_constant (first - 48)) self.old (F.to_come feed.old)) }
         ensures forward { self.old.place ≤ self.new.place }
+        ensures stopped { OnErr result (StopsWithin (in_constant (first - 48)) self.old self.new (F.to_come feed.old)) }
+        ensures reached { IfOk result (λ lexeme. self.new.place ≤ lexeme.end) }
+        ensures took { Takes self.old.taken self.new.taken (F.to_come feed.old) (F.to_come feed.new) }
+        ensures near { self.new.taken ≤ self.new.place + 4096 }
         ensures within { self.new.place ≤ 1048576 }
         ensures fits { IfOk result (λ lexeme. FitsToken lexeme.token) }
         ensures count { Counts result (F.failures feed.old) (F.failures feed.new) }
@@ -191,6 +217,10 @@ impl Window {
         ensures tokens { IfOk result (λ lexeme. to_read (followed lexeme) self.new (F.to_come feed.new)
             ≡ to_read (in_mark mark) self.old (F.to_come feed.old)) }
         ensures forward { self.old.place ≤ self.new.place }
+        ensures stopped { OnErr result (StopsWithin (in_mark mark) self.old self.new (F.to_come feed.old)) }
+        ensures reached { IfOk result (λ lexeme. self.new.place ≤ lexeme.end) }
+        ensures took { Takes self.old.taken self.new.taken (F.to_come feed.old) (F.to_come feed.new) }
+        ensures near { self.new.taken ≤ self.new.place + 4096 }
         ensures within { self.new.place ≤ 1048576 }
         ensures fits { IfOk result (λ lexeme. FitsToken lexeme.token) }
         ensures count { Counts result (F.failures feed.old) (F.failures feed.new) }
@@ -209,7 +239,7 @@ impl Window {
 
     /// A token that ends before the next byte, on the same line.
     fn ending(&self, token: Token) -> Lexeme
-        ensures { (to_come : List ℕ) → result ≡ ending token (ahead self.now to_come) }
+        ensures { result ≡ record { token = token; line = self.now.line; end = self.now.place } }
     {
         Lexeme {
             token,
@@ -221,7 +251,8 @@ impl Window {
     /// The last token, at the end of what can be read: this one, unless the source is too long.
     fn last(&self, token: Token, line: u32) -> Lexeme
         requires { self.now.beyond ≢ Beyond.Unread }
-        ensures { (to_come : List ℕ) → result ≡ last_lexeme token line (ahead self.now to_come) }
+        ensures value { (to_come : List ℕ) → result ≡ last_lexeme token line (ahead self.now to_come) }
+        ensures reached { self.now.place ≤ result.end }
     {
         if self.beyond() == Beyond::TooMuch {
             Lexeme {

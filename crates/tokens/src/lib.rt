@@ -5,6 +5,7 @@
 mod characters;
 mod cursors;
 mod devices;
+pub mod laws;
 mod lexemes;
 mod lexer;
 mod limits;

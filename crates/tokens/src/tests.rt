@@ -1,11 +1,10 @@
 //! The tokens of small sources, read whole and one byte at a time.
 
+ghost use Rattle.std.specs.Prelude.{ℕ, List, ◌<◌, ◌≤◌, ◌-◌, ◌^◌, ◌+◌, ◌≡◌, length, None};
+
 use super::*;
 use std::process::Abort;
 use std::test::Fail;
-
-/// The most tokens of a test's source.
-const MOST: usize = 100;
 
 /// The bytes of the longest name.
 const LONGEST: &[u8] = b"_234567890123456789012345678901";
@@ -190,5 +189,103 @@ fn byte_26(rt: HostRuntime) -> Result<(), Fail> {
         b"/*\n\x1a*/",
         &[(Token::Fault(Flaw::CommentNotClosed), 1, 3)],
     )?;
+    Ok(())
+}
+
+/// A device of many equal bytes, and then one other.
+#[derive(Drop)]
+struct Many {
+    byte: u8,
+    left: u32,
+    last: Option<u8>,
+}
+
+impl Feed for Many {
+    ghost failures = { λ _. 0 };
+
+    ghost to_come = { λ _. None };
+
+    fn fill(&mut self, buf: &mut [u8]) -> Result<usize, DeviceFault> {
+        let mut count = 0;
+        for b in buf {
+            if self.left > 0 {
+                self.left -= 1;
+                *b = self.byte;
+            } else if let Some(last) = self.last {
+                self.last = None;
+                *b = last;
+            } else {
+                return Ok(count);
+            }
+            count += 1;
+        }
+        Ok(count)
+    }
+}
+
+/// The first token of many line ends and then perhaps another byte.
+fn behind_lines(left: u32, last: Option<u8>) -> Result<(Token, u32, u32), DeviceFault> {
+    let mut feed = Many {
+        byte: b'\n',
+        left,
+        last,
+    };
+    let cursor = Cursor::open(&mut feed)?;
+    let Lexeme { token, line, end } = *cursor.next();
+    Ok((token, line, end))
+}
+
+#[test]
+fn limit(rt: HostRuntime) -> Result<(), Fail> {
+    let long = Token::Fault(Flaw::SourceTooLong);
+    assert_eq!(rt;
+        behind_lines(1_048_576, None)?,
+        (Token::End, 1_048_577, 1_048_576)
+    );
+    assert_eq!(rt;
+        behind_lines(1_048_577, None)?,
+        (long, 1_048_577, 1_048_577)
+    );
+    assert_eq!(rt;
+        behind_lines(9_999_999, None)?,
+        (long, 1_048_577, 1_048_577)
+    );
+    assert_eq!(rt;
+        behind_lines(1_048_576, Some(26))?,
+        (Token::End, 1_048_577, 1_048_576)
+    );
+    assert_eq!(rt;
+        behind_lines(1_048_575, Some(b'"'))?,
+        (Token::Fault(Flaw::BadCharacter), 1_048_576, 1_048_576)
+    );
+    Ok(())
+}
+
+#[test]
+fn asks_for_two_tokens(rt: HostRuntime) -> Result<(), Fail> {
+    let mut feed = Pieces::new(b"a bc d", 1);
+    let mut cursor = Cursor::open(&mut feed)?;
+    assert_eq!(rt; feed.taken(), 5);
+    assert!(rt; !cursor.next().token.is_last());
+    cursor.advance(&mut feed)?;
+    assert_eq!(rt; feed.taken(), 6);
+    Ok(())
+}
+
+#[test]
+fn asks_no_more(rt: HostRuntime) -> Result<(), Fail> {
+    let mut feed = Pieces::new(b"a\x1a b", 1);
+    let cursor = Cursor::open(&mut feed)?;
+    assert_eq!(rt; cursor.after().token, Token::End);
+    assert_eq!(rt; feed.taken(), 2);
+    Ok(())
+}
+
+#[test]
+fn device_fails(rt: HostRuntime) -> Result<(), Fail> {
+    let mut feed = Pieces::failing_at(b"ab cd", 2, 1);
+    assert!(rt; Cursor::open(&mut feed).is_err());
+    assert_eq!(rt; feed.failures(), 1);
+    assert_eq!(rt; feed.taken(), 2);
     Ok(())
 }

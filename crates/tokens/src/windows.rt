@@ -1,10 +1,10 @@
 //! The window of fixed size through which a source is read.
 
-ghost use Rattle.std.specs.Prelude.{◌≡◌, ◌≢◌, ℕ, ◌+◌, ◌-◌, ◌^◌, ◌<◌, ◌≤◌, List, [], length, take, slice_get, OnOk, IfOk, count_by, ◌==◌, not};
+ghost use Rattle.std.specs.Prelude.{◌≡◌, ◌≢◌, ℕ, ◌+◌, ◌-◌, ◌^◌, ◌<◌, ◌≤◌, List, [], length, take, slice_get, OnOk, OnErr, IfOk, count_by, ◌==◌, not};
 ghost use Rattle.std.specs.List.{prefix_len};
 ghost use Rattle.tokens.specs.Source.{source};
 ghost use Rattle.tokens.specs.Feed.{Counts};
-ghost use Rattle.tokens.specs.Window.{seen, untouched, behind_first, behind_plain, Cuts, IsAtSamePlace, IsAtHandOrEnd};
+ghost use Rattle.tokens.specs.Window.{seen, untouched, behind_first, behind_plain, Cuts, IsAtSamePlace, IsAtHandOrEnd, Takes};
 
 use crate::devices::{DeviceFault, Feed};
 use crate::limits::{SOURCE_BYTES, WINDOW};
@@ -96,7 +96,10 @@ impl Window {
         ensures ready { OnOk result (IsAtHandOrEnd self.new) }
         ensures seen { OnOk result (seen self.new (F.to_come feed.new) ≡ seen self.old (F.to_come feed.old)) }
         ensures place { IsAtSamePlace self.old self.new }
+        ensures took { Takes self.old.taken self.new.taken (F.to_come feed.old) (F.to_come feed.new) }
+        ensures failed { OnErr result (self.new.taken ≡ self.new.place) }
         ensures within { self.new.place ≤ 1048576 }
+        ensures near { self.new.taken ≤ self.new.place + 4096 }
         ensures count { Counts result (F.failures feed.old) (F.failures feed.new) }
     {
         if self.next == self.filled {
@@ -111,7 +114,9 @@ impl Window {
         requires { 0 < length self.old.at_hand }
         ensures value { self.new ≡ behind_first self.old }
         ensures forward { self.new.place ≡ self.old.place + 1 }
+        ensures kept { self.new.taken ≡ self.old.taken }
         ensures within { self.new.place ≤ 1048576 }
+        ensures near { self.new.taken ≤ self.new.place + 4096 }
     {
         if self.bytes[self.next] == LINE_FEED {
             self.line += 1;
@@ -123,7 +128,9 @@ impl Window {
     pub fn pass_plain(&mut self)
         ensures value { self.new ≡ behind_plain self.old }
         ensures forward { self.old.place ≤ self.new.place }
+        ensures kept { self.new.taken ≡ self.old.taken }
         ensures within { self.new.place ≤ 1048576 }
+        ensures near { self.new.taken ≤ self.new.place + 4096 }
     {
         let (count, lines) = plain(&self.bytes[self.next..self.filled]);
         self.next += count;
@@ -147,6 +154,9 @@ impl Window {
         ensures ready { OnOk result (IsAtHandOrEnd self.new) }
         ensures seen { OnOk result (seen self.new (F.to_come feed.new) ≡ seen self.old (F.to_come feed.old)) }
         ensures place { IsAtSamePlace self.old self.new }
+        ensures took { Takes self.old.taken self.new.taken (F.to_come feed.old) (F.to_come feed.new) }
+        ensures failed { OnErr result (self.new.taken ≡ self.new.place) }
+        ensures near { self.new.taken ≤ self.new.place + 4096 }
         ensures count { Counts result (F.failures feed.old) (F.failures feed.new) }
     {
         if self.beyond != Beyond::Unread {

@@ -1,13 +1,13 @@
 -- What each exit leaves to show: the fault goes back to the start, or the stretches join.
-use Rattle.std.proofs.Common.{◌≡◌, ◌<◌, ◌≤◌, ◌+◌, ◌∙◌, sym, refl, true, false, [], ◌∷◌, subst, arith, ap, ℕ}
-use Rattle.std.specs.Prelude.{Some, None}
+use Rattle.std.proofs.Common.{◌≡◌, ◌<◌, ◌≤◌, ◌∙◌, false, arith, ap, ℕ}
+use Rattle.std.specs.Prelude.{None}
 use Rattle.std.proofs.lemmas.Result.{err_from_is_err_and}
 use Rattle.tokens.specs.declared.lexemes.Lexeme.{Lexeme}
 use Rattle.tokens.specs.declared.lexemes.Mark.TheVariants as mark
 use Rattle.tokens.specs.declared.lexemes.Token.TheVariants as token
 use Rattle.lang.specs.Compiled.{diagnostic}
 use Rattle.lang.specs.Faults.{misfit_code}
-use Rattle.lang.specs.Grammar.{is_fault, is_mark}
+use Rattle.lang.specs.Grammar.{is_mark}
 use Rattle.lang.specs.Operators.{operator_at}
 use Rattle.lang.proofs.ExpressionLaws.{bracket_too_deep, open_stops, inside_fails, close_fails, bracketed_adds, expression_fails, expression_adds, last_level_fails, last_level_adds, level_fails, level_adds, tail_adds, tail_fails, level_ends, operand_stops, operand_fails, operand_adds, primary_misfits}
 use Rattle.lang.proofs.Told.{refused_map}

@@ -1,4 +1,4 @@
-use Rattle.std.proofs.Common.{◌≡◌, ◌∙◌, sym, pos, refl, false, [], ◌∷◌, ◌++◌, subst, ℤ, arith, w32}
+use Rattle.std.proofs.Common.{pos, false, [], ◌∷◌, ◌++◌, subst, ℤ, arith, w32}
 use Rattle.std.proofs.lemmas.Int.{to_z_pos}
 use Rattle.lang.specs.Actions.{Push}
 use Rattle.std.proofs.lemmas.Result.{err_from_is_err_and}

@@ -1,8 +1,5 @@
-use Rattle.std.proofs.Common.{◌≡◌, ◌∙◌, sym, true, false, List, ℕ}
-use Rattle.std.specs.Prelude.{codes, Some}
+use Rattle.std.proofs.Common.{◌≡◌, sym, true, false}
 use Rattle.std.proofs.lemmas.Result.{err_from_is_err_and}
-use Rattle.lang.specs.declared.diagnostics.Code.TheVariants as code
-use Rattle.lang.specs.declared.diagnostics.ParseFault.TheVariants as refusal
 use Rattle.lang.specs.Compiled.{diagnostic}
 use Rattle.lang.specs.Faults.{misfit_code}
 use Rattle.lang.specs.Grammar.{is_end, is_main}

@@ -1,8 +1,8 @@
-use Rattle.std.proofs.Common.{◌≡◌, ◌∙◌, sym, true, false, subst}
+use Rattle.std.proofs.Common.{◌≡◌, true, false}
 use Rattle.std.proofs.lemmas.Result.{err_from_is_err_and}
 use Rattle.lang.specs.Compiled.{diagnostic}
 use Rattle.lang.specs.Faults.{misfit_code}
-use Rattle.lang.specs.Grammar.{Exactly, is_mark}
+use Rattle.lang.specs.Grammar.{is_mark}
 use Rattle.lang.proofs.Told.{mark_misfits, mark_stops, mark_derives, refused_map}
 use Rattle.lang.proofs.matching.expect.Goals as goal
 

@@ -1,4 +1,4 @@
-use Rattle.std.proofs.Common.{◌≡◌, false}
+use Rattle.std.proofs.Common.{false}
 use Rattle.std.proofs.lemmas.Result.{err_from_is_err_and}
 use Rattle.lang.proofs.StatementLaws.{value_fails, semicolon_fails, evaluation_adds}
 use Rattle.lang.proofs.Told.{refused_map}

@@ -1,4 +1,4 @@
-use Rattle.std.proofs.Common.{◌≡◌, ◌<◌, ◌≤◌, [], ◌∷◌, false}
+use Rattle.std.proofs.Common.{◌≡◌, [], ◌∷◌, false}
 use Rattle.tokens.specs.Reading.{remaining, shown}
 use Rattle.lang.specs.Grammar.{Statements, Part, is_fault}
 use Rattle.lang.specs.Parsing.{AddsBody}

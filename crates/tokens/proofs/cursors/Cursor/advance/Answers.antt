@@ -1,6 +1,7 @@
-use Rattle.std.proofs.Common.{◌≡◌, ◌∙◌, sym, ap, false, drop}
+use Rattle.std.proofs.Common.{◌≡◌, ◌∙◌, sym, ap, false}
 use Rattle.tokens.specs.Tokens.{is_last}
-use Rattle.tokens.proofs.ReadingLemmas.{shown-advanced, remaining-advanced, remaining-ended}
+use Rattle.tokens.proofs.ReadingLemmas.{shown-advanced, remaining-advanced, remaining-ended, advanced-stopped}
+use Rattle.tokens.proofs.TakenLemmas.{on_err-from}
 use Rattle.tokens.proofs.cursors.Cursor.advance.Goals as goal
 
 pub returns-in_ok-self-inside-clause-tokens : goal.returns-in_ok-self-inside-clause-tokens
@@ -21,3 +22,9 @@ returns-else-not-is_last-clause-progress g c =
     let s = c.self.inside in
     let not_last : is_last s.next.token ≡ false = ap (λ r. is_last r.next.token) c.self.view_is ∙ c.requires.not_last in
     rw (← c.self.view_is) (remaining-ended s.next s.after s.after s.window s.window not_last (sym c.if-not-is_last.ensures))
+
+pub returns-in_err-self-inside-clause-stopped : goal.returns-in_err-self-inside-clause-stopped
+returns-in_err-self-inside-clause-stopped g c =
+    let s = c.self.inside in
+    let not_last : is_last s.next.token ≡ false = ap (λ r. is_last r.next.token) c.self.view_is ∙ c.requires.not_last in
+    on_err-from c.from_residual.result (rw (← c.self.view_is) (advanced-stopped c.read.new.self.taken s.next s.after s.window _ not_last (sym c.if-not-is_last.ensures) c.in_err-self-inside.ensures.stopped))

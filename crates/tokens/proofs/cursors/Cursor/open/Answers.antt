@@ -1,9 +1,10 @@
-use Rattle.std.proofs.Common.{◌≡◌, ◌∙◌, sym, ap}
+use Rattle.std.proofs.Common.{◌≡◌, ◌∙◌, sym, ap, Some, drop}
 use Rattle.std.specs.Option.{option_map}
 use Rattle.tokens.specs.Tokens.{tokens, lexemes}
-use Rattle.tokens.specs.Lexing.{to_read, followed}
+use Rattle.tokens.specs.Lexing.{to_read}
 use Rattle.tokens.specs.Reading.{shown}
-use Rattle.tokens.proofs.ReadingLemmas.{shown-read, shown-last, shown-opened, remaining-bounded}
+use Rattle.tokens.proofs.ReadingLemmas.{shown-read, shown-last, shown-opened, remaining-bounded, opened-stopped, second-stopped}
+use Rattle.tokens.proofs.TakenLemmas.{on_err-from, Takes-then}
 use Rattle.tokens.proofs.cursors.Cursor.open.Goals as goal
 use Rattle.tokens.proofs.cursors.Cursor.open.Goals.{then-is_last, else-is_last+in_ok-after}
 
@@ -18,3 +19,20 @@ returns-clause-tokens g c =
 
 pub returns-clause-bounded : goal.returns-clause-bounded
 returns-clause-bounded g c = remaining-bounded _
+
+pub returns-in_err-next-clause-stopped : goal.returns-in_err-next-clause-stopped
+returns-in_err-next-clause-stopped g c = on_err-from c.from_residual.result (λ bytes e.
+    let read = c.in_err-next.ensures in (
+      c.read.new.self.taken,
+      read.took.rest (Some bytes) (e ∙ ap (λ h. option_map (drop h.taken) (Some bytes)) (sym c.new-window.ensures)),
+      opened-stopped bytes c.read.new.self.taken c.new-window.result _ c.new-window.ensures e read.stopped,
+    ))
+
+pub returns-in_err-after-clause-stopped : goal.returns-in_err-after-clause-stopped
+returns-in_err-after-clause-stopped g c = on_err-from c.from_residual-in_err-after.result (λ bytes e.
+    let first = c.in_ok-next.ensures in
+    let read = c.in_err-after.ensures in (
+      c.read-else-is_last.new.self.taken,
+      (Takes-then first.took read.took).rest (Some bytes) (e ∙ ap (λ h. option_map (drop h.taken) (Some bytes)) (sym c.new-window.ensures)),
+      second-stopped bytes c.read-else-is_last.new.self.taken c.in_ok-next.next c.new-window.result c.read.new.self _ _ c.new-window.ensures e (sym c.if-is_last.ensures) first.tokens read.stopped,
+    ))

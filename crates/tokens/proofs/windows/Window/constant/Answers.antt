@@ -1,8 +1,9 @@
-use Rattle.std.proofs.Common.{[], ◌≡◌, ◌∙◌, ◌+◌, ◌*◌, ◌-◌, min, sym, arith, ap, refl, subst}
+use Rattle.std.proofs.Common.{◌≡◌, ◌∙◌, ◌+◌, ◌*◌, ◌-◌, min, sym, arith, ap, subst}
 use Rattle.tokens.specs.Characters.{is_digit}
 use Rattle.tokens.specs.Lexing.{to_read, in_constant, constant_going_on}
 use Rattle.tokens.proofs.ToRead.{to_read-pass, to_read-seen}
 use Rattle.tokens.proofs.TokenLemmas.{constant-takes, run-stops, StopsAt}
+use Rattle.tokens.proofs.TakenLemmas.{on_err-from, stops, stops-from, in_run-ends, Takes-pass, Takes-then}
 use Rattle.tokens.proofs.windows.Window.constant.Goals as goal
 use Rattle.tokens.proofs.windows.Window.constant.Goals.{in_default-via-in-Some+else-is_digit, in_default-via-in_default}
 
@@ -16,6 +17,7 @@ loop-b-preserved g c =
           ∙ to_read-pass _ now _ _ _ _ c.in-Some.b c.pass.ensures.value seen.first c.in-Some.is (constant-takes c.loop-b.value c.in-Some.b (sym c.if-is_digit.ensures))
           ∙ to_read-seen now _ _ _ _ seen.seen ∙ c.loop-b.invariant.tokens;
       bounded = omega (arith, value);
+      took = Takes-pass c.pass.ensures.kept (Takes-then c.loop-b.invariant.took seen.took);
       forward = omega (arith, seen.place.place);
       count = seen.count ∙ c.loop-b.invariant.count;
     }
@@ -28,9 +30,14 @@ returns-in_default-clause-tokens g c =
       | in_default-via-in-Some+else-is_digit w ↦ subst (StopsAt is_digit) (sym w.in-Some.is) (sym w.if-is_digit.ensures)
       | in_default-via-in_default w ↦ subst (StopsAt is_digit) (sym w.in_default.is) tt
     ] in
-    run-stops is_digit (constant_going_on c.loop-b.value) c.ending.result c.constant_token.result _ _ _ seen.ready seen.first stops c.ending.ensures c.constant_token.ensures.token
+    run-stops is_digit (constant_going_on c.loop-b.value) c.ending.result c.constant_token.result _ _ _ seen.ready seen.first stops (λ _. c.ending.ensures) c.constant_token.ensures.token
     ∙ to_read-seen now _ _ _ _ seen.seen ∙ c.loop-b.invariant.tokens
     ∙ ap (λ v. to_read (in_constant v) c.args.self.now (g.F.Feed.to_come c.args.feed.now)) c.from-value.ensures
 
-pub returns-in_default-clause-fits : goal.returns-in_default-clause-fits
-returns-in_default-clause-fits g c = rw (c.ending.ensures []) c.constant_token.ensures.fits
+pub returns-in_err-b-clause-stopped : goal.returns-in_err-b-clause-stopped
+returns-in_err-b-clause-stopped g c =
+    let seen = c.in_err-b.ensures in
+    let now = in_constant c.loop-b.value in
+    let chain = c.loop-b.invariant.tokens ∙ ap (λ v. to_read (in_constant v) c.args.self.now (g.F.Feed.to_come c.args.feed.now)) c.from-value.ensures in
+    on_err-from c.from_residual.result (stops-from now (in_constant (c.args.first - 48)) _ _ c.peek.new.self _ _ chain
+    (stops now (in_run-ends is_digit (constant_going_on c.loop-b.value)) c.loop-b.self c.peek.new.self _ seen.failed seen.place.place))

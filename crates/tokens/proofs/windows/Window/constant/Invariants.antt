@@ -1,4 +1,5 @@
-use Rattle.std.proofs.Common.{◌≡◌, ◌-◌, ◌≤◌, false, [], ◌∷◌}
+use Rattle.std.proofs.Common.{◌≡◌, ◌-◌, ◌≤◌}
+use Rattle.tokens.specs.Window.{Takes}
 use Rattle.tokens.specs.Lexing.{to_read, in_constant}
 use Rattle.tokens.proofs.windows.Window.constant.Given as goal
 
@@ -6,6 +7,7 @@ abbrev pub invariant-loop-b : goal.invariant-loop-b
 invariant-loop-b g l = record {
   tokens : to_read (in_constant l.value) l.self (g.F.Feed.to_come l.feed) ≡ to_read (in_constant l.initial.value) l.initial.self (g.F.Feed.to_come l.initial.feed);
   bounded : l.value ≤ 2147483648;
+  took : Takes l.initial.self.taken l.self.taken (g.F.Feed.to_come l.initial.feed) (g.F.Feed.to_come l.feed);
   forward : l.initial.self.place ≤ l.self.place;
   count : g.F.Feed.failures l.feed ≡ g.F.Feed.failures l.initial.feed;
 }

@@ -3,6 +3,7 @@ use Rattle.tokens.specs.Characters.{is_name_byte}
 use Rattle.tokens.specs.Lexing.{to_read, in_name, name_going_on}
 use Rattle.tokens.proofs.ToRead.{to_read-pass, to_read-seen}
 use Rattle.tokens.proofs.TokenLemmas.{name-takes, name-overflows, run-stops, StopsAt}
+use Rattle.tokens.proofs.TakenLemmas.{on_err-from, stops, stops-from, in_run-ends, Takes-pass, Takes-then}
 use Rattle.tokens.proofs.windows.Window.name.Goals as goal
 use Rattle.tokens.proofs.windows.Window.name.Goals.{then-is_full, else-is_full, in_default-via-in-Some+else-is_name_byte, in_default-via-in_default}
 
@@ -17,6 +18,7 @@ loop-b-preserved g c =
     ] in
     record {
       tokens = step ∙ to_read-seen now _ _ _ _ seen.seen ∙ c.loop-b.invariant.tokens;
+      took = Takes-pass c.pass.ensures.kept (Takes-then c.loop-b.invariant.took seen.took);
       forward = omega (arith, seen.place.place);
       count = seen.count ∙ c.loop-b.invariant.count;
     }
@@ -29,9 +31,15 @@ returns-in_default-clause-tokens g c =
       | in_default-via-in-Some+else-is_name_byte w ↦ subst (StopsAt is_name_byte) (sym w.in-Some.is) (sym w.if-is_name_byte.ensures)
       | in_default-via-in_default w ↦ subst (StopsAt is_name_byte) (sym w.in_default.is) tt
     ] in
-    run-stops is_name_byte (name_going_on c.loop-b.name c.loop-b.too_long) c.ending.result c.name_token.result _ _ _ seen.ready seen.first stops c.ending.ensures c.name_token.ensures.token
+    run-stops is_name_byte (name_going_on c.loop-b.name c.loop-b.too_long) c.ending.result c.name_token.result _ _ _ seen.ready seen.first stops (λ _. c.ending.ensures) c.name_token.ensures.token
     ∙ to_read-seen now _ _ _ _ seen.seen ∙ c.loop-b.invariant.tokens
     ∙ ap (λ name. to_read (in_name name false) c.args.self.now (g.F.Feed.to_come c.args.feed.now)) (c.push.ensures ∙ ap (λ name. name ++ c.args.first ∷ []) c.new-name.ensures)
 
-pub returns-in_default-clause-fits : goal.returns-in_default-clause-fits
-returns-in_default-clause-fits g c = rw (c.ending.ensures []) c.name_token.ensures.fits
+pub returns-in_err-b-clause-stopped : goal.returns-in_err-b-clause-stopped
+returns-in_err-b-clause-stopped g c =
+    let seen = c.in_err-b.ensures in
+    let now = in_name c.loop-b.name c.loop-b.too_long in
+    let begun = c.push.ensures ∙ ap (λ name. name ++ c.args.first ∷ []) c.new-name.ensures in
+    let chain = c.loop-b.invariant.tokens ∙ ap (λ name. to_read (in_name name false) c.args.self.now (g.F.Feed.to_come c.args.feed.now)) begun in
+    on_err-from c.from_residual.result (stops-from now (in_name (c.args.first ∷ []) false) _ _ c.peek.new.self _ _ chain
+    (stops now (in_run-ends is_name_byte (name_going_on c.loop-b.name c.loop-b.too_long)) c.loop-b.self c.peek.new.self _ seen.failed seen.place.place))

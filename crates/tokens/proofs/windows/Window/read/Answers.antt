@@ -1,11 +1,12 @@
-use Rattle.std.proofs.Common.{◌≡◌, ◌∙◌, sym, ap, refl, [], false, true, ◌<◌}
+use Rattle.std.proofs.Common.{◌≡◌, ◌∙◌, sym, ap, refl, [], true, None, arith}
 use Rattle.tokens.specs.Tokens.{is_last, lexemes, last_lexeme}
 use Rattle.tokens.specs.Window.{ahead}
-use Rattle.tokens.specs.Lexing.{to_read, followed}
+use Rattle.tokens.specs.Lexing.{to_read, followed, after_slash}
 use Rattle.tokens.specs.declared.lexemes.Token.TheVariants as variant
 use Rattle.tokens.proofs.ToRead.{to_read-here, none-ahead}
 use Rattle.tokens.proofs.TokenLemmas.{nothing-left}
 use Rattle.tokens.proofs.BeginLemmas.{last-is_last, last-fits}
+use Rattle.tokens.proofs.TakenLemmas.{Takes-then}
 use Rattle.tokens.proofs.windows.Window.read.Goals as goal
 
 pub returns-in-None-clause-tokens : goal.returns-in-None-clause-tokens
@@ -14,14 +15,27 @@ returns-in-None-clause-tokens g c =
     let found = c.in_ok-skip_blanks.ensures in
     to_read-here (followed c.last.result) lexemes here _ (λ to_come.
     let a = ahead here to_come in
-    ap (λ x. followed x a) (c.last.ensures to_come ∙ ap (λ line. last_lexeme variant.End line a) c.line.ensures)
+    ap (λ x. followed x a) (c.last.ensures.value to_come ∙ ap (λ line. last_lexeme variant.End line a) c.line.ensures)
     ∙ nothing-left a (none-ahead here to_come found.ready (sym found.first ∙ c.in-None.is)))
     ∙ found.tokens ∙ c.loop-self.invariant.tokens
 
 pub returns-in-None-clause-progress : goal.returns-in-None-clause-progress
 returns-in-None-clause-progress g c = λ e.
-    let last : is_last c.last.result.token ≡ true = ap (λ x. is_last x.token) (c.last.ensures []) ∙ last-is_last variant.End c.line.result (ahead c.skip_blanks.new.self []) refl in
+    let last : is_last c.last.result.token ≡ true = ap (λ x. is_last x.token) (c.last.ensures.value []) ∙ last-is_last variant.End c.line.result (ahead c.skip_blanks.new.self []) refl in
     absurd cc
 
+pub loop-self-preserved : goal.loop-self-preserved
+loop-self-preserved g c =
+    let blanks = c.in_ok-skip_blanks.ensures in
+    let slash = c.in_ok-lexeme-in-Some-eq47.ensures in
+    record {
+      tokens = to_read-here lexemes (after_slash None) c.slash.new.self _ (λ to_come. refl)
+          ∙ ap (λ found. to_read (after_slash found) c.slash.new.self (g.F.Feed.to_come c.slash.new.feed)) (sym c.in_default.is)
+          ∙ slash.tokens ∙ blanks.tokens ∙ c.loop-self.invariant.tokens;
+      took = Takes-then (Takes-then c.loop-self.invariant.took blanks.took) slash.took;
+      forward = omega (arith, blanks.forward, slash.forward);
+      count = slash.count ∙ blanks.count ∙ c.loop-self.invariant.count;
+    }
+
 pub returns-in-None-clause-fits : goal.returns-in-None-clause-fits
-returns-in-None-clause-fits g c = rw (c.last.ensures []) (last-fits variant.End c.line.result (ahead c.skip_blanks.new.self []) tt)
+returns-in-None-clause-fits g c = rw (c.last.ensures.value []) (last-fits variant.End c.line.result (ahead c.skip_blanks.new.self []) tt)

@@ -1,9 +1,10 @@
-use Rattle.std.proofs.Common.{◌≡◌, ◌∙◌, sym, arith, ap, ℕ, refl, false, eqb, Some}
+use Rattle.std.proofs.Common.{◌∙◌, sym, arith, ap, Some}
 use Rattle.std.proofs.lemmas.Bool.{ne_eqb}
 use Rattle.tokens.specs.Tokens.{lexemes}
-use Rattle.tokens.specs.Lexing.{to_read, in_comment, after_comment}
+use Rattle.tokens.specs.Lexing.{in_comment}
 use Rattle.tokens.proofs.ToRead.{to_read-pass, to_read-seen}
 use Rattle.tokens.proofs.CommentLemmas.{in_star, comment-passes, star-passes, star-open, slash-closes, slash-found, plain-passes, comment-ended, ended-beyond}
+use Rattle.tokens.proofs.TakenLemmas.{on_err-from, stops, stops-from, in_comment-ends, in_star-ends, Takes-pass, Takes-then}
 use Rattle.tokens.proofs.windows.Window.skip_comment.Goals as goal
 
 pub returns-in-None-clause-tokens : goal.returns-in-None-clause-tokens
@@ -33,6 +34,7 @@ loop-self-preserved-else-eq g c =
           ∙ to_read-seen (in_star line) _ _ _ _ next.seen
           ∙ to_read-pass (in_star line) (in_comment line) _ _ _ _ 42 c.pass.ensures.value seen.first (c.in-Some-eq42.is ∙ ap Some c.in-Some-eq42.field-0-test) (star-passes line)
           ∙ to_read-seen (in_comment line) _ _ _ _ seen.seen ∙ plain-passes line _ _ _ c.pass_plain.ensures.value ∙ c.loop-self.invariant.tokens line;
+      took = Takes-then (Takes-pass c.pass.ensures.kept (Takes-then (Takes-pass c.pass_plain.ensures.kept c.loop-self.invariant.took) seen.took)) next.took;
       forward = omega (arith, seen.place.place, next.place.place);
       count = next.count ∙ seen.count ∙ c.loop-self.invariant.count;
     }
@@ -43,6 +45,24 @@ loop-self-preserved g c =
     record {
       tokens = λ line. to_read-pass (in_comment line) (in_comment line) _ _ _ _ c.in-Some.field-0 c.pass-in-Some.ensures.value seen.first c.in-Some.is (comment-passes line c.in-Some.field-0 (ne_eqb _ _ c.in-Some.field-0-test.1))
           ∙ to_read-seen (in_comment line) _ _ _ _ seen.seen ∙ plain-passes line _ _ _ c.pass_plain.ensures.value ∙ c.loop-self.invariant.tokens line;
+      took = Takes-pass c.pass-in-Some.ensures.kept (Takes-then (Takes-pass c.pass_plain.ensures.kept c.loop-self.invariant.took) seen.took);
       forward = omega (arith, seen.place.place);
       count = seen.count ∙ c.loop-self.invariant.count;
     }
+
+pub returns-in_err-peek-clause-stopped : goal.returns-in_err-peek-clause-stopped
+returns-in_err-peek-clause-stopped g c =
+    let seen = c.in_err-peek.ensures in
+    on_err-from c.from_residual.result (λ line.
+    stops-from (in_comment line) (in_comment line) _ _ c.peek.new.self _ _ (plain-passes line _ _ _ c.pass_plain.ensures.value ∙ c.loop-self.invariant.tokens line)
+    (stops (in_comment line) (in_comment-ends line) c.pass_plain.new.self c.peek.new.self _ seen.failed seen.place.place))
+
+pub returns-in_err-peek-in-Some-eq42-clause-stopped : goal.returns-in_err-peek-in-Some-eq42-clause-stopped
+returns-in_err-peek-in-Some-eq42-clause-stopped g c =
+    let seen = c.in_ok-peek.ensures in
+    let next = c.in_err-peek-in-Some-eq42.ensures in
+    on_err-from c.from_residual-in_err-peek-in-Some-eq42.result (λ line.
+    stops-from (in_star line) (in_comment line) _ _ c.peek-in-Some-eq42.new.self _ _
+    (to_read-pass (in_star line) (in_comment line) _ _ _ _ 42 c.pass.ensures.value seen.first (c.in-Some-eq42.is ∙ ap Some c.in-Some-eq42.field-0-test) (star-passes line)
+    ∙ to_read-seen (in_comment line) _ _ _ _ seen.seen ∙ plain-passes line _ _ _ c.pass_plain.ensures.value ∙ c.loop-self.invariant.tokens line)
+    (stops (in_star line) (in_star-ends line) c.pass.new.self c.peek-in-Some-eq42.new.self _ next.failed next.place.place))

@@ -1,11 +1,13 @@
-use Rattle.std.proofs.Common.{[], ◌≡◌, ◌∙◌, sym, ap, refl, Some, None, true, false}
+use Rattle.std.proofs.Common.{[], ◌∙◌, sym, ap, refl, Some, None, true, false}
 use Rattle.tokens.specs.Tokens.{lexemes}
 use Rattle.tokens.specs.Lexing.{to_read, followed, in_mark, in_comment, after_comment, after_slash}
 use Rattle.tokens.specs.Window.{ahead}
+use Rattle.tokens.specs.declared.lexemes.Mark.TheVariants.{Slash}
 use Rattle.tokens.specs.declared.lexemes.Flaw.TheVariants.{CommentNotClosed}
 use Rattle.tokens.specs.declared.lexemes.Token.TheVariants as variant
 use Rattle.tokens.proofs.ToRead.{to_read-pass, to_read-pass_line, to_read-seen, to_read-here}
 use Rattle.tokens.proofs.BeginLemmas.{in_slash, slash-begins, star-begins, slash-stays, star-found, not_true, not_false, last-followed, last-fits}
+use Rattle.tokens.proofs.TakenLemmas.{on_err-from, stops, stops-from, in_slash-ends}
 use Rattle.tokens.proofs.windows.Window.slash.Goals as goal
 
 pub returns-then-ne-clause-tokens : goal.returns-then-ne-clause-tokens
@@ -32,12 +34,40 @@ returns-else-branch-clause-tokens g c =
     let line = c.line-line.result in
     let seen = c.in_ok-peek.ensures in
     to_read-here (after_slash (Some c.last.result)) (after_comment false line) c.skip_comment.new.self _ (λ to_come.
-    let a = ahead c.skip_comment.new.self to_come in ap (λ x. followed x a) (c.last.ensures to_come) ∙ last-followed (variant.Fault CommentNotClosed) line a refl)
+    let a = ahead c.skip_comment.new.self to_come in ap (λ x. followed x a) (c.last.ensures.value to_come) ∙ last-followed (variant.Fault CommentNotClosed) line a refl)
     ∙ ap (λ closed. to_read (after_comment closed line) c.skip_comment.new.self (g.F.Feed.to_come c.skip_comment.new.feed)) (sym c.if-branch.false)
     ∙ c.in_ok-skip_comment.ensures.tokens line
     ∙ to_read-pass (in_comment line) (in_slash line) _ _ _ _ 42 c.pass-2.ensures.value seen.first (star-found _ (not_false _ c.if-ne.ensures)) (star-begins line)
     ∙ to_read-seen (in_slash line) _ _ _ _ seen.seen
     ∙ to_read-pass_line (in_slash line) lexemes _ _ _ 47 line c.pass.ensures.value c.requires.slash c.line-line.ensures (slash-begins line)
 
+pub returns-in_err-peek-clause-stopped : goal.returns-in_err-peek-clause-stopped
+returns-in_err-peek-clause-stopped g c =
+    let line = c.line-line.result in
+    let seen = c.in_err-peek.ensures in
+    on_err-from c.from_residual.result (stops-from (in_slash line) lexemes _ _ c.peek.new.self _ _
+    (to_read-pass_line (in_slash line) lexemes _ _ _ 47 line c.pass.ensures.value c.requires.slash c.line-line.ensures (slash-begins line))
+    (stops (in_slash line) (in_slash-ends line) c.pass.new.self c.peek.new.self _ seen.failed seen.place.place))
+
+pub returns-in_err-lexeme-clause-stopped : goal.returns-in_err-lexeme-clause-stopped
+returns-in_err-lexeme-clause-stopped g c =
+    let line = c.line-line.result in
+    let seen = c.in_ok-peek.ensures in
+    on_err-from c.from_residual-in_err-lexeme.result (stops-from (in_mark Slash) lexemes _ _ c.mark.new.self _ _
+    (slash-stays line _ _ _ seen.ready seen.first (not_true _ c.if-ne.ensures)
+    ∙ to_read-seen (in_slash line) _ _ _ _ seen.seen
+    ∙ to_read-pass_line (in_slash line) lexemes _ _ _ 47 line c.pass.ensures.value c.requires.slash c.line-line.ensures (slash-begins line))
+    c.in_err-lexeme.ensures.stopped)
+
+pub returns-in_err-skip_comment-clause-stopped : goal.returns-in_err-skip_comment-clause-stopped
+returns-in_err-skip_comment-clause-stopped g c =
+    let line = c.line-line.result in
+    let seen = c.in_ok-peek.ensures in
+    on_err-from c.from_residual-in_err-skip_comment.result (stops-from (in_comment line) lexemes _ _ c.skip_comment.new.self _ _
+    (to_read-pass (in_comment line) (in_slash line) _ _ _ _ 42 c.pass-2.ensures.value seen.first (star-found _ (not_false _ c.if-ne.ensures)) (star-begins line)
+    ∙ to_read-seen (in_slash line) _ _ _ _ seen.seen
+    ∙ to_read-pass_line (in_slash line) lexemes _ _ _ 47 line c.pass.ensures.value c.requires.slash c.line-line.ensures (slash-begins line))
+    (c.in_err-skip_comment.ensures.stopped line))
+
 pub returns-else-branch-clause-fits : goal.returns-else-branch-clause-fits
-returns-else-branch-clause-fits g c = rw (c.last.ensures []) (last-fits (variant.Fault CommentNotClosed) c.line-line.result (ahead c.skip_comment.new.self []) tt)
+returns-else-branch-clause-fits g c = rw (c.last.ensures.value []) (last-fits (variant.Fault CommentNotClosed) c.line-line.result (ahead c.skip_comment.new.self []) tt)

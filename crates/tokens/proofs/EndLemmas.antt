@@ -1,0 +1,173 @@
+-- Tokens end one behind the other, within the source, and there is one at least.
+use Rattle.std.proofs.Common.{◌≡◌, ℕ, zero, suc, ◌+◌, ◌<◌, ◌≤◌, Bool, true, false, cond, Option, Some, None, List, [], ◌∷◌, length, take, drop, refl, ap, ◌∙◌, arith, subst, length-take, ltb, eqb}
+use Rattle.std.specs.Prelude.{◌&&◌}
+use Rattle.std.specs.Option.{option_or}
+use Rattle.std.proofs.lemmas.List.Sums.{prefix_len-le-length}
+use Rattle.std.proofs.lemmas.Bool.{ltb-true}
+use Rattle.tokens.specs.Source.{source}
+use Rattle.tokens.specs.Characters.{is_blank, is_letter, is_digit, is_name_byte}
+use Rattle.tokens.specs.Marks.{mark_of, spelling, longest_mark}
+use Rattle.tokens.specs.Front.{Front, Nothing, Space, Unclosed, Sign, front, comment, mark, up_to_close, begins_with}
+use Rattle.tokens.specs.Tokens.{Ahead, behind_byte, passed, at_end, last_lexeme, is_last, cut, cut_front, lexemes, from_start, tokens}
+use Rattle.tokens.specs.Ends.{IsRising, AllEndBy}
+use Rattle.tokens.specs.declared.lexemes.Mark.{Mark}
+use Rattle.tokens.specs.declared.lexemes.Flaw.TheVariants.{CommentNotClosed}
+use Rattle.tokens.specs.declared.lexemes.Token.{Token}
+use Rattle.tokens.specs.declared.lexemes.Token.TheVariants as variant
+use Rattle.tokens.specs.declared.lexemes.Lexeme.{Lexeme}
+use Rattle.tokens.proofs.MarkLemmas.{mark_of-spelled}
+use Rattle.tokens.proofs.LexemesLemmas.{IsPiece, front-is_piece, length-passed}
+use Rattle.tokens.proofs.TakenLemmas.{place-passed, last-behind}
+
+abbrev here : ℕ → ℕ → List ℕ → Bool → Ahead
+here line place bytes too_long = record { line = line; place = place; bytes = bytes; too_long = too_long }
+
+-- a token lies within the bytes that it is the front of
+abbrev IsInside : List ℕ → Front → Type 0
+IsInside bytes Nothing = Unit {0}
+IsInside bytes Unclosed = Unit {0}
+IsInside bytes (Space count) = Unit {0}
+IsInside bytes (Sign sign count) = count ≤ length bytes
+
+either-inside : (t : Bool) (bytes : List ℕ) (x y : Front) → IsInside bytes x → IsInside bytes y → IsInside bytes (cond t x y)
+either-inside true bytes x y f g = f
+either-inside false bytes x y f g = g
+
+comment-inside : (bytes : List ℕ) (n : Option ℕ) → IsInside bytes (comment n)
+comment-inside bytes None = tt
+comment-inside bytes (Some n) = tt
+
+spelling-inside : (n : ℕ) (bytes : List ℕ) (m : Mark) → mark_of (take n bytes) ≡ Some m → length (spelling m) ≤ length bytes
+spelling-inside n bytes m e = omega (arith, ap length (mark_of-spelled (take n bytes) m e), length-take n bytes)
+
+or-inside : (bytes : List ℕ) (x y : Option Mark) → ((m : Mark) → x ≡ Some m → length (spelling m) ≤ length bytes) → ((m : Mark) → y ≡ Some m → length (spelling m) ≤ length bytes) → (m : Mark) → option_or x y ≡ Some m → length (spelling m) ≤ length bytes
+or-inside bytes None y f g m e = g m e
+or-inside bytes (Some x) y f g m e = f m e
+
+mark-inside : (b : ℕ) (rest : List ℕ) (o : Option Mark) → ((m : Mark) → o ≡ Some m → length (spelling m) ≤ length (b ∷ rest)) → IsInside (b ∷ rest) (mark o)
+mark-inside b rest None f = omega arith
+mark-inside b rest (Some m) f = f m refl
+
+front-inside : (bytes : List ℕ) → IsInside bytes (front bytes)
+front-inside [] = tt
+front-inside (b ∷ rest) =
+    let xs = b ∷ rest in
+    either-inside (is_blank b) xs _ _ tt (
+    either-inside (is_letter b) xs _ _ (prefix_len-le-length is_name_byte xs) (
+    either-inside (is_digit b) xs _ _ (prefix_len-le-length is_digit xs) (
+    either-inside (eqb b 47 && begins_with 42 rest) xs _ _ (comment-inside xs (up_to_close (drop 1 rest)))
+    (mark-inside b rest (longest_mark xs) (or-inside xs _ _ (spelling-inside 3 xs) (or-inside xs _ _ (spelling-inside 2 xs) (spelling-inside 1 xs)))))))
+
+place-here : (n line place : ℕ) (bytes : List ℕ) (too_long : Bool) → n ≤ length bytes → (passed n (here line place bytes too_long)).place ≡ place + n
+place-here zero line place xs t h = omega arith
+place-here (suc n) line place [] t h = absurd (omega (arith, h))
+place-here (suc n) line place (x ∷ xs) t h = let b = behind_byte (here line place (x ∷ xs) t) in omega (arith, place-here n b.line b.place b.bytes b.too_long (omega (arith, h)))
+
+place-inside : (n : ℕ) (a : Ahead) → n ≤ length a.bytes → (passed n a).place ≡ a.place + n
+place-inside n a h = place-here n a.line a.place a.bytes a.too_long h
+
+long-behind_byte : (a : Ahead) → (behind_byte a).too_long ≡ a.too_long
+long-behind_byte a = by a.line a.place a.bytes a.too_long
+  where
+    by : (line place : ℕ) (xs : List ℕ) (t : Bool) → (behind_byte (here line place xs t)).too_long ≡ t
+    by line place [] t = refl
+    by line place (x ∷ xs) t = refl
+
+long-passed : (n : ℕ) (a : Ahead) → (passed n a).too_long ≡ a.too_long
+long-passed zero a = refl
+long-passed (suc n) a = long-passed n (behind_byte a) ∙ long-behind_byte a
+
+sum-behind_byte : (a : Ahead) → (behind_byte a).place + length (behind_byte a).bytes ≡ a.place + length a.bytes
+sum-behind_byte a = by a.line a.place a.bytes a.too_long
+  where
+    by : (line place : ℕ) (xs : List ℕ) (t : Bool) → (behind_byte (here line place xs t)).place + length (behind_byte (here line place xs t)).bytes ≡ place + length xs
+    by line place [] t = refl
+    by line place (x ∷ xs) t = omega arith
+
+sum-passed : (n : ℕ) (a : Ahead) → (passed n a).place + length (passed n a).bytes ≡ a.place + length a.bytes
+sum-passed zero a = refl
+sum-passed (suc n) a = sum-passed n (behind_byte a) ∙ sum-behind_byte a
+
+rising-sooner : (p q : ℕ) (xs : List Lexeme) → q ≤ p → IsRising p xs → IsRising q xs
+rising-sooner p q [] h r = tt
+rising-sooner p q (x ∷ xs) h r = (omega (arith, h, r.0), r.1)
+
+cut-rising : (n : ℕ) (a : Ahead) → IsRising a.place (cut n a)
+cut-rising zero a = tt
+cut-rising (suc n) a = by (front a.bytes) (front-inside a.bytes) (λ count. cut-rising n (passed count a))
+  where
+    rest : (t : Bool) (p : ℕ) (xs : List Lexeme) → IsRising p xs → IsRising p (cond t [] xs)
+    rest true p xs r = tt
+    rest false p xs r = r
+
+    by : (f : Front) → IsInside a.bytes f → ((count : ℕ) → IsRising (passed count a).place (cut n (passed count a))) → IsRising a.place (cut_front f a (cut n))
+    by Nothing i h = (omega (arith, last-behind variant.End a.line (at_end a), place-passed (length a.bytes) a), tt)
+    by Unclosed i h = (omega (arith, last-behind (variant.Fault CommentNotClosed) a.line (at_end a), place-passed (length a.bytes) a), tt)
+    by (Space count) i h = rising-sooner _ _ _ (place-passed count a) (h count)
+    by (Sign sign count) i h = (omega arith, rest (is_last sign) (a.place + count) _ (subst (λ (p : ℕ). IsRising p (cut n (passed count a))) (place-inside count a i) (h count)))
+
+abbrev over : Bool → ℕ
+over true = 1
+over false = 0
+
+last-by : (limit line : ℕ) (token : Token) (a : Ahead) → a.place + length a.bytes + over a.too_long ≤ limit → (last_lexeme token line (at_end a)).end ≤ limit
+last-by limit line token a h = by (at_end a).too_long (long-passed (length a.bytes) a)
+  where
+    by : (t : Bool) → t ≡ a.too_long → (last_lexeme token line (here (at_end a).line (at_end a).place (at_end a).bytes t)).end ≤ limit
+    by true e = omega (arith, place-inside (length a.bytes) a (omega arith), ap over e, h)
+    by false e = omega (arith, place-inside (length a.bytes) a (omega arith), h)
+
+cut-by : (n limit : ℕ) (a : Ahead) → a.place + length a.bytes + over a.too_long ≤ limit → AllEndBy limit (cut n a)
+cut-by zero limit a h = tt
+cut-by (suc n) limit a h = by (front a.bytes) (front-inside a.bytes) (λ count further. cut-by n limit (passed count a) further)
+  where
+    rest : (t : Bool) (xs : List Lexeme) → AllEndBy limit xs → AllEndBy limit (cond t [] xs)
+    rest true xs r = tt
+    rest false xs r = r
+
+    further : (count : ℕ) → (passed count a).place + length (passed count a).bytes + over (passed count a).too_long ≤ limit
+    further count = omega (arith, h, sum-passed count a, ap over (long-passed count a))
+
+    by : (f : Front) → IsInside a.bytes f → ((count : ℕ) → (passed count a).place + length (passed count a).bytes + over (passed count a).too_long ≤ limit → AllEndBy limit (cut n (passed count a))) → AllEndBy limit (cut_front f a (cut n))
+    by Nothing i g = (last-by limit a.line variant.End a h, tt)
+    by Unclosed i g = (last-by limit a.line (variant.Fault CommentNotClosed) a h, tt)
+    by (Space count) i g = g count (further count)
+    by (Sign sign count) i g = (omega (arith, h, i), rest (is_last sign) _ (g count (further count)))
+
+-- there is a first token
+cut-nonempty : (n line place : ℕ) (bytes : List ℕ) (too_long : Bool) → length bytes < n → (first : Lexeme) × (others : List Lexeme) × (cut n (here line place bytes too_long) ≡ first ∷ others)
+cut-nonempty zero line place xs t h = absurd (omega (arith, h))
+cut-nonempty (suc n) line place [] t h = (_, _, refl)
+cut-nonempty (suc n) line place (b ∷ xs) t h = by (front (b ∷ xs)) (front-is_piece (b ∷ xs)) (λ count c.
+    let p = passed count (here line place (b ∷ xs) t) in
+    let e = length-passed count (here line place (b ∷ xs) t) in
+    cut-nonempty n p.line p.place p.bytes p.too_long (omega (arith, e, h, c)))
+  where
+    a : Ahead
+    a = here line place (b ∷ xs) t
+
+    by : (f : Front) → IsPiece f → ((count : ℕ) → 0 < count → (first : Lexeme) × (others : List Lexeme) × (cut n (passed count a) ≡ first ∷ others)) → (first : Lexeme) × (others : List Lexeme) × (cut_front f a (cut n) ≡ first ∷ others)
+    by Nothing p g = (_, _, refl)
+    by Unclosed p g = (_, _, refl)
+    by (Space count) p g = g count p
+    by (Sign sign count) p g = (_, _, refl)
+
+pub lexemes-nonempty : (a : Ahead) → (first : Lexeme) × (others : List Lexeme) × (lexemes a ≡ first ∷ others)
+unfolding lexemes
+lexemes-nonempty a = cut-nonempty (suc (length a.bytes)) a.line a.place a.bytes a.too_long (omega arith)
+
+pub lexemes-rising : (a : Ahead) → IsRising a.place (lexemes a)
+unfolding lexemes
+lexemes-rising a = cut-rising (suc (length a.bytes)) a
+
+pub tokens-rising : (bytes : List ℕ) → IsRising 0 (tokens bytes)
+unfolding tokens
+tokens-rising bytes = lexemes-rising (from_start (source bytes))
+
+pub tokens-by : (bytes : List ℕ) → AllEndBy (length (source bytes)) (tokens bytes)
+unfolding tokens lexemes
+tokens-by bytes = cut-by (suc (length (take 1048576 (source bytes)))) (length (source bytes)) (from_start (source bytes)) (by (ltb 1048576 (length (source bytes))) refl)
+  where
+    by : (t : Bool) → ltb 1048576 (length (source bytes)) ≡ t → 0 + length (take 1048576 (source bytes)) + over t ≤ length (source bytes)
+    by true e = omega (arith, length-take 1048576 (source bytes), ltb-true _ _ e)
+    by false e = omega (arith, length-take 1048576 (source bytes))

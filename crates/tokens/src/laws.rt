@@ -1,0 +1,12 @@
+//! Laws of the tokens. Each function does nothing: what it ensures is the law.
+
+ghost use Rattle.std.specs.Prelude.{ℕ, List, length};
+ghost use Rattle.tokens.specs.Source.{source};
+ghost use Rattle.tokens.specs.Tokens.{tokens};
+ghost use Rattle.tokens.specs.Ends.{IsRising, AllEndBy};
+
+/// Tokens end one behind the other, and none behind the source.
+pub fn ends_rise()
+    ensures rising { (bytes : List ℕ) → IsRising 0 (tokens bytes) }
+    ensures within { (bytes : List ℕ) → AllEndBy (length (source bytes)) (tokens bytes) }
+{}
