@@ -1,5 +1,5 @@
 -- Known outputs: the definitions give these.
-use Rattle.std.specs.Prelude.{◌≡◌, ℕ, List, [], ◌∷◌, codes, refl}
+use Rattle.std.specs.Prelude.{◌≡◌, [], ◌∷◌, codes, refl}
 use Rattle.std.specs.Fmt.{digits}
 use Rattle.tokens.specs.Tokens.{tokens, lexemes}
 use Rattle.tokens.specs.Marks.{mark_of}
@@ -47,9 +47,9 @@ pub sum_is_listed : listing_output first_profile (record { word = codes "k/a.r";
     ≡ record {
       pieces = record {
         channel = Text;
-        bytes = codes "File a.r\nExternals 0\nFunction 0 main vars 0 at 0\nCode 7\n    0 CONST 1\n    1 CONST 2\n    2 BINOP +\n    3 CHOP\n    4 CONST 0\n    5 RETSUB\n    6 NOP\n"
+        bytes = codes "File a.r\nExternals 0\nFunction 0 main vars 0 at 0\nCode 7\n    0 CONST 1\n    1 CONST 2\n    2 BINOP +\n    3 CHOP\n    4 CONST 0\n    5 RETSUB\n    6 NOP\n";
       } ∷ [];
-      status = Done
+      status = Done;
     }
 unfolding digits tokens lexemes mark_of word_of first_profile most_levels compiled text_of operator_text instr_text in_five_columns name_line instr_line function_line
 sum_is_listed = refl
@@ -57,8 +57,8 @@ sum_is_listed = refl
 pub faults_are_named : listing_output first_profile (record { word = codes "e.r"; bytes = [] } ∷ record { word = codes "c.r"; bytes = codes "main(){\nbreak; }" } ∷ [])
     ≡ record {
       pieces = record { channel = Faults; bytes = codes "e.r:1: no main function\n" }
-        ∷ record { channel = Faults; bytes = codes "c.r:2: reserved word\n" } ∷ [];
-      status = Faulty
+          ∷ record { channel = Faults; bytes = codes "c.r:2: reserved word\n" } ∷ [];
+      status = Faulty;
     }
 unfolding digits tokens lexemes mark_of word_of first_profile most_levels compiled text_of operator_text instr_text in_five_columns name_line instr_line function_line
 faults_are_named = refl

@@ -1,5 +1,5 @@
 -- The texts that are written.
-use Rattle.std.specs.Prelude.{ℕ, ◌-◌, List, [], ◌∷◌, ◌++◌, length, map, replicate, codes, decimal, ◌==◌}
+use Rattle.std.specs.Prelude.{ℕ, ◌-◌, List, ◌++◌, length, map, replicate, codes, decimal, ◌==◌}
 use Rattle.std.specs.List.{after_last, concat}
 use Rattle.code.specs.Listing.{ended_line}
 
