@@ -1,3 +1,5 @@
+pub mod ProgramsLemmas
+pub mod RunsLemmas
 pub mod PiecesLemmas
 pub mod TextsLemmas
 pub mod PortionsLemmas
