@@ -334,14 +334,15 @@ main_file b = record { externals = []; functions = main_function b ∷ []; main 
 pub file_done : (s : Reading) (later : Option (List ℕ)) (old now : Option (List Lexeme)) (first before mid after : Meaning) (name : List ℕ) → is_mark mark.CloseCurly s.next.token ≡ true → name ≡ codes "main" →
     DerivesHeading old now → AppendsAll first before (Begin 0 0 ∷ []) → AddsBlock before mid now (shown s later) → ClosesFunction mid after → DerivesEnding (shown s later) →
     IsFileOf first after old (main_names name)
-file_done s later old now first before mid after name is named heading begun h closes ends lexemes shows profile start_stands =
-    let m : (rest : List Lexeme) × (shown s later ≡ Some rest) × Passes profile (start lexemes) (state last_items rest [] (main_function h.tree ∷ [])) = defined_main s later old now first before mid after is heading begun h closes lexemes shows profile start_stands in
-    record {
-      file = main_file h.tree;
-      is = clean_verdict profile lexemes (state [] [] [] (main_function h.tree ∷ [])) (then profile _ _ _ m.2 (ends m.0 m.1 profile [] (main_function h.tree ∷ []))) refl refl;
-      built = subst (λ (acts : List Action). after profile acts) (main_actions h.tree) (closes.added profile _ (h.added profile _ (begun profile [] start_stands)));
-      named = rw named refl;
-    }
+file_done s later old now first before mid after name is named heading begun h closes ends = record {
+  file = main_file h.tree;
+  built = λ profile start_stands.
+      subst (λ (acts : List Action). after profile acts) (main_actions h.tree) (closes.added profile _ (h.added profile _ (begun profile [] start_stands)));
+  named = rw named refl;
+  is = λ lexemes shows profile start_stands.
+      let m : (rest : List Lexeme) × (shown s later ≡ Some rest) × Passes profile (start lexemes) (state last_items rest [] (main_function h.tree ∷ [])) = defined_main s later old now first before mid after is heading begun h closes lexemes shows profile start_stands in
+      clean_verdict profile lexemes (state [] [] [] (main_function h.tree ∷ [])) (then profile _ _ _ m.2 (ends m.0 m.1 profile [] (main_function h.tree ∷ []))) refl refl;
+}
 
 pub no_main_failed : (before : Meaning) (r : Reading) (more : Option (List ℕ)) → is_end r.next.token ≡ true → FailsFile before (shown r more) (diagnostic r.next.line code.NoMainFunction)
 no_main_failed before r more is lexemes shows profile start_stands =

@@ -1,5 +1,5 @@
 -- What the parts of the parser did at the level of a file.
-use Rattle.std.specs.Prelude.{ℕ, ◌+◌, ◌<◌, ◌≤◌, ◌≡◌, List, [], ◌∷◌, ◌++◌, Option, Some, Result, Ok, Err}
+use Rattle.std.specs.Prelude.{ℕ, ◌+◌, ◌<◌, ◌≤◌, ◌≡◌, List, [], ◌∷◌, ◌++◌, Option, Some, Ok, Err}
 use Rattle.tokens.specs.declared.lexemes.Lexeme.{Lexeme}
 use Rattle.tokens.specs.declared.lexemes.Mark.TheVariants as mark
 use Rattle.lang.specs.declared.diagnostics.Code.TheVariants as code
@@ -53,26 +53,24 @@ abbrev pub FailsEnding : Option (List Lexeme) → Diagnostic → Type 0
 FailsEnding old d = (lexemes : List Lexeme) → old ≡ Some lexemes → (profile : Profile) (values : List Value) (functions : List Function) →
     Fails profile (state last_items lexemes values functions) d
 
--- What a builder and the names stand for: those of a file, which is what a source is.
-pub record StandsFor (what : Result File Diagnostic) (after : List Action → Type 0) (names : Names) : Type 0 where
+-- The names are those of a file, and a builder that stood for no action stands for the file's actions, whatever the device tells.
+-- Where it tells the tokens, they are that file.
+pub record IsFileOf (before after : Meaning) (told : Option (List Lexeme)) (names : Names) : Type 0 where
   pub file : File
-  pub is : what ≡ Ok file
-  pub built : after (actions file)
+  pub built : (profile : Profile) → before profile [] → after profile (actions file)
   pub named : names ≡ names_of file
-
--- The tokens, where they are told, are a file; a builder that stood for no action stands for its actions, and the names are its.
-abbrev pub IsFileOf : Meaning → Meaning → Option (List Lexeme) → Names → Type 0
-IsFileOf before after told names = (lexemes : List Lexeme) → told ≡ Some lexemes → (profile : Profile) → before profile [] →
-    StandsFor (compiled_tokens profile lexemes) (after profile) names
+  pub is : (lexemes : List Lexeme) → told ≡ Some lexemes → (profile : Profile) → before profile [] → compiled_tokens profile lexemes ≡ Ok file
 
 abbrev pub FailsFile : Meaning → Option (List Lexeme) → Diagnostic → Type 0
 FailsFile before told d = (lexemes : List Lexeme) → told ≡ Some lexemes → (profile : Profile) → before profile [] →
     compiled_tokens profile lexemes ≡ Err d
 
--- The same of a device's bytes, where it tells them.
-abbrev pub IsFile : Meaning → Meaning → Option (List ℕ) → Names → Type 0
-IsFile before after told names = (bytes : List ℕ) → told ≡ Some bytes → (profile : Profile) → before profile [] →
-    StandsFor (compiled profile bytes) (after profile) names
+-- The same of a device's bytes.
+pub record IsFile (before after : Meaning) (told : Option (List ℕ)) (names : Names) : Type 0 where
+  pub file : File
+  pub built : (profile : Profile) → before profile [] → after profile (actions file)
+  pub named : names ≡ names_of file
+  pub is : (bytes : List ℕ) → told ≡ Some bytes → (profile : Profile) → before profile [] → compiled profile bytes ≡ Ok file
 
 abbrev pub FailsBytes : Meaning → Option (List ℕ) → Diagnostic → Type 0
 FailsBytes before told d = (bytes : List ℕ) → told ≡ Some bytes → (profile : Profile) → before profile [] →

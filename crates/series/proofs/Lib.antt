@@ -1,3 +1,6 @@
+pub mod Examples
+pub mod ProgramsLemmas
+pub mod RunsLemmas
 pub mod PiecesLemmas
 pub mod TextsLemmas
 pub mod PortionsLemmas

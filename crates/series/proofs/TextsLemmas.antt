@@ -1,11 +1,14 @@
 -- Numbers in columns, digit by digit.
-use Rattle.std.proofs.Common.{◌≡◌, ℕ, ◌+◌, ◌-◌, ◌/◌, ◌%◌, ◌^◌, ◌<◌, ◌≤◌, List, [], ◌∷◌, ◌++◌, length, replicate, decimal, ap, ◌∙◌, sym, append_assoc, arith, rules, length-append, get_or, ◌≢◌, not, ◌==◌}
+use Rattle.std.proofs.Common.{◌≡◌, ℕ, ◌+◌, ◌-◌, ◌/◌, ◌%◌, ◌^◌, ◌<◌, ◌≤◌, List, [], ◌∷◌, ◌++◌, length, replicate, decimal, ap, ◌∙◌, sym, append_assoc, arith, rules, length-append, take, get_or, ◌≢◌, not, ◌==◌}
+use Rattle.std.proofs.lemmas.List.{take_more, append-nil}
+use Rattle.std.proofs.lemmas.List.Folds.{concat-append}
+use mathlib.Core.List.{map-append}
 use Rattle.std.specs.List.{between, suffix_len}
 use Rattle.std.proofs.lemmas.List.Sums.{suffix_len_is}
 use Rattle.std.proofs.lemmas.Slice.{between_to_end}
 use Rattle.std.proofs.lemmas.Bool.Decides.{nat_tests}
 use Rattle.std.proofs.lemmas.Fmt.{decimal_step, decimal_digit}
-use Rattle.series.specs.Texts.{file_name, column}
+use Rattle.series.specs.Texts.{file_name, column, lines_text}
 
 -- the last digit is a column of its own
 pub column_step : (width n : ℕ) → 10 ≤ n → n < 2 ^ 64 → column width n ≡ column (width - 1) (n / 10) ++ ((48 + n % 10) ∷ [])
@@ -30,3 +33,9 @@ name_from word start within none one =
     (λ some. let same : get_or word (start - 1) 0 ≡ 47 = one some in grind (arith, nat_tests)) in
     let begin : length word - (length word - start) ≡ start = omega arith in
     rw (between_to_end word start (length word) (search rules), tail, begin)
+
+-- one more line behind a text
+pub lines_text_more : (text : List ℕ) (lines : List (List ℕ)) (n : ℕ) → n < length lines
+    → text ++ lines_text (take (n + 1) lines) ≡ ((text ++ lines_text (take n lines)) ++ get_or lines n []) ++ 10 ∷ []
+lines_text_more text lines n within =
+    simp (take_more lines n [] within, map-append, concat-append, append-nil, append_assoc)

@@ -4,3 +4,6 @@ pub mod Texts
 pub mod Pieces
 pub mod Setup
 pub mod Recording
+pub mod Output
+pub mod Runs
+pub mod Programs

@@ -1,6 +1,7 @@
 -- The texts that are written.
-use Rattle.std.specs.Prelude.{ℕ, ◌-◌, List, [], ◌∷◌, ◌++◌, length, replicate, codes, decimal, ◌==◌}
-use Rattle.std.specs.List.{after_last}
+use Rattle.std.specs.Prelude.{ℕ, ◌-◌, List, ◌++◌, length, map, replicate, codes, decimal, ◌==◌}
+use Rattle.std.specs.List.{after_last, concat}
+use Rattle.code.specs.Listing.{ended_line}
 
 -- the name of a file in all texts: its word after the last `/`
 abbrev pub file_name : List ℕ → List ℕ
@@ -12,4 +13,8 @@ column width n = replicate (width - length (decimal n)) 32 ++ decimal n
 
 -- `{name}:{line}: {text}`
 abbrev pub diagnostic_line : List ℕ → ℕ → List ℕ → List ℕ
-diagnostic_line name line text = name ++ codes ":" ++ decimal line ++ codes ": " ++ text ++ 10 ∷ []
+diagnostic_line name line text = name ++ codes ":" ++ decimal line ++ codes ": " ++ text ++ codes "\n"
+
+-- lines, each ended
+abbrev pub lines_text : List (List ℕ) → List ℕ
+lines_text lines = concat (map ended_line lines)

@@ -30,7 +30,8 @@ impl Model for Pen {
 impl Pen {
     /// A pen at the begin of a piece.
     pub fn new() -> Pen
-        ensures { result ≡ blank }
+        ensures blank { result ≡ blank }
+        ensures text { (now : Portions) (n : ℕ) → WritesSoFar now now n n result [] }
     {
         Pen {
             page: ArrayVec::new(),

@@ -1,8 +1,10 @@
 //! What a run is asked to do, and how it ends.
 
-ghost use Rattle.std.specs.Prelude.{◌≡◌, ℕ, ◌+◌, ◌-◌, ◌^◌, ◌<◌, ◌≤◌, List, [], ◌∷◌, map, length, string_bytes};
+ghost use Rattle.std.specs.Prelude.{◌≡◌, ℕ, ◌+◌, ◌-◌, ◌^◌, ◌<◌, ◌≤◌, List, [], ◌∷◌, map, length};
 ghost use Rattle.series.specs.Setup.{Setup, IsSetup};
 
+use crate::limits::FILES_MAX;
+use arrayvec::ArrayVec;
 use std::marker::Model;
 
 /// Whether files are listed or play matches.
@@ -16,16 +18,16 @@ pub enum Mode {
 
 /// What a run is asked to do: its mode, how many matches of at most how many cycles it plays, the seed of
 /// its random numbers, and the words that name its files.
-#[derive(Debug, Drop)]
-pub struct Settings {
+#[derive(Drop)]
+pub struct Settings<'a> {
     mode: Mode,
     matches: u32,
     limit: u32,
     seed: u64,
-    words: Vec<String>,
+    words: ArrayVec<&'a str, FILES_MAX>,
 }
 
-impl Model for Settings {
+impl<'a> Model for Settings<'a> {
     ghost Value = { Setup };
 
     ghost view = { λ s. record {
@@ -33,7 +35,7 @@ impl Model for Settings {
       matches = s.matches;
       limit = s.limit;
       seed = s.seed;
-      words = map string_bytes s.words.items;
+      words = map (λ word. word.now) s.words.items;
     } };
 
     ghost invariant = { λ s. IsSetup (record {
@@ -41,26 +43,32 @@ impl Model for Settings {
       matches = s.matches;
       limit = s.limit;
       seed = s.seed;
-      words = map string_bytes s.words.items;
+      words = map (λ word. word.now) s.words.items;
     }) };
 }
 
-impl Settings {
+impl<'a> Settings<'a> {
     /// The settings of these parts.
-    pub fn new(mode: Mode, matches: u32, limit: u32, seed: u64, words: Vec<String>) -> Settings
+    pub fn new(
+        mode: Mode,
+        matches: u32,
+        limit: u32,
+        seed: u64,
+        words: ArrayVec<&'a str, FILES_MAX>,
+    ) -> Settings<'a>
         requires { IsSetup (record {
           mode = mode;
           matches = matches;
           limit = limit;
           seed = seed;
-          words = map string_bytes words.items;
+          words = map (λ word. word.now) words.items;
         }) }
         ensures { result ≡ record {
           mode = mode;
           matches = matches;
           limit = limit;
           seed = seed;
-          words = map string_bytes words.items;
+          words = map (λ word. word.now) words.entry.items;
         } }
     {
         Settings {
@@ -104,8 +112,8 @@ impl Settings {
     }
 
     /// The words that name the files, one to four.
-    pub fn words(&self) -> &[String]
-        ensures value { map string_bytes result.now ≡ self.now.words }
+    pub fn words(&self) -> &[&'a str]
+        ensures value { map (λ word. word.now) result.now ≡ self.now.words }
         ensures within { IsSetup self.now }
     {
         self.words.as_slice()

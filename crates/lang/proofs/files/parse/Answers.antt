@@ -21,7 +21,12 @@ returns-in-Fault-clause-refused g c bytes told profile start =
 
 pub returns-clause-file : goal.returns-clause-file
 unfolding compiled
-returns-clause-file g c = IfOk-weaker c.source.result _ _ (λ pools h bytes told profile start. h (tokens bytes) (c.in_ok-cursor.ensures.tokens ∙ ap (option_map tokens) told) profile start) c.source.ensures.file
+returns-clause-file g c = IfOk-weaker c.source.result _ _ (λ pools h. record {
+  file = h.file;
+  built = h.built;
+  named = h.named;
+  is = λ bytes told profile start. h.is (tokens bytes) (c.in_ok-cursor.ensures.tokens ∙ ap (option_map tokens) told) profile start;
+}) c.source.ensures.file
 
 pub returns-clause-refused : goal.returns-clause-refused
 unfolding compiled

@@ -1,4 +1,3 @@
-use Rattle.series.proofs.DraftLemmas.{writes_nothing}
 use Rattle.series.proofs.texts.put_diagnostic.Goals as goal
 
 pub returns : goal.returns
@@ -9,4 +8,4 @@ returns g c =
     (c.add-3.ensures.text _ _ _
     (c.number.ensures.text _ _ _
     (c.add-2.ensures.text _ _ _
-    (c.add.ensures.text _ _ _ (writes_nothing _ _ _ c.new-pen.ensures)))))))
+    (c.add.ensures.text _ _ _ (c.new-pen.ensures.text _ _)))))))

@@ -1,0 +1,84 @@
+//! Real files and streams as the devices of a run.
+
+ghost use Rattle.std.specs.Prelude.{◌≡◌, ℕ, ◌+◌, ◌-◌, ◌^◌, ◌<◌, ◌≤◌, None, length, take, IfOk, OnOk, OnErr};
+ghost use Rattle.std.specs.Io.KnownBytes.{Appends};
+
+use series::Sink;
+use std::io::{Read, Write};
+use tokens::{DeviceFault, Feed};
+
+/// A file that is read. Each error of a read is a failure, an interrupted call too.
+#[derive(Drop)]
+pub struct FileFeed<F> {
+    file: F,
+    failures: u64,
+}
+
+impl<F> FileFeed<F> {
+    /// A file that has not failed.
+    pub fn new(file: F) -> FileFeed<F>
+        ensures { result.failures ≡ 0 }
+    {
+        FileFeed { file, failures: 0 }
+    }
+}
+
+impl<F: Read> Feed for FileFeed<F> {
+    ghost failures = { λ feed. feed.failures };
+
+    ghost to_come = { λ _. None };
+
+    fn fill(&mut self, buf: &mut [u8]) -> Result<usize, DeviceFault> {
+        match self.file.read(buf) {
+            Ok(n) => Ok(n),
+            Err(_) => {
+                self.failures += 1;
+                Err(DeviceFault)
+            }
+        }
+    }
+}
+
+/// A stream that is written. Each error of a write is a failure, an interrupted call and a write of no byte too.
+#[derive(Drop)]
+pub struct StreamSink<W> {
+    stream: W,
+    failures: u64,
+}
+
+impl<W> StreamSink<W> {
+    /// A stream that has not failed.
+    pub fn new(stream: W) -> StreamSink<W>
+        ensures { result.failures ≡ 0 }
+    {
+        StreamSink {
+            stream,
+            failures: 0,
+        }
+    }
+}
+
+impl<W: Write> Sink for StreamSink<W> {
+    ghost failures = { λ sink. sink.failures };
+
+    ghost portions = { λ _. None };
+
+    fn put(&mut self, bytes: &[u8]) -> Result<usize, DeviceFault>
+        requires nonempty { 0 < length bytes.now }
+        requires countable { self.old.failures < 2 ^ 64 - 1 }
+        ensures some { IfOk result (λ n. 0 < n) }
+        ensures front { IfOk result (λ n. n ≤ length bytes.now) }
+        ensures calm { OnOk result (self.new.failures ≡ self.old.failures) }
+        ensures counted { OnErr result (self.new.failures ≡ self.old.failures + 1) }
+        // A stream that tells what it holds has then the bytes that were taken.
+        ensures written { IfOk result (λ n. Appends (W.contents self.old.stream) (W.contents self.new.stream) (take n bytes.now)) }
+    {
+        match self.stream.write(bytes) {
+            Ok(n) if n > 0 => Ok(n),
+            _ => {
+                self.failures += 1;
+                Err(DeviceFault)
+            }
+        }
+    }
+}
