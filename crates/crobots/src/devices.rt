@@ -1,6 +1,7 @@
 //! Real files and streams as the devices of a run.
 
-ghost use Rattle.std.specs.Prelude.{◌≡◌, ℕ, ◌+◌, ◌-◌, ◌^◌, ◌<◌, ◌≤◌, None};
+ghost use Rattle.std.specs.Prelude.{◌≡◌, ℕ, ◌+◌, ◌-◌, ◌^◌, ◌<◌, ◌≤◌, None, length, take, IfOk, OnOk, OnErr};
+ghost use Rattle.std.specs.Io.KnownBytes.{Appends};
 
 use series::Sink;
 use std::io::{Read, Write};
@@ -62,7 +63,16 @@ impl<W: Write> Sink for StreamSink<W> {
 
     ghost portions = { λ _. None };
 
-    fn put(&mut self, bytes: &[u8]) -> Result<usize, DeviceFault> {
+    fn put(&mut self, bytes: &[u8]) -> Result<usize, DeviceFault>
+        requires nonempty { 0 < length bytes.now }
+        requires countable { self.old.failures < 2 ^ 64 - 1 }
+        ensures some { IfOk result (λ n. 0 < n) }
+        ensures front { IfOk result (λ n. n ≤ length bytes.now) }
+        ensures calm { OnOk result (self.new.failures ≡ self.old.failures) }
+        ensures counted { OnErr result (self.new.failures ≡ self.old.failures + 1) }
+        // A stream that tells what it holds has then the bytes that were taken.
+        ensures written { IfOk result (λ n. Appends (W.contents self.old.stream) (W.contents self.new.stream) (take n bytes.now)) }
+    {
         match self.stream.write(bytes) {
             Ok(n) if n > 0 => Ok(n),
             _ => {

@@ -1,5 +1,6 @@
 pub mod Examples
 pub mod SourceLemmas
+pub mod BlockLemmas
 pub mod WindowLemmas
 pub mod TakenLemmas
 pub mod ToRead

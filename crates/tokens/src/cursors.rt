@@ -44,6 +44,7 @@ impl Cursor {
         // The bytes taken: at an `Ok` no more than a window behind the two tokens, at an `Err` none behind them.
         ensures took { IfOk result (λ cursor. F.to_come feed.new ≡ option_map (drop (taken cursor)) (F.to_come feed.old)) }
         ensures near { IfOk result IsNear }
+        ensures limited { IfOk result (λ cursor. taken cursor ≤ 1048577) }
         ensures stopped { OnErr result ((bytes : List ℕ) → F.to_come feed.old ≡ Some bytes →
             (count : ℕ) × (F.to_come feed.new ≡ Some (drop count bytes)) × (count ≤ reach_of (tokens bytes))) }
 
@@ -90,6 +91,7 @@ impl Cursor {
         // The bytes taken since the cursor was opened, as of `open`.
         ensures took { Takes (taken self.old) (taken self.new) (F.to_come feed.old) (F.to_come feed.new) }
         ensures near { OnOk result (IsNear self.old → IsNear self.new) }
+        ensures limited { taken self.old ≤ 1048577 → taken self.new ≤ 1048577 }
         ensures stopped { OnErr result ((next : Lexeme) (others : List Lexeme) → shown self.old (F.to_come feed.old) ≡ Some (next ∷ others) →
             taken self.new ≤ reach_of others) }
 

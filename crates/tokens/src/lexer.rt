@@ -25,6 +25,7 @@ impl Window {
         ensures reached { IfOk result (λ lexeme. self.new.place ≤ lexeme.end) }
         ensures took { Takes self.old.taken self.new.taken (F.to_come feed.old) (F.to_come feed.new) }
         ensures near { self.new.taken ≤ self.new.place + 4096 }
+        ensures limited { self.new.taken ≤ 1048577 }
         ensures within { self.new.place ≤ 1048576 }
         ensures fits { IfOk result (λ lexeme. FitsToken lexeme.token) }
         ensures count { Counts result (F.failures feed.old) (F.failures feed.new) }
@@ -54,6 +55,7 @@ impl Window {
         ensures stopped { OnErr result (StopsWithin lexemes self.old self.new (F.to_come feed.old)) }
         ensures took { Takes self.old.taken self.new.taken (F.to_come feed.old) (F.to_come feed.new) }
         ensures near { self.new.taken ≤ self.new.place + 4096 }
+        ensures limited { self.new.taken ≤ 1048577 }
         ensures within { self.new.place ≤ 1048576 }
         ensures count { Counts result (F.failures feed.old) (F.failures feed.new) }
     {
@@ -76,6 +78,7 @@ impl Window {
         ensures reached { IfOk result (λ found. IfSome found (λ lexeme. self.new.place ≤ lexeme.end)) }
         ensures took { Takes self.old.taken self.new.taken (F.to_come feed.old) (F.to_come feed.new) }
         ensures near { self.new.taken ≤ self.new.place + 4096 }
+        ensures limited { self.new.taken ≤ 1048577 }
         ensures within { self.new.place ≤ 1048576 }
         ensures fits { IfOk result (λ found. IfSome found (λ lexeme. FitsToken lexeme.token)) }
         ensures count { Counts result (F.failures feed.old) (F.failures feed.new) }
@@ -104,6 +107,7 @@ impl Window {
         ensures stopped { OnErr result ((line : ℕ) → StopsWithin (in_comment line) self.old self.new (F.to_come feed.old)) }
         ensures took { Takes self.old.taken self.new.taken (F.to_come feed.old) (F.to_come feed.new) }
         ensures near { self.new.taken ≤ self.new.place + 4096 }
+        ensures limited { self.new.taken ≤ 1048577 }
         ensures within { self.new.place ≤ 1048576 }
         ensures count { Counts result (F.failures feed.old) (F.failures feed.new) }
     {
@@ -136,6 +140,7 @@ impl Window {
         ensures reached { IfOk result (λ lexeme. self.new.place ≤ lexeme.end) }
         ensures took { Takes self.old.taken self.new.taken (F.to_come feed.old) (F.to_come feed.new) }
         ensures near { self.new.taken ≤ self.new.place + 4096 }
+        ensures limited { self.new.taken ≤ 1048577 }
         ensures within { self.new.place ≤ 1048576 }
         ensures fits { IfOk result (λ lexeme. FitsToken lexeme.token) }
         ensures count { Counts result (F.failures feed.old) (F.failures feed.new) }
@@ -162,6 +167,7 @@ impl Window {
         ensures reached { IfOk result (λ lexeme. self.new.place ≤ lexeme.end) }
         ensures took { Takes self.old.taken self.new.taken (F.to_come feed.old) (F.to_come feed.new) }
         ensures near { self.new.taken ≤ self.new.place + 4096 }
+        ensures limited { self.new.taken ≤ 1048577 }
         ensures within { self.new.place ≤ 1048576 }
         ensures fits { IfOk result (λ lexeme. FitsToken lexeme.token) }
         ensures count { Counts result (F.failures feed.old) (F.failures feed.new) }
@@ -195,6 +201,7 @@ impl Window {
         ensures reached { IfOk result (λ lexeme. self.new.place ≤ lexeme.end) }
         ensures took { Takes self.old.taken self.new.taken (F.to_come feed.old) (F.to_come feed.new) }
         ensures near { self.new.taken ≤ self.new.place + 4096 }
+        ensures limited { self.new.taken ≤ 1048577 }
         ensures within { self.new.place ≤ 1048576 }
         ensures fits { IfOk result (λ lexeme. FitsToken lexeme.token) }
         ensures count { Counts result (F.failures feed.old) (F.failures feed.new) }
@@ -221,6 +228,7 @@ impl Window {
         ensures reached { IfOk result (λ lexeme. self.new.place ≤ lexeme.end) }
         ensures took { Takes self.old.taken self.new.taken (F.to_come feed.old) (F.to_come feed.new) }
         ensures near { self.new.taken ≤ self.new.place + 4096 }
+        ensures limited { self.new.taken ≤ 1048577 }
         ensures within { self.new.place ≤ 1048576 }
         ensures fits { IfOk result (λ lexeme. FitsToken lexeme.token) }
         ensures count { Counts result (F.failures feed.old) (F.failures feed.new) }

@@ -1,6 +1,7 @@
 //! Devices in memory.
 
-ghost use Rattle.std.specs.Prelude.{◌≡◌, ◌<◌, length};
+ghost use Rattle.std.specs.Prelude.{◌≡◌, ◌<◌, ◌≤◌, ◌-◌, ◌^◌, ◌↔◌, Some, IfOk, OnErr, IsErr, length};
+ghost use Rattle.tokens.specs.Feed.{Gives, Counts};
 
 use crate::devices::{DeviceFault, Feed};
 use std::marker::Model;
@@ -21,7 +22,7 @@ impl<'a> Model for Pieces<'a> {
 
     ghost Value = { Supply };
 
-    ghost view = { λ p. record { to_come = drop p.place p.bytes.now; taken = p.place; failures = p.failures } };
+    ghost view = { λ p. record { to_come = drop p.place p.bytes.now; taken = p.place; failures = p.failures; reads_left = p.reads_left } };
 
     ghost invariant = { λ p. (p.place ≤ length p.bytes.now) × (0 < p.most) };
 }
@@ -30,7 +31,7 @@ impl<'a> Pieces<'a> {
     /// A device of these bytes, which gives at most so many at a read.
     pub fn new(bytes: &'a [u8], most: usize) -> Self
         requires { 0 < most }
-        ensures { result ≡ record { to_come = bytes.now; taken = 0; failures = 0 } }
+        ensures { result ≡ record { to_come = bytes.now; taken = 0; failures = 0; reads_left = usize.MAX } }
     {
         Pieces::failing_at(bytes, most, usize::MAX)
     }
@@ -38,7 +39,7 @@ impl<'a> Pieces<'a> {
     /// The same, where each read fails from this one on, counted from 0.
     pub fn failing_at(bytes: &'a [u8], most: usize, read: usize) -> Self
         requires { 0 < most }
-        ensures { result ≡ record { to_come = bytes.now; taken = 0; failures = 0 } }
+        ensures { result ≡ record { to_come = bytes.now; taken = 0; failures = 0; reads_left = read } }
     {
         Pieces {
             bytes,
@@ -65,13 +66,22 @@ impl<'a> Pieces<'a> {
 }
 
 impl Feed for Pieces<'_> {
-    ghost use Rattle.std.specs.Prelude.{Some};
-
     ghost failures = { λ p. p.failures };
 
     ghost to_come = { λ p. Some p.to_come };
 
-    fn fill(&mut self, buf: &mut [u8]) -> Result<usize, DeviceFault> {
+    fn fill(&mut self, buf: &mut [u8]) -> Result<usize, DeviceFault>
+        requires nonempty { 0 < length buf.old }
+        requires countable { self.old.failures < 2 ^ 64 - 1 }
+        ensures within { IfOk result (λ n. n ≤ length buf.old) }
+        ensures bytes { IfOk result (λ n. Gives (Some self.old.to_come) (Some self.new.to_come) buf.new n) }
+        ensures kept { OnErr result (Some self.new.to_come ≡ Some self.old.to_come) }
+        ensures count { Counts result self.old.failures self.new.failures }
+
+        // The only reads that fail are those from the given one on.
+        ensures fails { IsErr result ↔ (self.old.reads_left ≡ 0) }
+        ensures left { self.new.reads_left ≡ self.old.reads_left - 1 }
+    {
         if self.reads_left == 0 {
             self.failures += 1;
             return Err(DeviceFault);

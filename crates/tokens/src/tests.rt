@@ -120,6 +120,16 @@ fn comments(rt: HostRuntime) -> Result<(), Fail> {
 }
 
 #[test]
+fn long_comment(rt: HostRuntime) -> Result<(), Fail> {
+    check(
+        &rt,
+        b"/* one\n two\n three, a comment of more than a block of bytes\n * with a star on this line,\n and one more line **/ x",
+        &[(name(b"x"), 5, 113), (Token::End, 5, 113)],
+    )?;
+    Ok(())
+}
+
+#[test]
 fn names(rt: HostRuntime) -> Result<(), Fail> {
     check(
         &rt,

@@ -1,7 +1,7 @@
 //! The window of fixed size through which a source is read.
 
-ghost use Rattle.std.specs.Prelude.{◌≡◌, ◌≢◌, ℕ, ◌+◌, ◌-◌, ◌^◌, ◌<◌, ◌≤◌, List, [], length, take, slice_get, OnOk, OnErr, IfOk, count_by, ◌==◌, not};
-ghost use Rattle.std.specs.List.{prefix_len};
+ghost use Rattle.std.specs.Prelude.{◌≡◌, ◌≢◌, ℕ, ◌+◌, ◌-◌, ◌^◌, ◌<◌, ◌≤◌, List, [], length, take, slice_get, OnOk, OnErr, IfOk, count_by, ◌==◌, not, false};
+ghost use Rattle.std.specs.List.{prefix_len, list_any};
 ghost use Rattle.tokens.specs.Source.{source};
 ghost use Rattle.tokens.specs.Feed.{Counts};
 ghost use Rattle.tokens.specs.Window.{seen, untouched, behind_first, behind_plain, Cuts, IsAtSamePlace, IsAtHandOrEnd, Takes};
@@ -15,6 +15,9 @@ const END_BYTE: u8 = 26;
 
 /// The byte that ends a line.
 const LINE_FEED: u8 = 10;
+
+/// How many bytes are looked at together.
+const BLOCK: usize = 32;
 
 /// What is known of the source behind the bytes at hand.
 #[derive(Clone, Copy, Debug, PartialEq, Eq)]
@@ -100,6 +103,7 @@ impl Window {
         ensures failed { OnErr result (self.new.taken ≡ self.new.place) }
         ensures within { self.new.place ≤ 1048576 }
         ensures near { self.new.taken ≤ self.new.place + 4096 }
+        ensures limited { self.new.taken ≤ 1048577 }
         ensures count { Counts result (F.failures feed.old) (F.failures feed.new) }
     {
         if self.next == self.filled {
@@ -117,6 +121,7 @@ impl Window {
         ensures kept { self.new.taken ≡ self.old.taken }
         ensures within { self.new.place ≤ 1048576 }
         ensures near { self.new.taken ≤ self.new.place + 4096 }
+        ensures limited { self.new.taken ≤ 1048577 }
     {
         if self.bytes[self.next] == LINE_FEED {
             self.line += 1;
@@ -131,6 +136,7 @@ impl Window {
         ensures kept { self.new.taken ≡ self.old.taken }
         ensures within { self.new.place ≤ 1048576 }
         ensures near { self.new.taken ≤ self.new.place + 4096 }
+        ensures limited { self.new.taken ≤ 1048577 }
     {
         let (count, lines) = plain(&self.bytes[self.next..self.filled]);
         self.next += count;
@@ -157,6 +163,7 @@ impl Window {
         ensures took { Takes self.old.taken self.new.taken (F.to_come feed.old) (F.to_come feed.new) }
         ensures failed { OnErr result (self.new.taken ≡ self.new.place) }
         ensures near { self.new.taken ≤ self.new.place + 4096 }
+        ensures limited { self.new.taken ≤ 1048577 }
         ensures count { Counts result (F.failures feed.old) (F.failures feed.new) }
     {
         if self.beyond != Beyond::Unread {
@@ -194,8 +201,16 @@ fn cut(bytes: &[u8], room: usize) -> (usize, Beyond)
 }
 
 /// How many bytes there are before the first that ends a source.
-#[tactic(auto, using(crate::proofs::SourceLemmas::steps))]
 fn source_len(bytes: &[u8]) -> usize
+    ensures { result ≡ length (source bytes.now) }
+{
+    let skipped = blocks_without(bytes, END_BYTE);
+    skipped + first_end(&bytes[skipped..])
+}
+
+/// The same, a byte at a time.
+#[tactic(auto, using(crate::proofs::SourceLemmas::steps))]
+fn first_end(bytes: &[u8]) -> usize
     ensures { result ≡ length (source bytes.now) }
 {
     for (i, b) in bytes.iter().enumerate() {
@@ -212,6 +227,17 @@ fn plain(bytes: &[u8]) -> (usize, u32)
     ensures count { result.0 ≡ prefix_len (λ b. not (b == 42)) bytes.now }
     ensures lines { result.1 ≡ count_by (λ b. b == 10) (take result.0 bytes.now) }
 {
+    let skipped = blocks_without(bytes, b'*');
+    let (count, lines) = first_star(&bytes[skipped..]);
+    (skipped + count, lines_in(&bytes[..skipped]) + lines)
+}
+
+/// The same, a byte at a time.
+fn first_star(bytes: &[u8]) -> (usize, u32)
+    requires { length bytes.now ≤ 4096 }
+    ensures count { result.0 ≡ prefix_len (λ b. not (b == 42)) bytes.now }
+    ensures lines { result.1 ≡ count_by (λ b. b == 10) (take result.0 bytes.now) }
+{
     let mut lines = 0;
     for (i, b) in bytes.iter().enumerate() {
         if *b == b'*' {
@@ -222,4 +248,39 @@ fn plain(bytes: &[u8]) -> (usize, u32)
         }
     }
     (bytes.len(), lines)
+}
+
+/// How many bytes whole blocks without this byte have at the front.
+fn blocks_without(bytes: &[u8], byte: u8) -> usize
+    ensures within { result ≤ length bytes.now }
+    ensures none { list_any (λ b. b == byte) (take result bytes.now) ≡ false }
+{
+    let mut count = 0;
+    while bytes.len() - count >= BLOCK && !has(&bytes[count..count + BLOCK], byte) {
+        count += BLOCK;
+    }
+    count
+}
+
+/// Whether one of these bytes is this one.
+fn has(bytes: &[u8], byte: u8) -> bool
+    ensures { result ≡ list_any (λ b. b == byte) bytes.now }
+{
+    let mut found = false;
+    for b in bytes {
+        found |= *b == byte;
+    }
+    found
+}
+
+/// How many of these bytes end a line.
+fn lines_in(bytes: &[u8]) -> u32
+    requires { length bytes.now ≤ 4096 }
+    ensures { result ≡ count_by (λ b. b == 10) bytes.now }
+{
+    let mut lines = 0;
+    for b in bytes {
+        lines += u32::from(*b == LINE_FEED);
+    }
+    lines
 }

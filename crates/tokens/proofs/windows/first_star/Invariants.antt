@@ -1,6 +1,6 @@
 use Rattle.std.proofs.Common.{◌≡◌, ◌+◌, take, drop, not, ◌==◌}
 use Rattle.std.specs.List.{prefix_len, count_by}
-use Rattle.tokens.proofs.windows.plain.Given as goal
+use Rattle.tokens.proofs.windows.first_star.Given as goal
 
 abbrev pub invariant-loop-i : goal.invariant-loop-i
 invariant-loop-i l = record {
