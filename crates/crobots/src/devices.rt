@@ -1,7 +1,7 @@
 //! Real files and streams as the devices of a run.
 
 ghost use Rattle.std.specs.Prelude.{◌≡◌, ℕ, ◌+◌, ◌-◌, ◌^◌, ◌<◌, ◌≤◌, None, length, take, IfOk, OnOk, OnErr};
-ghost use Rattle.std.specs.Io.KnownBytes.{Appends};
+ghost use Rattle.std.specs.Io.KnownBytes.{Appends, Consumes, IsAtEnd, Keeps};
 
 use series::Sink;
 use std::io::{Read, Write};
@@ -28,7 +28,17 @@ impl<F: Read> Feed for FileFeed<F> {
 
     ghost to_come = { λ _. None };
 
-    fn fill(&mut self, buf: &mut [u8]) -> Result<usize, DeviceFault> {
+    fn fill(&mut self, buf: &mut [u8]) -> Result<usize, DeviceFault>
+        requires nonempty { 0 < length buf.old }
+        requires countable { self.old.failures < 2 ^ 64 - 1 }
+        ensures within { IfOk result (λ n. n ≤ length buf.old) }
+        ensures calm { OnOk result (self.new.failures ≡ self.old.failures) }
+        ensures counted { OnErr result (self.new.failures ≡ self.old.failures + 1) }
+        // A file that tells its bytes has then lost those that were given, and gives none only at its end.
+        ensures given { IfOk result (λ n. Consumes (F.remaining self.old.file) (F.remaining self.new.file) (take n buf.new)) }
+        ensures ends { IfOk result (λ n. n ≡ 0 → IsAtEnd (F.remaining self.new.file)) }
+        ensures kept { OnErr result (Keeps (F.remaining self.old.file) (F.remaining self.new.file)) }
+    {
         match self.file.read(buf) {
             Ok(n) => Ok(n),
             Err(_) => {
