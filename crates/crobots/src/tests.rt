@@ -43,7 +43,8 @@ fn done(rt: HostRuntime) -> Result<(), Fail> {
     fs::write(&rt, "done.r", "main(){}")?;
     let listing =
         b"File done.r\nExternals 0\nFunction 0 main vars 0 at 0\nCode 3\n    0 CONST 0\n    1 RETSUB\n    2 NOP\n";
-    check(&rt, &["-c", "done.r"], 0, listing, b"")
+    check(&rt, &["-c", "done.r"], 0, listing, b"")?;
+    Ok(fs::remove_file(&rt, "done.r")?)
 }
 
 #[test]
@@ -55,7 +56,8 @@ fn faulty(rt: HostRuntime) -> Result<(), Fail> {
         1,
         b"",
         b"faulty.r:1: no main function\n",
-    )
+    )?;
+    Ok(fs::remove_file(&rt, "faulty.r")?)
 }
 
 #[test]
@@ -82,14 +84,8 @@ fn not_opened(rt: HostRuntime) -> Result<(), Fail> {
 
 #[test]
 fn not_read(rt: HostRuntime) -> Result<(), Fail> {
-    fs::create_dir(&rt, "folder")?;
-    check(
-        &rt,
-        &["-c", "folder"],
-        3,
-        b"",
-        b"crobots: cannot read folder\n",
-    )
+    // A folder opens, and fails at its first read.
+    check(&rt, &["-c", "."], 3, b"", b"crobots: cannot read .\n")
 }
 
 #[test]
@@ -103,7 +99,7 @@ fn not_written(rt: HostRuntime) -> Result<(), Fail> {
         taken(&rt, &err)?.as_slice(),
         b"crobots: cannot write\n".as_slice()
     );
-    Ok(())
+    Ok(fs::remove_file(&rt, "written.r")?)
 }
 
 #[test]

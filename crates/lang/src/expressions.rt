@@ -31,10 +31,12 @@ pub fn expression<F: Feed, B: Build>(
     requires deep { depth ≤ 64 }
     requires count { F.failures feed.old < 2 ^ 64 - 1 }
     requires sound { is_fault cursor.old.next.token ≡ false }
-    ensures parsed { OnOk result (AddsExpr (B.stands build.old) (B.stands build.new) depth (Part Expression ∷ []) [] [] (shown cursor.old (F.to_come feed.old)) (shown cursor.new (F.to_come feed.new))) }
+    ensures parsed { OnOk result (AddsExpr (B.stands build.old) (B.stands build.new) depth (Part Expression ∷ []) [] []
+        (shown cursor.old (F.to_come feed.old)) (shown cursor.new (F.to_come feed.new))) }
     ensures sound { OnOk result (is_fault cursor.new.next.token ≡ false) }
     ensures falls { OnOk result (remaining cursor.new < remaining cursor.old) }
-    ensures refused { IfErr result (λ fault. Refused (FailsAt depth (Part Expression ∷ []) [] (shown cursor.old (F.to_come feed.old))) B.allocates fault) }
+    ensures refused { IfErr result (λ fault. Refused (FailsAt depth (Part Expression ∷ []) []
+        (shown cursor.old (F.to_come feed.old))) B.allocates fault) }
     ensures counted { Counts result (F.failures feed.old) (F.failures feed.new) }
 {
     levels(cursor, feed, build, 1, depth)?;
@@ -54,10 +56,12 @@ fn levels<F: Feed, B: Build>(
     requires deep { depth ≤ 64 }
     requires count { F.failures feed.old < 2 ^ 64 - 1 }
     requires sound { is_fault cursor.old.next.token ≡ false }
-    ensures parsed { OnOk result (AddsExpr (B.stands build.old) (B.stands build.new) depth (Part (Level level) ∷ []) [] [] (shown cursor.old (F.to_come feed.old)) (shown cursor.new (F.to_come feed.new))) }
+    ensures parsed { OnOk result (AddsExpr (B.stands build.old) (B.stands build.new) depth (Part (Level level) ∷ []) [] []
+        (shown cursor.old (F.to_come feed.old)) (shown cursor.new (F.to_come feed.new))) }
     ensures sound { OnOk result (is_fault cursor.new.next.token ≡ false) }
     ensures falls { OnOk result (remaining cursor.new < remaining cursor.old) }
-    ensures refused { IfErr result (λ fault. Refused (FailsAt depth (Part (Level level) ∷ []) [] (shown cursor.old (F.to_come feed.old))) B.allocates fault) }
+    ensures refused { IfErr result (λ fault. Refused (FailsAt depth (Part (Level level) ∷ []) []
+        (shown cursor.old (F.to_come feed.old))) B.allocates fault) }
     ensures counted { Counts result (F.failures feed.old) (F.failures feed.new) }
 {
     if level > LAST_LEVEL {
@@ -86,10 +90,12 @@ fn operand<F: Feed, B: Build>(
     requires count { F.failures feed.old < 2 ^ 64 - 1 }
     requires sound { is_fault cursor.old.next.token ≡ false }
     requires is { operator_at level cursor.old.next.token ≡ Some op }
-    ensures parsed { OnOk result (AddsOperand (B.stands build.old) (B.stands build.new) depth level op (shown cursor.old (F.to_come feed.old)) (shown cursor.new (F.to_come feed.new))) }
+    ensures parsed { OnOk result (AddsOperand (B.stands build.old) (B.stands build.new) depth level op
+        (shown cursor.old (F.to_come feed.old)) (shown cursor.new (F.to_come feed.new))) }
     ensures sound { OnOk result (is_fault cursor.new.next.token ≡ false) }
     ensures falls { OnOk result (remaining cursor.new < remaining cursor.old) }
-    ensures refused { IfErr result (λ fault. Refused (FailsOperand depth level (shown cursor.old (F.to_come feed.old))) B.allocates fault) }
+    ensures refused { IfErr result (λ fault. Refused (FailsOperand depth level
+        (shown cursor.old (F.to_come feed.old))) B.allocates fault) }
     ensures counted { Counts result (F.failures feed.old) (F.failures feed.new) }
 {
     advance(cursor, feed)?;
@@ -110,10 +116,12 @@ fn primary<F: Feed, B: Build>(
     requires deep { depth ≤ 64 }
     requires count { F.failures feed.old < 2 ^ 64 - 1 }
     requires sound { is_fault cursor.old.next.token ≡ false }
-    ensures parsed { OnOk result (AddsExpr (B.stands build.old) (B.stands build.new) depth (Part Primary ∷ []) [] [] (shown cursor.old (F.to_come feed.old)) (shown cursor.new (F.to_come feed.new))) }
+    ensures parsed { OnOk result (AddsExpr (B.stands build.old) (B.stands build.new) depth (Part Primary ∷ []) [] []
+        (shown cursor.old (F.to_come feed.old)) (shown cursor.new (F.to_come feed.new))) }
     ensures sound { OnOk result (is_fault cursor.new.next.token ≡ false) }
     ensures falls { OnOk result (remaining cursor.new < remaining cursor.old) }
-    ensures refused { IfErr result (λ fault. Refused (FailsAt depth (Part Primary ∷ []) [] (shown cursor.old (F.to_come feed.old))) B.allocates fault) }
+    ensures refused { IfErr result (λ fault. Refused (FailsAt depth (Part Primary ∷ []) []
+        (shown cursor.old (F.to_come feed.old))) B.allocates fault) }
     ensures counted { Counts result (F.failures feed.old) (F.failures feed.new) }
 {
     if is_mark(&cursor.next().token, Mark::OpenRound) {
@@ -136,10 +144,12 @@ fn constant<F: Feed, B: Build>(
     requires count { F.failures feed.old < 2 ^ 64 - 1 }
     requires fits { value ≤ 2147483647 }
     requires is { cursor.old.next.token ≡ token.Constant value }
-    ensures parsed { OnOk result (AddsPrimary (B.stands build.old) (B.stands build.new) (shown cursor.old (F.to_come feed.old)) (shown cursor.new (F.to_come feed.new))) }
+    ensures parsed { OnOk result (AddsPrimary (B.stands build.old) (B.stands build.new)
+        (shown cursor.old (F.to_come feed.old)) (shown cursor.new (F.to_come feed.new))) }
     ensures sound { OnOk result (is_fault cursor.new.next.token ≡ false) }
     ensures falls { OnOk result (remaining cursor.new < remaining cursor.old) }
-    ensures refused { IfErr result (λ fault. Refused (FailsFrom (Part Primary ∷ []) [] (shown cursor.old (F.to_come feed.old))) B.allocates fault) }
+    ensures refused { IfErr result (λ fault. Refused (FailsFrom (Part Primary ∷ []) []
+        (shown cursor.old (F.to_come feed.old))) B.allocates fault) }
     ensures counted { Counts result (F.failures feed.old) (F.failures feed.new) }
 {
     build.constant(value as i32)?;
@@ -158,10 +168,12 @@ fn bracketed<F: Feed, B: Build>(
     requires deep { depth ≤ 64 }
     requires count { F.failures feed.old < 2 ^ 64 - 1 }
     requires is { is_mark mark.OpenRound cursor.old.next.token ≡ true }
-    ensures parsed { OnOk result (AddsExpr (B.stands build.old) (B.stands build.new) depth (Part Primary ∷ []) [] [] (shown cursor.old (F.to_come feed.old)) (shown cursor.new (F.to_come feed.new))) }
+    ensures parsed { OnOk result (AddsExpr (B.stands build.old) (B.stands build.new) depth (Part Primary ∷ []) [] []
+        (shown cursor.old (F.to_come feed.old)) (shown cursor.new (F.to_come feed.new))) }
     ensures sound { OnOk result (is_fault cursor.new.next.token ≡ false) }
     ensures falls { OnOk result (remaining cursor.new < remaining cursor.old) }
-    ensures refused { IfErr result (λ fault. Refused (FailsAt depth (Part Primary ∷ []) [] (shown cursor.old (F.to_come feed.old))) B.allocates fault) }
+    ensures refused { IfErr result (λ fault. Refused (FailsAt depth (Part Primary ∷ []) []
+        (shown cursor.old (F.to_come feed.old))) B.allocates fault) }
     ensures counted { Counts result (F.failures feed.old) (F.failures feed.new) }
 {
     if depth >= MOST_LEVELS {

@@ -45,8 +45,10 @@ fn source<F: Feed, B: Build>(
 ) -> Result<Pools, ParseFault>
     requires count { F.failures feed.old < 2 ^ 64 - 1 }
     requires sound { is_fault cursor.old.next.token ≡ false }
-    ensures file { IfOk result (λ pools. IsFileOf (B.stands build.old) (B.stands build.new) (shown cursor.old (F.to_come feed.old)) pools) }
-    ensures refused { IfErr result (λ fault. Refused (FailsFile (B.stands build.old) (shown cursor.old (F.to_come feed.old))) B.allocates fault) }
+    ensures file { IfOk result (λ pools. IsFileOf (B.stands build.old) (B.stands build.new)
+        (shown cursor.old (F.to_come feed.old)) pools) }
+    ensures refused { IfErr result (λ fault. Refused (FailsFile (B.stands build.old)
+        (shown cursor.old (F.to_come feed.old))) B.allocates fault) }
     ensures counted { Counts result (F.failures feed.old) (F.failures feed.new) }
 {
     if is_end(&cursor.next().token) {
@@ -67,9 +69,11 @@ fn source<F: Feed, B: Build>(
 fn heading<F: Feed>(cursor: &mut Cursor, feed: &mut F) -> Result<(), ParseFault>
     requires count { F.failures feed.old < 2 ^ 64 - 1 }
     requires main { is_main cursor.old.next.token ≡ true }
-    ensures passed { OnOk result (DerivesHeading (shown cursor.old (F.to_come feed.old)) (shown cursor.new (F.to_come feed.new))) }
+    ensures passed { OnOk result (DerivesHeading
+        (shown cursor.old (F.to_come feed.old)) (shown cursor.new (F.to_come feed.new))) }
     ensures sound { OnOk result (is_fault cursor.new.next.token ≡ false) }
-    ensures refused { IfErr result (λ fault. Refused (FailsHeading (shown cursor.old (F.to_come feed.old))) false fault) }
+    ensures refused { IfErr result (λ fault. Refused (FailsHeading
+        (shown cursor.old (F.to_come feed.old))) false fault) }
     ensures counted { Counts result (F.failures feed.old) (F.failures feed.new) }
 {
     advance(cursor, feed)?;
@@ -86,9 +90,11 @@ fn block<F: Feed, B: Build>(
 ) -> Result<(), ParseFault>
     requires count { F.failures feed.old < 2 ^ 64 - 1 }
     requires sound { is_fault cursor.old.next.token ≡ false }
-    ensures parsed { OnOk result (AddsBlock (B.stands build.old) (B.stands build.new) (shown cursor.old (F.to_come feed.old)) (shown cursor.new (F.to_come feed.new))) }
+    ensures parsed { OnOk result (AddsBlock (B.stands build.old) (B.stands build.new)
+        (shown cursor.old (F.to_come feed.old)) (shown cursor.new (F.to_come feed.new))) }
     ensures closed { OnOk result (is_mark mark.CloseCurly cursor.new.next.token ≡ true) }
-    ensures refused { IfErr result (λ fault. Refused (FailsBlock (shown cursor.old (F.to_come feed.old))) B.allocates fault) }
+    ensures refused { IfErr result (λ fault. Refused (FailsBlock
+        (shown cursor.old (F.to_come feed.old))) B.allocates fault) }
     ensures counted { Counts result (F.failures feed.old) (F.failures feed.new) }
 {
     if !is_mark(&cursor.next().token, Mark::OpenCurly) {
@@ -119,7 +125,8 @@ fn ending<F: Feed>(cursor: &mut Cursor, feed: &mut F) -> Result<(), ParseFault>
     requires count { F.failures feed.old < 2 ^ 64 - 1 }
     requires closed { is_mark mark.CloseCurly cursor.old.next.token ≡ true }
     ensures passed { OnOk result (DerivesEnding (shown cursor.old (F.to_come feed.old))) }
-    ensures refused { IfErr result (λ fault. Refused (FailsEnding (shown cursor.old (F.to_come feed.old))) false fault) }
+    ensures refused { IfErr result (λ fault. Refused (FailsEnding
+        (shown cursor.old (F.to_come feed.old))) false fault) }
     ensures counted { Counts result (F.failures feed.old) (F.failures feed.new) }
 {
     advance(cursor, feed)?;

@@ -38,10 +38,12 @@ pub fn misfit(lexeme: &Lexeme) -> Diagnostic
 pub fn advance<F: Feed>(cursor: &mut Cursor, feed: &mut F) -> Result<(), ParseFault>
     requires more { is_last cursor.old.next.token ≡ false }
     requires count { F.failures feed.old < 2 ^ 64 - 1 }
-    ensures passed { OnOk result (GoesPast (shown cursor.old (F.to_come feed.old)) (shown cursor.new (F.to_come feed.new))) }
+    ensures passed { OnOk result (GoesPast
+        (shown cursor.old (F.to_come feed.old)) (shown cursor.new (F.to_come feed.new))) }
     ensures sound { OnOk result (is_fault cursor.new.next.token ≡ false) }
     ensures falls { OnOk result (remaining cursor.new < remaining cursor.old) }
-    ensures refused { IfErr result (λ fault. Refused (StopsAt (shown cursor.old (F.to_come feed.old))) false fault) }
+    ensures refused { IfErr result (λ fault. Refused (StopsAt
+        (shown cursor.old (F.to_come feed.old))) false fault) }
     ensures counted { Counts result (F.failures feed.old) (F.failures feed.new) }
 {
     cursor.advance(feed)?;
@@ -55,10 +57,12 @@ pub fn advance<F: Feed>(cursor: &mut Cursor, feed: &mut F) -> Result<(), ParseFa
 pub fn expect<F: Feed>(cursor: &mut Cursor, feed: &mut F, mark: Mark) -> Result<(), ParseFault>
     requires sound { is_fault cursor.old.next.token ≡ false }
     requires count { F.failures feed.old < 2 ^ 64 - 1 }
-    ensures passed { OnOk result (DerivesMark mark (shown cursor.old (F.to_come feed.old)) (shown cursor.new (F.to_come feed.new))) }
+    ensures passed { OnOk result (DerivesMark mark
+        (shown cursor.old (F.to_come feed.old)) (shown cursor.new (F.to_come feed.new))) }
     ensures sound { OnOk result (is_fault cursor.new.next.token ≡ false) }
     ensures falls { OnOk result (remaining cursor.new < remaining cursor.old) }
-    ensures refused { IfErr result (λ fault. Refused (FailsFrom (Exactly mark ∷ []) [] (shown cursor.old (F.to_come feed.old))) false fault) }
+    ensures refused { IfErr result (λ fault. Refused (FailsFrom (Exactly mark ∷ []) []
+        (shown cursor.old (F.to_come feed.old))) false fault) }
     ensures counted { Counts result (F.failures feed.old) (F.failures feed.new) }
 {
     if !is_mark(&cursor.next().token, mark) {

@@ -22,10 +22,12 @@ pub fn statements<F: Feed, B: Build>(
     requires deep { depth ≤ 64 }
     requires count { F.failures feed.old < 2 ^ 64 - 1 }
     requires sound { is_fault cursor.old.next.token ≡ false }
-    ensures parsed { OnOk result (AddsBody (B.stands build.old) (B.stands build.new) depth (Part Statements ∷ []) [] (shown cursor.old (F.to_come feed.old)) (shown cursor.new (F.to_come feed.new))) }
+    ensures parsed { OnOk result (AddsBody (B.stands build.old) (B.stands build.new) depth (Part Statements ∷ []) []
+        (shown cursor.old (F.to_come feed.old)) (shown cursor.new (F.to_come feed.new))) }
     ensures sound { OnOk result (is_fault cursor.new.next.token ≡ false) }
     ensures closed { OnOk result (is_mark mark.CloseCurly cursor.new.next.token ≡ true) }
-    ensures refused { IfErr result (λ fault. Refused (FailsBody depth (Part Statements ∷ []) (shown cursor.old (F.to_come feed.old))) B.allocates fault) }
+    ensures refused { IfErr result (λ fault. Refused (FailsBody depth (Part Statements ∷ [])
+        (shown cursor.old (F.to_come feed.old))) B.allocates fault) }
     ensures counted { Counts result (F.failures feed.old) (F.failures feed.new) }
 {
     while !is_mark(&cursor.next().token, Mark::CloseCurly) {
@@ -44,10 +46,12 @@ fn statement<F: Feed, B: Build>(
     requires deep { depth ≤ 64 }
     requires count { F.failures feed.old < 2 ^ 64 - 1 }
     requires sound { is_fault cursor.old.next.token ≡ false }
-    ensures parsed { OnOk result (AddsBody (B.stands build.old) (B.stands build.new) depth (Part Statement ∷ []) [] (shown cursor.old (F.to_come feed.old)) (shown cursor.new (F.to_come feed.new))) }
+    ensures parsed { OnOk result (AddsBody (B.stands build.old) (B.stands build.new) depth (Part Statement ∷ []) []
+        (shown cursor.old (F.to_come feed.old)) (shown cursor.new (F.to_come feed.new))) }
     ensures sound { OnOk result (is_fault cursor.new.next.token ≡ false) }
     ensures falls { OnOk result (remaining cursor.new < remaining cursor.old) }
-    ensures refused { IfErr result (λ fault. Refused (FailsBody depth (Part Statement ∷ []) (shown cursor.old (F.to_come feed.old))) B.allocates fault) }
+    ensures refused { IfErr result (λ fault. Refused (FailsBody depth (Part Statement ∷ [])
+        (shown cursor.old (F.to_come feed.old))) B.allocates fault) }
     ensures counted { Counts result (F.failures feed.old) (F.failures feed.new) }
 {
     if is_mark(&cursor.next().token, Mark::Semicolon) {
@@ -72,10 +76,12 @@ fn evaluation<F: Feed, B: Build>(
     requires sound { is_fault cursor.old.next.token ≡ false }
     requires other { is_mark mark.Semicolon cursor.old.next.token ≡ false }
     requires plain { opens_statement cursor.old.next.token ≡ false }
-    ensures parsed { OnOk result (AddsBody (B.stands build.old) (B.stands build.new) depth (Part Statement ∷ []) [] (shown cursor.old (F.to_come feed.old)) (shown cursor.new (F.to_come feed.new))) }
+    ensures parsed { OnOk result (AddsBody (B.stands build.old) (B.stands build.new) depth (Part Statement ∷ []) []
+        (shown cursor.old (F.to_come feed.old)) (shown cursor.new (F.to_come feed.new))) }
     ensures sound { OnOk result (is_fault cursor.new.next.token ≡ false) }
     ensures falls { OnOk result (remaining cursor.new < remaining cursor.old) }
-    ensures refused { IfErr result (λ fault. Refused (FailsBody depth (Part Statement ∷ []) (shown cursor.old (F.to_come feed.old))) B.allocates fault) }
+    ensures refused { IfErr result (λ fault. Refused (FailsBody depth (Part Statement ∷ [])
+        (shown cursor.old (F.to_come feed.old))) B.allocates fault) }
     ensures counted { Counts result (F.failures feed.old) (F.failures feed.new) }
 {
     expression(cursor, feed, build, depth)?;
