@@ -13,7 +13,7 @@ use Rattle.code.specs.declared.instr.Instr.TheVariants.{Const, Binop, Retsub, No
 use Rattle.code.specs.declared.instr.Instr.TheVariants as instr
 use Rattle.code.specs.Generation.{Piece, ◌⨾◌, only, code_of, expr_code, body_code, function_code, functions_code, addresses_from}
 use Rattle.code.specs.Generation.{last_return as return_code}
-use Rattle.code.specs.Making.{Made, made_nothing, with_function, making, made_from, made, is_between, is_ended}
+use Rattle.code.specs.Making.{Made, made_nothing, with_function, making, made_from, made, ends_function, is_ended}
 
 pub made_from-append : (m : Made) (xs ys : List Action) → made_from m (xs ++ ys) ≡ made_from (made_from m xs) ys
 made_from-append m [] ys = refl
@@ -139,7 +139,7 @@ is_ended-append [] y ys = refl
 is_ended-append (x ∷ []) y ys = refl
 is_ended-append (x ∷ x' ∷ xs) y ys = is_ended-append (x' ∷ xs) y ys
 
-pub is_ended-last : (acts : List Action) (a : Action) → is_ended (acts ++ a ∷ []) ≡ is_between a
+pub is_ended-last : (acts : List Action) (a : Action) → is_ended (acts ++ a ∷ []) ≡ ends_function a
 is_ended-last acts a = is_ended-append acts a []
 
 is_ended-both : (xs ys : List Action) → is_ended xs ≡ true → is_ended ys ≡ true → is_ended (xs ++ ys) ≡ true

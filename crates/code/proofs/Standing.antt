@@ -10,7 +10,7 @@ use Rattle.lang.specs.Tree.{File}
 use Rattle.code.specs.declared.instr.Instr.{Instr}
 use Rattle.code.specs.declared.instr.Instr.TheVariants.{Nop}
 use Rattle.code.specs.Generation.{Code, code_of, IsProgramOf}
-use Rattle.code.specs.Making.{Made, made_nothing, with_instr, with_function, making, made, is_between, instr_of, Fits, Stands}
+use Rattle.code.specs.Making.{Made, made_nothing, with_instr, with_function, making, made, ends_function, instr_of, Fits, Stands}
 use Rattle.code.proofs.Law.{made_from-append, length-made, code_length-append, is_ended-last, is_ended-actions, made_file}
 
 limit : {m : Made} {p : Profile} {acts : List Action} → Stands m p acts → p.instructions ≡ 2000
@@ -61,7 +61,7 @@ one_instr GiveBack i e = refl
 one_instr (Begin number parameters) i e = cc
 one_instr (Finish variables) i e = cc
 
-ends_nothing : (a : Action) (i : Instr) → instr_of a ≡ Some i → is_between a ≡ false
+ends_nothing : (a : Action) (i : Instr) → instr_of a ≡ Some i → ends_function a ≡ false
 ends_nothing (Push value) i e = refl
 ends_nothing (Middle o) i e = refl
 ends_nothing (Apply o) i e = refl
@@ -72,7 +72,7 @@ ends_nothing (Finish variables) i e = cc
 
 -- an action that makes as many instructions as the maker then holds more, and changes what is held as it should
 module _ {m m' : Made} {p : Profile} {acts : List Action} (a : Action) (s : Stands m p acts) where
-  appended : (Fits p (acts ++ a ∷ []) → m' ≡ making m a) → (p.instructions < code_length (acts ++ a ∷ []) + 1 → length m'.code ≡ p.instructions) → (is_between a ≡ true → Fits p (acts ++ a ∷ [])) → Stands m' p (acts ++ a ∷ [])
+  appended : (Fits p (acts ++ a ∷ []) → m' ≡ making m a) → (p.instructions < code_length (acts ++ a ∷ []) + 1 → length m'.code ≡ p.instructions) → (ends_function a ≡ true → Fits p (acts ++ a ∷ [])) → Stands m' p (acts ++ a ∷ [])
   appended holds full ended = record {
     profile = s.profile;
     holds = λ fits.

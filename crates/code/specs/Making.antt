@@ -38,14 +38,15 @@ made_from m (a ∷ acts) = made_from (making m a) acts
 abbrev pub made : List Action → Made
 made acts = made_from made_nothing acts
 
--- no function is open behind these actions
-abbrev pub is_between : Action → Bool
-is_between (Finish variables) = true
-is_between _ = false
+-- the action ends a function
+abbrev pub ends_function : Action → Bool
+ends_function (Finish variables) = true
+ends_function _ = false
 
+-- no function is open behind these actions
 abbrev pub is_ended : List Action → Bool
 is_ended [] = true
-is_ended (a ∷ []) = is_between a
+is_ended (a ∷ []) = ends_function a
 is_ended (a ∷ b ∷ acts) = is_ended (b ∷ acts)
 
 -- the code and the last NOP are within the profile's limit
