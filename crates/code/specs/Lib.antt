@@ -1,5 +1,10 @@
+pub mod Functions
+pub mod Values
 pub mod Generation
-pub mod Making
+pub mod Machine
+pub mod Meaning
 pub mod Finishing
+pub mod Standing
+pub mod Making
 pub mod Spelling
 pub mod Listing

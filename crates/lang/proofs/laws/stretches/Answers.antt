@@ -1,0 +1,5 @@
+use Rattle.lang.proofs.Stretches.{joined}
+use Rattle.lang.proofs.laws.stretches.Goals as goal
+
+pub returns : goal.returns
+returns c = joined
