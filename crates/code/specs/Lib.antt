@@ -1,10 +1,5 @@
-pub mod Functions
-pub mod Values
 pub mod Generation
-pub mod Machine
-pub mod Meaning
-pub mod Finishing
-pub mod Standing
 pub mod Making
+pub mod Finishing
 pub mod Spelling
 pub mod Listing

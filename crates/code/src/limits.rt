@@ -1,13 +1,7 @@
-//! The limits of a program's code, of the machine and of the lines of a listing.
+//! The limits of a program's code and of the lines of its listing.
 
 /// The most instructions of a program's code, with the NOP that ends it.
 pub const MOST_INSTRUCTIONS: usize = 2000;
-
-/// The words of a machine's stack.
-pub const MOST_WORDS: usize = 500;
-
-/// The most frames that are open at once.
-pub const MOST_FRAMES: usize = 64;
 
 /// The most bytes of a line of a listing, without its LF.
 pub const LINE_BYTES: usize = 80;

@@ -3,13 +3,13 @@ use Rattle.std.proofs.Common.{◌≡◌, ℕ, zero, suc, ◌+◌, ◌⊎◌, Lis
 use Rattle.std.specs.Prelude.{Option, Some, None, Err, unwrap_or, if◌then◌else◌}
 use Rattle.tokens.specs.declared.lexemes.Lexeme.{Lexeme}
 use Rattle.lang.specs.declared.diagnostics.Diagnostic.{Diagnostic}
-use Rattle.lang.specs.Compiled.{compiled_tokens, verdict, resolved, enough, diagnostic}
-use Rattle.lang.specs.Derivation.{State, Value, Definition, start, step, step_of, stepped, run, next_of, line_of, matched, name_matched, replaced, constant_matched}
+use Rattle.lang.specs.Compiled.{compiled_tokens, verdict, file_of, enough, diagnostic, line_of}
+use Rattle.lang.specs.Derivation.{State, Value, start, step, step_of, stepped, run, next_of, matched, replaced, constant_matched}
 use Rattle.lang.specs.Faults.{Fault, faults_at, faults_in, first_of}
-use Rattle.lang.specs.Grammar.{Item, Exactly, AWord, AName, AConstant, AnEnd, Part, Make, Shut, Role, Production, is_fault}
+use Rattle.lang.specs.Grammar.{Item, Exactly, AName, AConstant, AnEnd, Part, Make, Shut, Production, is_fault}
 use Rattle.lang.specs.Parsing.{IsIn, IsFault, IsFirstFault, Fails, Passes}
 use Rattle.lang.specs.Profile.{Profile}
-use Rattle.lang.specs.Scope.{Scope}
+use Rattle.lang.specs.Tree.{Function}
 use Rattle.lang.specs.Weight.{weight}
 use Rattle.lang.proofs.Endings.{IsFinal, ends, stays_final, final_stays}
 use Rattle.lang.proofs.Firsts.{at_rest}
@@ -58,11 +58,11 @@ reached profile n m s t final leads clean ended quiet (inr a) = record {
   there = sym (stays_final a.more (run n s) final) ∙ sym (run-add n a.more s) ∙ subst (λ (k : ℕ). run k s ≡ t) (sym a.sum) leads;
 }
 
-pub enough_ends : (lexemes : List Lexeme) → IsFinal (run (enough lexemes) (start lexemes))
+enough_ends : (lexemes : List Lexeme) → IsFinal (run (enough lexemes) (start lexemes))
 enough_ends lexemes = ends (enough lexemes) (start lexemes) (le-add_right (weight (start lexemes)) 1)
 
 pub clean_verdict : (profile : Profile) (lexemes : List Lexeme) (t : State) → Passes profile (start lexemes) t → IsFinal t → faults_at profile t ≡ [] →
-    compiled_tokens profile lexemes ≡ resolved lexemes t.scope t.functions
+    compiled_tokens profile lexemes ≡ file_of lexemes t.functions
 clean_verdict profile lexemes t p ended quiet =
     let r : Reaches profile (enough lexemes) (start lexemes) t = reached profile (enough lexemes) p.steps (start lexemes) t (enough_ends lexemes) p.leads p.clean ended quiet (apart p.steps (enough lexemes)) in
     rw (r.clean, r.there) refl
@@ -125,32 +125,27 @@ abbrev Rests : List Lexeme → Option State → Type 0
 Rests rest None = Unit {0}
 Rests rest (Some t) = IsRest t.rest rest
 
-name_rests : (role : Role) (name : Option (List ℕ)) (stack : List Item) (rest : List Lexeme) (values : List Value) (scope : Scope) (functions : List Definition) → Rests rest (name_matched role name stack rest values scope functions)
-name_rests role (Some name) stack rest values scope functions = rest_fewer rest
-name_rests role None stack rest values scope functions = tt
+matched_rests : (fits : Bool) (stack : List Item) (rest : List Lexeme) (values : List Value) (functions : List Function) → Rests rest (matched fits stack rest values functions)
+matched_rests true stack rest values functions = rest_fewer rest
+matched_rests false stack rest values functions = tt
 
-matched_rests : (fits : Bool) (stack : List Item) (rest : List Lexeme) (values : List Value) (scope : Scope) (functions : List Definition) → Rests rest (matched fits stack rest values scope functions)
-matched_rests true stack rest values scope functions = rest_fewer rest
-matched_rests false stack rest values scope functions = tt
+constant_rests : (value : Option ℕ) (stack : List Item) (rest : List Lexeme) (values : List Value) (functions : List Function) → Rests rest (constant_matched value stack rest values functions)
+constant_rests (Some value) stack rest values functions = rest_fewer rest
+constant_rests None stack rest values functions = tt
 
-constant_rests : (value : Option ℕ) (stack : List Item) (rest : List Lexeme) (values : List Value) (scope : Scope) (functions : List Definition) → Rests rest (constant_matched value stack rest values scope functions)
-constant_rests (Some value) stack rest values scope functions = rest_fewer rest
-constant_rests None stack rest values scope functions = tt
+replaced_rests : (items : Production) (stack : List Item) (rest : List Lexeme) (values : List Value) (functions : List Function) → Rests rest (replaced items stack rest values functions)
+replaced_rests (Some items) stack rest values functions = rest_itself rest
+replaced_rests None stack rest values functions = tt
 
-replaced_rests : (items : Production) (stack : List Item) (rest : List Lexeme) (values : List Value) (scope : Scope) (functions : List Definition) → Rests rest (replaced items stack rest values scope functions)
-replaced_rests (Some items) stack rest values scope functions = rest_itself rest
-replaced_rests None stack rest values scope functions = tt
-
-step_rests : (stack : List Item) (rest : List Lexeme) (values : List Value) (scope : Scope) (functions : List Definition) → Rests rest (step_of stack rest values scope functions)
-step_rests [] rest values scope functions = tt
-step_rests (Exactly m ∷ stack) rest values scope functions = matched_rests _ stack rest values scope functions
-step_rests (AWord w ∷ stack) rest values scope functions = matched_rests _ stack rest values scope functions
-step_rests (AName role ∷ stack) rest values scope functions = name_rests role _ stack rest values scope functions
-step_rests (AnEnd ∷ stack) rest values scope functions = matched_rests _ stack rest values scope functions
-step_rests (AConstant ∷ stack) rest values scope functions = constant_rests _ stack rest values scope functions
-step_rests (Part symbol ∷ stack) rest values scope functions = replaced_rests _ stack rest values scope functions
-step_rests (Make rule ∷ stack) rest values scope functions = rest_itself rest
-step_rests (Shut ∷ stack) rest values scope functions = rest_itself rest
+step_rests : (stack : List Item) (rest : List Lexeme) (values : List Value) (functions : List Function) → Rests rest (step_of stack rest values functions)
+step_rests [] rest values functions = tt
+step_rests (Exactly m ∷ stack) rest values functions = matched_rests _ stack rest values functions
+step_rests (AName ∷ stack) rest values functions = matched_rests _ stack rest values functions
+step_rests (AnEnd ∷ stack) rest values functions = matched_rests _ stack rest values functions
+step_rests (AConstant ∷ stack) rest values functions = constant_rests _ stack rest values functions
+step_rests (Part symbol ∷ stack) rest values functions = replaced_rests _ stack rest values functions
+step_rests (Make rule ∷ stack) rest values functions = rest_itself rest
+step_rests (Shut ∷ stack) rest values functions = rest_itself rest
 
 guarded_rests : (b : Bool) (rest : List Lexeme) (o : Option State) → Rests rest o → Rests rest (if b then None else o)
 guarded_rests true rest o h = tt
@@ -163,7 +158,7 @@ kept_rests s (Some t) h = h
 run_rests : (n : ℕ) (s : State) → IsRest (run n s).rest s.rest
 run_rests zero s = rest_itself s.rest
 run_rests (suc n) s = rest_of_rest _ _ _ (run_rests n (stepped s))
-    (kept_rests s (step s) (guarded_rests (is_fault (next_of s.rest)) s.rest _ (step_rests s.stack s.rest s.values s.scope s.functions)))
+    (kept_rests s (step s) (guarded_rests (is_fault (next_of s.rest)) s.rest _ (step_rests s.stack s.rest s.values s.functions)))
 
 same_tails : (a b x y : List Lexeme) → a ++ x ≡ b ++ y → length x ≡ length y → x ≡ y
 same_tails [] [] x y e l = e
@@ -184,11 +179,11 @@ some_fault : (f : Fault) (xs : List Fault) → IsIn f xs → (g : Fault) × (gs 
 some_fault f [] h = absurd h
 some_fault f (g ∷ gs) h = (g, gs, refl)
 
-verdict_at : (profile : Profile) (lexemes : List Lexeme) (s : State) (f : Fault) (faults : List Fault) (scope : Scope) (functions : List Definition) →
+verdict_at : (profile : Profile) (lexemes : List Lexeme) (s : State) (f : Fault) (faults : List Fault) (functions : List Function) →
     IsFirstFault profile s f → ((g : Fault) → IsIn g faults → IsFault profile s g) → IsIn f faults →
-    verdict lexemes faults scope functions ≡ Err (diagnostic (line_of f.rest) f.code)
-verdict_at profile lexemes s f [] scope functions first sound h = absurd h
-verdict_at profile lexemes s f (g ∷ gs) scope functions first sound h =
+    verdict lexemes faults functions ≡ Err (diagnostic (line_of f.rest) f.code)
+verdict_at profile lexemes s f [] functions first sound h = absurd h
+verdict_at profile lexemes s f (g ∷ gs) functions first sound h =
     let one : IsFault profile s (first_of g gs) = sound (first_of g gs) (first_in g gs) in
     let same : (length f.rest ≡ length (first_of g gs).rest) × (f.code ≡ (first_of g gs).code) = same_place f (first_of g gs) (first.first (first_of g gs) one) (first_least g gs f h) in
     let rest : f.rest ≡ (first_of g gs).rest = same_rest profile s f (first_of g gs) first.comes one same.0 in
@@ -199,7 +194,7 @@ fault_verdict profile lexemes d h =
     let n : ℕ = weight (start lexemes) in
     let here : IsIn h.fault (faults_in profile (suc n) (start lexemes)) = all_gathered profile n (start lexemes) h.first.comes.steps h.fault (ends n (start lexemes) (le_refl n)) h.first.comes.here in
     let there : IsIn h.fault (faults_in profile (enough lexemes) (start lexemes)) = subst (λ (k : ℕ). IsIn h.fault (faults_in profile k (start lexemes))) (sym (add-one n)) here in
-    verdict_at profile lexemes (start lexemes) h.fault (faults_in profile (enough lexemes) (start lexemes)) _ _ h.first (gathered profile (enough lexemes) (start lexemes)) there
+    verdict_at profile lexemes (start lexemes) h.fault (faults_in profile (enough lexemes) (start lexemes)) _ h.first (gathered profile (enough lexemes) (start lexemes)) there
     ∙ ap Err (same_diagnostic d (diagnostic (line_of h.fault.rest) h.fault.code) h.line h.code)
   where
     same_diagnostic : (d e : Diagnostic) → d.line ≡ e.line → d.code ≡ e.code → e ≡ d

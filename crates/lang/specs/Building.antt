@@ -1,28 +1,13 @@
 -- What a builder's calls do to the lists of actions that it stands for.
-use Rattle.std.specs.Prelude.{◌≡◌, ◌+◌, ◌<◌, ◌≤◌, List, [], ◌∷◌, ◌++◌, Bool, Some, Result, Ok, Err, IsTrue}
+use Rattle.std.specs.Prelude.{◌+◌, ◌<◌, ◌≤◌, List, [], ◌∷◌, ◌++◌, Bool, Result, Ok, Err, IsTrue}
 use Rattle.lang.specs.declared.build.BuildFault.{BuildFault}
 use Rattle.lang.specs.declared.build.BuildFault.TheVariants as fault
 use Rattle.lang.specs.Actions.{Action, code_length}
-use Rattle.lang.specs.Following.{Opened, follow_all, IsBeginning}
 use Rattle.lang.specs.Profile.{Profile}
 
 -- the profiles by which a builder goes, with the lists of actions that it stands for
 abbrev pub Meaning : Type 1
 Meaning = Profile → List Action → Type 0
-
--- a list is stood for behind which the action may follow
-pub record MayFollow (before : Meaning) (action : Action) : Type 0 where
-  pub profile : Profile
-  pub acts : List Action
-  pub stood : before profile acts
-  pub begins : IsBeginning (acts ++ action ∷ [])
-
--- a list is stood for that leaves this open
-pub record StandsOpen (before : Meaning) (opened : Opened) : Type 0 where
-  pub profile : Profile
-  pub acts : List Action
-  pub stood : before profile acts
-  pub opens : follow_all acts [] ≡ Some opened
 
 -- each list stood for before, with these actions at its end, is stood for behind the call
 abbrev pub AppendsAll : Meaning → Meaning → List Action → Type 0

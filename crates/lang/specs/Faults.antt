@@ -8,20 +8,15 @@ use Rattle.tokens.specs.declared.lexemes.Token.TheVariants as token
 use Rattle.tokens.specs.declared.lexemes.Word.TheVariants as word
 use Rattle.lang.specs.declared.diagnostics.Code.{Code}
 use Rattle.lang.specs.declared.diagnostics.Code.TheVariants as code
-use Rattle.lang.specs.Actions.{Action, code_length, function_actions}
-use Rattle.lang.specs.Derivation.{State, Value, Definition, definition_of, last_body, step_of, stepped, next_of, after_of, name_of_token}
-use Rattle.lang.specs.Grammar.{Item, AName, Part, Make, Shut, Define, Symbol, Role, Defined, External, Parameter, Typed, Local, Called, Mentioned, is_fault, opens}
-use Rattle.lang.specs.Intrinsics.{is_intrinsic}
+use Rattle.lang.specs.Actions.{code_length, functions_actions}
+use Rattle.lang.specs.Derivation.{State, Value, ABody, step_of, stepped, next_of, main_function}
+use Rattle.lang.specs.Grammar.{Item, Part, Make, Shut, Define, Symbol, is_fault, opens}
 use Rattle.lang.specs.Profile.{Profile}
-use Rattle.lang.specs.Scope.{Scope, has_begun, is_external_new, is_function_new, is_local_new, is_variable_new}
+use Rattle.lang.specs.Tree.{Function}
 
 -- the most levels that are open at once
 unfoldable pub most_levels : ℕ
 most_levels = 64
-
--- the most externals, variables of a function, and functions
-unfoldable pub most_names : ℕ
-most_names = 64
 
 -- a fault: the tokens from its token on, and its code
 pub record Fault : Type 0 where
@@ -61,74 +56,37 @@ flaw_code flaw.SourceTooLong = code.SourceTooLong
 abbrev pub misfit_code : Token → Code
 misfit_code (token.Fault f) = flaw_code f
 misfit_code (token.Word word.Refused) = code.ReservedWord
-misfit_code next = code.SyntaxError
+misfit_code _ = code.SyntaxError
 
 -- how many levels are open: each stays open until its production is done
 abbrev pub levels : List Item → ℕ
 levels [] = 0
 levels (Shut ∷ stack) = levels stack + 1
-levels (item ∷ stack) = levels stack
+levels (_ ∷ stack) = levels stack
 
 abbrev pub only_if : Bool → List Fault → List Fault
 only_if b faults = if b then faults else []
 
+-- the code of these functions and the last NOP pass the profile's instructions
+abbrev pub is_too_long : Profile → List Function → Bool
+is_too_long profile functions = nat_lt profile.instructions (code_length (functions_actions 0 functions) + 1)
+
 -- a symbol opens a level beyond the last one
 abbrev pub level_faults : Symbol → List Item → List Lexeme → List Fault
 level_faults symbol stack rest =
-    only_if (opens symbol (next_of rest) (after_of rest)) (only_if (nat_le most_levels (levels stack)) (fault rest code.NestedTooDeeply ∷ []))
-
--- a new name that finds no room behind so many
-abbrev pub no_room : Bool → ℕ → Code → List Lexeme → List Fault
-no_room new count c rest = only_if new (only_if (nat_le most_names count) (fault rest c ∷ []))
-
--- a function's definition: of an intrinsic function, a second one, or one function too many
-abbrev pub definition_faults : List ℕ → Scope → List Lexeme → List Fault
-definition_faults name scope rest =
-    if is_intrinsic name then fault rest code.IntrinsicRedefined ∷ []
-    else (if has_begun name scope then fault rest code.FunctionDefinedTwice ∷ []
-    else no_room (is_function_new name scope) (length scope.functions) code.TooManyFunctions rest)
-
--- a parameter in the list: a name that stands there already, or one variable too many
-abbrev pub parameter_faults : List ℕ → Scope → List Lexeme → List Fault
-parameter_faults name scope rest =
-    if is_local_new name scope then no_room true (length scope.current.variables) code.TooManyVariables rest
-    else fault rest code.BadParameterDeclaration ∷ []
-
--- the faults of a name in a role
-abbrev pub role_faults : Role → List ℕ → Scope → List Lexeme → List Fault
-role_faults Defined name scope rest = definition_faults name scope rest
-role_faults External name scope rest = no_room (is_external_new name scope) (length scope.externals) code.TooManyVariables rest
-role_faults Parameter name scope rest = parameter_faults name scope rest
-role_faults Typed name scope rest = only_if (is_local_new name scope) (fault rest code.BadParameterDeclaration ∷ [])
-role_faults Local name scope rest = no_room (is_local_new name scope) (length scope.current.variables) code.TooManyVariables rest
-role_faults Called name scope rest = no_room (is_function_new name scope) (length scope.functions) code.TooManyFunctions rest
-role_faults Mentioned name scope rest = no_room (is_variable_new name scope) (length scope.current.variables) code.TooManyVariables rest
-
--- where the next token is a name
-abbrev pub name_faults : Role → Option (List ℕ) → Scope → List Lexeme → List Fault
-name_faults role None scope rest = []
-name_faults role (Some name) scope rest = role_faults role name scope rest
-
--- the actions of functions that were defined
-abbrev pub definitions_actions : List Definition → List Action
-definitions_actions [] = []
-definitions_actions (d ∷ ds) = function_actions d.number d.function ++ definitions_actions ds
-
--- the code of these functions and the last NOP pass the profile's instructions
-abbrev pub is_too_long : Profile → List Definition → Bool
-is_too_long profile functions = nat_lt profile.instructions (code_length (definitions_actions functions) + 1)
+    only_if (opens symbol (next_of rest)) (only_if (nat_le most_levels (levels stack)) (fault rest code.NestedTooDeeply ∷ []))
 
 -- the code with the function that is about to be defined passes the limit, at its closing brace
-abbrev pub length_faults : Profile → Scope → List Definition → List Value → List Lexeme → List Fault
-length_faults profile scope functions values rest =
-    only_if (is_too_long profile (functions ++ definition_of scope (last_body values) ∷ [])) (fault rest code.TooMuchCode ∷ [])
+abbrev pub length_faults : Profile → List Function → List Value → List Lexeme → List Fault
+length_faults profile functions (ABody b ∷ values) rest =
+    only_if (is_too_long profile (functions ++ main_function b ∷ [])) (fault rest code.TooMuchCode ∷ [])
+length_faults profile functions _ rest = []
 
 -- the faults at the next item
-abbrev pub item_faults : Profile → List Item → List Lexeme → List Value → Scope → List Definition → List Fault
-item_faults profile (Part symbol ∷ stack) rest values scope functions = level_faults symbol stack rest
-item_faults profile (AName role ∷ stack) rest values scope functions = name_faults role (name_of_token (next_of rest)) scope rest
-item_faults profile (Make Define ∷ stack) rest values scope functions = length_faults profile scope functions values rest
-item_faults profile stack rest values scope functions = []
+abbrev pub item_faults : Profile → List Item → List Lexeme → List Value → List Function → List Fault
+item_faults profile (Part symbol ∷ stack) rest values functions = level_faults symbol stack rest
+item_faults profile (Make Define ∷ stack) rest values functions = length_faults profile functions values rest
+item_faults profile _ rest values functions = []
 
 -- the fault of a token that doesn't fit
 abbrev pub misfit : List Lexeme → List Fault
@@ -141,13 +99,13 @@ misfits (item ∷ stack) rest None = misfit rest
 misfits (item ∷ stack) rest (Some s) = []
 
 -- the faults at one state of a derivation
-abbrev pub faults_of : Profile → List Item → List Lexeme → List Value → Scope → List Definition → List Fault
-faults_of profile stack rest values scope functions =
+abbrev pub faults_of : Profile → List Item → List Lexeme → List Value → List Function → List Fault
+faults_of profile stack rest values functions =
     if is_fault (next_of rest) then misfit rest
-    else item_faults profile stack rest values scope functions ++ misfits stack rest (step_of stack rest values scope functions)
+    else item_faults profile stack rest values functions ++ misfits stack rest (step_of stack rest values functions)
 
 abbrev pub faults_at : Profile → State → List Fault
-faults_at profile s = faults_of profile s.stack s.rest s.values s.scope s.functions
+faults_at profile s = faults_of profile s.stack s.rest s.values s.functions
 
 -- the faults at the first n states
 abbrev pub faults_in : Profile → ℕ → State → List Fault

@@ -1,4 +1,4 @@
--- The marks that spell the binary operators, by the grammar's ten levels, and those of assignments.
+-- The marks that spell the binary operators, by the grammar's ten levels.
 use Rattle.std.specs.Prelude.{ℕ, Bool, true, false, Option, Some, None, ◌==◌, if◌then◌else◌}
 use Rattle.tokens.specs.declared.lexemes.Mark.{Mark}
 use Rattle.tokens.specs.declared.lexemes.Mark.TheVariants as mark
@@ -7,8 +7,6 @@ use Rattle.tokens.specs.declared.lexemes.Token.TheVariants as token
 use Rattle.lang.specs.declared.operators.Binary.{Binary}
 use Rattle.lang.specs.declared.operators.Op.{Op}
 use Rattle.lang.specs.declared.operators.Op.TheVariants as op
-use Rattle.lang.specs.declared.operators.StoreOp.{StoreOp}
-use Rattle.lang.specs.declared.operators.StoreOp.TheVariants as store
 
 abbrev pub at_level : ℕ → Op → Option Binary
 at_level n o = Some (record { level = n; op = o })
@@ -49,23 +47,3 @@ abbrev pub is_logic : Op → Bool
 is_logic op.Or = true
 is_logic op.And = true
 is_logic _ = false
-
--- the operator of an assignment that a mark spells
-abbrev pub store_of : Mark → Option StoreOp
-store_of mark.Equals = Some store.Set
-store_of mark.PlusEquals = Some store.Add
-store_of mark.MinusEquals = Some store.Subtract
-store_of mark.StarEquals = Some store.Multiply
-store_of mark.SlashEquals = Some store.Divide
-store_of mark.PercentEquals = Some store.Remainder
-store_of mark.ShiftLeftEquals = Some store.ShiftLeft
-store_of mark.ShiftRightEquals = Some store.ShiftRight
-store_of mark.AndEquals = Some store.BitAnd
-store_of mark.XorEquals = Some store.BitXor
-store_of mark.OrEquals = Some store.BitOr
-store_of _ = None
-
--- the operator of an assignment that a token spells
-abbrev pub store_operator : Token → Option StoreOp
-store_operator (token.Mark m) = store_of m
-store_operator _ = None

@@ -3,19 +3,19 @@
 
 mod build;
 mod diagnostics;
-mod known;
-pub mod laws;
+mod expressions;
+mod files;
 mod matching;
-mod names;
 mod operators;
 mod pools;
-mod scope;
+mod statements;
 
 pub use build::{Build, BuildFault};
-pub use diagnostics::{Code, Diagnostic, ParseFault, code_of};
-pub use known::{known_sources, known_texts};
-pub use names::{Callee, Intrinsic, Var};
-pub use operators::{Op, StoreOp, store_operator};
+pub use diagnostics::{Code, Diagnostic, ParseFault};
+pub use files::parse;
+pub use operators::Op;
 pub use pools::{Function, MOST_NAMES, Pools};
-pub use scope::{intrinsic, number_of};
-pub use tokens::{DeviceFault, Feed, Name};
+pub use tokens::{DeviceFault, Feed, Name, Pieces};
+
+#[cfg(test)]
+mod tests;

@@ -5,8 +5,8 @@ ghost use Rattle.tokens.specs.Tokens.{is_last};
 ghost use Rattle.tokens.specs.Reading.{remaining, shown};
 ghost use Rattle.lang.specs.Compiled.{diagnostic};
 ghost use Rattle.lang.specs.Faults.{misfit_code};
-ghost use Rattle.lang.specs.Grammar.{AWord, Exactly, is_fault, is_mark, is_word};
-ghost use Rattle.lang.specs.Parsing.{Counts, DerivesItem, DerivesMark, FailsFrom, GoesPast, Refused, StopsAt};
+ghost use Rattle.lang.specs.Grammar.{Exactly, is_fault, is_mark};
+ghost use Rattle.lang.specs.Parsing.{Counts, DerivesMark, FailsFrom, GoesPast, Refused, StopsAt};
 ghost use Rattle.tokens.specs.declared.lexemes.Lexeme.{Lexeme};
 
 use crate::diagnostics::{Code, Diagnostic, ParseFault, code_of};
@@ -17,13 +17,6 @@ pub fn is_mark(token: &Token, mark: Mark) -> bool
     ensures { result ≡ is_mark mark token.now }
 {
     matches!(token, Token::Mark(found) if *found == mark)
-}
-
-/// Whether the token is this word.
-pub fn is_word(token: &Token, word: Word) -> bool
-    ensures { result ≡ is_word word token.now }
-{
-    matches!(token, Token::Word(found) if *found == word)
 }
 
 /// The diagnostic of a token that doesn't fit.
@@ -45,10 +38,12 @@ pub fn misfit(lexeme: &Lexeme) -> Diagnostic
 pub fn advance<F: Feed>(cursor: &mut Cursor, feed: &mut F) -> Result<(), ParseFault>
     requires more { is_last cursor.old.next.token ≡ false }
     requires count { F.failures feed.old < 2 ^ 64 - 1 }
-    ensures passed { OnOk result (GoesPast (shown cursor.old (F.to_come feed.old)) (shown cursor.new (F.to_come feed.new))) }
+    ensures passed { OnOk result (GoesPast
+        (shown cursor.old (F.to_come feed.old)) (shown cursor.new (F.to_come feed.new))) }
     ensures sound { OnOk result (is_fault cursor.new.next.token ≡ false) }
     ensures falls { OnOk result (remaining cursor.new < remaining cursor.old) }
-    ensures refused { IfErr result (λ fault. Refused (StopsAt (shown cursor.old (F.to_come feed.old))) false fault) }
+    ensures refused { IfErr result (λ fault. Refused (StopsAt
+        (shown cursor.old (F.to_come feed.old))) false fault) }
     ensures counted { Counts result (F.failures feed.old) (F.failures feed.new) }
 {
     cursor.advance(feed)?;
@@ -62,30 +57,15 @@ pub fn advance<F: Feed>(cursor: &mut Cursor, feed: &mut F) -> Result<(), ParseFa
 pub fn expect<F: Feed>(cursor: &mut Cursor, feed: &mut F, mark: Mark) -> Result<(), ParseFault>
     requires sound { is_fault cursor.old.next.token ≡ false }
     requires count { F.failures feed.old < 2 ^ 64 - 1 }
-    ensures passed { OnOk result (DerivesMark mark (shown cursor.old (F.to_come feed.old)) (shown cursor.new (F.to_come feed.new))) }
+    ensures passed { OnOk result (DerivesMark mark
+        (shown cursor.old (F.to_come feed.old)) (shown cursor.new (F.to_come feed.new))) }
     ensures sound { OnOk result (is_fault cursor.new.next.token ≡ false) }
     ensures falls { OnOk result (remaining cursor.new < remaining cursor.old) }
-    ensures refused { IfErr result (λ fault. Refused (FailsFrom (Exactly mark ∷ []) [] (shown cursor.old (F.to_come feed.old))) false fault) }
+    ensures refused { IfErr result (λ fault. Refused (FailsFrom (Exactly mark ∷ []) []
+        (shown cursor.old (F.to_come feed.old))) false fault) }
     ensures counted { Counts result (F.failures feed.old) (F.failures feed.new) }
 {
     if !is_mark(&cursor.next().token, mark) {
-        return Err(ParseFault::Source(misfit(cursor.next())));
-    }
-    advance(cursor, feed)?;
-    Ok(())
-}
-
-/// Goes past this word, which has to be the next token.
-pub fn expect_word<F: Feed>(cursor: &mut Cursor, feed: &mut F, word: Word) -> Result<(), ParseFault>
-    requires sound { is_fault cursor.old.next.token ≡ false }
-    requires count { F.failures feed.old < 2 ^ 64 - 1 }
-    ensures passed { OnOk result (DerivesItem (AWord word) (shown cursor.old (F.to_come feed.old)) (shown cursor.new (F.to_come feed.new))) }
-    ensures sound { OnOk result (is_fault cursor.new.next.token ≡ false) }
-    ensures falls { OnOk result (remaining cursor.new < remaining cursor.old) }
-    ensures refused { IfErr result (λ fault. Refused (FailsFrom (AWord word ∷ []) [] (shown cursor.old (F.to_come feed.old))) false fault) }
-    ensures counted { Counts result (F.failures feed.old) (F.failures feed.new) }
-{
-    if !is_word(&cursor.next().token, word) {
         return Err(ParseFault::Source(misfit(cursor.next())));
     }
     advance(cursor, feed)?;

@@ -1,7 +1,7 @@
-//! The eighteen binary operators and the eleven of assignments, with the marks that spell them.
+//! The eighteen binary operators and the marks that spell them.
 
 ghost use Rattle.std.specs.Prelude.{◌≡◌};
-ghost use Rattle.lang.specs.Operators.{binary_of, is_logic, operator_at, store_of, store_operator};
+ghost use Rattle.lang.specs.Operators.{binary_of, is_logic, operator_at};
 
 use tokens::{Mark, Token};
 
@@ -45,33 +45,6 @@ pub enum Op {
     Divide,
     /// `%`, with the dividend's sign
     Remainder,
-}
-
-/// What a store does to a variable: it takes the word as it is, or the operator's result of the variable and the word.
-#[derive(Clone, Copy, Debug, PartialEq, Eq)]
-pub enum StoreOp {
-    /// `=`
-    Set,
-    /// `+=`
-    Add,
-    /// `-=`
-    Subtract,
-    /// `*=`
-    Multiply,
-    /// `/=`
-    Divide,
-    /// `%=`
-    Remainder,
-    /// `<<=`
-    ShiftLeft,
-    /// `>>=`
-    ShiftRight,
-    /// `&=`
-    BitAnd,
-    /// `^=`
-    BitXor,
-    /// `|=`
-    BitOr,
 }
 
 /// A binary operator with its level: 1 binds loosest, 10 tightest.
@@ -134,34 +107,4 @@ fn binary_of(mark: Mark) -> Option<Binary>
         _ => return None,
     };
     Some(Binary { level, op })
-}
-
-/// The operator of an assignment that the token spells.
-pub fn store_operator(token: &Token) -> Option<StoreOp>
-    ensures { result ≡ store_operator token.now }
-{
-    match *token {
-        Token::Mark(mark) => store_of(mark),
-        _ => None,
-    }
-}
-
-/// The operator of an assignment that a mark spells.
-fn store_of(mark: Mark) -> Option<StoreOp>
-    ensures { result ≡ store_of mark }
-{
-    match mark {
-        Mark::Equals => Some(StoreOp::Set),
-        Mark::PlusEquals => Some(StoreOp::Add),
-        Mark::MinusEquals => Some(StoreOp::Subtract),
-        Mark::StarEquals => Some(StoreOp::Multiply),
-        Mark::SlashEquals => Some(StoreOp::Divide),
-        Mark::PercentEquals => Some(StoreOp::Remainder),
-        Mark::ShiftLeftEquals => Some(StoreOp::ShiftLeft),
-        Mark::ShiftRightEquals => Some(StoreOp::ShiftRight),
-        Mark::AndEquals => Some(StoreOp::BitAnd),
-        Mark::XorEquals => Some(StoreOp::BitXor),
-        Mark::OrEquals => Some(StoreOp::BitOr),
-        _ => None,
-    }
 }

@@ -1,6 +1,6 @@
 //! The names of a file by number, in types of fixed size.
 
-ghost use Rattle.std.specs.Prelude.{◌≡◌, ◌+◌, ◌<◌, ◌≤◌, ℕ, List, [], ◌∷◌, ◌++◌, length};
+ghost use Rattle.std.specs.Prelude.{◌≡◌, ◌<◌, ◌≤◌, ℕ, List, [], ◌∷◌, ◌++◌, length};
 
 use arrayvec::ArrayVec;
 use std::marker::Model;
@@ -18,20 +18,17 @@ pub struct Function {
 }
 
 impl Model for Function {
-    ghost use Rattle.std.specs.Prelude.{◌≤◌, length};
     ghost use Rattle.lang.specs.Pools.{FunctionNames};
 
     ghost Value = { FunctionNames };
 
     ghost view = { λ f. record { name = f.name; parameters = f.parameters; variables = f.variables.items } };
-
-    ghost invariant = { λ f. f.parameters ≤ length f.variables.items };
 }
 
 impl Default for Function {
     fn default() -> Function {
         Function {
-            name: Name::default(),
+            name: Name::new(),
             parameters: 0,
             variables: ArrayVec::new(),
         }
@@ -70,23 +67,6 @@ impl Function {
         ensures most { length result.now ≤ MOST_NAMES }
     {
         self.variables.as_slice()
-    }
-
-    /// Adds a local, with the next number.
-    pub(crate) fn add_local(&mut self, name: Name)
-        requires { length self.old.variables < MOST_NAMES }
-        ensures { self.new ≡ record self.old { variables = self.old.variables ++ name ∷ [] } }
-    {
-        self.variables.push(name);
-    }
-
-    /// Adds a parameter, with the next number.
-    pub(crate) fn add_parameter(&mut self, name: Name)
-        requires { length self.old.variables < MOST_NAMES }
-        ensures { self.new ≡ record self.old { parameters = self.old.parameters + 1; variables = self.old.variables ++ name ∷ [] } }
-    {
-        self.variables.push(name);
-        self.parameters += 1;
     }
 }
 

@@ -1,8 +1,0 @@
-use Rattle.std.proofs.Common.{◌≡◌, ◌<◌, ℕ, List, [], false, slice_index_or}
-use Rattle.std.specs.Str.{bytes_eq}
-use Rattle.lang.specs.Scope.{only_named}
-use Rattle.lang.proofs.scope.function_number.Given as goal
-
--- no function so far has the name
-abbrev pub invariant-loop-number : goal.invariant-loop-number
-invariant-loop-number l = (k : ℕ) → k < l.number → bytes_eq l.name (slice_index_or l.functions k (only_named [])).name ≡ false
