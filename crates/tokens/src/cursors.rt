@@ -84,7 +84,7 @@ impl Cursor {
     pub fn advance<F: Feed>(&mut self, feed: &mut F) -> Result<(), DeviceFault>
         requires not_last { is_last self.old.next.token ≡ false }
         requires countable { F.failures feed.old < 2 ^ 64 - 1 }
-        ensures next { OnOk result (self.new.next ≡ self.old.after) }
+        ensures next { self.new.next ≡ self.old.after }
         ensures tokens { OnOk result (shown self.new (F.to_come feed.new) ≡ option_map (drop 1) (shown self.old (F.to_come feed.old))) }
         ensures progress { OnOk result (remaining self.new < remaining self.old) }
 

@@ -1,0 +1,17 @@
+pub mod KnownSources
+pub mod KnownTexts
+pub mod Runs
+pub mod Steps
+pub mod Endings
+pub mod Firsts
+pub mod Order
+pub mod Verdicts
+pub mod Levels
+pub mod Keeping
+pub mod Widening
+pub mod FollowingLaws
+pub mod StandingLaws
+pub mod Phases
+pub mod Soundness
+pub mod ResolvedLaws
+pub mod ScopeLaws

@@ -1,0 +1,377 @@
+-- What is known of the names and trees of a derivation without a fault: the trees' names are among those known.
+use Rattle.std.proofs.Common.{◌≡◌, ℕ, ◌+◌, ◌<◌, ◌≤◌, ◌⊎◌, List, [], ◌∷◌, ◌++◌, refl, sym, subst, inl, inr, Bool, true, false, arith, length, cond, length-append}
+use Rattle.std.proofs.lemmas.Bool.Decides.{nat_tests}
+use Rattle.std.proofs.lemmas.List.{length-map}
+use Rattle.std.specs.Prelude.{Option, Some, None, if◌then◌else◌, map, nat_lt, nat_le, ◌==◌, ◌||◌}
+use Rattle.std.specs.List.{position_or_len, list_any}
+use Rattle.std.specs.Str.{bytes_eq}
+use Rattle.tokens.specs.declared.lexemes.Lexeme.{Lexeme}
+use Rattle.grammar.specs.declared.diagnostics.Code.{Code}
+use Rattle.grammar.specs.declared.diagnostics.Code.TheVariants as code
+use Rattle.grammar.specs.declared.names.Callee.{Callee}
+use Rattle.grammar.specs.declared.names.Intrinsic.{Intrinsic}
+use Rattle.grammar.specs.Derivation.{Value, AnExpr, AVariable, ACall, ABody, Definition, last_body, made}
+use Rattle.grammar.specs.Faults.{Fault, fault, no_room, most_names, role_faults}
+use Rattle.grammar.specs.Grammar.{Rule, Operate, Negate, Not, Complement, Fetch, Store, StepBefore, StepBehind, Pass, Invoke, Empty, Evaluate, Decide, DecideElse, Repeat, Zero, GiveBack, Define, Role, Defined, External, Parameter, Typed, Local, Called, Mentioned}
+use Rattle.grammar.specs.Intrinsics.{intrinsic_named, is_intrinsic}
+use Rattle.grammar.specs.Pools.{FunctionNames}
+use Rattle.grammar.specs.Resolved.{IsVariable, IsCallable, InExpr, InArgs, InBody, InFile, IsAmong, AreDistinct}
+use Rattle.grammar.specs.Scope.{Scope, number_of_name, function_number, variable_of, callee_or, callee_of, is_variable_new, is_local_new, is_external_new, is_function_new, number_for, has_begun, with_variable, with_parameter, with_external, with_function, behind_name, begun_with, begin_definition, only_named}
+use Rattle.grammar.specs.Tree as tree
+use Rattle.grammar.specs.Tree.{Expr, Args, Body, add_argument, join}
+use Rattle.grammar.proofs.Widening.{IsWider, expr_wider, args_wider, body_wider, variable_wider, callable_wider, function_wider}
+
+-- Trees among so many names.
+
+pub record IsCallIn (e l n : ℕ) (f : Callee) (args : Args) : Type 0 where
+  pub callable : IsCallable n f
+  pub arguments : InArgs e l n args
+
+abbrev pub InValue : ℕ → ℕ → ℕ → Value → Type 0
+InValue e l n (AnExpr x) = InExpr e l n x
+InValue e l n (AVariable v) = IsVariable e l v
+InValue e l n (ACall f args) = IsCallIn e l n f args
+InValue e l n (ABody b) = InBody e l n b
+
+abbrev pub ValuesIn : ℕ → ℕ → ℕ → List Value → Type 0
+ValuesIn e l n [] = Unit {0}
+ValuesIn e l n (v ∷ values) = InValue e l n v × ValuesIn e l n values
+
+value_wider : (e l n e' l' n' : ℕ) → IsWider e l n e' l' n' → (v : Value) → InValue e l n v → InValue e' l' n' v
+value_wider e l n e' l' n' w (AnExpr x) h = expr_wider e l n e' l' n' w x h
+value_wider e l n e' l' n' w (AVariable v) h = variable_wider e l n e' l' n' w v h
+value_wider e l n e' l' n' w (ACall f args) h = record { callable = callable_wider e l n e' l' n' w f h.callable; arguments = args_wider e l n e' l' n' w args h.arguments }
+value_wider e l n e' l' n' w (ABody b) h = body_wider e l n e' l' n' w b h
+
+pub values_wider : (e l n e' l' n' : ℕ) → IsWider e l n e' l' n' → (values : List Value) → ValuesIn e l n values → ValuesIn e' l' n' values
+values_wider e l n e' l' n' w [] h = tt
+values_wider e l n e' l' n' w (v ∷ values) h = (value_wider e l n e' l' n' w v h.0, values_wider e l n e' l' n' w values h.1)
+
+argument_in : (e l n : ℕ) (args : Args) (x : Expr) → InArgs e l n args → InExpr e l n x → InArgs e l n (add_argument args x)
+argument_in e l n tree.NoMore x h k = (k, tt)
+argument_in e l n (tree.Argument a rest) x h k = (h.0, argument_in e l n rest x h.1 k)
+
+join_in : (e l n : ℕ) (b c : Body) → InBody e l n b → InBody e l n c → InBody e l n (join b c)
+join_in e l n tree.Done c h k = k
+join_in e l n (tree.Alone a rest) c h k = (h.0, join_in e l n rest c h.1 k)
+join_in e l n (tree.When a s rest) c h k = (h.0, h.1, join_in e l n rest c h.2 k)
+join_in e l n (tree.Choose a s t rest) c h k = (h.0, h.1, h.2, join_in e l n rest c h.3 k)
+join_in e l n (tree.While a s rest) c h k = (h.0, h.1, join_in e l n rest c h.2 k)
+join_in e l n (tree.Return a rest) c h k = (h.0, join_in e l n rest c h.1 k)
+
+pub last_body_in : (e l n : ℕ) (values : List Value) → ValuesIn e l n values → InBody e l n (last_body values)
+last_body_in e l n (ABody b ∷ values) h = h.0
+last_body_in e l n values h = tt
+
+-- what a rule makes is among the same names
+pub made_in : (e l n : ℕ) (rule : Rule) (values : List Value) → ValuesIn e l n values → ValuesIn e l n (made rule values)
+made_in e l n (Operate o) (AnExpr b ∷ AnExpr a ∷ values) h = ((h.1.0, h.0), h.1.1)
+made_in e l n Negate (AnExpr x ∷ values) h = ((tt, h.0), h.1)
+made_in e l n Not (AnExpr x ∷ values) h = ((h.0, tt), h.1)
+made_in e l n Complement (AnExpr x ∷ values) h = ((h.0, tt), h.1)
+made_in e l n Fetch (AVariable v ∷ values) h = h
+made_in e l n (Store o) (AnExpr x ∷ AVariable v ∷ values) h = ((h.1.0, h.0), h.1.1)
+made_in e l n (StepBefore o) (AVariable v ∷ values) h = ((h.0, tt), h.1)
+made_in e l n (StepBehind o) (AVariable v ∷ values) h = h
+made_in e l n Pass (AnExpr x ∷ ACall f args ∷ values) h =
+    (record { callable = h.1.0.callable; arguments = argument_in e l n args x h.1.0.arguments h.0 }, h.1.1)
+made_in e l n Invoke (ACall f args ∷ values) h = ((h.0.callable, h.0.arguments), h.1)
+made_in e l n Empty values h = (tt, h)
+made_in e l n Evaluate (AnExpr x ∷ ABody b ∷ values) h = (join_in e l n b _ h.1.0 (h.0, tt), h.1.1)
+made_in e l n Decide (ABody s ∷ AnExpr c ∷ ABody b ∷ values) h = (join_in e l n b _ h.1.1.0 (h.1.0, h.0, tt), h.1.1.1)
+made_in e l n DecideElse (ABody t ∷ ABody s ∷ AnExpr c ∷ ABody b ∷ values) h = (join_in e l n b _ h.1.1.1.0 (h.1.1.0, h.1.0, h.0, tt), h.1.1.1.1)
+made_in e l n Repeat (ABody s ∷ AnExpr c ∷ ABody b ∷ values) h = (join_in e l n b _ h.1.1.0 (h.1.0, h.0, tt), h.1.1.1)
+made_in e l n Zero values h = (tt, h)
+made_in e l n GiveBack (AnExpr x ∷ ABody b ∷ values) h = (join_in e l n b _ h.1.0 (h.0, tt), h.1.1)
+made_in e l n Define values h = tt
+made_in e l n rule values h = h
+
+-- Functions that were defined.
+
+abbrev pub AllIn : ℕ → ℕ → List Definition → Type 0
+AllIn e n [] = Unit {0}
+AllIn e n (d ∷ ds) = (d.number < n) × InFile e n d.function × AllIn e n ds
+
+all_wider : (e n e' n' : ℕ) → e ≤ e' → n ≤ n' → (ds : List Definition) → AllIn e n ds → AllIn e' n' ds
+all_wider e n e' n' p q [] h = tt
+all_wider e n e' n' p q (d ∷ ds) h = (omega (arith, h.0), function_wider e n e' n' p q d.function h.1, all_wider e n e' n' p q ds h.2)
+
+pub all_append : (e n : ℕ) (ds : List Definition) (d : Definition) → AllIn e n ds → d.number < n → InFile e n d.function → AllIn e n (ds ++ d ∷ [])
+all_append e n [] d h k i = (k, i, tt)
+all_append e n (x ∷ ds) d h k i = (h.0, h.1, all_append e n ds d h.2 k i)
+
+-- Numbers that stand once.
+
+among_append : (k n : ℕ) (ns : List ℕ) → IsAmong k (ns ++ n ∷ []) → IsAmong k ns ⊎ (k ≡ n)
+among_append k n [] (inl e) = inr e
+among_append k n [] (inr h) = absurd h
+among_append k n (x ∷ ns) (inl e) = inl (inl e)
+among_append k n (x ∷ ns) (inr h) = further (among_append k n ns h)
+  where
+    further : IsAmong k ns ⊎ (k ≡ n) → IsAmong k (x ∷ ns) ⊎ (k ≡ n)
+    further (inl i) = inl (inr i)
+    further (inr e) = inr e
+
+distinct_append : (ns : List ℕ) (n : ℕ) → AreDistinct ns → (IsAmong n ns → ⊥) → AreDistinct (ns ++ n ∷ [])
+distinct_append [] n h new = (λ no. no, tt)
+distinct_append (x ∷ ns) n h new = (λ i. apart (among_append x n ns i), distinct_append ns n h.1 (λ i. new (inr i)))
+  where
+    apart : IsAmong x ns ⊎ (x ≡ n) → ⊥
+    apart (inl i) = h.0 i
+    apart (inr e) = new (inl (sym e))
+
+pub distinct_front : (ns : List ℕ) (n : ℕ) → AreDistinct (ns ++ n ∷ []) → AreDistinct ns
+distinct_front [] n h = tt
+distinct_front (x ∷ ns) n h = (λ i. h.0 (among_front x n ns i), distinct_front ns n h.1)
+  where
+    among_front : (k m : ℕ) (xs : List ℕ) → IsAmong k xs → IsAmong k (xs ++ m ∷ [])
+    among_front k m [] i = absurd i
+    among_front k m (y ∷ xs) (inl e) = inl e
+    among_front k m (y ∷ xs) (inr i) = inr (among_front k m xs i)
+
+not_among : (k : ℕ) (ns : List ℕ) → list_any (λ x. x == k) ns ≡ false → IsAmong k ns → ⊥
+not_among k [] e h = h
+not_among k (n ∷ ns) e h = at_test (λ g i. not_among k ns g i) (n == k) refl e h
+  where
+    differs : (x : ℕ) → (x == x) ≡ false → ⊥
+    differs x h = grind (arith, nat_tests)
+
+    at_test : (list_any (λ x. x == k) ns ≡ false → IsAmong k ns → ⊥) → (b : Bool) → (n == k) ≡ b → (b || list_any (λ x. x == k) ns) ≡ false → IsAmong k (n ∷ ns) → ⊥
+    at_test again true is h i = absurd (cc)
+    at_test again false is h (inl same) = differs k (subst (λ (x : ℕ). (x == k) ≡ false) (sym same) is)
+    at_test again false is h (inr i) = again h i
+
+-- Places of names.
+
+less_of : (n m : ℕ) → nat_lt n m ≡ true → n < m
+less_of n m h = grind (arith, nat_tests)
+
+chosen_below : (n m k : ℕ) (b : Bool) → nat_lt n m ≡ b → cond b (Some n) None ≡ Some k → k < m
+chosen_below n m k true less e = let same : n ≡ k = cc in subst (λ (x : ℕ). x < m) same (less_of n m less)
+chosen_below n m k false less e = absurd (cc)
+
+pub place_below : (name : List ℕ) (names : List (List ℕ)) (k : ℕ) → number_of_name name names ≡ Some k → k < length names
+place_below name names k e = chosen_below (position_or_len (bytes_eq name) names) (length names) k (nat_lt (position_or_len (bytes_eq name) names) (length names)) refl e
+
+pub function_below : (name : List ℕ) (scope : Scope) (k : ℕ) → function_number name scope ≡ Some k → k < length scope.functions
+function_below name scope k e = omega (arith, place_below name (map (λ (f : FunctionNames). f.name) scope.functions) k e, length-map scope.functions (λ (f : FunctionNames). f.name))
+
+-- where a name that is new finds room
+room : (count : ℕ) (c : Code) (rest : List Lexeme) → no_room true count c rest ≡ [] → count < 64
+unfolding most_names
+room count c rest e = below (nat_le 64 count) refl e
+  where
+    below : (b : Bool) → nat_le 64 count ≡ b → (if b then fault rest c ∷ [] else []) ≡ [] → count < 64
+    below true is h = absurd (cc)
+    below false is h = grind (arith, nat_tests)
+
+-- What is known of names.
+
+pub record Known (scope : Scope) (ds : List Definition) : Type 0 where
+  pub externals : length scope.externals ≤ 64
+  pub functions : length scope.functions ≤ 64
+  pub lines : length scope.lines ≡ length scope.functions
+  pub variables : length scope.current.variables ≤ 64
+  pub parameters : scope.current.parameters ≤ length scope.current.variables
+  pub definitions : AllIn (length scope.externals) (length scope.functions) ds
+  pub begun : AreDistinct scope.begun
+  pub below : (k : ℕ) → IsAmong k scope.begun → k < length scope.functions
+
+-- more names are known, of the same function
+pub record Grows (old new : Scope) (ds : List Definition) : Type 0 where
+  pub known : Known new ds
+  pub wider : IsWider (length old.externals) (length old.current.variables) (length old.functions) (length new.externals) (length new.current.variables) (length new.functions)
+  pub begun : new.begun ≡ old.begun
+  pub number : new.number ≡ old.number
+
+same_grows : (scope : Scope) (ds : List Definition) → Known scope ds → Grows scope scope ds
+same_grows scope ds k = record { known = k; wider = record { externals = omega arith; locals = omega arith; functions = omega arith }; begun = refl; number = refl }
+
+external_grows : (name : List ℕ) (scope : Scope) (ds : List Definition) → Known scope ds → length scope.externals < 64 → Grows scope (with_external name scope) ds
+external_grows name scope ds k less =
+    let longer : length (scope.externals ++ name ∷ []) ≡ length scope.externals + 1 = length-append scope.externals (name ∷ []) in
+    record {
+      known = record {
+        externals = omega arith;
+        functions = k.functions;
+        lines = k.lines;
+        variables = k.variables;
+        parameters = k.parameters;
+        definitions = all_wider _ _ _ _ (omega arith) (omega arith) ds k.definitions;
+        begun = k.begun;
+        below = k.below;
+      };
+      wider = record { externals = omega arith; locals = omega arith; functions = omega arith };
+      begun = refl;
+      number = refl;
+    }
+
+variable_grows : (name : List ℕ) (scope : Scope) (ds : List Definition) → Known scope ds → length scope.current.variables < 64 → Grows scope (with_variable name scope) ds
+variable_grows name scope ds k less =
+    let longer : length (scope.current.variables ++ name ∷ []) ≡ length scope.current.variables + 1 = length-append scope.current.variables (name ∷ []) in
+    record {
+      known = record {
+        externals = k.externals;
+        functions = k.functions;
+        lines = k.lines;
+        variables = omega arith;
+        parameters = omega (arith, k.parameters);
+        definitions = k.definitions;
+        begun = k.begun;
+        below = k.below;
+      };
+      wider = record { externals = omega arith; locals = omega arith; functions = omega arith };
+      begun = refl;
+      number = refl;
+    }
+
+parameter_grows : (name : List ℕ) (scope : Scope) (ds : List Definition) → Known scope ds → length scope.current.variables < 64 → Grows scope (with_parameter name scope) ds
+parameter_grows name scope ds k less =
+    let longer : length (scope.current.variables ++ name ∷ []) ≡ length scope.current.variables + 1 = length-append scope.current.variables (name ∷ []) in
+    record {
+      known = record {
+        externals = k.externals;
+        functions = k.functions;
+        lines = k.lines;
+        variables = omega arith;
+        parameters = omega (arith, k.parameters);
+        definitions = k.definitions;
+        begun = k.begun;
+        below = k.below;
+      };
+      wider = record { externals = omega arith; locals = omega arith; functions = omega arith };
+      begun = refl;
+      number = refl;
+    }
+
+function_grows : (name : List ℕ) (line : ℕ) (scope : Scope) (ds : List Definition) → Known scope ds → (is_function_new name scope ≡ true → length scope.functions < 64) →
+    Grows scope (with_function name line scope) ds
+function_grows name line scope ds k less = at_test (is_function_new name scope) refl
+  where
+    added : Scope
+    added = record scope { functions = scope.functions ++ only_named name ∷ []; lines = scope.lines ++ line ∷ [] }
+
+    at_test : (b : Bool) → is_function_new name scope ≡ b → Grows scope (if b then record scope { functions = scope.functions ++ only_named name ∷ []; lines = scope.lines ++ line ∷ [] } else scope) ds
+    at_test false is = same_grows scope ds k
+    at_test true is =
+        let small : length scope.functions < 64 = less is in
+        let longer : length (scope.functions ++ only_named name ∷ []) ≡ length scope.functions + 1 = length-append scope.functions (only_named name ∷ []) in
+        let lines : length (scope.lines ++ line ∷ []) ≡ length scope.lines + 1 = length-append scope.lines (line ∷ []) in
+        record {
+          known = record {
+            externals = k.externals;
+            functions = omega arith;
+            lines = omega (arith, k.lines);
+            variables = k.variables;
+            parameters = k.parameters;
+            definitions = all_wider _ _ _ _ (omega arith) (omega arith) ds k.definitions;
+            begun = k.begun;
+            below = λ j i. let low : j < length scope.functions = k.below j i in omega arith;
+          };
+          wider = record { externals = omega arith; locals = omega arith; functions = omega arith };
+          begun = refl;
+          number = refl;
+        }
+
+-- Names by role.
+
+abbrev pub Clean : List Fault → Type 0
+Clean faults = faults ≡ []
+
+-- where a new name finds no room there is a fault
+room_if : (new : Bool) (count : ℕ) (c : Code) (rest : List Lexeme) → Clean (no_room new count c rest) → new ≡ true → count < 64
+room_if true count c rest clean is = room count c rest clean
+room_if false count c rest clean is = absurd (cc)
+
+-- the number for a function is one of those known behind its mention
+number_in : (name : List ℕ) (line : ℕ) (scope : Scope) → is_intrinsic name ≡ false → number_for name scope < length (with_function name line scope).functions
+number_in name line scope own = at_place (function_number name scope) refl
+  where
+    at_place : (p : Option ℕ) → function_number name scope ≡ p → number_for name scope < length (with_function name line scope).functions
+    at_place (Some k) e = rw (own, e) (function_below name scope k e)
+    at_place None e = rw (own, e) (let longer : length (scope.functions ++ only_named name ∷ []) ≡ length scope.functions + 1 = length-append scope.functions (only_named name ∷ []) in omega arith)
+
+callable_or : (i : Option Intrinsic) (k n : ℕ) → (i ≡ None → k < n) → IsCallable n (callee_or i k)
+callable_or (Some i) k n h = tt
+callable_or None k n h = h refl
+
+pub callee_in : (name : List ℕ) (line : ℕ) (scope : Scope) → IsCallable (length (with_function name line scope).functions) (callee_of name scope)
+callee_in name line scope = callable_or (intrinsic_named name) (number_for name scope) _ (λ e. number_in name line scope (rw e refl))
+
+-- a variable mentioned is one of those known behind its mention
+abbrev pub behind_mention : List ℕ → Scope → Scope
+behind_mention name scope = if is_variable_new name scope then with_variable name scope else scope
+
+pub variable_in : (name : List ℕ) (scope : Scope) → IsVariable (length (behind_mention name scope).externals) (length (behind_mention name scope).current.variables) (variable_of name scope)
+variable_in name scope = at_places (number_of_name name scope.current.variables) (number_of_name name scope.externals) refl refl
+  where
+    at_places : (p q : Option ℕ) → number_of_name name scope.current.variables ≡ p → number_of_name name scope.externals ≡ q →
+        IsVariable (length (behind_mention name scope).externals) (length (behind_mention name scope).current.variables) (variable_of name scope)
+    at_places (Some k) q e f = rw e (place_below name scope.current.variables k e)
+    at_places None (Some j) e f = rw (e, f) (place_below name scope.externals j f)
+    at_places None None e f = rw (e, f) (let longer : length (scope.current.variables ++ name ∷ []) ≡ length scope.current.variables + 1 = length-append scope.current.variables (name ∷ []) in omega arith)
+
+grows_if : (b : Bool) (old more same : Scope) (ds : List Definition) → (b ≡ true → Grows old more ds) → Grows old same ds → Grows old (if b then more else same) ds
+grows_if true old more same ds p q = p refl
+grows_if false old more same ds p q = q
+
+-- the names behind a name that begins no definition
+abbrev pub Begins : Role → Type 0
+Begins Defined = ⊥
+Begins role = Unit {0}
+
+pub role_grows : (role : Role) (name : List ℕ) (line : ℕ) (scope : Scope) (ds : List Definition) (rest : List Lexeme) → Begins role → Known scope ds →
+    Clean (role_faults role name scope rest) → Grows scope (behind_name role name line scope) ds
+role_grows Defined name line scope ds rest other k clean = absurd other
+role_grows External name line scope ds rest other k clean =
+    grows_if (is_external_new name scope) scope (with_external name scope) scope ds (λ is. external_grows name scope ds k (room_if (is_external_new name scope) (length scope.externals) code.TooManyVariables rest clean is)) (same_grows scope ds k)
+role_grows Parameter name line scope ds rest other k clean =
+    grows_if (is_local_new name scope) scope (with_parameter name scope) scope ds
+    (λ is. parameter_grows name scope ds k (room (length scope.current.variables) code.TooManyVariables rest (fits (is_local_new name scope) is clean))) (same_grows scope ds k)
+  where
+    fits : (b : Bool) → b ≡ true → (if b then no_room true (length scope.current.variables) code.TooManyVariables rest else fault rest code.BadParameterDeclaration ∷ []) ≡ [] →
+        no_room true (length scope.current.variables) code.TooManyVariables rest ≡ []
+    fits true is h = h
+    fits false is h = absurd (cc)
+role_grows Typed name line scope ds rest other k clean = same_grows scope ds k
+role_grows Local name line scope ds rest other k clean =
+    grows_if (is_local_new name scope) scope (with_variable name scope) scope ds (λ is. variable_grows name scope ds k (room_if (is_local_new name scope) (length scope.current.variables) code.TooManyVariables rest clean is)) (same_grows scope ds k)
+role_grows Called name line scope ds rest other k clean =
+    function_grows name line scope ds k (room_if (is_function_new name scope) (length scope.functions) code.TooManyFunctions rest clean)
+role_grows Mentioned name line scope ds rest other k clean =
+    grows_if (is_variable_new name scope) scope (with_variable name scope) scope ds (λ is. variable_grows name scope ds k (room_if (is_variable_new name scope) (length scope.current.variables) code.TooManyVariables rest clean is)) (same_grows scope ds k)
+
+-- what a definition that begins makes known
+pub record BeginsWell (name : List ℕ) (line : ℕ) (scope : Scope) (ds : List Definition) : Type 0 where
+  pub known : Known (begin_definition name line scope) ds
+  pub begun : (begin_definition name line scope).begun ≡ scope.begun ++ number_for name scope ∷ []
+
+pub definition_begins : (name : List ℕ) (line : ℕ) (scope : Scope) (ds : List Definition) (rest : List Lexeme) → Known scope ds → Clean (role_faults Defined name scope rest) → BeginsWell name line scope ds
+definition_begins name line scope ds rest k clean = at_tests (is_intrinsic name) (has_begun name scope) refl refl clean
+  where
+    all_below : (j : ℕ) → IsAmong j scope.begun ⊎ (j ≡ number_for name scope) → Grows scope (with_function name line scope) ds → number_for name scope < length (with_function name line scope).functions → j < length (with_function name line scope).functions
+    all_below j (inl i) g within = let low : j < length scope.functions = k.below j i in omega (arith, g.wider.functions)
+    all_below j (inr e) g within = subst (λ (x : ℕ). x < length (with_function name line scope).functions) (sym e) within
+
+    at_tests : (own begun : Bool) → is_intrinsic name ≡ own → has_begun name scope ≡ begun →
+        (if own then fault rest code.IntrinsicRedefined ∷ [] else (if begun then fault rest code.FunctionDefinedTwice ∷ [] else no_room (is_function_new name scope) (length scope.functions) code.TooManyFunctions rest)) ≡ [] →
+        BeginsWell name line scope ds
+    at_tests true begun is was h = absurd (cc)
+    at_tests false true is was h = absurd (cc)
+    at_tests false false is was h =
+        let g : Grows scope (with_function name line scope) ds = function_grows name line scope ds k (room_if (is_function_new name scope) (length scope.functions) code.TooManyFunctions rest h) in
+        let at : begun_with name scope ≡ scope.begun ++ number_for name scope ∷ [] = rw is refl in
+        let within : number_for name scope < length (with_function name line scope).functions = number_in name line scope is in
+        record {
+          known = record {
+            externals = g.known.externals;
+            functions = g.known.functions;
+            lines = g.known.lines;
+            variables = omega arith;
+            parameters = omega arith;
+            definitions = g.known.definitions;
+            begun = subst (λ (ns : List ℕ). AreDistinct ns) (sym at) (distinct_append scope.begun (number_for name scope) k.begun (not_among (number_for name scope) scope.begun was));
+            below = λ j i. all_below j (among_append j (number_for name scope) scope.begun (subst (λ (ns : List ℕ). IsAmong j ns) at i)) g within;
+          };
+          begun = at;
+        }

@@ -1,0 +1,206 @@
+-- What the derivation of a source leads to is what the source is.
+use Rattle.std.proofs.Common.{◌≡◌, ℕ, zero, suc, ◌+◌, ◌⊎◌, List, [], ◌∷◌, ◌++◌, refl, sym, ap, ◌∙◌, subst, inl, inr, Bool, true, false, arith, length, drop, append_assoc, length-append, le-add_right, le_refl, add-one, ⊎_elim, ap₂}
+use Rattle.std.specs.Prelude.{Option, Some, None, Err, unwrap_or, if◌then◌else◌}
+use Rattle.tokens.specs.declared.lexemes.Lexeme.{Lexeme}
+use Rattle.grammar.specs.declared.diagnostics.Diagnostic.{Diagnostic}
+use Rattle.grammar.specs.Compiled.{compiled_tokens, verdict, resolved, enough, diagnostic}
+use Rattle.grammar.specs.Derivation.{State, Value, Definition, start, step, step_of, stepped, run, next_of, line_of, matched, name_matched, replaced, constant_matched}
+use Rattle.grammar.specs.Faults.{Fault, faults_at, faults_in, first_of}
+use Rattle.grammar.specs.Grammar.{Item, Exactly, AWord, AName, AConstant, AnEnd, Part, Make, Shut, Role, Production, is_fault}
+use Rattle.grammar.specs.Parsing.{IsIn, IsFault, IsFirstFault, Fails, Passes}
+use Rattle.grammar.specs.Profile.{Profile}
+use Rattle.grammar.specs.Scope.{Scope}
+use Rattle.grammar.specs.Weight.{weight}
+use Rattle.grammar.proofs.Endings.{IsFinal, ends, stays_final, final_stays}
+use Rattle.grammar.proofs.Firsts.{at_rest}
+use Rattle.grammar.proofs.Order.{first_in, first_least, same_place}
+use Rattle.grammar.proofs.Runs.{run-add, faults_in-add}
+
+-- A derivation without a fault.
+
+final_clean : (profile : Profile) (n : ℕ) (s : State) → IsFinal s → faults_at profile s ≡ [] → faults_in profile n s ≡ []
+final_clean profile zero s final clean = refl
+final_clean profile (suc n) s final clean =
+    let rest : faults_in profile n (stepped s) ≡ [] = rw (final_stays s final) (final_clean profile n s final clean) in
+    rw (clean, rest) refl
+
+front_empty : (xs ys : List Fault) → xs ++ ys ≡ [] → xs ≡ []
+front_empty [] ys e = refl
+front_empty (x ∷ xs) ys e = absurd (cc)
+
+-- Two counts of steps are one behind the other.
+record Apart (m n : ℕ) : Type 0 where
+  more : ℕ
+  sum : m + more ≡ n
+
+apart : (m n : ℕ) → Apart m n ⊎ Apart n m
+apart zero n = inl (record { more = n; sum = omega arith })
+apart (suc m) zero = inr (record { more = suc m; sum = omega arith })
+apart (suc m) (suc n) = wider m n (apart m n)
+  where
+    wider : (m n : ℕ) → Apart m n ⊎ Apart n m → Apart (suc m) (suc n) ⊎ Apart (suc n) (suc m)
+    wider m n (inl a) = let e : m + a.more ≡ n = a.sum in inl (record { more = a.more; sum = omega arith })
+    wider m n (inr a) = let e : n + a.more ≡ m = a.sum in inr (record { more = a.more; sum = omega arith })
+
+record Reaches (profile : Profile) (n : ℕ) (s t : State) : Type 0 where
+  clean : faults_in profile n s ≡ []
+  there : run n s ≡ t
+
+reached : (profile : Profile) (n m : ℕ) (s t : State) → IsFinal (run n s) → run m s ≡ t → faults_in profile m s ≡ [] → IsFinal t → faults_at profile t ≡ [] →
+    Apart m n ⊎ Apart n m → Reaches profile n s t
+reached profile n m s t final leads clean ended quiet (inl a) = record {
+  clean = subst (λ (k : ℕ). faults_in profile k s ≡ []) a.sum
+      (faults_in-add profile m a.more s ∙ rw (clean, leads, final_clean profile a.more t ended quiet) refl);
+  there = subst (λ (k : ℕ). run k s ≡ t) a.sum (run-add m a.more s ∙ rw leads (stays_final a.more t ended));
+}
+reached profile n m s t final leads clean ended quiet (inr a) = record {
+  clean = front_empty (faults_in profile n s) _ (sym (faults_in-add profile n a.more s) ∙ subst (λ (k : ℕ). faults_in profile k s ≡ []) (sym a.sum) clean);
+  there = sym (stays_final a.more (run n s) final) ∙ sym (run-add n a.more s) ∙ subst (λ (k : ℕ). run k s ≡ t) (sym a.sum) leads;
+}
+
+pub enough_ends : (lexemes : List Lexeme) → IsFinal (run (enough lexemes) (start lexemes))
+enough_ends lexemes = ends (enough lexemes) (start lexemes) (le-add_right (weight (start lexemes)) 1)
+
+pub clean_verdict : (profile : Profile) (lexemes : List Lexeme) (t : State) → Passes profile (start lexemes) t → IsFinal t → faults_at profile t ≡ [] →
+    compiled_tokens profile lexemes ≡ resolved lexemes t.scope t.functions
+clean_verdict profile lexemes t p ended quiet =
+    let r : Reaches profile (enough lexemes) (start lexemes) t = reached profile (enough lexemes) p.steps (start lexemes) t (enough_ends lexemes) p.leads p.clean ended quiet (apart p.steps (enough lexemes)) in
+    rw (r.clean, r.there) refl
+
+-- A derivation with a fault.
+
+in_append_left : (f : Fault) (xs ys : List Fault) → IsIn f xs → IsIn f (xs ++ ys)
+in_append_left f [] ys h = absurd h
+in_append_left f (x ∷ xs) ys (inl e) = inl e
+in_append_left f (x ∷ xs) ys (inr h) = inr (in_append_left f xs ys h)
+
+in_append_right : (f : Fault) (xs ys : List Fault) → IsIn f ys → IsIn f (xs ++ ys)
+in_append_right f [] ys h = h
+in_append_right f (x ∷ xs) ys h = inr (in_append_right f xs ys h)
+
+in_either : (f : Fault) (xs ys : List Fault) → IsIn f (xs ++ ys) → IsIn f xs ⊎ IsIn f ys
+in_either f [] ys h = inr h
+in_either f (x ∷ xs) ys (inl e) = inl (inl e)
+in_either f (x ∷ xs) ys (inr h) = ⊎_elim (λ k. inl (inr k)) (λ k. inr k) (in_either f xs ys h)
+
+-- each fault that was gathered comes in the derivation
+gathered : (profile : Profile) (n : ℕ) (s : State) (f : Fault) → IsIn f (faults_in profile n s) → IsFault profile s f
+gathered profile zero s f h = absurd h
+gathered profile (suc n) s f h = gathered_at profile n s f (λ k. gathered profile n (stepped s) f k) (in_either f (faults_at profile s) (faults_in profile n (stepped s)) h)
+  where
+    gathered_at : (profile : Profile) (n : ℕ) (s : State) (f : Fault) → (IsIn f (faults_in profile n (stepped s)) → IsFault profile (stepped s) f) →
+        IsIn f (faults_at profile s) ⊎ IsIn f (faults_in profile n (stepped s)) → IsFault profile s f
+    gathered_at profile n s f again (inl h) = record { steps = 0; here = h }
+    gathered_at profile n s f again (inr h) = let k : IsFault profile (stepped s) f = again h in record { steps = suc k.steps; here = k.here }
+
+-- and each that comes was gathered
+at_final : (profile : Profile) (k : ℕ) (s : State) (f : Fault) → IsFinal s → IsIn f (faults_at profile (run k s)) → IsIn f (faults_at profile s)
+at_final profile k s f final h = subst (λ (t : State). IsIn f (faults_at profile t)) (stays_final k s final) h
+
+pub all_gathered : (profile : Profile) (n : ℕ) (s : State) (k : ℕ) (f : Fault) → IsFinal (run n s) → IsIn f (faults_at profile (run k s)) → IsIn f (faults_in profile (suc n) s)
+all_gathered profile zero s k f final h = in_append_left f (faults_at profile s) [] (at_final profile k s f final h)
+all_gathered profile (suc n) s zero f final h = in_append_left f (faults_at profile s) _ h
+all_gathered profile (suc n) s (suc k) f final h = in_append_right f (faults_at profile s) _ (all_gathered profile n (stepped s) k f final h)
+
+-- The tokens left are always the rest of all tokens.
+
+pub record IsRest (rest all : List Lexeme) : Type 0 where
+  pub before : List Lexeme
+  pub is : all ≡ before ++ rest
+
+rest_itself : (rest : List Lexeme) → IsRest rest rest
+rest_itself rest = record { before = []; is = refl }
+
+rest_fewer : (rest : List Lexeme) → IsRest (drop 1 rest) rest
+rest_fewer [] = record { before = []; is = refl }
+rest_fewer (lexeme ∷ rest) = record { before = lexeme ∷ []; is = refl }
+
+rest_of_rest : (a b c : List Lexeme) → IsRest a b → IsRest b c → IsRest a c
+rest_of_rest a b c p q = record {
+  before = q.before ++ p.before;
+  is = q.is ∙ ap (λ xs. q.before ++ xs) p.is ∙ sym (append_assoc q.before p.before a);
+}
+
+abbrev Rests : List Lexeme → Option State → Type 0
+Rests rest None = Unit {0}
+Rests rest (Some t) = IsRest t.rest rest
+
+name_rests : (role : Role) (name : Option (List ℕ)) (stack : List Item) (rest : List Lexeme) (values : List Value) (scope : Scope) (functions : List Definition) → Rests rest (name_matched role name stack rest values scope functions)
+name_rests role (Some name) stack rest values scope functions = rest_fewer rest
+name_rests role None stack rest values scope functions = tt
+
+matched_rests : (fits : Bool) (stack : List Item) (rest : List Lexeme) (values : List Value) (scope : Scope) (functions : List Definition) → Rests rest (matched fits stack rest values scope functions)
+matched_rests true stack rest values scope functions = rest_fewer rest
+matched_rests false stack rest values scope functions = tt
+
+constant_rests : (value : Option ℕ) (stack : List Item) (rest : List Lexeme) (values : List Value) (scope : Scope) (functions : List Definition) → Rests rest (constant_matched value stack rest values scope functions)
+constant_rests (Some value) stack rest values scope functions = rest_fewer rest
+constant_rests None stack rest values scope functions = tt
+
+replaced_rests : (items : Production) (stack : List Item) (rest : List Lexeme) (values : List Value) (scope : Scope) (functions : List Definition) → Rests rest (replaced items stack rest values scope functions)
+replaced_rests (Some items) stack rest values scope functions = rest_itself rest
+replaced_rests None stack rest values scope functions = tt
+
+step_rests : (stack : List Item) (rest : List Lexeme) (values : List Value) (scope : Scope) (functions : List Definition) → Rests rest (step_of stack rest values scope functions)
+step_rests [] rest values scope functions = tt
+step_rests (Exactly m ∷ stack) rest values scope functions = matched_rests _ stack rest values scope functions
+step_rests (AWord w ∷ stack) rest values scope functions = matched_rests _ stack rest values scope functions
+step_rests (AName role ∷ stack) rest values scope functions = name_rests role _ stack rest values scope functions
+step_rests (AnEnd ∷ stack) rest values scope functions = matched_rests _ stack rest values scope functions
+step_rests (AConstant ∷ stack) rest values scope functions = constant_rests _ stack rest values scope functions
+step_rests (Part symbol ∷ stack) rest values scope functions = replaced_rests _ stack rest values scope functions
+step_rests (Make rule ∷ stack) rest values scope functions = rest_itself rest
+step_rests (Shut ∷ stack) rest values scope functions = rest_itself rest
+
+guarded_rests : (b : Bool) (rest : List Lexeme) (o : Option State) → Rests rest o → Rests rest (if b then None else o)
+guarded_rests true rest o h = tt
+guarded_rests false rest o h = h
+
+kept_rests : (s : State) (o : Option State) → Rests s.rest o → IsRest (unwrap_or o s).rest s.rest
+kept_rests s None h = rest_itself s.rest
+kept_rests s (Some t) h = h
+
+run_rests : (n : ℕ) (s : State) → IsRest (run n s).rest s.rest
+run_rests zero s = rest_itself s.rest
+run_rests (suc n) s = rest_of_rest _ _ _ (run_rests n (stepped s))
+    (kept_rests s (step s) (guarded_rests (is_fault (next_of s.rest)) s.rest _ (step_rests s.stack s.rest s.values s.scope s.functions)))
+
+same_tails : (a b x y : List Lexeme) → a ++ x ≡ b ++ y → length x ≡ length y → x ≡ y
+same_tails [] [] x y e l = e
+same_tails [] (p ∷ b) x y e l = let h : length x ≡ length ((p ∷ b) ++ y) = ap length e in absurd (omega (arith, length-append b y))
+same_tails (p ∷ a) [] x y e l = let h : length ((p ∷ a) ++ x) ≡ length y = ap length e in absurd (omega (arith, length-append a x))
+same_tails (p ∷ a) (q ∷ b) x y e l = same_tails a b x y (cc) l
+
+-- two faults of one derivation with as many tokens left are at one token
+same_rest : (profile : Profile) (s : State) (f g : Fault) → IsFault profile s f → IsFault profile s g → length f.rest ≡ length g.rest → f.rest ≡ g.rest
+same_rest profile s f g a b l =
+    let p : f.rest ≡ (run a.steps s).rest = at_rest profile f (run a.steps s) a.here in
+    let q : g.rest ≡ (run b.steps s).rest = at_rest profile g (run b.steps s) b.here in
+    let x : IsRest (run a.steps s).rest s.rest = run_rests a.steps s in
+    let y : IsRest (run b.steps s).rest s.rest = run_rests b.steps s in
+    p ∙ same_tails x.before y.before _ _ (sym x.is ∙ y.is) (ap length (sym p) ∙ l ∙ ap length q) ∙ sym q
+
+some_fault : (f : Fault) (xs : List Fault) → IsIn f xs → (g : Fault) × (gs : List Fault) × (xs ≡ g ∷ gs)
+some_fault f [] h = absurd h
+some_fault f (g ∷ gs) h = (g, gs, refl)
+
+verdict_at : (profile : Profile) (lexemes : List Lexeme) (s : State) (f : Fault) (faults : List Fault) (scope : Scope) (functions : List Definition) →
+    IsFirstFault profile s f → ((g : Fault) → IsIn g faults → IsFault profile s g) → IsIn f faults →
+    verdict lexemes faults scope functions ≡ Err (diagnostic (line_of f.rest) f.code)
+verdict_at profile lexemes s f [] scope functions first sound h = absurd h
+verdict_at profile lexemes s f (g ∷ gs) scope functions first sound h =
+    let one : IsFault profile s (first_of g gs) = sound (first_of g gs) (first_in g gs) in
+    let same : (length f.rest ≡ length (first_of g gs).rest) × (f.code ≡ (first_of g gs).code) = same_place f (first_of g gs) (first.first (first_of g gs) one) (first_least g gs f h) in
+    let rest : f.rest ≡ (first_of g gs).rest = same_rest profile s f (first_of g gs) first.comes one same.0 in
+    rw (rest, same.1) refl
+
+pub fault_verdict : (profile : Profile) (lexemes : List Lexeme) (d : Diagnostic) → Fails profile (start lexemes) d → compiled_tokens profile lexemes ≡ Err d
+fault_verdict profile lexemes d h =
+    let n : ℕ = weight (start lexemes) in
+    let here : IsIn h.fault (faults_in profile (suc n) (start lexemes)) = all_gathered profile n (start lexemes) h.first.comes.steps h.fault (ends n (start lexemes) (le_refl n)) h.first.comes.here in
+    let there : IsIn h.fault (faults_in profile (enough lexemes) (start lexemes)) = subst (λ (k : ℕ). IsIn h.fault (faults_in profile k (start lexemes))) (sym (add-one n)) here in
+    verdict_at profile lexemes (start lexemes) h.fault (faults_in profile (enough lexemes) (start lexemes)) _ _ h.first (gathered profile (enough lexemes) (start lexemes)) there
+    ∙ ap Err (same_diagnostic d (diagnostic (line_of h.fault.rest) h.fault.code) h.line h.code)
+  where
+    same_diagnostic : (d e : Diagnostic) → d.line ≡ e.line → d.code ≡ e.code → e ≡ d
+    same_diagnostic d e p q = sym (ap₂ diagnostic p q)

@@ -1,0 +1,28 @@
+use Rattle.std.proofs.Common.{rules, ◌≡◌, ◌<◌, length, false, eqb, sym, subst}
+use Rattle.std.specs.List.{list_any}
+use Rattle.grammar.proofs.ScopeLaws.{kept_begun, room_begun}
+use Rattle.grammar.specs.Naming.{IsKept}
+use Rattle.grammar.proofs.scope.Scope.begin.Goals as goal
+
+-- src/scope.rt:275:9
+pub push-requires : goal.push-requires
+push-requires c =
+    let room = room_begun c.self.inside.functions.items c.self.inside.lines.items c.self.inside.begun.items c.args.number c.self.invariant within new in
+    search (rules, room)
+  where
+    within : c.args.number < length c.self.inside.functions.items
+    within = search (rules, c.requires.within)
+
+    new : list_any (λ k. eqb k c.args.number) c.self.inside.begun.items ≡ false
+    new = search (rules, c.requires.new)
+
+-- src/scope.rt:269:5
+pub invariant_of-self : goal.invariant_of-self
+invariant_of-self c = subst (λ begun. IsKept c.self.inside.functions.items c.self.inside.lines.items begun) (sym c.push.ensures.items)
+    (kept_begun c.self.inside.functions.items c.self.inside.lines.items c.self.inside.begun.items c.args.number c.self.invariant within new)
+  where
+    within : c.args.number < length c.self.inside.functions.items
+    within = search (rules, c.requires.within)
+
+    new : list_any (λ k. eqb k c.args.number) c.self.inside.begun.items ≡ false
+    new = search (rules, c.requires.new)

@@ -1,0 +1,46 @@
+-- What a builder's calls do to the lists of actions that it stands for.
+use Rattle.std.specs.Prelude.{◌≡◌, ◌+◌, ◌<◌, ◌≤◌, List, [], ◌∷◌, ◌++◌, Bool, Some, Result, Ok, Err, IsTrue}
+use Rattle.grammar.specs.declared.build.BuildFault.{BuildFault}
+use Rattle.grammar.specs.declared.build.BuildFault.TheVariants as fault
+use Rattle.grammar.specs.Actions.{Action, code_length}
+use Rattle.grammar.specs.Following.{Opened, follow_all, IsBeginning}
+use Rattle.grammar.specs.Profile.{Profile}
+
+-- the profiles by which a builder goes, with the lists of actions that it stands for
+abbrev pub Meaning : Type 1
+Meaning = Profile → List Action → Type 0
+
+-- a list is stood for behind which the action may follow
+pub record MayFollow (before : Meaning) (action : Action) : Type 0 where
+  pub profile : Profile
+  pub acts : List Action
+  pub stood : before profile acts
+  pub begins : IsBeginning (acts ++ action ∷ [])
+
+-- a list is stood for that leaves this open
+pub record StandsOpen (before : Meaning) (opened : Opened) : Type 0 where
+  pub profile : Profile
+  pub acts : List Action
+  pub stood : before profile acts
+  pub opens : follow_all acts [] ≡ Some opened
+
+-- each list stood for before, with these actions at its end, is stood for behind the call
+abbrev pub AppendsAll : Meaning → Meaning → List Action → Type 0
+AppendsAll before behind more = (profile : Profile) (acts : List Action) → before profile acts → behind profile (acts ++ more)
+
+abbrev pub Appends : Meaning → Meaning → Action → Type 0
+Appends before behind action = AppendsAll before behind (action ∷ [])
+
+-- the code so far and the last NOP are within the profile's limit
+abbrev pub FitsWithin : Meaning → Type 0
+FitsWithin before = (profile : Profile) (acts : List Action) → before profile acts → code_length acts + 1 ≤ profile.instructions
+
+-- they pass it
+abbrev pub IsOver : Meaning → Type 0
+IsOver before = (profile : Profile) (acts : List Action) → before profile acts → profile.instructions < code_length acts + 1
+
+-- the one refusal is of memory, by a builder that asks for memory
+abbrev pub Refuses : {A : Type 0} → Result A BuildFault → Bool → Type 0
+Refuses (Ok x) allocates = Unit {0}
+Refuses (Err fault.Memory) allocates = IsTrue allocates
+Refuses (Err fault.Full) allocates = ⊥

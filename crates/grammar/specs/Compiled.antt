@@ -1,0 +1,79 @@
+-- What a source is: a file, or its first fault.
+use Rattle.std.specs.Prelude.{ℕ, ◌+◌, List, [], ◌∷◌, Option, Some, None, Result, Ok, Err, codes, map, if◌then◌else◌, ◌==◌}
+use Rattle.tokens.specs.Tokens.{tokens}
+use Rattle.tokens.specs.declared.lexemes.Lexeme.{Lexeme}
+use Rattle.grammar.specs.declared.diagnostics.Code.{Code}
+use Rattle.grammar.specs.declared.diagnostics.Code.TheVariants as code
+use Rattle.grammar.specs.declared.diagnostics.Diagnostic.{Diagnostic}
+use Rattle.grammar.specs.Derivation.{State, Definition, start, run, line_of}
+use Rattle.grammar.specs.Faults.{Fault, faults_in, first_of}
+use Rattle.grammar.specs.Profile.{Profile}
+use Rattle.grammar.specs.Scope.{Scope, function_number}
+use Rattle.grammar.specs.Tree.{Function, File}
+use Rattle.grammar.specs.Weight.{weight}
+
+abbrev pub diagnostic : ℕ → Code → Diagnostic
+diagnostic line c = record { line = line; code = c }
+
+-- the line of the last token
+abbrev pub last_line : List Lexeme → ℕ
+last_line [] = 1
+last_line (lexeme ∷ []) = lexeme.line
+last_line (lexeme ∷ other ∷ rest) = last_line (other ∷ rest)
+
+-- the function of this number
+abbrev pub defined_as : ℕ → List Definition → Option Function
+defined_as number [] = None
+defined_as number (d ∷ ds) = if d.number == number then Some d.function else defined_as number ds
+
+abbrev pub in_front : Option Function → ℕ → Result (List Function) ℕ → Result (List Function) ℕ
+in_front None line others = Err line
+in_front (Some f) line (Ok functions) = Ok (f ∷ functions)
+in_front (Some f) line (Err other) = Err other
+
+-- the functions from this number on, or the line on which the first of them without a definition was first mentioned
+abbrev pub all_defined : ℕ → List ℕ → List Definition → Result (List Function) ℕ
+all_defined number [] definitions = Ok []
+all_defined number (line ∷ lines) definitions = in_front (defined_as number definitions) line (all_defined (number + 1) lines definitions)
+
+abbrev pub main_name : List ℕ
+main_name = codes "main"
+
+abbrev pub order_of : List Definition → List ℕ
+order_of definitions = map (λ (d : Definition). d.number) definitions
+
+-- a file has each function that it mentions, and a function main
+abbrev pub file_of : ℕ → Scope → List ℕ → Result (List Function) ℕ → Option ℕ → Result File Diagnostic
+file_of last scope order (Err line) main = Err (diagnostic line code.FunctionNotDefined)
+file_of last scope order (Ok functions) None = Err (diagnostic last code.NoMainFunction)
+file_of last scope order (Ok functions) (Some main) =
+    Ok (record { externals = scope.externals; functions = functions; order = order; main = main })
+
+abbrev pub resolved : List Lexeme → Scope → List Definition → Result File Diagnostic
+resolved lexemes scope definitions =
+    file_of (last_line lexemes) scope (order_of definitions) (all_defined 0 scope.lines definitions) (function_number main_name scope)
+
+-- the first of the faults, or the file where there is none
+abbrev pub verdict : List Lexeme → List Fault → Scope → List Definition → Result File Diagnostic
+verdict lexemes [] scope definitions = resolved lexemes scope definitions
+verdict lexemes (f ∷ faults) scope definitions =
+    let first = first_of f faults in Err (diagnostic (line_of first.rest) first.code)
+
+-- as many steps as lead to the end of the derivation
+abbrev pub enough : List Lexeme → ℕ
+enough lexemes = weight (start lexemes) + 1
+
+-- the last state of a derivation
+abbrev pub last_state : List Lexeme → State
+last_state lexemes = run (enough lexemes) (start lexemes)
+
+-- the faults of a derivation
+abbrev pub all_faults : Profile → List Lexeme → List Fault
+all_faults profile lexemes = faults_in profile (enough lexemes) (start lexemes)
+
+abbrev pub compiled_tokens : Profile → List Lexeme → Result File Diagnostic
+compiled_tokens profile lexemes =
+    verdict lexemes (all_faults profile lexemes) (last_state lexemes).scope (last_state lexemes).functions
+
+unfoldable pub compiled : Profile → List ℕ → Result File Diagnostic
+compiled profile bytes = compiled_tokens profile (tokens bytes)

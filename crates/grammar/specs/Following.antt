@@ -1,0 +1,146 @@
+-- Which actions may follow those that a builder was told: what they leave open, and what each closes.
+use Rattle.std.specs.Prelude.{ℕ, ℤ, pos, ◌+◌, List, [], ◌∷◌, Bool, true, false, ◌&&◌, ◌==◌, Option, Some, None, is_some, IsTrue, nat_lt, nat_le, if◌then◌else◌}
+use denote.Enum.Bare.{sameb}
+use Rattle.grammar.specs.contracts.operators.Op as ops
+use Rattle.grammar.specs.declared.names.Callee.{Callee}
+use Rattle.grammar.specs.declared.names.Callee.TheVariants as callee
+use Rattle.grammar.specs.declared.names.Var.{Var}
+use Rattle.grammar.specs.declared.names.Var.TheVariants as var
+use Rattle.grammar.specs.declared.operators.Op.{Op}
+use Rattle.grammar.specs.Actions.{Action, Push, Get, Put, Apply, Middle, BeginCall, EndCall, IfTest, ElsePart, EndIf, BeginWhile, WhileTest, EndWhile, GiveBack, Chop, Begin, Finish}
+use Rattle.grammar.specs.Operators.{is_logic}
+
+-- the most calls, ifs, whiles and right sides of && and || that are open at once
+unfoldable pub most_open : ℕ
+most_open = 200
+
+-- the most externals, variables of a function, and functions, by whose numbers actions go
+unfoldable pub most_numbers : ℕ
+most_numbers = 64
+
+-- how a value came about, as far as it matters for what follows
+pub data Origin : Type 0 where
+  Number : (value : ℤ) → Origin  -- a constant
+  Fetched : (v : Var) → Origin  -- a variable's value
+  Stepped : (v : Var) → Origin  -- a store of 1 by an operator, as ++ and -- make
+  Computed : Origin
+
+-- what is open
+pub data Open : Type 0 where
+  InFunction : (parameters : ℕ) (returned : Bool) → Open  -- a function; whether its last statement is `return 0;`
+  AValue : (origin : Origin) → Open  -- a value that is still to be used
+  BeforeRight : (op : Op) → Open  -- && or ||, whose right side is to come
+  InCall : Open  -- a call, whose arguments are the values inside of it
+  InBranch : Open  -- an if, in its first branch
+  InElse : Open  -- an if, in its second branch
+  BeforeTest : Open  -- a while, whose condition is to come
+  InTurn : Open  -- a while, in its body
+
+-- what is open, the innermost first
+abbrev pub Opened : Type 0
+Opened = List Open
+
+abbrev pub counts : Open → ℕ
+counts (InFunction parameters returned) = 0
+counts (AValue origin) = 0
+counts inner = 1
+
+abbrev pub open_count : Opened → ℕ
+open_count [] = 0
+open_count (inner ∷ opened) = counts inner + open_count opened
+
+-- where a statement may stand
+abbrev pub is_place : Opened → Bool
+is_place (InFunction parameters returned ∷ opened) = true
+is_place (InBranch ∷ opened) = true
+is_place (InElse ∷ opened) = true
+is_place (InTurn ∷ opened) = true
+is_place opened = false
+
+abbrev pub only_on : Bool → Opened → Option Opened
+only_on b opened = if b then Some opened else None
+
+-- a value, a call or a right side stands inside of something
+abbrev pub within : Open → Opened → Option Opened
+within inner [] = None
+within inner (outer ∷ opened) = Some (inner ∷ outer ∷ opened)
+
+-- behind a statement, which is `return 0;` or not
+abbrev pub statement_done : Bool → Opened → Option Opened
+statement_done returned (InFunction parameters before ∷ opened) = Some (InFunction parameters returned ∷ opened)
+statement_done returned opened = only_on (is_place opened) opened
+
+abbrev pub call_done : Opened → Option Opened
+call_done (AValue origin ∷ opened) = call_done opened
+call_done (InCall ∷ opened) = Some (AValue Computed ∷ opened)
+call_done opened = None
+
+abbrev pub same_var : Var → Var → Bool
+same_var (var.Local m) (var.Local n) = m == n
+same_var (var.External m) (var.External n) = m == n
+same_var v w = false
+
+abbrev pub is_number : ℕ → Origin → Bool
+is_number n (Number (pos m)) = m == n
+is_number n origin = false
+
+-- the new value of a variable over its old one, as v++ and v-- leave them
+abbrev pub is_step : Origin → Origin → Bool
+is_step (Stepped v) (Fetched w) = same_var v w
+is_step origin below = false
+
+abbrev pub stored : Var → Origin → Origin
+stored v origin = if is_number 1 origin then Stepped v else Computed
+
+abbrev pub is_var_numbered : Var → Bool
+is_var_numbered (var.Local n) = nat_lt n most_numbers
+is_var_numbered (var.External n) = nat_lt n most_numbers
+
+abbrev pub is_callee_numbered : Callee → Bool
+is_callee_numbered (callee.Function n) = nat_lt n most_numbers
+is_callee_numbered (callee.Intrinsic i) = true
+
+abbrev pub same_op : Op → Op → Bool
+same_op o p = sameb ops.the_type o p
+
+-- what is open behind an action, where it may follow
+abbrev pub follow : Action → Opened → Option Opened
+follow (Push value) opened = within (AValue (Number value)) opened
+follow (Get v) opened = if is_var_numbered v then within (AValue (Fetched v)) opened else None
+follow (Put v op) (AValue origin ∷ opened) = only_on (is_var_numbered v) (AValue (stored v origin) ∷ opened)
+follow (Apply op) (AValue right ∷ AValue left ∷ opened) = if is_logic op then None else Some (AValue Computed ∷ opened)
+follow (Apply op) (AValue right ∷ BeforeRight o ∷ AValue left ∷ opened) = only_on (same_op op o) (AValue Computed ∷ opened)
+follow (Middle op) (AValue left ∷ opened) = only_on (is_logic op) (BeforeRight op ∷ AValue left ∷ opened)
+follow BeginCall opened = within InCall opened
+follow (EndCall callee) opened = if is_callee_numbered callee then call_done opened else None
+follow IfTest (AValue condition ∷ opened) = only_on (is_place opened) (InBranch ∷ opened)
+follow ElsePart (InBranch ∷ opened) = Some (InElse ∷ opened)
+follow EndIf (InBranch ∷ opened) = statement_done false opened
+follow EndIf (InElse ∷ opened) = statement_done false opened
+follow BeginWhile opened = only_on (is_place opened) (BeforeTest ∷ opened)
+follow WhileTest (AValue condition ∷ BeforeTest ∷ opened) = Some (InTurn ∷ opened)
+follow EndWhile (InTurn ∷ opened) = statement_done false opened
+follow GiveBack (AValue origin ∷ opened) = statement_done (is_number 0 origin) opened
+follow Chop (AValue origin ∷ AValue below ∷ opened) = only_on (is_step origin below) (AValue Computed ∷ opened)
+follow Chop (AValue origin ∷ opened) = statement_done false opened
+follow (Begin number parameters) [] =
+    only_on (nat_lt number most_numbers && nat_le parameters most_numbers) (InFunction parameters false ∷ [])
+follow (Finish variables) (InFunction parameters true ∷ []) = only_on (nat_le parameters variables && nat_le variables most_numbers) []
+follow action opened = None
+
+-- not too much is open
+abbrev pub few_open : Opened → Bool
+few_open opened = nat_le (open_count opened) most_open
+
+abbrev pub then_follow : (Opened → Option Opened) → Option Opened → Option Opened
+then_follow more None = None
+then_follow more (Some opened) = if few_open opened then more opened else None
+
+-- what is open behind actions, where each may follow those before it
+abbrev pub follow_all : List Action → Opened → Option Opened
+follow_all [] opened = Some opened
+follow_all (action ∷ acts) opened = then_follow (follow_all acts) (follow action opened)
+
+-- the actions are a beginning of those of some functions
+abbrev pub IsBeginning : List Action → Type 0
+IsBeginning acts = IsTrue (is_some (follow_all acts []))

@@ -1,0 +1,68 @@
+-- Laws on the definitions: a derivation ends, and a source is what its derivation leads to.
+use Rattle.std.specs.Prelude.{◌≡◌, ◌≤◌, ℕ, List, [], ◌∷◌, Bool, Some, None, Ok, Err, if◌then◌else◌, slice_get}
+use Rattle.tokens.specs.declared.lexemes.Lexeme.{Lexeme}
+use Rattle.tokens.specs.declared.lexemes.Token.{Token}
+use Rattle.grammar.specs.declared.diagnostics.Diagnostic.{Diagnostic}
+use Rattle.grammar.specs.Compiled.{compiled_tokens, last_state, resolved}
+use Rattle.grammar.specs.Derivation.{State, state, Value, Definition, start, step, run}
+use Rattle.grammar.specs.Faults.{faults_at, levels}
+use Rattle.grammar.specs.Actions.{Action, actions}
+use Rattle.grammar.specs.Building.{Meaning, MayFollow, StandsOpen}
+use Rattle.grammar.specs.Following.{Opened, follow, follow_all, open_count}
+use Rattle.grammar.specs.Grammar.{Symbol, Declarations, Statements, Item, Part, Make, Define, Production, choice, opens}
+use Rattle.grammar.specs.Nesting.{body_nesting}
+use Rattle.grammar.specs.Parsing.{Fails, Passes}
+use Rattle.grammar.specs.Profile.{Profile}
+use Rattle.grammar.specs.Resolved.{IsResolved}
+use Rattle.grammar.specs.Scope.{Scope}
+use Rattle.grammar.specs.Tree.{Function, File}
+
+-- no step leads on from the last state
+abbrev pub EachDerivationEnds : Type 0
+EachDerivationEnds = (lexemes : List Lexeme) → step (last_state lexemes) ≡ None
+
+-- a source whose derivation ends without a fault is the file of its last state, or lacks a function
+abbrev pub FaultlessIsResolved : Type 0
+FaultlessIsResolved = (profile : Profile) (lexemes : List Lexeme) (t : State) →
+    Passes profile (start lexemes) t → step t ≡ None → faults_at profile t ≡ [] → compiled_tokens profile lexemes ≡ resolved lexemes t.scope t.functions
+
+-- any other is its first fault: the one at the earliest token, and there the one with the least code
+abbrev pub FirstFaultDecides : Type 0
+FirstFaultDecides = (profile : Profile) (lexemes : List Lexeme) (d : Diagnostic) → Fails profile (start lexemes) d → compiled_tokens profile lexemes ≡ Err d
+
+-- a production opens a level exactly where its end shuts one
+abbrev pub shuts : Production → ℕ
+shuts None = 0
+shuts (Some items) = levels items
+
+abbrev pub opened_levels : Bool → ℕ
+opened_levels b = if b then 1 else 0
+
+abbrev pub LevelsAreShut : Type 0
+LevelsAreShut = (symbol : Symbol) (next after : Token) → shuts (choice symbol next after) ≡ opened_levels (opens symbol next after)
+
+-- the actions of a resolved file may follow one another, and leave nothing open, where no function has too much open at once
+abbrev pub EachFileFollows : Type 0
+EachFileFollows = (file : File) → IsResolved file → ((k : ℕ) (f : Function) → slice_get file.functions k ≡ Some f → body_nesting f.body ≤ 200) →
+    follow_all (actions file) [] ≡ Some []
+
+-- a file that compiles is resolved
+abbrev pub CompiledIsResolved : Type 0
+CompiledIsResolved = (profile : Profile) (lexemes : List Lexeme) (file : File) → compiled_tokens profile lexemes ≡ Ok file → IsResolved file
+
+-- where a builder stands for a list that leaves this open, it may be told an action that may follow what is open
+abbrev pub MayBeTold : Meaning → Type 0
+MayBeTold stands = (opened next : Opened) (action : Action) → StandsOpen stands opened → follow action opened ≡ Some next → open_count next ≤ 200 → MayFollow stands action
+
+-- the function that is being defined keeps its number, its name and its parameters, and no other definition begins
+pub record KeepsFunction (known learnt : Scope) : Type 0 where
+  pub number : learnt.number ≡ known.number
+  pub begun : learnt.begun ≡ known.begun
+  pub name : learnt.current.name ≡ known.current.name
+  pub parameters : learnt.current.parameters ≡ known.current.parameters
+
+-- what stands in a function's block keeps the function, up to the block's end: there no further function is defined yet
+abbrev pub BlocksKeepTheFunction : Type 0
+BlocksKeepTheFunction = (n : ℕ) (stack : List Item) (rest later : List Lexeme) (values left : List Value) (known learnt : Scope) (functions : List Definition) →
+    run n (state (Part Declarations ∷ Part Statements ∷ Make Define ∷ stack) rest values known functions) ≡ state (Make Define ∷ stack) later left learnt functions →
+    KeepsFunction known learnt

@@ -1,0 +1,29 @@
+-- What a name in a role does to what is known, and what may be wrong with it.
+use Rattle.std.specs.Prelude.{◌≡◌, ℕ, ◌+◌, ◌<◌, ◌≤◌, List, [], ◌∷◌, Option, Some, None, length, true, eqb, ◌==◌, if◌then◌else◌}
+use Rattle.std.specs.List.{IsDistinct, list_any}
+use Rattle.tokens.specs.declared.lexemes.Lexeme.{Lexeme}
+use Rattle.grammar.specs.declared.diagnostics.Code.{Code}
+use Rattle.grammar.specs.Faults.{fault, role_faults}
+use Rattle.grammar.specs.Grammar.{Role}
+use Rattle.grammar.specs.Scope.{Scope, behind_name}
+
+-- the name has no fault, and the new scope is that behind it
+pub record Knows (role : Role) (name : List ℕ) (line : ℕ) (old new : Scope) : Type 0 where
+  pub clean : (rest : List Lexeme) → role_faults role name old rest ≡ []
+  pub behind : new ≡ behind_name role name line old
+
+-- the name has this one fault
+abbrev pub RefusesName : Role → List ℕ → Scope → Code → Type 0
+RefusesName role name scope c = (rest : List Lexeme) → role_faults role name scope rest ≡ fault rest c ∷ []
+
+-- each function that was mentioned has its line, and the definition of each begins once at most
+pub record IsKept {F : Type 0} (functions : List F) (lines begun : List ℕ) : Type 0 where
+  pub few : length functions ≤ 64
+  pub lined : length lines ≡ length functions
+  pub once : IsDistinct eqb begun
+  pub known : (q : ℕ) → list_any (eqb q) begun ≡ true → q < length functions
+
+-- the line of the first mention of the first function, by number, whose definition didn't begin
+abbrev pub line_of_undefined : ℕ → List ℕ → List ℕ → Option ℕ
+line_of_undefined number [] begun = None
+line_of_undefined number (line ∷ lines) begun = if list_any (λ k. k == number) begun then line_of_undefined (number + 1) lines begun else Some line

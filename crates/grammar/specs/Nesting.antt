@@ -1,0 +1,29 @@
+-- How many calls, branches, loops and right sides of && and || are open at once within a tree, at most.
+use Rattle.std.specs.Prelude.{ℕ, ◌+◌, max, if◌then◌else◌}
+use Rattle.grammar.specs.declared.operators.Op.{Op}
+use Rattle.grammar.specs.Operators.{is_logic}
+use Rattle.grammar.specs.Tree.{Expr, Constant, Variable, Binary, Assign, Postfix, Call, Args, NoMore, Argument, Body, Done, Alone, When, Choose, While, Return}
+
+abbrev pub right_side : Op → ℕ
+right_side op = if is_logic op then 1 else 0
+
+abbrev mutual
+  pub nesting : Expr → ℕ
+  nesting (Constant value) = 0
+  nesting (Variable v) = 0
+  nesting (Binary op a b) = max (nesting a) (right_side op + nesting b)
+  nesting (Assign op v e) = nesting e
+  nesting (Postfix op v) = 0
+  nesting (Call callee args) = 1 + args_nesting args
+
+  pub args_nesting : Args → ℕ
+  args_nesting NoMore = 0
+  args_nesting (Argument e rest) = max (nesting e) (args_nesting rest)
+
+abbrev pub body_nesting : Body → ℕ
+body_nesting Done = 0
+body_nesting (Alone e rest) = max (nesting e) (body_nesting rest)
+body_nesting (When c s rest) = max (max (nesting c) (1 + body_nesting s)) (body_nesting rest)
+body_nesting (Choose c s t rest) = max (max (nesting c) (1 + max (body_nesting s) (body_nesting t))) (body_nesting rest)
+body_nesting (While c s rest) = max (1 + max (nesting c) (body_nesting s)) (body_nesting rest)
+body_nesting (Return e rest) = max (nesting e) (body_nesting rest)

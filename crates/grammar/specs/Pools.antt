@@ -1,0 +1,19 @@
+-- The names of a file by number, as a parse gives them.
+use Rattle.std.specs.Prelude.{ℕ, List, map}
+use Rattle.grammar.specs.Tree.{Function, File}
+
+-- a function's name, how many parameters it has, and its variables: the parameters stand first
+pub record FunctionNames : Type 0 where
+  pub name : List ℕ
+  pub parameters : ℕ
+  pub variables : List (List ℕ)
+
+pub record Names : Type 0 where
+  pub externals : List (List ℕ)
+  pub functions : List FunctionNames
+
+abbrev pub names_of_function : Function → FunctionNames
+names_of_function f = record { name = f.name; parameters = f.parameters; variables = f.variables }
+
+abbrev pub names_of : File → Names
+names_of file = record { externals = file.externals; functions = map names_of_function file.functions }

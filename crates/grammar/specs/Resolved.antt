@@ -1,0 +1,64 @@
+-- What a file is whose names are resolved: each number is one of a variable or function that there is.
+use Rattle.std.specs.Prelude.{ℕ, ◌≡◌, ◌<◌, ◌≤◌, ◌⊎◌, List, [], ◌∷◌, length, Some, slice_get}
+use Rattle.grammar.specs.declared.names.Callee.{Callee}
+use Rattle.grammar.specs.declared.names.Callee.TheVariants as callee
+use Rattle.grammar.specs.declared.names.Var.{Var}
+use Rattle.grammar.specs.declared.names.Var.TheVariants as var
+use Rattle.grammar.specs.Tree.{Expr, Constant, Variable, Binary, Assign, Postfix, Call, Args, NoMore, Argument, Body, Done, Alone, When, Choose, While, Return, Function, File}
+
+-- one of so many externals and locals
+abbrev pub IsVariable : (externals locals : ℕ) → Var → Type 0
+IsVariable e l (var.External j) = j < e
+IsVariable e l (var.Local j) = j < l
+
+-- one of so many functions, or an intrinsic one
+abbrev pub IsCallable : (functions : ℕ) → Callee → Type 0
+IsCallable n (callee.Function k) = k < n
+IsCallable n (callee.Intrinsic i) = Unit {0}
+
+-- the expression's names are among so many externals, locals and functions
+abbrev mutual
+  pub InExpr : (externals locals functions : ℕ) → Expr → Type 0
+  InExpr e l n (Constant value) = Unit {0}
+  InExpr e l n (Variable v) = IsVariable e l v
+  InExpr e l n (Binary op a b) = InExpr e l n a × InExpr e l n b
+  InExpr e l n (Assign op v a) = IsVariable e l v × InExpr e l n a
+  InExpr e l n (Postfix op v) = IsVariable e l v
+  InExpr e l n (Call f arguments) = IsCallable n f × InArgs e l n arguments
+
+  pub InArgs : (externals locals functions : ℕ) → Args → Type 0
+  InArgs e l n NoMore = Unit {0}
+  InArgs e l n (Argument a rest) = InExpr e l n a × InArgs e l n rest
+
+abbrev pub InBody : (externals locals functions : ℕ) → Body → Type 0
+InBody e l n Done = Unit {0}
+InBody e l n (Alone a rest) = InExpr e l n a × InBody e l n rest
+InBody e l n (When c s rest) = InExpr e l n c × InBody e l n s × InBody e l n rest
+InBody e l n (Choose c s t rest) = InExpr e l n c × InBody e l n s × InBody e l n t × InBody e l n rest
+InBody e l n (While c s rest) = InExpr e l n c × InBody e l n s × InBody e l n rest
+InBody e l n (Return a rest) = InExpr e l n a × InBody e l n rest
+
+-- a function among so many externals and functions
+pub record InFile (externals functions : ℕ) (f : Function) : Type 0 where
+  pub parameters : f.parameters ≤ length f.variables
+  pub variables : length f.variables ≤ 64
+  pub body : InBody externals (length f.variables) functions f.body
+
+abbrev pub IsAmong : ℕ → List ℕ → Type 0
+IsAmong k [] = ⊥
+IsAmong k (n ∷ numbers) = (k ≡ n) ⊎ IsAmong k numbers
+
+-- no number stands there twice
+abbrev pub AreDistinct : List ℕ → Type 0
+AreDistinct [] = Unit {0}
+AreDistinct (n ∷ numbers) = (IsAmong n numbers → ⊥) × AreDistinct numbers
+
+-- the names are within the pools, and each function is defined once
+pub record IsResolved (file : File) : Type 0 where
+  pub externals : length file.externals ≤ 64
+  pub functions : length file.functions ≤ 64
+  pub each : (k : ℕ) (f : Function) → slice_get file.functions k ≡ Some f → InFile (length file.externals) (length file.functions) f
+  pub defined : (k : ℕ) → k < length file.functions → IsAmong k file.order
+  pub only : (k : ℕ) → IsAmong k file.order → k < length file.functions
+  pub once : AreDistinct file.order
+  pub main : file.main < length file.functions

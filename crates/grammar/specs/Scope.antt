@@ -1,0 +1,120 @@
+-- The names that are known at a place of a source, and what each stands for there.
+use Rattle.std.specs.Prelude.{ℕ, List, [], ◌∷◌, ◌++◌, Bool, Option, Some, None, map, length, set, unwrap_or, is_none, if◌then◌else◌, ◌+◌, ◌==◌}
+use Rattle.std.specs.List.{position, list_any}
+use Rattle.std.specs.Option.{option_map, option_or}
+use Rattle.std.specs.Str.{bytes_eq}
+use Rattle.grammar.specs.declared.names.Callee.{Callee}
+use Rattle.grammar.specs.declared.names.Callee.TheVariants as callee
+use Rattle.grammar.specs.declared.names.Intrinsic.{Intrinsic}
+use Rattle.grammar.specs.declared.names.Var.{Var}
+use Rattle.grammar.specs.declared.names.Var.TheVariants as var
+use Rattle.grammar.specs.Grammar.{Role, Defined, External, Parameter, Typed, Local, Called, Mentioned}
+use Rattle.grammar.specs.Intrinsics.{intrinsic_named, is_intrinsic}
+use Rattle.grammar.specs.Pools.{FunctionNames}
+
+pub record Scope : Type 0 where
+  pub externals : List (List ℕ)  -- the externals declared
+  pub functions : List FunctionNames  -- the functions mentioned; one whose definition hasn't ended has a name alone
+  pub lines : List ℕ  -- the line of each one's first mention
+  pub begun : List ℕ  -- the numbers of those whose definition began, in file order
+  pub number : ℕ  -- the number of the function that is being defined
+  pub current : FunctionNames  -- its name, and its parameters and variables so far
+
+-- a function without variables
+abbrev pub only_named : List ℕ → FunctionNames
+only_named name = record { name = name; parameters = 0; variables = [] }
+
+-- nothing is known before a file's first token
+abbrev pub no_names : Scope
+no_names = record { externals = []; functions = []; lines = []; begun = []; number = 0; current = only_named [] }
+
+-- the number of a name among names
+abbrev pub number_of_name : List ℕ → List (List ℕ) → Option ℕ
+number_of_name name names = position (bytes_eq name) names
+
+-- the number of a function that was mentioned
+abbrev pub function_number : List ℕ → Scope → Option ℕ
+function_number name scope = number_of_name name (map (λ (f : FunctionNames). f.name) scope.functions)
+
+-- the variable of a name: one of the function's, or else an external
+abbrev pub variable_named : List ℕ → Scope → Option Var
+variable_named name scope =
+    option_or (option_map var.Local (number_of_name name scope.current.variables)) (option_map var.External (number_of_name name scope.externals))
+
+-- a name that stands for neither is the function's next local
+abbrev pub variable_of : List ℕ → Scope → Var
+variable_of name scope = unwrap_or (variable_named name scope) (var.Local (length scope.current.variables))
+
+abbrev pub is_variable_new : List ℕ → Scope → Bool
+is_variable_new name scope = is_none (variable_named name scope)
+
+abbrev pub is_local_new : List ℕ → Scope → Bool
+is_local_new name scope = is_none (number_of_name name scope.current.variables)
+
+abbrev pub is_external_new : List ℕ → Scope → Bool
+is_external_new name scope = is_none (number_of_name name scope.externals)
+
+-- a function of the file that wasn't mentioned before
+abbrev pub is_function_new : List ℕ → Scope → Bool
+is_function_new name scope = if is_intrinsic name then Bool.false else is_none (function_number name scope)
+
+-- a function's number, which is the next one where it is new
+abbrev pub number_for : List ℕ → Scope → ℕ
+number_for name scope = unwrap_or (function_number name scope) (length scope.functions)
+
+abbrev pub callee_or : Option Intrinsic → ℕ → Callee
+callee_or None number = callee.Function number
+callee_or (Some i) number = callee.Intrinsic i
+
+-- what a call of this name calls
+abbrev pub callee_of : List ℕ → Scope → Callee
+callee_of name scope = callee_or (intrinsic_named name) (number_for name scope)
+
+-- whether a definition of the function began before
+abbrev pub has_begun : List ℕ → Scope → Bool
+has_begun name scope = list_any (λ k. k == number_for name scope) scope.begun
+
+abbrev pub with_variable : List ℕ → Scope → Scope
+with_variable name scope = record scope { current = record scope.current { variables = scope.current.variables ++ name ∷ [] } }
+
+abbrev pub with_parameter : List ℕ → Scope → Scope
+with_parameter name scope =
+    record scope { current = record scope.current { parameters = scope.current.parameters + 1; variables = scope.current.variables ++ name ∷ [] } }
+
+abbrev pub with_external : List ℕ → Scope → Scope
+with_external name scope = record scope { externals = scope.externals ++ name ∷ [] }
+
+-- a new function is mentioned on a line
+abbrev pub with_new_function : List ℕ → ℕ → Scope → Scope
+with_new_function name line scope = record scope { functions = scope.functions ++ only_named name ∷ []; lines = scope.lines ++ line ∷ [] }
+
+-- a function is mentioned on a line
+abbrev pub with_function : List ℕ → ℕ → Scope → Scope
+with_function name line scope = if is_function_new name scope then with_new_function name line scope else scope
+
+-- the numbers of the definitions begun, with this one; an intrinsic function has no number
+abbrev pub begun_with : List ℕ → Scope → List ℕ
+begun_with name scope = if is_intrinsic name then scope.begun else scope.begun ++ number_for name scope ∷ []
+
+-- the definition of the function of this name and number begins
+abbrev pub with_begun : ℕ → List ℕ → Scope → Scope
+with_begun number name scope = record scope { begun = scope.begun ++ number ∷ []; number = number; current = only_named name }
+
+-- a definition begins: the function is mentioned, and has no variables yet
+abbrev pub begin_definition : List ℕ → ℕ → Scope → Scope
+begin_definition name line scope =
+    record (with_function name line scope) { begun = begun_with name scope; number = number_for name scope; current = only_named name }
+
+-- it ends: the function's parameters and variables are known
+abbrev pub end_definition : Scope → Scope
+end_definition scope = record scope { functions = set scope.functions scope.number scope.current; current = only_named [] }
+
+-- what is known behind a name in a role
+abbrev pub behind_name : Role → List ℕ → ℕ → Scope → Scope
+behind_name Defined name line scope = begin_definition name line scope
+behind_name External name line scope = if is_external_new name scope then with_external name scope else scope
+behind_name Parameter name line scope = if is_local_new name scope then with_parameter name scope else scope
+behind_name Typed name line scope = scope
+behind_name Local name line scope = if is_local_new name scope then with_variable name scope else scope
+behind_name Called name line scope = with_function name line scope
+behind_name Mentioned name line scope = if is_variable_new name scope then with_variable name scope else scope

@@ -1,0 +1,135 @@
+//! The trait of what a parse builds: it is told each action in the order of the tokens.
+
+ghost use Rattle.std.specs.Prelude.{◌≡◌, ℕ, ◌+◌, ◌<◌, ◌≤◌, List, [], ◌∷◌, ◌++◌, Bool, IsTrue, IsErrOf, OnOk, OnErr};
+ghost use Rattle.grammar.specs.Actions.{Action, Push, Get, Put, Apply, Middle, BeginCall, EndCall, IfTest, ElsePart, EndIf, BeginWhile, WhileTest, EndWhile, GiveBack, Chop, Begin, Finish};
+ghost use Rattle.grammar.specs.Building.{Appends, FitsWithin, IsOver, MayFollow, Refuses};
+ghost use Rattle.grammar.specs.Profile.{Profile};
+
+use crate::names::{Callee, Var};
+use crate::operators::{Op, StoreOp};
+
+/// Why a builder refused an action. Then it stands for nothing, and its owner gives it up.
+#[derive(Clone, Copy, Debug, PartialEq, Eq)]
+pub enum BuildFault {
+    /// The code so far and the final NOP pass the most instructions of a file.
+    Full,
+    /// Memory was refused.
+    Memory,
+}
+
+/// What is told the actions of a file.
+///
+/// A builder stands for lists of actions: those that it was told since it was new. Its caller shows that the action
+/// may follow one of them. Each call that answers `Ok` adds its action at the end of each.
+pub trait Build {
+    // the builder goes by the profile and stands for the list of actions
+    ghost stands: { Self → Profile → List Action → Type 0 };
+    // whether it asks for memory
+    ghost allocates: { Bool };
+
+    /// A constant is the next value.
+    fn constant(&mut self, value: i32) -> Result<(), BuildFault>
+        requires follows { MayFollow (stands self.old) (Push value) }
+        ensures ok { OnOk result (Appends (stands self.old) (stands self.new) (Push value)) }
+        ensures memory { Refuses result allocates };
+
+    /// The value of a variable is the next value.
+    fn fetch(&mut self, var: Var) -> Result<(), BuildFault>
+        requires follows { MayFollow (stands self.old) (Get var) }
+        ensures ok { OnOk result (Appends (stands self.old) (stands self.new) (Get var)) }
+        ensures memory { Refuses result allocates };
+
+    /// A variable takes the last value, or the operator's result of its own value and the last one. The new value stays.
+    fn store(&mut self, var: Var, op: StoreOp) -> Result<(), BuildFault>
+        requires follows { MayFollow (stands self.old) (Put var op) }
+        ensures ok { OnOk result (Appends (stands self.old) (stands self.new) (Put var op)) }
+        ensures memory { Refuses result allocates };
+
+    /// The last two values become the operator's.
+    fn binop(&mut self, op: Op) -> Result<(), BuildFault>
+        requires follows { MayFollow (stands self.old) (Apply op) }
+        ensures ok { OnOk result (Appends (stands self.old) (stands self.new) (Apply op)) }
+        ensures memory { Refuses result allocates };
+
+    /// The left side of `&&` or `||` is done, and its right side follows.
+    fn logic_middle(&mut self, op: Op) -> Result<(), BuildFault>
+        requires follows { MayFollow (stands self.old) (Middle op) }
+        ensures ok { OnOk result (Appends (stands self.old) (stands self.new) (Middle op)) }
+        ensures memory { Refuses result allocates };
+
+    /// A call begins: its arguments follow.
+    fn begin_call(&mut self) -> Result<(), BuildFault>
+        requires follows { MayFollow (stands self.old) BeginCall }
+        ensures ok { OnOk result (Appends (stands self.old) (stands self.new) BeginCall) }
+        ensures memory { Refuses result allocates };
+
+    /// The arguments of a call are done, and become the value of what it calls.
+    fn end_call(&mut self, callee: Callee) -> Result<(), BuildFault>
+        requires follows { MayFollow (stands self.old) (EndCall callee) }
+        ensures ok { OnOk result (Appends (stands self.old) (stands self.new) (EndCall callee)) }
+        ensures memory { Refuses result allocates };
+
+    /// The condition of an `if` is done, and its first branch follows.
+    fn if_test(&mut self) -> Result<(), BuildFault>
+        requires follows { MayFollow (stands self.old) IfTest }
+        ensures ok { OnOk result (Appends (stands self.old) (stands self.new) IfTest) }
+        ensures memory { Refuses result allocates };
+
+    /// The first branch is done, and the second follows.
+    fn else_part(&mut self) -> Result<(), BuildFault>
+        requires follows { MayFollow (stands self.old) ElsePart }
+        ensures ok { OnOk result (Appends (stands self.old) (stands self.new) ElsePart) }
+        ensures memory { Refuses result allocates };
+
+    /// An `if` ends.
+    fn end_if(&mut self) -> Result<(), BuildFault>
+        requires follows { MayFollow (stands self.old) EndIf }
+        ensures ok { OnOk result (Appends (stands self.old) (stands self.new) EndIf) }
+        ensures memory { Refuses result allocates };
+
+    /// A `while` begins: its condition follows.
+    fn begin_while(&mut self) -> Result<(), BuildFault>
+        requires follows { MayFollow (stands self.old) BeginWhile }
+        ensures ok { OnOk result (Appends (stands self.old) (stands self.new) BeginWhile) }
+        ensures memory { Refuses result allocates };
+
+    /// The condition of a `while` is done, and its body follows.
+    fn while_test(&mut self) -> Result<(), BuildFault>
+        requires follows { MayFollow (stands self.old) WhileTest }
+        ensures ok { OnOk result (Appends (stands self.old) (stands self.new) WhileTest) }
+        ensures memory { Refuses result allocates };
+
+    /// A `while` ends.
+    fn end_while(&mut self) -> Result<(), BuildFault>
+        requires follows { MayFollow (stands self.old) EndWhile }
+        ensures ok { OnOk result (Appends (stands self.old) (stands self.new) EndWhile) }
+        ensures memory { Refuses result allocates };
+
+    /// The function returns the last value.
+    fn give_back(&mut self) -> Result<(), BuildFault>
+        requires follows { MayFollow (stands self.old) GiveBack }
+        ensures ok { OnOk result (Appends (stands self.old) (stands self.new) GiveBack) }
+        ensures memory { Refuses result allocates };
+
+    /// The last value is dropped: that of a statement, or the new one of `v++` and `v--`.
+    fn chop(&mut self) -> Result<(), BuildFault>
+        requires follows { MayFollow (stands self.old) Chop }
+        ensures ok { OnOk result (Appends (stands self.old) (stands self.new) Chop) }
+        ensures memory { Refuses result allocates };
+
+    /// The function of this number begins, with so many parameters.
+    fn begin_function(&mut self, number: u8, parameters: u8) -> Result<(), BuildFault>
+        requires follows { MayFollow (stands self.old) (Begin number parameters) }
+        ensures ok { OnOk result (Appends (stands self.old) (stands self.new) (Begin number parameters)) }
+        ensures memory { Refuses result allocates };
+
+    /// The function ends, with so many variables, parameters among them.
+    ///
+    /// `Full` comes exactly where the code so far and the final NOP pass the most instructions of a file, memory aside.
+    fn end_function(&mut self, variables: u8) -> Result<(), BuildFault>
+        requires follows { MayFollow (stands self.old) (Finish variables) }
+        ensures ok { OnOk result (Appends (stands self.old) (stands self.new) (Finish variables)) }
+        ensures fits { OnOk result (FitsWithin (stands self.old)) }
+        ensures full { IsErrOf result BuildFault.Full → IsOver (stands self.old) }
+        ensures memory { IsErrOf result BuildFault.Memory → IsTrue allocates };
+}

@@ -1,0 +1,126 @@
+//! The sixteen diagnostics with their texts, and what a parse refuses.
+
+ghost use Rattle.std.specs.Prelude.{◌≡◌};
+ghost use Rattle.grammar.specs.Faults.{flaw_code};
+ghost use Rattle.grammar.specs.Texts.{text_of};
+
+use crate::build::BuildFault;
+use tokens::{DeviceFault, Flaw};
+
+/// What is wrong with a source.
+#[derive(Clone, Copy, Debug, PartialEq, Eq)]
+pub enum Code {
+    /// A byte outside a comment that begins no token.
+    BadCharacter,
+    /// A comment that doesn't end.
+    CommentNotClosed,
+    /// A name of over 31 bytes.
+    NameTooLong,
+    /// A constant above 2147483647.
+    ConstantTooLarge,
+    /// A source of over 1,048,576 bytes.
+    SourceTooLong,
+    /// A token that doesn't fit.
+    SyntaxError,
+    /// A word that C reserves and this language refuses.
+    ReservedWord,
+    /// The first token of the 65th level that is open at once.
+    NestedTooDeeply,
+    /// The name of the 65th external, or of a function's 65th variable.
+    TooManyVariables,
+    /// The name of the 65th function.
+    TooManyFunctions,
+    /// The name of a function that is defined already.
+    FunctionDefinedTwice,
+    /// The name of an intrinsic function, in a definition.
+    IntrinsicRedefined,
+    /// A name twice in a parameter list, or one declared before the body that is not in the list.
+    BadParameterDeclaration,
+    /// The closing brace of the function with which the code passes its limit.
+    TooMuchCode,
+    /// The first mention of a function that the file doesn't define.
+    FunctionNotDefined,
+    /// The end of a file without a function `main`.
+    NoMainFunction,
+}
+
+impl Code {
+    /// The text of the diagnostic, as the program prints it behind the file's name and the line.
+    #[tactic(auto, unfolding(crate::specs::Texts::text_of))]
+    pub fn text(self) -> &'static str
+        ensures { result.now ≡ text_of self }
+    {
+        match self {
+            Code::BadCharacter => "bad character",
+            Code::CommentNotClosed => "comment not closed",
+            Code::NameTooLong => "name too long",
+            Code::ConstantTooLarge => "constant too large",
+            Code::SourceTooLong => "source too long",
+            Code::SyntaxError => "syntax error",
+            Code::ReservedWord => "reserved word",
+            Code::NestedTooDeeply => "nested too deeply",
+            Code::TooManyVariables => "too many variables",
+            Code::TooManyFunctions => "too many functions",
+            Code::FunctionDefinedTwice => "function defined twice",
+            Code::IntrinsicRedefined => "intrinsic redefined",
+            Code::BadParameterDeclaration => "bad parameter declaration",
+            Code::TooMuchCode => "too much code",
+            Code::FunctionNotDefined => "function not defined",
+            Code::NoMainFunction => "no main function",
+        }
+    }
+}
+
+/// The code of a fault within a token.
+pub fn code_of(flaw: Flaw) -> Code
+    ensures { result ≡ flaw_code flaw }
+{
+    match flaw {
+        Flaw::BadCharacter => Code::BadCharacter,
+        Flaw::CommentNotClosed => Code::CommentNotClosed,
+        Flaw::NameTooLong => Code::NameTooLong,
+        Flaw::ConstantTooLarge => Code::ConstantTooLarge,
+        Flaw::SourceTooLong => Code::SourceTooLong,
+    }
+}
+
+/// A source's fault: what it is, and the line of its token, from 1.
+#[derive(Clone, Copy, Debug, PartialEq, Eq)]
+pub struct Diagnostic {
+    /// The line of the fault's token.
+    pub line: u32,
+    /// What is wrong.
+    pub code: Code,
+}
+
+/// Why a parse gave no pools. The builder is given up then.
+#[derive(Clone, Copy, Debug, PartialEq, Eq)]
+pub enum ParseFault {
+    /// The source has a fault, and this is its first.
+    Source(Diagnostic),
+    /// The device failed before the source's fault, or its end, was known.
+    Device,
+    /// The builder was refused memory.
+    Memory,
+}
+
+impl From<DeviceFault> for ParseFault {
+    ghost use Rattle.grammar.specs.declared.diagnostics.ParseFault.TheVariants.{Device};
+
+    ghost from_gives = { λ _ e. e ≡ Device };
+
+    fn from(_fault: DeviceFault) -> ParseFault {
+        ParseFault::Device
+    }
+}
+
+impl From<BuildFault> for ParseFault {
+    ghost use Rattle.grammar.specs.declared.diagnostics.ParseFault.TheVariants.{Memory};
+
+    ghost from_gives = { λ _ e. e ≡ Memory };
+
+    // `Full` comes from a function's end alone, where it becomes a diagnostic.
+    fn from(_fault: BuildFault) -> ParseFault {
+        ParseFault::Memory
+    }
+}

@@ -1,0 +1,19 @@
+//! Sources that show the rules of the language.
+
+ghost use Rattle.grammar.specs.KnownSources.{KnownBeginnings, KnownLimits, KnownMisfits, KnownNameFaults, KnownNeeds, KnownTrees};
+ghost use Rattle.grammar.specs.KnownTexts.{KnownTexts};
+
+/// The definitions give these trees and faults of known sources.
+pub fn known_sources()
+    ensures trees { KnownTrees }
+    ensures misfits { KnownMisfits }
+    ensures limits { KnownLimits }
+    ensures names { KnownNameFaults }
+    ensures needs { KnownNeeds }
+    ensures beginnings { KnownBeginnings }
+{}
+
+/// So they do of known texts, through their tokens.
+pub fn known_texts()
+    ensures { KnownTexts }
+{}

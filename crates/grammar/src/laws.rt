@@ -1,0 +1,37 @@
+//! Laws on the definitions of the language.
+
+ghost use Rattle.grammar.specs.Laws.{BlocksKeepTheFunction, CompiledIsResolved, EachDerivationEnds, EachFileFollows, FaultlessIsResolved, FirstFaultDecides, LevelsAreShut, MayBeTold};
+
+use crate::build::Build;
+
+/// The derivation of each list of tokens ends, and what it leads to is what the source is: a file, or its first fault.
+pub fn derivations()
+    ensures ends { EachDerivationEnds }
+    ensures faultless { FaultlessIsResolved }
+    ensures first_fault { FirstFaultDecides }
+{}
+
+/// The grammar's productions shut each level that they open.
+pub fn levels()
+    ensures { LevelsAreShut }
+{}
+
+/// A function's block changes neither which function is being defined, nor its name, nor its parameters.
+pub fn blocks()
+    ensures { BlocksKeepTheFunction }
+{}
+
+/// The actions of a file may follow one another.
+pub fn actions()
+    ensures { EachFileFollows }
+{}
+
+/// A file that compiles is resolved: its names are within the pools, and each function is defined once.
+pub fn resolved_files()
+    ensures { CompiledIsResolved }
+{}
+
+/// A builder may be told what may follow the actions that it stands for.
+pub fn building<B: Build>()
+    ensures { (builder : B) → MayBeTold (B.stands builder) }
+{}

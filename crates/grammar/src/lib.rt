@@ -1,0 +1,20 @@
+//! The language of robot programs: its grammar and derivations, diagnostics, the pools of names, and the trait of what a parse builds.
+#![tactic(auto)]
+
+mod build;
+mod diagnostics;
+mod known;
+pub mod laws;
+mod names;
+mod operators;
+mod pools;
+mod scope;
+
+pub use build::{Build, BuildFault};
+pub use diagnostics::{Code, Diagnostic, ParseFault, code_of};
+pub use known::{known_sources, known_texts};
+pub use names::{Callee, Intrinsic, Var};
+pub use operators::{LAST_LEVEL, Op, StoreOp, operator_at, store_operator};
+pub use pools::{Function, MOST_NAMES, Pools};
+pub use scope::{Scope, intrinsic, number_of};
+pub use tokens::{DeviceFault, Feed, Name};

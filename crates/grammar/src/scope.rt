@@ -1,0 +1,410 @@
+//! The names that are known at a place of a source, and what a name in each role stands for.
+
+ghost use Rattle.std.specs.Prelude.{◌≡◌, ◌<◌, ◌≤◌, ℕ, List, [], ◌∷◌, ◌++◌, length, Option, Some, None, IfOk, IfErr, IfSome, OnOk, map, nat_le, is_some, ◌==◌, true, false};
+ghost use Rattle.std.specs.Str.{bytes_eq};
+ghost use Rattle.std.specs.List.{position, list_any};
+ghost use Rattle.grammar.specs.Intrinsics.{intrinsic_named, is_intrinsic};
+ghost use Rattle.grammar.specs.Naming.{line_of_undefined};
+ghost use Rattle.grammar.specs.Scope.{number_of_name};
+
+use crate::diagnostics::Code;
+use crate::names::{Callee, Intrinsic, Var};
+use crate::pools::{Function, MOST_NAMES, Pools};
+use arrayvec::ArrayVec;
+use std::marker::Model;
+use std::mem;
+use tokens::Name;
+
+/// The number of a name among names.
+pub fn number_of(names: &[Name], name: &Name) -> Option<usize>
+    ensures { result ≡ number_of_name name.now names.now }
+{
+    names.iter().position(|other| name.is(other.as_bytes()))
+}
+
+const INTRINSICS: [Intrinsic; 13] = [
+    Intrinsic::Scan,
+    Intrinsic::Cannon,
+    Intrinsic::Drive,
+    Intrinsic::Damage,
+    Intrinsic::Speed,
+    Intrinsic::LocX,
+    Intrinsic::LocY,
+    Intrinsic::Rand,
+    Intrinsic::Sqrt,
+    Intrinsic::Sin,
+    Intrinsic::Cos,
+    Intrinsic::Tan,
+    Intrinsic::Atan,
+];
+
+/// The intrinsic function of this name.
+#[tactic(auto, unfolding(crate::specs::Intrinsics::intrinsic_named))]
+pub fn intrinsic(name: &Name) -> Option<Intrinsic>
+    ensures { result ≡ intrinsic_named name.now }
+{
+    INTRINSICS
+        .iter()
+        .copied()
+        .find(|intrinsic| name.is(intrinsic.name().as_bytes()))
+}
+
+/// What is known of the names of a file at a place of its source.
+#[derive(Drop)]
+pub struct Scope {
+    externals: ArrayVec<Name, MOST_NAMES>,
+    functions: ArrayVec<Function, MOST_NAMES>,
+    lines: ArrayVec<u32, MOST_NAMES>,
+    begun: ArrayVec<u8, MOST_NAMES>,
+    number: u8,
+    current: Function,
+}
+
+impl Model for Scope {
+    ghost use Rattle.grammar.specs.Naming.{IsKept};
+    ghost use Rattle.grammar.specs.Scope.{Scope as Known};
+
+    ghost Value = { Known };
+
+    ghost view = { λ s. record { externals = s.externals.items; functions = s.functions.items; lines = s.lines.items; begun = s.begun.items; number = s.number; current = s.current } };
+
+    ghost invariant = { λ s. IsKept s.functions.items s.lines.items s.begun.items };
+}
+
+impl Scope {
+    ghost use Rattle.grammar.specs.Grammar.{Defined, External, Parameter, Typed, Local, Called, Mentioned};
+    ghost use Rattle.grammar.specs.Compiled.{main_name};
+    ghost use Rattle.grammar.specs.Naming.{Knows, RefusesName, line_of_undefined};
+    ghost use Rattle.grammar.specs.Resolved.{IsCallable, IsVariable};
+    ghost use Rattle.grammar.specs.Scope.{no_names, behind_name, end_definition, has_begun, number_for, is_local_new, is_external_new, with_variable, with_parameter, with_external, variable_named, variable_of, callee_of, with_begun, with_new_function, function_number};
+
+    /// Nothing is known before a file's first token.
+    #[tactic(auto, using(crate::proofs::ScopeLaws::kept_nothing))]
+    pub fn new() -> Scope
+        ensures { result ≡ no_names }
+    {
+        Scope {
+            externals: ArrayVec::new(),
+            functions: ArrayVec::new(),
+            lines: ArrayVec::new(),
+            begun: ArrayVec::new(),
+            number: 0,
+            current: Function::new(Name::new()),
+        }
+    }
+
+    /// The variable of a name that is mentioned. A name that stands for none becomes the function's next local.
+    #[tactic(auto, using(crate::proofs::ScopeLaws::names))]
+    pub fn mention(&mut self, name: Name) -> Result<Var, Code>
+        ensures known { IfOk result (λ v. (v ≡ variable_of name self.old) × ((line : ℕ) → Knows Mentioned name line self.old self.new)) }
+        ensures within { IfOk result (IsVariable 64 64) }
+        ensures refused { IfErr result (λ c. RefusesName Mentioned name self.old c) }
+    {
+        if let Some(var) = self.variable(&name) {
+            return Ok(var);
+        }
+        if self.has_most_variables() {
+            return Err(Code::TooManyVariables);
+        }
+        let var = self.next_local();
+        self.add_variable(name);
+        Ok(var)
+    }
+
+    /// Declares a local. A name that is declared again stands for the same variable.
+    #[tactic(auto, using(crate::proofs::ScopeLaws::names))]
+    pub fn local(&mut self, name: Name) -> Result<(), Code>
+        ensures known { OnOk result ((line : ℕ) → Knows Local name line self.old self.new) }
+        ensures refused { IfErr result (λ c. RefusesName Local name self.old c) }
+    {
+        if !self.is_local_new(&name) {
+            return Ok(());
+        }
+        if self.has_most_variables() {
+            return Err(Code::TooManyVariables);
+        }
+        self.add_variable(name);
+        Ok(())
+    }
+
+    /// Adds a parameter of the list. A name that stands there already is a fault.
+    #[tactic(auto, using(crate::proofs::ScopeLaws::names))]
+    pub fn parameter(&mut self, name: Name) -> Result<(), Code>
+        ensures known { OnOk result ((line : ℕ) → Knows Parameter name line self.old self.new) }
+        ensures refused { IfErr result (λ c. RefusesName Parameter name self.old c) }
+    {
+        if !self.is_local_new(&name) {
+            return Err(Code::BadParameterDeclaration);
+        }
+        if self.has_most_variables() {
+            return Err(Code::TooManyVariables);
+        }
+        self.add_parameter(name);
+        Ok(())
+    }
+
+    /// Declares a parameter behind the list, in which it has to stand.
+    pub fn typed(&self, name: &Name) -> Result<(), Code>
+        ensures known { OnOk result ((line : ℕ) → Knows Typed name.now line self.now self.now) }
+        ensures refused { IfErr result (λ c. RefusesName Typed name.now self.now c) }
+    {
+        if self.is_local_new(name) {
+            Err(Code::BadParameterDeclaration)
+        } else {
+            Ok(())
+        }
+    }
+
+    /// Declares an external. A name that is declared again stands for the same variable.
+    #[tactic(auto, using(crate::proofs::ScopeLaws::names))]
+    pub fn external(&mut self, name: Name) -> Result<(), Code>
+        ensures known { OnOk result ((line : ℕ) → Knows External name line self.old self.new) }
+        ensures refused { IfErr result (λ c. RefusesName External name self.old c) }
+    {
+        if !self.is_external_new(&name) {
+            return Ok(());
+        }
+        if self.has_most_externals() {
+            return Err(Code::TooManyVariables);
+        }
+        self.add_external(name);
+        Ok(())
+    }
+
+    /// What a name that is called calls. A function of the file that is new is known from here on, by the line of this name.
+    #[tactic(auto, using(crate::proofs::ScopeLaws::names))]
+    pub fn call(&mut self, name: Name, line: u32) -> Result<Callee, Code>
+        ensures known { IfOk result (λ callee. (callee ≡ callee_of name self.old) × Knows Called name line self.old self.new) }
+        ensures within { IfOk result (IsCallable 64) }
+        ensures refused { IfErr result (λ c. RefusesName Called name self.old c) }
+    {
+        if let Some(intrinsic) = intrinsic(&name) {
+            return Ok(Callee::Intrinsic(intrinsic));
+        }
+        let number = self.number_for(name, line)?;
+        Ok(Callee::Function(number))
+    }
+
+    /// The number of a function whose definition begins at this name, on this line.
+    pub fn define(&mut self, name: Name, line: u32) -> Result<u8, Code>
+        ensures number { IfOk result (λ n. (n ≡ number_for name self.old) × (n < 64)) }
+        ensures known { OnOk result (Knows Defined name line self.old self.new) }
+        ensures refused { IfErr result (λ c. RefusesName Defined name self.old c) }
+    {
+        if intrinsic(&name).is_some() {
+            return Err(Code::IntrinsicRedefined);
+        }
+        if self.has_begun(&name) {
+            return Err(Code::FunctionDefinedTwice);
+        }
+        let number = self.number_for(name, line)?;
+        self.begin(number, name);
+        Ok(number)
+    }
+
+    /// The definition that began last ends: its function's parameters and variables are known.
+    pub fn end_definition(&mut self)
+        ensures { self.new ≡ end_definition self.old }
+    {
+        let ended = mem::replace(&mut self.current, Function::new(Name::new()));
+        if let Some(function) = self.functions.get_mut(self.number as usize) {
+            *function = ended;
+        }
+    }
+
+    /// How many parameters the function that is being defined has so far.
+    pub fn parameters(&self) -> u8
+        ensures count { result ≡ self.now.current.parameters }
+        ensures most { result ≤ 64 }
+    {
+        self.current.parameters()
+    }
+
+    /// How many variables it has so far, its parameters among them.
+    pub fn variables(&self) -> u8
+        ensures count { result ≡ length self.now.current.variables }
+        ensures first { self.now.current.parameters ≤ result }
+        ensures most { result ≤ 64 }
+    {
+        self.current.variables().len() as u8
+    }
+
+    /// The line of the first mention of the earliest mentioned function whose definition didn't begin.
+    pub fn undefined(&self) -> Option<u32>
+        ensures { result ≡ line_of_undefined 0 self.now.lines self.now.begun }
+    {
+        line_of_undefined(self.lines.as_slice(), self.begun.as_slice())
+    }
+
+    /// Whether a function main was mentioned.
+    pub fn has_main(&self) -> bool
+        ensures { result ≡ is_some (function_number main_name self.now) }
+    {
+        function_number(self.functions.as_slice(), b"main").is_some()
+    }
+
+    /// The names of the file.
+    pub fn into_pools(self) -> Pools
+        ensures { result ≡ record { externals = self.externals; functions = self.functions } }
+    {
+        Pools::of(self.externals, self.functions)
+    }
+
+    // The variable of a name: one of the function's, or else an external.
+    fn variable(&self, name: &Name) -> Option<Var>
+        ensures value { result ≡ variable_named name.now self.now }
+        ensures within { IfSome result (IsVariable 64 64) }
+    {
+        if let Some(number) = number_of(self.current.variables(), name) {
+            return Some(Var::Local(number as u8));
+        }
+        let number = number_of(self.externals.as_slice(), name)?;
+        Some(Var::External(number as u8))
+    }
+
+    // The number of a function of the file, which is the next one where it is new.
+    #[tactic(auto, using(crate::proofs::ScopeLaws::calls))]
+    fn number_for(&mut self, name: Name, line: u32) -> Result<u8, Code>
+        requires { intrinsic_named name ≡ None }
+        ensures number { IfOk result (λ n. (n ≡ number_for name self.old) × (n < 64)) }
+        ensures known { OnOk result (Knows Called name line self.old self.new) }
+        ensures refused { IfErr result (λ c. RefusesName Called name self.old c) }
+    {
+        if let Some(number) = self.function_number(&name) {
+            return Ok(number as u8);
+        }
+        if self.has_most_functions() {
+            return Err(Code::TooManyFunctions);
+        }
+        let number = self.functions.len() as u8;
+        self.add_function(name, line);
+        Ok(number)
+    }
+
+    // The number of a function that was mentioned.
+    fn function_number(&self, name: &Name) -> Option<usize>
+        ensures number { result ≡ function_number name.now self.now }
+        ensures within { IfSome result (λ n. n < 64) }
+    {
+        function_number(self.functions.as_slice(), name.as_bytes())
+    }
+
+    fn has_most_functions(&self) -> bool
+        ensures most { result ≡ nat_le 64 (length self.now.functions) }
+    {
+        self.functions.len() >= MOST_NAMES
+    }
+
+    fn add_function(&mut self, name: Name, line: u32)
+        requires { length self.old.functions < 64 }
+        ensures { self.new ≡ with_new_function name line self.old }
+    {
+        self.functions.push(Function::new(name));
+        self.lines.push(line);
+    }
+
+    // Whether a definition of the function began before.
+    fn has_begun(&self, name: &Name) -> bool
+        ensures { result ≡ has_begun name.now self.now }
+    {
+        let number = self.function_number(name).unwrap_or(self.functions.len());
+        is_among(self.begun.as_slice(), number)
+    }
+
+    // The definition of the function of this number and name begins.
+    #[tactic(auto, using(crate::proofs::ScopeLaws::beginnings))]
+    fn begin(&mut self, number: u8, name: Name)
+        requires within { number < length self.old.functions }
+        requires new { list_any (λ k. k == number) self.old.begun ≡ false }
+        ensures { self.new ≡ with_begun number name self.old }
+    {
+        self.begun.push(number);
+        self.number = number;
+        self.current = Function::new(name);
+    }
+
+    fn is_local_new(&self, name: &Name) -> bool
+        ensures { result ≡ is_local_new name.now self.now }
+    {
+        number_of(self.current.variables(), name).is_none()
+    }
+
+    fn is_external_new(&self, name: &Name) -> bool
+        ensures { result ≡ is_external_new name.now self.now }
+    {
+        number_of(self.externals.as_slice(), name).is_none()
+    }
+
+    fn has_most_variables(&self) -> bool
+        ensures most { result ≡ nat_le 64 (length self.now.current.variables) }
+    {
+        self.current.variables().len() >= MOST_NAMES
+    }
+
+    fn has_most_externals(&self) -> bool
+        ensures most { result ≡ nat_le 64 (length self.now.externals) }
+    {
+        self.externals.len() >= MOST_NAMES
+    }
+
+    fn next_local(&self) -> Var
+        ensures { result ≡ Var.Local (length self.now.current.variables) }
+    {
+        Var::Local(self.current.variables().len() as u8)
+    }
+
+    fn add_variable(&mut self, name: Name)
+        requires { length self.old.current.variables < 64 }
+        ensures { self.new ≡ with_variable name self.old }
+    {
+        self.current.add_local(name);
+    }
+
+    fn add_parameter(&mut self, name: Name)
+        requires { length self.old.current.variables < 64 }
+        ensures { self.new ≡ with_parameter name self.old }
+    {
+        self.current.add_parameter(name);
+    }
+
+    fn add_external(&mut self, name: Name)
+        requires { length self.old.externals < 64 }
+        ensures { self.new ≡ with_external name self.old }
+    {
+        self.externals.push(name);
+    }
+}
+
+/// The number of a function that was mentioned.
+#[tactic(auto, using(crate::proofs::ScopeLaws::there, crate::proofs::ScopeLaws::not_there))]
+fn function_number(functions: &[Function], name: &[u8]) -> Option<usize>
+    ensures { result ≡ number_of_name name.now (map (λ f. f.name) functions.now) }
+{
+    for (number, function) in functions.iter().enumerate() {
+        if name == function.name().as_bytes() {
+            return Some(number);
+        }
+    }
+    None
+}
+
+/// The line of the first function, by number, whose definition didn't begin.
+#[tactic(auto, using(crate::proofs::ScopeLaws::undefined_here))]
+fn line_of_undefined(lines: &[u32], begun: &[u8]) -> Option<u32>
+    requires { length lines.now ≤ 64 }
+    ensures { result ≡ line_of_undefined 0 lines.now begun.now }
+{
+    for (number, &line) in lines.iter().enumerate() {
+        if !is_among(begun, number) {
+            return Some(line);
+        }
+    }
+    None
+}
+
+/// Whether a number is one of these.
+fn is_among(numbers: &[u8], number: usize) -> bool
+    ensures { result ≡ list_any (λ k. k == number) numbers.now }
+{
+    numbers.iter().any(|&other| other as usize == number)
+}

@@ -1,0 +1,11 @@
+pub mod Leading
+pub mod Levels
+pub mod Parts
+pub mod Expressions
+pub mod Beginnings
+pub mod Statements
+pub mod Mentions
+pub mod Mains
+pub mod Places
+pub mod Bracketed
+pub mod KnownSpellings

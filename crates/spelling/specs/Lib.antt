@@ -1,0 +1,5 @@
+pub mod Written
+pub mod Spelling
+pub mod Resolving
+pub mod Laws
+pub mod KnownSpellings

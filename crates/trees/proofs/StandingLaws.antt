@@ -1,0 +1,325 @@
+-- What a maker of trees stands for behind each action.
+use Rattle.std.proofs.Common.{◌≡◌, ℕ, ◌+◌, ◌<◌, ◌≤◌, min, List, [], ◌∷◌, ◌++◌, Bool, true, false, sym, ap, subst, ◌∙◌, refl, append_assoc, arith}
+use Rattle.std.proofs.lemmas.Bool.Decides.{nat_tests}
+use Rattle.std.proofs.lemmas.List.{append-nil}
+use Rattle.std.proofs.lemmas.Result.{on_ok_weaker}
+use Rattle.std.specs.Prelude.{if◌then◌else◌, Option, Some, None, IsTrue, is_some, nat_lt, nat_le, Result, OnOk}
+use Rattle.grammar.specs.declared.build.BuildFault.{BuildFault}
+use Rattle.grammar.specs.Actions.{Action, Push, Get, Put, Apply, Middle, BeginCall, EndCall, IfTest, ElsePart, EndIf, BeginWhile, WhileTest, EndWhile, GiveBack, Chop, Begin, Finish, instructions, code_length, function_actions}
+use Rattle.grammar.specs.Building.{Meaning, MayFollow, StandsOpen, AppendsAll, Appends, FitsWithin, IsOver}
+use Rattle.grammar.specs.Following.{Open, InFunction, AValue, BeforeRight, InCall, InBranch, InElse, BeforeTest, InTurn, Opened, Origin, Computed, counts, few_open, follow, follow_all, then_follow, within, only_on, is_place, statement_done, call_done, is_number, is_step, is_var_numbered, is_callee_numbered, same_op}
+use Rattle.grammar.specs.Operators.{is_logic}
+use Rattle.grammar.specs.Profile.{Profile, first_profile}
+use Rattle.grammar.specs.Tree as tree
+use Rattle.trees.specs.Opened.{Continues, Ends, IsAllowed, opened, open_actions}
+use Rattle.trees.specs.Standing.{Kept, Fits, in_function, Builds, Passed, Stands}
+use Rattle.trees.specs.Trees.{function_tree, made_actions}
+use Rattle.trees.specs.declared.stack.Open as entry
+use Rattle.trees.specs.declared.tree.Function.{Function}
+
+pub limit : first_profile.instructions ≡ 2000
+unfolding first_profile
+limit = refl
+
+pub code_length-append : (xs ys : List Action) → code_length (xs ++ ys) ≡ code_length xs + code_length ys
+code_length-append [] ys = omega arith
+code_length-append (x ∷ xs) ys = omega (arith, code_length-append xs ys)
+
+length-last : (acts : List Action) (a : Action) → code_length (acts ++ a ∷ []) ≡ code_length acts + instructions a
+length-last acts a = omega (arith, code_length-append acts (a ∷ []))
+
+-- Actions one behind another.
+
+then_append : (xs ys : List Action) (next : Option Opened) (p : Opened) → ((o : Opened) → follow_all xs o ≡ Some p → follow_all (xs ++ ys) o ≡ follow_all ys p) →
+    then_follow (follow_all xs) next ≡ Some p → then_follow (follow_all (xs ++ ys)) next ≡ follow_all ys p
+then_append xs ys None p again e = absurd (cc)
+then_append xs ys (Some o) p again e = guarded (few_open o) e
+  where
+    guarded : (b : Bool) → (if b then follow_all xs o else None) ≡ Some p → (if b then follow_all (xs ++ ys) o else None) ≡ follow_all ys p
+    guarded true h = again o h
+    guarded false h = absurd (cc)
+
+-- what follows actions goes by what they leave open
+pub follow_append : (xs ys : List Action) (o p : Opened) → follow_all xs o ≡ Some p → follow_all (xs ++ ys) o ≡ follow_all ys p
+follow_append [] ys o p e = ap (follow_all ys) (some_same o p e)
+  where
+    some_same : (x y : Opened) → Some x ≡ Some y → x ≡ y
+    some_same x y h = cc
+follow_append (x ∷ xs) ys o p e = then_append xs ys (follow x o) p (λ q h. follow_append xs ys q p h) e
+
+-- an action that follows is allowed, and leaves little enough open
+record Next (a : Action) (o : Opened) : Type 0 where
+  behind : Opened
+  is : follow a o ≡ Some behind
+  few : few_open behind ≡ true
+
+next_one : (a : Action) (o : Opened) (next : Option Opened) → follow a o ≡ next → IsTrue (is_some (then_follow (follow_all []) next)) → Next a o
+next_one a o None e h = absurd (cc)
+next_one a o (Some p) e h = record { behind = p; is = e; few = guarded (few_open p) h }
+  where
+    guarded : (b : Bool) → IsTrue (is_some (if b then Some p else None)) → b ≡ true
+    guarded true k = refl
+    guarded false k = absurd (cc)
+
+next_of : (m : Kept) (a : Action) → Fits m.code → MayFollow (λ p acts. Stands m p acts) a → Next a (opened m.stack)
+next_of m a fits may =
+    let b : Builds m may.acts = may.stood.builds fits in
+    next_one a (opened m.stack) (follow a (opened m.stack)) refl
+    (subst (λ o. IsTrue (is_some o)) (follow_append may.acts (a ∷ []) [] (opened m.stack) b.opens) may.begins)
+
+pub allowed : (m : Kept) (a : Action) → Fits m.code → MayFollow (λ p acts. Stands m p acts) a → IsAllowed a m.stack
+allowed m a fits may = let next : Next a (opened m.stack) = next_of m a fits may in rw next.is refl
+
+-- Whether a function is open.
+
+abbrev pub is_open : Opened → Bool
+is_open [] = false
+is_open (x ∷ o) = true
+
+some_open : (q p : Opened) → Some q ≡ Some p → is_open q ≡ true → is_open p ≡ true
+some_open q p e h = let same : q ≡ p = cc in subst (λ o. is_open o ≡ true) same h
+
+only_open : (b : Bool) (q p : Opened) → only_on b q ≡ Some p → is_open q ≡ true → is_open p ≡ true
+only_open true q p e h = some_open q p e h
+only_open false q p e h = absurd (cc)
+
+guarded_is : (b : Bool) (next : Option Opened) (p : Opened) → (if b then next else None) ≡ Some p → next ≡ Some p
+guarded_is true next p e = e
+guarded_is false next p e = absurd (cc)
+
+unless_is : (b : Bool) (next : Option Opened) (p : Opened) → (if b then None else next) ≡ Some p → next ≡ Some p
+unless_is true next p e = absurd (cc)
+unless_is false next p e = e
+
+within_open : (inner : Open) (o p : Opened) → within inner o ≡ Some p → is_open p ≡ true
+within_open inner [] p e = absurd (cc)
+within_open inner (x ∷ o) p e = some_open (inner ∷ x ∷ o) p e refl
+
+call_open : (o p : Opened) → call_done o ≡ Some p → is_open p ≡ true
+call_open [] p e = absurd (cc)
+call_open (AValue origin ∷ o) p e = call_open o p e
+call_open (InCall ∷ o) p e = some_open (AValue Computed ∷ o) p e refl
+call_open (x ∷ o) p e = absurd (cc)
+
+done_open : (returned : Bool) (o p : Opened) → statement_done returned o ≡ Some p → is_open p ≡ true
+done_open returned [] p e = absurd (cc)
+done_open returned (InFunction parameters before ∷ o) p e = some_open (InFunction parameters returned ∷ o) p e refl
+done_open returned (x ∷ o) p e = only_open (is_place (x ∷ o)) (x ∷ o) p e refl
+
+-- an action that ends no function leaves one open
+stays_open : (a : Action) (o p : Opened) → in_function true (a ∷ []) ≡ true → follow a o ≡ Some p → is_open p ≡ true
+stays_open (Push value) o p h e = within_open _ o p e
+stays_open (Get v) o p h e = within_open _ o p (guarded_is (is_var_numbered v) _ p e)
+stays_open (Put v op) (AValue origin ∷ o) p h e = only_open _ _ p e refl
+stays_open (Put v op) o p h e = absurd (cc)
+stays_open (Apply op) (AValue right ∷ AValue left ∷ o) p h e = some_open _ p (unless_is (is_logic op) _ p e) refl
+stays_open (Apply op) (AValue right ∷ BeforeRight q ∷ AValue left ∷ o) p h e = only_open _ _ p e refl
+stays_open (Apply op) o p h e = absurd (cc)
+stays_open (Middle op) (AValue left ∷ o) p h e = only_open _ _ p e refl
+stays_open (Middle op) o p h e = absurd (cc)
+stays_open BeginCall o p h e = within_open _ o p e
+stays_open (EndCall callee) o p h e = call_open o p (guarded_is (is_callee_numbered callee) _ p e)
+stays_open IfTest (AValue condition ∷ o) p h e = only_open _ _ p e refl
+stays_open IfTest o p h e = absurd (cc)
+stays_open ElsePart (InBranch ∷ o) p h e = some_open _ p e refl
+stays_open ElsePart o p h e = absurd (cc)
+stays_open EndIf (InBranch ∷ o) p h e = done_open false o p e
+stays_open EndIf (InElse ∷ o) p h e = done_open false o p e
+stays_open EndIf o p h e = absurd (cc)
+stays_open BeginWhile o p h e = only_open _ _ p e refl
+stays_open WhileTest (AValue condition ∷ BeforeTest ∷ o) p h e = some_open _ p e refl
+stays_open WhileTest o p h e = absurd (cc)
+stays_open EndWhile (InTurn ∷ o) p h e = done_open false o p e
+stays_open EndWhile o p h e = absurd (cc)
+stays_open GiveBack (AValue origin ∷ o) p h e = done_open _ o p e
+stays_open GiveBack o p h e = absurd (cc)
+stays_open Chop (AValue origin ∷ AValue below ∷ o) p h e = only_open _ _ p e refl
+stays_open Chop (AValue origin ∷ o) p h e = done_open false o p e
+stays_open Chop o p h e = absurd (cc)
+stays_open (Begin number parameters) [] p h e = only_open _ _ p e refl
+stays_open (Begin number parameters) (x ∷ o) p h e = absurd (cc)
+stays_open (Finish variables) o p h e = absurd (cc)
+
+-- where nothing is open only a function begins
+opens_first : (a : Action) (p : Opened) → follow a [] ≡ Some p → (in_function false (a ∷ []) ≡ true) × (in_function true (a ∷ []) ≡ true)
+opens_first (Begin number parameters) p e = (refl, refl)
+opens_first (Get v) p e = let no : None ≡ Some p = guarded_is (is_var_numbered v) None p e in absurd (cc)
+opens_first (EndCall callee) p e = let no : None ≡ Some p = guarded_is (is_callee_numbered callee) None p e in absurd (cc)
+opens_first a p e = absurd (cc)
+
+-- an action that ends a function leaves nothing open
+shuts : (a : Action) (o p : Opened) → in_function true (a ∷ []) ≡ false → follow a o ≡ Some p → is_open p ≡ false
+shuts (Finish variables) (InFunction parameters true ∷ []) p h e = nothing _ e
+  where
+    nothing : (b : Bool) → only_on b [] ≡ Some p → is_open p ≡ false
+    nothing true k = let same : [] ≡ p = cc in subst (λ o. is_open o ≡ false) same refl
+    nothing false k = absurd (cc)
+shuts (Finish variables) o p h e = absurd (cc)
+shuts a o p h e = absurd (cc)
+
+action_inside : (a : Action) (o p : Opened) → follow a o ≡ Some p → in_function (is_open o) (a ∷ []) ≡ is_open p
+action_inside a [] p e = let first = opens_first a p e in first.0 ∙ sym (stays_open a [] p first.1 e)
+action_inside a (x ∷ o) p e = by_end (in_function true (a ∷ [])) refl
+  where
+    by_end : (b : Bool) → in_function true (a ∷ []) ≡ b → b ≡ is_open p
+    by_end true h = sym (stays_open a (x ∷ o) p h e)
+    by_end false h = sym (shuts a (x ∷ o) p h e)
+
+inside_cons : (b : Bool) (a : Action) (acts : List Action) → in_function b (a ∷ acts) ≡ in_function (in_function b (a ∷ [])) acts
+inside_cons b (Begin number parameters) acts = refl
+inside_cons b (Finish variables) acts = refl
+inside_cons b a acts = refl
+
+inside_append : (b : Bool) (xs ys : List Action) → in_function b (xs ++ ys) ≡ in_function (in_function b xs) ys
+inside_append b [] ys = refl
+inside_append b (x ∷ xs) ys = inside_cons b x (xs ++ ys) ∙ inside_append (in_function b (x ∷ [])) xs ys ∙ ap (λ c. in_function c ys) (sym (inside_cons b x xs))
+
+-- a function is open behind actions exactly where they leave something open
+pub follow_inside : (acts : List Action) (o p : Opened) → follow_all acts o ≡ Some p → in_function (is_open o) acts ≡ is_open p
+follow_inside [] o p e = let same : o ≡ p = cc in ap is_open same
+follow_inside (a ∷ acts) o p e = next (follow a o) refl e (λ q h. follow_inside acts q p h)
+  where
+    next : (q : Option Opened) → follow a o ≡ q → then_follow (follow_all acts) q ≡ Some p →
+        ((q : Opened) → follow_all acts q ≡ Some p → in_function (is_open q) acts ≡ is_open p) → in_function (is_open o) (a ∷ acts) ≡ is_open p
+    next None is k again = absurd (cc)
+    next (Some q) is k again = inside_cons (is_open o) a acts ∙ ap (λ b. in_function b acts) (action_inside a o q is) ∙ again q (guarded_is (few_open q) _ p k)
+
+-- The maker goes on, or has passed the limit.
+
+one_next : (a : Action) (o p : Opened) → follow a o ≡ Some p → few_open p ≡ true → follow_all (a ∷ []) o ≡ Some p
+one_next a o p e few = rw (e, few) refl
+
+-- within the limit the trees have the action
+pub goes_on : (m n : Kept) (a : Action) → n.functions ≡ m.functions → Continues a m.stack n.stack → n.code ≡ min (m.code + instructions a) 65535 → n.code < 2000 →
+    MayFollow (λ p acts. Stands m p acts) a → Appends (λ p acts. Stands m p acts) (λ p acts. Stands n p acts) a
+goes_on m n a same k counted fits may p acts s =
+    let before : Fits m.code = omega (arith, limit, counted, fits) in
+    let b : Builds m acts = s.builds before in
+    let next : Next a (opened m.stack) = next_of m a before may in
+    let few : few_open (opened n.stack) ≡ true = some_few next.behind (opened n.stack) (sym next.is ∙ k.follows) next.few in
+    record {
+      profile = s.profile;
+      builds = λ _. record {
+        actions = ap (λ xs. xs ++ a ∷ []) b.actions ∙ append_assoc (made_actions m.functions) (open_actions m.stack) (a ∷ []) ∙ ap (λ xs. made_actions m.functions ++ xs) k.adds ∙ ap (λ fs. made_actions fs ++ open_actions n.stack) (sym same);
+        opens = follow_append acts (a ∷ []) [] (opened m.stack) b.opens ∙ one_next a (opened m.stack) (opened n.stack) k.follows few;
+        counted = omega (arith, length-last acts a, b.counted, counted, fits);
+      };
+      passed = λ over. absurd (omega (arith, limit, over, fits));
+    }
+  where
+    some_few : (x y : Opened) → Some x ≡ Some y → few_open x ≡ true → few_open y ≡ true
+    some_few x y e h = let same : x ≡ y = cc in subst (λ o. few_open o ≡ true) same h
+
+-- past it the code has passed the limit in a function that is still open
+passed_by : (m n : Kept) (a : Action) (acts : List Action) (p : Profile) → n.code ≡ min (m.code + instructions a) 65535 → 2000 ≤ n.code → in_function true (a ∷ []) ≡ true →
+    MayFollow (λ p acts. Stands m p acts) a → Stands m p acts → Passed (acts ++ a ∷ [])
+passed_by m n a acts p counted over ends may s = by_code (nat_lt m.code 2000) refl
+  where
+    by_code : (b : Bool) → nat_lt m.code 2000 ≡ b → Passed (acts ++ a ∷ [])
+    by_code true h =
+        let fits : m.code < 2000 = grind (arith, nat_tests, h) in
+        let before : Fits m.code = omega (arith, limit, fits) in
+        let b : Builds m acts = s.builds before in
+        let next : Next a (opened m.stack) = next_of m a before may in
+        let opens : follow_all (acts ++ a ∷ []) [] ≡ Some next.behind = follow_append acts (a ∷ []) [] (opened m.stack) b.opens ∙ one_next a (opened m.stack) next.behind next.is next.few in
+        record {
+          over = omega (arith, limit, length-last acts a, b.counted, counted, over);
+          inside = follow_inside (acts ++ a ∷ []) [] next.behind opens ∙ stays_open a (opened m.stack) next.behind ends next.is;
+        }
+    by_code false h =
+        let past : 2000 ≤ m.code = grind (arith, nat_tests, h) in
+        let q : Passed acts = s.passed (omega (arith, limit, past)) in
+        record {
+          over = omega (arith, q.over, length-last acts a);
+          inside = inside_append false acts (a ∷ []) ∙ ap (λ b. in_function b (a ∷ [])) q.inside ∙ ends;
+        }
+
+pub stops : (m n : Kept) (a : Action) → n.code ≡ min (m.code + instructions a) 65535 → 2000 ≤ n.code → in_function true (a ∷ []) ≡ true →
+    MayFollow (λ p acts. Stands m p acts) a → Appends (λ p acts. Stands m p acts) (λ p acts. Stands n p acts) a
+stops m n a counted over ends may p acts s =
+    record { profile = s.profile; builds = λ fits. absurd (omega (arith, limit, fits, over)); passed = λ _. passed_by m n a acts p counted over ends may s }
+
+-- A function ends.
+
+made_adds : (fs : List Function) (f : Function) → made_actions (fs ++ f ∷ []) ≡ made_actions fs ++ function_actions f.number (function_tree f)
+made_adds [] f = append-nil (function_actions f.number (function_tree f))
+made_adds (g ∷ fs) f =
+    ap (λ xs. function_actions g.number (function_tree g) ++ xs) (made_adds fs f)
+    ∙ sym (append_assoc (function_actions g.number (function_tree g)) (made_actions fs) (function_actions f.number (function_tree f)))
+
+pub ends : (m n : Kept) (v : ℕ) (f : Function) → Ends v m.stack n.stack f → n.functions ≡ m.functions ++ f ∷ [] → n.code ≡ min (m.code + 0) 65535 → n.code < 2000 →
+    MayFollow (λ p acts. Stands m p acts) (Finish v) → Appends (λ p acts. Stands m p acts) (λ p acts. Stands n p acts) (Finish v)
+ends m n v f k same counted fits may p acts s =
+    let before : Fits m.code = omega (arith, limit, counted, fits) in
+    let b : Builds m acts = s.builds before in
+    let next : Next (Finish v) (opened m.stack) = next_of m (Finish v) before may in
+    let shut : is_open next.behind ≡ false = shuts (Finish v) (opened m.stack) next.behind refl next.is in
+    let nothing : next.behind ≡ opened n.stack = rw k.nothing (shut_is next.behind shut) in
+    record {
+      profile = s.profile;
+      builds = λ _. record {
+        actions = rw (same, k.nothing, made_adds m.functions f, k.actions, b.actions) (simp append_assoc refl);
+        opens = follow_append acts (Finish v ∷ []) [] (opened m.stack) b.opens ∙ one_next (Finish v) (opened m.stack) next.behind next.is next.few ∙ ap Some nothing;
+        counted = omega (arith, length-last acts (Finish v), b.counted, counted, fits);
+      };
+      passed = λ over. absurd (omega (arith, limit, over, fits));
+    }
+  where
+    shut_is : (o : Opened) → is_open o ≡ false → o ≡ []
+    shut_is [] h = refl
+    shut_is (x ∷ o) h = absurd (cc)
+
+pub fits_within : (m : Kept) → m.code < 2000 → FitsWithin (λ p acts. Stands m p acts)
+fits_within m fits p acts s =
+    let before : Fits m.code = omega (arith, limit, fits) in
+    let b : Builds m acts = s.builds before in
+    rw s.profile (omega (arith, limit, b.counted, fits))
+
+pub is_over : (m : Kept) → 2000 ≤ m.code → IsOver (λ p acts. Stands m p acts)
+is_over m over p acts s =
+    let q : Passed acts = s.passed (omega (arith, limit, over)) in
+    rw s.profile q.over
+
+pub stands_new : (m : Kept) → m ≡ record { functions = []; stack = []; code = 0 } → Stands m first_profile []
+stands_new m is = rw is (record { profile = refl; builds = λ _. record { actions = refl; opens = refl; counted = refl }; passed = λ over. absurd (omega (arith, limit, over)) })
+
+-- What the maker's calls need: m is the maker before, q the one that has counted the action's instructions.
+
+within_limit : (m q : Kept) (a : Action) (over : Bool) → q.code ≡ min (m.code + instructions a) 65535 → over ≡ nat_le 2000 q.code → over ≡ false → (Fits m.code) × (q.code < 2000)
+within_limit m q a over counted is not_over =
+    let few : q.code < 2000 = grind (arith, nat_tests, is, not_over) in
+    (omega (arith, limit, counted, few), few)
+
+pub stopped : (m q : Kept) (a : Action) (over : Bool) → q.code ≡ min (m.code + instructions a) 65535 → over ≡ nat_le 2000 q.code → over ≡ true → in_function true (a ∷ []) ≡ true →
+    MayFollow (λ p acts. Stands m p acts) a → Appends (λ p acts. Stands m p acts) (λ p acts. Stands q p acts) a
+stopped m q a over counted is is_over ends may = stops m q a counted (grind (arith, nat_tests, is, is_over)) ends may
+
+pub may_go_on : (m q : Kept) (a : Action) (over : Bool) → q.stack ≡ m.stack → q.code ≡ min (m.code + instructions a) 65535 → over ≡ nat_le 2000 q.code → over ≡ false →
+    MayFollow (λ p acts. Stands m p acts) a → IsAllowed a q.stack
+may_go_on m q a over stack counted is not_over may = rw stack (allowed m a (within_limit m q a over counted is not_over).0 may)
+
+pub went_on : {A : Type 0} (m q : Kept) (xs : List entry.Open) (a : Action) (over : Bool) (r : Result A BuildFault) → q.functions ≡ m.functions → q.stack ≡ m.stack → q.code ≡ min (m.code + instructions a) 65535 →
+    over ≡ nat_le 2000 q.code → over ≡ false → MayFollow (λ p acts. Stands m p acts) a → OnOk r (Continues a q.stack xs) →
+    OnOk r (Appends (λ p acts. Stands m p acts) (λ p acts. Stands (record { functions = q.functions; stack = xs; code = q.code }) p acts) a)
+went_on m q xs a over r functions stack counted is not_over may told =
+    on_ok_weaker r
+    (λ k. goes_on m (record { functions = q.functions; stack = xs; code = q.code }) a functions (subst (λ ys. Continues a ys xs) stack k) counted (within_limit m q a over counted is not_over).1 may)
+    told
+
+pub over_at_end : (m q : Kept) (over : Bool) → q.code ≡ min (m.code + 0) 65535 → over ≡ nat_le 2000 q.code → over ≡ true → IsOver (λ p acts. Stands m p acts)
+over_at_end m q over counted is passed =
+    let many : 2000 ≤ q.code = grind (arith, nat_tests, is, passed) in
+    is_over m (omega (arith, counted, many))
+
+pub fits_at_end : (m q : Kept) (over : Bool) → q.code ≡ min (m.code + 0) 65535 → over ≡ nat_le 2000 q.code → over ≡ false → FitsWithin (λ p acts. Stands m p acts)
+fits_at_end m q over counted is passed =
+    let few : q.code < 2000 = grind (arith, nat_tests, is, passed) in
+    fits_within m (omega (arith, counted, few))
+
+pub ended : {A : Type 0} (m q : Kept) (fs : List Function) (xs : List entry.Open) (v : ℕ) (f : Function) (over : Bool) (r : Result A BuildFault) → q.functions ≡ m.functions → q.stack ≡ m.stack → q.code ≡ min (m.code + 0) 65535 →
+    over ≡ nat_le 2000 q.code → over ≡ false → MayFollow (λ p acts. Stands m p acts) (Finish v) → Ends v q.stack xs f → OnOk r (fs ≡ q.functions ++ f ∷ []) →
+    OnOk r (Appends (λ p acts. Stands m p acts) (λ p acts. Stands (record { functions = fs; stack = xs; code = q.code }) p acts) (Finish v))
+ended m q fs xs v f over r functions stack counted is not_over may ends_at longer =
+    on_ok_weaker r
+    (λ k. ends m (record { functions = fs; stack = xs; code = q.code }) v f (subst (λ ys. Ends v ys xs f) stack ends_at) (k ∙ ap (λ gs. gs ++ f ∷ []) functions) counted (within_limit m q (Finish v) over counted is not_over).1 may)
+    longer

@@ -1,0 +1,150 @@
+-- The trees of each kind of expression and statement, and of longer lists of statements.
+use Rattle.std.proofs.Common.{◌≡◌, ℕ, ℤ, List, [], ◌∷◌, ◌++◌, Bool, true, false, map, Vec, Box, Global, sym, ap, ◌∙◌, refl, append_assoc, arith}
+use Rattle.std.proofs.lemmas.Bool.Decides.{nat_tests}
+use Rattle.std.proofs.lemmas.List.{append-nil}
+use Rattle.std.specs.Prelude.{pos, negsuc, if◌then◌else◌}
+use Rattle.grammar.specs.declared.names.Callee.{Callee}
+use Rattle.grammar.specs.declared.names.Var.{Var}
+use Rattle.grammar.specs.declared.operators.Op.{Op}
+use Rattle.grammar.specs.declared.operators.StoreOp.{StoreOp}
+use Rattle.grammar.specs.Actions.{Action, Chop, GiveBack, body_actions, args_actions, expr_actions, last_return}
+use Rattle.grammar.specs.Following.{Stepped, Computed, is_number}
+use Rattle.grammar.specs.Tree.{Args, Body, Done}
+use Rattle.grammar.specs.Tree as tree
+use Rattle.trees.specs.Opened.{origin_of, ends_in_return}
+use Rattle.trees.specs.Stacks.{without_last}
+use Rattle.trees.specs.Trees.{arguments, expr_node, expr_tree, in_order, statement_node, statement_tree, body_tree}
+use Rattle.trees.specs.declared.tree.Expr.{Expr, Expr-F, fold-roll-Expr}
+use Rattle.trees.specs.declared.tree.Expr.TheVariants as expr
+use Rattle.trees.specs.declared.tree.Statement.{Statement, Statement-F, fold-roll-Statement, fold_out-Statement, out-Statement}
+use Rattle.trees.specs.declared.tree.Statement.TheVariants as statement
+
+pub tree-Constant : (value : ℤ) → expr_tree (expr.Constant value) ≡ tree.Constant value
+tree-Constant value = ap expr_tree (sym (expr.rolls-Constant value)) ∙ fold-roll-Expr tree.Expr expr_node (Expr-F.Constant value)
+
+pub tree-Variable : (v : Var) → expr_tree (expr.Variable v) ≡ tree.Variable v
+tree-Variable v = ap expr_tree (sym (expr.rolls-Variable v)) ∙ fold-roll-Expr tree.Expr expr_node (Expr-F.Variable v)
+
+pub tree-Binary : (op : Op) (a b : Box Expr Global) → expr_tree (expr.Binary op a b) ≡ tree.Binary op (expr_tree a.value) (expr_tree b.value)
+tree-Binary op a b = ap expr_tree (sym (expr.rolls-Binary op a b)) ∙ fold-roll-Expr tree.Expr expr_node (Expr-F.Binary op a b)
+
+pub tree-Assign : (op : StoreOp) (v : Var) (e : Box Expr Global) → expr_tree (expr.Assign op v e) ≡ tree.Assign op v (expr_tree e.value)
+tree-Assign op v e = ap expr_tree (sym (expr.rolls-Assign op v e)) ∙ fold-roll-Expr tree.Expr expr_node (Expr-F.Assign op v e)
+
+pub tree-Postfix : (op : StoreOp) (v : Var) → expr_tree (expr.Postfix op v) ≡ tree.Postfix op v
+tree-Postfix op v = ap expr_tree (sym (expr.rolls-Postfix op v)) ∙ fold-roll-Expr tree.Expr expr_node (Expr-F.Postfix op v)
+
+pub tree-Call : (callee : Callee) (es : Vec Expr Global) → expr_tree (expr.Call callee es) ≡ tree.Call callee (arguments (map expr_tree es.items))
+tree-Call callee es = ap expr_tree (sym (expr.rolls-Call callee es)) ∙ fold-roll-Expr tree.Expr expr_node (Expr-F.Call callee es)
+
+pub tree-Alone : (e : Expr) → statement_tree (statement.Alone e) ≡ (λ rest. tree.Alone (expr_tree e) rest)
+tree-Alone e = ap statement_tree (sym (statement.rolls-Alone e)) ∙ fold-roll-Statement (Body → Body) statement_node (Statement-F.Alone e)
+
+pub tree-When : (c : Expr) (s : Vec Statement Global) → statement_tree (statement.When c s) ≡ (λ rest. tree.When (expr_tree c) (body_tree s.items) rest)
+tree-When c s = ap statement_tree (sym (statement.rolls-When c s)) ∙ fold-roll-Statement (Body → Body) statement_node (Statement-F.When c s)
+
+pub tree-Choose : (c : Expr) (s t : Vec Statement Global) → statement_tree (statement.Choose c s t) ≡ (λ rest. tree.Choose (expr_tree c) (body_tree s.items) (body_tree t.items) rest)
+tree-Choose c s t = ap statement_tree (sym (statement.rolls-Choose c s t)) ∙ fold-roll-Statement (Body → Body) statement_node (Statement-F.Choose c s t)
+
+pub tree-While : (c : Expr) (s : Vec Statement Global) → statement_tree (statement.While c s) ≡ (λ rest. tree.While (expr_tree c) (body_tree s.items) rest)
+tree-While c s = ap statement_tree (sym (statement.rolls-While c s)) ∙ fold-roll-Statement (Body → Body) statement_node (Statement-F.While c s)
+
+pub tree-Return : (e : Expr) → statement_tree (statement.Return e) ≡ (λ rest. tree.Return (expr_tree e) rest)
+tree-Return e = ap statement_tree (sym (statement.rolls-Return e)) ∙ fold-roll-Statement (Body → Body) statement_node (Statement-F.Return e)
+
+-- Lists of statements.
+
+-- the actions of a statement
+abbrev pub statement_actions : Statement → List Action
+statement_actions s = body_actions (statement_tree s Done)
+
+node_first : (x : Statement-F (Body → Body)) (rest : Body) → body_actions (statement_node x rest) ≡ body_actions (statement_node x Done) ++ body_actions rest
+node_first (Statement-F.Alone e) rest = sym (append_assoc (expr_actions (expr_tree e)) (Chop ∷ []) (body_actions rest))
+node_first (Statement-F.When c s) rest =
+    simp append_assoc refl
+node_first (Statement-F.Choose c s t) rest =
+    simp append_assoc refl
+node_first (Statement-F.While c s) rest =
+    simp append_assoc refl
+node_first (Statement-F.Return e) rest = sym (append_assoc (expr_actions (expr_tree e)) (GiveBack ∷ []) (body_actions rest))
+
+-- the actions of a statement come first
+pub statement_first : (s : Statement) (rest : Body) → body_actions (statement_tree s rest) ≡ statement_actions s ++ body_actions rest
+statement_first s rest =
+    let is = fold_out-Statement (Body → Body) statement_node s in
+    ap (λ f. body_actions (f rest)) is ∙ node_first _ rest ∙ ap (λ f. body_actions (f Done) ++ body_actions rest) (sym is)
+
+-- a statement more has its actions more
+pub body_adds : (ss : List Statement) (s : Statement) → body_actions (body_tree (ss ++ s ∷ [])) ≡ body_actions (body_tree ss) ++ statement_actions s
+body_adds [] s = refl
+body_adds (t ∷ ss) s =
+    statement_first t (body_tree (ss ++ s ∷ [])) ∙ ap (λ acts. statement_actions t ++ acts) (body_adds ss s)
+    ∙ sym (append_assoc (statement_actions t) (body_actions (body_tree ss)) (statement_actions s))
+    ∙ ap (λ acts. acts ++ statement_actions s) (sym (statement_first t (body_tree ss)))
+
+-- whether a statement is `return 0;`
+abbrev pub returns_zero : Statement → Bool
+returns_zero s = ends_in_return false (statement_tree s Done)
+
+node_ends : (x : Statement-F (Body → Body)) (b c : Bool) (rest : Body) → ends_in_return b (statement_node x rest) ≡ ends_in_return (ends_in_return c (statement_node x Done)) rest
+node_ends (Statement-F.Alone e) b c rest = refl
+node_ends (Statement-F.When e s) b c rest = refl
+node_ends (Statement-F.Choose e s t) b c rest = refl
+node_ends (Statement-F.While e s) b c rest = refl
+node_ends (Statement-F.Return e) b c rest = refl
+
+pub statement_ends : (s : Statement) (b : Bool) (rest : Body) → ends_in_return b (statement_tree s rest) ≡ ends_in_return (returns_zero s) rest
+statement_ends s b rest =
+    let is = fold_out-Statement (Body → Body) statement_node s in
+    ap (λ f. ends_in_return b (f rest)) is ∙ node_ends _ b false rest ∙ ap (λ f. ends_in_return (ends_in_return false (f Done)) rest) (sym is)
+
+-- the last statement decides
+pub body_ends : (ss : List Statement) (s : Statement) (b : Bool) → ends_in_return b (body_tree (ss ++ s ∷ [])) ≡ returns_zero s
+body_ends [] s b = statement_ends s b Done
+body_ends (t ∷ ss) s b = statement_ends t b (body_tree (ss ++ s ∷ [])) ∙ body_ends ss s (returns_zero t)
+
+-- an expression that is a number
+pub number_is : (n : ℕ) (e : tree.Expr) → is_number n (origin_of e) ≡ true → e ≡ tree.Constant (pos n)
+number_is n (tree.Constant (pos m)) h = ap (λ m. tree.Constant (pos m)) (grind (arith, nat_tests, h))
+number_is n (tree.Constant (negsuc m)) h = absurd (cc)
+number_is n (tree.Variable v) h = absurd (cc)
+number_is n (tree.Binary op a b) h = absurd (cc)
+number_is n (tree.Assign op v e) h = one (is_number 1 (origin_of e)) h
+  where
+    one : (b : Bool) → is_number n (if b then Stepped v else Computed) ≡ true → tree.Assign op v e ≡ tree.Constant (pos n)
+    one true k = absurd (cc)
+    one false k = absurd (cc)
+number_is n (tree.Postfix op v) h = absurd (cc)
+number_is n (tree.Call f es) h = absurd (cc)
+
+node_returns : (x : Statement-F (Body → Body)) → ends_in_return false (statement_node x Done) ≡ true → body_actions (statement_node x Done) ≡ last_return
+node_returns (Statement-F.Alone e) h = absurd (cc)
+node_returns (Statement-F.When e s) h = absurd (cc)
+node_returns (Statement-F.Choose e s t) h = absurd (cc)
+node_returns (Statement-F.While e s) h = absurd (cc)
+node_returns (Statement-F.Return e) h = ap (λ t. expr_actions t ++ GiveBack ∷ []) (number_is 0 (expr_tree e) h)
+
+-- the actions of `return 0;`
+pub zero_returned : (s : Statement) → returns_zero s ≡ true → statement_actions s ≡ last_return
+zero_returned s h =
+    let is = fold_out-Statement (Body → Body) statement_node s in
+    ap (λ f. body_actions (f Done)) is ∙ node_returns _ (ap (λ f. ends_in_return false (f Done)) (sym is) ∙ h)
+
+-- statements of which the last is `return 0;`
+pub last_returns : (ss : List Statement) → ends_in_return false (body_tree ss) ≡ true → body_actions (body_tree ss) ≡ body_actions (body_tree (without_last ss)) ++ last_return
+last_returns [] h = absurd (cc)
+last_returns (s ∷ []) h = zero_returned s h
+last_returns (s ∷ t ∷ ss) h =
+    let later : ends_in_return (returns_zero s) (body_tree (t ∷ ss)) ≡ true = sym (statement_ends s false (body_tree (t ∷ ss))) ∙ h in
+    let same : ends_in_return false (body_tree (t ∷ ss)) ≡ ends_in_return (returns_zero s) (body_tree (t ∷ ss)) = statement_ends t false (body_tree ss) ∙ sym (statement_ends t (returns_zero s) (body_tree ss)) in
+    statement_first s (body_tree (t ∷ ss)) ∙ ap (λ acts. statement_actions s ++ acts) (last_returns (t ∷ ss) (same ∙ later))
+    ∙ sym (append_assoc (statement_actions s) (body_actions (body_tree (without_last (t ∷ ss)))) last_return)
+    ∙ ap (λ acts. acts ++ last_return) (sym (statement_first s (body_tree (without_last (t ∷ ss)))))
+
+-- Arguments.
+
+pub arguments_add : (es : List Expr) (e : Expr) → args_actions (arguments (map expr_tree (es ++ e ∷ []))) ≡ args_actions (arguments (map expr_tree es)) ++ expr_actions (expr_tree e)
+arguments_add [] e = append-nil (expr_actions (expr_tree e))
+arguments_add (f ∷ es) e =
+    ap (λ acts. expr_actions (expr_tree f) ++ acts) (arguments_add es e)
+    ∙ sym (append_assoc (expr_actions (expr_tree f)) (args_actions (arguments (map expr_tree es))) (expr_actions (expr_tree e)))

@@ -1,0 +1,4 @@
+pub mod Trees
+pub mod Stacks
+pub mod Opened
+pub mod Standing

@@ -1,0 +1,55 @@
+-- The trees of the code as the trees of the language.
+use Rattle.std.specs.Prelude.{ℕ, ℤ, List, [], ◌∷◌, ◌++◌, map, replicate}
+use Rattle.grammar.specs.Actions.{Action, function_actions}
+use Rattle.grammar.specs.Tree.{Args, NoMore, Argument, Body, Done}
+use Rattle.grammar.specs.Tree as tree
+use Rattle.trees.specs.declared.tree.Expr.{Expr, Expr-F, fold-Expr}
+use Rattle.trees.specs.declared.tree.Function.{Function}
+use Rattle.trees.specs.declared.tree.Statement.{Statement, Statement-F, fold-Statement}
+
+-- expressions as the arguments of a call
+abbrev pub arguments : List tree.Expr → Args
+arguments [] = NoMore
+arguments (e ∷ es) = Argument e (arguments es)
+
+-- one node, with the tree of each part in its place
+abbrev pub expr_node : Expr-F tree.Expr → tree.Expr
+expr_node (Expr-F.Constant value) = tree.Constant value
+expr_node (Expr-F.Variable v) = tree.Variable v
+expr_node (Expr-F.Binary op a b) = tree.Binary op a.value b.value
+expr_node (Expr-F.Assign op v e) = tree.Assign op v e.value
+expr_node (Expr-F.Postfix op v) = tree.Postfix op v
+expr_node (Expr-F.Call callee es) = tree.Call callee (arguments es.items)
+
+-- the tree of an expression
+abbrev pub expr_tree : Expr → tree.Expr
+expr_tree = fold-Expr tree.Expr expr_node
+
+-- statements one behind another, each of which is told what stands behind it
+abbrev pub in_order : List (Body → Body) → Body
+in_order [] = Done
+in_order (s ∷ ss) = s (in_order ss)
+
+abbrev pub statement_node : Statement-F (Body → Body) → Body → Body
+statement_node (Statement-F.Alone e) rest = tree.Alone (expr_tree e) rest
+statement_node (Statement-F.When c s) rest = tree.When (expr_tree c) (in_order s.items) rest
+statement_node (Statement-F.Choose c s t) rest = tree.Choose (expr_tree c) (in_order s.items) (in_order t.items) rest
+statement_node (Statement-F.While c s) rest = tree.While (expr_tree c) (in_order s.items) rest
+statement_node (Statement-F.Return e) rest = tree.Return (expr_tree e) rest
+
+-- a statement, and what stands behind it
+abbrev pub statement_tree : Statement → Body → Body
+statement_tree = fold-Statement (Body → Body) statement_node
+
+-- the tree of a list of statements
+abbrev pub body_tree : List Statement → Body
+body_tree ss = in_order (map statement_tree ss)
+
+-- the tree of a function, whose names aren't known
+abbrev pub function_tree : Function → tree.Function
+function_tree f = record { name = []; parameters = f.parameters; variables = replicate f.variables []; body = body_tree f.body.items }
+
+-- the actions of functions, one behind another
+abbrev pub made_actions : List Function → List Action
+made_actions [] = []
+made_actions (f ∷ fs) = function_actions f.number (function_tree f) ++ made_actions fs

@@ -1,0 +1,13 @@
+//! The trees of robot programs: a builder that makes them, and tells them to another builder.
+#![tactic(auto)]
+
+mod limits;
+mod maker;
+mod making;
+mod memory;
+mod stack;
+mod tree;
+
+pub use limits::MOST_INSTRUCTIONS;
+pub use maker::TreeMaker;
+pub use tree::{Expr, Function, Statement};

@@ -1,0 +1,229 @@
+//! The trees that each action makes of what is open.
+
+ghost use Rattle.std.specs.Prelude.{◌≡◌, OnOk, true};
+ghost use Rattle.grammar.specs.Actions.{Push, Get, Put, Apply, Middle, BeginCall, EndCall, IfTest, ElsePart, EndIf, BeginWhile, WhileTest, EndWhile, GiveBack, Chop, Begin, Finish};
+ghost use Rattle.grammar.specs.Building.{Refuses};
+ghost use Rattle.trees.specs.Opened.{Continues, Ends, IsAllowed};
+ghost use Rattle.trees.specs.Stacks.{without_last};
+
+use crate::memory::boxed;
+use crate::stack::{Body, Heading, Open, Stack};
+use crate::tree::{Expr, Function, Statement};
+use grammar::{BuildFault, Callee, Op, StoreOp, Var};
+
+impl Stack {
+    /// A constant is the next value.
+    pub fn constant(&mut self, value: i32) -> Result<(), BuildFault>
+        requires { IsAllowed (Push value) self.old }
+        ensures ok { OnOk result (Continues (Push value) self.old self.new) }
+        ensures memory { Refuses result true }
+    {
+        self.push(Open::Value(Expr::Constant(value)))
+    }
+
+    /// The value of a variable is the next value.
+    pub fn fetch(&mut self, var: Var) -> Result<(), BuildFault>
+        requires { IsAllowed (Get var) self.old }
+        ensures ok { OnOk result (Continues (Get var) self.old self.new) }
+        ensures memory { Refuses result true }
+    {
+        self.push(Open::Value(Expr::Variable(var)))
+    }
+
+    /// The last value is stored in a variable.
+    pub fn store(&mut self, var: Var, op: StoreOp) -> Result<(), BuildFault>
+        requires { IsAllowed (Put var op) self.old }
+        ensures ok { OnOk result (Continues (Put var op) self.old self.new) }
+        ensures memory { Refuses result true }
+    {
+        let right = self.value();
+        let right = boxed(self.allocator(), right)?;
+        self.push(Open::Value(Expr::Assign(op, var, right)))
+    }
+
+    /// The last two values are the sides of an operator.
+    pub fn binop(&mut self, op: Op) -> Result<(), BuildFault>
+        requires { IsAllowed (Apply op) self.old }
+        ensures ok { OnOk result (Continues (Apply op) self.old self.new) }
+        ensures memory { Refuses result true }
+    {
+        let right = self.value();
+        let left = self.left_side();
+        let left = boxed(self.allocator(), left)?;
+        let right = boxed(self.allocator(), right)?;
+        self.push(Open::Value(Expr::Binary(op, left, right)))
+    }
+
+    /// The right side of `&&` or `||` follows.
+    pub fn logic_middle(&mut self, op: Op) -> Result<(), BuildFault>
+        requires { IsAllowed (Middle op) self.old }
+        ensures ok { OnOk result (Continues (Middle op) self.old self.new) }
+        ensures memory { Refuses result true }
+    {
+        self.push(Open::RightSide(op))
+    }
+
+    /// A call begins.
+    pub fn begin_call(&mut self) -> Result<(), BuildFault>
+        requires { IsAllowed BeginCall self.old }
+        ensures ok { OnOk result (Continues BeginCall self.old self.new) }
+        ensures memory { Refuses result true }
+    {
+        self.push(Open::Call)
+    }
+
+    /// The call's arguments are done.
+    pub fn end_call(&mut self, callee: Callee) -> Result<(), BuildFault>
+        requires { IsAllowed (EndCall callee) self.old }
+        ensures ok { OnOk result (Continues (EndCall callee) self.old self.new) }
+        ensures memory { Refuses result true }
+    {
+        let arguments = self.arguments()?;
+        self.push(Open::Value(Expr::Call(callee, arguments)))
+    }
+
+    /// The condition of an `if` is done.
+    pub fn if_test(&mut self) -> Result<(), BuildFault>
+        requires { IsAllowed IfTest self.old }
+        ensures ok { OnOk result (Continues IfTest self.old self.new) }
+        ensures memory { Refuses result true }
+    {
+        let condition = self.value();
+        self.begin(Heading::First(condition))
+    }
+
+    /// The first branch is done, and a second one follows.
+    pub fn else_part(&mut self) -> Result<(), BuildFault>
+        requires { IsAllowed ElsePart self.old }
+        ensures ok { OnOk result (Continues ElsePart self.old self.new) }
+        ensures memory { Refuses result true }
+    {
+        let Body {
+            heading,
+            statements,
+        } = self.body();
+        let Heading::First(condition) = heading else {
+            unreachable!()
+        };
+        self.begin(Heading::Second(condition, statements))
+    }
+
+    /// An `if` ends.
+    pub fn end_if(&mut self) -> Result<(), BuildFault>
+        requires { IsAllowed EndIf self.old }
+        ensures ok { OnOk result (Continues EndIf self.old self.new) }
+        ensures memory { Refuses result true }
+    {
+        let Body {
+            heading,
+            statements,
+        } = self.body();
+        match heading {
+            Heading::First(condition) => self.add(Statement::When(condition, statements)),
+            Heading::Second(condition, first) => {
+                self.add(Statement::Choose(condition, first, statements))
+            }
+            _ => unreachable!(),
+        }
+    }
+
+    /// A `while` begins.
+    pub fn begin_while(&mut self) -> Result<(), BuildFault>
+        requires { IsAllowed BeginWhile self.old }
+        ensures ok { OnOk result (Continues BeginWhile self.old self.new) }
+        ensures memory { Refuses result true }
+    {
+        self.push(Open::Test)
+    }
+
+    /// The condition of a `while` is done.
+    pub fn while_test(&mut self) -> Result<(), BuildFault>
+        requires { IsAllowed WhileTest self.old }
+        ensures ok { OnOk result (Continues WhileTest self.old self.new) }
+        ensures memory { Refuses result true }
+    {
+        let condition = self.value();
+        self.leave();
+        self.begin(Heading::Loop(condition))
+    }
+
+    /// A `while` ends.
+    pub fn end_while(&mut self) -> Result<(), BuildFault>
+        requires { IsAllowed EndWhile self.old }
+        ensures ok { OnOk result (Continues EndWhile self.old self.new) }
+        ensures memory { Refuses result true }
+    {
+        let Body {
+            heading,
+            statements,
+        } = self.body();
+        let Heading::Loop(condition) = heading else {
+            unreachable!()
+        };
+        self.add(Statement::While(condition, statements))
+    }
+
+    /// The function returns the last value.
+    pub fn give_back(&mut self) -> Result<(), BuildFault>
+        requires { IsAllowed GiveBack self.old }
+        ensures ok { OnOk result (Continues GiveBack self.old self.new) }
+        ensures memory { Refuses result true }
+    {
+        let value = self.value();
+        self.add(Statement::Return(value))
+    }
+
+    /// The last value is dropped: that of a statement, or, where two values stand open side by side, the new one of `v++` or `v--`.
+    pub fn chop(&mut self) -> Result<(), BuildFault>
+        requires { IsAllowed Chop self.old }
+        ensures ok { OnOk result (Continues Chop self.old self.new) }
+        ensures memory { Refuses result true }
+    {
+        let value = self.value();
+        if !self.ends_in_value() {
+            return self.add(Statement::Alone(value));
+        }
+        let Expr::Assign(op, var, _) = value else {
+            unreachable!()
+        };
+        self.leave();
+        self.push(Open::Value(Expr::Postfix(op, var)))
+    }
+
+    /// A function begins.
+    pub fn begin_function(&mut self, number: u8, parameters: u8) -> Result<(), BuildFault>
+        requires { IsAllowed (Begin number parameters) self.old }
+        ensures ok { OnOk result (Continues (Begin number parameters) self.old self.new) }
+        ensures memory { Refuses result true }
+    {
+        self.begin(Heading::Function(number, parameters))
+    }
+
+    /// The function that ends, without its last `return 0;`.
+    pub fn end_function(&mut self, variables: u8) -> Function
+        requires { IsAllowed (Finish variables) self.old }
+        ensures { Ends variables self.old self.new result }
+    {
+        let Body {
+            heading,
+            statements: mut body,
+        } = self.body();
+        let Heading::Function(number, parameters) = heading else {
+            unreachable!()
+        };
+        leave_last(&mut body);
+        Function {
+            number,
+            parameters,
+            variables,
+            body,
+        }
+    }
+}
+
+// Leaves the last statement.
+fn leave_last(statements: &mut Vec<Statement>)
+    ensures { statements.new.items ≡ without_last statements.old.items }
+{
+    statements.pop();
+}

@@ -1,0 +1,33 @@
+//! Requests of memory, whose refusal is the builder's.
+
+ghost use Rattle.std.specs.Prelude.{◌≡◌, [], ◌∷◌, ◌++◌, IfOk, OnOk, true};
+ghost use Rattle.grammar.specs.Building.{Refuses};
+
+use crate::tree::Expr;
+use grammar::BuildFault;
+use std::alloc::{AllocError, Global};
+
+/// Puts one more behind the items, or refuses for want of memory.
+pub fn put<T: Drop>(items: &mut Vec<T>, item: T) -> Result<(), BuildFault>
+    ensures ok { OnOk result (items.new.items ≡ items.old.items ++ item ∷ []) }
+    ensures memory { Refuses result true }
+{
+    items.push(item).map_err(AllocError::from).map_err(refused)
+}
+
+/// An expression in a place of its own, or a refusal for want of memory.
+pub fn boxed(alloc: Global, expr: Expr) -> Result<Box<Expr>, BuildFault>
+    ensures ok { IfOk result (λ b. b.value ≡ expr) }
+    ensures memory { Refuses result true }
+{
+    Box::new(alloc, expr)
+        .map_err(AllocError::from)
+        .map_err(refused)
+}
+
+// The refusal that want of memory is.
+fn refused(_error: AllocError) -> BuildFault
+    ensures { result ≡ BuildFault.Memory }
+{
+    BuildFault::Memory
+}

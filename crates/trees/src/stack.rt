@@ -1,0 +1,191 @@
+//! The stack of what is open in a function while its tree is made.
+
+ghost use Rattle.std.specs.Prelude.{◌≡◌, ◌≢◌, List, [], ◌∷◌, IfOk, OnOk, true};
+ghost use Rattle.grammar.specs.Building.{Refuses};
+ghost use Rattle.trees.specs.declared.stack.Open.TheVariants.{Value, Body as the_body};
+ghost use Rattle.trees.specs.Stacks.{AddsTo, Begins, above_call, below, below_call, ends_in_body, ends_in_value, past_middle};
+
+use crate::memory::put;
+use crate::tree::{Expr, Statement};
+use grammar::{BuildFault, Op};
+use std::alloc::Global;
+use std::marker::Model;
+
+/// What a list of statements is the body of.
+#[derive(Drop)]
+pub enum Heading {
+    /// A function, by its number and how many parameters it has.
+    Function(u8, u8),
+    /// The first branch of an `if`, with its condition.
+    First(Expr),
+    /// The second branch of an `if`, with its condition and its first branch.
+    Second(Expr, Vec<Statement>),
+    /// A `while`, with its condition.
+    Loop(Expr),
+}
+
+/// A body whose statements are still being made.
+#[derive(Drop)]
+pub struct Body {
+    /// What it is the body of.
+    pub heading: Heading,
+    /// The statements so far.
+    pub statements: Vec<Statement>,
+}
+
+/// What is open.
+#[derive(Drop)]
+pub enum Open {
+    /// A finished value that is still to be used.
+    Value(Expr),
+    /// `&&` or `||`, whose right side is to come.
+    RightSide(Op),
+    /// A call, whose arguments are the values above.
+    Call,
+    /// A `while`, whose condition is to come.
+    Test,
+    /// A body, which takes statements.
+    Body(Body),
+}
+
+/// What is open, the innermost last. It keeps the allocator that it asks for memory.
+#[derive(Drop)]
+pub struct Stack {
+    alloc: Global,
+    items: Vec<Open>,
+}
+
+impl Model for Stack {
+    ghost use Rattle.std.specs.Prelude.{List, reverse};
+    ghost use Rattle.trees.specs.declared.stack.Open.{Open};
+    ghost use Rattle.std.specs.Coded.{codes};
+    ghost use Rattle.trees.specs.contracts.tree.Expr as expr;
+    ghost use Rattle.trees.specs.contracts.tree.Statement as statement;
+
+    ghost Value = { List Open };
+
+    ghost coded = { Prim.hlevel (codes, expr.the_row.coded, statement.the_row.coded) };
+
+    ghost view = { λ a. reverse a.items.items };
+}
+
+impl Stack {
+    /// A stack on which nothing is open.
+    pub fn new(alloc: Global) -> Stack
+        ensures { result ≡ [] }
+    {
+        Stack {
+            alloc,
+            items: Vec::new(alloc),
+        }
+    }
+
+    /// The allocator.
+    pub fn allocator(&self) -> Global {
+        self.alloc
+    }
+
+    /// Opens something more.
+    pub fn push(&mut self, item: Open) -> Result<(), BuildFault>
+        ensures ok { OnOk result (self.new ≡ item ∷ self.old) }
+        ensures memory { Refuses result true }
+    {
+        put(&mut self.items, item)
+    }
+
+    /// Takes the innermost, whatever it is.
+    pub fn pop(&mut self) -> Open
+        requires { self.old ≢ [] }
+        ensures { self.old ≡ result ∷ self.new }
+    {
+        self.items.pop().unwrap()
+    }
+
+    /// Leaves the innermost, if there is one.
+    pub fn leave(&mut self)
+        ensures { self.new ≡ below self.old }
+    {
+        self.items.pop();
+    }
+
+    /// Whether the innermost is a value.
+    pub fn ends_in_value(&self) -> bool
+        ensures { result ≡ ends_in_value self.now }
+    {
+        matches!(self.items.last(), Some(Open::Value(_)))
+    }
+
+    /// Takes the innermost, which is a value.
+    pub fn value(&mut self) -> Expr
+        requires { ends_in_value self.old ≡ true }
+        ensures { self.old ≡ Value result ∷ self.new }
+    {
+        let Open::Value(expr) = self.pop() else {
+            unreachable!()
+        };
+        expr
+    }
+
+    #[tactic(auto, using(crate::proofs::MakingLaws::left_is, crate::proofs::MakingLaws::value_is_left))]
+    /// Takes the innermost value, from below the middle of `&&` or `||` if that is open.
+    pub fn left_side(&mut self) -> Expr
+        requires { ends_in_value (past_middle self.old) ≡ true }
+        ensures { past_middle self.old ≡ Value result ∷ self.new }
+    {
+        if self.ends_in_value() {
+            return self.value();
+        }
+        self.leave();
+        self.value()
+    }
+
+    /// Takes the innermost, which is a body.
+    pub fn body(&mut self) -> Body
+        requires { ends_in_body self.old ≡ true }
+        ensures { self.old ≡ the_body result ∷ self.new }
+    {
+        let Open::Body(body) = self.pop() else {
+            unreachable!()
+        };
+        body
+    }
+
+    /// Adds a statement to the innermost, which is a body.
+    pub fn add(&mut self, statement: Statement) -> Result<(), BuildFault>
+        requires { ends_in_body self.old ≡ true }
+        ensures ok { OnOk result (AddsTo statement self.old self.new) }
+        ensures memory { Refuses result true }
+    {
+        let mut body = self.body();
+        put(&mut body.statements, statement)?;
+        self.push(Open::Body(body))
+    }
+
+    /// Opens a body without statements.
+    pub fn begin(&mut self, heading: Heading) -> Result<(), BuildFault>
+        ensures ok { OnOk result (Begins heading self.old self.new) }
+        ensures memory { Refuses result true }
+    {
+        let statements = Vec::new(self.alloc);
+        self.push(Open::Body(Body {
+            heading,
+            statements,
+        }))
+    }
+
+    /// Takes the innermost call with its arguments, and gives these in order.
+    pub fn arguments(&mut self) -> Result<Vec<Expr>, BuildFault>
+        ensures arguments { IfOk result (λ es. es.items ≡ above_call self.old) }
+        ensures below { OnOk result (self.new ≡ below_call self.old) }
+        ensures memory { Refuses result true }
+    {
+        let mut arguments = Vec::new(self.alloc);
+        while self.ends_in_value() {
+            let argument = self.value();
+            put(&mut arguments, argument)?;
+        }
+        self.leave();
+        arguments.reverse();
+        Ok(arguments)
+    }
+}
