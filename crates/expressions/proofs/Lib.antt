@@ -1,0 +1,9 @@
+pub mod TellingLaws
+pub mod Productions
+pub mod SignLaws
+pub mod VariableLaws
+pub mod NameLaws
+pub mod OperatorLaws
+pub mod NestedLaws
+pub mod CallLaws
+pub mod AssignmentLaws

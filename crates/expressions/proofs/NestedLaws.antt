@@ -1,0 +1,153 @@
+-- Brackets, and what begins no primary.
+use Rattle.std.proofs.Common.{◌≡◌, ℕ, ◌+◌, ◌<◌, ◌≤◌, List, [], ◌∷◌, refl, ap, Bool, true, false, arith}
+use Rattle.std.specs.Prelude.{Some, None}
+use Rattle.tokens.specs.declared.lexemes.Mark.TheVariants as mark
+use Rattle.tokens.specs.declared.lexemes.Token.{Token}
+use Rattle.tokens.specs.declared.lexemes.Token.TheVariants as token
+use Rattle.grammar.specs.declared.diagnostics.Code.TheVariants as code
+use Rattle.grammar.specs.declared.diagnostics.ParseFault.{ParseFault}
+use Rattle.grammar.specs.Building.{Meaning}
+use Rattle.grammar.specs.Compiled.{diagnostic}
+use Rattle.grammar.specs.Derivation.{AnExpr}
+use Rattle.grammar.specs.Faults.{misfit_code}
+use Rattle.grammar.specs.Grammar.{Exactly, Expression, Part, Primary, Shut, Unary, choice, is_fault, is_mark, opens}
+use Rattle.grammar.specs.Nesting.{nesting}
+use Rattle.parsing.specs.Position.{Place, next_at}
+use Rattle.parsing.specs.Room.{HasRoom, room}
+use Rattle.parsing.specs.Stretch.{Derives, DerivesItem, FailsAt, FailsItem, GoesPast, Refused, StopsAt}
+use Rattle.parsing.proofs.Stretches.{exit, exit_item, joined}
+use Rattle.expressions.specs.declared.signs.Sign.{Sign}
+use Rattle.expressions.specs.declared.signs.Sign.TheVariants as sign
+use Rattle.expressions.specs.declared.signs.Step.{Step}
+use Rattle.expressions.specs.declared.signs.Step.TheVariants as step
+use Rattle.expressions.specs.Expressions.{AddsExpr}
+use Rattle.expressions.specs.Signs.{sign_mark, step_mark}
+use Rattle.expressions.proofs.Productions.{Chooses, OpensLevel, chosen, chosen_within, item_done, mark_ends, mark_is, mark_past, mark_sound, mark_too_deep, none_chosen, shuts}
+use Rattle.expressions.proofs.TellingLaws.{room_within}
+
+-- Brackets.
+
+open_chooses : (at : Place) → is_mark mark.OpenRound (next_at at).token ≡ true → Chooses at Primary (Exactly mark.OpenRound ∷ Part Expression ∷ Exactly mark.CloseRound ∷ Shut ∷ [])
+open_chooses at fits = record {
+  sound = mark_sound mark.OpenRound (next_at at).token fits;
+  is = λ after more. let t : (next_at at).token ≡ token.Mark mark.OpenRound = mark_is mark.OpenRound (next_at at).token fits in rw t refl;
+}
+
+open_opens : (at : Place) → is_mark mark.OpenRound (next_at at).token ≡ true → OpensLevel at Primary
+open_opens at fits after more = let t : (next_at at).token ≡ token.Mark mark.OpenRound = mark_is mark.OpenRound (next_at at).token fits in rw t refl
+
+pub bracket_too_deep : (at : Place) (depth : ℕ) → is_mark mark.OpenRound (next_at at).token ≡ true → 64 ≤ depth → FailsAt depth (Part Primary ∷ []) [] at (diagnostic (next_at at).line code.NestedTooDeeply)
+bracket_too_deep at depth fits deep = mark_too_deep at depth Primary mark.OpenRound (Part Expression ∷ Exactly mark.CloseRound ∷ Shut ∷ []) (open_chooses at fits) (open_opens at fits) fits deep
+
+open_stands : (at : Place) (depth : ℕ) → is_mark mark.OpenRound (next_at at).token ≡ true → depth < 64 →
+    Derives depth (Part Primary ∷ []) (Exactly mark.OpenRound ∷ Part Expression ∷ Exactly mark.CloseRound ∷ Shut ∷ []) [] [] at at
+open_stands at depth fits shallow = chosen_within at depth Primary (Exactly mark.OpenRound ∷ Part Expression ∷ Exactly mark.CloseRound ∷ Shut ∷ []) (open_chooses at fits) shallow
+
+pub open_ends : (at : Place) (depth : ℕ) (more : Bool) (f : ParseFault) → is_mark mark.OpenRound (next_at at).token ≡ true → depth < 64 →
+    Refused (StopsAt at) false f → Refused (FailsAt depth (Part Primary ∷ []) [] at) more f
+open_ends at depth more f fits shallow stop =
+    exit_item depth (depth + 1) (Part Primary ∷ []) (Exactly mark.OpenRound) (Part Expression ∷ Exactly mark.CloseRound ∷ Shut ∷ []) [] [] at at more f
+    (open_stands at depth fits shallow) (λ stack same. ap (λ n. n + 1) same) (mark_ends at mark.OpenRound f fits stop)
+
+open_past : (at now : Place) (depth : ℕ) → is_mark mark.OpenRound (next_at at).token ≡ true → depth < 64 → GoesPast at now →
+    Derives depth (Part Primary ∷ []) (Part Expression ∷ Exactly mark.CloseRound ∷ Shut ∷ []) [] [] at now
+open_past at now depth fits shallow goes =
+    item_done depth (depth + 1) (Part Primary ∷ []) (Exactly mark.OpenRound) (Part Expression ∷ Exactly mark.CloseRound ∷ Shut ∷ []) [] [] [] at at now
+    (open_stands at depth fits shallow) (mark_past at now mark.OpenRound fits goes (depth + 1)) (λ stack same. ap (λ n. n + 1) same)
+
+pub inside_refused : (at now : Place) (depth : ℕ) (allocates : Bool) (f : ParseFault) → is_mark mark.OpenRound (next_at at).token ≡ true → depth < 64 → GoesPast at now →
+    Refused (FailsAt (depth + 1) (Part Expression ∷ []) [] now) allocates f → Refused (FailsAt depth (Part Primary ∷ []) [] at) allocates f
+inside_refused at now depth allocates f fits shallow goes =
+    exit depth (depth + 1) (Part Primary ∷ []) (Part Expression ∷ []) (Exactly mark.CloseRound ∷ Shut ∷ []) [] [] [] at now allocates allocates f
+    (open_past at now depth fits shallow goes) (λ stack same. ap (λ n. n + 1) same) (λ same. same)
+
+inside_past : (before after : Meaning) (at now behind : Place) (depth : ℕ) → is_mark mark.OpenRound (next_at at).token ≡ true → depth < 64 → GoesPast at now →
+    (h : AddsExpr before after (depth + 1) 1 (Part Expression ∷ []) [] now behind) → Derives depth (Part Primary ∷ []) (Exactly mark.CloseRound ∷ Shut ∷ []) [] (AnExpr h.tree ∷ []) at behind
+inside_past before after at now behind depth fits shallow goes h =
+    joined depth (depth + 1) (Part Primary ∷ []) (Part Expression ∷ []) [] (Exactly mark.CloseRound ∷ Shut ∷ []) [] [] (AnExpr h.tree ∷ []) [] at now behind
+    (open_past at now depth fits shallow goes) h.derives (λ stack same. ap (λ n. n + 1) same)
+
+pub close_refused : (before after : Meaning) (at now behind : Place) (depth : ℕ) (more : Bool) (f : ParseFault) → is_mark mark.OpenRound (next_at at).token ≡ true → depth < 64 → GoesPast at now →
+    AddsExpr before after (depth + 1) 1 (Part Expression ∷ []) [] now behind → Refused (FailsItem (Exactly mark.CloseRound) behind) false f → Refused (FailsAt depth (Part Primary ∷ []) [] at) more f
+close_refused before after at now behind depth more f fits shallow goes h =
+    exit_item depth (depth + 1) (Part Primary ∷ []) (Exactly mark.CloseRound) (Shut ∷ []) [] (AnExpr h.tree ∷ []) at behind more f
+    (inside_past before after at now behind depth fits shallow goes h) (λ stack same. ap (λ n. n + 1) same)
+
+pub bracket_adds : (before after : Meaning) (at now behind there : Place) (depth : ℕ) → is_mark mark.OpenRound (next_at at).token ≡ true → depth < 64 → GoesPast at now →
+    AddsExpr before after (depth + 1) 1 (Part Expression ∷ []) [] now behind → DerivesItem (Exactly mark.CloseRound) [] [] behind there → is_fault (next_at there).token ≡ false →
+    AddsExpr before after depth 11 (Part Primary ∷ []) [] at there
+bracket_adds before after at now behind there depth fits shallow goes h close sound = record {
+  tree = h.tree;
+  numbered = h.numbered;
+  narrow = let small : nesting h.tree ≤ room (depth + 1) 1 = h.narrow in omega arith;
+  added = h.added;
+  derives = joined depth depth (Part Primary ∷ []) (Shut ∷ []) [] [] [] (AnExpr h.tree ∷ []) (AnExpr h.tree ∷ []) [] at there there
+      (item_done depth (depth + 1) (Part Primary ∷ []) (Exactly mark.CloseRound) (Shut ∷ []) [] [] (AnExpr h.tree ∷ []) at behind there
+      (inside_past before after at now behind depth fits shallow goes h) (close (depth + 1)) (λ stack same. ap (λ n. n + 1) same))
+      (shuts there depth (AnExpr h.tree ∷ []) sound) (λ stack same. same);
+}
+
+pub inside_room : (before : Meaning) (depth : ℕ) → depth < 64 → HasRoom before (room depth 11) → HasRoom before (room (depth + 1) 1)
+inside_room before depth shallow h = room_within before (room (depth + 1) 1) (room depth 11) h (omega arith)
+
+-- An operand without an operator before it is a primary.
+
+primary_choice : (t after : Token) → ((s : Sign) → is_mark (sign_mark s) t ≡ false) → ((s : Step) → is_mark (step_mark s) t ≡ false) → choice Unary t after ≡ Some (Part Primary ∷ [])
+primary_choice (token.Mark mark.Minus) after signs steps = let e : is_mark (sign_mark sign.Negation) (token.Mark mark.Minus) ≡ false = signs sign.Negation in absurd (cc)
+primary_choice (token.Mark mark.Not) after signs steps = let e : is_mark (sign_mark sign.Denial) (token.Mark mark.Not) ≡ false = signs sign.Denial in absurd (cc)
+primary_choice (token.Mark mark.Tilde) after signs steps = let e : is_mark (sign_mark sign.Complement) (token.Mark mark.Tilde) ≡ false = signs sign.Complement in absurd (cc)
+primary_choice (token.Mark mark.PlusPlus) after signs steps = let e : is_mark (step_mark step.Up) (token.Mark mark.PlusPlus) ≡ false = steps step.Up in absurd (cc)
+primary_choice (token.Mark mark.MinusMinus) after signs steps = let e : is_mark (step_mark step.Down) (token.Mark mark.MinusMinus) ≡ false = steps step.Down in absurd (cc)
+primary_choice t after signs steps = refl
+
+primary_opens : (t after : Token) → ((s : Sign) → is_mark (sign_mark s) t ≡ false) → opens Unary t after ≡ false
+primary_opens (token.Mark mark.Minus) after signs = let e : is_mark (sign_mark sign.Negation) (token.Mark mark.Minus) ≡ false = signs sign.Negation in absurd (cc)
+primary_opens (token.Mark mark.Not) after signs = let e : is_mark (sign_mark sign.Denial) (token.Mark mark.Not) ≡ false = signs sign.Denial in absurd (cc)
+primary_opens (token.Mark mark.Tilde) after signs = let e : is_mark (sign_mark sign.Complement) (token.Mark mark.Tilde) ≡ false = signs sign.Complement in absurd (cc)
+primary_opens t after signs = refl
+
+-- the next token is no operator before an operand
+pub record NoOperator (t : Token) : Type 0 where
+  pub sound : is_fault t ≡ false
+  pub signs : (s : Sign) → is_mark (sign_mark s) t ≡ false
+  pub steps : (s : Step) → is_mark (step_mark s) t ≡ false
+
+primary_stands : (at : Place) (depth : ℕ) → NoOperator (next_at at).token → Derives depth (Part Unary ∷ []) (Part Primary ∷ []) [] [] at at
+primary_stands at depth n =
+    chosen at depth Unary (Part Primary ∷ []) [] (record { sound = n.sound; is = λ after more. primary_choice (next_at at).token after n.signs n.steps }) (λ after more. primary_opens (next_at at).token after n.signs)
+
+pub primary_refused : (at : Place) (depth : ℕ) (allocates : Bool) (f : ParseFault) → NoOperator (next_at at).token →
+    Refused (FailsAt depth (Part Primary ∷ []) [] at) allocates f → Refused (FailsAt depth (Part Unary ∷ []) [] at) allocates f
+primary_refused at depth allocates f n =
+    exit depth depth (Part Unary ∷ []) (Part Primary ∷ []) [] [] [] [] at at allocates allocates f (primary_stands at depth n) (λ stack same. same) (λ same. same)
+
+pub primary_adds : (before after : Meaning) (at there : Place) (depth : ℕ) → NoOperator (next_at at).token → AddsExpr before after depth 11 (Part Primary ∷ []) [] at there → AddsExpr before after depth 11 (Part Unary ∷ []) [] at there
+primary_adds before after at there depth n h = record {
+  tree = h.tree;
+  numbered = h.numbered;
+  narrow = h.narrow;
+  added = h.added;
+  derives = joined depth depth (Part Unary ∷ []) (Part Primary ∷ []) [] [] [] [] (AnExpr h.tree ∷ []) [] at at there (primary_stands at depth n) h.derives (λ stack same. same);
+}
+
+-- What begins no primary.
+
+pub record NoPrimary (t : Token) : Type 0 where
+  pub constant : (value : ℕ) → t ≡ token.Constant value → ⊥
+  pub name : (name : List ℕ) → t ≡ token.Name name → ⊥
+  pub bracket : is_mark mark.OpenRound t ≡ false
+
+no_primary : (t after : Token) → NoPrimary t → choice Primary t after ≡ None
+no_primary (token.Constant value) after n = absurd (n.constant value refl)
+no_primary (token.Name name) after n = absurd (n.name name refl)
+no_primary (token.Mark mark.OpenRound) after n = let e : is_mark mark.OpenRound (token.Mark mark.OpenRound) ≡ false = n.bracket in absurd (cc)
+no_primary t after n = refl
+
+no_primary_opens : (t after : Token) → NoPrimary t → opens Primary t after ≡ false
+no_primary_opens (token.Name name) after n = absurd (n.name name refl)
+no_primary_opens (token.Mark mark.OpenRound) after n = let e : is_mark mark.OpenRound (token.Mark mark.OpenRound) ≡ false = n.bracket in absurd (cc)
+no_primary_opens t after n = refl
+
+pub primary_misfits : (at : Place) (depth : ℕ) → is_fault (next_at at).token ≡ false → NoPrimary (next_at at).token →
+    FailsAt depth (Part Primary ∷ []) [] at (diagnostic (next_at at).line (misfit_code (next_at at).token))
+primary_misfits at depth sound n = none_chosen at depth Primary sound (λ after more. no_primary (next_at at).token after n) (λ after more. no_primary_opens (next_at at).token after n)

@@ -1,0 +1,202 @@
+-- What a production adds to a stretch of the derivation: its choice, its marks, the trees made and the level shut.
+use Rattle.std.proofs.Common.{◌≡◌, ℕ, ◌<◌, ◌≤◌, List, [], ◌∷◌, ◌++◌, refl, sym, ap, subst, Bool, true, false, arith, append-nil, eqb}
+use Rattle.std.proofs.lemmas.Bool.Decides.{nat_tests}
+use Rattle.std.specs.Prelude.{Some, None, nat_le}
+use Rattle.tokens.specs.Tokens.{is_last}
+use Rattle.tokens.specs.declared.lexemes.Lexeme.{Lexeme}
+use Rattle.tokens.specs.declared.lexemes.Mark.{Mark}
+use Rattle.tokens.specs.contracts.lexemes.Mark.{the_type}
+use Rattle.tokens.specs.declared.lexemes.Token.{Token}
+use Rattle.tokens.specs.declared.lexemes.Token.TheVariants as token
+use denote.Enum.Bare.{same_true}
+use denote.Enum.Declared.{tag_of}
+use Rattle.grammar.specs.declared.diagnostics.Code.TheVariants as code
+use Rattle.grammar.specs.declared.diagnostics.ParseFault.{ParseFault}
+use Rattle.grammar.specs.Compiled.{diagnostic}
+use Rattle.grammar.specs.Derivation.{State, state, Value, Definition, made, defined, behind_rule, name_of_token, next_of}
+use Rattle.grammar.specs.Faults.{fault, item_faults, levels, misfit_code, most_levels, only_if}
+use Rattle.grammar.specs.Grammar.{Item, AName, Exactly, Make, Part, Role, Rule, Shut, Symbol, choice, is_fault, is_mark, opens, same_mark}
+use Rattle.grammar.specs.Parsing.{Passes}
+use Rattle.grammar.specs.Profile.{Profile}
+use Rattle.grammar.specs.Scope.{Scope}
+use Rattle.grammar.proofs.Firsts.{no_part, too_deep, too_deep_name}
+use Rattle.grammar.proofs.Runs.{then}
+use Rattle.grammar.proofs.Steps.{part, make, shut}
+use Rattle.parsing.specs.Position.{Place, after_at, next_at, scope_at}
+use Rattle.parsing.specs.Stretch.{Derives, DerivesItem, FailsAt, FailsItem, GoesPast, Refused, StopsAt}
+use Rattle.parsing.proofs.Items.{mark_derives, mark_stops}
+use Rattle.parsing.proofs.Stretches.{Begins, IsBehind, fails_behind, joined, refused_map, stand, told_begins}
+
+-- Marks.
+
+pub mark_is : (m : Mark) (t : Token) → is_mark m t ≡ true → t ≡ token.Mark m
+mark_is m (token.Mark n) is = ap token.Mark (sym (same_true the_type tt m n is))
+mark_is m (token.Name name) is = absurd (cc)
+mark_is m (token.Word word) is = absurd (cc)
+mark_is m (token.Constant value) is = absurd (cc)
+mark_is m token.End is = absurd (cc)
+mark_is m (token.Fault flaw) is = absurd (cc)
+
+eqb_self : (n : ℕ) → eqb n n ≡ true
+eqb_self n = grind (arith, nat_tests)
+
+pub same_self : (m : Mark) → same_mark m m ≡ true
+same_self m = eqb_self (tag_of the_type m)
+
+pub mark_sound : (m : Mark) (t : Token) → is_mark m t ≡ true → is_fault t ≡ false
+mark_sound m t is = rw (mark_is m t is) refl
+
+pub name_sound : (name : List ℕ) (t : Token) → t ≡ token.Name name → is_fault t ≡ false
+name_sound name t is = rw is refl
+
+-- a mark is passed
+pub mark_past : (at there : Place) (m : Mark) → is_mark m (next_at at).token ≡ true → GoesPast at there → DerivesItem (Exactly m) [] [] at there
+mark_past at there m fits goes = mark_derives at.position.reading (scope_at at) at.to_come there m (mark_sound m (next_at at).token fits) fits goes
+
+-- the token behind it is a fault
+pub mark_ends : (at : Place) (m : Mark) (f : ParseFault) → is_mark m (next_at at).token ≡ true → Refused (StopsAt at) false f → Refused (FailsItem (Exactly m) at) false f
+mark_ends at m f fits =
+    refused_map (StopsAt at) (FailsItem (Exactly m) at) false false f (mark_stops at.position.reading (scope_at at) at.to_come m (mark_sound m (next_at at).token fits) fits) (λ same. same)
+
+-- The choice of a production.
+
+-- whatever it stands for, this is so of the token behind the next one
+abbrev pub WithAfter : Place → (Token → Type 0) → Type 0
+WithAfter at P = (after : Token) → (is_last (next_at at).token ≡ false → after ≡ after_at at) → P after
+
+-- the next token is no fault, and the symbol is replaced by these items
+pub record Chooses (at : Place) (symbol : Symbol) (items : List Item) : Type 0 where
+  pub sound : is_fault (next_at at).token ≡ false
+  pub is : WithAfter at (λ after. choice symbol (next_at at).token after ≡ Some items)
+
+-- the production opens no level
+abbrev pub OpensNone : Place → Symbol → Type 0
+OpensNone at symbol = WithAfter at (λ after. opens symbol (next_at at).token after ≡ false)
+
+-- it opens one
+abbrev pub OpensLevel : Place → Symbol → Type 0
+OpensLevel at symbol = WithAfter at (λ after. opens symbol (next_at at).token after ≡ true)
+
+next_behind : (at : Place) (tail : List Lexeme) → IsBehind at.position.reading tail → is_last (next_at at).token ≡ false → next_of tail ≡ after_at at
+next_behind at tail b more = ap next_of (b.is more)
+
+free : (n : ℕ) (opened : Bool) (rest : List Lexeme) → opened ≡ false → only_if opened (only_if (nat_le most_levels n) (fault rest code.NestedTooDeeply ∷ [])) ≡ []
+free n opened rest none = rw none refl
+
+within : (opened : Bool) (n : ℕ) (rest : List Lexeme) → n < 64 → only_if opened (only_if (nat_le most_levels n) (fault rest code.NestedTooDeeply ∷ [])) ≡ []
+unfolding most_levels
+within false n rest small = refl
+within true n rest small = let test : nat_le 64 n ≡ false = below n small in rw test refl
+  where
+    below : (n : ℕ) → n < 64 → nat_le 64 n ≡ false
+    below n small = grind (arith, nat_tests)
+
+beyond : (opened : Bool) (n : ℕ) (rest : List Lexeme) → opened ≡ true → 64 ≤ n → only_if opened (only_if (nat_le most_levels n) (fault rest code.NestedTooDeeply ∷ [])) ≡ fault rest code.NestedTooDeeply ∷ []
+unfolding most_levels
+beyond opened n rest is large = rw (is, above n large) refl
+  where
+    above : (n : ℕ) → 64 ≤ n → nat_le 64 n ≡ true
+    above n large = grind (arith, nat_tests)
+
+-- a production that opens no level is chosen
+pub chosen : (at : Place) (depth : ℕ) (symbol : Symbol) (items : List Item) (kept : List Value) → Chooses at symbol items → OpensNone at symbol →
+    Derives depth (Part symbol ∷ []) items kept kept at at
+chosen at depth symbol items kept c none = stand at depth (Part symbol ∷ []) items kept kept (λ tail b. record {
+  passes = λ profile stack values functions depths.
+      part profile symbol items stack (next_at at ∷ tail) (kept ++ values) (scope_at at) functions c.sound (c.is (next_of tail) (next_behind at tail b))
+      (free (levels stack) (opens symbol (next_at at).token (next_of tail)) (next_at at ∷ tail) (none (next_of tail) (next_behind at tail b)));
+})
+
+-- one that may open a level, where there is a level left
+pub chosen_within : (at : Place) (depth : ℕ) (symbol : Symbol) (items : List Item) → Chooses at symbol items → depth < 64 → Derives depth (Part symbol ∷ []) items [] [] at at
+chosen_within at depth symbol items c shallow = stand at depth (Part symbol ∷ []) items [] [] (λ tail b. record {
+  passes = λ profile stack values functions depths.
+      part profile symbol items stack (next_at at ∷ tail) values (scope_at at) functions c.sound (c.is (next_of tail) (next_behind at tail b))
+      (within (opens symbol (next_at at).token (next_of tail)) (levels stack) (next_at at ∷ tail) (rw depths shallow));
+})
+
+-- one that would open a level beyond the last one, by a mark
+pub mark_too_deep : (at : Place) (depth : ℕ) (symbol : Symbol) (m : Mark) (items : List Item) → Chooses at symbol (Exactly m ∷ items) → OpensLevel at symbol →
+    is_mark m (next_at at).token ≡ true → 64 ≤ depth → FailsAt depth (Part symbol ∷ []) [] at (diagnostic (next_at at).line code.NestedTooDeeply)
+mark_too_deep at depth symbol m items c opened fits deep lexemes shows profile stack values functions depths =
+    let b : Begins at.position.reading lexemes = told_begins at lexemes shows in
+    rw b.is (too_deep profile symbol m items stack (next_at at) b.tail values (scope_at at) functions c.sound (c.is (next_of b.tail) (next_behind at b.tail b.behind)) fits
+    (beyond (opens symbol (next_at at).token (next_of b.tail)) (levels stack) (next_at at ∷ b.tail) (opened (next_of b.tail) (next_behind at b.tail b.behind)) (rw depths deep)))
+
+-- by a name
+pub name_too_deep : (at : Place) (depth : ℕ) (symbol : Symbol) (role : Role) (name : List ℕ) (items : List Item) → Chooses at symbol (AName role ∷ items) → OpensLevel at symbol →
+    name_of_token (next_at at).token ≡ Some name → 64 ≤ depth → FailsAt depth (Part symbol ∷ []) [] at (diagnostic (next_at at).line code.NestedTooDeeply)
+name_too_deep at depth symbol role name items c opened fits deep lexemes shows profile stack values functions depths =
+    let b : Begins at.position.reading lexemes = told_begins at lexemes shows in
+    rw b.is (too_deep_name profile symbol role name items stack (next_at at) b.tail values (scope_at at) functions c.sound (c.is (next_of b.tail) (next_behind at b.tail b.behind)) fits
+    (beyond (opens symbol (next_at at).token (next_of b.tail)) (levels stack) (next_at at ∷ b.tail) (opened (next_of b.tail) (next_behind at b.tail b.behind)) (rw depths deep)))
+
+-- no production fits
+pub none_chosen : (at : Place) (depth : ℕ) (symbol : Symbol) → is_fault (next_at at).token ≡ false → WithAfter at (λ after. choice symbol (next_at at).token after ≡ None) → OpensNone at symbol →
+    FailsAt depth (Part symbol ∷ []) [] at (diagnostic (next_at at).line (misfit_code (next_at at).token))
+none_chosen at depth symbol sound none opened lexemes shows profile stack values functions depths =
+    let b : Begins at.position.reading lexemes = told_begins at lexemes shows in
+    rw b.is (no_part profile symbol stack (next_at at ∷ b.tail) values (scope_at at) functions sound (none (next_of b.tail) (next_behind at b.tail b.behind))
+    (free (levels stack) (opens symbol (next_at at).token (next_of b.tail)) (next_at at ∷ b.tail) (opened (next_of b.tail) (next_behind at b.tail b.behind))))
+
+-- The trees made.
+
+-- the rule makes these trees of those, and leaves the names and the functions
+pub record MakesOnly (rule : Rule) (taken left : List Value) : Type 0 where
+  pub makes : (values : List Value) → made rule (taken ++ values) ≡ left ++ values
+  pub clean : (profile : Profile) (stack : List Item) (rest : List Lexeme) (values : List Value) (scope : Scope) (functions : List Definition) →
+      item_faults profile (Make rule ∷ stack) rest values scope functions ≡ []
+  pub learns : (scope : Scope) → behind_rule rule scope ≡ scope
+  pub defines : (values : List Value) (scope : Scope) → defined rule values scope ≡ []
+
+makes_only : (at : Place) (rule : Rule) (taken left : List Value) → MakesOnly rule taken left → (profile : Profile) (stack : List Item) (tail : List Lexeme) (values : List Value) (functions : List Definition) →
+    Passes profile (state (Make rule ∷ stack) (next_at at ∷ tail) (taken ++ values) (scope_at at) functions)
+    (state stack (next_at at ∷ tail) (made rule (taken ++ values)) (behind_rule rule (scope_at at)) (functions ++ defined rule (taken ++ values) (scope_at at))) →
+    Passes profile (state (Make rule ∷ stack) (next_at at ∷ tail) (taken ++ values) (scope_at at) functions)
+    (state stack (next_at at ∷ tail) (left ++ values) (scope_at at) functions)
+makes_only at rule taken left m profile stack tail values functions p =
+    subst (λ (s : State). Passes profile (state (Make rule ∷ stack) (next_at at ∷ tail) (taken ++ values) (scope_at at) functions) s) same p
+  where
+    same : state stack (next_at at ∷ tail) (made rule (taken ++ values)) (behind_rule rule (scope_at at)) (functions ++ defined rule (taken ++ values) (scope_at at))
+        ≡ state stack (next_at at ∷ tail) (left ++ values) (scope_at at) functions
+    same = rw (m.makes values, m.learns (scope_at at), m.defines (taken ++ values) (scope_at at), append-nil functions) refl
+
+pub makes : (at : Place) (depth : ℕ) (rule : Rule) (taken left : List Value) → is_fault (next_at at).token ≡ false → MakesOnly rule taken left → Derives depth (Make rule ∷ []) [] taken left at at
+makes at depth rule taken left sound m = stand at depth (Make rule ∷ []) [] taken left (λ tail b. record {
+  passes = λ profile stack values functions depths.
+      makes_only at rule taken left m profile stack tail values functions
+      (make profile rule stack (next_at at ∷ tail) (taken ++ values) (scope_at at) functions sound (m.clean profile stack (next_at at ∷ tail) (taken ++ values) (scope_at at) functions));
+})
+
+-- a level is shut
+pub shuts : (at : Place) (depth : ℕ) (kept : List Value) → is_fault (next_at at).token ≡ false → Derives depth (Shut ∷ []) [] kept kept at at
+shuts at depth kept sound = stand at depth (Shut ∷ []) [] kept kept (λ tail b. record {
+  passes = λ profile stack values functions depths. shut profile stack (next_at at ∷ tail) (kept ++ values) (scope_at at) functions sound;
+})
+
+-- both of them
+pub makes_and_shuts : (at : Place) (depth : ℕ) (rule : Rule) (taken left : List Value) → is_fault (next_at at).token ≡ false → MakesOnly rule taken left →
+    Derives depth (Make rule ∷ Shut ∷ []) [] taken left at at
+makes_and_shuts at depth rule taken left sound m = stand at depth (Make rule ∷ Shut ∷ []) [] taken left (λ tail b. record {
+  passes = λ profile stack values functions depths.
+      then profile _ _ _
+      (makes_only at rule taken left m profile (Shut ∷ stack) tail values functions
+      (make profile rule (Shut ∷ stack) (next_at at ∷ tail) (taken ++ values) (scope_at at) functions sound (m.clean profile (Shut ∷ stack) (next_at at ∷ tail) (taken ++ values) (scope_at at) functions)))
+      (shut profile stack (next_at at ∷ tail) (left ++ values) (scope_at at) functions sound);
+})
+
+-- The exits of a function that matches a symbol at any depth.
+
+pub item_exit : (whole item : Item) (below : List Item) (under : List Value) (at now : Place) (more : Bool) (f : ParseFault) →
+    ((depth : ℕ) → Derives depth (whole ∷ []) (item ∷ below) [] under at now) → ((depth : ℕ) (stack : List Item) → levels stack ≡ depth → levels (below ++ stack) ≡ depth) →
+    Refused (FailsItem item now) false f → Refused (FailsItem whole at) more f
+item_exit whole item below under at now more f a opens =
+    refused_map (FailsItem item now) (FailsItem whole at) false more f
+    (λ d h depth. fails_behind depth depth (whole ∷ []) (item ∷ []) below [] [] under at now d (a depth) (opens depth) (h depth)) (λ never. absurd (cc))
+
+-- the next item is done, and its trees stand on the others
+pub item_done : (depth inner : ℕ) (front : List Item) (item : Item) (below : List Item) (taken left under : List Value) (at now there : Place) →
+    Derives depth front (item ∷ below) taken under at now → Derives inner (item ∷ []) [] [] left now there →
+    ((stack : List Item) → levels stack ≡ depth → levels (below ++ stack) ≡ inner) → Derives depth front below taken (left ++ under) at there
+item_done depth inner front item below taken left under at now there =
+    joined depth inner front (item ∷ []) [] below taken [] left under at now there

@@ -1,0 +1,85 @@
+-- Which actions may follow what a builder stands for.
+use Rattle.std.proofs.Common.{ℕ, ◌+◌, ◌≤◌, List, [], ◌∷◌, ◌++◌, refl, sym, ◌∙◌, subst, Bool, true, false, arith, append_assoc}
+use Rattle.std.specs.Prelude.{Option, Some, None, is_some, IsTrue, if◌then◌else◌}
+use Rattle.grammar.specs.Actions.{Action}
+use Rattle.grammar.specs.Building.{Meaning, AppendsAll, MayFollow, StandsOpen}
+use Rattle.grammar.specs.Following.{Open, AValue, Opened, IsBeginning, few_open, follow, follow_all, then_follow, open_count}
+use Rattle.grammar.specs.Tree.{Args, NoMore, Argument}
+use Rattle.grammar.proofs.FollowingLaws.{Leads, follow_append, origin_of, pushed}
+use Rattle.grammar.proofs.StandingLaws.{stands_then}
+use Rattle.parsing.specs.Room.{HasRoom}
+use Rattle.expressions.specs.Telling.{MayFollowAll}
+
+-- what stands in front of others in a beginning is one too
+
+guarded_front : (b : Bool) (whole front : Option Opened) → (IsTrue (is_some whole) → IsTrue (is_some front)) →
+    IsTrue (is_some (if b then whole else None)) → IsTrue (is_some (if b then front else None))
+guarded_front true whole front again h = again h
+guarded_front false whole front again h = h
+
+front_then : (xs ys : List Action) (next : Option Opened) → ((p : Opened) → IsTrue (is_some (follow_all (xs ++ ys) p)) → IsTrue (is_some (follow_all xs p))) →
+    IsTrue (is_some (then_follow (follow_all (xs ++ ys)) next)) → IsTrue (is_some (then_follow (follow_all xs) next))
+front_then xs ys None again h = h
+front_then xs ys (Some p) again h = guarded_front (few_open p) (follow_all (xs ++ ys) p) (follow_all xs p) (again p) h
+
+front_of : (xs ys : List Action) (o : Opened) → IsTrue (is_some (follow_all (xs ++ ys) o)) → IsTrue (is_some (follow_all xs o))
+front_of [] ys o h = refl
+front_of (x ∷ xs) ys o h = front_then xs ys (follow x o) (λ p. front_of xs ys p) h
+
+-- the first of several actions
+pub first_follows : (before : Meaning) (action : Action) (more : List Action) → MayFollowAll before (action ∷ more) → MayFollow before action
+first_follows before action more f = record {
+  profile = f.profile;
+  acts = f.acts;
+  stood = f.stood;
+  begins = front_of (f.acts ++ action ∷ []) more [] (subst (λ (xs : List Action). IsBeginning xs) (sym (append_assoc f.acts (action ∷ []) more)) f.begins);
+}
+
+-- the others, once the first were told
+pub others_follow : (before now : Meaning) (acts more : List Action) → MayFollowAll before (acts ++ more) → AppendsAll before now acts → MayFollowAll now more
+others_follow before now acts more f told = record {
+  profile = f.profile;
+  acts = f.acts ++ acts;
+  stood = told f.profile f.acts f.stood;
+  begins = subst (λ (xs : List Action). IsBeginning xs) (sym (append_assoc f.acts acts more)) f.begins;
+}
+
+-- one behind others that were told
+pub next_follows : (before now : Meaning) (acts : List Action) (action : Action) (more : List Action) → MayFollowAll before (acts ++ action ∷ more) → AppendsAll before now acts → MayFollow now action
+next_follows before now acts action more f told = first_follows now action more (others_follow before now acts (action ∷ more) f told)
+
+-- actions that lead on from what is open
+pub all_follow : (before : Meaning) (opened next : Opened) (more : List Action) → StandsOpen before opened → Leads more opened next → MayFollowAll before more
+all_follow before opened next more s leads = record {
+  profile = s.profile;
+  acts = s.acts;
+  stood = s.stood;
+  begins = rw (follow_append s.acts more [] opened s.opens ∙ leads.is) refl;
+}
+
+-- actions told one behind another
+pub appends_then : (before mid after : Meaning) (xs ys : List Action) → AppendsAll before mid xs → AppendsAll mid after ys → AppendsAll before after (xs ++ ys)
+appends_then before mid after xs ys a b profile acts stood =
+    subst (λ (zs : List Action). after profile zs) (append_assoc acts xs ys) (b profile (acts ++ xs) (a profile acts stood))
+
+-- room for less
+pub room_within : (before : Meaning) (m n : ℕ) → HasRoom before n → m ≤ n → HasRoom before m
+room_within before m n h less = record { outer = h.outer; opened = h.opened; stands = h.stands; few = few }
+  where
+    few : open_count (h.outer ∷ h.opened) + m ≤ 200
+    few = let most : open_count (h.outer ∷ h.opened) + n ≤ 200 = h.few in omega arith
+
+-- room behind actions
+pub room_behind : (before now : Meaning) (n : ℕ) (acts : List Action) (opened : Opened) (inner : Open) (next : Opened) → StandsOpen before opened → AppendsAll before now acts →
+    Leads acts opened (inner ∷ next) → open_count (inner ∷ next) + n ≤ 200 → HasRoom now n
+room_behind before now n acts opened inner next s told leads small = record {
+  outer = inner;
+  opened = next;
+  stands = stands_then before now acts opened (inner ∷ next) told s leads.is;
+  few = small;
+}
+
+-- room behind the values of arguments
+pub room_behind_args : (now : Meaning) (n : ℕ) (args : Args) (outer : Open) (o : Opened) → StandsOpen now (pushed args (outer ∷ o)) → open_count (outer ∷ o) + n ≤ 200 → HasRoom now n
+room_behind_args now n NoMore outer o s small = record { outer = outer; opened = o; stands = s; few = small }
+room_behind_args now n (Argument e rest) outer o s small = room_behind_args now n rest (AValue (origin_of e)) (outer ∷ o) s (omega arith)

@@ -1,0 +1,46 @@
+-- What the parse of an expression did: the builder was told the actions of a tree, and the derivation made the same tree.
+use Rattle.std.specs.Prelude.{ℕ, ◌+◌, ◌≤◌, List, [], ◌∷◌, ◌++◌}
+use Rattle.grammar.specs.declared.diagnostics.Diagnostic.{Diagnostic}
+use Rattle.grammar.specs.declared.names.Callee.{Callee}
+use Rattle.grammar.specs.declared.operators.Op.{Op}
+use Rattle.grammar.specs.Actions.{Apply, args_actions, expr_actions, middle}
+use Rattle.grammar.specs.Building.{Meaning, AppendsAll}
+use Rattle.grammar.specs.Derivation.{ACall, AnExpr}
+use Rattle.grammar.specs.Grammar.{Item, Arguments, Part, Tail}
+use Rattle.grammar.specs.Nesting.{args_nesting, nesting, right_side}
+use Rattle.grammar.specs.Resolved.{InArgs, InExpr}
+use Rattle.grammar.specs.Tree.{Args, Binary, Expr, NoMore}
+use Rattle.parsing.specs.Position.{Place}
+use Rattle.parsing.specs.Room.{room}
+use Rattle.parsing.specs.Stretch.{Derives, FailsAt}
+
+-- An expression was read, by the items in front, of operators from a level on, with so many levels of nesting open.
+pub record AddsExpr (before after : Meaning) (depth level : ℕ) (front pending : List Item) (here there : Place) : Type 0 where
+  pub tree : Expr
+  pub numbered : InExpr 64 64 64 tree
+  pub narrow : nesting tree ≤ room depth level
+  pub added : AppendsAll before after (expr_actions tree)
+  pub derives : Derives depth front pending [] (AnExpr tree ∷ []) here there
+
+-- One further operator was read with its right side, whatever its left side is.
+pub record AddsOperand (before after : Meaning) (depth level : ℕ) (op : Op) (here there : Place) : Type 0 where
+  pub right : Expr
+  pub numbered : InExpr 64 64 64 right
+  pub narrow : right_side op + nesting right ≤ room depth level
+  pub added : AppendsAll before after (middle op ++ (expr_actions right ++ Apply op ∷ []))
+  pub derives : (left : Expr) → Derives depth (Part (Tail level) ∷ []) (Part (Tail level) ∷ []) (AnExpr left ∷ []) (AnExpr (Binary op left right) ∷ []) here there
+
+-- The first fault from there on, whatever the left side is.
+abbrev pub FailsOperand : ℕ → ℕ → Place → Diagnostic → Type 0
+FailsOperand depth level here d = (left : Expr) → FailsAt depth (Part (Tail level) ∷ []) (AnExpr left ∷ []) here d
+
+-- The arguments of a call were read, whatever it calls.
+pub record AddsArgs (before after : Meaning) (depth : ℕ) (front pending : List Item) (here there : Place) : Type 0 where
+  pub tree : Args
+  pub numbered : InArgs 64 64 64 tree
+  pub narrow : args_nesting tree ≤ room depth 1
+  pub added : AppendsAll before after (args_actions tree)
+  pub derives : (callee : Callee) → Derives depth front pending (ACall callee NoMore ∷ []) (ACall callee tree ∷ []) here there
+
+abbrev pub FailsArgs : ℕ → Place → Diagnostic → Type 0
+FailsArgs depth here d = (callee : Callee) → FailsAt depth (Part Arguments ∷ []) (ACall callee NoMore ∷ []) here d

@@ -1,0 +1,9 @@
+//! Expressions: from the tokens to a builder, in the order of the grammar.
+#![tactic(auto)]
+
+mod expressions;
+mod signs;
+mod soundness;
+mod variables;
+
+pub use expressions::expression;

@@ -1,0 +1,116 @@
+//! The operators before an operand, and `++` and `--`.
+
+ghost use Rattle.std.specs.Prelude.{◌≡◌, [], ◌∷◌, IfNone, IfSome, OnOk, false, true};
+ghost use Rattle.grammar.specs.Actions.{Apply, Push};
+ghost use Rattle.grammar.specs.Building.{AppendsAll, Refuses};
+ghost use Rattle.grammar.specs.Grammar.{is_mark};
+ghost use Rattle.expressions.specs.Signs.{before_operand, behind_operand, sign_mark, step_mark, step_store};
+ghost use Rattle.expressions.specs.Telling.{MayFollowAll};
+
+use grammar::{Build, BuildFault, Op, StoreOp};
+use tokens::{Mark, Token};
+
+/// An operator before an operand.
+#[derive(Clone, Copy, Debug, PartialEq, Eq)]
+pub enum Sign {
+    /// `-`
+    Negation,
+    /// `!`
+    Denial,
+    /// `~`
+    Complement,
+}
+
+/// What goes a variable up or down by one.
+#[derive(Clone, Copy, Debug, PartialEq, Eq)]
+pub enum Step {
+    /// `++`
+    Up,
+    /// `--`
+    Down,
+}
+
+/// The operator before an operand that a token spells.
+pub fn sign_of(token: &Token) -> Option<Sign>
+    ensures spelled { IfSome result (λ sign. is_mark (sign_mark sign) token.now ≡ true) }
+    ensures none { IfNone result ((sign : Sign) → is_mark (sign_mark sign) token.now ≡ false) }
+{
+    match *token {
+        Token::Mark(Mark::Minus) => Some(Sign::Negation),
+        Token::Mark(Mark::Not) => Some(Sign::Denial),
+        Token::Mark(Mark::Tilde) => Some(Sign::Complement),
+        _ => None,
+    }
+}
+
+/// Whether a token is `++` or `--`, and which.
+pub fn step_of(token: &Token) -> Option<Step>
+    ensures spelled { IfSome result (λ step. is_mark (step_mark step) token.now ≡ true) }
+    ensures none { IfNone result ((step : Step) → is_mark (step_mark step) token.now ≡ false) }
+{
+    match *token {
+        Token::Mark(Mark::PlusPlus) => Some(Step::Up),
+        Token::Mark(Mark::MinusMinus) => Some(Step::Down),
+        _ => None,
+    }
+}
+
+impl Step {
+    /// How the step is spelled.
+    pub fn mark(self) -> Mark
+        ensures { result ≡ step_mark self }
+    {
+        match self {
+            Step::Up => Mark::PlusPlus,
+            Step::Down => Mark::MinusMinus,
+        }
+    }
+
+    /// The store of 1 that makes the step.
+    pub fn store(self) -> StoreOp
+        ensures { result ≡ step_store self }
+    {
+        match self {
+            Step::Up => StoreOp::Add,
+            Step::Down => StoreOp::Subtract,
+        }
+    }
+}
+
+impl Sign {
+    /// Tells the builder what stands before the operand.
+    pub fn begin<B: Build>(self, build: &mut B) -> Result<(), BuildFault>
+        requires follow { MayFollowAll (B.stands build.old) (before_operand self) }
+        ensures told { OnOk result (AppendsAll (B.stands build.old) (B.stands build.new) (before_operand self)) }
+        ensures memory { Refuses result B.allocates }
+    {
+        if self == Sign::Negation {
+            build.constant(0)?;
+        }
+        Ok(())
+    }
+
+    /// Tells the builder what stands behind the operand.
+    pub fn end<B: Build>(self, build: &mut B) -> Result<(), BuildFault>
+        requires follow { MayFollowAll (B.stands build.old) (behind_operand self) }
+        ensures told { OnOk result (AppendsAll (B.stands build.old) (B.stands build.new) (behind_operand self)) }
+        ensures memory { Refuses result B.allocates }
+    {
+        match self {
+            Sign::Negation => build.binop(Op::Subtract),
+            Sign::Denial => compare(build, 0, Op::Equal),
+            Sign::Complement => compare(build, -1, Op::BitXor),
+        }
+    }
+}
+
+/// A constant, and the operator of the last value and it.
+fn compare<B: Build>(build: &mut B, value: i32, op: Op) -> Result<(), BuildFault>
+    requires follow { MayFollowAll (B.stands build.old) (Push value ∷ Apply op ∷ []) }
+    ensures told { OnOk result (AppendsAll (B.stands build.old) (B.stands build.new) (Push value ∷ Apply op ∷ [])) }
+    ensures memory { Refuses result B.allocates }
+{
+    build.constant(value)?;
+    build.binop(op)?;
+    Ok(())
+}

@@ -1,0 +1,112 @@
+-- What it takes to match one item, and what happens where the next token doesn't fit.
+use Rattle.std.proofs.Common.{◌≡◌, ℕ, List, [], ◌∷◌, refl, true, false}
+use Rattle.std.specs.Prelude.{Option, Some}
+use Rattle.tokens.specs.Reading.{Reading}
+use Rattle.tokens.specs.declared.lexemes.Lexeme.{Lexeme}
+use Rattle.tokens.specs.declared.lexemes.Mark.{Mark}
+use Rattle.tokens.specs.declared.lexemes.Token.TheVariants as token
+use Rattle.tokens.specs.declared.lexemes.Word.{Word}
+use Rattle.grammar.specs.declared.diagnostics.Code.{Code}
+use Rattle.grammar.specs.declared.diagnostics.ParseFault.{ParseFault}
+use Rattle.grammar.specs.declared.diagnostics.Diagnostic.{Diagnostic}
+use Rattle.grammar.specs.Compiled.{diagnostic}
+use Rattle.grammar.specs.Derivation.{Value, name_of_token, of_name}
+use Rattle.grammar.specs.Faults.{misfit_code}
+use Rattle.grammar.specs.Grammar.{Exactly, AWord, AName, Role, is_mark, is_word, is_fault}
+use Rattle.grammar.specs.Naming.{Knows, RefusesName}
+use Rattle.grammar.specs.Scope.{Scope}
+use Rattle.grammar.proofs.Firsts.{name_fails, no_mark, no_name, no_word}
+use Rattle.grammar.proofs.Steps.{mark, name, word}
+use Rattle.parsing.specs.declared.roles.Declared.{Declared}
+use Rattle.parsing.specs.declared.roles.Declared.TheVariants as kind
+use Rattle.parsing.specs.Position.{Place, place, next_at, scope_at}
+use Rattle.parsing.specs.Roles.{role_of}
+use Rattle.parsing.specs.Stretch.{DerivesItem, FailsItem, GoesPast, IsNoName, Refused, StopsAt}
+use Rattle.parsing.proofs.Stretches.{Begins, Leads, past, stops, told_begins}
+
+mark_leads : (lexeme : Lexeme) (m : Mark) (depth : ℕ) (known : Scope) (rest : List Lexeme) → is_fault lexeme.token ≡ false → is_mark m lexeme.token ≡ true →
+    Leads depth (Exactly m ∷ []) [] [] [] known known (lexeme ∷ rest) rest
+mark_leads lexeme m depth known rest sound fits = record { passes = λ profile stack values functions depths. mark profile m stack (lexeme ∷ rest) values known functions sound fits }
+
+pub mark_derives : (reading : Reading) (known : Scope) (more : Option (List ℕ)) (there : Place) (m : Mark) → is_fault reading.next.token ≡ false → is_mark m reading.next.token ≡ true →
+    GoesPast (place (record { reading = reading; scope = known }) more) there → DerivesItem (Exactly m) [] [] (place (record { reading = reading; scope = known }) more) there
+mark_derives reading known more there m sound fits goes depth =
+    past reading known known more there depth (Exactly m ∷ []) [] [] [] goes (λ rest b. mark_leads reading.next m depth known rest sound fits)
+
+pub mark_stops : (reading : Reading) (known : Scope) (more : Option (List ℕ)) (m : Mark) → is_fault reading.next.token ≡ false → is_mark m reading.next.token ≡ true → (d : Diagnostic) →
+    StopsAt (place (record { reading = reading; scope = known }) more) d → FailsItem (Exactly m) (place (record { reading = reading; scope = known }) more) d
+mark_stops reading known more m sound fits d stop depth =
+    stops reading known known more d depth (Exactly m ∷ []) [] [] [] (λ rest b. mark_leads reading.next m depth known rest sound fits) stop
+
+pub mark_misfits : (at : Place) (m : Mark) → is_fault (next_at at).token ≡ false → is_mark m (next_at at).token ≡ false →
+    FailsItem (Exactly m) at (diagnostic (next_at at).line (misfit_code (next_at at).token))
+mark_misfits at m sound misses depth lexemes is profile stack values functions depths =
+    let b : Begins at.position.reading lexemes = told_begins at lexemes is in
+    rw b.is (no_mark profile m stack (next_at at ∷ b.tail) values (scope_at at) functions sound misses)
+
+word_leads : (lexeme : Lexeme) (w : Word) (depth : ℕ) (known : Scope) (rest : List Lexeme) → is_fault lexeme.token ≡ false → is_word w lexeme.token ≡ true →
+    Leads depth (AWord w ∷ []) [] [] [] known known (lexeme ∷ rest) rest
+word_leads lexeme w depth known rest sound fits = record { passes = λ profile stack values functions depths. word profile w stack (lexeme ∷ rest) values known functions sound fits }
+
+pub word_derives : (reading : Reading) (known : Scope) (more : Option (List ℕ)) (there : Place) (w : Word) → is_fault reading.next.token ≡ false → is_word w reading.next.token ≡ true →
+    GoesPast (place (record { reading = reading; scope = known }) more) there → DerivesItem (AWord w) [] [] (place (record { reading = reading; scope = known }) more) there
+word_derives reading known more there w sound fits goes depth =
+    past reading known known more there depth (AWord w ∷ []) [] [] [] goes (λ rest b. word_leads reading.next w depth known rest sound fits)
+
+pub word_stops : (reading : Reading) (known : Scope) (more : Option (List ℕ)) (w : Word) → is_fault reading.next.token ≡ false → is_word w reading.next.token ≡ true → (d : Diagnostic) →
+    StopsAt (place (record { reading = reading; scope = known }) more) d → FailsItem (AWord w) (place (record { reading = reading; scope = known }) more) d
+word_stops reading known more w sound fits d stop depth =
+    stops reading known known more d depth (AWord w ∷ []) [] [] [] (λ rest b. word_leads reading.next w depth known rest sound fits) stop
+
+pub word_misfits : (at : Place) (w : Word) → is_fault (next_at at).token ≡ false → is_word w (next_at at).token ≡ false →
+    FailsItem (AWord w) at (diagnostic (next_at at).line (misfit_code (next_at at).token))
+word_misfits at w sound misses depth lexemes is profile stack values functions depths =
+    let b : Begins at.position.reading lexemes = told_begins at lexemes is in
+    rw b.is (no_word profile w stack (next_at at ∷ b.tail) values (scope_at at) functions sound misses)
+
+-- Names.
+
+name_leads : (lexeme : Lexeme) (role : Role) (bytes : List ℕ) (depth : ℕ) (known learnt : Scope) (rest : List Lexeme) → lexeme.token ≡ token.Name bytes → Knows role bytes lexeme.line known learnt →
+    Leads depth (AName role ∷ []) [] [] (of_name role bytes known) known learnt (lexeme ∷ rest) rest
+name_leads lexeme role bytes depth known learnt rest is knows = record {
+  passes = λ profile stack values functions depths.
+      let found : name_of_token lexeme.token ≡ Some bytes = rw is refl in
+      rw knows.behind (name profile role bytes stack (lexeme ∷ rest) values known functions (rw is refl) found (knows.clean (lexeme ∷ rest)));
+}
+
+-- a name was matched in its role
+pub name_derives : (reading : Reading) (known learnt : Scope) (more : Option (List ℕ)) (there : Place) (role : Role) (bytes : List ℕ) (left : List Value) → reading.next.token ≡ token.Name bytes →
+    Knows role bytes reading.next.line known learnt → left ≡ of_name role bytes known → GoesPast (place (record { reading = reading; scope = learnt }) more) there →
+    DerivesItem (AName role) [] left (place (record { reading = reading; scope = known }) more) there
+name_derives reading known learnt more there role bytes left is knows same goes depth =
+    rw same (past reading known learnt more there depth (AName role ∷ []) [] [] (of_name role bytes known) goes (λ rest b. name_leads reading.next role bytes depth known learnt rest is knows))
+
+-- the token behind it is a fault
+pub name_stops : (reading : Reading) (known learnt : Scope) (more : Option (List ℕ)) (role : Role) (bytes : List ℕ) → reading.next.token ≡ token.Name bytes →
+    Knows role bytes reading.next.line known learnt → (d : Diagnostic) → StopsAt (place (record { reading = reading; scope = learnt }) more) d →
+    FailsItem (AName role) (place (record { reading = reading; scope = known }) more) d
+name_stops reading known learnt more role bytes is knows d stop depth =
+    stops reading known learnt more d depth (AName role ∷ []) [] [] (of_name role bytes known) (λ rest b. name_leads reading.next role bytes depth known learnt rest is knows) stop
+
+-- the name has a fault in its role
+pub name_refused : (at : Place) (role : Role) (bytes : List ℕ) (c : Code) → (next_at at).token ≡ token.Name bytes → RefusesName role bytes (scope_at at) c →
+    FailsItem (AName role) at (diagnostic (next_at at).line c)
+name_refused at role bytes c is fails depth lexemes shows profile stack values functions depths =
+    let b : Begins at.position.reading lexemes = told_begins at lexemes shows in
+    rw b.is (name_fails profile role bytes c stack (next_at at) b.tail values (scope_at at) functions (rw is refl) (rw is refl) (fails (next_at at ∷ b.tail)))
+
+-- there is no name
+pub name_misfits : (at : Place) (role : Role) (f : ParseFault) → IsNoName (next_at at) f → Refused (FailsItem (AName role) at) false f
+name_misfits at role f none = rw none.is (fails)
+  where
+    fails : FailsItem (AName role) at (diagnostic (next_at at).line (misfit_code (next_at at).token))
+    fails depth lexemes shows profile stack values functions depths =
+        let b : Begins at.position.reading lexemes = told_begins at lexemes shows in
+        rw b.is (no_name profile role stack (next_at at ∷ b.tail) values (scope_at at) functions none.sound none.other)
+
+-- a name that is declared makes no tree
+pub no_tree : (bytes : List ℕ) (known : Scope) (declared : Declared) → [] ≡ of_name (role_of declared) bytes known
+no_tree bytes known kind.Externals = refl
+no_tree bytes known kind.Parameters = refl
+no_tree bytes known kind.TypedParameters = refl
+no_tree bytes known kind.Locals = refl

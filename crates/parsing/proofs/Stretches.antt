@@ -1,0 +1,213 @@
+-- Stretches of the derivation between two places of a parser.
+use Rattle.std.proofs.Common.{◌≡◌, ℕ, List, [], ◌∷◌, ◌++◌, refl, sym, ap, ◌∙◌, subst, Bool, true, false, append_assoc}
+use Rattle.std.specs.Prelude.{Option, Some, None, cond}
+use Rattle.tokens.specs.Reading.{Reading, shown}
+use Rattle.tokens.specs.Tokens.{is_last, followed_by}
+use Rattle.tokens.specs.declared.lexemes.Lexeme.{Lexeme}
+use Rattle.tokens.specs.declared.lexemes.Token.{Token}
+use Rattle.grammar.specs.declared.diagnostics.Diagnostic.{Diagnostic}
+use Rattle.grammar.specs.declared.diagnostics.ParseFault.{ParseFault}
+use Rattle.grammar.specs.declared.diagnostics.ParseFault.TheVariants as refusal
+use Rattle.grammar.specs.Compiled.{diagnostic}
+use Rattle.grammar.specs.Derivation.{state, Value, Definition, next_of, line_of}
+use Rattle.grammar.specs.Faults.{misfit_code, levels}
+use Rattle.grammar.specs.Grammar.{Item, is_fault}
+use Rattle.grammar.specs.Parsing.{Passes}
+use Rattle.grammar.specs.Profile.{Profile}
+use Rattle.grammar.specs.Scope.{Scope}
+use Rattle.grammar.proofs.Runs.{then, back, here}
+use Rattle.grammar.proofs.Firsts.{at_fault}
+use Rattle.parsing.specs.Position.{Position, Place, place, GoesOn, tokens_at, next_at, scope_at}
+use Rattle.parsing.specs.Stretch.{Derives, FailsAt, FailsItem, GoesPast, Refused, StopsAt, Takes}
+
+-- The tokens at a place.
+
+-- the token behind the next one, where the next isn't the last
+pub record IsBehind (r : Reading) (tail : List Lexeme) : Type 0 where
+  pub others : List Lexeme
+  pub is : is_last r.next.token ≡ false → tail ≡ r.after ∷ others
+
+-- the tokens begin with the next one
+pub record Begins (r : Reading) (lexemes : List Lexeme) : Type 0 where
+  pub tail : List Lexeme
+  pub is : lexemes ≡ r.next ∷ tail
+  pub behind : IsBehind r tail
+
+-- tokens, if there are any behind this one
+abbrev until_last : Token → List Lexeme → List Lexeme
+until_last t others = cond (is_last t) [] others
+
+pub goes_begins : (at : Place) (rest : List Lexeme) → GoesOn at rest → Begins at.position.reading rest
+goes_begins at rest g = record {
+  tail = until_last (next_at at).token (followed_by at.position.reading.after g.behind);
+  is = g.is;
+  behind = record { others = until_last at.position.reading.after.token g.behind; is = λ more. rw more refl };
+}
+
+some_same : {A : Type 0} → (x y : A) → Some x ≡ Some y → x ≡ y
+some_same x y e = cc
+
+goes_told : (position : Position) (more : Option (List ℕ)) (lexemes : List Lexeme) → shown position.reading more ≡ Some lexemes → GoesOn (place position more) lexemes
+goes_told position None lexemes e = absurd (cc)
+goes_told position (Some bytes) lexemes e = record { behind = _; is = sym (some_same _ _ e) }
+
+reached_by : (position : Position) (more other : Option (List ℕ)) (rest : List Lexeme) → GoesOn (place position more) rest → GoesOn (place position other) rest
+reached_by position more other rest g = record { behind = g.behind; is = g.is }
+
+-- tokens that are told are such as the place may have
+pub told_goes : (at : Place) (lexemes : List Lexeme) → tokens_at at ≡ Some lexemes → GoesOn at lexemes
+told_goes at lexemes e =
+    let g : GoesOn (place at.position at.to_come) lexemes = goes_told at.position at.to_come lexemes e in
+    record { behind = g.behind; is = g.is }
+
+pub told_begins : (at : Place) (lexemes : List Lexeme) → tokens_at at ≡ Some lexemes → Begins at.position.reading lexemes
+told_begins at lexemes e = goes_begins at lexemes (told_goes at lexemes e)
+
+-- Steps of the derivation.
+
+-- these items in front, with these trees on top and these names known, pass to those, whatever stands below and behind
+pub record Leads (depth : ℕ) (front pending : List Item) (taken left : List Value) (known learnt : Scope) (lexemes rest : List Lexeme) : Type 0 where
+  pub passes : (profile : Profile) (stack : List Item) (values : List Value) (functions : List Definition) → levels stack ≡ depth →
+      Passes profile (state (front ++ stack) lexemes (taken ++ values) known functions) (state (pending ++ stack) rest (left ++ values) learnt functions)
+
+-- no token is passed
+pub stand : (at : Place) (depth : ℕ) (front pending : List Item) (taken left : List Value) →
+    ((tail : List Lexeme) → IsBehind at.position.reading tail → Leads depth front pending taken left (scope_at at) (scope_at at) (next_at at ∷ tail) (next_at at ∷ tail)) →
+    Derives depth front pending taken left at at
+stand at depth front pending taken left leads = record {
+  consumed = [];
+  told = λ lexemes is. record { rest = lexemes; is = refl; shows = is };
+  follows = λ rest g. g;
+  passes = λ rest g profile stack values functions depths.
+      let b : Begins at.position.reading rest = goes_begins at rest g in
+      subst (λ (ls : List Lexeme). Passes profile (state (front ++ stack) ls (taken ++ values) (scope_at at) functions) (state (pending ++ stack) ls (left ++ values) (scope_at at) functions))
+      (sym b.is) ((leads b.tail b.behind).passes profile stack values functions depths);
+}
+
+-- nothing happens
+pub stay : (at : Place) (depth : ℕ) (front : List Item) (taken : List Value) → Derives depth front front taken taken at at
+stay at depth front taken = stand at depth front front taken taken (λ tail b. record { passes = λ profile stack values functions depths. here profile _ })
+
+with_scope : Reading → Scope → Option (List ℕ) → Place
+with_scope reading scope more = place (record { reading = reading; scope = scope }) more
+
+behind_past : (reading : Reading) (learnt : Scope) (more : Option (List ℕ)) (there : Place) → GoesPast (place (record { reading = reading; scope = learnt }) more) there →
+    (rest : List Lexeme) → GoesOn there rest → IsBehind reading rest
+behind_past reading learnt more there goes rest g = record {
+  others = until_last reading.after.token (followed_by there.position.reading.after g.behind);
+  is = λ last. g.is ∙ rw goes.next refl;
+}
+
+follows_past : (reading : Reading) (known learnt : Scope) (more : Option (List ℕ)) (there : Place) → GoesPast (place (record { reading = reading; scope = learnt }) more) there →
+    (rest : List Lexeme) → GoesOn there rest → GoesOn (place (record { reading = reading; scope = known }) more) (reading.next ∷ rest)
+follows_past reading known learnt more there goes rest g =
+    let last : is_last reading.next.token ≡ false = goes.more in
+    record {
+      behind = followed_by there.position.reading.after g.behind;
+      is = rw last (ap (λ (ls : List Lexeme). reading.next ∷ ls) (g.is ∙ rw goes.next refl));
+    }
+
+takes_past : (reading : Reading) (known learnt : Scope) (more : Option (List ℕ)) (there : Place) → GoesPast (place (record { reading = reading; scope = learnt }) more) there →
+    (lexemes : List Lexeme) → tokens_at (place (record { reading = reading; scope = known }) more) ≡ Some lexemes → Takes (reading.next ∷ []) lexemes there
+takes_past reading known learnt more there goes lexemes is =
+    let b : Begins reading lexemes = told_begins (place (record { reading = reading; scope = known }) more) lexemes is in
+    record { rest = b.tail; is = b.is; shows = goes.told reading.next b.tail (is ∙ ap Some b.is) }
+
+-- one token is passed, behind which these names are known
+pub past : (reading : Reading) (known learnt : Scope) (more : Option (List ℕ)) (there : Place) (depth : ℕ) (front pending : List Item) (taken left : List Value) →
+    GoesPast (place (record { reading = reading; scope = learnt }) more) there →
+    ((rest : List Lexeme) → IsBehind reading rest → Leads depth front pending taken left known learnt (reading.next ∷ rest) rest) →
+    Derives depth front pending taken left (place (record { reading = reading; scope = known }) more) there
+past reading known learnt more there depth front pending taken left goes leads = record {
+  consumed = reading.next ∷ [];
+  told = takes_past reading known learnt more there goes;
+  follows = follows_past reading known learnt more there goes;
+  passes = λ rest g profile stack values functions depths.
+      let b : IsBehind reading rest = behind_past reading learnt more there goes rest g in
+      subst (λ (s : Scope). Passes profile (state (front ++ stack) (reading.next ∷ rest) (taken ++ values) known functions) (state (pending ++ stack) rest (left ++ values) s functions))
+      (sym goes.scope) ((leads rest b).passes profile stack values functions depths);
+}
+
+-- the token behind the one that was passed is a fault
+pub stops : (reading : Reading) (known learnt : Scope) (more : Option (List ℕ)) (d : Diagnostic) (depth : ℕ) (front pending : List Item) (taken left : List Value) →
+    ((rest : List Lexeme) → IsBehind reading rest → Leads depth front pending taken left known learnt (reading.next ∷ rest) rest) →
+    StopsAt (place (record { reading = reading; scope = learnt }) more) d → FailsAt depth front taken (place (record { reading = reading; scope = known }) more) d
+stops reading known learnt more d depth front pending taken left leads stop lexemes is profile stack values functions depths =
+    let b : Begins reading lexemes = told_begins (place (record { reading = reading; scope = known }) more) lexemes is in
+    let behind : b.tail ≡ reading.after ∷ b.behind.others = b.behind.is stop.more in
+    let same : d ≡ diagnostic (line_of b.tail) (misfit_code (next_of b.tail)) = stop.is ∙ rw behind refl in
+    let flaw : is_fault (next_of b.tail) ≡ true = rw behind stop.flaw in
+    rw (b.is, same) (back profile _ _ _ ((leads b.tail b.behind).passes profile stack values functions depths) (at_fault profile _ b.tail _ learnt functions flaw))
+
+-- Stretches one behind another.
+
+takes_join : (first second lexemes : List Lexeme) (between there : Place) (t : Takes first lexemes between) → Takes second t.rest there → Takes (first ++ second) lexemes there
+takes_join first second lexemes between there t u = record {
+  rest = u.rest;
+  is = t.is ∙ ap (λ (ls : List Lexeme). first ++ ls) u.is ∙ sym (append_assoc first second u.rest);
+  shows = u.shows;
+}
+
+-- the second over more items and trees
+pub joined : (depth inner : ℕ) (front mid pending below : List Item) (taken between left under : List Value) (at now there : Place) →
+    Derives depth front (mid ++ below) taken (between ++ under) at now → Derives inner mid pending between left now there →
+    ((stack : List Item) → levels stack ≡ depth → levels (below ++ stack) ≡ inner) →
+    Derives depth front (pending ++ below) taken (left ++ under) at there
+joined depth inner front mid pending below taken between left under at now there a b opens = record {
+  consumed = a.consumed ++ b.consumed;
+  told = λ lexemes is.
+      let t : Takes a.consumed lexemes now = a.told lexemes is in
+      takes_join a.consumed b.consumed lexemes now there t (b.told t.rest t.shows);
+  follows = λ rest g. subst (λ (ls : List Lexeme). GoesOn at ls) (sym (append_assoc a.consumed b.consumed rest)) (a.follows _ (b.follows rest g));
+  passes = λ rest g profile stack values functions depths.
+      rw (append_assoc a.consumed b.consumed rest)
+      (then profile _ _ _
+      (a.passes (b.consumed ++ rest) (b.follows rest g) profile stack values functions depths)
+      (rw (append_assoc mid below stack, append_assoc pending below stack, append_assoc between under values, append_assoc left under values)
+      (b.passes rest g profile (below ++ stack) (under ++ values) functions (opens stack depths))));
+}
+
+-- a fault behind a stretch
+pub fails_then : (depth : ℕ) (front mid : List Item) (taken between : List Value) (at now : Place) (d : Diagnostic) →
+    Derives depth front mid taken between at now → FailsAt depth mid between now d → FailsAt depth front taken at d
+fails_then depth front mid taken between at now d a fails lexemes is profile stack values functions depths =
+    let t : Takes a.consumed lexemes now = a.told lexemes is in
+    rw t.is
+    (back profile _ _ d (a.passes t.rest (told_goes now t.rest t.shows) profile stack values functions depths)
+    (fails t.rest t.shows profile stack values functions depths))
+
+-- the same fault, over more items and trees
+pub under_more : (depth inner : ℕ) (front below : List Item) (taken beneath : List Value) (at : Place) (d : Diagnostic) →
+    ((stack : List Item) → levels stack ≡ depth → levels (below ++ stack) ≡ inner) →
+    FailsAt inner front taken at d → FailsAt depth (front ++ below) (taken ++ beneath) at d
+under_more depth inner front below taken beneath at d opens fails lexemes is profile stack values functions depths =
+    rw (append_assoc front below stack, append_assoc taken beneath values)
+    (fails lexemes is profile (below ++ stack) (beneath ++ values) functions (opens stack depths))
+
+-- a fault behind a stretch, over more items and trees
+pub fails_behind : (depth inner : ℕ) (front mid below : List Item) (taken between under : List Value) (at now : Place) (d : Diagnostic) →
+    Derives depth front (mid ++ below) taken (between ++ under) at now → ((stack : List Item) → levels stack ≡ depth → levels (below ++ stack) ≡ inner) →
+    FailsAt inner mid between now d → FailsAt depth front taken at d
+fails_behind depth inner front mid below taken between under at now d a opens fails =
+    fails_then depth front (mid ++ below) taken (between ++ under) at now d a (under_more depth inner mid below between under now d opens fails)
+
+-- Refusals.
+
+pub refused_map : (P Q : Diagnostic → Type 0) (allocates more : Bool) (f : ParseFault) → ((d : Diagnostic) → P d → Q d) → ((allocates ≡ true) → more ≡ true) → Refused P allocates f → Refused Q more f
+refused_map P Q allocates more (refusal.Source d) each memory h = each d h
+refused_map P Q allocates more refusal.Device each memory h = tt
+refused_map P Q allocates more refusal.Memory each memory h = memory h
+
+-- a refusal of a callee behind a stretch is one of the caller's
+pub exit : (depth inner : ℕ) (front mid below : List Item) (taken between under : List Value) (at now : Place) (allocates more : Bool) (f : ParseFault) →
+    Derives depth front (mid ++ below) taken (between ++ under) at now → ((stack : List Item) → levels stack ≡ depth → levels (below ++ stack) ≡ inner) →
+    ((allocates ≡ true) → more ≡ true) → Refused (FailsAt inner mid between now) allocates f → Refused (FailsAt depth front taken at) more f
+exit depth inner front mid below taken between under at now allocates more f a opens memory =
+    refused_map _ _ allocates more f (λ d. fails_behind depth inner front mid below taken between under at now d a opens) memory
+
+-- of one that matches an item
+pub exit_item : (depth inner : ℕ) (front : List Item) (item : Item) (below : List Item) (taken under : List Value) (at now : Place) (more : Bool) (f : ParseFault) →
+    Derives depth front (item ∷ below) taken under at now → ((stack : List Item) → levels stack ≡ depth → levels (below ++ stack) ≡ inner) →
+    Refused (FailsItem item now) false f → Refused (FailsAt depth front taken at) more f
+exit_item depth inner front item below taken under at now more f a opens =
+    refused_map _ _ false more f (λ d h. fails_behind depth inner front (item ∷ []) below taken [] under at now d a opens (h inner)) (λ never. absurd (cc))

@@ -1,0 +1,5 @@
+pub mod Position
+pub mod Defining
+pub mod Roles
+pub mod Stretch
+pub mod Room

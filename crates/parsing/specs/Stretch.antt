@@ -1,0 +1,91 @@
+-- What a part of the parser did: a stretch of the derivation without a fault, or the first fault.
+use Rattle.std.specs.Prelude.{ℕ, ◌+◌, ◌≡◌, ◌<◌, List, [], ◌∷◌, ◌++◌, Bool, true, false, Option, Some, None, IsTrue, Result, Ok, Err, length}
+use Rattle.tokens.specs.Tokens.{is_last}
+use Rattle.tokens.specs.declared.lexemes.Lexeme.{Lexeme}
+use Rattle.grammar.specs.declared.diagnostics.Diagnostic.{Diagnostic}
+use Rattle.grammar.specs.declared.diagnostics.ParseFault.{ParseFault}
+use Rattle.grammar.specs.declared.diagnostics.ParseFault.TheVariants as refusal
+use Rattle.grammar.specs.Compiled.{diagnostic}
+use Rattle.grammar.specs.Derivation.{state, Value, Definition, line_of, name_of_token, next_of}
+use Rattle.grammar.specs.Faults.{levels, misfit_code}
+use Rattle.grammar.specs.Grammar.{Item, is_fault}
+use Rattle.grammar.specs.Parsing.{Fails, Passes}
+use Rattle.grammar.specs.Profile.{Profile}
+use Rattle.parsing.specs.Defining.{IsWithin}
+use Rattle.parsing.specs.Position.{Place, Position, GoesOn, tokens_at, next_at, scope_at}
+
+-- the tokens told at a place are those that a stretch took, and then those told behind it
+pub record Takes (consumed lexemes : List Lexeme) (there : Place) : Type 0 where
+  pub rest : List Lexeme
+  pub is : lexemes ≡ consumed ++ rest
+  pub shows : tokens_at there ≡ Some rest
+
+-- From one place to another the derivation goes from these items in front to those, with so many levels open below them,
+-- and leaves these trees in the place of those. It takes the same tokens whether the device tells them or not.
+pub record Derives (depth : ℕ) (front pending : List Item) (taken left : List Value) (here there : Place) : Type 0 where
+  pub consumed : List Lexeme
+  pub told : (lexemes : List Lexeme) → tokens_at here ≡ Some lexemes → Takes consumed lexemes there
+  pub follows : (rest : List Lexeme) → GoesOn there rest → GoesOn here (consumed ++ rest)
+  pub passes : (rest : List Lexeme) → GoesOn there rest → (profile : Profile) (stack : List Item) (values : List Value) (functions : List Definition) →
+      levels stack ≡ depth →
+      Passes profile (state (front ++ stack) (consumed ++ rest) (taken ++ values) (scope_at here) functions) (state (pending ++ stack) rest (left ++ values) (scope_at there) functions)
+
+-- where the tokens are told, the diagnostic is that of the first fault from these items on, with so many levels open
+abbrev pub FailsAt : ℕ → List Item → List Value → Place → Diagnostic → Type 0
+FailsAt depth front taken here d =
+    (lexemes : List Lexeme) → tokens_at here ≡ Some lexemes → (profile : Profile) (stack : List Item) (values : List Value) (functions : List Definition) →
+    levels stack ≡ depth → Fails profile (state (front ++ stack) lexemes (taken ++ values) (scope_at here) functions) d
+
+-- one item was matched or replaced, however many levels are open
+abbrev pub DerivesItem : Item → List Item → List Value → Place → Place → Type 0
+DerivesItem item pending left here there = (depth : ℕ) → Derives depth (item ∷ []) pending [] left here there
+
+abbrev pub FailsItem : Item → Place → Diagnostic → Type 0
+FailsItem item here d = (depth : ℕ) → FailsAt depth (item ∷ []) [] here d
+
+-- one token was passed, and no name became known
+pub record GoesPast (here there : Place) : Type 0 where
+  pub more : is_last (next_at here).token ≡ false
+  pub next : next_at there ≡ here.position.reading.after
+  pub told : (first : Lexeme) (rest : List Lexeme) → tokens_at here ≡ Some (first ∷ rest) → tokens_at there ≡ Some rest
+  pub scope : scope_at there ≡ scope_at here
+
+-- the token behind the next is a fault, which stops any derivation
+pub record StopsAt (here : Place) (d : Diagnostic) : Type 0 where
+  pub more : is_last (next_at here).token ≡ false
+  pub flaw : is_fault here.position.reading.after.token ≡ true
+  pub is : d ≡ diagnostic here.position.reading.after.line (misfit_code here.position.reading.after.token)
+
+-- the first token is a fault
+abbrev pub StopsFirst : Option (List Lexeme) → Diagnostic → Type 0
+StopsFirst told d = (lexemes : List Lexeme) → told ≡ Some lexemes →
+    (is_fault (next_of lexemes) ≡ true) × (d ≡ diagnostic (line_of lexemes) (misfit_code (next_of lexemes)))
+
+-- the token is no name, and is refused for that
+pub record IsNoName (next : Lexeme) (fault : ParseFault) : Type 0 where
+  pub sound : is_fault next.token ≡ false
+  pub other : name_of_token next.token ≡ None
+  pub is : fault ≡ refusal.Source (diagnostic next.line (misfit_code next.token))
+
+-- the definition of the function of this number began
+pub record BeginsDefinition (number : ℕ) (old new : Position) : Type 0 where
+  pub is : new.scope.number ≡ number
+  pub few : number < 64
+  pub mentioned : number < length new.scope.functions
+  pub within : IsWithin old.scope → IsWithin new.scope
+
+-- what a refusal says: of a source its fault, of memory that the builder asks for it
+abbrev pub Refused : (Diagnostic → Type 0) → Bool → ParseFault → Type 0
+Refused fault allocates (refusal.Source d) = fault d
+Refused fault allocates refusal.Device = Unit {0}
+Refused fault allocates refusal.Memory = IsTrue allocates
+
+-- failures of a device, before and behind: one more where it is the device that is answered
+abbrev pub counted : ℕ → ParseFault → ℕ
+counted failures refusal.Device = failures + 1
+counted failures (refusal.Source d) = failures
+counted failures refusal.Memory = failures
+
+abbrev pub Counts : {A : Type 0} → Result A ParseFault → ℕ → ℕ → Type 0
+Counts (Ok x) before behind = behind ≡ before
+Counts (Err e) before behind = behind ≡ counted before e

@@ -1,0 +1,273 @@
+-- What each exit leaves to show: the fault goes back to the start, or the stretches join; and what a builder may be told.
+use Rattle.std.proofs.Common.{◌≡◌, ◌+◌, ◌<◌, ◌≤◌, ◌∙◌, [], ◌∷◌, refl, true, false, arith, rules}
+use Rattle.std.proofs.lemmas.Result.{err_from_is_err_and}
+use Rattle.tokens.specs.declared.lexemes.Mark.TheVariants as mark
+use Rattle.tokens.specs.declared.lexemes.Token.TheVariants as token
+use Rattle.tokens.specs.declared.lexemes.Word.TheVariants as word
+use Rattle.grammar.specs.Grammar.{ElsePart, Make, Part, Repeat, Shut, is_fault, is_mark, is_word}
+use Rattle.parsing.specs.Room.{HasPlace, room}
+use Rattle.parsing.proofs.Stretches.{refused_map}
+use Rattle.statements.proofs.NestedLaws.{block_adds, block_too_deep, brace_fails, brace_stops, branch_adds, declarations_fail, else_adds, else_fails, else_stops, first_fails, if_past, if_shuts, if_stops, if_too_deep, no_else_adds, repetition_adds, second_fails, statements_begin, statements_end, statements_fail, statements_more, test_fails, while_past, while_shuts, while_stops, while_too_deep, within_fails}
+use Rattle.statements.proofs.SimpleLaws.{empty_adds, empty_fails}
+use Rattle.statements.proofs.Tellings.{branch_kept, branch_open, branch_place, else_place, loop_open, loop_room, may_begin_loop, may_end_branch, may_end_loop, may_tell_else, may_test_if, may_test_loop, place_deeper, place_kept, room_in_brackets, turn_open, turn_place}
+use Rattle.statements.proofs.bodies.+statements.Goals as goal
+
+-- Blocks.
+
+pub block-returns-then-depth-ge-MOST_LEVELS-clause-refused : goal.block-returns-then-depth-ge-MOST_LEVELS-clause-refused
+block-returns-then-depth-ge-MOST_LEVELS-clause-refused g t c = rw c.refusal.ensures (block_too_deep _ c.args.depth c.requires.sound c.requires.is (omega arith))
+
+pub block-returns-in_err-advance-clause-refused : goal.block-returns-in_err-advance-clause-refused
+block-returns-in_err-advance-clause-refused g t c =
+    let shallow : c.args.depth < 64 = omega arith in
+    let p = err_from_is_err_and c.from_residual.result c.from_residual.ensures.1 in
+    rw (p.1, p.2) (refused_map _ _ false _ c.in_err-advance.field-0.0 (brace_stops _ c.args.depth c.requires.sound c.requires.is shallow) (λ never. absurd (cc)) c.in_err-advance.ensures.refused)
+
+pub block-returns-in_err-declarations-clause-refused : goal.block-returns-in_err-declarations-clause-refused
+block-returns-in_err-declarations-clause-refused g t c =
+    let shallow : c.args.depth < 64 = omega arith in
+    let p = err_from_is_err_and c.from_residual-in_err-declarations.result c.from_residual-in_err-declarations.ensures.1 in
+    rw (p.1, p.2) (refused_map _ _ false _ c.in_err-declarations.field-0.0 (declarations_fail _ _ c.args.depth c.requires.sound c.requires.is shallow c.in_ok-advance.ensures.passed) (λ never. absurd (cc)) c.in_err-declarations.ensures.refused)
+
+pub block-returns-in_err-statements-clause-refused : goal.block-returns-in_err-statements-clause-refused
+block-returns-in_err-statements-clause-refused g t c =
+    let shallow : c.args.depth < 64 = omega arith in
+    let p = err_from_is_err_and c.from_residual-in_err-statements.result c.from_residual-in_err-statements.ensures.1 in
+    rw (p.1, p.2) (refused_map _ _ _ _ c.in_err-statements.field-0.0 (within_fails _ _ _ c.args.depth c.requires.sound c.requires.is shallow c.in_ok-advance.ensures.passed c.in_ok-declarations.ensures.parsed) (λ same. same) c.in_err-statements.ensures.refused)
+
+pub block-returns-in_err-expect-clause-refused : goal.block-returns-in_err-expect-clause-refused
+block-returns-in_err-expect-clause-refused g t c =
+    let shallow : c.args.depth < 64 = omega arith in
+    let p = err_from_is_err_and c.from_residual-in_err-expect.result c.from_residual-in_err-expect.ensures.1 in
+    rw (p.1, p.2) (refused_map _ _ false _ c.in_err-expect.field-0.0 (brace_fails _ _ _ _ _ _ c.args.depth c.requires.sound c.requires.is shallow c.in_ok-advance.ensures.passed c.in_ok-declarations.ensures.parsed c.in_ok-statements.ensures.parsed) (λ never. absurd (cc)) c.in_err-expect.ensures.refused)
+
+pub block-returns-clause-parsed : goal.block-returns-clause-parsed
+block-returns-clause-parsed g t c =
+    let shallow : c.args.depth < 64 = omega arith in
+    block_adds _ _ _ _ _ _ _ c.args.depth c.requires.sound c.requires.is shallow c.in_ok-advance.ensures.passed c.in_ok-declarations.ensures.parsed c.in_ok-statements.ensures.parsed c.in_ok-expect.ensures.passed c.in_ok-expect.ensures.sound
+
+-- Branches.
+
+pub branch-returns-then-depth-ge-MOST_LEVELS-clause-refused : goal.branch-returns-then-depth-ge-MOST_LEVELS-clause-refused
+branch-returns-then-depth-ge-MOST_LEVELS-clause-refused g t c = rw c.refusal.ensures (if_too_deep _ c.args.depth c.requires.sound c.requires.is (omega arith))
+
+pub branch-returns-in_err-advance-clause-refused : goal.branch-returns-in_err-advance-clause-refused
+branch-returns-in_err-advance-clause-refused g t c =
+    let shallow : c.args.depth < 64 = omega arith in
+    let p = err_from_is_err_and c.from_residual.result c.from_residual.ensures.1 in
+    rw (p.1, p.2) (refused_map _ _ false _ c.in_err-advance.field-0.0 (if_stops _ c.args.depth c.requires.sound c.requires.is shallow) (λ never. absurd (cc)) c.in_err-advance.ensures.refused)
+
+pub branch-returns-in_err-condition-clause-refused : goal.branch-returns-in_err-condition-clause-refused
+branch-returns-in_err-condition-clause-refused g t c =
+    let shallow : c.args.depth < 64 = omega arith in
+    let begun = if_past _ _ c.args.depth c.requires.sound c.requires.is shallow c.in_ok-advance.ensures.passed in
+    let p = err_from_is_err_and c.from_residual-in_err-condition.result c.from_residual-in_err-condition.ensures.1 in
+    rw (p.1, p.2) (refused_map _ _ _ _ c.in_err-condition.field-0.0 (test_fails _ _ c.args.depth (Part ElsePart ∷ Shut ∷ []) if_shuts begun) (λ same. same) c.in_err-condition.ensures.refused)
+
+pub branch-returns-in_err-statement-clause-refused : goal.branch-returns-in_err-statement-clause-refused
+branch-returns-in_err-statement-clause-refused g t c =
+    let shallow : c.args.depth < 64 = omega arith in
+    let begun = if_past _ _ c.args.depth c.requires.sound c.requires.is shallow c.in_ok-advance.ensures.passed in
+    let p = err_from_is_err_and c.from_residual-in_err-statement.result c.from_residual-in_err-statement.ensures.1 in
+    rw (p.1, p.2) (refused_map _ _ _ _ c.in_err-statement.field-0.0 (first_fails _ _ _ _ _ c.args.depth (Part ElsePart ∷ Shut ∷ []) if_shuts begun c.in_ok-condition.ensures.parsed c.in_ok-condition.ensures.sound) (λ same. same) c.in_err-statement.ensures.refused)
+
+pub branch-returns-in_err-else_part-clause-refused : goal.branch-returns-in_err-else_part-clause-refused
+branch-returns-in_err-else_part-clause-refused g t c =
+    let shallow : c.args.depth < 64 = omega arith in
+    let begun = if_past _ _ c.args.depth c.requires.sound c.requires.is shallow c.in_ok-advance.ensures.passed in
+    let p = err_from_is_err_and c.from_residual-in_err-else_part.result c.from_residual-in_err-else_part.ensures.1 in
+    rw (p.1, p.2) (refused_map _ _ _ _ c.in_err-else_part.field-0.0 (second_fails _ _ _ _ _ _ _ _ c.args.depth begun c.in_ok-condition.ensures.parsed c.in_ok-condition.ensures.sound c.in_ok-statement.ensures.parsed) (λ same. same) c.in_err-else_part.ensures.refused)
+
+pub branch-returns-clause-parsed : goal.branch-returns-clause-parsed
+branch-returns-clause-parsed g t c =
+    let shallow : c.args.depth < 64 = omega arith in
+    let begun = if_past _ _ c.args.depth c.requires.sound c.requires.is shallow c.in_ok-advance.ensures.passed in
+    branch_adds _ _ _ _ _ _ _ _ _ _ _ c.args.depth shallow begun c.in_ok-condition.ensures.parsed c.in_ok-condition.ensures.sound c.in_ok-if_test.ensures.ok c.in_ok-statement.ensures.parsed
+    c.in_ok-else_part.ensures.parsed c.in_ok-else_part.ensures.sound c.in_ok-end_if.ensures.ok
+
+-- Loops.
+
+pub repetition-returns-then-depth-ge-MOST_LEVELS-clause-refused : goal.repetition-returns-then-depth-ge-MOST_LEVELS-clause-refused
+repetition-returns-then-depth-ge-MOST_LEVELS-clause-refused g t c = rw c.refusal.ensures (while_too_deep _ c.args.depth c.requires.sound c.requires.is (omega arith))
+
+pub repetition-returns-in_err-advance-clause-refused : goal.repetition-returns-in_err-advance-clause-refused
+repetition-returns-in_err-advance-clause-refused g t c =
+    let shallow : c.args.depth < 64 = omega arith in
+    let p = err_from_is_err_and c.from_residual-in_err-advance.result c.from_residual-in_err-advance.ensures.1 in
+    rw (p.1, p.2) (refused_map _ _ false _ c.in_err-advance.field-0.0 (while_stops _ c.args.depth c.requires.sound c.requires.is shallow) (λ never. absurd (cc)) c.in_err-advance.ensures.refused)
+
+pub repetition-returns-in_err-condition-clause-refused : goal.repetition-returns-in_err-condition-clause-refused
+repetition-returns-in_err-condition-clause-refused g t c =
+    let shallow : c.args.depth < 64 = omega arith in
+    let begun = while_past _ _ c.args.depth c.requires.sound c.requires.is shallow c.in_ok-advance.ensures.passed in
+    let p = err_from_is_err_and c.from_residual-in_err-condition.result c.from_residual-in_err-condition.ensures.1 in
+    rw (p.1, p.2) (refused_map _ _ _ _ c.in_err-condition.field-0.0 (test_fails _ _ c.args.depth (Make Repeat ∷ Shut ∷ []) while_shuts begun) (λ same. same) c.in_err-condition.ensures.refused)
+
+pub repetition-returns-in_err-statement-clause-refused : goal.repetition-returns-in_err-statement-clause-refused
+repetition-returns-in_err-statement-clause-refused g t c =
+    let shallow : c.args.depth < 64 = omega arith in
+    let begun = while_past _ _ c.args.depth c.requires.sound c.requires.is shallow c.in_ok-advance.ensures.passed in
+    let p = err_from_is_err_and c.from_residual-in_err-statement.result c.from_residual-in_err-statement.ensures.1 in
+    rw (p.1, p.2) (refused_map _ _ _ _ c.in_err-statement.field-0.0 (first_fails _ _ _ _ _ c.args.depth (Make Repeat ∷ Shut ∷ []) while_shuts begun c.in_ok-condition.ensures.parsed c.in_ok-condition.ensures.sound) (λ same. same) c.in_err-statement.ensures.refused)
+
+pub repetition-returns-clause-parsed : goal.repetition-returns-clause-parsed
+repetition-returns-clause-parsed g t c =
+    let shallow : c.args.depth < 64 = omega arith in
+    let begun = while_past _ _ c.args.depth c.requires.sound c.requires.is shallow c.in_ok-advance.ensures.passed in
+    repetition_adds _ _ _ _ _ _ _ _ _ _ c.args.depth shallow begun c.in_ok-begin_while.ensures.ok c.in_ok-condition.ensures.parsed c.in_ok-condition.ensures.sound c.in_ok-while_test.ensures.ok
+    c.in_ok-statement.ensures.parsed c.in_ok-statement.ensures.sound c.in_ok-end_while.ensures.ok
+
+-- What a builder may be told, and where it stands at a call.
+
+pub block-statements-requires : goal.block-statements-requires
+block-statements-requires g t c =
+    let shallow : c.args.depth < 64 = omega arith in
+    let place = place_deeper _ c.args.depth shallow c.requires.open in
+    search (rules, place)
+
+pub branch-condition-requires : goal.branch-condition-requires
+branch-condition-requires g t c =
+    let shallow : c.args.depth < 64 = omega arith in
+    record { deep = search rules; «open» = room_in_brackets _ c.args.depth shallow c.requires.open; count = search rules }
+
+pub branch-if_test-requires : goal.branch-if_test-requires
+branch-if_test-requires g t c =
+    let shallow : c.args.depth < 64 = omega arith in
+    record { follows = may_test_if _ _ c.args.depth _ _ _ shallow c.requires.open c.in_ok-condition.ensures.parsed }
+
+pub branch-statement-requires : goal.branch-statement-requires
+branch-statement-requires g t c =
+    let shallow : c.args.depth < 64 = omega arith in
+    let inside = branch_open _ _ _ c.args.depth _ _ _ shallow c.requires.open c.in_ok-condition.ensures.parsed c.in_ok-if_test.ensures.ok in
+    let place : HasPlace (g.B.Build.stands c.if_test.new.self) (room (c.args.depth + 1) 1) = branch_place _ _ inside in
+    search (rules, place)
+
+pub branch-else_part-requires : goal.branch-else_part-requires
+branch-else_part-requires g t c =
+    let shallow : c.args.depth < 64 = omega arith in
+    let inside = branch_open _ _ _ c.args.depth _ _ _ shallow c.requires.open c.in_ok-condition.ensures.parsed c.in_ok-if_test.ensures.ok in
+    let place = branch_kept _ _ _ _ _ _ inside c.in_ok-statement.ensures.parsed in
+    search (rules, place)
+
+pub branch-end_if-requires : goal.branch-end_if-requires
+branch-end_if-requires g t c =
+    let shallow : c.args.depth < 64 = omega arith in
+    let inside = branch_open _ _ _ c.args.depth _ _ _ shallow c.requires.open c.in_ok-condition.ensures.parsed c.in_ok-if_test.ensures.ok in
+    record { follows = may_end_branch _ _ _ _ _ (branch_kept _ _ _ _ _ _ inside c.in_ok-statement.ensures.parsed) c.in_ok-else_part.ensures.parsed }
+
+pub else_part-else_part-requires : goal.else_part-else_part-requires
+else_part-else_part-requires g t c = record { follows = may_tell_else _ _ c.requires.open }
+
+pub else_part-statement-requires : goal.else_part-statement-requires
+else_part-statement-requires g t c =
+    let place : HasPlace (g.B.Build.stands c.else_part.new.self) (room c.args.depth 1) = else_place _ _ _ c.requires.open c.in_ok-else_part.ensures.ok in
+    search (rules, place)
+
+pub repetition-begin_while-requires : goal.repetition-begin_while-requires
+repetition-begin_while-requires g t c = record { follows = may_begin_loop _ c.args.depth c.requires.open }
+
+pub repetition-condition-requires : goal.repetition-condition-requires
+repetition-condition-requires g t c =
+    let shallow : c.args.depth < 64 = omega arith in
+    record { deep = search rules; «open» = loop_room _ _ (loop_open _ _ c.args.depth shallow c.requires.open c.in_ok-begin_while.ensures.ok); count = search rules }
+
+pub repetition-while_test-requires : goal.repetition-while_test-requires
+repetition-while_test-requires g t c =
+    let shallow : c.args.depth < 64 = omega arith in
+    let inside = loop_open _ _ c.args.depth shallow c.requires.open c.in_ok-begin_while.ensures.ok in
+    record { follows = may_test_loop _ _ _ _ _ _ inside c.in_ok-condition.ensures.parsed }
+
+pub repetition-statement-requires : goal.repetition-statement-requires
+repetition-statement-requires g t c =
+    let shallow : c.args.depth < 64 = omega arith in
+    let inside = loop_open _ _ c.args.depth shallow c.requires.open c.in_ok-begin_while.ensures.ok in
+    let place : HasPlace (g.B.Build.stands c.while_test.new.self) (room (c.args.depth + 1) 1) = turn_place _ _ (turn_open _ _ _ _ _ _ _ inside c.in_ok-condition.ensures.parsed c.in_ok-while_test.ensures.ok) in
+    search (rules, place)
+
+pub repetition-end_while-requires : goal.repetition-end_while-requires
+repetition-end_while-requires g t c =
+    let shallow : c.args.depth < 64 = omega arith in
+    let inside = loop_open _ _ c.args.depth shallow c.requires.open c.in_ok-begin_while.ensures.ok in
+    record { follows = may_end_loop _ _ _ _ _ _ (turn_open _ _ _ _ _ _ _ inside c.in_ok-condition.ensures.parsed c.in_ok-while_test.ensures.ok) c.in_ok-statement.ensures.parsed }
+
+pub statements-statement-requires : goal.statements-statement-requires
+statements-statement-requires g t c =
+    let place = place_kept _ _ c.args.depth _ _ _ _ c.requires.open c.loop-parser.invariant.parsed in
+    search (rules, place)
+
+-- Rows of statements.
+
+pub statements-loop-parser-init : goal.statements-loop-parser-init
+statements-loop-parser-init g t c = record {
+  parsed = statements_begin _ _ c.args.depth;
+  falls = omega arith;
+  counted = refl;
+}
+
+pub statements-loop-parser-preserved : goal.statements-loop-parser-preserved
+statements-loop-parser-preserved g t c =
+    let sound : is_fault c.loop-parser.parser.reading.next.token ≡ false = cc in
+    let other : is_mark mark.CloseCurly c.loop-parser.parser.reading.next.token ≡ false = cc in
+    record {
+      parsed = statements_more _ _ _ _ _ _ c.args.depth sound other c.loop-parser.invariant.parsed c.in_ok-statement.ensures.parsed;
+      falls = omega (arith, c.in_ok-statement.ensures.falls, c.loop-parser.invariant.falls);
+      counted = c.in_ok-statement.ensures.counted ∙ c.loop-parser.invariant.counted;
+    }
+
+pub statements-returns-in_err-statement-clause-refused : goal.statements-returns-in_err-statement-clause-refused
+statements-returns-in_err-statement-clause-refused g t c =
+    let sound : is_fault c.loop-parser.parser.reading.next.token ≡ false = cc in
+    let other : is_mark mark.CloseCurly c.loop-parser.parser.reading.next.token ≡ false = cc in
+    let p = err_from_is_err_and c.from_residual.result c.from_residual.ensures.1 in
+    rw (p.1, p.2) (refused_map _ _ _ _ c.in_err-statement.field-0.0 (statements_fail _ _ _ _ c.args.depth sound other c.loop-parser.invariant.parsed) (λ same. same) c.in_err-statement.ensures.refused)
+
+pub statements-returns-clause-parsed : goal.statements-returns-clause-parsed
+statements-returns-clause-parsed g t c =
+    let sound : is_fault c.loop-parser.parser.reading.next.token ≡ false = cc in
+    let is : is_mark mark.CloseCurly c.loop-parser.parser.reading.next.token ≡ true = cc in
+    statements_end _ _ _ _ c.args.depth sound is c.loop-parser.invariant.parsed
+
+-- Second branches.
+
+pub else_part-returns-in_err-advance-clause-refused : goal.else_part-returns-in_err-advance-clause-refused
+else_part-returns-in_err-advance-clause-refused g t c =
+    let sound : is_fault c.args.parser.now.reading.next.token ≡ false = cc in
+    let is : is_word word.Else c.args.parser.now.reading.next.token ≡ true = cc in
+    let p = err_from_is_err_and c.from_residual-in_err-advance.result c.from_residual-in_err-advance.ensures.1 in
+    rw (p.1, p.2) (refused_map _ _ false _ c.in_err-advance.field-0.0 (else_stops _ c.args.depth sound is) (λ never. absurd (cc)) c.in_err-advance.ensures.refused)
+
+pub else_part-returns-in_err-statement-clause-refused : goal.else_part-returns-in_err-statement-clause-refused
+else_part-returns-in_err-statement-clause-refused g t c =
+    let sound : is_fault c.args.parser.now.reading.next.token ≡ false = cc in
+    let is : is_word word.Else c.args.parser.now.reading.next.token ≡ true = cc in
+    let p = err_from_is_err_and c.from_residual-in_err-statement.result c.from_residual-in_err-statement.ensures.1 in
+    rw (p.1, p.2) (refused_map _ _ _ _ c.in_err-statement.field-0.0 (else_fails _ _ c.args.depth sound is c.in_ok-advance.ensures.passed c.in_ok-advance.ensures.sound) (λ same. same) c.in_err-statement.ensures.refused)
+
+pub else_part-returns-in_ok-statement-clause-parsed : goal.else_part-returns-in_ok-statement-clause-parsed
+else_part-returns-in_ok-statement-clause-parsed g t c =
+    let sound : is_fault c.args.parser.now.reading.next.token ≡ false = cc in
+    let is : is_word word.Else c.args.parser.now.reading.next.token ≡ true = cc in
+    else_adds _ _ _ _ _ _ c.args.depth sound is c.in_ok-advance.ensures.passed c.in_ok-advance.ensures.sound c.in_ok-else_part.ensures.ok c.in_ok-statement.ensures.parsed c.in_ok-statement.ensures.sound
+
+pub else_part-returns-else-is_word-clause-parsed : goal.else_part-returns-else-is_word-clause-parsed
+else_part-returns-else-is_word-clause-parsed g t c =
+    let sound : is_fault c.args.parser.now.reading.next.token ≡ false = cc in
+    let other : is_word word.Else c.args.parser.now.reading.next.token ≡ false = cc in
+    no_else_adds _ _ c.args.depth sound other
+
+-- Empty statements.
+
+pub statement-returns-in_err-expect-in-Mark-Semicolon-clause-refused : goal.statement-returns-in_err-expect-in-Mark-Semicolon-clause-refused
+statement-returns-in_err-expect-in-Mark-Semicolon-clause-refused g t c =
+    let sound : is_fault c.args.parser.now.reading.next.token ≡ false = cc in
+    let at : c.args.parser.now.reading.next.token ≡ token.Mark mark.Semicolon = search rules in
+    let is : is_mark mark.Semicolon c.args.parser.now.reading.next.token ≡ true = rw at refl in
+    let p = err_from_is_err_and c.from_residual.result c.from_residual.ensures.1 in
+    rw (p.1, p.2) (refused_map _ _ false _ c.in_err-expect-in-Mark-Semicolon.field-0.0 (empty_fails _ c.args.depth sound is) (λ never. absurd (cc)) c.in_err-expect-in-Mark-Semicolon.ensures.refused)
+
+pub statement-returns-in_ok-expect-in-Mark-Semicolon-clause-parsed : goal.statement-returns-in_ok-expect-in-Mark-Semicolon-clause-parsed
+statement-returns-in_ok-expect-in-Mark-Semicolon-clause-parsed g t c =
+    let sound : is_fault c.args.parser.now.reading.next.token ≡ false = cc in
+    let at : c.args.parser.now.reading.next.token ≡ token.Mark mark.Semicolon = search rules in
+    let is : is_mark mark.Semicolon c.args.parser.now.reading.next.token ≡ true = rw at refl in
+    empty_adds _ _ _ c.args.depth sound is c.in_ok-expect-in-Mark-Semicolon.ensures.passed

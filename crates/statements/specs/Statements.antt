@@ -1,0 +1,25 @@
+-- What the parse of statements did: the builder was told their actions, and the derivation put them behind the body so far.
+use Rattle.std.specs.Prelude.{ℕ, ◌≤◌, List, [], ◌∷◌}
+use Rattle.grammar.specs.declared.diagnostics.Diagnostic.{Diagnostic}
+use Rattle.grammar.specs.Actions.{body_actions}
+use Rattle.grammar.specs.Building.{Meaning, AppendsAll}
+use Rattle.grammar.specs.Derivation.{ABody}
+use Rattle.grammar.specs.Grammar.{Item}
+use Rattle.grammar.specs.Nesting.{body_nesting}
+use Rattle.grammar.specs.Resolved.{InBody}
+use Rattle.grammar.specs.Tree.{Body, join}
+use Rattle.parsing.specs.Position.{Place}
+use Rattle.parsing.specs.Room.{room}
+use Rattle.parsing.specs.Stretch.{Derives, FailsAt}
+
+-- Statements were read, by the items in front, with so many levels of nesting open, whatever the body is so far.
+pub record AddsBody (before after : Meaning) (depth : ℕ) (front pending : List Item) (here there : Place) : Type 0 where
+  pub tree : Body
+  pub numbered : InBody 64 64 64 tree
+  pub narrow : body_nesting tree ≤ room depth 1
+  pub added : AppendsAll before after (body_actions tree)
+  pub derives : (body : Body) → Derives depth front pending (ABody body ∷ []) (ABody (join body tree) ∷ []) here there
+
+-- The first fault from there on, whatever the body is so far.
+abbrev pub FailsBody : ℕ → List Item → Place → Diagnostic → Type 0
+FailsBody depth front here d = (body : Body) → FailsAt depth front (ABody body ∷ []) here d
