@@ -1,28 +1,16 @@
 -- The lines of a listing by number.
 use Rattle.std.specs.Prelude.{ℕ, zero, suc, ◌+◌, ◌-◌, ◌≡◌, ◌<◌, ◌≤◌, List, [], ◌∷◌, ◌++◌, length, drop, get_or, slice_get, Some}
 use Rattle.std.proofs.Common.{refl, sym, ap, ◌∙◌, arith, append_assoc, length-append, add-zero, add-one, drop-cons}
-use Rattle.lang.specs.Pools.{FunctionNames, names_of_function}
-use Rattle.lang.specs.Profile.{Profile}
-use Rattle.lang.specs.Tree.{Function}
+use Rattle.grammar.specs.declared.names.Intrinsic.{Intrinsic}
+use Rattle.grammar.specs.declared.names.Intrinsic.TheVariants as intrinsic
+use Rattle.grammar.specs.Intrinsics.{name_of}
+use Rattle.grammar.specs.Pools.{FunctionNames}
 use Rattle.code.specs.declared.instr.Instr.{Instr}
-use Rattle.code.specs.Finishing.{IsOfSomeFile}
-use Rattle.code.specs.Generation.{Code, addresses_from, function_code}
+use Rattle.code.specs.Generation.{Code}
 use Rattle.code.specs.Listing.{numbered, name_line, instr_line, function_lines, functions_lines, externals_lines, instrs_lines, lines_from, lines_of}
-use Rattle.std.proofs.lemmas.List.{length-map, get_or-append-add}
+use Rattle.std.proofs.lemmas.List.{get_or-append-add}
 use Rattle.std.proofs.lemmas.Option.{slice_get-get_or}
 use Rattle.std.proofs.Math.ListN.{get_or-append, drop_of_length-le}
-
--- there are as many addresses as functions
-length-addresses_from : (p : Profile) (at : ℕ) (fs : List Function) → length (addresses_from p at fs) ≡ length fs
-length-addresses_from p at [] = refl
-length-addresses_from p at (f ∷ fs) = ap (λ (n : ℕ). suc n) (length-addresses_from p (at + length (function_code p f at)) fs)
-
-pub addresses_of_file : (code : Code) → IsOfSomeFile code → length code.addresses ≡ length code.names.functions
-addresses_of_file code of =
-    ap (λ (c : Code). length c.addresses) of.is
-    ∙ length-addresses_from of.profile 0 of.file.functions
-    ∙ sym (length-map of.file.functions names_of_function)
-    ∙ sym (ap (λ (c : Code). length c.names.functions) of.is)
 
 numbered_at : {A : Type 0} (line : ℕ → A → List ℕ) (first : ℕ) (xs : List A) (n : ℕ) (d : A) → n < length xs → get_or (numbered line first xs) n [] ≡ line (first + n) (get_or xs n d)
 numbered_at line first [] n d h = absurd (omega (arith, h))
@@ -142,3 +130,20 @@ line_of_rest code n line past within e =
     let split : n ≡ length front + k = omega (arith, past, length-externals_lines code.names.externals) in
     slice_get-get_or (lines_of code) n [] within
     ∙ ap (λ (x : List ℕ). Some x) (ap (λ (j : ℕ). get_or (lines_of code) j []) split ∙ get_or-append-add front rest k [] ∙ e)
+
+-- an intrinsic's name has room in its line
+pub name_is_short : (i : Intrinsic) → length (name_of i) ≤ 6
+unfolding name_of
+name_is_short intrinsic.Scan = omega arith
+name_is_short intrinsic.Cannon = omega arith
+name_is_short intrinsic.Drive = omega arith
+name_is_short intrinsic.Damage = omega arith
+name_is_short intrinsic.Speed = omega arith
+name_is_short intrinsic.LocX = omega arith
+name_is_short intrinsic.LocY = omega arith
+name_is_short intrinsic.Rand = omega arith
+name_is_short intrinsic.Sqrt = omega arith
+name_is_short intrinsic.Sin = omega arith
+name_is_short intrinsic.Cos = omega arith
+name_is_short intrinsic.Tan = omega arith
+name_is_short intrinsic.Atan = omega arith

@@ -1,21 +1,29 @@
--- What a maker's owner shows, and a program keeps.
-use Rattle.std.specs.Prelude.{◌≡◌}
-use Rattle.lang.specs.Actions.{actions}
-use Rattle.lang.specs.Pools.{Names, names_of}
-use Rattle.lang.specs.Profile.{Profile}
-use Rattle.lang.specs.Tree.{File}
+-- What a maker's owner shows at the end, and what a program keeps.
+use Rattle.std.specs.Prelude.{◌≡◌, Some, map}
+use Rattle.grammar.specs.Actions.{actions}
+use Rattle.grammar.specs.Compiled.{main_name}
+use Rattle.grammar.specs.Pools.{Names, FunctionNames, names_of}
+use Rattle.grammar.specs.Profile.{first_profile}
+use Rattle.grammar.specs.Resolved.{IsResolved}
+use Rattle.grammar.specs.Scope.{number_of_name}
+use Rattle.grammar.specs.Tree.{File}
 use Rattle.code.specs.Generation.{Code, IsProgramOf}
-use Rattle.code.specs.Making.{Made, Stands}
+use Rattle.code.specs.Making.{Made}
+use Rattle.code.specs.Told.{Stands}
 
--- the maker was told the actions of a file, and the names are that file's
-pub record StandsForSomeFile (maker : Made) (names : Names) : Type 0 where
-  pub profile : Profile
-  pub file : File
-  pub stands : Stands maker profile (actions file)
+-- the maker was told the actions of a resolved file, the names are that file's, and its main is the function of that name
+pub record IsTold (maker : Made) (names : Names) (file : File) : Type 0 where
+  pub resolved : IsResolved file
+  pub stands : Stands maker first_profile (actions file)
   pub named : names ≡ names_of file
+  pub main : number_of_name main_name (map (λ (f : FunctionNames). f.name) names.functions) ≡ Some file.main
 
--- the code is that of a file
-pub record IsOfSomeFile (code : Code) : Type 0 where
-  pub profile : Profile
+pub record IsToldSomeFile (maker : Made) (names : Names) : Type 0 where
   pub file : File
-  pub is : IsProgramOf code profile file
+  pub told : IsTold maker names file
+
+-- the code is that of a resolved file
+pub record IsOfSomeFile (code : Code) : Type 0 where
+  pub file : File
+  pub resolved : IsResolved file
+  pub is : IsProgramOf code first_profile file

@@ -1,5 +1,11 @@
+pub mod Functions
+pub mod Values
 pub mod Generation
+pub mod Machine
+pub mod Meaning
 pub mod Making
+pub mod Told
 pub mod Finishing
+pub mod Standing
 pub mod Spelling
 pub mod Listing

@@ -2,9 +2,9 @@
 use Rattle.std.specs.Prelude.{ℕ, ◌+◌, ◌-◌, List, [], ◌∷◌, ◌++◌, codes, length, replicate, map, slice_index}
 use Rattle.std.specs.Fmt.{decimal}
 use Rattle.std.specs.List.{concat}
-use Rattle.lang.specs.Pools.{FunctionNames}
-use Rattle.lang.specs.Profile.{Profile}
-use Rattle.lang.specs.Tree.{File}
+use Rattle.grammar.specs.Pools.{FunctionNames}
+use Rattle.grammar.specs.Profile.{Profile}
+use Rattle.grammar.specs.Tree.{File}
 use Rattle.code.specs.declared.instr.Instr.{Instr}
 use Rattle.code.specs.Generation.{Code, code_of}
 use Rattle.code.specs.Spelling.{instr_text}

@@ -1,33 +1,87 @@
 -- What a maker holds behind a list of actions.
-use Rattle.std.specs.Prelude.{ℕ, ◌+◌, ◌≡◌, ◌<◌, ◌≤◌, List, [], ◌∷◌, ◌++◌, Bool, true, false, length, replicate, slice_set, Option, Some, None}
-use Rattle.lang.specs.Actions.{Action, Push, Middle, Apply, Chop, GiveBack, Begin, Finish, code_length}
-use Rattle.lang.specs.Profile.{Profile, first_profile}
+use Rattle.std.specs.Prelude.{ℕ, pos, ◌+◌, List, [], ◌∷◌, ◌++◌, length, replicate, slice_set}
+use Rattle.grammar.specs.Actions.{Action, Push, Get, Put, Apply, Middle, BeginCall, EndCall, IfTest, ElsePart, EndIf, BeginWhile, WhileTest, EndWhile, GiveBack, Chop, Begin, Finish}
 use Rattle.code.specs.declared.instr.Instr.{Instr}
-use Rattle.code.specs.declared.instr.Instr.TheVariants.{Const, Binop, Retsub, Nop}
+use Rattle.code.specs.declared.instr.Instr.TheVariants.{Fetch, Store, Const, Binop, Fcall, Retsub, Branch}
 use Rattle.code.specs.declared.instr.Instr.TheVariants as instr
 
--- the instructions so far, and the address of each function by number: 0 where it didn't begin
+-- The instructions so far, the address of each function by number (0 where it didn't begin), and what is open, the last
+-- first: the address of a branch that has no target yet, or of a loop's start.
 pub record Made : Type 0 where
   pub code : List Instr
   pub addresses : List ℕ
+  pub opened : List ℕ
 
 abbrev pub made_nothing : Made
-made_nothing = record { code = []; addresses = replicate 64 0 }
+made_nothing = record { code = []; addresses = replicate 64 0; opened = [] }
 
--- one more instruction
-abbrev pub with_instr : Made → Instr → Made
-with_instr m i = record { code = m.code ++ i ∷ []; addresses = m.addresses }
+-- more instructions
+abbrev pub with_code : Made → List Instr → Made
+with_code m code = record { code = m.code ++ code; addresses = m.addresses; opened = m.opened }
 
 -- the function of this number begins here
 abbrev pub with_function : Made → ℕ → Made
-with_function m number = record { code = m.code; addresses = slice_set m.addresses number (length m.code) }
+with_function m number = record { code = m.code; addresses = slice_set m.addresses number (length m.code); opened = m.opened }
+
+abbrev pub first_of : List ℕ → ℕ
+first_of [] = 0
+first_of (a ∷ rest) = a
+
+abbrev pub rest_of : List ℕ → List ℕ
+rest_of [] = []
+rest_of (a ∷ rest) = rest
+
+-- an address that is open now
+abbrev pub opening : Made → Made
+opening m = record { code = m.code; addresses = m.addresses; opened = length m.code ∷ m.opened }
+
+-- a branch without a target
+abbrev pub with_branch : Made → Made
+with_branch m = record { code = m.code ++ Branch 0 ∷ []; addresses = m.addresses; opened = length m.code ∷ m.opened }
+
+-- the last open branch leads to the next instruction
+abbrev pub closing : Made → Made
+closing m = record {
+  code = slice_set m.code (first_of m.opened) (Branch (length m.code));
+  addresses = m.addresses;
+  opened = rest_of m.opened;
+}
+
+-- a branch that is always taken, to an open address
+abbrev pub with_turn : Made → Made
+with_turn m = record {
+  code = m.code ++ Const (pos 0) ∷ Branch (first_of (rest_of m.opened)) ∷ [];
+  addresses = m.addresses;
+  opened = m.opened;
+}
+
+-- the second part of a choice: a branch over it, which is open then in place of the first one
+abbrev pub with_other : Made → Made
+with_other m = record {
+  code = slice_set (m.code ++ Const (pos 0) ∷ Branch 0 ∷ []) (first_of m.opened) (Branch (length m.code + 1 + 1));
+  addresses = m.addresses;
+  opened = (length m.code + 1) ∷ rest_of m.opened;
+}
+
+abbrev pub without_open : Made → Made
+without_open m = record { code = m.code; addresses = m.addresses; opened = rest_of m.opened }
 
 abbrev pub making : Made → Action → Made
-making m (Push value) = with_instr m (Const value)
+making m (Push value) = with_code m (Const value ∷ [])
+making m (Get v) = with_code m (Fetch v ∷ [])
+making m (Put v op) = with_code m (Store v op ∷ [])
+making m (Apply op) = with_code m (Binop op ∷ [])
 making m (Middle op) = m
-making m (Apply op) = with_instr m (Binop op)
-making m Chop = with_instr m instr.Chop
-making m GiveBack = with_instr m Retsub
+making m BeginCall = with_code m (instr.Frame ∷ [])
+making m (EndCall callee) = with_code m (Fcall callee ∷ [])
+making m IfTest = with_branch m
+making m ElsePart = with_other m
+making m EndIf = closing m
+making m BeginWhile = opening m
+making m WhileTest = with_branch m
+making m EndWhile = without_open (closing (with_turn m))
+making m GiveBack = with_code m (Retsub ∷ [])
+making m Chop = with_code m (instr.Chop ∷ [])
 making m (Begin number parameters) = with_function m number
 making m (Finish variables) = m
 
@@ -37,34 +91,3 @@ made_from m (a ∷ acts) = made_from (making m a) acts
 
 abbrev pub made : List Action → Made
 made acts = made_from made_nothing acts
-
--- the action ends a function
-abbrev pub ends_function : Action → Bool
-ends_function (Finish variables) = true
-ends_function _ = false
-
--- no function is open behind these actions
-abbrev pub is_ended : List Action → Bool
-is_ended [] = true
-is_ended (a ∷ []) = ends_function a
-is_ended (a ∷ b ∷ acts) = is_ended (b ∷ acts)
-
--- the code and the last NOP are within the profile's limit
-abbrev pub Fits : Profile → List Action → Type 0
-Fits p acts = code_length acts + 1 ≤ p.instructions
-
--- the actions that make this instruction and nothing else, and end no function
-abbrev pub instr_of : Action → Option Instr
-instr_of (Push value) = Some (Const value)
-instr_of (Apply op) = Some (Binop op)
-instr_of Chop = Some instr.Chop
-instr_of GiveBack = Some Retsub
-instr_of _ = None
-
--- A maker stands for these actions: while they fit, it holds what they make; then its code is full.
--- At a function's end they fit.
-pub record Stands (maker : Made) (p : Profile) (acts : List Action) : Type 0 where
-  pub profile : p ≡ first_profile
-  pub holds : Fits p acts → maker ≡ made acts
-  pub full : p.instructions < code_length acts + 1 → length maker.code ≡ p.instructions
-  pub ended : is_ended acts ≡ true → Fits p acts

@@ -1,19 +1,26 @@
-//! The code of a robot program: instructions, the builder that makes them, and the listing.
+//! The code of a robot program: instructions, the builder that makes them, the listing, and the machine.
 #![tactic(auto)]
 
+mod frame;
 mod instr;
 mod limits;
 mod listing;
+mod machine;
 mod maker;
 mod operators;
 mod program;
 #[cfg(test)]
 mod tests;
 mod text;
+mod values;
+mod want;
 
+pub use frame::Frame;
 pub use instr::Instr;
-pub use limits::{LINE_BYTES, MOST_INSTRUCTIONS};
+pub use limits::{LINE_BYTES, MOST_FRAMES, MOST_INSTRUCTIONS, MOST_WORDS};
+pub use machine::Machine;
 pub use maker::Maker;
-pub use operators::operator_mark;
+pub use operators::{operator_mark, store_mark};
 pub use program::Program;
 pub use text::Line;
+pub use want::Want;

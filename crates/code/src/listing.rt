@@ -2,14 +2,14 @@
 
 ghost use Rattle.std.specs.Prelude.{◌≡◌, ◌+◌, ◌*◌, ◌<◌, ◌≤◌, [], ◌∷◌, ◌++◌, List, ℕ, Some, length, slice_get, slice_index_or};
 ghost use Rattle.code.specs.Listing.{name_line, instr_line, function_line, function_lines, functions_lines, externals_lines, instrs_lines, numbered, lines_from, lines_of};
-ghost use Rattle.code.specs.Spelling.{instr_text};
+ghost use Rattle.code.specs.Spelling.{instr_text, variable_text, callee_text};
 
 use crate::instr::Instr;
 use crate::limits::MOST_INSTRUCTIONS;
-use crate::operators::operator_mark;
+use crate::operators::{operator_mark, store_mark};
 use crate::program::Program;
 use crate::text::{Line, put_in_five_columns, put_name, put_number, put_text, put_value};
-use lang::{Function, MOST_NAMES, Name};
+use grammar::{Callee, Function, MOST_NAMES, Name, Var};
 
 impl Program {
     /// How many lines the listing has behind the line that names the file.
@@ -165,6 +165,16 @@ fn put_instr(line: &mut Line, instr: Instr)
     ensures { line.new.items ≡ line.old.items ++ instr_text instr }
 {
     match instr {
+        Instr::Fetch(variable) => {
+            put_text(line, "FETCH ");
+            put_variable(line, variable);
+        }
+        Instr::Store(variable, op) => {
+            put_text(line, "STORE ");
+            put_variable(line, variable);
+            put_text(line, " ");
+            put_text(line, store_mark(op));
+        }
         Instr::Const(value) => {
             put_text(line, "CONST ");
             put_value(line, value);
@@ -173,8 +183,49 @@ fn put_instr(line: &mut Line, instr: Instr)
             put_text(line, "BINOP ");
             put_text(line, operator_mark(op));
         }
-        Instr::Chop => put_text(line, "CHOP"),
+        Instr::Fcall(callee) => {
+            put_text(line, "FCALL ");
+            put_callee(line, callee);
+        }
         Instr::Retsub => put_text(line, "RETSUB"),
+        Instr::Branch(to) => {
+            put_text(line, "BRANCH ");
+            put_number(line, to);
+        }
+        Instr::Chop => put_text(line, "CHOP"),
+        Instr::Frame => put_text(line, "FRAME"),
+        Instr::Truth => put_text(line, "TRUTH"),
         Instr::Nop => put_text(line, "NOP"),
+    }
+}
+
+// A variable: E and its number, or L and its number.
+#[tactic(auto, using(std::proofs::Common::append_assoc), unfolding(crate::specs::Spelling::variable_text))]
+fn put_variable(line: &mut Line, variable: Var)
+    requires { length line.old.items ≤ 20 }
+    ensures items { line.new.items ≡ line.old.items ++ variable_text variable }
+    ensures len { length line.new.items ≤ length line.old.items + 6 }
+{
+    match variable {
+        Var::External(j) => {
+            put_text(line, "E");
+            put_number(line, u16::from(j));
+        }
+        Var::Local(j) => {
+            put_text(line, "L");
+            put_number(line, u16::from(j));
+        }
+    }
+}
+
+// A function's number, or an intrinsic's name.
+#[tactic(auto, using(crate::proofs::Lines::name_is_short), unfolding(crate::specs::Spelling::callee_text))]
+fn put_callee(line: &mut Line, callee: Callee)
+    requires { length line.old.items ≤ 20 }
+    ensures { line.new.items ≡ line.old.items ++ callee_text callee }
+{
+    match callee {
+        Callee::Function(number) => put_number(line, u16::from(number)),
+        Callee::Intrinsic(intrinsic) => put_text(line, intrinsic.name()),
     }
 }

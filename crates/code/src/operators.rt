@@ -1,9 +1,9 @@
 //! The marks of the operators in a listing.
 
 ghost use Rattle.std.specs.Prelude.{◌≡◌, ◌≤◌, length};
-ghost use Rattle.code.specs.Spelling.{operator_text};
+ghost use Rattle.code.specs.Spelling.{operator_text, store_text};
 
-use lang::Op;
+use grammar::{Op, StoreOp};
 
 /// The mark that spells an operator.
 #[tactic(auto, unfolding(crate::specs::Spelling::operator_text))]
@@ -30,5 +30,26 @@ pub fn operator_mark(op: Op) -> &'static str
         Op::Multiply => "*",
         Op::Divide => "/",
         Op::Remainder => "%",
+    }
+}
+
+/// The mark that spells an assignment's operator.
+#[tactic(auto, unfolding(crate::specs::Spelling::store_text))]
+pub fn store_mark(op: StoreOp) -> &'static str
+    ensures mark { result.now ≡ store_text op }
+    ensures short { length result.now ≤ 3 }
+{
+    match op {
+        StoreOp::Set => "=",
+        StoreOp::Add => "+=",
+        StoreOp::Subtract => "-=",
+        StoreOp::Multiply => "*=",
+        StoreOp::Divide => "/=",
+        StoreOp::Remainder => "%=",
+        StoreOp::ShiftLeft => "<<=",
+        StoreOp::ShiftRight => ">>=",
+        StoreOp::BitAnd => "&=",
+        StoreOp::BitXor => "^=",
+        StoreOp::BitOr => "|=",
     }
 }

@@ -1,12 +1,13 @@
 //! The program of a file: its code and its names.
 
-ghost use Rattle.std.specs.Prelude.{◌≡◌, ◌≤◌, length};
+ghost use Rattle.std.specs.Prelude.{◌≡◌, ◌<◌, ◌≤◌, length};
 ghost use Rattle.code.specs.Finishing.{IsOfSomeFile};
+ghost use Rattle.code.specs.Machine.{names_at, address_at};
 
 use crate::instr::Instr;
 use crate::limits::MOST_INSTRUCTIONS;
 use arrayvec::ArrayVec;
-use lang::{MOST_NAMES, Pools};
+use grammar::{Function, MOST_NAMES, Pools};
 use std::marker::Model;
 
 /// The program of a file.
@@ -15,6 +16,7 @@ pub struct Program {
     code: ArrayVec<Instr, MOST_INSTRUCTIONS>,
     addresses: ArrayVec<u16, MOST_NAMES>,
     names: Pools,
+    main: u8,
 }
 
 impl Model for Program {
@@ -23,9 +25,9 @@ impl Model for Program {
 
     ghost Value = { Code };
 
-    ghost view = { λ p. record { instructions = p.code.items; addresses = p.addresses.items; names = p.names } };
+    ghost view = { λ p. record { instructions = p.code.items; addresses = p.addresses.items; names = p.names; main = p.main } };
 
-    ghost invariant = { λ p. IsOfSomeFile (record { instructions = p.code.items; addresses = p.addresses.items; names = p.names }) };
+    ghost invariant = { λ p. IsOfSomeFile (record { instructions = p.code.items; addresses = p.addresses.items; names = p.names; main = p.main }) };
 }
 
 impl Program {
@@ -34,27 +36,31 @@ impl Program {
         code: ArrayVec<Instr, MOST_INSTRUCTIONS>,
         addresses: ArrayVec<u16, MOST_NAMES>,
         names: Pools,
+        main: u8,
     ) -> Program
-        requires { IsOfSomeFile (record { instructions = code.items; addresses = addresses.items; names = names }) }
-        ensures { result ≡ record { instructions = code.items; addresses = addresses.items; names = names } }
+        requires { IsOfSomeFile (record { instructions = code.items; addresses = addresses.items; names = names; main = main }) }
+        ensures { result ≡ record { instructions = code.items; addresses = addresses.items; names = names; main = main } }
     {
         Program {
             code,
             addresses,
             names,
+            main,
         }
     }
 
     /// The instructions: the address of each is its place.
+    #[inline(always)]
     pub fn instructions(&self) -> &[Instr]
         ensures code { result.now ≡ self.now.instructions }
         ensures most { length result.now ≤ MOST_INSTRUCTIONS }
+        ensures file { IsOfSomeFile self.now }
     {
         self.code.as_slice()
     }
 
     /// The address of each function, by number.
-    #[tactic(auto, using(crate::proofs::Lines::addresses_of_file))]
+    #[inline(always)]
     pub fn addresses(&self) -> &[u16]
         ensures addresses { result.now ≡ self.now.addresses }
         ensures each { length result.now ≡ length self.now.names.functions }
@@ -63,9 +69,37 @@ impl Program {
     }
 
     /// The names of the externals, the functions and their variables.
+    #[inline(always)]
     pub fn names(&self) -> &Pools
         ensures { result.now ≡ self.now.names }
     {
         &self.names
+    }
+
+    /// The number of the function `main`.
+    pub fn main(&self) -> u8
+        ensures main { result ≡ self.now.main }
+        ensures known { result < length self.now.names.functions }
+    {
+        self.main
+    }
+
+    // The names of the function of this number.
+    #[inline(always)]
+    #[tactic(auto, using(crate::proofs::Programs::function_is))]
+    pub(crate) fn function(&self, number: u8) -> &Function
+        requires { number < length self.now.names.functions }
+        ensures { result.now ≡ names_at self.now number }
+    {
+        &self.names.functions()[number as usize]
+    }
+
+    // The address of the function of this number.
+    #[inline(always)]
+    pub(crate) fn address(&self, number: u8) -> u16
+        requires { number < length self.now.names.functions }
+        ensures { result ≡ address_at self.now number }
+    {
+        self.addresses()[number as usize]
     }
 }

@@ -1,9 +1,9 @@
-//! Listings through the calls of a builder.
+//! Programs told by hand: their listings, what their machines want, and where code is full.
 
 ghost use Rattle.std.specs.Prelude.{◌≡◌, ◌≤◌, [], ◌∷◌, codes, length};
 
 use super::*;
-use lang::{Build, BuildFault, Function, Name, Op, Pools};
+use grammar::{Build, BuildFault, Callee, Function, Intrinsic, Name, Pools};
 
 // A name of these bytes.
 fn name_of(bytes: &[u8]) -> Name
@@ -26,24 +26,60 @@ fn main_alone() -> Pools
     names
 }
 
-// `main(){}`
-fn empty_main() -> Result<Program, BuildFault> {
+// `main(){damage();}`
+fn asking_main() -> Result<Program, BuildFault> {
     let mut maker = Maker::new();
     maker.begin_function(0, 0)?;
+    maker.begin_call()?;
+    maker.end_call(Callee::Intrinsic(Intrinsic::Damage))?;
+    maker.chop()?;
     maker.constant(0)?;
     maker.give_back()?;
     maker.end_function(0)?;
     Ok(maker.finish(main_alone()))
 }
 
-// `main(){1+2;}`
-fn sum_main() -> Result<Program, BuildFault> {
+// `main(){return 5;}`
+fn returning_main() -> Result<Program, BuildFault> {
     let mut maker = Maker::new();
     maker.begin_function(0, 0)?;
-    maker.constant(1)?;
-    maker.constant(2)?;
-    maker.binop(Op::Add)?;
+    maker.constant(5)?;
+    maker.give_back()?;
+    maker.constant(0)?;
+    maker.give_back()?;
+    maker.end_function(0)?;
+    Ok(maker.finish(main_alone()))
+}
+
+// `main(){main();}`
+fn calling_main() -> Result<Program, BuildFault> {
+    let mut maker = Maker::new();
+    maker.begin_function(0, 0)?;
+    maker.begin_call()?;
+    maker.end_call(Callee::Function(0))?;
     maker.chop()?;
+    maker.constant(0)?;
+    maker.give_back()?;
+    maker.end_function(0)?;
+    Ok(maker.finish(main_alone()))
+}
+
+// `main(){while(1) if(0) 2; else 3;}`
+fn turning_main() -> Result<Program, BuildFault> {
+    let mut maker = Maker::new();
+    maker.begin_function(0, 0)?;
+    maker.begin_while()?;
+    maker.constant(1)?;
+    maker.while_test()?;
+    maker.constant(0)?;
+    maker.if_test()?;
+    maker.constant(2)?;
+    maker.chop()?;
+    maker.else_part()?;
+    maker.constant(3)?;
+    maker.chop()?;
+    maker.end_if()?;
+    maker.end_while()?;
     maker.constant(0)?;
     maker.give_back()?;
     maker.end_function(0)?;
@@ -66,8 +102,8 @@ fn lists(program: &Program, lines: &[&str]) -> bool {
 }
 
 #[test]
-fn lists_an_empty_main(rt: HostRuntime) {
-    let Ok(program) = empty_main() else {
+fn branches_have_their_targets(rt: HostRuntime) {
+    let Ok(program) = turning_main() else {
         assert!(rt; false, "full");
         return;
     };
@@ -77,38 +113,70 @@ fn lists_an_empty_main(rt: HostRuntime) {
             &[
                 "Externals 0",
                 "Function 0 main vars 0 at 0",
-                "Code 3",
-                "    0 CONST 0",
-                "    1 RETSUB",
-                "    2 NOP",
+                "Code 15",
+                "    0 CONST 1",
+                "    1 BRANCH 12",
+                "    2 CONST 0",
+                "    3 BRANCH 8",
+                "    4 CONST 2",
+                "    5 CHOP",
+                "    6 CONST 0",
+                "    7 BRANCH 10",
+                "    8 CONST 3",
+                "    9 CHOP",
+                "   10 CONST 0",
+                "   11 BRANCH 0",
+                "   12 CONST 0",
+                "   13 RETSUB",
+                "   14 NOP",
             ]
         )
     );
 }
 
+// The first cycle whose instruction doesn't fit, where every reply is 0; no cycle, where that is past 200.
+fn first_restart(program: &Program) -> Option<u32> {
+    let mut machine = Machine::new(program);
+    for cycle in 1..=200 {
+        if machine.next(program) == Want::Restart {
+            return Some(cycle);
+        }
+        machine.advance(program, 0);
+    }
+    None
+}
+
 #[test]
-fn lists_a_sum(rt: HostRuntime) {
-    let Ok(program) = sum_main() else {
+fn restarts_in_its_cycle(rt: HostRuntime) {
+    let (Ok(returning), Ok(calling), Ok(turning)) = (
+        returning_main(),
+        calling_main(),
+        turning_main(),
+    ) else {
         assert!(rt; false, "full");
         return;
     };
-    assert!(rt;
-        lists(
-            &program,
-            &[
-                "Externals 0",
-                "Function 0 main vars 0 at 0",
-                "Code 7",
-                "    0 CONST 1",
-                "    1 CONST 2",
-                "    2 BINOP +",
-                "    3 CHOP",
-                "    4 CONST 0",
-                "    5 RETSUB",
-                "    6 NOP",
-            ]
-        )
+    assert_eq!(rt; first_restart(&returning), Some(2));
+    assert_eq!(rt; first_restart(&calling), Some(127));
+    assert_eq!(rt; first_restart(&turning), None);
+}
+
+#[test]
+fn asks_in_its_cycle(rt: HostRuntime) {
+    let Ok(program) = asking_main() else {
+        assert!(rt; false, "full");
+        return;
+    };
+    let mut machine = Machine::new(&program);
+    assert_eq!(rt; machine.next(&program), Want::Quiet);
+    machine.advance(&program, 0);
+    assert_eq!(rt;
+        machine.next(&program),
+        Want::Ask(Intrinsic::Damage, [0, 0])
     );
+    machine.advance(&program, 7);
+    assert_eq!(rt; machine.next(&program), Want::Quiet);
+    assert_eq!(rt; first_restart(&program), Some(5));
 }
 
 // A main function with this many statements `1;`.

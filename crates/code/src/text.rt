@@ -84,8 +84,10 @@ pub fn put_value(line: &mut Line, value: i32)
 {
     if value < 0 {
         line.push(b'-');
+        put_decimal(line, value.unsigned_abs());
+    } else {
+        put_decimal(line, value.unsigned_abs());
     }
-    put_decimal(line, value.unsigned_abs());
 }
 
 /// Appends a number at the right end of five columns.

@@ -1,1 +1,1 @@
-main(){1+2;}
+d(x,y) int x,y; {return(x*x+y*y);} main(){d(3);}

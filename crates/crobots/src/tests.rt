@@ -1,6 +1,8 @@
-//! The program over files that the tests write, and sinks in memory: each status that it can give.
+//! What the words ask for, and the program over files that the tests write, and sinks in memory: each status
+//! that it can give.
 
 use crate::programs::program;
+use crate::words::{UseFault, read_words};
 use series::Recorder;
 use std::alloc::{Allocator, Global};
 use std::fs::{File, Metadata, OpenOptions};
@@ -61,13 +63,66 @@ fn faulty(rt: HostRuntime) -> Result<(), Fail> {
 }
 
 #[test]
+fn files_in_order(rt: HostRuntime) -> Result<(), Fail> {
+    fs::write(&rt, "one.r", "main(){}")?;
+    fs::write(&rt, "two.r", "")?;
+    fs::write(&rt, "three.r", "main(){}")?;
+    fs::write(&rt, "four.r", "main(){\nbreak; }")?;
+    let listings =
+        b"File three.r\nExternals 0\nFunction 0 main vars 0 at 0\nCode 3\n    0 CONST 0\n    1 RETSUB\n    2 NOP\nFile one.r\nExternals 0\nFunction 0 main vars 0 at 0\nCode 3\n    0 CONST 0\n    1 RETSUB\n    2 NOP\n";
+    check(
+        &rt,
+        &["-c", "three.r", "four.r", "./one.r", "two.r"],
+        1,
+        listings,
+        b"four.r:2: reserved word\ntwo.r:1: no main function\n",
+    )?;
+    for name in ["one.r", "two.r", "three.r", "four.r"] {
+        fs::remove_file(&rt, name)?;
+    }
+    Ok(())
+}
+
+/// Reads the words, which list these files.
+fn listed(rt: &impl Abort, words: &[&str], files: &[&str]) {
+    match read_words(words) {
+        Ok(settings) => assert_eq!(rt; settings.words(), files),
+        Err(fault) => panic!(rt; "{words:?}: {fault}"),
+    }
+}
+
+/// Reads the words, which are refused.
+fn refused(rt: &impl Abort, words: &[&str], fault: UseFault) {
+    assert_eq!(rt; read_words(words).err(), Some(fault), "{words:?}");
+}
+
+#[test]
+fn words_of_files(rt: HostRuntime) {
+    listed(&rt, &["-c", "a"], &["a"]);
+    listed(&rt, &["-c", "b", "a"], &["b", "a"]);
+    listed(&rt, &["-c", "d", "a", "c", "b"], &["d", "a", "c", "b"]);
+}
+
+#[test]
+fn words_refused(rt: HostRuntime) {
+    refused(&rt, &["-c", "a", "b", "c", "d", "e"], UseFault::TooMany);
+    refused(&rt, &["-c", "a", "b", "c", "d", "-e"], UseFault::Usage);
+    refused(&rt, &["-c", "a", "-m1"], UseFault::Usage);
+    refused(&rt, &["-c", "-"], UseFault::Usage);
+    refused(&rt, &["-c"], UseFault::Usage);
+    refused(&rt, &[], UseFault::Usage);
+    refused(&rt, &["-m1", "a.r"], UseFault::Usage);
+    refused(&rt, &["a.r", "-c"], UseFault::Usage);
+}
+
+#[test]
 fn wrong_usage(rt: HostRuntime) -> Result<(), Fail> {
     check(&rt, &[], 2, b"", USAGE)?;
     check(&rt, &["-c"], 2, b"", USAGE)?;
     check(&rt, &["a.r"], 2, b"", USAGE)?;
     check(&rt, &["-x", "a.r"], 2, b"", USAGE)?;
-    check(&rt, &["-c", "-m0"], 2, b"", USAGE)?;
-    check(&rt, &["-c", "a.r", "b.r"], 2, b"", USAGE)
+    check(&rt, &["-c", "-m0", "a.r"], 2, b"", USAGE)?;
+    check(&rt, &["-c", "a", "b", "c", "d", "e"], 2, b"", USAGE)
 }
 
 #[test]
@@ -80,6 +135,14 @@ fn not_opened(rt: HostRuntime) -> Result<(), Fail> {
         b"crobots: cannot open k/missing.r\n",
     )?;
     check(&rt, &["-c", ""], 3, b"", b"crobots: cannot open \n")
+}
+
+#[test]
+fn not_opened_behind_a_good_file(rt: HostRuntime) -> Result<(), Fail> {
+    fs::write(&rt, "good.r", "main(){}")?;
+    let line = b"crobots: cannot open missing.r\n";
+    check(&rt, &["-c", "good.r", "missing.r", "gone.r"], 3, b"", line)?;
+    Ok(fs::remove_file(&rt, "good.r")?)
 }
 
 #[test]

@@ -1,7 +1,7 @@
 //! The words of the command line.
 
-ghost use Rattle.std.specs.Prelude.{◌≡◌, ℕ, ◌+◌, ◌-◌, ◌^◌, ◌<◌, ◌≤◌, List, map, Some, None, IfOk, IfErr, OnErr, IsErrOf};
-ghost use Rattle.crobots.specs.Words.{settings_of, is_option};
+ghost use Rattle.std.specs.Prelude.{◌≡◌, ◌↔◌, ℕ, ◌+◌, ◌-◌, ◌^◌, ◌<◌, ◌≤◌, List, map, Some, None, IfOk, OnErr, IsErrOf};
+ghost use Rattle.crobots.specs.Words.{IsTooMany, IsUsage, are_files, files_of, is_option, settings_of};
 
 use arrayvec::ArrayVec;
 use series::{CYCLES_DEFAULT, Mode, SEED_DEFAULT, Settings};
@@ -27,21 +27,42 @@ pub enum UseFault {
     Memory,
 }
 
-/// Reads the words behind the program's name: `-c` and the file that is to be listed.
+/// Reads the words behind the program's name: `-c` and the one to four files that are to be listed.
+///
+/// # Errors
+///
+/// `TooMany` for over four files, and `Usage` where the words list none.
 pub fn read_words<'a>(words: &[&'a str]) -> Result<Settings<'a>, UseFault>
     ensures settings { IfOk result (λ settings. settings_of (map (λ word. word.now) words.now) ≡ Some settings) }
     ensures refused { OnErr result (settings_of (map (λ word. word.now) words.now) ≡ None) }
-    ensures usage { IfErr result (λ fault. fault ≡ UseFault.Usage) }
+    ensures too_many { IsErrOf result UseFault.TooMany ↔ IsTooMany (map (λ word. word.now) words.now) }
+    ensures usage { IsErrOf result UseFault.Usage ↔ IsUsage (map (λ word. word.now) words.now) }
 {
-    let [first, word] = words else {
-        return Err(UseFault::Usage);
-    };
-    if *first != "-c" || is_option(word) {
+    let files = listed(words);
+    if files.is_empty() {
         return Err(UseFault::Usage);
     }
-    let mut files = ArrayVec::new();
-    files.push(*word);
-    Ok(Settings::new(Mode::Listing, 1, CYCLES_DEFAULT, SEED_DEFAULT, files))
+    match ArrayVec::try_from(files) {
+        Ok(files) => Ok(Settings::new(Mode::Listing, 1, CYCLES_DEFAULT, SEED_DEFAULT, files)),
+        Err(_) => Err(UseFault::TooMany),
+    }
+}
+
+/// The files that the words list: those behind `-c`, where none of them begins with `-`.
+fn listed<'w, 'a>(words: &'w [&'a str]) -> &'w [&'a str]
+    ensures { map (λ word. word.now) result.now ≡ files_of (map (λ word. word.now) words.now) }
+{
+    match words {
+        [first, files @ ..] if *first == "-c" && are_files(files) => files,
+        _ => &[],
+    }
+}
+
+/// Whether none of the words begins with `-`.
+fn are_files(words: &[&str]) -> bool
+    ensures { result ≡ are_files (map (λ word. word.now) words.now) }
+{
+    words.iter().all(|word| !is_option(word))
 }
 
 /// Whether a word begins with `-`.

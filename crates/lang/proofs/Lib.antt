@@ -1,11 +1,6 @@
-pub mod Runs
-pub mod Steps
-pub mod Firsts
-pub mod Told
-pub mod Stretches
-pub mod ExpressionLaws
-pub mod StatementLaws
-pub mod Order
-pub mod Endings
-pub mod Verdicts
-pub mod FileLaws
+pub mod Advancing
+pub mod Inside
+pub mod Closing
+pub mod Blocks
+pub mod Choosing
+pub mod Wholes

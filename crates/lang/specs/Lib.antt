@@ -1,14 +1,2 @@
-pub mod Profile
-pub mod Operators
-pub mod Tree
-pub mod Actions
-pub mod Grammar
-pub mod Derivation
-pub mod Faults
-pub mod Weight
-pub mod Compiled
-pub mod Pools
-pub mod Building
-pub mod Parsing
-pub mod Texts
 pub mod Files
+pub mod Progress

@@ -1,184 +1,154 @@
 //! Files: one pass from a device's bytes to a builder, and the names of the file.
 
-ghost use Rattle.std.specs.Prelude.{◌≡◌, ℕ, ◌+◌, ◌-◌, ◌<◌, ◌≤◌, ◌^◌, List, [], ◌∷◌, ◌++◌, Option, Some, OnOk, IfOk, IfErr, IfSome, IfNone, codes, length, false, true};
-ghost use Rattle.tokens.specs.Reading.{remaining, shown};
-ghost use Rattle.tokens.specs.declared.lexemes.Mark.TheVariants as mark;
-ghost use Rattle.lang.specs.Actions.{Finish, last_return};
-ghost use Rattle.lang.specs.Building.{AppendsAll};
-ghost use Rattle.lang.specs.Compiled.{diagnostic};
-ghost use Rattle.lang.specs.Files.{AddsBlock, ClosesFunction, DerivesHeading, FailsBytes, FailsFile, FailsHeading, FailsBlock, IsFile, IsFileOf, TooMuchAt, DerivesEnding, FailsEnding};
-ghost use Rattle.lang.specs.Grammar.{is_end, is_fault, is_main, is_mark};
-ghost use Rattle.lang.specs.Parsing.{Counts, Refused};
+ghost use Rattle.std.specs.Prelude.{◌≡◌, ◌-◌, ◌<◌, ◌^◌, ◌∷◌, [], IfErr, IfOk, OnOk, true};
+ghost use Rattle.std.specs.Option.{option_map};
+ghost use Rattle.tokens.specs.Reading.{remaining};
+ghost use Rattle.tokens.specs.Tokens.{tokens};
+ghost use Rattle.tokens.specs.declared.lexemes.Token.TheVariants as token;
+ghost use Rattle.tokens.specs.declared.lexemes.Word.TheVariants as word;
+ghost use Rattle.grammar.specs.Building.{StandsOpen};
+ghost use Rattle.grammar.specs.Derivation.{is_end};
+ghost use Rattle.grammar.specs.Grammar.{Head, Part, is_word};
+ghost use Rattle.parsing.specs.Position.{place};
+ghost use Rattle.parsing.specs.Stretch.{Counts, Refused};
+ghost use Rattle.lang.specs.Files.{FailsBytes, IsFile, IsNew};
+ghost use Rattle.lang.specs.Progress.{Advances, Lacks, Lists, StopsReading, at_source};
 
-use crate::build::{Build, BuildFault};
-use crate::diagnostics::{Code, Diagnostic, ParseFault};
-use crate::matching::{advance, expect, is_mark, misfit};
-use crate::pools::{Function, Pools};
-use crate::statements::statements;
-use tokens::{Cursor, Feed, Lexeme, Mark, Name, Token};
+use crate::functions::function;
+use declarations::{externals, type_words};
+use grammar::{Build, Code, Diagnostic, ParseFault, Pools};
+use parsing::{Parser, is_mark, is_word};
+use tokens::{Feed, Mark, Token, Word};
 
 /// Reads a source from the device in one pass, tells the builder its actions, and gives its names.
 ///
-/// The builder is new: it stands for the empty list of actions. No memory is asked for but by the builder.
+/// The builder is new: it stands for no action yet. No memory is asked for but by the builder.
 ///
 /// # Errors
 /// `Source` with the first fault; `Device` where the device failed before that, or the end, was known; `Memory` where the
 /// builder was refused memory. Then the builder is given up.
 pub fn parse<F: Feed, B: Build>(feed: &mut F, build: &mut B) -> Result<Pools, ParseFault>
+    requires new { IsNew (B.stands build.old) }
     requires count { F.failures feed.old < 2 ^ 64 - 1 }
     ensures file { IfOk result (λ pools. IsFile (B.stands build.old) (B.stands build.new) (F.to_come feed.old) pools) }
     ensures refused { IfErr result (λ fault. Refused (FailsBytes (B.stands build.old) (F.to_come feed.old)) B.allocates fault) }
     ensures counted { Counts result (F.failures feed.old) (F.failures feed.new) }
 {
-    let mut cursor = Cursor::open(feed)?;
-    if let Token::Fault(_) = cursor.next().token {
-        return Err(ParseFault::Source(misfit(cursor.next())));
-    }
-    source(&mut cursor, feed, build)
+    let mut parser = Parser::open(feed)?;
+    source(&mut parser, feed, build)?;
+    finish(parser)
 }
 
-/// `source → end` and `source → name ( ) block end`, where the name is `main`
+/// `source → end`, `type types head source` and `name ( params ) pdecls block source`
 fn source<F: Feed, B: Build>(
-    cursor: &mut Cursor,
-    feed: &mut F,
-    build: &mut B,
-) -> Result<Pools, ParseFault>
-    requires count { F.failures feed.old < 2 ^ 64 - 1 }
-    requires sound { is_fault cursor.old.next.token ≡ false }
-    ensures file { IfOk result (λ pools. IsFileOf (B.stands build.old) (B.stands build.new)
-        (shown cursor.old (F.to_come feed.old)) pools) }
-    ensures refused { IfErr result (λ fault. Refused (FailsFile (B.stands build.old)
-        (shown cursor.old (F.to_come feed.old))) B.allocates fault) }
-    ensures counted { Counts result (F.failures feed.old) (F.failures feed.new) }
-{
-    if is_end(&cursor.next().token) {
-        return Err(no_main(cursor.next()));
-    }
-    let Some(name) = main_name(&cursor.next().token) else {
-        return Err(ParseFault::Source(misfit(cursor.next())));
-    };
-    heading(cursor, feed)?;
-    build.begin_function(0, 0)?;
-    block(cursor, feed, build)?;
-    close_function(cursor.next(), build)?;
-    ending(cursor, feed)?;
-    Ok(only(name))
-}
-
-/// `main ( )`
-fn heading<F: Feed>(cursor: &mut Cursor, feed: &mut F) -> Result<(), ParseFault>
-    requires count { F.failures feed.old < 2 ^ 64 - 1 }
-    requires main { is_main cursor.old.next.token ≡ true }
-    ensures passed { OnOk result (DerivesHeading
-        (shown cursor.old (F.to_come feed.old)) (shown cursor.new (F.to_come feed.new))) }
-    ensures sound { OnOk result (is_fault cursor.new.next.token ≡ false) }
-    ensures refused { IfErr result (λ fault. Refused (FailsHeading
-        (shown cursor.old (F.to_come feed.old))) false fault) }
-    ensures counted { Counts result (F.failures feed.old) (F.failures feed.new) }
-{
-    advance(cursor, feed)?;
-    expect(cursor, feed, Mark::OpenRound)?;
-    expect(cursor, feed, Mark::CloseRound)?;
-    Ok(())
-}
-
-/// `block → { stmts }`, up to the closing brace
-fn block<F: Feed, B: Build>(
-    cursor: &mut Cursor,
+    parser: &mut Parser,
     feed: &mut F,
     build: &mut B,
 ) -> Result<(), ParseFault>
+    requires open { StandsOpen (B.stands build.old) [] }
     requires count { F.failures feed.old < 2 ^ 64 - 1 }
-    requires sound { is_fault cursor.old.next.token ≡ false }
-    ensures parsed { OnOk result (AddsBlock (B.stands build.old) (B.stands build.new)
-        (shown cursor.old (F.to_come feed.old)) (shown cursor.new (F.to_come feed.new))) }
-    ensures closed { OnOk result (is_mark mark.CloseCurly cursor.new.next.token ≡ true) }
-    ensures refused { IfErr result (λ fault. Refused (FailsBlock
-        (shown cursor.old (F.to_come feed.old))) B.allocates fault) }
+    ensures parsed { OnOk result (Advances (B.stands build.old) (B.stands build.new) at_source at_source
+        (place parser.old (F.to_come feed.old)) (place parser.new (F.to_come feed.new))) }
+    ensures ended { OnOk result (is_end parser.new.reading.next.token ≡ true) }
+    ensures refused { IfErr result (λ fault. Refused (StopsReading (B.stands build.old) at_source
+        (place parser.old (F.to_come feed.old))) B.allocates fault) }
     ensures counted { Counts result (F.failures feed.old) (F.failures feed.new) }
 {
-    if !is_mark(&cursor.next().token, Mark::OpenCurly) {
-        return Err(ParseFault::Source(misfit(cursor.next())));
-    }
-    advance(cursor, feed)?;
-    statements(cursor, feed, build, 1)?;
-    Ok(())
-}
-
-/// The return at a function's end, judged at its closing brace, which is the next token.
-fn close_function<B: Build>(brace: &Lexeme, build: &mut B) -> Result<(), ParseFault>
-    ensures closed { OnOk result (ClosesFunction (B.stands build.old) (B.stands build.new)) }
-    ensures refused { IfErr result (λ fault. Refused (TooMuchAt (B.stands build.old) brace.now.line) B.allocates fault) }
-    ensures device { IfErr result (λ fault. ParseFault.Device ≡ fault → ⊥) }
-{
-    build.constant(0)?;
-    build.give_back()?;
-    match build.end_function(0) {
-        Ok(()) => Ok(()),
-        Err(BuildFault::Full) => Err(too_much_code(brace)),
-        Err(BuildFault::Memory) => Err(ParseFault::Memory),
-    }
-}
-
-/// `} end`
-fn ending<F: Feed>(cursor: &mut Cursor, feed: &mut F) -> Result<(), ParseFault>
-    requires count { F.failures feed.old < 2 ^ 64 - 1 }
-    requires closed { is_mark mark.CloseCurly cursor.old.next.token ≡ true }
-    ensures passed { OnOk result (DerivesEnding (shown cursor.old (F.to_come feed.old))) }
-    ensures refused { IfErr result (λ fault. Refused (FailsEnding
-        (shown cursor.old (F.to_come feed.old))) false fault) }
-    ensures counted { Counts result (F.failures feed.old) (F.failures feed.new) }
-{
-    advance(cursor, feed)?;
-    if !is_end(&cursor.next().token) {
-        return Err(ParseFault::Source(misfit(cursor.next())));
+    while !matches!(parser.next().token, Token::End) {
+        part(parser, feed, build)?;
     }
     Ok(())
 }
 
-/// The names of a file whose one function has this name and no variables.
-fn only(name: Name) -> Pools
-    ensures { result ≡ record { externals = []; functions = record { name = name; parameters = 0; variables = [] } ∷ [] } }
+/// `type types head` or `name ( params ) pdecls block`
+fn part<F: Feed, B: Build>(
+    parser: &mut Parser,
+    feed: &mut F,
+    build: &mut B,
+) -> Result<(), ParseFault>
+    requires open { StandsOpen (B.stands build.old) [] }
+    requires count { F.failures feed.old < 2 ^ 64 - 1 }
+    requires more { parser.old.reading.next.token ≡ token.End → ⊥ }
+    ensures parsed { OnOk result (Advances (B.stands build.old) (B.stands build.new) at_source at_source
+        (place parser.old (F.to_come feed.old)) (place parser.new (F.to_come feed.new))) }
+    ensures open { OnOk result (StandsOpen (B.stands build.new) []) }
+    ensures falls { OnOk result (remaining parser.new.reading < remaining parser.old.reading) }
+    ensures refused { IfErr result (λ fault. Refused (StopsReading (B.stands build.old) at_source
+        (place parser.old (F.to_come feed.old))) B.allocates fault) }
+    ensures counted { Counts result (F.failures feed.old) (F.failures feed.new) }
 {
-    let mut pools = Pools::new();
-    pools.define(Function::new(name));
-    pools
-}
-
-/// The name of the function `main`, where the token is that.
-fn main_name(token: &Token) -> Option<Name>
-    ensures found { IfSome result (λ name. (is_main token.now ≡ true) × (name ≡ codes "main")) }
-    ensures other { IfNone result (is_main token.now ≡ false) }
-{
-    match *token {
-        Token::Name(name) if name.is(b"main") => Some(name),
-        _ => None,
+    if is_word(&parser.next().token, Word::Type) {
+        typed(parser, feed, build)?;
+    } else if let Token::Name(_) = parser.next().token {
+        function(parser, feed, build)?;
+    } else {
+        return Err(parser.misfit());
     }
+    Ok(())
 }
 
-/// Whether the token is the end.
-fn is_end(token: &Token) -> bool
-    ensures { result ≡ is_end token.now }
+/// `type types head`
+fn typed<F: Feed, B: Build>(
+    parser: &mut Parser,
+    feed: &mut F,
+    build: &mut B,
+) -> Result<(), ParseFault>
+    requires open { StandsOpen (B.stands build.old) [] }
+    requires count { F.failures feed.old < 2 ^ 64 - 1 }
+    requires is { is_word word.Type parser.old.reading.next.token ≡ true }
+    ensures parsed { OnOk result (Advances (B.stands build.old) (B.stands build.new) at_source at_source
+        (place parser.old (F.to_come feed.old)) (place parser.new (F.to_come feed.new))) }
+    ensures open { OnOk result (StandsOpen (B.stands build.new) []) }
+    ensures falls { OnOk result (remaining parser.new.reading < remaining parser.old.reading) }
+    ensures refused { IfErr result (λ fault. Refused (StopsReading (B.stands build.old) at_source
+        (place parser.old (F.to_come feed.old))) B.allocates fault) }
+    ensures counted { Counts result (F.failures feed.old) (F.failures feed.new) }
 {
-    matches!(token, Token::End)
+    parser.expect_word(feed, Word::Type)?;
+    type_words(parser, feed)?;
+    head(parser, feed, build)?;
+    Ok(())
 }
 
-/// The refusal of a file without a function `main`, at its end.
-fn no_main(end: &Lexeme) -> ParseFault
-    ensures { result ≡ ParseFault.Source (diagnostic end.now.line Code.NoMainFunction) }
+/// `head → name ( params ) pdecls block` and `head → name more ;`
+fn head<F: Feed, B: Build>(
+    parser: &mut Parser,
+    feed: &mut F,
+    build: &mut B,
+) -> Result<(), ParseFault>
+    requires open { StandsOpen (B.stands build.old) [] }
+    requires count { F.failures feed.old < 2 ^ 64 - 1 }
+    ensures parsed { OnOk result (Advances (B.stands build.old) (B.stands build.new) (Part Head ∷ at_source) at_source
+        (place parser.old (F.to_come feed.old)) (place parser.new (F.to_come feed.new))) }
+    ensures open { OnOk result (StandsOpen (B.stands build.new) []) }
+    ensures falls { OnOk result (remaining parser.new.reading < remaining parser.old.reading) }
+    ensures refused { IfErr result (λ fault. Refused (StopsReading (B.stands build.old) (Part Head ∷ at_source)
+        (place parser.old (F.to_come feed.old))) B.allocates fault) }
+    ensures counted { Counts result (F.failures feed.old) (F.failures feed.new) }
 {
-    ParseFault::Source(Diagnostic {
-        line: end.line,
-        code: Code::NoMainFunction,
-    })
+    match parser.next().token {
+        Token::Name(_) if is_mark(parser.after(), Mark::OpenRound) => {
+            function(parser, feed, build)?;
+        }
+        Token::Name(_) => externals(parser, feed)?,
+        _ => return Err(parser.misfit()),
+    }
+    Ok(())
 }
 
-/// The refusal of a function with which the code passes its limit, at the closing brace.
-fn too_much_code(brace: &Lexeme) -> ParseFault
-    ensures { result ≡ ParseFault.Source (diagnostic brace.now.line Code.TooMuchCode) }
+/// What the file lacks at its end, or else its names.
+fn finish(parser: Parser) -> Result<Pools, ParseFault>
+    ensures names { IfOk result (λ pools. Lists parser.scope pools) }
+    ensures lacks { IfErr result (λ fault. Lacks parser fault) }
 {
-    ParseFault::Source(Diagnostic {
-        line: brace.line,
-        code: Code::TooMuchCode,
-    })
+    if let Some(line) = parser.undefined() {
+        return Err(ParseFault::Source(Diagnostic {
+            line,
+            code: Code::FunctionNotDefined,
+        }));
+    }
+    if !parser.has_main() {
+        return Err(parser.refusal(Code::NoMainFunction));
+    }
+    Ok(parser.into_pools())
 }

@@ -1,21 +1,12 @@
-//! The language of robot programs: grammar, diagnostics, name pools, and one pass from a device's bytes to a builder.
+//! The language of robot programs: one pass from a device's bytes to a builder, the diagnostics, and the names of a file.
 #![tactic(auto)]
 
-mod build;
-mod diagnostics;
-mod expressions;
 mod files;
-mod matching;
-mod operators;
-mod pools;
-mod statements;
+mod functions;
 
-pub use build::{Build, BuildFault};
-pub use diagnostics::{Code, Diagnostic, ParseFault};
 pub use files::parse;
-pub use operators::Op;
-pub use pools::{Function, MOST_NAMES, Pools};
-pub use tokens::{DeviceFault, Feed, Name, Pieces};
-
-#[cfg(test)]
-mod tests;
+pub use grammar::{
+    Build, BuildFault, Callee, Code, Diagnostic, Function, Intrinsic, MOST_NAMES, Op, ParseFault,
+    Pools, StoreOp, Var,
+};
+pub use tokens::{DeviceFault, Feed, Name};

@@ -4,10 +4,11 @@ use Rattle.std.specs.Fmt.{digits}
 use Rattle.tokens.specs.Tokens.{tokens, lexemes}
 use Rattle.tokens.specs.Marks.{mark_of}
 use Rattle.tokens.specs.Words.{word_of}
-use Rattle.lang.specs.Compiled.{compiled}
-use Rattle.lang.specs.Faults.{most_levels}
-use Rattle.lang.specs.Profile.{first_profile}
-use Rattle.lang.specs.Texts.{text_of}
+use Rattle.grammar.specs.Compiled.{compiled}
+use Rattle.grammar.specs.Faults.{most_levels, most_names}
+use Rattle.grammar.specs.Intrinsics.{intrinsic_named, name_of}
+use Rattle.grammar.specs.Profile.{first_profile}
+use Rattle.grammar.specs.Texts.{text_of}
 use Rattle.code.specs.Listing.{in_five_columns, name_line, instr_line, function_line}
 use Rattle.code.specs.Spelling.{operator_text, instr_text}
 use Rattle.series.specs.declared.settings.Status.TheVariants.{Done, Faulty}
@@ -51,7 +52,7 @@ pub sum_is_listed : listing_output first_profile (record { word = codes "k/a.r";
       } ∷ [];
       status = Done;
     }
-unfolding digits tokens lexemes mark_of word_of first_profile most_levels compiled text_of operator_text instr_text in_five_columns name_line instr_line function_line
+unfolding digits tokens lexemes mark_of word_of first_profile most_levels most_names intrinsic_named name_of compiled text_of operator_text instr_text in_five_columns name_line instr_line function_line
 sum_is_listed = refl
 
 pub faults_are_named : listing_output first_profile (record { word = codes "e.r"; bytes = [] } ∷ record { word = codes "c.r"; bytes = codes "main(){\nbreak; }" } ∷ [])
@@ -60,5 +61,5 @@ pub faults_are_named : listing_output first_profile (record { word = codes "e.r"
           ∷ record { channel = Faults; bytes = codes "c.r:2: reserved word\n" } ∷ [];
       status = Faulty;
     }
-unfolding digits tokens lexemes mark_of word_of first_profile most_levels compiled text_of operator_text instr_text in_five_columns name_line instr_line function_line
+unfolding digits tokens lexemes mark_of word_of first_profile most_levels most_names intrinsic_named name_of compiled text_of operator_text instr_text in_five_columns name_line instr_line function_line
 faults_are_named = refl

@@ -5,16 +5,17 @@ use Rattle.std.specs.List.{list_any, fold}
 use Rattle.std.proofs.lemmas.List.Sums.{fold-append}
 use Rattle.std.proofs.lemmas.List.{take_more, map-append, take-append-drop, get_or-map, get_or-drop, drop-set-lt, length-map, map-set}
 use Rattle.std.proofs.Math.Seq.{map-set_same}
-use Rattle.lang.specs.Profile.{Profile}
-use Rattle.lang.specs.declared.diagnostics.Diagnostic.{Diagnostic}
-use Rattle.lang.specs.Compiled.{compiled}
-use Rattle.lang.specs.Tree.{File}
+use Rattle.grammar.specs.Profile.{Profile}
+use Rattle.grammar.specs.declared.diagnostics.Diagnostic.{Diagnostic}
+use Rattle.grammar.specs.Compiled.{compiled}
+use Rattle.grammar.specs.Tree.{File}
 use Rattle.code.specs.Generation.{Code, code_of}
 use Rattle.series.specs.declared.settings.Status.{Status}
 use Rattle.series.specs.declared.settings.Status.TheVariants.{Done, Faulty}
 use Rattle.series.specs.Output.{Source, code_or_fault, compiled_code, and_code, codes_of, piece_of, source_piece, listings, status_of, is_faulty}
 use Rattle.series.specs.Pieces.{Taken, Writes, Begins}
-use Rattle.series.specs.Runs.{AreSources, Failures, failures, feed_failed, SinkFailed}
+use Rattle.series.specs.declared.settings.RunFault.{RunFault}
+use Rattle.series.specs.Runs.{AreSources, Compiles, Failures, Lists, failures, feed_failed, programs_by, SinkFailed}
 use Rattle.series.specs.Texts.{file_name}
 use Rattle.series.proofs.PiecesLemmas.{writes_then, begins_then, begins_more}
 
@@ -54,6 +55,13 @@ status_done profile sources codes kept = ap status_by kept ∙ status_kept profi
 -- where none is kept, a file was faulty
 pub status_faulty : (profile : Profile) (sources : List Source) → None ≡ codes_of profile sources → Faulty ≡ status_of profile sources
 status_faulty profile sources kept = ap status_by kept ∙ status_kept profile [] sources
+
+-- a run is as good as the programs that were kept tell
+pub lists_kept : (profile : Profile) (sources : List Source) (result : Result Status RunFault) (kept : List Code) (before after : Taken)
+    → Compiles profile sources (programs_by result kept) before after → Lists profile sources result before after
+lists_kept profile sources (Ok Done) kept before after (writes, is) = (writes, status_done profile sources kept is)
+lists_kept profile sources (Ok Faulty) kept before after (writes, is) = (writes, status_faulty profile sources is)
+lists_kept profile sources (Err fault) kept before after stops = stops
 
 -- the codes with one file more
 codes_more : (profile : Profile) (sources : List Source) (file : ℕ) → file < length sources

@@ -1,11 +1,11 @@
 -- What a run writes, by the words that name its files and the bytes of these.
 use Rattle.std.specs.Prelude.{ℕ, List, [], ◌∷◌, ◌++◌, Option, Some, None, Result, Ok, Err, Bool, map, fold, is_err, if◌then◌else◌}
 use Rattle.std.specs.List.{list_any}
-use Rattle.lang.specs.declared.diagnostics.Diagnostic.{Diagnostic}
-use Rattle.lang.specs.Compiled.{compiled}
-use Rattle.lang.specs.Profile.{Profile}
-use Rattle.lang.specs.Texts.{text_of}
-use Rattle.lang.specs.Tree.{File}
+use Rattle.grammar.specs.declared.diagnostics.Diagnostic.{Diagnostic}
+use Rattle.grammar.specs.Compiled.{compiled}
+use Rattle.grammar.specs.Profile.{Profile}
+use Rattle.grammar.specs.Texts.{text_of}
+use Rattle.grammar.specs.Tree.{File}
 use Rattle.code.specs.Generation.{Code, code_of}
 use Rattle.code.specs.Listing.{listing_of}
 use Rattle.series.specs.declared.settings.Status.{Status}

@@ -1,10 +1,11 @@
 -- What a run leaves: what the sinks took, and which devices failed.
-use Rattle.std.specs.Prelude.{◌≡◌, ◌⊎◌, ℕ, ◌+◌, ◌<◌, List, [], ◌∷◌, Option, Some, Result, MatchResult, length, map, take, slice_index, slice_set}
-use Rattle.lang.specs.Profile.{Profile}
+use Rattle.std.specs.Prelude.{◌≡◌, ◌⊎◌, ℕ, ◌+◌, ◌<◌, List, [], ◌∷◌, Option, Some, None, Result, Ok, Err, MatchResult, length, map, take, slice_index, slice_set}
+use Rattle.grammar.specs.Profile.{Profile}
 use Rattle.code.specs.Generation.{Code}
 use Rattle.series.specs.declared.settings.RunFault.{RunFault}
 use Rattle.series.specs.declared.settings.RunFault.TheVariants as fault
 use Rattle.series.specs.declared.settings.Status.{Status}
+use Rattle.series.specs.declared.settings.Status.TheVariants.{Done, Faulty}
 use Rattle.series.specs.Output.{Source, listings, codes_of, listing_output}
 use Rattle.series.specs.Pieces.{Piece, Taken, Writes, Begins}
 
@@ -25,6 +26,12 @@ abbrev pub Compiles : Profile → List Source → Result (Option (List Code)) Ru
 Compiles profile sources result before after = MatchResult result
     (λ programs. Writes before after (listings profile sources) × (programs ≡ codes_of profile sources))
     (λ fault. StopsListing profile sources fault before after)
+
+-- the programs that were kept are answered where no file has a fault
+abbrev pub programs_by : Result Status RunFault → List Code → Result (Option (List Code)) RunFault
+programs_by (Ok Done) kept = Ok (Some kept)
+programs_by (Ok Faulty) kept = Ok None
+programs_by (Err fault) kept = Err fault
 
 -- a run that lists files: the sinks took its output, and it ended with its status
 abbrev pub Lists : Profile → List Source → Result Status RunFault → Taken → Taken → Type 0

@@ -23,6 +23,10 @@ pub use texts::{name_of, put_diagnostic};
 pub use tokens::{DeviceFault, Feed};
 
 #[cfg(test)]
+mod checks;
+#[cfg(test)]
+mod listing_tests;
+#[cfg(test)]
 mod run_tests;
 #[cfg(test)]
 mod tests;

@@ -1,11 +1,11 @@
 //! Runs: the listing or the diagnostic of each file, in order.
 
 ghost use Rattle.std.specs.Prelude.{◌≡◌, ℕ, ◌+◌, ◌-◌, ◌^◌, ◌<◌, ◌≤◌, List, [], ◌∷◌, Option, Some, length, map, All, Result, MatchResult, OnOk, IfOk, OnErr};
-ghost use Rattle.lang.specs.Profile.{first_profile};
+ghost use Rattle.grammar.specs.Profile.{first_profile};
 ghost use Rattle.tokens.specs.Feed.{Counts};
 ghost use Rattle.series.specs.Output.{Source, compiled_code, piece_of};
 ghost use Rattle.series.specs.Pieces.{taken, Writes, Begins};
-ghost use Rattle.series.specs.Runs.{AreSources, Compiles, Lists, failures, Accounts, PutsPiece, CountsSinks};
+ghost use Rattle.series.specs.Runs.{AreSources, Compiles, Lists, programs_by, failures, Accounts, PutsPiece, CountsSinks};
 ghost use Rattle.series.specs.Texts.{file_name};
 
 use crate::listing::put_listing;
@@ -14,12 +14,14 @@ use crate::settings::{Mode, RunFault, Settings, Status};
 use crate::sink::Sink;
 use crate::texts::{name_of, put_diagnostic};
 use code::{Maker, Program};
-use lang::{Diagnostic, ParseFault, parse};
+use grammar::{Diagnostic, ParseFault};
+use lang::parse;
 use tokens::{DeviceFault, Feed};
 
 /// Runs what the settings ask for: each of their words has the feed of its file, in order.
 ///
 /// `out` takes listings, and `err` the diagnostics of faulty files.
+#[tactic(auto, using(crate::proofs::RunsLemmas::lists_kept))]
 pub fn run<F: Feed, O: Sink, E: Sink>(
     settings: &Settings,
     feeds: &mut [F],
@@ -37,11 +39,8 @@ pub fn run<F: Feed, O: Sink, E: Sink>(
         (failures (map F.failures feeds.old) (O.failures out.old) (E.failures err.old))
         (failures (map F.failures feeds.new) (O.failures out.new) (E.failures err.new)) }
 {
-    match compile_files(settings, feeds, out, err) {
-        Ok(Some(_)) => Ok(Status::Done),
-        Ok(None) => Ok(Status::Faulty),
-        Err(fault) => Err(fault),
-    }
+    let mut programs = Programs::new();
+    compile_into(&mut programs, settings, feeds, out, err)
 }
 
 /// Compiles each file and lists it, or puts its diagnostic. Answers the programs where no file has a fault.
@@ -62,8 +61,37 @@ pub fn compile_files<F: Feed, O: Sink, E: Sink>(
         (failures (map F.failures feeds.old) (O.failures out.old) (E.failures err.old))
         (failures (map F.failures feeds.new) (O.failures out.new) (E.failures err.new)) }
 {
-    let words = settings.words();
     let mut programs = Programs::new();
+    match compile_into(&mut programs, settings, feeds, out, err) {
+        Ok(Status::Done) => Ok(Some(programs)),
+        Ok(Status::Faulty) => Ok(None),
+        Err(fault) => Err(fault),
+    }
+}
+
+/// Compiles each file and lists it, or puts its diagnostic. Where no file has a fault, it keeps the programs of all.
+///
+/// Programs are large: they are kept in place, since moving them takes stack.
+fn compile_into<F: Feed, O: Sink, E: Sink>(
+    programs: &mut Programs,
+    settings: &Settings,
+    feeds: &mut [F],
+    out: &mut O,
+    err: &mut E,
+) -> Result<Status, RunFault>
+    requires none { programs.old ≡ [] }
+    requires files { length feeds.old ≡ length settings.now.words }
+    requires listing { settings.now.mode ≡ Mode.Listing }
+    requires feeds { All (λ feed. F.failures feed < 2 ^ 64 - 1) feeds.old }
+    requires text { O.failures out.old < 2 ^ 64 - 1 }
+    requires faults { E.failures err.old < 2 ^ 64 - 1 }
+    ensures output { (sources : List Source) → AreSources sources settings.now.words (map F.to_come feeds.old)
+        → Compiles first_profile sources (programs_by result programs.new) (taken (O.portions out.old) (E.portions err.old)) (taken (O.portions out.new) (E.portions err.new)) }
+    ensures failures { Accounts result
+        (failures (map F.failures feeds.old) (O.failures out.old) (E.failures err.old))
+        (failures (map F.failures feeds.new) (O.failures out.new) (E.failures err.new)) }
+{
+    let words = settings.words();
     let mut faulty = false;
     for file in 0..feeds.len() {
         let compiled = match compile(&mut feeds[file]) {
@@ -79,7 +107,11 @@ pub fn compile_files<F: Feed, O: Sink, E: Sink>(
             Err(_) => faulty = true,
         }
     }
-    if faulty { Ok(None) } else { Ok(Some(programs)) }
+    if faulty {
+        Ok(Status::Faulty)
+    } else {
+        Ok(Status::Done)
+    }
 }
 
 /// Puts the listing of a good file, or the diagnostic of a faulty one.

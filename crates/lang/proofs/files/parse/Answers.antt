@@ -1,34 +1,23 @@
-use Rattle.std.proofs.Common.{◌≡◌, ◌∙◌, ap, true, refl, sym}
-use Rattle.std.proofs.lemmas.Result.{IfOk-weaker, IfErr-weaker}
-use Rattle.std.specs.Option.{option_map}
-use Rattle.tokens.specs.Tokens.{tokens}
-use Rattle.tokens.specs.declared.lexemes.Lexeme.{Lexeme}
-use Rattle.tokens.specs.declared.lexemes.Token.TheVariants as token
-use Rattle.lang.specs.Compiled.{compiled, diagnostic}
-use Rattle.lang.specs.Faults.{misfit_code}
-use Rattle.lang.specs.Grammar.{is_fault}
-use Rattle.lang.proofs.FileLaws.{fault_first}
-use Rattle.lang.proofs.Told.{refused_map}
+use Rattle.std.proofs.lemmas.Result.{IfErr-weaker, IfOk-weaker, err_from_is_err_and}
+use Rattle.lang.proofs.Wholes.{first_refused, lacking, stopped, whole_file}
 use Rattle.lang.proofs.files.parse.Goals as goal
 
-pub returns-in-Fault-clause-refused : goal.returns-in-Fault-clause-refused
-unfolding compiled
-returns-in-Fault-clause-refused g c bytes told profile start =
-    let same : c.in_ok-cursor.cursor.next.token ≡ token.Fault c.in-Fault.field-0 = ap (λ (l : Lexeme). l.token) (sym c.next.ensures.value) ∙ c.in-Fault.is in
-    let is : is_fault c.in_ok-cursor.cursor.next.token ≡ true = rw same refl in
-    let d : c.misfit.result ≡ diagnostic c.in_ok-cursor.cursor.next.line (misfit_code c.in_ok-cursor.cursor.next.token) = cc in
-    rw d (fault_first (g.B.Build.stands c.args.build.now) c.in_ok-cursor.cursor _ is (tokens bytes) (c.in_ok-cursor.ensures.tokens ∙ ap (option_map tokens) told) profile start)
+pub returns-in_err-parser-clause-refused : goal.returns-in_err-parser-clause-refused
+returns-in_err-parser-clause-refused g c =
+    let p = err_from_is_err_and c.from_residual.result c.from_residual.ensures.1 in
+    rw (p.1, p.2) (first_refused (g.B.Build.stands c.args.build.now) _ c.in_err-parser.field-0.0 _ c.in_err-parser.ensures.refused)
+
+pub returns-in_err-source-clause-refused : goal.returns-in_err-source-clause-refused
+returns-in_err-source-clause-refused g c =
+    let p = err_from_is_err_and c.from_residual-in_err-source.result c.from_residual-in_err-source.ensures.1 in
+    rw (p.1, p.2) (stopped (g.B.Build.stands c.args.build.now) _ _ c.in_err-source.field-0.0 _ c.in_ok-parser.ensures.names c.in_ok-parser.ensures.tokens c.in_err-source.ensures.refused)
 
 pub returns-clause-file : goal.returns-clause-file
-unfolding compiled
-returns-clause-file g c = IfOk-weaker c.source.result _ _ (λ pools h. record {
-  file = h.file;
-  built = h.built;
-  named = h.named;
-  is = λ bytes told profile start. h.is (tokens bytes) (c.in_ok-cursor.ensures.tokens ∙ ap (option_map tokens) told) profile start;
-}) c.source.ensures.file
+returns-clause-file g c = IfOk-weaker c.finish.result _ _
+    (λ pools lists. whole_file (g.B.Build.stands c.args.build.now) (g.B.Build.stands c.source.new.build) _ _ _ _ c.requires.new
+    (record { reads = c.in_ok-source.ensures.parsed; nothing = c.in_ok-parser.ensures.names; tells = c.in_ok-parser.ensures.tokens; ends = c.in_ok-source.ensures.ended }) lists) c.finish.ensures.names
 
 pub returns-clause-refused : goal.returns-clause-refused
-unfolding compiled
-returns-clause-refused g c = IfErr-weaker c.source.result _ _
-    (λ fault. refused_map _ _ _ _ fault (λ d h bytes told profile start. h (tokens bytes) (c.in_ok-cursor.ensures.tokens ∙ ap (option_map tokens) told) profile start) (λ same. same)) c.source.ensures.refused
+returns-clause-refused g c = IfErr-weaker c.finish.result _ _
+    (λ f lacks. lacking (g.B.Build.stands c.args.build.now) (g.B.Build.stands c.source.new.build) _ _ _ f _
+    (record { reads = c.in_ok-source.ensures.parsed; nothing = c.in_ok-parser.ensures.names; tells = c.in_ok-parser.ensures.tokens; ends = c.in_ok-source.ensures.ended }) lacks) c.finish.ensures.lacks

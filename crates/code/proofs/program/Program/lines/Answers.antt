@@ -1,5 +1,5 @@
 use Rattle.std.proofs.Common.{◌≡◌, ◌∙◌, ℕ, List, length, arith, ap}
-use Rattle.lang.specs.Pools.{Names, FunctionNames}
+use Rattle.grammar.specs.Pools.{Names, FunctionNames}
 use Rattle.code.specs.declared.instr.Instr.{Instr}
 use Rattle.code.specs.Listing.{functions_lines}
 use Rattle.code.proofs.Lines.{length-lines_of}

@@ -1,5 +1,5 @@
 use Rattle.std.proofs.Common.{◌≡◌, ◌∙◌, ◌<◌, ◌≤◌, [], ℕ, List, length, get_or, arith, ap, sym, subst, ◌+◌, ◌-◌, drop}
-use Rattle.lang.specs.Pools.{Names, FunctionNames}
+use Rattle.grammar.specs.Pools.{Names, FunctionNames}
 use Rattle.code.specs.declared.instr.Instr.{Instr}
 use Rattle.code.specs.Listing.{function_lines, lines_from}
 use Rattle.code.proofs.Lines.{line_here, line_behind, length-lines_from, length-instrs_lines, lines_from-end}

@@ -1,0 +1,207 @@
+-- The instructions of a file want what its trees want.
+use Rattle.std.specs.Prelude.{ℕ, ℤ, pos, zero, suc, ◌+◌, ◌≡◌, List, [], ◌∷◌, ◌++◌, Bool, true, false, Option, Some, None, length, nat_lt, ◌==◌, slice_get, if◌then◌else◌}
+use Rattle.std.proofs.Common.{refl, sym, ap, ◌∙◌, subst, arith, inl, inr, length-append, append_assoc, zero-add}
+use Rattle.std.proofs.lemmas.List.{length-replicate, length-map, append-nil}
+use Rattle.std.proofs.lemmas.List.FromFn.{get_or-map-range_with_len}
+use Rattle.std.proofs.lemmas.Option.{slice_get-get_or}
+use Rattle.std.proofs.lemmas.Bool.Decides.{nat_tests}
+use Rattle.std.proofs.Math.ListN.{get_or-map}
+use Rattle.std.proofs.Math.Seq.{get_or-append_seam}
+use Rattle.grammar.specs.Pools.{FunctionNames, names_of_function}
+use Rattle.grammar.specs.Profile.{Profile}
+use Rattle.grammar.specs.Tree.{Expr, Constant, Variable, Binary, Assign, Postfix, Call, Args, NoMore, Argument, Body, Done, Alone, When, Choose, While, Return, Function, File}
+use Rattle.code.specs.Functions.{function_at, no_function}
+use Rattle.code.specs.declared.instr.Instr.{Instr}
+use Rattle.code.specs.declared.instr.Instr.TheVariants.{Const, Retsub, Nop}
+use Rattle.code.specs.declared.want.Want.{Want}
+use Rattle.code.specs.declared.want.Want.TheVariants.{Quiet, Restart}
+use Rattle.code.specs.Generation.{Code, expr_code, args_code, body_code, function_code, functions_code, last_return, place_of, code_of}
+use Rattle.code.specs.Machine.{State, instr_at, address_at, names_at, first_frame, start_state, want_next, reached, is_ready, want_code}
+use Rattle.code.specs.Meaning.{Vars, Outcome, Gives, Awaits, Flow, Through, Returns, Again, and_then, tick, closed, wanted, zeros, value, values, effect, effect_within, want}
+use Rattle.grammar.specs.Resolved.{IsAmong, IsResolved, InExpr, InArgs, InBody}
+use Rattle.code.proofs.Follows.{Follows, follows_longer, chain, shown, wants}
+use Rattle.code.proofs.Instructions.{run, IsDepth, on_const, on_retsub_of_main}
+use Rattle.code.proofs.Pieces.{StandsAt, stands_both, stands, Tied, flown, Evaluates, EvaluatesAll, Effects}
+use Rattle.code.proofs.Expressions.{const_law, fetch_law, binary_law, assign_law, postfix_law, no_more_law, argument_law}
+use Rattle.code.proofs.Calls.{Holds, Follows_sooner, call_law}
+use Rattle.code.proofs.Statements.{done_law, alone_law, when_law, choose_law, while_law, return_law}
+
+module _ (p : Profile) (code : Code) (file : File) (n : ℕ) (again : Again) (holds : Holds p code file) (sooner : Follows_sooner p code file n again) (l : ℕ) where
+  abbrev e : ℕ
+  e = length file.externals
+
+  mutual
+    value_law : (x : Expr) → InExpr e l (length file.functions) x → Evaluates p code e l n (expr_code p x) (λ vars depth frames trace. value p file again x vars depth frames trace)
+    value_law (Constant x) r = const_law p code e l n x
+    value_law (Variable v) r = fetch_law p code e l n v r
+    value_law (Binary o a b) r =
+        binary_law p code e l n o (expr_code p a) (expr_code p b) (λ vars depth frames trace. value p file again a vars depth frames trace) (λ vars depth frames trace. value p file again b vars depth frames trace)
+        (value_law a r.0) (value_law b r.1)
+    value_law (Assign o v a) r =
+        assign_law p code e l n o v (expr_code p a) (λ vars depth frames trace. value p file again a vars depth frames trace) r.0 (value_law a r.1)
+    value_law (Postfix o v) r = postfix_law p code e l n o v r
+    value_law (Call f xs) r =
+        call_law p code file l n again holds sooner f r.0 (args_code p xs) (λ vars depth frames trace. values p file again xs vars depth frames trace) (values_law xs r.1)
+
+    values_law : (xs : Args) → InArgs e l (length file.functions) xs → EvaluatesAll p code e l n (args_code p xs) (λ vars depth frames trace. values p file again xs vars depth frames trace)
+    values_law NoMore r = no_more_law p code e l n
+    values_law (Argument a xs) r =
+        argument_law p code e l n (expr_code p a) (args_code p xs) (λ vars depth frames trace. value p file again a vars depth frames trace) (λ vars depth frames trace. values p file again xs vars depth frames trace)
+        (value_law a r.0) (values_law xs r.1)
+
+  effect_law : (b : Body) → InBody e l (length file.functions) b → Effects p code e l n (body_code p b) (λ vars depth frames trace. effect p file again b vars depth frames trace)
+  effect_law Done r = done_law p code e l n
+  effect_law (Alone a next) r =
+      alone_law p code e l n (expr_code p a) (body_code p next) (λ vars depth frames trace. value p file again a vars depth frames trace) (λ vars depth frames trace. effect p file again next vars depth frames trace)
+      (value_law a r.0) (effect_law next r.1)
+  effect_law (When c s next) r =
+      when_law p code e l n (expr_code p c) (body_code p s) (body_code p next) (λ vars depth frames trace. value p file again c vars depth frames trace) (λ vars depth frames trace. effect p file again s vars depth frames trace) (λ vars depth frames trace. effect p file again next vars depth frames trace)
+      (value_law c r.0) (effect_law s r.1) (effect_law next r.2)
+  effect_law (Choose c s t next) r =
+      choose_law p code e l n (expr_code p c) (body_code p s) (body_code p t) (body_code p next) (λ vars depth frames trace. value p file again c vars depth frames trace) (λ vars depth frames trace. effect p file again s vars depth frames trace) (λ vars depth frames trace. effect p file again t vars depth frames trace) (λ vars depth frames trace. effect p file again next vars depth frames trace)
+      (value_law c r.0) (effect_law s r.1) (effect_law t r.2) (effect_law next r.3)
+  effect_law (While c s next) r =
+      while_law p code e l n (expr_code p c) (body_code p s) (body_code p next) (λ vars depth frames trace. value p file again c vars depth frames trace) (λ vars depth frames trace. effect p file again s vars depth frames trace) (λ vars depth frames trace. effect p file again next vars depth frames trace) (λ vars depth frames trace. again (While c s next) vars depth frames trace)
+      (value_law c r.0) (effect_law s r.1) (effect_law next r.2) (sooner l (While c s next) r)
+  effect_law (Return a next) r =
+      return_law p code e l n (expr_code p a) (body_code p next) (λ vars depth frames trace. value p file again a vars depth frames trace) (value_law a r.0)
+
+-- At each bound, along as many replies as the bound allows.
+pub bounded : (p : Profile) (code : Code) (file : File) → Holds p code file → (n : ℕ) → Follows_sooner p code file n (effect_within p file n)
+bounded p code file holds zero l b r below f fs at vars depth frames trace base t short s = absurd (omega (arith, short))
+bounded p code file holds (suc n) l b r below f fs at vars depth frames trace base t short s =
+    let e = length file.externals in
+    let again = effect_within p file n in
+    let tied : Tied e l n below (f ∷ fs) vars [] depth frames trace = record {
+      sizes = t.sizes;
+      deep = t.deep;
+      count = t.count;
+      inside = t.inside;
+      short = omega (arith, short);
+    } in
+    follows_longer e l n (effect p file again b vars depth frames trace) (wants p code (run at below (f ∷ fs) vars []) trace) (flown p code (at + length (body_code p b at)) below f fs)
+    (effect_law p code file n again holds (bounded p code file holds n) l b r below f fs at vars depth frames trace base tied s)
+
+-- a list's part behind another part stands there
+stands_behind : (code : Code) (front xs : List Instr) → code.instructions ≡ front ++ xs → StandsAt code (length front) xs
+stands_behind code front [] e = tt
+stands_behind code front (x ∷ xs) e =
+    let whole : code.instructions ≡ (front ++ x ∷ []) ++ xs = e ∙ sym (append_assoc front (x ∷ []) xs) in
+    let here : instr_at code (length front) ≡ Some x =
+    ap (λ (is : List Instr). slice_get is (length front)) e
+    ∙ slice_get-get_or (front ++ x ∷ xs) (length front) x (omega (arith, length-append front (x ∷ xs)))
+    ∙ ap (λ (i : Instr). Some i) (get_or-append_seam front x xs x)
+    in
+    let next : length (front ++ x ∷ []) ≡ length front + 1 = length-append front (x ∷ []) in
+    (here, subst (λ (at : ℕ). StandsAt code at xs) next (stands_behind code (front ++ x ∷ []) xs whole))
+
+module _ (p : Profile) (file : File) where
+  -- each function of the order stands at its place
+  abbrev IsPlaced : ℕ → ℕ → Type 0
+  IsPlaced k at = StandsAt (code_of p file) at (function_code p (function_at file k) at)
+
+  placed_if : (k n at next : ℕ) → IsPlaced n at → ((k ≡ n → ⊥) → IsPlaced k next) → (b : Bool) → (k == n) ≡ b → IsPlaced k (if b then at else next)
+  placed_if k n at next first rest true test =
+      let same : n ≡ k = grind (arith, nat_tests, test) in
+      subst (λ (m : ℕ). StandsAt (code_of p file) at (function_code p (function_at file m) at)) same first
+  placed_if k n at next first rest false test = rest (λ same. absurd (grind (arith, nat_tests, test, same)))
+
+  placed_in : (k : ℕ) (order : List ℕ) (at : ℕ) → StandsAt (code_of p file) at (functions_code p file order at) → IsAmong k order → IsPlaced k (place_of p file k order at)
+  placed_in k [] at s here = absurd here
+  placed_in k (n ∷ order) at s here =
+      let behind = at + length (function_code p (function_at file n) at) in
+      let both = stands (code_of p file) at (function_code p (function_at file n)) (functions_code p file order) s in
+      placed_if k n at (place_of p file k order behind) both.first
+      (λ other. placed_in k order behind both.second (elim here [ inl same ↦ absurd (other same) | inr later ↦ later ]))
+      (k == n) refl
+
+  holds : IsResolved file → Holds p (code_of p file) file
+  holds r = record {
+    placed = λ k defined.
+        let whole = stands_behind (code_of p file) [] (functions_code p file file.order 0 ++ Nop ∷ []) refl in
+        let both = stands_both (code_of p file) 0 (functions_code p file file.order 0) (Nop ∷ []) whole in
+        let place : address_at (code_of p file) k ≡ place_of p file k file.order 0 =
+        get_or-map-range_with_len (λ k. place_of p file k file.order 0) 0 (length file.functions) k k 0 defined (zero-add k)
+        in
+        subst (λ (at : ℕ). StandsAt (code_of p file) at (function_code p (function_at file k) at)) (sym place) (placed_in k file.order 0 both.first (r.defined k defined));
+    named = λ k defined. get_or-map names_of_function file.functions k no_function;
+    known = λ k defined. omega (arith, defined, length-map file.functions names_of_function);
+    resolved = λ k defined. r.each k (function_at file k) (slice_get-get_or file.functions k no_function defined);
+  }
+
+  -- a robot starts in main, with all variables 0
+  abbrev main : Function
+  main = function_at file file.main
+
+  abbrev first_vars : Vars
+  first_vars = record { externals = zeros (length file.externals); locals = zeros (length main.variables) }
+
+  start_is : start_state (code_of p file) ≡ run (address_at (code_of p file) file.main) [] (first_frame ∷ []) first_vars []
+  start_is =
+      let named : names_at (code_of p file) file.main ≡ names_of_function main = get_or-map names_of_function file.functions file.main no_function in
+      let make = λ (words : List ℤ). let s : State = record { at = address_at (code_of p file) file.main; home = 0; words = words; frames = first_frame ∷ []; externals = zeros (length file.externals) } in s in
+      ap (λ (names : FunctionNames). make (zeros (length names.variables))) named ∙ ap make (sym (append-nil (zeros (length main.variables))))
+
+  -- what an evaluation of main wants
+  read_off : (e l n : ℕ) (o : Outcome ℤ) (w : Option Want) → Follows e l n o w (λ x vars rest. Some Restart) → w ≡ Some (wanted o)
+  read_off e l n (Gives x vars rest) w f = f.same
+  read_off e l n (Awaits event) w f = f
+
+  -- main does not end
+  main_law : (n : ℕ) (o : Outcome Flow) (w : Option Want) (at : ℕ) → StandsAt (code_of p file) at (Const (pos 0) ∷ Retsub ∷ []) → Follows (length file.externals) (length main.variables) n o w (flown p (code_of p file) at [] first_frame []) → w ≡ Some (wanted (and_then o (λ flow vars rest. closed p (length main.variables) 1 flow vars rest (λ x vars rest. Awaits Restart))))
+  main_law n o w at s f =
+      let code = code_of p file in
+      let e = length file.externals in
+      let l = length main.variables in
+      let k = λ (x : ℤ) (vars : Vars) (rest : List ℤ). Some Restart in
+      let deep : IsDepth l [] [] l = record { is = omega arith } in
+      let end = λ (flow : Flow) (vars : Vars) (rest : List ℤ). closed {A = ℤ} p l 1 flow vars rest (λ x vars rest. Awaits Restart) in
+      read_off e l n (and_then o end) w
+      (chain e l e l n o w (flown p code at [] first_frame []) end k f
+      (λ flow vars rest sizes short.
+      elim flow as (λ (flow : Flow). Follows e l n (end flow vars rest) (flown p code at [] first_frame [] flow vars rest) k) [
+        | Through ↦
+            on_const p code e l n [] (first_frame ∷ []) at k l vars [] l (pos 0) rest (λ rest. tick (nat_lt 1 1) Quiet rest (λ reply rest. Awaits Restart)) s.0 sizes deep
+            (λ r1 h1. on_retsub_of_main p code e l n [] [] (at + 1) k first_frame vars [] 1 (pos 0) r1 (λ rest. Awaits Restart) s.1.0 refl refl)
+        | Returns x ↦ refl
+      ]))
+
+-- Along all replies a resolved file's instructions find what they take, and want what its trees want.
+pub shown_is_want : (p : Profile) (file : File) → IsResolved file → (trace : List ℤ) → wants p (code_of p file) (start_state (code_of p file)) trace ≡ Some (want p file trace)
+shown_is_want p file r trace =
+    let code = code_of p file in
+    let f = main p file in
+    let e = length file.externals in
+    let l = length f.variables in
+    let n = suc (length trace) in
+    let start = address_at code file.main in
+    let vars = first_vars p file in
+    let known = holds p file r in
+    let both = stands code start (body_code p f.body) last_return (known.placed file.main r.main) in
+    let tied : Tied e l n [] (first_frame ∷ []) vars [] l 1 trace = record {
+      sizes = record { externals_are = length-replicate e (pos 0); locals_are = length-replicate l (pos 0) };
+      deep = record { is = omega arith };
+      count = refl;
+      inside = omega arith;
+      short = omega arith;
+    } in
+    ap (λ (s : State). wants p code s trace) (start_is p file)
+    ∙ main_law p file n (effect_within p file n f.body vars l 1 trace) (wants p code (run start [] (first_frame ∷ []) vars []) trace) (start + length (body_code p f.body start)) both.second
+    (bounded p code file known n l f.body (known.resolved file.main r.main).body [] first_frame [] start vars l 1 trace refl tied (omega arith) both.first)
+
+shown_if : (b : Bool) (v w : Want) → (if b then Some v else None) ≡ Some w → (v ≡ w) × (b ≡ true)
+shown_if true v w e = (cc, refl)
+shown_if false v w e = (cc, cc)
+
+-- what is shown is wanted, and the instruction is ready
+shown_ready : (p : Profile) (code : Code) (s : State) (w : Want) → shown p code s ≡ Some w → (want_next p code s ≡ w) × (is_ready code s (instr_at code s.at) ≡ true)
+shown_ready p code s w e = shown_if (is_ready code s (instr_at code s.at)) (want_next p code s) w e
+
+pub want_code_is_want : (p : Profile) (file : File) → IsResolved file → (trace : List ℤ) → want_code p (code_of p file) trace ≡ want p file trace
+unfolding wants
+want_code_is_want p file r trace = (shown_ready p (code_of p file) (reached p (code_of p file) (start_state (code_of p file)) trace) (want p file trace) (shown_is_want p file r trace)).0
+
+-- no instruction lacks what it takes
+pub never_stuck : (p : Profile) (file : File) → IsResolved file → (trace : List ℤ) → let s = reached p (code_of p file) (start_state (code_of p file)) trace in is_ready (code_of p file) s (instr_at (code_of p file) s.at) ≡ true
+unfolding wants
+never_stuck p file r trace = (shown_ready p (code_of p file) (reached p (code_of p file) (start_state (code_of p file)) trace) (want p file trace) (shown_is_want p file r trace)).1

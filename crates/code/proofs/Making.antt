@@ -1,0 +1,318 @@
+-- What the actions of trees make is their code, with each branch's target.
+use Rattle.std.specs.Prelude.{ℕ, Option, pos, ◌+◌, ◌≡◌, ◌<◌, List, [], ◌∷◌, ◌++◌, Bool, true, false, ◌==◌, length, take, map, slice_set, if◌then◌else◌}
+use Rattle.std.proofs.Common.{refl, sym, ap, ◌∙◌, subst, arith, append_assoc, length-append, length-take, zero-add, inl, inr, ◌≢◌, get_or, get_or-set_other, get_or-set_same}
+use Rattle.std.proofs.lemmas.Option.{slice_get-get_or}
+use Rattle.grammar.specs.Resolved.{IsAmong, AreDistinct, IsResolved}
+use Rattle.std.proofs.lemmas.Bool.Decides.{nat_tests}
+use Rattle.std.proofs.lemmas.List.{append-nil, length-set, length-map, length-replicate, get_or-take, ext_get_or}
+use Rattle.std.proofs.lemmas.List.FromFn.{get_or-map-range_with_len, length-range_with_len}
+use Rattle.std.specs.List.{range_with_len}
+use Rattle.std.proofs.Math.Seq.{set-append_seam}
+use Rattle.grammar.specs.declared.operators.Op.{Op}
+use Rattle.grammar.specs.Actions.{Action, Put, Apply, Middle, BeginCall, EndCall, IfTest, ElsePart, EndIf, BeginWhile, WhileTest, EndWhile, GiveBack, Chop, Finish, middle, expr_actions, args_actions, body_actions, function_actions, functions_actions, numbered_actions, actions}
+use Rattle.grammar.specs.Actions.{last_return as last_return_actions}
+use Rattle.grammar.specs.Operators.{is_logic}
+use Rattle.grammar.specs.Profile.{Profile}
+use Rattle.grammar.specs.Tree.{Expr, Constant, Variable, Binary, Assign, Postfix, Call, Args, NoMore, Argument, Body, Done, Alone, When, Choose, While, Return, Function, File}
+use Rattle.code.specs.Functions.{function_at, no_function}
+use Rattle.code.specs.declared.instr.Instr.{Instr}
+use Rattle.code.specs.declared.instr.Instr.TheVariants.{Fetch, Store, Const, Binop, Fcall, Retsub, Branch, Nop}
+use Rattle.code.specs.declared.instr.Instr.TheVariants as instr
+use Rattle.code.specs.Generation.{Piece, ◌⨾◌, only, no_code, past, either, loop, both, short_code, binary_code, expr_code, args_code, body_code, function_code, functions_code, last_return, place_of, code_of}
+use Rattle.code.specs.Making.{Made, made_nothing, made, with_code, with_function, with_branch, with_other, with_turn, opening, closing, without_open, making, made_from}
+
+pub made_from-append : (m : Made) (xs ys : List Action) → made_from m (xs ++ ys) ≡ made_from (made_from m xs) ys
+made_from-append m [] ys = refl
+made_from-append m (x ∷ xs) ys = made_from-append (making m x) xs ys
+
+-- what is held, with another list of instructions
+abbrev coded : Made → List Instr → Made
+coded m code = record { code = code; addresses = m.addresses; opened = m.opened }
+
+with_code-append : (m : Made) (a b : List Instr) → with_code (with_code m a) b ≡ with_code m (a ++ b)
+with_code-append m a b = ap (coded m) (append_assoc m.code a b)
+
+-- whatever is made so far, these actions add the piece
+abbrev pub Makes : List Action → Piece → Type 0
+Makes acts piece = (m : Made) → made_from m acts ≡ with_code m (piece (length m.code))
+
+-- code, and then what further actions add
+behind : (m : Made) (front : List Instr) (ys : List Action) (b : Piece) → Makes ys b → made_from (with_code m front) ys ≡ with_code m (front ++ b (length m.code + length front))
+behind m front ys b second =
+    second (with_code m front)
+    ∙ with_code-append m front (b (length (m.code ++ front)))
+    ∙ ap (λ (at : ℕ). with_code m (front ++ b at)) (length-append m.code front)
+
+pub makes_then : (xs ys : List Action) (a b : Piece) → Makes xs a → Makes ys b → Makes (xs ++ ys) (a ⨾ b)
+makes_then xs ys a b first second m =
+    made_from-append m xs ys ∙ ap (λ (r : Made). made_from r ys) (first m) ∙ behind m (a (length m.code)) ys b second
+
+-- one action that adds these instructions, and then others
+pub makes_one : (x : Action) (ys : List Action) (is : List Instr) (b : Piece) → ((m : Made) → making m x ≡ with_code m is) → Makes ys b → Makes (x ∷ ys) (only is ⨾ b)
+makes_one x ys is b first second m = ap (λ (r : Made). made_from r ys) (first m) ∙ behind m is ys b second
+
+-- the instruction at the seam is written
+set_at : (front back : List Instr) (y i : Instr) (k : ℕ) → k ≡ length front → slice_set (front ++ y ∷ back) k i ≡ front ++ i ∷ back
+set_at front back y i k e =
+    ap (λ (n : ℕ). slice_set (front ++ y ∷ back) n i) e ∙ set-append_seam front y back i
+
+-- a branch past a piece
+closed_if : (m : Made) (s : Piece) → closing (with_code (with_branch m) (s (length (with_branch m).code))) ≡ with_code m (past s (length m.code))
+closed_if m s =
+    let at = length m.code in
+    let front = m.code ++ Branch 0 ∷ [] in
+    let inner = s (at + 1) in
+    let here : length front ≡ at + 1 = length-append m.code (Branch 0 ∷ []) in
+    let flat : front ++ inner ≡ m.code ++ Branch 0 ∷ inner = append_assoc m.code (Branch 0 ∷ []) inner in
+    let target : length (m.code ++ Branch 0 ∷ inner) ≡ at + 1 + length inner = omega (arith, length-append m.code (Branch 0 ∷ inner)) in
+    ap (λ (n : ℕ). coded m (slice_set (front ++ s n) at (Branch (length (front ++ s n))))) here
+    ∙ ap (λ (l : List Instr). coded m (slice_set l at (Branch (length l)))) flat
+    ∙ ap (λ (n : ℕ). coded m (slice_set (m.code ++ Branch 0 ∷ inner) at (Branch n))) target
+    ∙ ap (coded m) (set_at m.code inner (Branch 0) (Branch (at + 1 + length inner)) at refl)
+
+pub makes_if : (xs ys : List Action) (s b : Piece) → Makes xs s → Makes ys b → Makes (IfTest ∷ (xs ++ EndIf ∷ ys)) (past s ⨾ b)
+makes_if xs ys s b first second m =
+    let m1 = with_branch m in
+    made_from-append m1 xs (EndIf ∷ ys)
+    ∙ ap (λ (r : Made). made_from (closing r) ys) (first m1)
+    ∙ ap (λ (r : Made). made_from r ys) (closed_if m s)
+    ∙ behind m (past s (length m.code)) ys b second
+
+-- the first part of a choice is made, and a branch without a target behind it
+abbrev between : Made → List Instr → Made
+between m inner = record {
+  code = m.code ++ Branch (length m.code + 1 + length inner + 1 + 1) ∷ (inner ++ Const (pos 0) ∷ Branch 0 ∷ []);
+  addresses = m.addresses;
+  opened = (length m.code + 1 + length inner + 1) ∷ m.opened;
+}
+
+begun_else : (m : Made) (s : Piece) → with_other (with_code (with_branch m) (s (length (with_branch m).code))) ≡ between m (s (length m.code + 1))
+begun_else m s =
+    let at = length m.code in
+    let front = m.code ++ Branch 0 ∷ [] in
+    let inner = s (at + 1) in
+    let tail : List Instr = Const (pos 0) ∷ Branch 0 ∷ [] in
+    let here : length front ≡ at + 1 = length-append m.code (Branch 0 ∷ []) in
+    let flat : front ++ inner ≡ m.code ++ Branch 0 ∷ inner = append_assoc m.code (Branch 0 ∷ []) inner in
+    let size : length (m.code ++ Branch 0 ∷ inner) ≡ at + 1 + length inner = omega (arith, length-append m.code (Branch 0 ∷ inner)) in
+    let step = λ (l : List Instr). let r : Made = record { code = slice_set (l ++ tail) at (Branch (length l + 1 + 1)); addresses = m.addresses; opened = (length l + 1) ∷ m.opened } in r in
+    let sized = λ (k : ℕ). let r : Made = record { code = slice_set ((m.code ++ Branch 0 ∷ inner) ++ tail) at (Branch (k + 1 + 1)); addresses = m.addresses; opened = (k + 1) ∷ m.opened } in r in
+    let other = at + 1 + length inner + 1 + 1 in
+    let last = λ (l : List Instr). let r : Made = record { code = l; addresses = m.addresses; opened = (at + 1 + length inner + 1) ∷ m.opened } in r in
+    ap (λ (n : ℕ). step (front ++ s n)) here
+    ∙ ap step flat
+    ∙ ap sized size
+    ∙ ap (λ (l : List Instr). last (slice_set l at (Branch other))) (append_assoc m.code (Branch 0 ∷ inner) tail)
+    ∙ ap last (set_at m.code (inner ++ tail) (Branch 0) (Branch other) at refl)
+
+closed_else : (m : Made) (s t : Piece) → closing (with_code (between m (s (length m.code + 1))) (t (length (between m (s (length m.code + 1))).code))) ≡ with_code m (either s t (length m.code))
+closed_else m s t =
+    let at = length m.code in
+    let inner = s (at + 1) in
+    let other = at + 1 + length inner + 1 + 1 in
+    let begun = between m inner in
+    let second = t other in
+    let front = m.code ++ Branch other ∷ (inner ++ Const (pos 0) ∷ []) in
+    let here : length begun.code ≡ other =
+    omega (arith, length-append m.code (Branch other ∷ (inner ++ Const (pos 0) ∷ Branch 0 ∷ [])), length-append inner (Const (pos 0) ∷ Branch 0 ∷ []))
+    in
+    let place : at + 1 + length inner + 1 ≡ length front =
+    omega (arith, length-append m.code (Branch other ∷ (inner ++ Const (pos 0) ∷ [])), length-append inner (Const (pos 0) ∷ []))
+    in
+    let flat : begun.code ++ second ≡ front ++ Branch 0 ∷ second = simp append_assoc in
+    let size : length (front ++ Branch 0 ∷ second) ≡ other + length second = omega (arith, length-append front (Branch 0 ∷ second), place) in
+    let step = λ (l : List Instr). coded m (slice_set l (at + 1 + length inner + 1) (Branch (length l))) in
+    let end : Instr = Branch (other + length second) in
+    let whole : front ++ end ∷ second ≡ m.code ++ either s t at = simp append_assoc in
+    ap (λ (n : ℕ). step (begun.code ++ t n)) here
+    ∙ ap step flat
+    ∙ ap (λ (n : ℕ). coded m (slice_set (front ++ Branch 0 ∷ second) (at + 1 + length inner + 1) (Branch n))) size
+    ∙ ap (coded m) (set_at front second (Branch 0) end (at + 1 + length inner + 1) place)
+    ∙ ap (coded m) whole
+
+pub makes_choice : (xs ys zs : List Action) (s t b : Piece) → Makes xs s → Makes ys t → Makes zs b → Makes (IfTest ∷ (xs ++ ElsePart ∷ (ys ++ EndIf ∷ zs))) (either s t ⨾ b)
+makes_choice xs ys zs s t b first second third m =
+    let m1 = with_branch m in
+    let m2 = between m (s (length m.code + 1)) in
+    made_from-append m1 xs (ElsePart ∷ (ys ++ EndIf ∷ zs))
+    ∙ ap (λ (r : Made). made_from (with_other r) (ys ++ EndIf ∷ zs)) (first m1)
+    ∙ ap (λ (r : Made). made_from r (ys ++ EndIf ∷ zs)) (begun_else m s)
+    ∙ made_from-append m2 ys (EndIf ∷ zs)
+    ∙ ap (λ (r : Made). made_from (closing r) zs) (second m2)
+    ∙ ap (λ (r : Made). made_from r zs) (closed_else m s t)
+    ∙ behind m (either s t (length m.code)) zs b third
+
+-- a loop
+closed_loop : (m : Made) (front : List Instr) (s : Piece) → let m2 = with_branch (with_code (opening m) front) in without_open (closing (with_turn (with_code m2 (s (length m2.code))))) ≡ with_code m (front ++ past (s ⨾ only (Const (pos 0) ∷ Branch (length m.code) ∷ [])) (length m.code + length front))
+closed_loop m front s =
+    let at = length m.code in
+    let tail : List Instr = Const (pos 0) ∷ Branch at ∷ [] in
+    let test = m.code ++ front in
+    let at1 = at + length front in
+    let before = test ++ Branch 0 ∷ [] in
+    let inner = s (at1 + 1) in
+    let test_is : length test ≡ at1 = length-append m.code front in
+    let here : length before ≡ at1 + 1 = omega (arith, length-append test (Branch 0 ∷ []), test_is) in
+    let flat : (before ++ inner) ++ tail ≡ test ++ Branch 0 ∷ (inner ++ tail) = simp append_assoc in
+    let size : length (test ++ Branch 0 ∷ (inner ++ tail)) ≡ at1 + 1 + length (inner ++ tail) = omega (arith, length-append test (Branch 0 ∷ (inner ++ tail)), test_is) in
+    let step = λ (l : List Instr). coded m (slice_set l (length test) (Branch (length l))) in
+    let end : Instr = Branch (at1 + 1 + length (inner ++ tail)) in
+    ap (λ (n : ℕ). step ((before ++ s n) ++ tail)) here
+    ∙ ap step flat
+    ∙ ap (λ (n : ℕ). coded m (slice_set (test ++ Branch 0 ∷ (inner ++ tail)) (length test) (Branch n))) size
+    ∙ ap (coded m) (set_at test (inner ++ tail) (Branch 0) end (length test) refl)
+    ∙ ap (coded m) (append_assoc m.code front (end ∷ (inner ++ tail)))
+
+pub makes_loop : (xs ys zs : List Action) (c s b : Piece) → Makes xs c → Makes ys s → Makes zs b → Makes (BeginWhile ∷ (xs ++ WhileTest ∷ (ys ++ EndWhile ∷ zs))) (loop c s ⨾ b)
+makes_loop xs ys zs c s b first second third m =
+    let m0 = opening m in
+    let front = c (length m.code) in
+    let m2 = with_branch (with_code m0 front) in
+    made_from-append m0 xs (WhileTest ∷ (ys ++ EndWhile ∷ zs))
+    ∙ ap (λ (r : Made). made_from (with_branch r) (ys ++ EndWhile ∷ zs)) (first m0)
+    ∙ made_from-append m2 ys (EndWhile ∷ zs)
+    ∙ ap (λ (r : Made). made_from (without_open (closing (with_turn r))) zs) (second m2)
+    ∙ ap (λ (r : Made). made_from r zs) (closed_loop m front s)
+    ∙ behind m (loop c s (length m.code)) zs b third
+
+-- what is said between the sides of && and || makes nothing
+makes_middle : (o : Op) (ys : List Action) (b : Piece) → Makes ys b → Makes (middle o ++ ys) b
+makes_middle o ys b second =
+    elim (is_logic o) as (λ v. Makes ((if v then Middle o ∷ [] else []) ++ ys) b) [ true ↦ second | false ↦ second ]
+
+makes_nothing : Makes [] no_code
+makes_nothing m = ap (coded m) (sym (append-nil m.code))
+
+-- In the first profile the actions of trees make their code.
+module _ (p : Profile) (full : p.short_circuit ≡ false) where
+  as_full : (o : Op) (a b : Piece) (acts : List Action) → Makes acts (both o a b) → Makes acts (binary_code p o a b)
+  as_full o a b acts h = subst (λ (c : Bool). Makes acts (if c then short_code o a b else both o a b)) (sym full) h
+
+  mutual
+    pub makes_expr : (x : Expr) → Makes (expr_actions x) (expr_code p x)
+    makes_expr (Constant value) = λ m. refl
+    makes_expr (Variable v) = λ m. refl
+    makes_expr (Binary o a b) =
+        let last : Makes (Apply o ∷ []) (only (Binop o ∷ [])) = λ m. refl in
+        as_full o (expr_code p a) (expr_code p b) (expr_actions a ++ (middle o ++ (expr_actions b ++ Apply o ∷ [])))
+        (makes_then (expr_actions a) (middle o ++ (expr_actions b ++ Apply o ∷ [])) (expr_code p a) (expr_code p b ⨾ only (Binop o ∷ []))
+        (makes_expr a)
+        (makes_middle o (expr_actions b ++ Apply o ∷ []) (expr_code p b ⨾ only (Binop o ∷ []))
+        (makes_then (expr_actions b) (Apply o ∷ []) (expr_code p b) (only (Binop o ∷ [])) (makes_expr b) last)))
+    makes_expr (Assign o v a) =
+        let last : Makes (Put v o ∷ []) (only (Store v o ∷ [])) = λ m. refl in
+        makes_then (expr_actions a) (Put v o ∷ []) (expr_code p a) (only (Store v o ∷ [])) (makes_expr a) last
+    makes_expr (Postfix o v) = λ m. ap (coded m) (simp append_assoc)
+    makes_expr (Call f xs) =
+        let last : Makes (EndCall f ∷ []) (only (Fcall f ∷ [])) = λ m. refl in
+        makes_one BeginCall (args_actions xs ++ EndCall f ∷ []) (instr.Frame ∷ []) (args_code p xs ⨾ only (Fcall f ∷ [])) (λ m. refl)
+        (makes_then (args_actions xs) (EndCall f ∷ []) (args_code p xs) (only (Fcall f ∷ [])) (makes_args xs) last)
+
+    pub makes_args : (xs : Args) → Makes (args_actions xs) (args_code p xs)
+    makes_args NoMore = makes_nothing
+    makes_args (Argument a xs) = makes_then (expr_actions a) (args_actions xs) (expr_code p a) (args_code p xs) (makes_expr a) (makes_args xs)
+
+  pub makes_body : (b : Body) → Makes (body_actions b) (body_code p b)
+  makes_body Done = makes_nothing
+  makes_body (Alone a next) =
+      makes_then (expr_actions a) (Chop ∷ body_actions next) (expr_code p a) (only (instr.Chop ∷ []) ⨾ body_code p next) (makes_expr a)
+      (makes_one Chop (body_actions next) (instr.Chop ∷ []) (body_code p next) (λ m. refl) (makes_body next))
+  makes_body (When c s next) =
+      makes_then (expr_actions c) (IfTest ∷ (body_actions s ++ EndIf ∷ body_actions next)) (expr_code p c) (past (body_code p s) ⨾ body_code p next) (makes_expr c)
+      (makes_if (body_actions s) (body_actions next) (body_code p s) (body_code p next) (makes_body s) (makes_body next))
+  makes_body (Choose c s t next) =
+      makes_then (expr_actions c) (IfTest ∷ (body_actions s ++ ElsePart ∷ (body_actions t ++ EndIf ∷ body_actions next))) (expr_code p c) (either (body_code p s) (body_code p t) ⨾ body_code p next) (makes_expr c)
+      (makes_choice (body_actions s) (body_actions t) (body_actions next) (body_code p s) (body_code p t) (body_code p next) (makes_body s) (makes_body t) (makes_body next))
+  makes_body (While c s next) =
+      makes_loop (expr_actions c) (body_actions s) (body_actions next) (expr_code p c) (body_code p s) (body_code p next) (makes_expr c) (makes_body s) (makes_body next)
+  makes_body (Return a next) =
+      makes_then (expr_actions a) (GiveBack ∷ body_actions next) (expr_code p a) (only (Retsub ∷ []) ⨾ body_code p next) (makes_expr a)
+      (makes_one GiveBack (body_actions next) (Retsub ∷ []) (body_code p next) (λ m. refl) (makes_body next))
+
+  -- a function: its code, and its address by its number
+  made_function : (m : Made) (n : ℕ) (f : Function) (more : List Action) → made_from m (function_actions n f ++ more) ≡ made_from (with_code (with_function m n) (function_code p f (length m.code))) more
+  made_function m n f more =
+      let acts = body_actions f.body ++ (last_return_actions ++ Finish (length f.variables) ∷ []) in
+      let ended : Makes (last_return_actions ++ Finish (length f.variables) ∷ []) last_return = λ m. ap (coded m) (append_assoc m.code (Const (pos 0) ∷ []) (Retsub ∷ [])) in
+      made_from-append (with_function m n) acts more
+      ∙ ap (λ (r : Made). made_from r more)
+      (makes_then (body_actions f.body) (last_return_actions ++ Finish (length f.variables) ∷ []) (body_code p f.body) last_return (makes_body f.body) ended (with_function m n))
+
+  module _ (file : File) where
+    -- one function of the order, and the others
+    made_next : (order : List ℕ) (m : Made) (n : ℕ) → n < length file.functions → made_from m (functions_actions file.functions (n ∷ order)) ≡ made_from (with_code (with_function m n) (function_code p (function_at file n) (length m.code))) (functions_actions file.functions order)
+    made_next order m n known =
+        ap (λ (f : Option Function). made_from m (numbered_actions n f ++ functions_actions file.functions order)) (slice_get-get_or file.functions n no_function known)
+        ∙ made_function m n (function_at file n) (functions_actions file.functions order)
+
+    abbrev AllKnown : List ℕ → Type 0
+    AllKnown order = (k : ℕ) → IsAmong k order → k < length file.functions
+
+    -- the code of functions in this order
+    made_code : (order : List ℕ) (m : Made) → AllKnown order → (made_from m (functions_actions file.functions order)).code ≡ m.code ++ functions_code p file order (length m.code)
+    made_code [] m known = sym (append-nil m.code)
+    made_code (n ∷ order) m known =
+        let front = function_code p (function_at file n) (length m.code) in
+        ap (λ (r : Made). r.code) (made_next order m n (known n (inl refl)))
+        ∙ made_code order (with_code (with_function m n) front) (λ k later. known k (inr later))
+        ∙ append_assoc m.code front (functions_code p file order (length (m.code ++ front)))
+        ∙ ap (λ (at : ℕ). m.code ++ (front ++ functions_code p file order at)) (length-append m.code front)
+
+    -- the addresses of the others stay
+    other_addresses : (order : List ℕ) (m : Made) (k : ℕ) → AllKnown order → (IsAmong k order → ⊥) → get_or (made_from m (functions_actions file.functions order)).addresses k 0 ≡ get_or m.addresses k 0
+    other_addresses [] m k known other = refl
+    other_addresses (n ∷ order) m k known other =
+        let front = function_code p (function_at file n) (length m.code) in
+        let apart : k ≢ n = λ same. other (inl same) in
+        ap (λ (r : Made). get_or r.addresses k 0) (made_next order m n (known n (inl refl)))
+        ∙ other_addresses order (with_code (with_function m n) front) k (λ j later. known j (inr later)) (λ later. other (inr later))
+        ∙ get_or-set_other m.addresses n k (length m.code) 0 apart
+
+    length-addresses : (order : List ℕ) (m : Made) → AllKnown order → length (made_from m (functions_actions file.functions order)).addresses ≡ length m.addresses
+    length-addresses [] m known = refl
+    length-addresses (n ∷ order) m known =
+        ap (λ (r : Made). length r.addresses) (made_next order m n (known n (inl refl)))
+        ∙ length-addresses order (with_code (with_function m n) (function_code p (function_at file n) (length m.code))) (λ k later. known k (inr later))
+        ∙ length-set m.addresses n (length m.code)
+
+    -- a function's own address
+    own_if : (k n : ℕ) (order : List ℕ) (m next : Made) (place : ℕ) → next.addresses ≡ slice_set m.addresses n (length m.code) → AllKnown order → k < length m.addresses → (IsAmong n order → ⊥) → IsAmong k (n ∷ order) → (IsAmong k order → get_or (made_from next (functions_actions file.functions order)).addresses k 0 ≡ place) → (b : Bool) → (k == n) ≡ b → get_or (made_from next (functions_actions file.functions order)).addresses k 0 ≡ (if b then length m.code else place)
+    own_if k n order m next place set known within once here later true test =
+        let same : n ≡ k = grind (arith, nat_tests, test) in
+        let other : IsAmong k order → ⊥ = subst (λ (j : ℕ). IsAmong j order → ⊥) same once in
+        other_addresses order next k known other
+        ∙ ap (λ (l : List ℕ). get_or l k 0) set
+        ∙ ap (λ (j : ℕ). get_or (slice_set m.addresses j (length m.code)) k 0) same
+        ∙ get_or-set_same m.addresses k (length m.code) 0 within
+    own_if k n order m next place set known within once here later false test =
+        later (elim here [ inl same ↦ absurd (grind (arith, nat_tests, test, same)) | inr there ↦ there ])
+
+    own_address : (order : List ℕ) (m : Made) (k : ℕ) → AllKnown order → AreDistinct order → IsAmong k order → k < length m.addresses → get_or (made_from m (functions_actions file.functions order)).addresses k 0 ≡ place_of p file k order (length m.code)
+    own_address [] m k known once here within = absurd here
+    own_address (n ∷ order) m k known once here within =
+        let at = length m.code in
+        let front = function_code p (function_at file n) at in
+        let next = with_code (with_function m n) front in
+        let inside : k < length next.addresses = omega (arith, within, length-set m.addresses n at) in
+        ap (λ (r : Made). get_or r.addresses k 0) (made_next order m n (known n (inl refl)))
+        ∙ own_if k n order m next (place_of p file k order (at + length front)) refl (λ j later. known j (inr later)) within once.0 here
+        (λ there. own_address order next k (λ j later. known j (inr later)) once.1 there inside ∙ ap (λ (a : ℕ). place_of p file k order a) (length-append m.code front))
+        (k == n) refl
+
+    -- What the actions of a file make: its code without the NOP, and the addresses of its functions.
+    pub made_file_code : IsResolved file → (made (actions file)).code ++ Nop ∷ [] ≡ (code_of p file).instructions
+    made_file_code r = ap (λ (code : List Instr). code ++ Nop ∷ []) (made_code file.order made_nothing r.only)
+
+    pub made_file_addresses : IsResolved file → take (length file.functions) (made (actions file)).addresses ≡ (code_of p file).addresses
+    made_file_addresses r =
+        let made_all = (made (actions file)).addresses in
+        let n = length file.functions in
+        let size : length made_all ≡ 64 = length-addresses file.order made_nothing r.only ∙ length-replicate {A = ℕ} 64 0 in
+        let place = λ (k : ℕ). place_of p file k file.order 0 in
+        ext_get_or 0 (take n made_all) (map place (range_with_len 0 n))
+        (omega (arith, length-take n made_all, size, r.functions, length-map (range_with_len 0 n) place, length-range_with_len 0 n))
+        (λ k within.
+        let below : k < n = omega (arith, within, length-take n made_all) in
+        get_or-take n made_all k 0 below
+        ∙ own_address file.order made_nothing k r.only r.once (r.defined k below) (omega (arith, below, r.functions, length-replicate {A = ℕ} 64 0))
+        ∙ sym (get_or-map-range_with_len place 0 n k k 0 below (zero-add k)))

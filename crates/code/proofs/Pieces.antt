@@ -1,0 +1,118 @@
+-- Where pieces of code stand, and what it is for one to evaluate an expression or to have the effect of statements.
+use Rattle.std.specs.Prelude.{ℕ, ℤ, pos, suc, ◌+◌, ◌≡◌, ◌<◌, ◌≤◌, List, [], ◌∷◌, ◌++◌, Option, Some, length}
+use Rattle.std.proofs.Common.{ap, subst, arith, length-append}
+use Rattle.grammar.specs.Profile.{Profile}
+use Rattle.code.specs.declared.instr.Instr.{Instr}
+use Rattle.code.specs.declared.instr.Instr.TheVariants.{Const, Branch}
+use Rattle.code.specs.declared.want.Want.{Want}
+use Rattle.code.specs.declared.want.Want.TheVariants.{Restart}
+use Rattle.code.specs.Generation.{Code, Piece, ◌⨾◌, either}
+use Rattle.code.specs.declared.frame.Frame.{Frame}
+use Rattle.code.specs.Machine.{instr_at}
+use Rattle.code.specs.Meaning.{Vars, Outcome, Flow, Through, Returns}
+use Rattle.code.proofs.Follows.{HasSizes, Arrives, Follows, wants}
+use Rattle.code.proofs.Instructions.{run, IsDepth, back_with}
+
+-- these instructions stand in the code from this address on
+abbrev pub StandsAt : Code → ℕ → List Instr → Type 0
+StandsAt code at [] = Unit {0}
+StandsAt code at (i ∷ is) = (instr_at code at ≡ Some i) × StandsAt code (at + 1) is
+
+-- the two parts of a list that stands in the code
+pub record StandsBoth (code : Code) (at : ℕ) (xs ys : List Instr) : Type 0 where
+  pub first : StandsAt code at xs
+  pub second : StandsAt code (at + length xs) ys
+
+pub stands_both : (code : Code) (at : ℕ) (xs ys : List Instr) → StandsAt code at (xs ++ ys) → StandsBoth code at xs ys
+stands_both code at [] ys s =
+    let e : at ≡ at + 0 = omega arith in
+    record { first = tt; second = subst (λ (a : ℕ). StandsAt code a ys) e s }
+stands_both code at (x ∷ xs) ys s =
+    let rest = stands_both code (at + 1) xs ys s.1 in
+    let e : at + 1 + length xs ≡ at + suc (length xs) = omega arith in
+    record { first = (s.0, rest.first); second = subst (λ (a : ℕ). StandsAt code a ys) e rest.second }
+
+pub stands : (code : Code) (at : ℕ) (a b : Piece) → StandsAt code at ((a ⨾ b) at) → StandsBoth code at (a at) (b (at + length (a at)))
+stands code at a b s = stands_both code at (a at) (b (at + length (a at))) s
+
+-- where a piece and the one behind it end
+pub ends : (at : ℕ) (a b : Piece) → at + length (a at) + length (b (at + length (a at))) ≡ at + length ((a ⨾ b) at)
+ends at a b = omega (arith, length-append (a at) (b (at + length (a at))))
+
+-- a choice between two pieces
+pub record StandsEither (code : Code) (at : ℕ) (s t : Piece) (other end : ℕ) : Type 0 where
+  pub branch : instr_at code at ≡ Some (Branch other)
+  pub first : StandsAt code (at + 1) (s (at + 1))
+  pub zero : instr_at code (at + 1 + length (s (at + 1))) ≡ Some (Const (pos 0))
+  pub jump : instr_at code (at + 1 + length (s (at + 1)) + 1) ≡ Some (Branch end)
+  pub second : StandsAt code other (t other)
+
+abbrev pub other_of : ℕ → Piece → ℕ
+other_of at s = at + 1 + length (s (at + 1)) + 1 + 1
+
+abbrev pub end_of : ℕ → Piece → Piece → ℕ
+end_of at s t = other_of at s + length (t (other_of at s))
+
+pub stands_either : (code : Code) (at : ℕ) (s t : Piece) → StandsAt code at (either s t at) → StandsEither code at s t (other_of at s) (end_of at s t)
+stands_either code at s t h =
+    let both = stands_both code (at + 1) (s (at + 1)) (Const (pos 0) ∷ Branch (end_of at s t) ∷ t (other_of at s)) h.1 in
+    record { branch = h.0; first = both.first; zero = both.second.0; jump = both.second.1.0; second = both.second.1.1 }
+
+pub ends_either : (at : ℕ) (s t : Piece) → end_of at s t ≡ at + length (either s t at)
+ends_either at s t =
+    omega (arith, length-append (s (at + 1)) (Const (pos 0) ∷ Branch (end_of at s t) ∷ t (other_of at s)))
+
+-- the trees' variables, depth, frames and replies belong to a run
+pub record Tied (e l n : ℕ) (below : List ℤ) (fs : List Frame) (vars : Vars) (temps : List ℤ) (depth frames : ℕ) (trace : List ℤ) : Type 0 where
+  pub sizes : HasSizes e l vars
+  pub deep : IsDepth l below temps depth
+  pub count : frames ≡ length fs
+  pub inside : 0 < length fs
+  pub short : length trace ≤ n
+
+-- how an evaluation goes: at these variables, depth, frames, along these replies
+abbrev pub Evaluation : Type 0 → Type 0
+Evaluation A = Vars → ℕ → ℕ → List ℤ → Outcome A
+
+module _ (p : Profile) (code : Code) where
+  -- the run of a function goes on behind a piece, with its values pushed
+  abbrev pub gone_on : ℕ → List ℤ → List Frame → List ℤ → ℤ → Vars → List ℤ → Option Want
+  gone_on at below fs temps x vars rest = wants p code (run at below fs vars (temps ++ x ∷ [])) rest
+
+  abbrev pub gone_on_with : ℕ → List ℤ → List Frame → List ℤ → List ℤ → Vars → List ℤ → Option Want
+  gone_on_with at below fs temps xs vars rest = wants p code (run at below fs vars (temps ++ xs)) rest
+
+  -- behind statements: the run goes on, or the function has returned, which main never does
+  abbrev pub flown : ℕ → List ℤ → Frame → List Frame → Flow → Vars → List ℤ → Option Want
+  flown at below f fs Through vars rest = wants p code (run at below (f ∷ fs) vars []) rest
+  flown at below f [] (Returns x) vars rest = Some Restart
+  flown at below f (g ∷ fs) (Returns x) vars rest = wants p code (back_with f below (g ∷ fs) vars.externals x) rest
+
+module _ (p : Profile) (code : Code) (e l n : ℕ) where
+  -- wherever it stands, the piece follows the evaluation and pushes its value
+  abbrev pub Evaluates : Piece → Evaluation ℤ → Type 0
+  Evaluates piece ev =
+      (below : List ℤ) (fs : List Frame) (at : ℕ) (vars : Vars) (temps : List ℤ) (depth frames : ℕ) (trace : List ℤ) →
+      Tied e l n below fs vars temps depth frames trace → StandsAt code at (piece at) →
+      Follows e l n (ev vars depth frames trace) (wants p code (run at below fs vars temps) trace) (gone_on p code (at + length (piece at)) below fs temps)
+
+  abbrev pub EvaluatesAll : Piece → Evaluation (List ℤ) → Type 0
+  EvaluatesAll piece ev =
+      (below : List ℤ) (fs : List Frame) (at : ℕ) (vars : Vars) (temps : List ℤ) (depth frames : ℕ) (trace : List ℤ) →
+      Tied e l n below fs vars temps depth frames trace → StandsAt code at (piece at) →
+      Follows e l n (ev vars depth frames trace) (wants p code (run at below fs vars temps) trace) (gone_on_with p code (at + length (piece at)) below fs temps)
+
+  -- the same of statements, which leave the stack as it was
+  abbrev pub Effects : Piece → Evaluation Flow → Type 0
+  Effects piece ev =
+      (below : List ℤ) (f : Frame) (fs : List Frame) (at : ℕ) (vars : Vars) (depth frames : ℕ) (trace : List ℤ) →
+      f.base ≡ length below → Tied e l n below (f ∷ fs) vars [] depth frames trace → StandsAt code at (piece at) →
+      Follows e l n (ev vars depth frames trace) (wants p code (run at below (f ∷ fs) vars []) trace) (flown p code (at + length (piece at)) below f fs)
+
+  -- an evaluation is done where the run arrives
+  pub arrives : (below : List ℤ) (fs : List Frame) (from to : ℕ) (vars : Vars) (temps : List ℤ) (rest : List ℤ) → HasSizes e l vars → length rest ≤ n → from ≡ to → Arrives e l n vars rest (wants p code (run from below fs vars temps) rest) (wants p code (run to below fs vars temps) rest)
+  arrives below fs from to vars temps rest sizes short same = record {
+    sizes = sizes;
+    short = short;
+    same = ap (λ (at : ℕ). wants p code (run at below fs vars temps) rest) same;
+  }

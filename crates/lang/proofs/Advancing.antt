@@ -1,0 +1,92 @@
+-- How the reading of a file goes on, and where it stops.
+use Rattle.std.proofs.Common.{◌≡◌, ℕ, ◌+◌, ◌<◌, ◌≤◌, List, [], ◌∷◌, ◌++◌, refl, sym, ap, ◌∙◌, subst, Bool, true, false, arith, append_assoc, append-nil}
+use Rattle.std.specs.Prelude.{Option, Some, None}
+use Rattle.tokens.specs.declared.lexemes.Lexeme.{Lexeme}
+use Rattle.grammar.specs.declared.diagnostics.Diagnostic.{Diagnostic}
+use Rattle.grammar.specs.declared.diagnostics.ParseFault.{ParseFault}
+use Rattle.grammar.specs.Actions.{Action, function_actions}
+use Rattle.grammar.specs.Building.{Meaning, AppendsAll}
+use Rattle.grammar.specs.Derivation.{Definition, state}
+use Rattle.grammar.specs.Faults.{definitions_actions, levels}
+use Rattle.grammar.specs.Grammar.{Item}
+use Rattle.grammar.specs.Parsing.{Passes, Fails}
+use Rattle.grammar.specs.Profile.{Profile}
+use Rattle.grammar.specs.Scope.{Scope}
+use Rattle.grammar.proofs.Runs.{back, here, then}
+use Rattle.parsing.specs.Position.{GoesOn, Place, scope_at, tokens_at}
+use Rattle.parsing.specs.Stretch.{Derives, FailsAt, FailsItem, Refused, Takes}
+use Rattle.parsing.proofs.Stretches.{refused_map, told_goes}
+use Rattle.lang.specs.Progress.{Advances, StopsReading}
+
+pub definitions_actions-append : (ds es : List Definition) → definitions_actions (ds ++ es) ≡ definitions_actions ds ++ definitions_actions es
+definitions_actions-append [] es = refl
+definitions_actions-append (d ∷ ds) es =
+    ap (λ (acts : List Action). function_actions d.number d.function ++ acts) (definitions_actions-append ds es)
+    ∙ sym (append_assoc (function_actions d.number d.function) (definitions_actions ds) (definitions_actions es))
+
+-- nothing is read
+pub advances_stay : (before : Meaning) (front : List Item) (at : Place) → Advances before before front front at at
+advances_stay before front at = record {
+  consumed = [];
+  more = [];
+  told = λ lexemes is. record { rest = lexemes; is = refl; shows = is };
+  follows = λ rest g. g;
+  added = λ profile acts h. subst (λ (xs : List Action). before profile xs) (sym (append-nil acts)) h;
+  passes = λ rest g profile functions h. subst (λ (fs : List Definition). Passes profile (state front rest [] (scope_at at) functions) (state front rest [] (scope_at at) fs)) (sym (append-nil functions)) (here profile _);
+}
+
+-- two readings one behind another
+pub advances_then : (before mid after : Meaning) (front between pending : List Item) (at now there : Place) →
+    Advances before mid front between at now → Advances mid after between pending now there → Advances before after front pending at there
+advances_then before mid after front between pending at now there a b = record {
+  consumed = a.consumed ++ b.consumed;
+  more = a.more ++ b.more;
+  told = λ lexemes is.
+      let t : Takes a.consumed lexemes now = a.told lexemes is in
+      let u : Takes b.consumed t.rest there = b.told t.rest t.shows in
+      record { rest = u.rest; is = t.is ∙ ap (λ (ls : List Lexeme). a.consumed ++ ls) u.is ∙ sym (append_assoc a.consumed b.consumed u.rest); shows = u.shows };
+  follows = λ rest g. subst (λ (ls : List Lexeme). GoesOn at ls) (sym (append_assoc a.consumed b.consumed rest)) (a.follows _ (b.follows rest g));
+  added = λ profile acts h.
+      subst (λ (xs : List Action). after profile xs) (append_assoc acts (definitions_actions a.more) (definitions_actions b.more) ∙ ap (λ (xs : List Action). acts ++ xs) (sym (definitions_actions-append a.more b.more)))
+      (b.added profile _ (a.added profile acts h));
+  passes = λ rest g profile functions h.
+      let told : mid profile (definitions_actions (functions ++ a.more)) = subst (λ (xs : List Action). mid profile xs) (sym (definitions_actions-append functions a.more)) (a.added profile _ h) in
+      rw (append_assoc a.consumed b.consumed rest, sym (append_assoc functions a.more b.more))
+      (then profile _ _ _ (a.passes (b.consumed ++ rest) (b.follows rest g) profile functions h) (b.passes rest g profile (functions ++ a.more) told));
+}
+
+-- a fault behind a reading
+pub stops_then : (before mid : Meaning) (front between : List Item) (at now : Place) (d : Diagnostic) →
+    Advances before mid front between at now → StopsReading mid between now d → StopsReading before front at d
+stops_then before mid front between at now d a stops lexemes is profile functions h =
+    let t : Takes a.consumed lexemes now = a.told lexemes is in
+    let told : mid profile (definitions_actions (functions ++ a.more)) = subst (λ (xs : List Action). mid profile xs) (sym (definitions_actions-append functions a.more)) (a.added profile _ h) in
+    rw t.is (back profile _ _ d (a.passes t.rest (told_goes now t.rest t.shows) profile functions h) (stops t.rest t.shows profile (functions ++ a.more) told))
+
+-- a stretch between functions
+pub stretch_advances : (before : Meaning) (front pending stack : List Item) (at there : Place) → levels stack ≡ 0 → Derives 0 front pending [] [] at there →
+    Advances before before (front ++ stack) (pending ++ stack) at there
+stretch_advances before front pending stack at there depths a = record {
+  consumed = a.consumed;
+  more = [];
+  told = a.told;
+  follows = a.follows;
+  added = λ profile acts h. subst (λ (xs : List Action). before profile xs) (sym (append-nil acts)) h;
+  passes = λ rest g profile functions h.
+      subst (λ (fs : List Definition). Passes profile (state (front ++ stack) (a.consumed ++ rest) [] (scope_at at) functions) (state (pending ++ stack) rest [] (scope_at there) fs)) (sym (append-nil functions))
+      (a.passes rest g profile stack [] functions depths);
+}
+
+-- a fault within one
+pub stretch_stops : (before : Meaning) (front stack : List Item) (at : Place) (d : Diagnostic) → levels stack ≡ 0 → FailsAt 0 front [] at d → StopsReading before (front ++ stack) at d
+stretch_stops before front stack at d depths fails lexemes is profile functions h = fails lexemes is profile stack [] functions depths
+
+-- a refusal behind a reading
+pub leave : (before mid : Meaning) (front between : List Item) (at now : Place) (allocates more : Bool) (f : ParseFault) → Advances before mid front between at now →
+    ((allocates ≡ true) → more ≡ true) → Refused (StopsReading mid between now) allocates f → Refused (StopsReading before front at) more f
+leave before mid front between at now allocates more f a memory = refused_map _ _ allocates more f (λ d. stops_then before mid front between at now d a) memory
+
+-- a refusal of a callee within a stretch
+pub leave_stretch : (before : Meaning) (front stack : List Item) (at : Place) (allocates more : Bool) (f : ParseFault) → levels stack ≡ 0 →
+    ((allocates ≡ true) → more ≡ true) → Refused (FailsAt 0 front [] at) allocates f → Refused (StopsReading before (front ++ stack) at) more f
+leave_stretch before front stack at allocates more f depths memory = refused_map _ _ allocates more f (λ d. stretch_stops before front stack at d depths) memory

@@ -1,0 +1,211 @@
+-- What the reading of a function derives.
+use Rattle.std.proofs.Common.{◌≡◌, ℕ, ◌+◌, ◌<◌, ◌≤◌, List, [], ◌∷◌, ◌++◌, refl, sym, ap, ap₂, ◌∙◌, subst, Bool, true, false, arith, append_assoc, append-nil}
+use Rattle.std.proofs.lemmas.Bool.Decides.{nat_tests}
+use Rattle.std.specs.Prelude.{Option, Some, None, length, nat_lt}
+use Rattle.tokens.specs.declared.lexemes.Lexeme.{Lexeme}
+use Rattle.tokens.specs.declared.lexemes.Mark.TheVariants as mark
+use Rattle.tokens.specs.declared.lexemes.Token.{Token}
+use Rattle.tokens.specs.declared.lexemes.Token.TheVariants as token
+use Rattle.grammar.specs.declared.diagnostics.Code.TheVariants as code
+use Rattle.grammar.specs.declared.diagnostics.Diagnostic.{Diagnostic}
+use Rattle.grammar.specs.declared.diagnostics.ParseFault.{ParseFault}
+use Rattle.grammar.specs.Actions.{Action, Begin, Finish, body_actions, code_length, function_actions, last_return}
+use Rattle.grammar.specs.Building.{Meaning, AppendsAll}
+use Rattle.grammar.specs.Derivation.{ABody, Definition, definition_of, state}
+use Rattle.grammar.specs.Faults.{definitions_actions, fault, is_too_long, length_faults, levels}
+use Rattle.grammar.specs.Grammar.{Item, AName, Define, Defined, Exactly, FunctionBlock, Make, ParameterTypes, Parameters, Part, Shut, Source, is_fault, is_mark}
+use Rattle.grammar.specs.Parsing.{Passes, Fails}
+use Rattle.grammar.specs.Profile.{Profile}
+use Rattle.grammar.specs.Scope.{Scope, end_definition}
+use Rattle.grammar.specs.Tree.{Body}
+use Rattle.grammar.proofs.Firsts.{too_long}
+use Rattle.grammar.proofs.Runs.{back, then}
+use Rattle.grammar.proofs.Steps.{make, shut}
+use Rattle.parsing.specs.Position.{GoesOn, Place, next_at, scope_at, tokens_at}
+use Rattle.parsing.specs.Stretch.{Derives, DerivesItem, FailsAt, FailsItem, Refused, Takes}
+use Rattle.parsing.proofs.Stretches.{Begins, fails_then, goes_begins, joined, refused_map, stay, told_begins, told_goes}
+use Rattle.lang.specs.Progress.{AddsBlock, Advances, ClosesFunction, IsTooMuch, StopsReading, at_brace, at_definition, at_source}
+use Rattle.lang.proofs.Advancing.{definitions_actions-append}
+
+-- what stands in front of a function's block
+abbrev pub heading_items : List Item
+heading_items = AName Defined ∷ Exactly mark.OpenRound ∷ Part Parameters ∷ Exactly mark.CloseRound ∷ Part ParameterTypes ∷ []
+
+abbrev pub definition_items : List Item
+definition_items = AName Defined ∷ Exactly mark.OpenRound ∷ Part Parameters ∷ Exactly mark.CloseRound ∷ Part ParameterTypes ∷ Part FunctionBlock ∷ []
+
+-- up to the block
+pub headed : (at now : Place) → Derives 0 heading_items [] [] [] at now → Derives 0 definition_items (Part FunctionBlock ∷ []) [] [] at now
+headed at now h = joined 0 0 definition_items heading_items [] (Part FunctionBlock ∷ []) [] [] [] [] at at now (stay at 0 definition_items []) h (λ stack same. same)
+
+-- up to the closing brace
+pub braced : (before after : Meaning) (at now there : Place) → Derives 0 heading_items [] [] [] at now → (b : AddsBlock before after now there) →
+    Derives 0 definition_items at_brace [] (ABody b.tree ∷ []) at there
+braced before after at now there h b = joined 0 0 definition_items (Part FunctionBlock ∷ []) at_brace [] [] [] (ABody b.tree ∷ []) [] at now there (headed at now h) b.derives (λ stack same. same)
+
+-- How long the code is.
+
+pub code_length-append : (a b : List Action) → code_length (a ++ b) ≡ code_length a + code_length b
+code_length-append [] b = omega arith
+code_length-append (x ∷ a) b = omega (arith, code_length-append a b)
+
+-- the code of functions and one more is what was told up to its return
+code_with : (functions : List Definition) (scope : Scope) (body : Body) (parameters number : ℕ) →
+    code_length (definitions_actions (functions ++ definition_of scope body ∷ [])) ≡ code_length (((definitions_actions functions ++ Begin number parameters ∷ []) ++ body_actions body) ++ last_return)
+code_with functions scope body parameters number =
+    let d : Definition = definition_of scope body in
+    let finish : List Action = last_return ++ Finish (length scope.current.variables) ∷ [] in
+    let told : List Action = definitions_actions functions ++ Begin number parameters ∷ [] in
+    ap code_length (definitions_actions-append functions (d ∷ []))
+    ∙ code_length-append (definitions_actions functions) (function_actions d.number d.function ++ [])
+    ∙ omega (arith, code_length-append (function_actions d.number d.function) [], code_length-append (body_actions body) finish, code_length-append (told ++ body_actions body) last_return, code_length-append told (body_actions body), code_length-append (definitions_actions functions) (Begin number parameters ∷ []))
+
+within_limit : (profile : Profile) (n m : ℕ) → n ≡ m → m + 1 ≤ profile.instructions → nat_lt profile.instructions (n + 1) ≡ false
+within_limit profile n m e h = grind (arith, nat_tests)
+
+past_limit : (profile : Profile) (n m : ℕ) → n ≡ m → profile.instructions < m + 1 → nat_lt profile.instructions (n + 1) ≡ true
+past_limit profile n m e h = grind (arith, nat_tests)
+
+-- A function that was read.
+
+-- what the builder was told of it
+pub told_function : (first second third fourth : Meaning) (number parameters variables : ℕ) (body : Body) → AppendsAll first second (Begin number parameters ∷ []) → AppendsAll second third (body_actions body) →
+    AppendsAll third fourth (last_return ++ Finish variables ∷ []) → AppendsAll first fourth (Begin number parameters ∷ (body_actions body ++ (last_return ++ Finish variables ∷ [])))
+told_function first second third fourth number parameters variables body a b c profile acts h =
+    subst (λ (xs : List Action). fourth profile xs)
+    (append_assoc (acts ++ Begin number parameters ∷ []) (body_actions body) (last_return ++ Finish variables ∷ []) ∙ append_assoc acts (Begin number parameters ∷ []) (body_actions body ++ (last_return ++ Finish variables ∷ [])))
+    (c profile _ (b profile _ (a profile acts h)))
+
+-- The function that a name began is that at the closing brace.
+pub record IsSame (n p v : ℕ) (scope : Scope) : Type 0 where
+  pub number : scope.number ≡ n
+  pub parameters : scope.current.parameters ≡ p
+  pub variables : length scope.current.variables ≡ v
+
+function_told : (number parameters variables : ℕ) (scope : Scope) (body : Body) → IsSame number parameters variables scope →
+    definitions_actions (definition_of scope body ∷ []) ≡ Begin number parameters ∷ (body_actions body ++ (last_return ++ Finish variables ∷ []))
+function_told number parameters variables scope body s = rw (append-nil, s.number, s.parameters, s.variables) refl
+
+short_enough : (profile : Profile) (second third fourth : Meaning) (functions : List Definition) (scope : Scope) (body : Body) (number parameters variables : ℕ) → AppendsAll second third (body_actions body) → ClosesFunction third fourth variables →
+    second profile (definitions_actions functions ++ Begin number parameters ∷ []) → is_too_long profile (functions ++ definition_of scope body ∷ []) ≡ false
+short_enough profile second third fourth functions scope body number parameters variables b c h =
+    within_limit profile _ _ (code_with functions scope body parameters number) (c.fits profile _ (b profile _ h))
+
+define_step : (profile : Profile) (lexemes : List Lexeme) (known learnt : Scope) (functions : List Definition) (body : Body) (stack : List Item) (next : Lexeme) (tail : List Lexeme) → lexemes ≡ next ∷ tail → is_fault next.token ≡ false → learnt ≡ end_definition known →
+    is_too_long profile (functions ++ definition_of known body ∷ []) ≡ false →
+    Passes profile (state (Make Define ∷ stack) lexemes (ABody body ∷ []) known functions) (state stack lexemes [] learnt (functions ++ definition_of known body ∷ []))
+define_step profile lexemes known learnt functions body stack next tail e sound ended short =
+    rw (e, ended) (make profile Define stack (next ∷ tail) (ABody body ∷ []) known functions sound (rw short refl))
+
+shut_step : (profile : Profile) (lexemes : List Lexeme) (scope : Scope) (functions : List Definition) (stack : List Item) (next : Lexeme) (tail : List Lexeme) → lexemes ≡ next ∷ tail → is_fault next.token ≡ false →
+    Passes profile (state (Shut ∷ stack) lexemes [] scope functions) (state stack lexemes [] scope functions)
+shut_step profile lexemes scope functions stack next tail e sound = rw e (shut profile stack (next ∷ tail) [] scope functions sound)
+
+-- the place at the closing brace, and the same behind the function's end
+pub record IsEnded (brace ended : Place) : Type 0 where
+  pub reading : ended.position.reading ≡ brace.position.reading
+  pub to_come : ended.to_come ≡ brace.to_come
+  pub scope : scope_at ended ≡ end_definition (scope_at brace)
+
+goes_ended : (brace ended : Place) (rest : List Lexeme) → IsEnded brace ended → GoesOn ended rest → GoesOn brace rest
+goes_ended brace ended rest s g = record { behind = g.behind; is = g.is ∙ rw s.reading refl }
+
+tokens_ended : (brace ended : Place) → IsEnded brace ended → tokens_at ended ≡ tokens_at brace
+tokens_ended brace ended s = rw (s.reading, s.to_come) refl
+
+-- a function was read, whose closing brace ends it
+pub function_advances : (first second third fourth : Meaning) (at now brace ended there : Place) (number parameters variables : ℕ) →
+    Derives 0 heading_items [] [] [] at now → (b : AddsBlock second third now brace) → IsSame number parameters variables (scope_at brace) → IsEnded brace ended →
+    AppendsAll first second (Begin number parameters ∷ []) → ClosesFunction third fourth variables →
+    DerivesItem (Exactly mark.CloseCurly) [] [] ended there → is_fault (next_at brace).token ≡ false → is_fault (next_at there).token ≡ false →
+    Advances first fourth at_definition at_source at there
+function_advances first second third fourth at now brace ended there number parameters variables h b same s told c e sound_brace sound =
+    let d : Derives 0 definition_items at_brace [] (ABody b.tree ∷ []) at brace = braced second third at now brace h b in
+    let f : Definition = definition_of (scope_at brace) b.tree in
+    record {
+      consumed = d.consumed ++ (e 1).consumed;
+      more = f ∷ [];
+      told = λ lexemes is.
+          let t : Takes d.consumed lexemes brace = d.told lexemes is in
+          let u : Takes (e 1).consumed t.rest there = (e 1).told t.rest (tokens_ended brace ended s ∙ t.shows) in
+          record { rest = u.rest; is = t.is ∙ ap (λ (ls : List Lexeme). d.consumed ++ ls) u.is ∙ sym (append_assoc d.consumed (e 1).consumed u.rest); shows = u.shows };
+      follows = λ rest g. subst (λ (ls : List Lexeme). GoesOn at ls) (sym (append_assoc d.consumed (e 1).consumed rest)) (d.follows _ (goes_ended brace ended _ s ((e 1).follows rest g)));
+      added = λ profile acts k. subst (λ (xs : List Action). fourth profile (acts ++ xs)) (sym (function_told number parameters variables (scope_at brace) b.tree same))
+          (told_function first second third fourth number parameters variables b.tree told b.added c.added profile acts k);
+      passes = λ rest g profile functions k.
+          let between : List Lexeme = (e 1).consumed ++ rest in
+          let goes : GoesOn brace between = goes_ended brace ended between s ((e 1).follows rest g) in
+          let x : Begins brace.position.reading between = goes_begins brace between goes in
+          let y : Begins there.position.reading rest = goes_begins there rest g in
+          let short : is_too_long profile (functions ++ f ∷ []) ≡ false = short_enough profile second third fourth functions (scope_at brace) b.tree number parameters variables b.added c (told profile _ k) in
+          rw (append_assoc d.consumed (e 1).consumed rest)
+          (then profile _ _ _ (d.passes between goes profile at_source [] functions refl)
+          (then profile _ _ _ (define_step profile between (scope_at brace) (scope_at ended) functions b.tree (Exactly mark.CloseCurly ∷ Shut ∷ at_source) (next_at brace) x.tail x.is sound_brace s.scope short)
+          (then profile _ _ _ ((e 1).passes rest g profile (Shut ∷ at_source) [] (functions ++ f ∷ []) refl)
+          (shut_step profile rest (scope_at there) (functions ++ f ∷ []) at_source (next_at there) y.tail y.is sound))));
+    }
+
+-- Where the reading of a function stops.
+
+heading_stops : (before : Meaning) (at : Place) (d : Diagnostic) → FailsAt 0 heading_items [] at d → StopsReading before at_definition at d
+heading_stops before at d fails lexemes is profile functions h = fails lexemes is profile (Part FunctionBlock ∷ at_source) [] functions refl
+
+pub heading_refused : (before : Meaning) (at : Place) (f : ParseFault) (more : Bool) → Refused (FailsAt 0 heading_items [] at) false f → Refused (StopsReading before at_definition at) more f
+heading_refused before at f more = refused_map _ _ false more f (λ d. heading_stops before at d) (λ never. absurd (cc))
+
+block_stops : (before : Meaning) (at now : Place) (d : Diagnostic) → Derives 0 heading_items [] [] [] at now → FailsAt 0 (Part FunctionBlock ∷ []) [] now d → StopsReading before at_definition at d
+block_stops before at now d h fails lexemes is profile functions k =
+    fails_then 0 definition_items (Part FunctionBlock ∷ []) [] [] at now d (headed at now h) fails lexemes is profile at_source [] functions refl
+
+pub block_refused : (before : Meaning) (at now : Place) (f : ParseFault) (allocates : Bool) → Derives 0 heading_items [] [] [] at now → Refused (FailsAt 0 (Part FunctionBlock ∷ []) [] now) allocates f →
+    Refused (StopsReading before at_definition at) allocates f
+block_refused before at now f allocates h = refused_map _ _ allocates allocates f (λ d. block_stops before at now d h) (λ same. same)
+
+too_much_stops : (first second third : Meaning) (at now brace : Place) (number parameters : ℕ) (d : Diagnostic) → Derives 0 heading_items [] [] [] at now → (b : AddsBlock second third now brace) →
+    AppendsAll first second (Begin number parameters ∷ []) → is_fault (next_at brace).token ≡ false → is_mark mark.CloseCurly (next_at brace).token ≡ true → IsTooMuch third (next_at brace).line d → StopsReading first at_definition at d
+too_much_stops first second third at now brace number parameters d h b told sound closed much lexemes is profile functions k =
+    let s : Derives 0 definition_items at_brace [] (ABody b.tree ∷ []) at brace = braced second third at now brace h b in
+    let t : Takes s.consumed lexemes brace = s.told lexemes is in
+    let x : Begins brace.position.reading t.rest = told_begins brace t.rest t.shows in
+    let long : is_too_long profile (functions ++ definition_of (scope_at brace) b.tree ∷ []) ≡ true = past_limit profile _ _ (code_with functions (scope_at brace) b.tree parameters number) (much.over profile _ (b.added profile _ (told profile _ k))) in
+    rw (t.is, much.is)
+    (back profile _ _ _ (s.passes t.rest (told_goes brace t.rest t.shows) profile at_source [] functions refl)
+    (rw x.is (too_long profile (Shut ∷ at_source) (next_at brace) x.tail (ABody b.tree ∷ []) (scope_at brace) functions sound closed (rw long refl))))
+
+pub too_much_refused : (first second third : Meaning) (at now brace : Place) (number parameters : ℕ) (f : ParseFault) (allocates : Bool) → Derives 0 heading_items [] [] [] at now → AddsBlock second third now brace →
+    AppendsAll first second (Begin number parameters ∷ []) → is_fault (next_at brace).token ≡ false → is_mark mark.CloseCurly (next_at brace).token ≡ true → Refused (IsTooMuch third (next_at brace).line) allocates f →
+    Refused (StopsReading first at_definition at) allocates f
+too_much_refused first second third at now brace number parameters f allocates h b told sound closed =
+    refused_map _ _ allocates allocates f (λ d. too_much_stops first second third at now brace number parameters d h b told sound closed) (λ same. same)
+
+-- the closing brace itself is always there, but the token behind it may be a fault
+brace_stops : (first second third fourth : Meaning) (at now brace ended : Place) (number parameters variables : ℕ) (d : Diagnostic) →
+    Derives 0 heading_items [] [] [] at now → AddsBlock second third now brace → IsEnded brace ended →
+    AppendsAll first second (Begin number parameters ∷ []) → ClosesFunction third fourth variables → is_fault (next_at brace).token ≡ false →
+    FailsItem (Exactly mark.CloseCurly) ended d → StopsReading first at_definition at d
+brace_stops first second third fourth at now brace ended number parameters variables d h b s told c sound fails lexemes is profile functions k =
+    let x : Derives 0 definition_items at_brace [] (ABody b.tree ∷ []) at brace = braced second third at now brace h b in
+    let t : Takes x.consumed lexemes brace = x.told lexemes is in
+    let y : Begins brace.position.reading t.rest = told_begins brace t.rest t.shows in
+    let f : Definition = definition_of (scope_at brace) b.tree in
+    let short : is_too_long profile (functions ++ f ∷ []) ≡ false = short_enough profile second third fourth functions (scope_at brace) b.tree number parameters variables b.added c (told profile _ k) in
+    rw t.is
+    (back profile _ _ _ (x.passes t.rest (told_goes brace t.rest t.shows) profile at_source [] functions refl)
+    (back profile _ _ _ (define_step profile t.rest (scope_at brace) (scope_at ended) functions b.tree (Exactly mark.CloseCurly ∷ Shut ∷ at_source) (next_at brace) y.tail y.is sound s.scope short)
+    (fails 1 t.rest (tokens_ended brace ended s ∙ t.shows) profile (Shut ∷ at_source) [] (functions ++ f ∷ []) refl)))
+
+pub brace_refused : (first second third fourth : Meaning) (at now brace ended : Place) (number parameters variables : ℕ) (f : ParseFault) (more : Bool) →
+    Derives 0 heading_items [] [] [] at now → AddsBlock second third now brace → IsEnded brace ended →
+    AppendsAll first second (Begin number parameters ∷ []) → ClosesFunction third fourth variables → is_fault (next_at brace).token ≡ false →
+    Refused (FailsItem (Exactly mark.CloseCurly) ended) false f → Refused (StopsReading first at_definition at) more f
+brace_refused first second third fourth at now brace ended number parameters variables f more h b s told c sound =
+    refused_map _ _ false more f (λ d. brace_stops first second third fourth at now brace ended number parameters variables d h b s told c sound) (λ never. absurd (cc))
+
+-- A closing brace is no fault.
+pub closing_sound : (t : Token) → is_mark mark.CloseCurly t ≡ true → is_fault t ≡ false
+closing_sound (token.Mark m) is = refl
+closing_sound (token.Name name) is = refl
+closing_sound (token.Word word) is = refl
+closing_sound (token.Constant value) is = refl
+closing_sound token.End is = refl
+closing_sound (token.Fault flaw) is = absurd (cc)

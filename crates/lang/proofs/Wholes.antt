@@ -1,0 +1,152 @@
+-- What a file is whose reading came to its end.
+use Rattle.std.proofs.Common.{◌≡◌, ℕ, List, [], ◌∷◌, ◌++◌, refl, sym, ap, ◌∙◌, subst, Bool, true, false, append_assoc, append-nil}
+use Rattle.std.specs.Option.{option_map}
+use Rattle.std.specs.Prelude.{Option, Some, None, Ok, Err, Result, is_some}
+use Rattle.tokens.specs.Tokens.{is_last, tokens, followed_by}
+use Rattle.tokens.specs.declared.lexemes.Lexeme.{Lexeme}
+use Rattle.tokens.specs.declared.lexemes.Token.{Token}
+use Rattle.tokens.specs.declared.lexemes.Token.TheVariants as token
+use Rattle.grammar.specs.declared.diagnostics.Code.TheVariants as code
+use Rattle.grammar.specs.declared.diagnostics.Diagnostic.{Diagnostic}
+use Rattle.grammar.specs.declared.diagnostics.ParseFault.{ParseFault}
+use Rattle.grammar.specs.declared.diagnostics.ParseFault.TheVariants as refusal
+use Rattle.grammar.specs.Actions.{Action, actions}
+use Rattle.grammar.specs.Building.{Meaning}
+use Rattle.grammar.specs.Compiled.{compiled, compiled_tokens, diagnostic, last_line, main_name, resolved}
+use Rattle.grammar.specs.Derivation.{Definition, is_end, next_of, line_of, start, state}
+use Rattle.grammar.specs.Faults.{definitions_actions, misfit_code}
+use Rattle.grammar.specs.Grammar.{AnEnd, Part, Source, is_fault}
+use Rattle.grammar.specs.Naming.{line_of_undefined}
+use Rattle.grammar.specs.Parsing.{Passes}
+use Rattle.grammar.specs.Pools.{FunctionNames, Names, names_of}
+use Rattle.grammar.specs.Profile.{Profile}
+use Rattle.grammar.specs.Scope.{Scope, function_number, no_names}
+use Rattle.grammar.specs.Tree.{File}
+use Rattle.grammar.proofs.Firsts.{at_fault}
+use Rattle.grammar.proofs.Runs.{then}
+use Rattle.grammar.proofs.Steps.{last, part}
+use Rattle.grammar.proofs.Verdicts.{clean_verdict, fault_verdict}
+use Rattle.finishing.specs.Finished.{IsFinished, PassesAll}
+use Rattle.finishing.proofs.FileLaws.{finished, undefined, without_main}
+use Rattle.parsing.specs.Position.{GoesOn, Place, next_at, scope_at, tokens_at}
+use Rattle.parsing.specs.Stretch.{Refused, StopsFirst, Takes}
+use Rattle.parsing.proofs.Stretches.{refused_map, told_goes}
+use Rattle.lang.specs.Files.{FailsBytes, IsFile, IsNew}
+use Rattle.lang.specs.Progress.{ADefinition, AMain, Advances, Lacks, Lists, StopsReading, at_source}
+
+end_is : (t : Token) → is_end t ≡ true → t ≡ token.End
+end_is token.End is = refl
+end_is (token.Name name) is = absurd (cc)
+end_is (token.Mark m) is = absurd (cc)
+end_is (token.Word w) is = absurd (cc)
+end_is (token.Constant value) is = absurd (cc)
+end_is (token.Fault flaw) is = absurd (cc)
+
+-- The end is the only token from there on.
+
+ends_alone : (at : Place) (rest : List Lexeme) → is_end (next_at at).token ≡ true → GoesOn at rest → rest ≡ next_at at ∷ []
+ends_alone at rest is g =
+    let last : is_last (next_at at).token ≡ true = rw (end_is (next_at at).token is) refl in
+    g.is ∙ rw last refl
+
+goes_alone : (at : Place) → is_end (next_at at).token ≡ true → GoesOn at (next_at at ∷ [])
+goes_alone at is =
+    let last : is_last (next_at at).token ≡ true = rw (end_is (next_at at).token is) refl in
+    record { behind = []; is = rw last refl }
+
+end_steps : (profile : Profile) (next : Lexeme) (scope : Scope) (functions : List Definition) → is_end next.token ≡ true → Passes profile (state at_source (next ∷ []) [] scope functions) (state [] [] [] scope functions)
+end_steps profile next scope functions is =
+    let at : next.token ≡ token.End = end_is next.token is in
+    then profile _ _ _ (part profile Source (AnEnd ∷ []) [] (next ∷ []) [] scope functions (rw at refl) (rw at refl) refl) (last profile [] (next ∷ []) [] scope functions (rw at refl) is)
+
+last_line_is : (consumed : List Lexeme) (next : Lexeme) → last_line (consumed ++ next ∷ []) ≡ next.line
+last_line_is [] next = refl
+last_line_is (lexeme ∷ []) next = refl
+last_line_is (lexeme ∷ other ∷ consumed) next = last_line_is (other ∷ consumed) next
+
+-- A reading from the start of a file to its end.
+pub record IsWhole (before after : Meaning) (told : Option (List ℕ)) (at there : Place) : Type 0 where
+  pub reads : Advances before after at_source at_source at there
+  pub nothing : scope_at at ≡ no_names
+  pub tells : tokens_at at ≡ option_map tokens told
+  pub ends : is_end (next_at there).token ≡ true
+
+abbrev all_of : (before after : Meaning) (told : Option (List ℕ)) (at there : Place) → IsWhole before after told at there → List Lexeme
+all_of before after told at there w = w.reads.consumed ++ next_at there ∷ []
+
+passes_all : (before after : Meaning) (told : Option (List ℕ)) (at there : Place) (w : IsWhole before after told at there) (profile : Profile) → before profile [] →
+    PassesAll profile (all_of before after told at there w) (scope_at there) w.reads.more
+passes_all before after told at there w profile h =
+    then profile _ _ _
+    (subst (λ (s : Scope). Passes profile (state at_source (w.reads.consumed ++ next_at there ∷ []) [] s []) (state at_source (next_at there ∷ []) [] (scope_at there) w.reads.more)) w.nothing
+    (w.reads.passes (next_at there ∷ []) (goes_alone there w.ends) profile [] h))
+    (end_steps profile (next_at there) (scope_at there) w.reads.more w.ends)
+
+-- where the device tells its bytes, their tokens are those
+tokens_all : (before after : Meaning) (told : Option (List ℕ)) (at there : Place) (w : IsWhole before after told at there) (bytes : List ℕ) → told ≡ Some bytes → tokens bytes ≡ all_of before after told at there w
+tokens_all before after told at there w bytes is =
+    let t : Takes w.reads.consumed (tokens bytes) there = w.reads.told (tokens bytes) (w.tells ∙ ap (option_map tokens) is) in
+    t.is ∙ ap (λ (ls : List Lexeme). w.reads.consumed ++ ls) (ends_alone there t.rest w.ends (told_goes there t.rest t.shows))
+
+resolved_all : (before after : Meaning) (told : Option (List ℕ)) (at there : Place) (w : IsWhole before after told at there) (profile : Profile) → before profile [] →
+    compiled_tokens profile (all_of before after told at there w) ≡ resolved (all_of before after told at there w) (scope_at there) w.reads.more
+resolved_all before after told at there w profile h =
+    clean_verdict profile (all_of before after told at there w) (state [] [] [] (scope_at there) w.reads.more) (passes_all before after told at there w profile h) refl refl
+
+compiled_as : (profile : Profile) (bytes : List ℕ) (lexemes : List Lexeme) (verdict : Result File Diagnostic) → tokens bytes ≡ lexemes → compiled_tokens profile lexemes ≡ verdict → compiled profile bytes ≡ verdict
+unfolding compiled
+compiled_as profile bytes lexemes verdict same is = rw same is
+
+-- all functions are defined, and main is among them
+pub whole_file : (before after : Meaning) (told : Option (List ℕ)) (at there : Place) (names : Names) → IsNew before → IsWhole before after told at there → Lists (scope_at there) names → IsFile before after told names
+whole_file before after told at there names new w lists =
+    let f : IsFinished new.profile (all_of before after told at there w) (scope_at there) w.reads.more =
+    finished new.profile (all_of before after told at there w) (scope_at there) w.reads.more (passes_all before after told at there w new.profile new.stands) lists.defined lists.main in
+    record {
+      file = f.file;
+      resolved = f.resolved;
+      named = lists.is ∙ f.named;
+      main = rw lists.is f.main;
+      built = λ profile h. subst (λ (acts : List Action). after profile acts) (sym f.told) (w.reads.added profile [] h);
+      is = λ bytes shows profile h. compiled_as profile bytes (all_of before after told at there w) (Ok f.file) (tokens_all before after told at there w bytes shows)
+          (resolved_all before after told at there w profile h ∙ sym (resolved_all before after told at there w new.profile new.stands) ∙ f.compiled);
+    }
+
+-- What is lacking is the file's fault.
+
+lacks_definition : (before after : Meaning) (told : Option (List ℕ)) (at there : Place) (line : ℕ) → IsWhole before after told at there → line_of_undefined 0 (scope_at there).lines (scope_at there).begun ≡ Some line →
+    FailsBytes before told (diagnostic line code.FunctionNotDefined)
+lacks_definition before after told at there line w is bytes shows profile h =
+    compiled_as profile bytes (all_of before after told at there w) (Err (diagnostic line code.FunctionNotDefined)) (tokens_all before after told at there w bytes shows)
+    (undefined profile (all_of before after told at there w) (scope_at there) w.reads.more line (passes_all before after told at there w profile h) is)
+
+lacks_main : (before after : Meaning) (told : Option (List ℕ)) (at there : Place) → IsWhole before after told at there → line_of_undefined 0 (scope_at there).lines (scope_at there).begun ≡ None →
+    is_some (function_number main_name (scope_at there)) ≡ false → FailsBytes before told (diagnostic (next_at there).line code.NoMainFunction)
+lacks_main before after told at there w defined none bytes shows profile h =
+    compiled_as profile bytes (all_of before after told at there w) (Err (diagnostic (next_at there).line code.NoMainFunction)) (tokens_all before after told at there w bytes shows)
+    (without_main profile (all_of before after told at there w) (scope_at there) w.reads.more (passes_all before after told at there w profile h) defined none
+    ∙ ap (λ (n : ℕ). Err (diagnostic n code.NoMainFunction)) (last_line_is w.reads.consumed (next_at there)))
+
+pub lacking : (before after : Meaning) (told : Option (List ℕ)) (at there : Place) (f : ParseFault) (allocates : Bool) → IsWhole before after told at there → Lacks there.position f → Refused (FailsBytes before told) allocates f
+lacking before after told at there f allocates w (ADefinition line is same) = rw same (lacks_definition before after told at there line w is)
+lacking before after told at there f allocates w (AMain defined none same) = rw same (lacks_main before after told at there w defined none)
+
+-- Where the reading stops, the file's first fault is there.
+
+stops_bytes : (before : Meaning) (told : Option (List ℕ)) (at : Place) (d : Diagnostic) → scope_at at ≡ no_names → tokens_at at ≡ option_map tokens told → StopsReading before at_source at d → FailsBytes before told d
+stops_bytes before told at d nothing tells stops bytes shows profile h =
+    compiled_as profile bytes (tokens bytes) (Err d) refl
+    (fault_verdict profile (tokens bytes) d (rw (sym nothing) (stops (tokens bytes) (tells ∙ ap (option_map tokens) shows) profile [] h)))
+
+pub stopped : (before : Meaning) (told : Option (List ℕ)) (at : Place) (f : ParseFault) (allocates : Bool) → scope_at at ≡ no_names → tokens_at at ≡ option_map tokens told →
+    Refused (StopsReading before at_source at) allocates f → Refused (FailsBytes before told) allocates f
+stopped before told at f allocates nothing tells = refused_map _ _ allocates allocates f (λ d. stops_bytes before told at d nothing tells) (λ same. same)
+
+first_fails : (before : Meaning) (told : Option (List ℕ)) (d : Diagnostic) → StopsFirst (option_map tokens told) d → FailsBytes before told d
+first_fails before told d stops bytes shows profile h =
+    let s : (is_fault (next_of (tokens bytes)) ≡ true) × (d ≡ diagnostic (line_of (tokens bytes)) (misfit_code (next_of (tokens bytes)))) = stops (tokens bytes) (ap (option_map tokens) shows) in
+    compiled_as profile bytes (tokens bytes) (Err d) refl
+    (fault_verdict profile (tokens bytes) d (rw s.1 (at_fault profile at_source (tokens bytes) [] no_names [] s.0)))
+
+pub first_refused : (before : Meaning) (told : Option (List ℕ)) (f : ParseFault) (more : Bool) → Refused (StopsFirst (option_map tokens told)) false f → Refused (FailsBytes before told) more f
+first_refused before told f more = refused_map _ _ false more f (λ d. first_fails before told d) (λ never. absurd (cc))
