@@ -98,10 +98,7 @@ impl Stack {
         ensures ok { OnOk result (Continues ElsePart self.old self.new) }
         ensures memory { Refuses result true }
     {
-        let Body {
-            heading,
-            statements,
-        } = self.body();
+        let Body { heading, statements } = self.body();
         let Heading::First(condition) = heading else {
             unreachable!()
         };
@@ -114,10 +111,7 @@ impl Stack {
         ensures ok { OnOk result (Continues EndIf self.old self.new) }
         ensures memory { Refuses result true }
     {
-        let Body {
-            heading,
-            statements,
-        } = self.body();
+        let Body { heading, statements } = self.body();
         match heading {
             Heading::First(condition) => self.add(Statement::When(condition, statements)),
             Heading::Second(condition, first) => {
@@ -153,10 +147,7 @@ impl Stack {
         ensures ok { OnOk result (Continues EndWhile self.old self.new) }
         ensures memory { Refuses result true }
     {
-        let Body {
-            heading,
-            statements,
-        } = self.body();
+        let Body { heading, statements } = self.body();
         let Heading::Loop(condition) = heading else {
             unreachable!()
         };
