@@ -1,4 +1,3 @@
 pub mod TreeLaws
 pub mod MakingLaws
 pub mod StandingLaws
-pub mod ReplayLaws

@@ -336,7 +336,7 @@ pub function_ends : (b : body_type.Body) (n p v : ℕ) (ts : Vec Statement Globa
 function_ends b n p v ts xs is h left =
     let ss = b.statements.items in
     let k : IsTrue (is_some (follow (Finish v) (InFunction p (ends_in_return false (body_tree ss)) ∷ opened xs))) =
-        subst (λ g. IsTrue (is_some (follow (Finish v) (place_of g (body_tree ss) ∷ opened xs)))) is h in
+    subst (λ g. IsTrue (is_some (follow (Finish v) (place_of g (body_tree ss) ∷ opened xs)))) is h in
     let both = finish_is v p (ends_in_return false (body_tree ss)) (opened xs) k in
     let empty : xs ≡ [] = nothing_open xs both.1 in
     let none : List ℕ = [] in

@@ -2,4 +2,3 @@ pub mod Trees
 pub mod Stacks
 pub mod Opened
 pub mod Standing
-pub mod Replaying

@@ -5,10 +5,7 @@ mod limits;
 mod maker;
 mod making;
 mod memory;
-mod replay;
 mod stack;
-#[cfg(test)]
-mod tests;
 mod tree;
 
 pub use limits::MOST_INSTRUCTIONS;

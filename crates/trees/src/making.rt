@@ -98,7 +98,10 @@ impl Stack {
         ensures ok { OnOk result (Continues ElsePart self.old self.new) }
         ensures memory { Refuses result true }
     {
-        let Body { heading, statements } = self.body();
+        let Body {
+            heading,
+            statements,
+        } = self.body();
         let Heading::First(condition) = heading else {
             unreachable!()
         };
@@ -111,7 +114,10 @@ impl Stack {
         ensures ok { OnOk result (Continues EndIf self.old self.new) }
         ensures memory { Refuses result true }
     {
-        let Body { heading, statements } = self.body();
+        let Body {
+            heading,
+            statements,
+        } = self.body();
         match heading {
             Heading::First(condition) => self.add(Statement::When(condition, statements)),
             Heading::Second(condition, first) => {
@@ -147,7 +153,10 @@ impl Stack {
         ensures ok { OnOk result (Continues EndWhile self.old self.new) }
         ensures memory { Refuses result true }
     {
-        let Body { heading, statements } = self.body();
+        let Body {
+            heading,
+            statements,
+        } = self.body();
         let Heading::Loop(condition) = heading else {
             unreachable!()
         };

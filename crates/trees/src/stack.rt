@@ -57,9 +57,7 @@ pub struct Stack {
 
 impl Model for Stack {
     ghost use Rattle.std.specs.Prelude.{List, reverse};
-
     ghost use Rattle.trees.specs.declared.stack.Open.{Open};
-
     ghost use Rattle.std.specs.Coded.{codes};
     ghost use Rattle.trees.specs.contracts.tree.Expr as expr;
     ghost use Rattle.trees.specs.contracts.tree.Statement as statement;

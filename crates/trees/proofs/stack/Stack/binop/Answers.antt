@@ -20,5 +20,5 @@ returns-clause-ok c =
     rw was
     (on_ok_weaker c.push.result
     (λ is. subst (λ ys. Continues (Apply op) (Value c.value-right.result ∷ c.value-right.new.self) ys) (sym is)
-        (binop_continues op c.value-right.result c.left_side-left.result c.in_ok-left.left c.in_ok-right.right c.value-right.new.self c.left_side-left.new.self allowed c.left_side-left.ensures left.ok right.ok))
+    (binop_continues op c.value-right.result c.left_side-left.result c.in_ok-left.left c.in_ok-right.right c.value-right.new.self c.left_side-left.new.self allowed c.left_side-left.ensures left.ok right.ok))
     c.push.ensures.ok)

@@ -21,5 +21,5 @@ returns-clause-ok c =
     rw was
     (on_ok_weaker c.push.result
     (λ is. subst (λ ys. Continues Chop (Value step ∷ xs) ys) (sym (is ∙ ap (λ ys. Value (Postfix op v) ∷ ys) c.leave.ensures))
-        (postfix_continues op v c.in-Assign.field-2 xs (cc) (subst (λ ys. IsAllowed Chop ys) was c.requires)))
+    (postfix_continues op v c.in-Assign.field-2 xs (cc) (subst (λ ys. IsAllowed Chop ys) was c.requires)))
     c.push.ensures.ok)
