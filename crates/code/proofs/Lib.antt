@@ -1,5 +1,3 @@
-mod Rows
-mod Listings
 pub mod Lists
 pub mod Follows
 pub mod Instructions
@@ -21,3 +19,4 @@ pub mod Variables
 pub mod Machines
 pub mod Numbers
 pub mod Lines
+pub mod KnownPrograms

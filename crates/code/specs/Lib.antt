@@ -9,3 +9,4 @@ pub mod Finishing
 pub mod Standing
 pub mod Spelling
 pub mod Listing
+pub mod KnownPrograms

@@ -3,6 +3,7 @@
 
 mod frame;
 mod instr;
+mod known;
 mod limits;
 mod listing;
 mod machine;
@@ -17,6 +18,7 @@ mod want;
 
 pub use frame::Frame;
 pub use instr::Instr;
+pub use known::known_programs;
 pub use limits::{LINE_BYTES, MOST_FRAMES, MOST_INSTRUCTIONS, MOST_WORDS};
 pub use machine::Machine;
 pub use maker::Maker;

@@ -1,0 +1,10 @@
+//! Programs that show the rules of the machine.
+
+ghost use Rattle.code.specs.KnownPrograms.{KnownListings, KnownRestarts, KnownWants};
+
+/// The definitions give these listings of known programs, and their trees and their instructions want the same in these cycles.
+pub fn known_programs()
+    ensures listings { KnownListings }
+    ensures wants { KnownWants }
+    ensures restarts { KnownRestarts }
+{}
