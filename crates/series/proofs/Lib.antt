@@ -1,4 +1,4 @@
-pub mod Examples
+pub mod KnownOutputs
 pub mod ProgramsLemmas
 pub mod RunsLemmas
 pub mod PiecesLemmas

@@ -7,3 +7,4 @@ pub mod Recording
 pub mod Output
 pub mod Runs
 pub mod Programs
+pub mod KnownOutputs

@@ -1,6 +1,7 @@
 //! Series of robots: their listings and diagnostics, written on two channels piece by piece.
 #![tactic(auto)]
 
+mod known;
 mod limits;
 mod listing;
 mod pen;
@@ -11,6 +12,7 @@ mod settings;
 mod sink;
 mod texts;
 
+pub use known::known_outputs;
 pub use limits::{CYCLES_DEFAULT, CYCLES_MAX, FILES_MAX, MATCHES_MAX, SEED_DEFAULT};
 pub use listing::put_listing;
 pub use pen::{PAGE, Pen};

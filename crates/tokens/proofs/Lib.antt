@@ -1,4 +1,4 @@
-pub mod Examples
+pub mod KnownTokens
 pub mod SourceLemmas
 pub mod BlockLemmas
 pub mod WindowLemmas

@@ -11,3 +11,4 @@ pub mod Window
 pub mod Lexing
 pub mod Ends
 pub mod Reading
+pub mod KnownTokens

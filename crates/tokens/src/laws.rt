@@ -1,6 +1,7 @@
 //! Laws of the tokens. Each function does nothing: what it ensures is the law.
 
 ghost use Rattle.std.specs.Prelude.{ℕ, List, length};
+ghost use Rattle.tokens.specs.KnownTokens.{KnownTokens};
 ghost use Rattle.tokens.specs.Source.{source};
 ghost use Rattle.tokens.specs.Tokens.{tokens};
 ghost use Rattle.tokens.specs.Ends.{IsRising, AllEndBy};
@@ -9,4 +10,9 @@ ghost use Rattle.tokens.specs.Ends.{IsRising, AllEndBy};
 pub fn ends_rise()
     ensures rising { (bytes : List ℕ) → IsRising 0 (tokens bytes) }
     ensures within { (bytes : List ℕ) → AllEndBy (length (source bytes)) (tokens bytes) }
+{}
+
+/// Small sources have these tokens.
+pub fn known_tokens()
+    ensures { KnownTokens }
 {}

@@ -1,0 +1,30 @@
+-- The known outputs, worked out.
+use Rattle.std.proofs.Common.{refl}
+use Rattle.std.specs.Fmt.{digits}
+use Rattle.tokens.specs.Tokens.{tokens, lexemes}
+use Rattle.tokens.specs.Marks.{mark_of}
+use Rattle.tokens.specs.Words.{word_of}
+use Rattle.grammar.specs.Compiled.{compiled}
+use Rattle.grammar.specs.Faults.{most_levels, most_names}
+use Rattle.grammar.specs.Intrinsics.{intrinsic_named, name_of}
+use Rattle.grammar.specs.Profile.{first_profile}
+use Rattle.grammar.specs.Texts.{text_of}
+use Rattle.code.specs.Listing.{in_five_columns, name_line, instr_line, function_line}
+use Rattle.code.specs.Spelling.{operator_text, instr_text}
+use Rattle.series.specs.KnownOutputs.{KnownOutputs, KnownTexts}
+
+pub texts : KnownTexts
+unfolding digits
+texts = record {
+  name_in_folders = refl;
+  name_alone = refl;
+  name_of_a_folder = refl;
+  one_digit = refl;
+  whole_column = refl;
+  past_the_column = refl;
+  diagnostic = refl;
+}
+
+pub outputs : KnownOutputs
+unfolding digits tokens lexemes mark_of word_of first_profile most_levels most_names intrinsic_named name_of compiled text_of operator_text instr_text in_five_columns name_line instr_line function_line
+outputs = record { listed = refl; faulty = refl; mixed = refl }

@@ -1,0 +1,8 @@
+use Rattle.series.proofs.KnownOutputs.{outputs, texts}
+use Rattle.series.proofs.known.known_outputs.Goals as goal
+
+pub returns-clause-texts : goal.returns-clause-texts
+returns-clause-texts c = texts
+
+pub returns-clause-outputs : goal.returns-clause-outputs
+returns-clause-outputs c = outputs

@@ -1,0 +1,21 @@
+-- The known tokens, worked out.
+use Rattle.std.proofs.Common.{refl}
+use Rattle.tokens.specs.KnownTokens.{KnownTokens}
+use Rattle.tokens.specs.Marks.{mark_of}
+use Rattle.tokens.specs.Tokens.{lexemes, tokens}
+use Rattle.tokens.specs.Words.{word_of}
+
+pub known : KnownTokens
+unfolding tokens lexemes word_of mark_of
+known = record {
+  nothing = refl;
+  longest_match = refl;
+  three_bytes = refl;
+  comments = refl;
+  not_closed = refl;
+  byte_26 = refl;
+  lines = refl;
+  largest_constant = refl;
+  longest_name = refl;
+  bad_character = refl;
+}
