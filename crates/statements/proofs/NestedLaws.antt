@@ -1,5 +1,5 @@
 -- What the parse functions of blocks, branches, loops and rows of statements derive.
-use Rattle.std.proofs.Common.{◌≡◌, ℕ, ◌+◌, ◌<◌, ◌≤◌, List, [], ◌∷◌, ◌++◌, refl, sym, ap, ◌∙◌, subst, true, false, append_assoc, append-nil, arith}
+use Rattle.std.proofs.Common.{◌≡◌, ℕ, ◌+◌, ◌<◌, ◌≤◌, List, [], ◌∷◌, ◌++◌, refl, sym, ap, ◌∙◌, subst, true, false, arith}
 use Rattle.std.specs.Prelude.{Option, Some, None}
 use Rattle.tokens.specs.declared.lexemes.Mark.TheVariants as mark
 use Rattle.tokens.specs.declared.lexemes.Word.TheVariants as word
@@ -8,14 +8,14 @@ use Rattle.grammar.specs.declared.diagnostics.Diagnostic.{Diagnostic}
 use Rattle.grammar.specs.Actions.{Action, BeginWhile, ElsePart as BetweenBranches, EndIf, EndWhile, IfTest, WhileTest, body_actions, expr_actions}
 use Rattle.grammar.specs.Building.{Appends, AppendsAll, Meaning}
 use Rattle.grammar.specs.Compiled.{diagnostic}
-use Rattle.grammar.specs.Derivation.{ABody, AnExpr, Value}
+use Rattle.grammar.specs.Derivation.{ABody, AnExpr}
 use Rattle.grammar.specs.Faults.{levels}
 use Rattle.grammar.specs.Grammar.{Block, Decide, DecideElse, Declarations, ElsePart, Empty, Exactly, Item, Make, Part, Repeat, Shut, Statement, Statements, is_fault, is_mark, is_word}
 use Rattle.grammar.specs.Nesting.{body_nesting, nesting}
 use Rattle.grammar.specs.Resolved.{InBody, InExpr}
 use Rattle.grammar.specs.Tree.{Body, Choose, Done, Expr, When, While, join}
 use Rattle.parsing.specs.Position.{Place, next_at}
-use Rattle.parsing.specs.Room.{HasPlace, room}
+use Rattle.parsing.specs.Room.{room}
 use Rattle.parsing.specs.Stretch.{Derives, DerivesItem, FailsAt, FailsItem, GoesPast, StopsAt}
 use Rattle.parsing.proofs.Stretches.{fails_behind, joined, stay}
 use Rattle.statements.specs.Branches.{AddsElse, FailsElse, IsElseNumbered, before_else, decided, else_actions, else_nesting}

@@ -1,7 +1,7 @@
 -- What is open behind the actions of statements so far, and which actions may follow.
-use Rattle.std.proofs.Common.{◌≡◌, ℕ, pos, ◌+◌, ◌≤◌, List, [], ◌∷◌, ◌++◌, refl, ap, ◌∙◌, subst, Bool, true, false, arith}
+use Rattle.std.proofs.Common.{◌≡◌, ℕ, pos, ◌+◌, ◌≤◌, [], ◌∷◌, refl, ap, ◌∙◌, Bool, true, false, arith}
 use Rattle.std.specs.Prelude.{Option, Some, None}
-use Rattle.grammar.specs.Actions.{Action, BeginWhile, Chop, ElsePart, EndIf, EndWhile, GiveBack, IfTest, Push, WhileTest, body_actions, expr_actions}
+use Rattle.grammar.specs.Actions.{Action, BeginWhile, Chop, ElsePart, EndIf, Push, WhileTest, body_actions, expr_actions}
 use Rattle.grammar.specs.Building.{Appends, AppendsAll, MayFollow, Meaning, StandsOpen}
 use Rattle.grammar.specs.Following.{AValue, BeforeTest, InBranch, InElse, InFunction, InTurn, Number, Open, Opened, Origin, counts, follow, is_number, is_place, open_count, statement_done}
 use Rattle.grammar.specs.Nesting.{body_nesting, nesting}

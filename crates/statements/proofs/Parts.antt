@@ -1,5 +1,5 @@
 -- Productions of statements that are chosen, and trees that are made, between two tokens.
-use Rattle.std.proofs.Common.{◌≡◌, ℕ, ◌+◌, ◌<◌, ◌≤◌, List, [], ◌∷◌, ◌++◌, refl, sym, ap, subst, Bool, true, false, arith, append-nil}
+use Rattle.std.proofs.Common.{◌≡◌, ℕ, ◌<◌, ◌≤◌, List, [], ◌∷◌, ◌++◌, refl, sym, ap, subst, Bool, true, false, arith, append-nil}
 use Rattle.std.proofs.lemmas.Bool.Decides.{nat_tests}
 use Rattle.std.specs.Prelude.{Some, nat_le}
 use Rattle.tokens.specs.declared.lexemes.Lexeme.{Lexeme}
@@ -22,9 +22,9 @@ use Rattle.grammar.specs.Scope.{Scope}
 use Rattle.grammar.proofs.Firsts.{too_deep, too_deep_word}
 use Rattle.grammar.proofs.Runs.{then}
 use Rattle.grammar.proofs.Steps.{make, mark, part, shut, word}
-use Rattle.parsing.specs.Position.{Place, place, next_at, scope_at, tokens_at}
+use Rattle.parsing.specs.Position.{Place, next_at, scope_at}
 use Rattle.parsing.specs.Stretch.{Derives, FailsAt, GoesPast, StopsAt}
-use Rattle.parsing.proofs.Stretches.{Begins, IsBehind, Leads, past, stand, stops, told_begins}
+use Rattle.parsing.proofs.Stretches.{Begins, Leads, past, stand, stops, told_begins}
 
 -- Which token it is.
 

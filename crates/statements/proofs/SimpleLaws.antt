@@ -1,15 +1,14 @@
 -- What the parse functions of statements without statements inside derive.
-use Rattle.std.proofs.Common.{◌≡◌, ℕ, pos, ◌+◌, ◌≤◌, List, [], ◌∷◌, ◌++◌, refl, sym, subst, true, false, append_assoc, append-nil, arith}
+use Rattle.std.proofs.Common.{◌≡◌, ℕ, pos, List, [], ◌∷◌, ◌++◌, refl, sym, subst, true, false, append_assoc, append-nil, arith}
 use Rattle.tokens.specs.declared.lexemes.Mark.TheVariants as mark
 use Rattle.tokens.specs.declared.lexemes.Word.TheVariants as word
 use Rattle.grammar.specs.declared.diagnostics.Diagnostic.{Diagnostic}
 use Rattle.grammar.specs.Actions.{Action, Chop, GiveBack as Returns, Push, expr_actions}
 use Rattle.grammar.specs.Building.{Appends, AppendsAll, Meaning}
 use Rattle.grammar.specs.Derivation.{ABody, AnExpr}
-use Rattle.grammar.specs.Grammar.{Back, Evaluate, Exactly, Expression, GiveBack, Item, Make, Part, Statement, Zero, is_fault, is_mark, is_word}
-use Rattle.grammar.specs.Tree.{Alone, Body, Constant, Done, Expr, Return, join}
+use Rattle.grammar.specs.Grammar.{Back, Evaluate, Exactly, Expression, GiveBack, Make, Part, Statement, Zero, is_fault, is_mark, is_word}
+use Rattle.grammar.specs.Tree.{Alone, Body, Constant, Done, Return, join}
 use Rattle.parsing.specs.Position.{Place, next_at}
-use Rattle.parsing.specs.Room.{room}
 use Rattle.parsing.specs.Stretch.{Derives, DerivesItem, FailsAt, FailsItem, GoesPast, StopsAt}
 use Rattle.parsing.proofs.Stretches.{fails_behind, joined, stay}
 use Rattle.expressions.specs.Expressions.{AddsExpr}
