@@ -1,33 +1,30 @@
 -- What lists of type words, names and declarations derive, by the next token.
 use Rattle.std.proofs.Common.{◌≡◌, ℕ, List, [], ◌∷◌, ◌++◌, refl, ◌∙◌, true, false}
-use Rattle.std.specs.Prelude.{Some, Result, Ok, Err, OnOk, IfErr}
+use Rattle.std.specs.Prelude.{Result, Ok, Err, OnOk, IfErr}
 use Rattle.tokens.specs.declared.lexemes.Mark.TheVariants as mark
 use Rattle.tokens.specs.declared.lexemes.Token.{Token}
 use Rattle.tokens.specs.declared.lexemes.Token.TheVariants as token
 use Rattle.tokens.specs.declared.lexemes.Word.TheVariants as word
 use Rattle.grammar.specs.declared.diagnostics.ParseFault.{ParseFault}
 use Rattle.grammar.specs.Faults.{levels}
-use Rattle.grammar.specs.Grammar.{Item, AName, AWord, Exactly, More, Part, Role, Symbol, Types, choice, is_fault, is_mark, is_word, opens}
-use Rattle.grammar.proofs.Steps.{part}
+use Rattle.grammar.specs.Grammar.{Item, AName, AWord, Exactly, More, Part, Role, Symbol, Types, is_fault, is_mark, is_word, opens}
 use Rattle.parsing.specs.declared.roles.Declared.{Declared}
 use Rattle.parsing.specs.declared.roles.Declared.TheVariants as kind
-use Rattle.parsing.specs.Position.{Place, next_at, scope_at}
+use Rattle.parsing.specs.Position.{Place, next_at}
 use Rattle.parsing.specs.Roles.{role_of}
 use Rattle.parsing.specs.Stretch.{Derives, DerivesItem, FailsAt, Refused}
-use Rattle.parsing.proofs.Stretches.{fails_behind, joined, refused_map, stand, stay}
+use Rattle.parsing.proofs.Parts.{Chooses, free_of, part_stands}
+use Rattle.parsing.proofs.Stretches.{fails_behind, joined, refused_map, stay}
 use Rattle.declarations.specs.Declarations.{IsInFunction, declarations_of}
 
 -- the symbol is replaced by these items, whatever stands behind the next token, and no level is opened
 pub record Gives (symbol : Symbol) (next : Token) (items : List Item) : Type 0 where
-  pub chosen : (after : Token) → choice symbol next after ≡ Some items
+  pub chosen : Chooses symbol next items
   pub plain : (after : Token) → opens symbol next after ≡ false
 
 pub replaces : (at : Place) (depth : ℕ) (symbol : Symbol) (items : List Item) → is_fault (next_at at).token ≡ false → Gives symbol (next_at at).token items →
     Derives depth (Part symbol ∷ []) items [] [] at at
-replaces at depth symbol items sound gives = stand at depth (Part symbol ∷ []) items [] [] (λ tail b. record {
-  passes = λ profile stack values functions depths.
-      part profile symbol items stack (next_at at ∷ tail) values (scope_at at) functions sound (gives.chosen _) (rw (gives.plain _) refl);
-})
+replaces at depth symbol items sound gives = part_stands at depth symbol items [] sound gives.chosen (free_of depth symbol (next_at at) gives.plain)
 
 -- The choices.
 

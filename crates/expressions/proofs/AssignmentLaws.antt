@@ -25,7 +25,8 @@ use Rattle.parsing.specs.Stretch.{Derives, DerivesItem, FailsAt, FailsItem, Goes
 use Rattle.parsing.proofs.Stretches.{exit, exit_item, joined}
 use Rattle.expressions.specs.Expressions.{AddsExpr}
 use Rattle.expressions.proofs.NameLaws.{behind_name_is}
-use Rattle.expressions.proofs.Productions.{Chooses, MakesOnly, OpensLevel, chosen, chosen_within, item_done, makes_and_shuts, mark_ends, mark_past, name_too_deep, same_self}
+use Rattle.parsing.proofs.Parts.{MakesOnly}
+use Rattle.expressions.proofs.Productions.{Chooses, OpensLevel, chosen, chosen_within, item_done, makes_and_shuts, mark_ends, mark_past, name_too_deep, same_self}
 use Rattle.expressions.proofs.TellingLaws.{appends_then, next_follows, room_within}
 use Rattle.expressions.proofs.VariableLaws.{IsNamed, after_name, is_named, named_sound, tree_follows}
 

@@ -23,7 +23,8 @@ use Rattle.parsing.specs.Room.{HasRoom, room}
 use Rattle.parsing.specs.Stretch.{Derives, DerivesItem, FailsAt, FailsItem, Refused}
 use Rattle.parsing.proofs.Stretches.{exit_item, fails_behind, joined, refused_map}
 use Rattle.expressions.specs.Expressions.{AddsArgs, AddsExpr, FailsArgs}
-use Rattle.expressions.proofs.Productions.{Chooses, MakesOnly, OpensLevel, chosen, chosen_within, item_done, makes, makes_and_shuts, mark_is, mark_sound, name_too_deep}
+use Rattle.parsing.proofs.Parts.{MakesOnly, make_stands, mark_is}
+use Rattle.expressions.proofs.Productions.{Chooses, OpensLevel, chosen, chosen_within, item_done, makes_and_shuts, mark_sound, name_too_deep}
 use Rattle.expressions.proofs.TellingLaws.{all_follow, appends_then, first_follows, next_follows, room_behind, room_behind_args}
 use Rattle.expressions.proofs.VariableLaws.{IsNamed, after_name, named_sound, tree_follows}
 
@@ -87,7 +88,7 @@ passed : (at now there : Place) (depth : ℕ) (callee : Callee) (args : Args) (f
 passed at now there depth callee args front e a b sound =
     joined depth depth front (Make Pass ∷ []) [] (Part MoreArguments ∷ []) (ACall callee NoMore ∷ []) (AnExpr e ∷ ACall callee args ∷ []) (ACall callee (add_argument args e) ∷ []) [] at there there
     (joined depth depth front (Part Expression ∷ []) [] (Make Pass ∷ Part MoreArguments ∷ []) (ACall callee NoMore ∷ []) [] (AnExpr e ∷ []) (ACall callee args ∷ []) at now there a b (λ stack same. same))
-    (makes there depth Pass (AnExpr e ∷ ACall callee args ∷ []) (ACall callee (add_argument args e) ∷ []) sound (pass_makes callee args e)) (λ stack same. same)
+    (make_stands there depth Pass (AnExpr e ∷ ACall callee args ∷ []) (ACall callee (add_argument args e) ∷ []) sound (pass_makes callee args e)) (λ stack same. same)
 
 pub first_adds : (before after : Meaning) (at there : Place) (depth : ℕ) → is_fault (next_at at).token ≡ false → is_mark mark.CloseRound (next_at at).token ≡ false →
     AddsExpr before after depth 1 (Part Expression ∷ []) [] at there → is_fault (next_at there).token ≡ false → AddsArgs before after depth (Part Arguments ∷ []) (Part MoreArguments ∷ []) at there

@@ -22,7 +22,8 @@ use Rattle.expressions.specs.declared.signs.Step.{Step}
 use Rattle.expressions.specs.declared.signs.Step.TheVariants as step
 use Rattle.expressions.specs.Expressions.{AddsExpr}
 use Rattle.expressions.specs.Signs.{sign_mark, step_mark}
-use Rattle.expressions.proofs.Productions.{Chooses, OpensLevel, chosen, chosen_within, item_done, mark_ends, mark_is, mark_past, mark_sound, mark_too_deep, none_chosen, shuts}
+use Rattle.parsing.proofs.Parts.{mark_is, shut_stands}
+use Rattle.expressions.proofs.Productions.{Chooses, OpensLevel, chosen, chosen_within, item_done, mark_ends, mark_past, mark_sound, mark_too_deep, none_chosen}
 use Rattle.expressions.proofs.TellingLaws.{room_within}
 
 -- Brackets.
@@ -84,7 +85,7 @@ bracket_adds before after at now behind there depth fits shallow goes h close so
   derives = joined depth depth (Part Primary ∷ []) (Shut ∷ []) [] [] [] (AnExpr h.tree ∷ []) (AnExpr h.tree ∷ []) [] at there there
       (item_done depth (depth + 1) (Part Primary ∷ []) (Exactly mark.CloseRound) (Shut ∷ []) [] [] (AnExpr h.tree ∷ []) at behind there
       (inside_past before after at now behind depth fits shallow goes h) (close (depth + 1)) (λ stack same. ap (λ n. n + 1) same))
-      (shuts there depth (AnExpr h.tree ∷ []) sound) (λ stack same. same);
+      (shut_stands there depth (AnExpr h.tree ∷ []) sound) (λ stack same. same);
 }
 
 pub inside_room : (before : Meaning) (depth : ℕ) → depth < 64 → HasRoom before (room depth 11) → HasRoom before (room (depth + 1) 1)

@@ -27,7 +27,8 @@ use Rattle.parsing.specs.Stretch.{Derives, FailsAt, FailsItem, GoesPast, Refused
 use Rattle.parsing.proofs.Stretches.{exit, fails_behind, fails_then, joined, refused_map}
 use Rattle.expressions.specs.Expressions.{AddsExpr, AddsOperand, FailsOperand}
 use Rattle.expressions.specs.Telling.{MayFollowAll}
-use Rattle.expressions.proofs.Productions.{MakesOnly, chosen, item_done, makes, mark_ends, mark_past, mark_sound, same_self}
+use Rattle.parsing.proofs.Parts.{MakesOnly, make_stands}
+use Rattle.expressions.proofs.Productions.{chosen, item_done, mark_ends, mark_past, mark_sound, same_self}
 use Rattle.expressions.proofs.TellingLaws.{all_follow, appends_then, first_follows, others_follow, room_behind}
 
 -- Levels.
@@ -315,5 +316,5 @@ operand_adds before told mid after at now there depth n o is goes first h last s
   derives = λ left. joined depth depth (Part (Tail n) ∷ []) (Make (Operate o) ∷ []) [] (Part (Tail n) ∷ []) (AnExpr left ∷ []) (AnExpr h.tree ∷ AnExpr left ∷ []) (AnExpr (Binary o left h.tree) ∷ []) [] at there there
       (joined depth depth (Part (Tail n) ∷ []) (Part (Level (n + 1)) ∷ []) [] (Make (Operate o) ∷ Part (Tail n) ∷ []) (AnExpr left ∷ []) [] (AnExpr h.tree ∷ []) (AnExpr left ∷ []) at now there
       (operator_past at now depth n o left is goes) h.derives (λ stack same. same))
-      (makes there depth (Operate o) (AnExpr h.tree ∷ AnExpr left ∷ []) (AnExpr (Binary o left h.tree) ∷ []) sound (operate_makes o left h.tree)) (λ stack same. same);
+      (make_stands there depth (Operate o) (AnExpr h.tree ∷ AnExpr left ∷ []) (AnExpr (Binary o left h.tree) ∷ []) sound (operate_makes o left h.tree)) (λ stack same. same);
 }

@@ -1,5 +1,5 @@
 -- What a production adds to a stretch of the derivation: its choice, its marks, the trees made and the level shut.
-use Rattle.std.proofs.Common.{◌≡◌, ℕ, ◌<◌, ◌≤◌, List, [], ◌∷◌, ◌++◌, refl, sym, ap, subst, Bool, true, false, arith, append-nil, eqb}
+use Rattle.std.proofs.Common.{◌≡◌, ℕ, ◌+◌, ◌<◌, ◌≤◌, List, [], ◌∷◌, ◌++◌, refl, ap, Bool, true, false, arith, eqb}
 use Rattle.std.proofs.lemmas.Bool.Decides.{nat_tests}
 use Rattle.std.specs.Prelude.{Some, None, nat_le}
 use Rattle.tokens.specs.Tokens.{is_last}
@@ -8,34 +8,23 @@ use Rattle.tokens.specs.declared.lexemes.Mark.{Mark}
 use Rattle.tokens.specs.contracts.lexemes.Mark.{the_type}
 use Rattle.tokens.specs.declared.lexemes.Token.{Token}
 use Rattle.tokens.specs.declared.lexemes.Token.TheVariants as token
-use denote.Enum.Bare.{same_true}
 use denote.Enum.Declared.{tag_of}
 use Rattle.grammar.specs.declared.diagnostics.Code.TheVariants as code
 use Rattle.grammar.specs.declared.diagnostics.ParseFault.{ParseFault}
 use Rattle.grammar.specs.Compiled.{diagnostic}
-use Rattle.grammar.specs.Derivation.{State, state, Value, Definition, made, defined, behind_rule, name_of_token, next_of}
-use Rattle.grammar.specs.Faults.{fault, item_faults, levels, misfit_code, most_levels, only_if}
+use Rattle.grammar.specs.Derivation.{Value, name_of_token, next_of}
+use Rattle.grammar.specs.Faults.{fault, levels, misfit_code, most_levels, only_if}
 use Rattle.grammar.specs.Grammar.{Item, AName, Exactly, Make, Part, Role, Rule, Shut, Symbol, choice, is_fault, is_mark, opens, same_mark}
-use Rattle.grammar.specs.Parsing.{Passes}
-use Rattle.grammar.specs.Profile.{Profile}
-use Rattle.grammar.specs.Scope.{Scope}
 use Rattle.grammar.proofs.Firsts.{no_part, too_deep, too_deep_name}
 use Rattle.grammar.proofs.Runs.{then}
-use Rattle.grammar.proofs.Steps.{part, make, shut}
+use Rattle.grammar.proofs.Steps.{part, shut}
 use Rattle.parsing.specs.Position.{Place, after_at, next_at, scope_at}
 use Rattle.parsing.specs.Stretch.{Derives, DerivesItem, FailsAt, FailsItem, GoesPast, Refused, StopsAt}
 use Rattle.parsing.proofs.Items.{mark_derives, mark_stops}
+use Rattle.parsing.proofs.Parts.{MakesOnly, beyond, make_leads, mark_is, within}
 use Rattle.parsing.proofs.Stretches.{Begins, IsBehind, fails_behind, joined, refused_map, stand, told_begins}
 
 -- Marks.
-
-pub mark_is : (m : Mark) (t : Token) → is_mark m t ≡ true → t ≡ token.Mark m
-mark_is m (token.Mark n) is = ap token.Mark (sym (same_true the_type tt m n is))
-mark_is m (token.Name name) is = absurd (cc)
-mark_is m (token.Word word) is = absurd (cc)
-mark_is m (token.Constant value) is = absurd (cc)
-mark_is m token.End is = absurd (cc)
-mark_is m (token.Fault flaw) is = absurd (cc)
 
 eqb_self : (n : ℕ) → eqb n n ≡ true
 eqb_self n = grind (arith, nat_tests)
@@ -83,21 +72,6 @@ next_behind at tail b more = ap next_of (b.is more)
 free : (n : ℕ) (opened : Bool) (rest : List Lexeme) → opened ≡ false → only_if opened (only_if (nat_le most_levels n) (fault rest code.NestedTooDeeply ∷ [])) ≡ []
 free n opened rest none = rw none refl
 
-within : (opened : Bool) (n : ℕ) (rest : List Lexeme) → n < 64 → only_if opened (only_if (nat_le most_levels n) (fault rest code.NestedTooDeeply ∷ [])) ≡ []
-unfolding most_levels
-within false n rest small = refl
-within true n rest small = let test : nat_le 64 n ≡ false = below n small in rw test refl
-  where
-    below : (n : ℕ) → n < 64 → nat_le 64 n ≡ false
-    below n small = grind (arith, nat_tests)
-
-beyond : (opened : Bool) (n : ℕ) (rest : List Lexeme) → opened ≡ true → 64 ≤ n → only_if opened (only_if (nat_le most_levels n) (fault rest code.NestedTooDeeply ∷ [])) ≡ fault rest code.NestedTooDeeply ∷ []
-unfolding most_levels
-beyond opened n rest is large = rw (is, above n large) refl
-  where
-    above : (n : ℕ) → 64 ≤ n → nat_le 64 n ≡ true
-    above n large = grind (arith, nat_tests)
-
 -- a production that opens no level is chosen
 pub chosen : (at : Place) (depth : ℕ) (symbol : Symbol) (items : List Item) (kept : List Value) → Chooses at symbol items → OpensNone at symbol →
     Derives depth (Part symbol ∷ []) items kept kept at at
@@ -141,47 +115,13 @@ none_chosen at depth symbol sound none opened lexemes shows profile stack values
 
 -- The trees made.
 
--- the rule makes these trees of those, and leaves the names and the functions
-pub record MakesOnly (rule : Rule) (taken left : List Value) : Type 0 where
-  pub makes : (values : List Value) → made rule (taken ++ values) ≡ left ++ values
-  pub clean : (profile : Profile) (stack : List Item) (rest : List Lexeme) (values : List Value) (scope : Scope) (functions : List Definition) →
-      item_faults profile (Make rule ∷ stack) rest values scope functions ≡ []
-  pub learns : (scope : Scope) → behind_rule rule scope ≡ scope
-  pub defines : (values : List Value) (scope : Scope) → defined rule values scope ≡ []
-
-makes_only : (at : Place) (rule : Rule) (taken left : List Value) → MakesOnly rule taken left → (profile : Profile) (stack : List Item) (tail : List Lexeme) (values : List Value) (functions : List Definition) →
-    Passes profile (state (Make rule ∷ stack) (next_at at ∷ tail) (taken ++ values) (scope_at at) functions)
-    (state stack (next_at at ∷ tail) (made rule (taken ++ values)) (behind_rule rule (scope_at at)) (functions ++ defined rule (taken ++ values) (scope_at at))) →
-    Passes profile (state (Make rule ∷ stack) (next_at at ∷ tail) (taken ++ values) (scope_at at) functions)
-    (state stack (next_at at ∷ tail) (left ++ values) (scope_at at) functions)
-makes_only at rule taken left m profile stack tail values functions p =
-    subst (λ (s : State). Passes profile (state (Make rule ∷ stack) (next_at at ∷ tail) (taken ++ values) (scope_at at) functions) s) same p
-  where
-    same : state stack (next_at at ∷ tail) (made rule (taken ++ values)) (behind_rule rule (scope_at at)) (functions ++ defined rule (taken ++ values) (scope_at at))
-        ≡ state stack (next_at at ∷ tail) (left ++ values) (scope_at at) functions
-    same = rw (m.makes values, m.learns (scope_at at), m.defines (taken ++ values) (scope_at at), append-nil functions) refl
-
-pub makes : (at : Place) (depth : ℕ) (rule : Rule) (taken left : List Value) → is_fault (next_at at).token ≡ false → MakesOnly rule taken left → Derives depth (Make rule ∷ []) [] taken left at at
-makes at depth rule taken left sound m = stand at depth (Make rule ∷ []) [] taken left (λ tail b. record {
-  passes = λ profile stack values functions depths.
-      makes_only at rule taken left m profile stack tail values functions
-      (make profile rule stack (next_at at ∷ tail) (taken ++ values) (scope_at at) functions sound (m.clean profile stack (next_at at ∷ tail) (taken ++ values) (scope_at at) functions));
-})
-
--- a level is shut
-pub shuts : (at : Place) (depth : ℕ) (kept : List Value) → is_fault (next_at at).token ≡ false → Derives depth (Shut ∷ []) [] kept kept at at
-shuts at depth kept sound = stand at depth (Shut ∷ []) [] kept kept (λ tail b. record {
-  passes = λ profile stack values functions depths. shut profile stack (next_at at ∷ tail) (kept ++ values) (scope_at at) functions sound;
-})
-
--- both of them
+-- a tree is made, and the level is shut
 pub makes_and_shuts : (at : Place) (depth : ℕ) (rule : Rule) (taken left : List Value) → is_fault (next_at at).token ≡ false → MakesOnly rule taken left →
     Derives depth (Make rule ∷ Shut ∷ []) [] taken left at at
 makes_and_shuts at depth rule taken left sound m = stand at depth (Make rule ∷ Shut ∷ []) [] taken left (λ tail b. record {
   passes = λ profile stack values functions depths.
       then profile _ _ _
-      (makes_only at rule taken left m profile (Shut ∷ stack) tail values functions
-      (make profile rule (Shut ∷ stack) (next_at at ∷ tail) (taken ++ values) (scope_at at) functions sound (m.clean profile (Shut ∷ stack) (next_at at ∷ tail) (taken ++ values) (scope_at at) functions)))
+      ((make_leads (next_at at) (depth + 1) rule taken left (scope_at at) tail sound m).passes profile (Shut ∷ stack) values functions (ap (λ n. n + 1) depths))
       (shut profile stack (next_at at ∷ tail) (left ++ values) (scope_at at) functions sound);
 })
 

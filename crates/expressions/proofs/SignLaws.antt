@@ -24,7 +24,8 @@ use Rattle.expressions.specs.declared.signs.Sign.TheVariants as sign
 use Rattle.expressions.specs.Expressions.{AddsExpr}
 use Rattle.expressions.specs.Signs.{before_operand, behind_operand, sign_mark, sign_rule, signed}
 use Rattle.expressions.specs.Telling.{MayFollowAll}
-use Rattle.expressions.proofs.Productions.{Chooses, MakesOnly, OpensLevel, chosen_within, item_done, makes_and_shuts, mark_ends, mark_is, mark_past, mark_sound, mark_too_deep}
+use Rattle.parsing.proofs.Parts.{MakesOnly, mark_is}
+use Rattle.expressions.proofs.Productions.{Chooses, OpensLevel, chosen_within, item_done, makes_and_shuts, mark_ends, mark_past, mark_sound, mark_too_deep}
 use Rattle.expressions.proofs.TellingLaws.{all_follow, appends_then, others_follow, room_behind}
 
 -- The derivation.

@@ -29,7 +29,8 @@ use Rattle.expressions.specs.declared.signs.Step.TheVariants as step
 use Rattle.expressions.specs.Expressions.{AddsExpr}
 use Rattle.expressions.specs.Signs.{step_mark, step_store}
 use Rattle.expressions.specs.Telling.{MayFollowAll}
-use Rattle.expressions.proofs.Productions.{Chooses, MakesOnly, OpensNone, chosen, item_done, item_exit, makes, mark_ends, mark_is, mark_past, mark_sound}
+use Rattle.parsing.proofs.Parts.{MakesOnly, make_stands, mark_is}
+use Rattle.expressions.proofs.Productions.{Chooses, OpensNone, chosen, item_done, item_exit, mark_ends, mark_past, mark_sound}
 use Rattle.expressions.proofs.TellingLaws.{all_follow, appends_then, first_follows}
 
 -- Names.
@@ -162,7 +163,7 @@ fetch_adds before after at there v n call none item numbered sound told depth = 
   derives = joined depth depth (Part Primary ∷ []) (Make Fetch ∷ []) [] [] [] (AVariable v ∷ []) (AnExpr (Variable v) ∷ []) [] at there there
       (item_done depth depth (Part Primary ∷ []) (AName Mentioned) (Make Fetch ∷ []) [] (AVariable v ∷ []) [] at at there
       (fetch_stands at n call none depth) (item depth) (λ stack same. same))
-      (makes there depth Fetch (AVariable v ∷ []) (AnExpr (Variable v) ∷ []) sound (fetch_makes v)) (λ stack same. same);
+      (make_stands there depth Fetch (AVariable v ∷ []) (AnExpr (Variable v) ∷ []) sound (fetch_makes v)) (λ stack same. same);
 }
 
 -- ++ or -- behind a variable.
@@ -223,7 +224,7 @@ behind_adds before a b c after at now there s v n fits item sign numbered sound 
   derives = joined depth depth (Part Primary ∷ []) (Make (StepBehind (step_store s)) ∷ []) [] [] [] (AVariable v ∷ []) (AnExpr (Postfix (step_store s) v) ∷ []) [] at there there
       (item_done depth depth (Part Primary ∷ []) (Exactly (step_mark s)) (Make (StepBehind (step_store s)) ∷ []) [] [] (AVariable v ∷ []) at now there
       (behind_past_name at now s v n fits item depth) (sign depth) (λ stack same. same))
-      (makes there depth (StepBehind (step_store s)) (AVariable v ∷ []) (AnExpr (Postfix (step_store s) v) ∷ []) sound (behind_makes (step_store s) v)) (λ stack same. same);
+      (make_stands there depth (StepBehind (step_store s)) (AVariable v ∷ []) (AnExpr (Postfix (step_store s) v) ∷ []) sound (behind_makes (step_store s) v)) (λ stack same. same);
 }
 
 -- ++ or -- before a variable.
@@ -272,5 +273,5 @@ before_adds before a after at now there s v fits goes item numbered sound first 
   derives = joined depth depth (Part Unary ∷ []) (Make (StepBefore (step_store s)) ∷ []) [] [] [] (AVariable v ∷ []) (AnExpr (Assign (step_store s) v (Constant (pos 1))) ∷ []) [] at there there
       (item_done depth depth (Part Unary ∷ []) (AName Mentioned) (Make (StepBefore (step_store s)) ∷ []) [] (AVariable v ∷ []) [] at now there
       (before_past_mark at now s fits goes depth) (item depth) (λ stack same. same))
-      (makes there depth (StepBefore (step_store s)) (AVariable v ∷ []) (AnExpr (Assign (step_store s) v (Constant (pos 1))) ∷ []) sound (before_makes (step_store s) v)) (λ stack same. same);
+      (make_stands there depth (StepBefore (step_store s)) (AVariable v ∷ []) (AnExpr (Assign (step_store s) v (Constant (pos 1))) ∷ []) sound (before_makes (step_store s) v)) (λ stack same. same);
 }

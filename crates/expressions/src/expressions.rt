@@ -16,7 +16,6 @@ ghost use Rattle.expressions.specs.Signs.{sign_mark};
 ghost use Rattle.expressions.specs.Telling.{MayFollowAll};
 
 use crate::signs::{Sign, sign_of, step_of};
-use crate::soundness::next_is_sound;
 use crate::variables::{constant, step_before, variable};
 use grammar::{
     Build, BuildFault, Code, LAST_LEVEL, Op, ParseFault, StoreOp, operator_at, store_operator,
@@ -132,7 +131,6 @@ fn operand<F: Feed, B: Build>(
     ensures counted { Counts result (F.failures feed.old) (F.failures feed.new) }
 {
     parser.advance(feed)?;
-    next_is_sound(parser);
     tell_middle(build, op)?;
     levels(parser, feed, build, level + 1, depth)?;
     build.binop(op)?;
@@ -253,7 +251,6 @@ fn call<F: Feed, B: Build>(
     parser.expect(feed, Mark::OpenRound)?;
     arguments(parser, feed, build, depth + 1)?;
     parser.expect(feed, Mark::CloseRound)?;
-    next_is_sound(parser);
     build.end_call(callee)?;
     Ok(())
 }
@@ -309,7 +306,6 @@ fn bracketed<F: Feed, B: Build>(
     parser.advance(feed)?;
     expression(parser, feed, build, depth + 1)?;
     parser.expect(feed, Mark::CloseRound)?;
-    next_is_sound(parser);
     Ok(())
 }
 

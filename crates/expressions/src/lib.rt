@@ -3,7 +3,6 @@
 
 mod expressions;
 mod signs;
-mod soundness;
 mod variables;
 
 pub use expressions::expression;

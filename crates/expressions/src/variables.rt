@@ -13,7 +13,6 @@ ghost use Rattle.expressions.specs.Expressions.{AddsExpr};
 ghost use Rattle.expressions.specs.Signs.{step_mark};
 
 use crate::signs::{Step, step_of};
-use crate::soundness::next_is_sound;
 use grammar::{Build, ParseFault};
 use parsing::Parser;
 use tokens::Feed;
@@ -37,7 +36,6 @@ pub fn constant<F: Feed, B: Build>(
 {
     build.constant(value as i32)?;
     parser.advance(feed)?;
-    next_is_sound(parser);
     Ok(())
 }
 
@@ -62,7 +60,6 @@ pub fn variable<F: Feed, B: Build>(
         return Ok(());
     }
     let var = parser.mention(feed)?;
-    next_is_sound(parser);
     build.fetch(var)?;
     Ok(())
 }
@@ -90,7 +87,6 @@ fn step_behind<F: Feed, B: Build>(
     build.store(var, step.store())?;
     build.chop()?;
     parser.expect(feed, step.mark())?;
-    next_is_sound(parser);
     Ok(())
 }
 
@@ -112,7 +108,6 @@ pub fn step_before<F: Feed, B: Build>(
 {
     parser.advance(feed)?;
     let var = parser.mention(feed)?;
-    next_is_sound(parser);
     build.constant(1)?;
     build.store(var, step.store())?;
     Ok(())

@@ -152,7 +152,7 @@ abbrev pub settled : Bool → Opened → Opened
 settled returned (InFunction parameters before ∷ o) = InFunction parameters returned ∷ o
 settled returned o = o
 
-done_settles : (returned : Bool) (o : Opened) → is_place o ≡ true → statement_done returned o ≡ Some (settled returned o)
+pub done_settles : (returned : Bool) (o : Opened) → is_place o ≡ true → statement_done returned o ≡ Some (settled returned o)
 done_settles returned [] e = absurd (cc)
 done_settles returned (InFunction parameters before ∷ o) e = refl
 done_settles returned (InBranch ∷ o) e = refl
@@ -160,12 +160,12 @@ done_settles returned (InElse ∷ o) e = refl
 done_settles returned (InTurn ∷ o) e = refl
 done_settles returned (x ∷ o) e = absurd (cc)
 
-settled_place : (returned : Bool) (o : Opened) → is_place o ≡ true → is_place (settled returned o) ≡ true
+pub settled_place : (returned : Bool) (o : Opened) → is_place o ≡ true → is_place (settled returned o) ≡ true
 settled_place returned [] e = absurd (cc)
 settled_place returned (InFunction parameters before ∷ o) e = refl
 settled_place returned (x ∷ o) e = e
 
-settled_count : (returned : Bool) (o : Opened) → open_count (settled returned o) ≡ open_count o
+pub settled_count : (returned : Bool) (o : Opened) → open_count (settled returned o) ≡ open_count o
 settled_count returned [] = refl
 settled_count returned (InFunction parameters before ∷ o) = refl
 settled_count returned (x ∷ o) = refl
@@ -184,7 +184,7 @@ value_leads : (e : Expr) (o : Opened) → is_place o ≡ true → InExpr 64 64 6
 value_leads e [] place h small = absurd (cc)
 value_leads e (outer ∷ o) place h small = expr_leads e outer o h small
 
-chop_settles : (origin : Origin) (o : Opened) → is_place o ≡ true → follow Chop (AValue origin ∷ o) ≡ Some (settled false o)
+pub chop_settles : (origin : Origin) (o : Opened) → is_place o ≡ true → follow Chop (AValue origin ∷ o) ≡ Some (settled false o)
 chop_settles origin [] e = absurd (cc)
 chop_settles origin (AValue below ∷ o) e = absurd (cc)
 chop_settles origin (InFunction parameters before ∷ o) e = refl
@@ -194,7 +194,7 @@ chop_settles origin (InTurn ∷ o) e = refl
 chop_settles origin (x ∷ o) e = absurd (cc)
 
 -- inside of a branch or a loop nothing is settled
-inside : (b : Body) (x : Open) (o : Opened) → ((returned : Bool) → settled returned (x ∷ o) ≡ x ∷ o) → behind_body b (x ∷ o) ≡ x ∷ o
+pub inside : (b : Body) (x : Open) (o : Opened) → ((returned : Bool) → settled returned (x ∷ o) ≡ x ∷ o) → behind_body b (x ∷ o) ≡ x ∷ o
 inside Done x o same = refl
 inside (Alone e rest) x o same = ap (behind_body rest) (same false) ∙ inside rest x o same
 inside (When c s rest) x o same = ap (behind_body rest) (same false) ∙ inside rest x o same

@@ -1,3 +1,4 @@
 pub mod Stretches
 pub mod Items
 pub mod Names
+pub mod Parts

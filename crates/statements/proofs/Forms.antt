@@ -1,6 +1,5 @@
 -- Which production of a statement a token chooses.
 use Rattle.std.proofs.Common.{◌≡◌, [], ◌∷◌, refl, true, false}
-use Rattle.std.specs.Prelude.{Some}
 use Rattle.tokens.specs.declared.lexemes.Mark.TheVariants as mark
 use Rattle.tokens.specs.declared.lexemes.Token.{Token}
 use Rattle.tokens.specs.declared.lexemes.Token.TheVariants as token
@@ -8,7 +7,7 @@ use Rattle.tokens.specs.declared.lexemes.Word.TheVariants as word
 use Rattle.grammar.specs.Grammar.{AWord, Back, Block, Decide, DecideElse, Declarations, ElsePart, Empty, Evaluate, Exactly, Expression, GiveBack, Item, Make, Part, Repeat, Shut, Statement, Statements, Zero, is_mark, is_word, opens}
 use Rattle.std.specs.Prelude.{List}
 use Rattle.statements.specs.Forms.{opens_statement}
-use Rattle.statements.proofs.Parts.{Chooses, mark_is, word_is}
+use Rattle.parsing.proofs.Parts.{Chooses, mark_is, word_is}
 
 -- An expression for its effect.
 

@@ -1,5 +1,5 @@
 -- Statements of one body and then those of another.
-use Rattle.std.proofs.Common.{◌≡◌, ℕ, ◌≤◌, List, ◌∷◌, ◌++◌, refl, sym, ap, ◌∙◌, append_assoc, arith}
+use Rattle.std.proofs.Common.{◌≡◌, ℕ, ◌≤◌, List, ◌∷◌, ◌++◌, refl, ap, ◌∙◌, append_assoc, arith}
 use Rattle.grammar.specs.Actions.{Action, BeginWhile, Chop, ElsePart, EndIf, EndWhile, GiveBack, IfTest, WhileTest, body_actions, expr_actions}
 use Rattle.grammar.specs.Nesting.{body_nesting}
 use Rattle.grammar.specs.Resolved.{InBody}

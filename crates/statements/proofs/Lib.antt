@@ -2,7 +2,6 @@ pub mod Forms
 pub mod Joining
 pub mod NestedLaws
 pub mod Openings
-pub mod Parts
 pub mod Rules
 pub mod SimpleLaws
 pub mod Tellings

@@ -1,5 +1,5 @@
 -- What the parse functions of blocks, branches, loops and rows of statements derive.
-use Rattle.std.proofs.Common.{◌≡◌, ℕ, ◌+◌, ◌<◌, ◌≤◌, List, [], ◌∷◌, ◌++◌, refl, sym, ap, ◌∙◌, subst, true, false, append_assoc, append-nil, arith}
+use Rattle.std.proofs.Common.{◌≡◌, ℕ, ◌+◌, ◌<◌, ◌≤◌, List, [], ◌∷◌, ◌++◌, refl, sym, ap, ◌∙◌, subst, true, false, arith}
 use Rattle.std.specs.Prelude.{Option, Some, None}
 use Rattle.tokens.specs.declared.lexemes.Mark.TheVariants as mark
 use Rattle.tokens.specs.declared.lexemes.Word.TheVariants as word
@@ -8,14 +8,14 @@ use Rattle.grammar.specs.declared.diagnostics.Diagnostic.{Diagnostic}
 use Rattle.grammar.specs.Actions.{Action, BeginWhile, ElsePart as BetweenBranches, EndIf, EndWhile, IfTest, WhileTest, body_actions, expr_actions}
 use Rattle.grammar.specs.Building.{Appends, AppendsAll, Meaning}
 use Rattle.grammar.specs.Compiled.{diagnostic}
-use Rattle.grammar.specs.Derivation.{ABody, AnExpr, Value}
+use Rattle.grammar.specs.Derivation.{ABody, AnExpr}
 use Rattle.grammar.specs.Faults.{levels}
 use Rattle.grammar.specs.Grammar.{Block, Decide, DecideElse, Declarations, ElsePart, Empty, Exactly, Item, Make, Part, Repeat, Shut, Statement, Statements, is_fault, is_mark, is_word}
 use Rattle.grammar.specs.Nesting.{body_nesting, nesting}
 use Rattle.grammar.specs.Resolved.{InBody, InExpr}
 use Rattle.grammar.specs.Tree.{Body, Choose, Done, Expr, When, While, join}
 use Rattle.parsing.specs.Position.{Place, next_at}
-use Rattle.parsing.specs.Room.{HasPlace, room}
+use Rattle.parsing.specs.Room.{room}
 use Rattle.parsing.specs.Stretch.{Derives, DerivesItem, FailsAt, FailsItem, GoesPast, StopsAt}
 use Rattle.parsing.proofs.Stretches.{fails_behind, joined, stay}
 use Rattle.statements.specs.Branches.{AddsElse, FailsElse, IsElseNumbered, before_else, decided, else_actions, else_nesting}
@@ -24,9 +24,10 @@ use Rattle.statements.specs.Forms.{in_brackets}
 use Rattle.statements.specs.Statements.{AddsBody, FailsBody}
 use Rattle.statements.proofs.Forms.{BeginsBlock, begins_block, behind_if, behind_while, else_chosen, end_chosen, if_chosen, if_opens, in_braces, more_chosen, no_else_chosen, while_chosen, while_opens}
 use Rattle.statements.proofs.Joining.{actions_join, join-done, join_assoc, join_narrow, join_numbered}
-use Rattle.statements.proofs.Parts.{free_below, free_of, make_stands, mark_past, mark_stops, mark_too_deep, part_stands, shut_stands, word_past, word_stops, word_too_deep}
+use Rattle.parsing.proofs.Parts.{free_below, free_of, make_stands, mark_past, mark_stops, mark_too_deep, part_stands, shut_stands, word_past, word_stops, word_too_deep}
+use Rattle.expressions.proofs.TellingLaws.{appends_then}
 use Rattle.statements.proofs.Rules.{choose_makes, decide_makes, empty_makes, repeat_makes}
-use Rattle.statements.proofs.SimpleLaws.{nothing_told, told_then}
+use Rattle.statements.proofs.SimpleLaws.{nothing_told}
 
 -- a level is open below these items
 deeper : (depth : ℕ) (stack : List Item) → levels stack ≡ depth → levels stack + 1 ≡ depth + 1
@@ -205,10 +206,10 @@ branch_adds at now later behind there before m1 m2 m3 m4 after depth shallow beg
   numbered = decided_numbered c.tree s.tree e.tree c.numbered s.numbered e.numbered;
   narrow = decided_narrow c.tree s.tree e.tree (room depth 1) (room (depth + 1) 1) (omega (arith, shallow)) c.narrow s.narrow e.narrow;
   added = subst (λ (xs : List Action). AppendsAll before after xs) (decided_actions c.tree s.tree e.tree)
-      (told_then before m1 after (expr_actions c.tree) _ c.added
-      (told_then m1 m2 after (IfTest ∷ []) _ tested
-      (told_then m2 m3 after (body_actions s.tree) _ s.added
-      (told_then m3 m4 after (else_actions e.tree) (EndIf ∷ []) e.added ended))));
+      (appends_then before m1 after (expr_actions c.tree) _ c.added
+      (appends_then m1 m2 after (IfTest ∷ []) _ tested
+      (appends_then m2 m3 after (body_actions s.tree) _ s.added
+      (appends_then m3 m4 after (else_actions e.tree) (EndIf ∷ []) e.added ended))));
   derives = λ b. joined depth depth (Part Statement ∷ []) (Shut ∷ []) [] [] (ABody b ∷ []) (ABody (join b (decided c.tree s.tree e.tree)) ∷ []) (ABody (join b (decided c.tree s.tree e.tree)) ∷ []) [] at there there
       (joined depth (depth + 1) (Part Statement ∷ []) (Part ElsePart ∷ []) [] (Shut ∷ []) (ABody b ∷ []) (before_else s.tree c.tree b) (ABody (join b (decided c.tree s.tree e.tree)) ∷ []) [] at behind there
       (first_past at now later behind before m1 m2 m3 depth (Part ElsePart ∷ Shut ∷ []) b if_shuts begun c sound s) (e.derives s.tree c.tree b) (deeper depth))
@@ -252,7 +253,7 @@ else_adds at now there before mid after depth sound is goes sound_behind told t 
   tree = Some t.tree;
   numbered = t.numbered;
   narrow = t.narrow;
-  added = told_then before mid after (BetweenBranches ∷ []) (body_actions t.tree) told t.added;
+  added = appends_then before mid after (BetweenBranches ∷ []) (body_actions t.tree) told t.added;
   derives = λ s c b. joined depth depth (Part ElsePart ∷ []) (Make DecideElse ∷ []) [] [] (before_else s c b) (ABody t.tree ∷ before_else s c b) (ABody (join b (Choose c s t.tree Done)) ∷ []) [] at there there
       (joined depth depth (Part ElsePart ∷ []) (Part Statement ∷ []) [] (Make DecideElse ∷ []) (before_else s c b) (ABody Done ∷ []) (ABody t.tree ∷ []) (before_else s c b) at now there
       (else_past at now depth s c b sound is goes sound_behind) (t.derives Done) (λ stack same. same))
@@ -271,10 +272,10 @@ repetition_adds at now later there before m1 m2 m3 m4 after depth shallow begun 
   tree = While c.tree s.tree Done;
   numbered = (c.numbered, s.numbered, tt);
   narrow = omega (arith, shallow, c.narrow, s.narrow);
-  added = told_then before m1 after (BeginWhile ∷ []) _ told
-      (told_then m1 m2 after (expr_actions c.tree) _ c.added
-      (told_then m2 m3 after (WhileTest ∷ []) _ tested
-      (told_then m3 m4 after (body_actions s.tree) (EndWhile ∷ []) s.added ended)));
+  added = appends_then before m1 after (BeginWhile ∷ []) _ told
+      (appends_then m1 m2 after (expr_actions c.tree) _ c.added
+      (appends_then m2 m3 after (WhileTest ∷ []) _ tested
+      (appends_then m3 m4 after (body_actions s.tree) (EndWhile ∷ []) s.added ended)));
   derives = λ b. joined depth depth (Part Statement ∷ []) (Shut ∷ []) [] [] (ABody b ∷ []) (ABody (join b (While c.tree s.tree Done)) ∷ []) (ABody (join b (While c.tree s.tree Done)) ∷ []) [] at there there
       (joined depth (depth + 1) (Part Statement ∷ []) (Make Repeat ∷ []) [] (Shut ∷ []) (ABody b ∷ []) (before_else s.tree c.tree b) (ABody (join b (While c.tree s.tree Done)) ∷ []) [] at there there
       (first_past at now later there m1 m2 m3 m4 depth (Make Repeat ∷ Shut ∷ []) b while_shuts begun c sound s)
@@ -309,7 +310,7 @@ statements_more at now there before mid after depth sound other h s = record {
   tree = join h.tree s.tree;
   numbered = join_numbered h.tree s.tree h.numbered s.numbered;
   narrow = join_narrow h.tree s.tree (room depth 1) h.narrow s.narrow;
-  added = subst (λ (xs : List Action). AppendsAll before after xs) (actions_join h.tree s.tree) (told_then before mid after (body_actions h.tree) (body_actions s.tree) h.added s.added);
+  added = subst (λ (xs : List Action). AppendsAll before after xs) (actions_join h.tree s.tree) (appends_then before mid after (body_actions h.tree) (body_actions s.tree) h.added s.added);
   derives = λ b. subst (λ (x : Body). Derives depth (Part Statements ∷ []) (Part Statements ∷ []) (ABody b ∷ []) (ABody x ∷ []) at there) (join_assoc b h.tree s.tree)
       (joined depth depth (Part Statements ∷ []) (Part Statement ∷ []) [] (Part Statements ∷ []) (ABody b ∷ []) (ABody (join b h.tree) ∷ []) (ABody (join (join b h.tree) s.tree) ∷ []) [] at now there
       (more_past at now before mid depth b sound other h) (s.derives (join b h.tree)) (λ stack same. same));

@@ -1,40 +1,16 @@
 -- What is open behind the actions of statements so far, and which actions may follow.
-use Rattle.std.proofs.Common.{◌≡◌, ℕ, pos, ◌+◌, ◌≤◌, List, [], ◌∷◌, ◌++◌, refl, ap, ◌∙◌, subst, Bool, true, false, arith}
+use Rattle.std.proofs.Common.{◌≡◌, ℕ, pos, ◌+◌, ◌≤◌, [], ◌∷◌, refl, ap, ◌∙◌, Bool, true, false, arith}
 use Rattle.std.specs.Prelude.{Option, Some, None}
-use Rattle.grammar.specs.Actions.{Action, BeginWhile, Chop, ElsePart, EndIf, EndWhile, GiveBack, IfTest, Push, WhileTest, body_actions, expr_actions}
+use Rattle.grammar.specs.Actions.{Action, BeginWhile, Chop, ElsePart, EndIf, Push, WhileTest, body_actions, expr_actions}
 use Rattle.grammar.specs.Building.{Appends, AppendsAll, MayFollow, Meaning, StandsOpen}
-use Rattle.grammar.specs.Following.{AValue, BeforeTest, InBranch, InElse, InFunction, InTurn, Number, Open, Opened, Origin, counts, follow, is_number, is_place, open_count, statement_done}
+use Rattle.grammar.specs.Following.{AValue, BeforeTest, InBranch, InElse, InTurn, Number, Open, Opened, Origin, counts, follow, is_number, is_place, open_count, statement_done}
 use Rattle.grammar.specs.Nesting.{body_nesting, nesting}
 use Rattle.grammar.specs.Resolved.{InBody, InExpr}
 use Rattle.grammar.specs.Tree.{Alone, Body, Choose, Done, Expr, Return, When, While}
-use Rattle.grammar.proofs.FollowingLaws.{Leads, act, also, behind_body, body_leads, expr_leads, origin_of, settled}
+use Rattle.grammar.proofs.FollowingLaws.{Leads, act, also, behind_body, body_leads, chop_settles, done_settles, expr_leads, inside, origin_of, settled, settled_count, settled_place}
 use Rattle.grammar.proofs.StandingLaws.{may_follow, stands_then}
 use Rattle.parsing.specs.Room.{HasPlace, HasRoom}
 use Rattle.statements.specs.Branches.{HasInside, IsElseNumbered, else_actions, else_nesting}
-
--- A statement is done.
-
-record Settles (returned : Bool) (o : Opened) : Type 0 where
-  is : statement_done returned o ≡ Some (settled returned o)
-  place : is_place (settled returned o) ≡ true
-  count : open_count (settled returned o) ≡ open_count o
-
-settles : (returned : Bool) (o : Opened) → is_place o ≡ true → Settles returned o
-settles returned [] e = absurd (cc)
-settles returned (InFunction parameters before ∷ o) e = record { is = refl; place = refl; count = refl }
-settles returned (InBranch ∷ o) e = record { is = refl; place = refl; count = refl }
-settles returned (InElse ∷ o) e = record { is = refl; place = refl; count = refl }
-settles returned (InTurn ∷ o) e = record { is = refl; place = refl; count = refl }
-settles returned (x ∷ o) e = absurd (cc)
-
-chop_settles : (origin : Origin) (o : Opened) → is_place o ≡ true → follow Chop (AValue origin ∷ o) ≡ Some (settled false o)
-chop_settles origin [] e = absurd (cc)
-chop_settles origin (AValue below ∷ o) e = absurd (cc)
-chop_settles origin (InFunction parameters before ∷ o) e = refl
-chop_settles origin (InBranch ∷ o) e = refl
-chop_settles origin (InElse ∷ o) e = refl
-chop_settles origin (InTurn ∷ o) e = refl
-chop_settles origin (x ∷ o) e = absurd (cc)
 
 -- Behind statements a statement may stand, and no more is open.
 
@@ -45,9 +21,8 @@ record Keeps (b : Body) (o : Opened) : Type 0 where
 keeps_behind : (returned : Bool) (rest : Body) (o : Opened) → is_place o ≡ true → (is_place (settled returned o) ≡ true → Keeps rest (settled returned o)) →
     (is_place (behind_body rest (settled returned o)) ≡ true) × (open_count (behind_body rest (settled returned o)) ≡ open_count o)
 keeps_behind returned rest o e again =
-    let s : Settles returned o = settles returned o e in
-    let k : Keeps rest (settled returned o) = again s.place in
-    (k.place, k.count ∙ s.count)
+    let k : Keeps rest (settled returned o) = again (settled_place returned o e) in
+    (k.place, k.count ∙ settled_count returned o)
 
 keeps : (b : Body) (o : Opened) → is_place o ≡ true → Keeps b o
 keeps Done o e = record { place = e; count = refl }
@@ -126,25 +101,17 @@ Ends a inner returned = (o : Opened) → follow a (inner ∷ o) ≡ statement_do
 
 pub may_end : (a : Action) (inner : Open) (returned : Bool) (before : Meaning) (n : ℕ) → Ends a inner returned → HasInside inner before n → MayFollow before a
 may_end a inner returned before n ends h =
-    let s : Settles returned h.opened = settles returned h.opened h.place in
-    may_follow before (inner ∷ h.opened) (settled returned h.opened) a h.stands (ends h.opened ∙ s.is) (omega (arith, s.count, h.few))
+    may_follow before (inner ∷ h.opened) (settled returned h.opened) a h.stands (ends h.opened ∙ done_settles returned h.opened h.place)
+    (omega (arith, settled_count returned h.opened, h.few))
 
 pub may_chop : (origin : Origin) (before : Meaning) (n : ℕ) → HasInside (AValue origin) before n → MayFollow before Chop
 may_chop origin before n h =
-    let s : Settles false h.opened = settles false h.opened h.place in
-    may_follow before (AValue origin ∷ h.opened) (settled false h.opened) Chop h.stands (chop_settles origin h.opened h.place) (omega (arith, s.count, h.few))
+    may_follow before (AValue origin ∷ h.opened) (settled false h.opened) Chop h.stands (chop_settles origin h.opened h.place)
+    (omega (arith, settled_count false h.opened, h.few))
 
 -- inside of a branch or a loop nothing is settled
 abbrev IsUnsettled : Open → Type 0
 IsUnsettled inner = (returned : Bool) (o : Opened) → settled returned (inner ∷ o) ≡ inner ∷ o
-
-same_behind : (b : Body) (x : Open) (o : Opened) → IsUnsettled x → behind_body b (x ∷ o) ≡ x ∷ o
-same_behind Done x o same = refl
-same_behind (Alone e rest) x o same = ap (behind_body rest) (same false o) ∙ same_behind rest x o same
-same_behind (When c s rest) x o same = ap (behind_body rest) (same false o) ∙ same_behind rest x o same
-same_behind (Choose c s t rest) x o same = ap (behind_body rest) (same false o) ∙ same_behind rest x o same
-same_behind (While c s rest) x o same = ap (behind_body rest) (same false o) ∙ same_behind rest x o same
-same_behind (Return e rest) x o same = ap (behind_body rest) (same (is_number 0 (origin_of e)) o) ∙ same_behind rest x o same
 
 pub inside_behind : (inner : Open) (before now : Meaning) (n : ℕ) (b : Body) → ((o : Opened) → is_place (inner ∷ o) ≡ true) → IsUnsettled inner → HasInside inner before n →
     InBody 64 64 64 b → body_nesting b ≤ n → AppendsAll before now (body_actions b) → HasInside inner now n
@@ -153,7 +120,7 @@ inside_behind inner before now n b places same h numbered narrow added =
     record {
       opened = h.opened;
       place = h.place;
-      stands = stands_then before now (body_actions b) (inner ∷ h.opened) (inner ∷ h.opened) added h.stands (leads.is ∙ ap Some (same_behind b inner h.opened same));
+      stands = stands_then before now (body_actions b) (inner ∷ h.opened) (inner ∷ h.opened) added h.stands (leads.is ∙ ap Some (inside b inner h.opened (λ returned. same returned h.opened)));
       few = h.few;
     }
 
@@ -172,14 +139,14 @@ may_end_if before now n None h numbered narrow added = may_end EndIf InBranch fa
 may_end_if before now n (Some t) h numbered narrow added =
     let leads : Leads (else_actions (Some t)) (InBranch ∷ h.opened) (behind_body t (InElse ∷ h.opened)) =
     also ElsePart _ _ (InElse ∷ h.opened) _ refl (omega (arith, h.few)) (body_leads t (InElse ∷ h.opened) refl numbered (omega (arith, h.few, narrow))) in
-    let inside : HasInside InElse now n = record {
+    let other : HasInside InElse now n = record {
       opened = h.opened;
       place = h.place;
       stands = stands_then before now (else_actions (Some t)) (InBranch ∷ h.opened) (InElse ∷ h.opened) added h.stands
-          (leads.is ∙ ap Some (same_behind t InElse h.opened (λ returned o. refl)));
+          (leads.is ∙ ap Some (inside t InElse h.opened (λ returned. refl)));
       few = h.few;
     } in
-    may_end EndIf InElse false now n (λ o. refl) inside
+    may_end EndIf InElse false now n (λ o. refl) other
 
 -- Loops.
 

@@ -1,15 +1,14 @@
 -- What the parse functions of statements without statements inside derive.
-use Rattle.std.proofs.Common.{◌≡◌, ℕ, pos, ◌+◌, ◌≤◌, List, [], ◌∷◌, ◌++◌, refl, sym, subst, true, false, append_assoc, append-nil, arith}
+use Rattle.std.proofs.Common.{◌≡◌, ℕ, pos, List, [], ◌∷◌, refl, sym, subst, true, false, append-nil, arith}
 use Rattle.tokens.specs.declared.lexemes.Mark.TheVariants as mark
 use Rattle.tokens.specs.declared.lexemes.Word.TheVariants as word
 use Rattle.grammar.specs.declared.diagnostics.Diagnostic.{Diagnostic}
 use Rattle.grammar.specs.Actions.{Action, Chop, GiveBack as Returns, Push, expr_actions}
 use Rattle.grammar.specs.Building.{Appends, AppendsAll, Meaning}
 use Rattle.grammar.specs.Derivation.{ABody, AnExpr}
-use Rattle.grammar.specs.Grammar.{Back, Evaluate, Exactly, Expression, GiveBack, Item, Make, Part, Statement, Zero, is_fault, is_mark, is_word}
-use Rattle.grammar.specs.Tree.{Alone, Body, Constant, Done, Expr, Return, join}
+use Rattle.grammar.specs.Grammar.{Back, Evaluate, Exactly, Expression, GiveBack, Make, Part, Statement, Zero, is_fault, is_mark, is_word}
+use Rattle.grammar.specs.Tree.{Alone, Body, Constant, Done, Return, join}
 use Rattle.parsing.specs.Position.{Place, next_at}
-use Rattle.parsing.specs.Room.{room}
 use Rattle.parsing.specs.Stretch.{Derives, DerivesItem, FailsAt, FailsItem, GoesPast, StopsAt}
 use Rattle.parsing.proofs.Stretches.{fails_behind, joined, stay}
 use Rattle.expressions.specs.Expressions.{AddsExpr}
@@ -17,13 +16,9 @@ use Rattle.statements.specs.Forms.{in_brackets, opens_statement}
 use Rattle.statements.specs.Statements.{AddsBody, FailsBody}
 use Rattle.statements.proofs.Forms.{Evaluates, empty_chosen, empty_shallow, evaluates, return_chosen, return_shallow, value_chosen, zero_chosen}
 use Rattle.statements.proofs.Joining.{join-done}
-use Rattle.statements.proofs.Parts.{free_of, make_stands, part_stands, word_past, word_stops}
+use Rattle.parsing.proofs.Parts.{free_of, make_stands, part_stands, word_past, word_stops}
+use Rattle.expressions.proofs.TellingLaws.{appends_then}
 use Rattle.statements.proofs.Rules.{evaluate_makes, give_back_makes, zero_makes}
-
--- actions appended behind others
-pub told_then : (before mid after : Meaning) (xs ys : List Action) → AppendsAll before mid xs → AppendsAll mid after ys → AppendsAll before after (xs ++ ys)
-told_then before mid after xs ys first second profile acts is =
-    subst (λ (zs : List Action). after profile zs) (append_assoc acts xs ys) (second profile (acts ++ xs) (first profile acts is))
 
 pub nothing_told : (before : Meaning) → AppendsAll before before []
 nothing_told before profile acts is = subst (λ (xs : List Action). before profile xs) (sym (append-nil acts)) is
@@ -86,7 +81,7 @@ evaluation_adds at now there before mid after depth sound plain h matched sound_
   tree = Alone h.tree Done;
   numbered = (h.numbered, tt);
   narrow = omega (arith, h.narrow);
-  added = told_then before mid after (expr_actions h.tree) (Chop ∷ []) h.added chops;
+  added = appends_then before mid after (expr_actions h.tree) (Chop ∷ []) h.added chops;
   derives = λ b. joined depth depth (Part Statement ∷ []) (Make Evaluate ∷ []) [] [] (ABody b ∷ []) (AnExpr h.tree ∷ ABody b ∷ []) (ABody (join b (Alone h.tree Done)) ∷ []) [] at there there
       (joined depth depth (Part Statement ∷ []) (Exactly mark.Semicolon ∷ []) [] (Make Evaluate ∷ []) (ABody b ∷ []) [] [] (AnExpr h.tree ∷ ABody b ∷ []) at now there
       (value_past at now before mid depth b sound plain h) (matched depth) (λ stack same. same))
@@ -162,7 +157,7 @@ return_adds at now later there before mid after depth sound is goes h matched so
   tree = Return h.tree Done;
   numbered = (h.numbered, tt);
   narrow = omega (arith, h.narrow);
-  added = told_then before mid after (expr_actions h.tree) (Returns ∷ []) h.added returns;
+  added = appends_then before mid after (expr_actions h.tree) (Returns ∷ []) h.added returns;
   derives = λ b. joined depth depth (Part Statement ∷ []) (Make GiveBack ∷ []) [] [] (ABody b ∷ []) (AnExpr h.tree ∷ ABody b ∷ []) (ABody (join b (Return h.tree Done)) ∷ []) [] at there there
       (joined depth depth (Part Statement ∷ []) (Exactly mark.Semicolon ∷ []) [] (Make GiveBack ∷ []) (ABody b ∷ []) [] [] (AnExpr h.tree ∷ ABody b ∷ []) at later there
       (given_past at now later before mid depth b sound is goes h) (matched depth) (λ stack same. same))

@@ -1,5 +1,5 @@
 -- What may be told while branches, loops and rows of statements are read.
-use Rattle.std.proofs.Common.{◌≡◌, ℕ, ◌+◌, ◌<◌, ◌≤◌, List, [], ◌∷◌, refl, true, false, arith}
+use Rattle.std.proofs.Common.{ℕ, ◌+◌, ◌<◌, ◌≤◌, List, [], refl, false, arith}
 use Rattle.grammar.specs.Actions.{BeginWhile, ElsePart, EndIf, EndWhile, IfTest, WhileTest}
 use Rattle.grammar.specs.Building.{Appends, MayFollow, Meaning}
 use Rattle.grammar.specs.Following.{AValue, BeforeTest, InBranch, InElse, InTurn}

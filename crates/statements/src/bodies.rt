@@ -14,7 +14,6 @@ ghost use Rattle.expressions.specs.Expressions.{AddsExpr};
 ghost use Rattle.statements.specs.Forms.{in_brackets, opens_statement};
 ghost use Rattle.statements.specs.Statements.{AddsBody, FailsBody};
 
-use crate::passing::{advance, expect};
 use declarations::declarations;
 use expressions::expression;
 use grammar::{Build, Code, ParseFault};
@@ -62,7 +61,7 @@ fn statement<F: Feed, B: Build>(
     ensures counted { Counts result (F.failures feed.old) (F.failures feed.new) }
 {
     match parser.next().token {
-        Token::Mark(Mark::Semicolon) => expect(parser, feed, Mark::Semicolon)?,
+        Token::Mark(Mark::Semicolon) => parser.expect(feed, Mark::Semicolon)?,
         Token::Mark(Mark::OpenCurly) => block(parser, feed, build, depth)?,
         Token::Word(Word::If) => branch(parser, feed, build, depth)?,
         Token::Word(Word::While) => repetition(parser, feed, build, depth)?,
@@ -97,7 +96,7 @@ fn block<F: Feed, B: Build>(
     parser.advance(feed)?;
     declarations(parser, feed, Declared::Locals)?;
     statements(parser, feed, build, depth + 1)?;
-    expect(parser, feed, Mark::CloseCurly)?;
+    parser.expect(feed, Mark::CloseCurly)?;
     Ok(())
 }
 
@@ -151,7 +150,7 @@ fn else_part<F: Feed, B: Build>(
 {
     if is_word(&parser.next().token, Word::Else) {
         build.else_part()?;
-        advance(parser, feed)?;
+        parser.advance(feed)?;
         statement(parser, feed, build, depth)?;
     }
     Ok(())
@@ -204,9 +203,9 @@ fn condition<F: Feed, B: Build>(
     ensures refused { IfErr result (λ fault. Refused (FailsAt depth in_brackets [] (place parser.old (F.to_come feed.old))) B.allocates fault) }
     ensures counted { Counts result (F.failures feed.old) (F.failures feed.new) }
 {
-    expect(parser, feed, Mark::OpenRound)?;
+    parser.expect(feed, Mark::OpenRound)?;
     expression(parser, feed, build, depth)?;
-    expect(parser, feed, Mark::CloseRound)?;
+    parser.expect(feed, Mark::CloseRound)?;
     Ok(())
 }
 
@@ -230,7 +229,7 @@ fn give_back<F: Feed, B: Build>(
 {
     parser.advance(feed)?;
     back(parser, feed, build, depth)?;
-    expect(parser, feed, Mark::Semicolon)?;
+    parser.expect(feed, Mark::Semicolon)?;
     build.give_back()?;
     Ok(())
 }
@@ -277,7 +276,7 @@ fn evaluation<F: Feed, B: Build>(
     ensures counted { Counts result (F.failures feed.old) (F.failures feed.new) }
 {
     expression(parser, feed, build, depth)?;
-    expect(parser, feed, Mark::Semicolon)?;
+    parser.expect(feed, Mark::Semicolon)?;
     build.chop()?;
     Ok(())
 }

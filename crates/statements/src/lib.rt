@@ -2,6 +2,5 @@
 #![tactic(auto)]
 
 mod bodies;
-mod passing;
 
 pub use bodies::statements;

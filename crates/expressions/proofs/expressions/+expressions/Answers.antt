@@ -41,7 +41,7 @@ bracketed-returns-in_err-expect-clause-refused g t c =
 pub bracketed-returns-clause-parsed : goal.bracketed-returns-clause-parsed
 bracketed-returns-clause-parsed g t c =
     let shallow : c.args.depth < 64 = omega arith in
-    bracket_adds _ _ (place c.args.parser.now (g.F.Feed.to_come c.args.feed.now)) _ _ _ c.args.depth c.requires.is shallow c.in_ok-advance.ensures.passed c.in_ok-expression.ensures.parsed c.in_ok-expect.ensures.passed c.next_is_sound.ensures
+    bracket_adds _ _ (place c.args.parser.now (g.F.Feed.to_come c.args.feed.now)) _ _ _ c.args.depth c.requires.is shallow c.in_ok-advance.ensures.passed c.in_ok-expression.ensures.parsed c.in_ok-expect.ensures.passed c.in_ok-expect.ensures.sound
 
 pub signed-returns-then-depth-ge-MOST_LEVELS-clause-refused : goal.signed-returns-then-depth-ge-MOST_LEVELS-clause-refused
 signed-returns-then-depth-ge-MOST_LEVELS-clause-refused g t c =
@@ -185,7 +185,7 @@ pub call-returns-clause-parsed : goal.call-returns-clause-parsed
 call-returns-clause-parsed g t c =
     let shallow : c.args.depth < 64 = omega arith in
     let is : IsCall (place c.args.parser.now (g.F.Feed.to_come c.args.feed.now)) c.args.depth = record { named = is_named _ c.requires.named; fits = c.requires.is; shallow = shallow } in
-    call_adds _ _ _ _ (place c.args.parser.now (g.F.Feed.to_come c.args.feed.now)) _ _ _ _ c.args.depth c.in_ok-callee.callee is c.in_ok-callee.ensures.passed c.in_ok-expect.ensures.passed c.in_ok-arguments.ensures.parsed c.in_ok-expect-2.ensures.passed c.in_ok-callee.ensures.within c.next_is_sound.ensures c.in_ok-begin_call.ensures.ok c.in_ok-end_call.ensures.ok
+    call_adds _ _ _ _ (place c.args.parser.now (g.F.Feed.to_come c.args.feed.now)) _ _ _ _ c.args.depth c.in_ok-callee.callee is c.in_ok-callee.ensures.passed c.in_ok-expect.ensures.passed c.in_ok-arguments.ensures.parsed c.in_ok-expect-2.ensures.passed c.in_ok-callee.ensures.within c.in_ok-expect-2.ensures.sound c.in_ok-begin_call.ensures.ok c.in_ok-end_call.ensures.ok
 
 pub arguments-returns-then-is_mark-clause-parsed : goal.arguments-returns-then-is_mark-clause-parsed
 arguments-returns-then-is_mark-clause-parsed g t c =

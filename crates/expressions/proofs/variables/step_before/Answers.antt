@@ -30,5 +30,5 @@ store-requires-2 g c = record {
 
 pub returns-clause-parsed : goal.returns-clause-parsed
 returns-clause-parsed g c =
-    before_adds _ _ _ (place c.args.parser.now (g.F.Feed.to_come c.args.feed.now)) _ _ c.args.step c.in_ok-var.var c.requires.is c.in_ok-advance.ensures.passed c.in_ok-var.ensures.passed c.in_ok-var.ensures.within c.next_is_sound.ensures
+    before_adds _ _ _ (place c.args.parser.now (g.F.Feed.to_come c.args.feed.now)) _ _ c.args.step c.in_ok-var.var c.requires.is c.in_ok-advance.ensures.passed c.in_ok-var.ensures.passed c.in_ok-var.ensures.within c.in_ok-var.ensures.sound
     c.in_ok-constant.ensures.ok (rw c.store.ensures at c.in_ok-store.ensures.ok)

@@ -49,5 +49,5 @@ returns-in_err-expect-clause-refused g c =
 pub returns-clause-parsed : goal.returns-clause-parsed
 returns-clause-parsed g c =
     behind_adds _ _ _ _ _ (place c.args.parser.now (g.F.Feed.to_come c.args.feed.now)) _ _ c.args.step c.in_ok-var.var (is_named _ c.requires.named) c.requires.is
-    c.in_ok-var.ensures.passed (rw c.mark.ensures at c.in_ok-expect.ensures.passed) c.in_ok-var.ensures.within c.next_is_sound.ensures
+    c.in_ok-var.ensures.passed (rw c.mark.ensures at c.in_ok-expect.ensures.passed) c.in_ok-var.ensures.within c.in_ok-expect.ensures.sound
     c.in_ok-fetch.ensures.ok c.in_ok-constant.ensures.ok (rw c.store.ensures at c.in_ok-store.ensures.ok) c.in_ok-chop.ensures.ok

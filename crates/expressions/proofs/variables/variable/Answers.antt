@@ -19,4 +19,4 @@ fetch-requires g c = record { follows = first_follows _ (Get c.in_ok-var.var) []
 pub returns-clause-parsed : goal.returns-clause-parsed
 returns-clause-parsed g c =
     let none : NoStep (place c.args.parser.now (g.F.Feed.to_come c.args.feed.now)) = λ s. rw c.after.ensures.value at (c.in_default.ensures.none s) in
-    fetch_adds _ _ (place c.args.parser.now (g.F.Feed.to_come c.args.feed.now)) _ c.in_ok-var.var (is_named _ c.requires.named) c.requires.plain none c.in_ok-var.ensures.passed c.in_ok-var.ensures.within c.next_is_sound.ensures c.in_ok-fetch.ensures.ok
+    fetch_adds _ _ (place c.args.parser.now (g.F.Feed.to_come c.args.feed.now)) _ c.in_ok-var.var (is_named _ c.requires.named) c.requires.plain none c.in_ok-var.ensures.passed c.in_ok-var.ensures.within c.in_ok-var.ensures.sound c.in_ok-fetch.ensures.ok

@@ -1,5 +1,5 @@
--- Productions of statements that are chosen, and trees that are made, between two tokens.
-use Rattle.std.proofs.Common.{◌≡◌, ℕ, ◌+◌, ◌<◌, ◌≤◌, List, [], ◌∷◌, ◌++◌, refl, sym, ap, subst, Bool, true, false, arith, append-nil}
+-- Productions that are chosen, and trees that are made, between two tokens.
+use Rattle.std.proofs.Common.{◌≡◌, ℕ, ◌<◌, ◌≤◌, List, [], ◌∷◌, ◌++◌, refl, sym, ap, subst, Bool, true, false, arith, append-nil}
 use Rattle.std.proofs.lemmas.Bool.Decides.{nat_tests}
 use Rattle.std.specs.Prelude.{Some, nat_le}
 use Rattle.tokens.specs.declared.lexemes.Lexeme.{Lexeme}
@@ -22,9 +22,9 @@ use Rattle.grammar.specs.Scope.{Scope}
 use Rattle.grammar.proofs.Firsts.{too_deep, too_deep_word}
 use Rattle.grammar.proofs.Runs.{then}
 use Rattle.grammar.proofs.Steps.{make, mark, part, shut, word}
-use Rattle.parsing.specs.Position.{Place, place, next_at, scope_at, tokens_at}
+use Rattle.parsing.specs.Position.{Place, next_at, scope_at}
 use Rattle.parsing.specs.Stretch.{Derives, FailsAt, GoesPast, StopsAt}
-use Rattle.parsing.proofs.Stretches.{Begins, IsBehind, Leads, past, stand, stops, told_begins}
+use Rattle.parsing.proofs.Stretches.{Begins, Leads, past, stand, stops, told_begins}
 
 -- Which token it is.
 
@@ -50,7 +50,8 @@ word_is w (token.Fault flaw) is = absurd (cc)
 abbrev pub IsFree : ℕ → Symbol → Lexeme → Type 0
 IsFree depth symbol lexeme = (stack : List Item) (rest : List Lexeme) → levels stack ≡ depth → level_faults symbol stack (lexeme ∷ rest) ≡ []
 
-within : (opened : Bool) (n : ℕ) (rest : List Lexeme) → n < 64 → only_if opened (only_if (nat_le most_levels n) (fault rest code.NestedTooDeeply ∷ [])) ≡ []
+-- while a level is left there is no fault
+pub within : (opened : Bool) (n : ℕ) (rest : List Lexeme) → n < 64 → only_if opened (only_if (nat_le most_levels n) (fault rest code.NestedTooDeeply ∷ [])) ≡ []
 unfolding most_levels
 within false n rest small = refl
 within true n rest small = let test : nat_le 64 n ≡ false = below n small in rw test refl
@@ -58,7 +59,8 @@ within true n rest small = let test : nat_le 64 n ≡ false = below n small in r
     below : (n : ℕ) → n < 64 → nat_le 64 n ≡ false
     below n small = grind (arith, nat_tests)
 
-beyond : (opened : Bool) (n : ℕ) (rest : List Lexeme) → opened ≡ true → 64 ≤ n → only_if opened (only_if (nat_le most_levels n) (fault rest code.NestedTooDeeply ∷ [])) ≡ fault rest code.NestedTooDeeply ∷ []
+-- a level beyond the last one is a fault
+pub beyond : (opened : Bool) (n : ℕ) (rest : List Lexeme) → opened ≡ true → 64 ≤ n → only_if opened (only_if (nat_le most_levels n) (fault rest code.NestedTooDeeply ∷ [])) ≡ fault rest code.NestedTooDeeply ∷ []
 unfolding most_levels
 beyond opened n rest is large = rw (is, above n large) refl
   where
@@ -155,17 +157,17 @@ mark_too_deep at depth symbol m items trees sound chosen fits opened deep lexeme
 -- a rule that makes these trees of those, and nothing else
 pub record MakesOnly (rule : Rule) (taken left : List Value) : Type 0 where
   pub makes : (values : List Value) → made rule (taken ++ values) ≡ left ++ values
-  pub known : (scope : Scope) → behind_rule rule scope ≡ scope
-  pub none : (values : List Value) (scope : Scope) → defined rule values scope ≡ []
+  pub learns : (scope : Scope) → behind_rule rule scope ≡ scope
+  pub defines : (values : List Value) (scope : Scope) → defined rule values scope ≡ []
   pub clean : (profile : Profile) (stack : List Item) (rest : List Lexeme) (values : List Value) (scope : Scope) (functions : List Definition) →
       item_faults profile (Make rule ∷ stack) rest values scope functions ≡ []
 
-make_leads : (lexeme : Lexeme) (depth : ℕ) (rule : Rule) (taken left : List Value) (known : Scope) (rest : List Lexeme) → is_fault lexeme.token ≡ false → MakesOnly rule taken left →
+pub make_leads : (lexeme : Lexeme) (depth : ℕ) (rule : Rule) (taken left : List Value) (known : Scope) (rest : List Lexeme) → is_fault lexeme.token ≡ false → MakesOnly rule taken left →
     Leads depth (Make rule ∷ []) [] taken left known known (lexeme ∷ rest) (lexeme ∷ rest)
 make_leads lexeme depth rule taken left known rest sound m = record {
   passes = λ profile stack values functions depths.
       let same : state stack (lexeme ∷ rest) (made rule (taken ++ values)) (behind_rule rule known) (functions ++ defined rule (taken ++ values) known) ≡ state stack (lexeme ∷ rest) (left ++ values) known functions =
-      rw (m.makes values, m.known known, m.none (taken ++ values) known, append-nil functions) refl in
+      rw (m.makes values, m.learns known, m.defines (taken ++ values) known, append-nil functions) refl in
       subst (λ (t : State). Passes profile (state (Make rule ∷ stack) (lexeme ∷ rest) (taken ++ values) known functions) t) same
       (make profile rule stack (lexeme ∷ rest) (taken ++ values) known functions sound (m.clean profile stack (lexeme ∷ rest) (taken ++ values) known functions));
 }
