@@ -72,6 +72,9 @@ over_then before behind xs ys added over p acts s =
 pub may_next : (before behind : Meaning) (x : Action) (xs : List Action) → Appends before behind x → MayFollowAll before (x ∷ xs) → MayFollowAll behind xs
 may_next before behind x xs added may = may_then before behind (x ∷ []) xs added may
 
+pub may_return : (before : Meaning) → MayFollowAll before last_return → MayFollow before (Push (pos 0))
+may_return before may = may_first before (Push (pos 0)) (GiveBack ∷ []) may
+
 pub over_finish : (before : Meaning) (v : ℕ) → IsOver before → IsOverWith before (Finish v ∷ [])
 over_finish before v over p acts s = omega (arith, over p acts s, code_length-append acts (Finish v ∷ []))
 
@@ -107,7 +110,7 @@ actions-While s c t is =
     ∙ ap (λ acts. BeginWhile ∷ acts) (sym (append_assoc (expr_actions (expr_tree c)) (WhileTest ∷ []) (body_actions (body_tree t.items) ++ EndWhile ∷ [])))
 
 pub actions-Function : (f : Function) →
-    function_actions f.number (function_tree f) ≡ Begin f.number f.parameters ∷ (body_actions (body_tree f.body.items) ++ Push (pos 0) ∷ GiveBack ∷ Finish f.variables ∷ [])
+    function_actions f.number (function_tree f) ≡ Begin f.number f.parameters ∷ (body_actions (body_tree f.body.items) ++ (last_return ++ Finish f.variables ∷ []))
 actions-Function f =
     ap (λ n. Begin f.number f.parameters ∷ (body_actions (body_tree f.body.items) ++ (last_return ++ Finish n ∷ []))) (length-replicate f.variables [])
 

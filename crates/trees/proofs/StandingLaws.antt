@@ -10,6 +10,7 @@ use Rattle.grammar.specs.Building.{MayFollow, Appends, FitsWithin, IsOver}
 use Rattle.grammar.specs.Following.{Open, InFunction, AValue, BeforeRight, InCall, InBranch, InElse, BeforeTest, InTurn, Opened, Computed, few_open, follow, follow_all, then_follow, within, only_on, is_place, statement_done, call_done, is_var_numbered, is_callee_numbered}
 use Rattle.grammar.specs.Operators.{is_logic}
 use Rattle.grammar.specs.Profile.{Profile, first_profile}
+use Rattle.grammar.proofs.FollowingLaws.{follow_append}
 use Rattle.trees.specs.Opened.{Continues, Ends, IsAllowed, opened, open_actions}
 use Rattle.trees.specs.Standing.{Kept, Fits, in_function, Builds, Passed, Stands}
 use Rattle.trees.specs.Trees.{function_tree, made_actions}
@@ -28,23 +29,6 @@ length-last : (acts : List Action) (a : Action) → code_length (acts ++ a ∷ [
 length-last acts a = omega (arith, code_length-append acts (a ∷ []))
 
 -- Actions one behind another.
-
-then_append : (xs ys : List Action) (next : Option Opened) (p : Opened) → ((o : Opened) → follow_all xs o ≡ Some p → follow_all (xs ++ ys) o ≡ follow_all ys p) →
-    then_follow (follow_all xs) next ≡ Some p → then_follow (follow_all (xs ++ ys)) next ≡ follow_all ys p
-then_append xs ys None p again e = absurd (cc)
-then_append xs ys (Some o) p again e = guarded (few_open o) e
-  where
-    guarded : (b : Bool) → (if b then follow_all xs o else None) ≡ Some p → (if b then follow_all (xs ++ ys) o else None) ≡ follow_all ys p
-    guarded true h = again o h
-    guarded false h = absurd (cc)
-
--- what follows actions goes by what they leave open
-pub follow_append : (xs ys : List Action) (o p : Opened) → follow_all xs o ≡ Some p → follow_all (xs ++ ys) o ≡ follow_all ys p
-follow_append [] ys o p e = ap (follow_all ys) (some_same o p e)
-  where
-    some_same : (x y : Opened) → Some x ≡ Some y → x ≡ y
-    some_same x y h = cc
-follow_append (x ∷ xs) ys o p e = then_append xs ys (follow x o) p (λ q h. follow_append xs ys q p h) e
 
 -- an action that follows is allowed, and leaves little enough open
 record Next (a : Action) (o : Opened) : Type 0 where

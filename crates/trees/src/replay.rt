@@ -1,7 +1,7 @@
 //! Tells the trees to a builder, action by action.
 
 ghost use Rattle.std.specs.Prelude.{ℤ, pos, [], ◌∷◌, ◌++◌, IsErrOf, IsTrue, OnOk, map};
-ghost use Rattle.grammar.specs.Actions.{BeginWhile, Chop, Get, GiveBack, IfTest, Push, Put, WhileTest, args_actions, body_actions, expr_actions, function_actions, middle};
+ghost use Rattle.grammar.specs.Actions.{BeginWhile, Chop, Get, GiveBack, IfTest, Push, Put, WhileTest, args_actions, body_actions, expr_actions, function_actions, last_return, middle};
 ghost use Rattle.grammar.specs.Building.{AppendsAll, Refuses, StandsOpen};
 ghost use Rattle.trees.specs.Replaying.{AppendsThose, IsOverWith, IsOverWithThose, MayFollowAll, StandsForNone};
 ghost use Rattle.trees.specs.Standing.{Stands};
@@ -40,9 +40,19 @@ fn tell_function<B: Build>(function: &Function, build: &mut B) -> Result<(), Bui
 {
     build.begin_function(function.number, function.parameters)?;
     tell_statements(&function.body, build)?;
-    build.constant(0)?;
-    build.give_back()?;
+    tell_last_return(build)?;
     build.end_function(function.variables)
+}
+
+#[tactic(auto, using(crate::proofs::ReplayLaws::may_return))]
+// Tells `return 0;`.
+fn tell_last_return<B: Build>(build: &mut B) -> Result<(), BuildFault>
+    requires { MayFollowAll (B.stands build.old) last_return }
+    ensures ok { OnOk result (AppendsAll (B.stands build.old) (B.stands build.new) last_return) }
+    ensures memory { Refuses result B.allocates }
+{
+    build.constant(0)?;
+    build.give_back()
 }
 
 // Tells statements in their order.

@@ -1,6 +1,6 @@
-use Rattle.std.proofs.Common.{pos, [], ◌∷◌, sym, subst}
+use Rattle.std.proofs.Common.{[], ◌∷◌, sym, subst}
 use Rattle.std.proofs.lemmas.Result.{on_ok_weaker}
-use Rattle.grammar.specs.Actions.{Begin, Finish, GiveBack, Push, body_actions}
+use Rattle.grammar.specs.Actions.{Begin, Finish, body_actions, last_return}
 use Rattle.grammar.specs.Building.{AppendsAll}
 use Rattle.trees.specs.Replaying.{IsOverWith, MayFollowAll}
 use Rattle.trees.specs.Trees.{body_tree}
@@ -17,22 +17,13 @@ tell_statements-requires g c =
     let inside = may_next _ (at c.begin_function.new.self) (Begin c.args.function.now.number c.args.function.now.parameters) _ c.in_ok-begin_function.ensures.ok whole in
     rw c.deref.ensures.value (may_front _ _ _ inside)
 
-pub constant-requires : goal.constant-requires
-constant-requires g c =
+pub tell_last_return-requires : goal.tell_last_return-requires
+tell_last_return-requires g c =
     let at = g.B.Build.stands in
     let whole = subst (MayFollowAll (at c.args.build.now)) (actions-Function c.args.function.now) c.requires in
     let inside = may_next _ (at c.begin_function.new.self) (Begin c.args.function.now.number c.args.function.now.parameters) _ c.in_ok-begin_function.ensures.ok whole in
     let told : AppendsAll (at c.begin_function.new.self) (at c.tell_statements.new.build) (body_actions (body_tree c.args.function.now.body.items)) = rw c.deref.ensures.value at c.in_ok-tell_statements.ensures.ok in
-    record { follows = may_first _ _ _ (may_then _ (at c.tell_statements.new.build) _ _ told inside) }
-
-pub give_back-requires : goal.give_back-requires
-give_back-requires g c =
-    let at = g.B.Build.stands in
-    let whole = subst (MayFollowAll (at c.args.build.now)) (actions-Function c.args.function.now) c.requires in
-    let inside = may_next _ (at c.begin_function.new.self) (Begin c.args.function.now.number c.args.function.now.parameters) _ c.in_ok-begin_function.ensures.ok whole in
-    let told : AppendsAll (at c.begin_function.new.self) (at c.tell_statements.new.build) (body_actions (body_tree c.args.function.now.body.items)) = rw c.deref.ensures.value at c.in_ok-tell_statements.ensures.ok in
-    let end = may_then _ (at c.tell_statements.new.build) _ _ told inside in
-    record { follows = may_first _ _ _ (may_next _ (at c.constant.new.self) (Push (pos 0)) _ c.in_ok-constant.ensures.ok end) }
+    may_front _ last_return _ (may_then _ (at c.tell_statements.new.build) _ _ told inside)
 
 pub end_function-requires : goal.end_function-requires
 end_function-requires g c =
@@ -41,8 +32,7 @@ end_function-requires g c =
     let inside = may_next _ (at c.begin_function.new.self) (Begin c.args.function.now.number c.args.function.now.parameters) _ c.in_ok-begin_function.ensures.ok whole in
     let told : AppendsAll (at c.begin_function.new.self) (at c.tell_statements.new.build) (body_actions (body_tree c.args.function.now.body.items)) = rw c.deref.ensures.value at c.in_ok-tell_statements.ensures.ok in
     let end = may_then _ (at c.tell_statements.new.build) _ _ told inside in
-    let pushed = may_next _ (at c.constant.new.self) (Push (pos 0)) _ c.in_ok-constant.ensures.ok end in
-    record { follows = may_first _ _ _ (may_next _ (at c.give_back.new.self) GiveBack _ c.in_ok-give_back.ensures.ok pushed) }
+    record { follows = may_first _ _ _ (may_then _ (at c.tell_last_return.new.build) last_return _ c.in_ok-tell_last_return.ensures.ok end) }
 
 pub returns-clause-ok : goal.returns-clause-ok
 returns-clause-ok g c =
@@ -50,14 +40,12 @@ returns-clause-ok g c =
     let first = at c.args.build.now in
     let second = at c.begin_function.new.self in
     let third = at c.tell_statements.new.build in
-    let fourth = at c.constant.new.self in
-    let fifth = at c.give_back.new.self in
+    let fourth = at c.tell_last_return.new.build in
     let last = at c.end_function.new.self in
-    let told : AppendsAll (at c.begin_function.new.self) (at c.tell_statements.new.build) (body_actions (body_tree c.args.function.now.body.items)) = rw c.deref.ensures.value at c.in_ok-tell_statements.ensures.ok in
+    let told : AppendsAll second third (body_actions (body_tree c.args.function.now.body.items)) = rw c.deref.ensures.value at c.in_ok-tell_statements.ensures.ok in
     on_ok_weaker _ (λ ended. subst (AppendsAll first last) (sym (actions-Function c.args.function.now))
     (appends_both first second last (Begin c.args.function.now.number c.args.function.now.parameters ∷ []) _ c.in_ok-begin_function.ensures.ok (appends_both second third last _ _ told
-    (appends_both third fourth last (Push (pos 0) ∷ []) _ c.in_ok-constant.ensures.ok
-    (appends_both fourth fifth last (GiveBack ∷ []) (Finish c.args.function.now.variables ∷ []) c.in_ok-give_back.ensures.ok ended))))) c.end_function.ensures.ok
+    (appends_both third fourth last last_return (Finish c.args.function.now.variables ∷ []) c.in_ok-tell_last_return.ensures.ok ended)))) c.end_function.ensures.ok
 
 pub returns-clause-full : goal.returns-clause-full
 returns-clause-full g c =
@@ -65,10 +53,8 @@ returns-clause-full g c =
     let first = at c.args.build.now in
     let second = at c.begin_function.new.self in
     let third = at c.tell_statements.new.build in
-    let fourth = at c.constant.new.self in
-    let fifth = at c.give_back.new.self in
-    let told : AppendsAll (at c.begin_function.new.self) (at c.tell_statements.new.build) (body_actions (body_tree c.args.function.now.body.items)) = rw c.deref.ensures.value at c.in_ok-tell_statements.ensures.ok in
+    let fourth = at c.tell_last_return.new.build in
+    let told : AppendsAll second third (body_actions (body_tree c.args.function.now.body.items)) = rw c.deref.ensures.value at c.in_ok-tell_statements.ensures.ok in
     λ full. subst (IsOverWith first) (sym (actions-Function c.args.function.now))
     (over_then first second (Begin c.args.function.now.number c.args.function.now.parameters ∷ []) _ c.in_ok-begin_function.ensures.ok (over_then second third _ _ told
-    (over_then third fourth (Push (pos 0) ∷ []) _ c.in_ok-constant.ensures.ok
-    (over_then fourth fifth (GiveBack ∷ []) _ c.in_ok-give_back.ensures.ok (over_finish fifth c.args.function.now.variables (c.end_function.ensures.full full))))))
+    (over_then third fourth last_return _ c.in_ok-tell_last_return.ensures.ok (over_finish fourth c.args.function.now.variables (c.end_function.ensures.full full)))))
