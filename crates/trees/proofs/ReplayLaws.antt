@@ -1,5 +1,5 @@
 -- A builder is told actions, one behind another.
-use Rattle.std.proofs.Common.{◌≡◌, ℕ, zero, suc, ◌+◌, ◌<◌, ◌≤◌, List, [], ◌∷◌, ◌++◌, length, get_or, Bool, true, false, map, take, drop, Vec, Box, Global, sym, ap, subst, ◌∙◌, refl, append_assoc, arith}
+use Rattle.std.proofs.Common.{◌≡◌, ℕ, ◌+◌, ◌<◌, ◌≤◌, List, [], ◌∷◌, ◌++◌, length, get_or, Bool, true, false, map, take, drop, Vec, Box, Global, sym, ap, subst, ◌∙◌, refl, append_assoc, arith}
 use Rattle.std.proofs.lemmas.Bool.Decides.{nat_tests}
 use Rattle.std.proofs.lemmas.List.{append-nil, drop_more, length-replicate, take_more}
 use Rattle.std.specs.Prelude.{pos, if◌then◌else◌, Option, Some, None, IsTrue, is_some, nat_lt}
@@ -23,7 +23,7 @@ use Rattle.trees.specs.declared.tree.Function.{Function}
 use Rattle.trees.specs.declared.tree.Statement.{Statement}
 use Rattle.trees.specs.declared.tree.Statement.TheVariants as statement
 use Rattle.trees.proofs.StandingLaws.{follow_inside, code_length-append, limit}
-use Rattle.trees.proofs.TreeLaws.{statement_first, tree-Binary, tree-Assign, tree-Call, tree-When, tree-Choose, tree-While}
+use Rattle.trees.proofs.TreeLaws.{Tells, tells_arguments, tells_functions, tells_last, tells_split, tells_statements, tree-Binary, tree-Assign, tree-Call, tree-When, tree-Choose, tree-While}
 
 -- what begins actions that may follow may follow
 begins_front : (xs ys : List Action) (o : Opened) → IsTrue (is_some (follow_all (xs ++ ys) o)) → IsTrue (is_some (follow_all xs o))
@@ -116,18 +116,6 @@ actions-Function f =
 
 -- Lists of arguments, of statements and of functions, of which some were told.
 
--- a list of actions for each list of items, by which the items are told one behind another
-record Tells {X : Type 0} (acts : X → List Action) (told : List X → List Action) : Type 0 where
-  none : told [] ≡ []
-  more : (x : X) (xs : List X) → told (x ∷ xs) ≡ acts x ++ told xs
-
-tells_split : {X : Type 0} (acts : X → List Action) (told : List X → List Action) → Tells acts told → (i : ℕ) (xs : List X) → told xs ≡ told (take i xs) ++ told (drop i xs)
-tells_split acts told tells zero xs = sym (ap (λ ys. ys ++ told xs) tells.none)
-tells_split acts told tells (suc i) [] = sym (ap (λ ys. ys ++ told []) tells.none)
-tells_split acts told tells (suc i) (x ∷ xs) =
-    tells.more x xs ∙ ap (λ ys. acts x ++ ys) (tells_split acts told tells i xs) ∙ sym (append_assoc (acts x) (told (take i xs)) (told (drop i xs)))
-    ∙ ap (λ ys. ys ++ told (drop i xs)) (sym (tells.more x (take i xs)))
-
 -- the next item's actions may follow
 item_may : {X : Type 0} (acts : X → List Action) (told : List X → List Action) → Tells acts told →
     (before behind : Meaning) (i : ℕ) (xs : List X) (x : X) → i < length xs → x ≡ get_or xs i x → AppendsAll before behind (told (take i xs)) → MayFollowAll before (told xs) →
@@ -137,28 +125,13 @@ item_may acts told tells before behind i xs x below is added may =
     let at : drop i xs ≡ x ∷ drop (i + 1) xs = drop_more xs i x below ∙ ap (λ y. y ∷ drop (i + 1) xs) (sym is) in
     may_front behind (acts x) (told (drop (i + 1) xs)) (subst (MayFollowAll behind) (ap told at ∙ tells.more x (drop (i + 1) xs)) rest)
 
-item_last : {X : Type 0} (acts : X → List Action) (told : List X → List Action) → Tells acts told → (xs : List X) (x : X) → told (xs ++ x ∷ []) ≡ told xs ++ acts x
-item_last acts told tells [] x = tells.more x [] ∙ ap (λ ys. acts x ++ ys) tells.none ∙ append-nil (acts x) ∙ sym (ap (λ ys. ys ++ acts x) tells.none)
-item_last acts told tells (y ∷ xs) x =
-    tells.more y (xs ++ x ∷ []) ∙ ap (λ ys. acts y ++ ys) (item_last acts told tells xs x) ∙ sym (append_assoc (acts y) (told xs) (acts x))
-    ∙ ap (λ ys. ys ++ acts x) (sym (tells.more y xs))
-
 -- one item more was told
 items_more : {X : Type 0} (acts : X → List Action) (told : List X → List Action) → Tells acts told →
     (before between behind : Meaning) (i : ℕ) (xs : List X) (x : X) → i < length xs → x ≡ get_or xs i x → AppendsAll before between (told (take i xs)) → AppendsAll between behind (acts x) →
     AppendsAll before behind (told (take (i + 1) xs))
 items_more acts told tells before between behind i xs x below is first next =
     let more : take (i + 1) xs ≡ take i xs ++ x ∷ [] = take_more xs i x below ∙ ap (λ y. take i xs ++ y ∷ []) (sym is) in
-    subst (AppendsAll before behind) (sym (ap told more ∙ item_last acts told tells (take i xs) x)) (appends_both before between behind (told (take i xs)) (acts x) first next)
-
-tells_arguments : Tells (λ e. expr_actions (expr_tree e)) (λ es. args_actions (arguments (map expr_tree es)))
-tells_arguments = record { none = refl; more = λ e es. refl }
-
-tells_statements : Tells statement_actions (λ ss. body_actions (body_tree ss))
-tells_statements = record { none = refl; more = λ s ss. statement_first s (body_tree ss) }
-
-tells_functions : Tells (λ f. function_actions f.number (function_tree f)) made_actions
-tells_functions = record { none = refl; more = λ f fs. refl }
+    subst (AppendsAll before behind) (sym (ap told more ∙ tells_last acts told tells (take i xs) x)) (appends_both before between behind (told (take i xs)) (acts x) first next)
 
 pub argument_may : (before behind : Meaning) (i : ℕ) (es : List Expr) (e : Expr) → i < length es → e ≡ get_or es i e →
     AppendsAll before behind (args_actions (arguments (map expr_tree (take i es)))) → MayFollowAll before (args_actions (arguments (map expr_tree es))) → MayFollowAll behind (expr_actions (expr_tree e))
