@@ -1,21 +1,21 @@
 -- What a maker of trees stands for behind each action.
 use Rattle.std.proofs.Common.{◌≡◌, ℕ, ◌+◌, ◌<◌, ◌≤◌, min, List, [], ◌∷◌, ◌++◌, Bool, true, false, sym, ap, subst, ◌∙◌, refl, append_assoc, arith}
 use Rattle.std.proofs.lemmas.Bool.Decides.{nat_tests}
-use Rattle.std.proofs.lemmas.List.{append-nil}
 use Rattle.std.proofs.lemmas.Result.{on_ok_weaker}
 use Rattle.std.specs.Prelude.{if◌then◌else◌, Option, Some, None, IsTrue, is_some, nat_lt, nat_le, Result, OnOk}
 use Rattle.grammar.specs.declared.build.BuildFault.{BuildFault}
-use Rattle.grammar.specs.Actions.{Action, Push, Get, Put, Apply, Middle, BeginCall, EndCall, IfTest, ElsePart, EndIf, BeginWhile, WhileTest, EndWhile, GiveBack, Chop, Begin, Finish, instructions, code_length, function_actions}
-use Rattle.grammar.specs.Building.{Meaning, MayFollow, StandsOpen, AppendsAll, Appends, FitsWithin, IsOver}
-use Rattle.grammar.specs.Following.{Open, InFunction, AValue, BeforeRight, InCall, InBranch, InElse, BeforeTest, InTurn, Opened, Origin, Computed, counts, few_open, follow, follow_all, then_follow, within, only_on, is_place, statement_done, call_done, is_number, is_step, is_var_numbered, is_callee_numbered, same_op}
+use Rattle.grammar.specs.Actions.{Action, Push, Get, Put, Apply, Middle, BeginCall, EndCall, IfTest, ElsePart, EndIf, BeginWhile, WhileTest, EndWhile, GiveBack, Chop, Begin, Finish, instructions, code_length}
+use Rattle.grammar.specs.Building.{MayFollow, Appends, FitsWithin, IsOver}
+use Rattle.grammar.specs.Following.{Open, InFunction, AValue, BeforeRight, InCall, InBranch, InElse, BeforeTest, InTurn, Opened, Computed, few_open, follow, follow_all, then_follow, within, only_on, is_place, statement_done, call_done, is_var_numbered, is_callee_numbered}
 use Rattle.grammar.specs.Operators.{is_logic}
 use Rattle.grammar.specs.Profile.{Profile, first_profile}
-use Rattle.grammar.specs.Tree as tree
+use Rattle.grammar.proofs.FollowingLaws.{follow_append}
 use Rattle.trees.specs.Opened.{Continues, Ends, IsAllowed, opened, open_actions}
 use Rattle.trees.specs.Standing.{Kept, Fits, in_function, Builds, Passed, Stands}
-use Rattle.trees.specs.Trees.{function_tree, made_actions}
+use Rattle.trees.specs.Trees.{made_actions}
 use Rattle.trees.specs.declared.stack.Open as entry
 use Rattle.trees.specs.declared.tree.Function.{Function}
+use Rattle.trees.proofs.TreeLaws.{functions_add}
 
 pub limit : first_profile.instructions ≡ 2000
 unfolding first_profile
@@ -29,23 +29,6 @@ length-last : (acts : List Action) (a : Action) → code_length (acts ++ a ∷ [
 length-last acts a = omega (arith, code_length-append acts (a ∷ []))
 
 -- Actions one behind another.
-
-then_append : (xs ys : List Action) (next : Option Opened) (p : Opened) → ((o : Opened) → follow_all xs o ≡ Some p → follow_all (xs ++ ys) o ≡ follow_all ys p) →
-    then_follow (follow_all xs) next ≡ Some p → then_follow (follow_all (xs ++ ys)) next ≡ follow_all ys p
-then_append xs ys None p again e = absurd (cc)
-then_append xs ys (Some o) p again e = guarded (few_open o) e
-  where
-    guarded : (b : Bool) → (if b then follow_all xs o else None) ≡ Some p → (if b then follow_all (xs ++ ys) o else None) ≡ follow_all ys p
-    guarded true h = again o h
-    guarded false h = absurd (cc)
-
--- what follows actions goes by what they leave open
-pub follow_append : (xs ys : List Action) (o p : Opened) → follow_all xs o ≡ Some p → follow_all (xs ++ ys) o ≡ follow_all ys p
-follow_append [] ys o p e = ap (follow_all ys) (some_same o p e)
-  where
-    some_same : (x y : Opened) → Some x ≡ Some y → x ≡ y
-    some_same x y h = cc
-follow_append (x ∷ xs) ys o p e = then_append xs ys (follow x o) p (λ q h. follow_append xs ys q p h) e
 
 -- an action that follows is allowed, and leaves little enough open
 record Next (a : Action) (o : Opened) : Type 0 where
@@ -241,12 +224,6 @@ stops m n a counted over ends may p acts s =
 
 -- A function ends.
 
-made_adds : (fs : List Function) (f : Function) → made_actions (fs ++ f ∷ []) ≡ made_actions fs ++ function_actions f.number (function_tree f)
-made_adds [] f = append-nil (function_actions f.number (function_tree f))
-made_adds (g ∷ fs) f =
-    ap (λ xs. function_actions g.number (function_tree g) ++ xs) (made_adds fs f)
-    ∙ sym (append_assoc (function_actions g.number (function_tree g)) (made_actions fs) (function_actions f.number (function_tree f)))
-
 pub ends : (m n : Kept) (v : ℕ) (f : Function) → Ends v m.stack n.stack f → n.functions ≡ m.functions ++ f ∷ [] → n.code ≡ min (m.code + 0) 65535 → n.code < 2000 →
     MayFollow (λ p acts. Stands m p acts) (Finish v) → Appends (λ p acts. Stands m p acts) (λ p acts. Stands n p acts) (Finish v)
 ends m n v f k same counted fits may p acts s =
@@ -258,7 +235,7 @@ ends m n v f k same counted fits may p acts s =
     record {
       profile = s.profile;
       builds = λ _. record {
-        actions = rw (same, k.nothing, made_adds m.functions f, k.actions, b.actions) (simp append_assoc refl);
+        actions = rw (same, k.nothing, functions_add m.functions f, k.actions, b.actions) (simp append_assoc refl);
         opens = follow_append acts (Finish v ∷ []) [] (opened m.stack) b.opens ∙ one_next (Finish v) (opened m.stack) next.behind next.is next.few ∙ ap Some nothing;
         counted = omega (arith, length-last acts (Finish v), b.counted, counted, fits);
       };

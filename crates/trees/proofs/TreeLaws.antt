@@ -1,5 +1,5 @@
--- The trees of each kind of expression and statement, and of longer lists of statements.
-use Rattle.std.proofs.Common.{◌≡◌, ℕ, ℤ, List, [], ◌∷◌, ◌++◌, Bool, true, false, map, Vec, Box, Global, sym, ap, ◌∙◌, refl, append_assoc, arith}
+-- The trees of each kind of expression and statement, and the actions of lists of them.
+use Rattle.std.proofs.Common.{◌≡◌, ℕ, zero, suc, List, [], ◌∷◌, ◌++◌, Bool, true, false, map, take, drop, Vec, Box, Global, sym, ap, ◌∙◌, refl, append_assoc, arith}
 use Rattle.std.proofs.lemmas.Bool.Decides.{nat_tests}
 use Rattle.std.proofs.lemmas.List.{append-nil}
 use Rattle.std.specs.Prelude.{pos, negsuc, if◌then◌else◌}
@@ -7,23 +7,18 @@ use Rattle.grammar.specs.declared.names.Callee.{Callee}
 use Rattle.grammar.specs.declared.names.Var.{Var}
 use Rattle.grammar.specs.declared.operators.Op.{Op}
 use Rattle.grammar.specs.declared.operators.StoreOp.{StoreOp}
-use Rattle.grammar.specs.Actions.{Action, Chop, GiveBack, body_actions, args_actions, expr_actions, last_return}
+use Rattle.grammar.specs.Actions.{Action, Chop, GiveBack, body_actions, args_actions, expr_actions, function_actions, last_return}
 use Rattle.grammar.specs.Following.{Stepped, Computed, is_number}
 use Rattle.grammar.specs.Tree.{Args, Body, Done}
 use Rattle.grammar.specs.Tree as tree
 use Rattle.trees.specs.Opened.{origin_of, ends_in_return}
 use Rattle.trees.specs.Stacks.{without_last}
-use Rattle.trees.specs.Trees.{arguments, expr_node, expr_tree, in_order, statement_node, statement_tree, body_tree}
+use Rattle.trees.specs.Trees.{arguments, expr_node, expr_tree, statement_node, statement_tree, statement_actions, body_tree, function_tree, made_actions}
 use Rattle.trees.specs.declared.tree.Expr.{Expr, Expr-F, fold-roll-Expr}
 use Rattle.trees.specs.declared.tree.Expr.TheVariants as expr
-use Rattle.trees.specs.declared.tree.Statement.{Statement, Statement-F, fold-roll-Statement, fold_out-Statement, out-Statement}
+use Rattle.trees.specs.declared.tree.Function.{Function}
+use Rattle.trees.specs.declared.tree.Statement.{Statement, Statement-F, fold-roll-Statement, fold_out-Statement}
 use Rattle.trees.specs.declared.tree.Statement.TheVariants as statement
-
-pub tree-Constant : (value : ℤ) → expr_tree (expr.Constant value) ≡ tree.Constant value
-tree-Constant value = ap expr_tree (sym (expr.rolls-Constant value)) ∙ fold-roll-Expr tree.Expr expr_node (Expr-F.Constant value)
-
-pub tree-Variable : (v : Var) → expr_tree (expr.Variable v) ≡ tree.Variable v
-tree-Variable v = ap expr_tree (sym (expr.rolls-Variable v)) ∙ fold-roll-Expr tree.Expr expr_node (Expr-F.Variable v)
 
 pub tree-Binary : (op : Op) (a b : Box Expr Global) → expr_tree (expr.Binary op a b) ≡ tree.Binary op (expr_tree a.value) (expr_tree b.value)
 tree-Binary op a b = ap expr_tree (sym (expr.rolls-Binary op a b)) ∙ fold-roll-Expr tree.Expr expr_node (Expr-F.Binary op a b)
@@ -52,11 +47,29 @@ tree-While c s = ap statement_tree (sym (statement.rolls-While c s)) ∙ fold-ro
 pub tree-Return : (e : Expr) → statement_tree (statement.Return e) ≡ (λ rest. tree.Return (expr_tree e) rest)
 tree-Return e = ap statement_tree (sym (statement.rolls-Return e)) ∙ fold-roll-Statement (Body → Body) statement_node (Statement-F.Return e)
 
--- Lists of statements.
+-- Items told one behind another.
 
--- the actions of a statement
-abbrev pub statement_actions : Statement → List Action
-statement_actions s = body_actions (statement_tree s Done)
+-- a list of actions for each list of items, by which the items are told one behind another
+pub record Tells {X : Type 0} (acts : X → List Action) (told : List X → List Action) : Type 0 where
+  pub none : told [] ≡ []
+  pub more : (x : X) (xs : List X) → told (x ∷ xs) ≡ acts x ++ told xs
+
+-- those of the first items, and those of the rest
+pub tells_split : {X : Type 0} (acts : X → List Action) (told : List X → List Action) → Tells acts told → (i : ℕ) (xs : List X) → told xs ≡ told (take i xs) ++ told (drop i xs)
+tells_split acts told tells zero xs = sym (ap (λ ys. ys ++ told xs) tells.none)
+tells_split acts told tells (suc i) [] = sym (ap (λ ys. ys ++ told []) tells.none)
+tells_split acts told tells (suc i) (x ∷ xs) =
+    tells.more x xs ∙ ap (λ ys. acts x ++ ys) (tells_split acts told tells i xs) ∙ sym (append_assoc (acts x) (told (take i xs)) (told (drop i xs)))
+    ∙ ap (λ ys. ys ++ told (drop i xs)) (sym (tells.more x (take i xs)))
+
+-- the last item's actions come last
+pub tells_last : {X : Type 0} (acts : X → List Action) (told : List X → List Action) → Tells acts told → (xs : List X) (x : X) → told (xs ++ x ∷ []) ≡ told xs ++ acts x
+tells_last acts told tells [] x = tells.more x [] ∙ ap (λ ys. acts x ++ ys) tells.none ∙ append-nil (acts x) ∙ sym (ap (λ ys. ys ++ acts x) tells.none)
+tells_last acts told tells (y ∷ xs) x =
+    tells.more y (xs ++ x ∷ []) ∙ ap (λ ys. acts y ++ ys) (tells_last acts told tells xs x) ∙ sym (append_assoc (acts y) (told xs) (acts x))
+    ∙ ap (λ ys. ys ++ acts x) (sym (tells.more y xs))
+
+-- The first of some statements.
 
 node_first : (x : Statement-F (Body → Body)) (rest : Body) → body_actions (statement_node x rest) ≡ body_actions (statement_node x Done) ++ body_actions rest
 node_first (Statement-F.Alone e) rest = sym (append_assoc (expr_actions (expr_tree e)) (Chop ∷ []) (body_actions rest))
@@ -74,13 +87,28 @@ statement_first s rest =
     let is = fold_out-Statement (Body → Body) statement_node s in
     ap (λ f. body_actions (f rest)) is ∙ node_first _ rest ∙ ap (λ f. body_actions (f Done) ++ body_actions rest) (sym is)
 
--- a statement more has its actions more
+-- Lists of arguments, of statements and of functions.
+
+pub tells_arguments : Tells (λ e. expr_actions (expr_tree e)) (λ es. args_actions (arguments (map expr_tree es)))
+tells_arguments = record { none = refl; more = λ e es. refl }
+
+pub tells_statements : Tells statement_actions (λ ss. body_actions (body_tree ss))
+tells_statements = record { none = refl; more = λ s ss. statement_first s (body_tree ss) }
+
+pub tells_functions : Tells (λ f. function_actions f.number (function_tree f)) made_actions
+tells_functions = record { none = refl; more = λ f fs. refl }
+
+-- an argument more has its actions more, and so has a statement and a function
+pub arguments_add : (es : List Expr) (e : Expr) → args_actions (arguments (map expr_tree (es ++ e ∷ []))) ≡ args_actions (arguments (map expr_tree es)) ++ expr_actions (expr_tree e)
+arguments_add = tells_last _ _ tells_arguments
+
 pub body_adds : (ss : List Statement) (s : Statement) → body_actions (body_tree (ss ++ s ∷ [])) ≡ body_actions (body_tree ss) ++ statement_actions s
-body_adds [] s = refl
-body_adds (t ∷ ss) s =
-    statement_first t (body_tree (ss ++ s ∷ [])) ∙ ap (λ acts. statement_actions t ++ acts) (body_adds ss s)
-    ∙ sym (append_assoc (statement_actions t) (body_actions (body_tree ss)) (statement_actions s))
-    ∙ ap (λ acts. acts ++ statement_actions s) (sym (statement_first t (body_tree ss)))
+body_adds = tells_last _ _ tells_statements
+
+pub functions_add : (fs : List Function) (f : Function) → made_actions (fs ++ f ∷ []) ≡ made_actions fs ++ function_actions f.number (function_tree f)
+functions_add = tells_last _ _ tells_functions
+
+-- The last of some statements.
 
 -- whether a statement is `return 0;`
 abbrev pub returns_zero : Statement → Bool
@@ -140,11 +168,3 @@ last_returns (s ∷ t ∷ ss) h =
     statement_first s (body_tree (t ∷ ss)) ∙ ap (λ acts. statement_actions s ++ acts) (last_returns (t ∷ ss) (same ∙ later))
     ∙ sym (append_assoc (statement_actions s) (body_actions (body_tree (without_last (t ∷ ss)))) last_return)
     ∙ ap (λ acts. acts ++ last_return) (sym (statement_first s (body_tree (without_last (t ∷ ss)))))
-
--- Arguments.
-
-pub arguments_add : (es : List Expr) (e : Expr) → args_actions (arguments (map expr_tree (es ++ e ∷ []))) ≡ args_actions (arguments (map expr_tree es)) ++ expr_actions (expr_tree e)
-arguments_add [] e = append-nil (expr_actions (expr_tree e))
-arguments_add (f ∷ es) e =
-    ap (λ acts. expr_actions (expr_tree f) ++ acts) (arguments_add es e)
-    ∙ sym (append_assoc (expr_actions (expr_tree f)) (args_actions (arguments (map expr_tree es))) (expr_actions (expr_tree e)))
