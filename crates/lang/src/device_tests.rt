@@ -51,3 +51,25 @@ fn a_decided_fault_wins_over_a_failed_read(rt: HostRuntime) -> Result<(), Fail> 
     assert_eq!(rt; outcome.fault(), Some(ParseFault::Device));
     Ok(())
 }
+
+#[test]
+fn each_read_fails_in_turn(rt: HostRuntime) -> Result<(), Fail> {
+    let source = b"int x; f(a) int a; {x=a;} main(){f(1); if(x) while(x-=1);}";
+    for reads in 0..source.len() + 1 {
+        let outcome = parsed(rt.alloc(), Pieces::failing_at(source, 1, reads));
+        assert_eq!(rt;
+            outcome.fault(),
+            Some(ParseFault::Device),
+            "at read {reads}"
+        );
+        assert_eq!(rt; outcome.taken, reads);
+    }
+    Ok(())
+}
+
+#[test]
+fn nothing_is_asked_behind_byte_26(rt: HostRuntime) -> Result<(), Fail> {
+    let outcome = parsed(rt.alloc(), Pieces::failing_at(b"main(){}\x1a", 1, 9));
+    assert_eq!(rt; outcome.fault(), None);
+    Ok(())
+}

@@ -24,6 +24,7 @@ const TOKENS: &[Row] = &[
     (b"main(){}\n/* x", Some((2, Code::CommentNotClosed))),
     (b"main(){}/*/", Some((1, Code::CommentNotClosed))),
     (b"main(){\n2147483648;}", Some((2, Code::ConstantTooLarge))),
+    (b"main(){2147483647;}", None),
     (b"main(){0002147483647;}", None),
     (b"main(){abcdefghijklmnopqrstuvwxyz_1234;}", None),
     (

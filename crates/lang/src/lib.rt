@@ -26,3 +26,5 @@ mod limit_tests;
 mod piece_tests;
 #[cfg(test)]
 mod sources;
+#[cfg(test)]
+mod tree_tests;
