@@ -15,6 +15,8 @@ pub use tokens::{DeviceFault, Feed, Name};
 pub use trees::{Expr, Function as FunctionTree, Statement, TreeMaker};
 
 #[cfg(test)]
+mod builder_tests;
+#[cfg(test)]
 mod checks;
 #[cfg(test)]
 mod device_tests;
@@ -24,6 +26,8 @@ mod fault_tests;
 mod limit_tests;
 #[cfg(test)]
 mod piece_tests;
+#[cfg(test)]
+mod refuser;
 #[cfg(test)]
 mod sources;
 #[cfg(test)]
