@@ -27,6 +27,8 @@ mod checks;
 #[cfg(test)]
 mod listing_tests;
 #[cfg(test)]
+mod machine_tests;
+#[cfg(test)]
 mod run_tests;
 #[cfg(test)]
 mod tests;
