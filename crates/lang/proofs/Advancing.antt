@@ -1,20 +1,17 @@
 -- How the reading of a file goes on, and where it stops.
-use Rattle.std.proofs.Common.{◌≡◌, ℕ, ◌+◌, ◌<◌, ◌≤◌, List, [], ◌∷◌, ◌++◌, refl, sym, ap, ◌∙◌, subst, Bool, true, false, arith, append_assoc, append-nil}
-use Rattle.std.specs.Prelude.{Option, Some, None}
+use Rattle.std.proofs.Common.{◌≡◌, List, [], ◌∷◌, ◌++◌, refl, sym, ap, ◌∙◌, subst, Bool, true, append_assoc, append-nil}
 use Rattle.tokens.specs.declared.lexemes.Lexeme.{Lexeme}
 use Rattle.grammar.specs.declared.diagnostics.Diagnostic.{Diagnostic}
 use Rattle.grammar.specs.declared.diagnostics.ParseFault.{ParseFault}
 use Rattle.grammar.specs.Actions.{Action, function_actions}
-use Rattle.grammar.specs.Building.{Meaning, AppendsAll}
+use Rattle.grammar.specs.Building.{Meaning}
 use Rattle.grammar.specs.Derivation.{Definition, state}
 use Rattle.grammar.specs.Faults.{definitions_actions, levels}
 use Rattle.grammar.specs.Grammar.{Item}
-use Rattle.grammar.specs.Parsing.{Passes, Fails}
-use Rattle.grammar.specs.Profile.{Profile}
-use Rattle.grammar.specs.Scope.{Scope}
+use Rattle.grammar.specs.Parsing.{Passes}
 use Rattle.grammar.proofs.Runs.{back, here, then}
-use Rattle.parsing.specs.Position.{GoesOn, Place, scope_at, tokens_at}
-use Rattle.parsing.specs.Stretch.{Derives, FailsAt, FailsItem, Refused, Takes}
+use Rattle.parsing.specs.Position.{GoesOn, Place, scope_at}
+use Rattle.parsing.specs.Stretch.{Derives, FailsAt, Refused, Takes}
 use Rattle.parsing.proofs.Stretches.{refused_map, told_goes}
 use Rattle.lang.specs.Progress.{Advances, StopsReading}
 

@@ -1,6 +1,6 @@
 -- Which part of a file begins with the next token.
-use Rattle.std.proofs.Common.{◌≡◌, ℕ, List, [], ◌∷◌, ◌++◌, refl, sym, ap, ◌∙◌, subst, Bool, true, false}
-use Rattle.std.specs.Prelude.{Option, Some, None}
+use Rattle.std.proofs.Common.{◌≡◌, ℕ, List, [], ◌∷◌, ◌++◌, refl, ◌∙◌, Bool, true, false}
+use Rattle.std.specs.Prelude.{Some, None}
 use Rattle.tokens.specs.Tokens.{is_last}
 use Rattle.tokens.specs.declared.lexemes.Lexeme.{Lexeme}
 use Rattle.tokens.specs.declared.lexemes.Mark.TheVariants as mark
@@ -8,11 +8,10 @@ use Rattle.tokens.specs.declared.lexemes.Token.{Token}
 use Rattle.tokens.specs.declared.lexemes.Token.TheVariants as token
 use Rattle.tokens.specs.declared.lexemes.Word.{Word}
 use Rattle.tokens.specs.declared.lexemes.Word.TheVariants as word
-use Rattle.grammar.specs.declared.diagnostics.Diagnostic.{Diagnostic}
 use Rattle.grammar.specs.declared.diagnostics.ParseFault.{ParseFault}
 use Rattle.grammar.specs.Building.{Meaning}
 use Rattle.grammar.specs.Compiled.{diagnostic}
-use Rattle.grammar.specs.Derivation.{next_of, state}
+use Rattle.grammar.specs.Derivation.{next_of}
 use Rattle.grammar.specs.Faults.{misfit_code}
 use Rattle.grammar.specs.Grammar.{Item, AName, AWord, Defined, Exactly, External, FunctionBlock, Head, More, ParameterTypes, Parameters, Part, Source, Symbol, Types, choice, is_fault, is_mark, is_word, opens}
 use Rattle.grammar.proofs.Firsts.{no_part}
@@ -21,7 +20,7 @@ use Rattle.parsing.specs.Position.{Place, after_at, next_at, scope_at}
 use Rattle.parsing.specs.Stretch.{Derives, DerivesItem, FailsAt, FailsItem, Refused}
 use Rattle.parsing.proofs.Stretches.{Begins, IsBehind, Leads, refused_map, stand, told_begins}
 use Rattle.lang.specs.Progress.{Advances, StopsReading, at_definition, at_source}
-use Rattle.lang.proofs.Advancing.{advances_then, leave, leave_stretch, stops_then, stretch_advances, stretch_stops}
+use Rattle.lang.proofs.Advancing.{advances_then, leave, stops_then, stretch_advances, stretch_stops}
 
 -- a symbol that opens no level was replaced
 symbol_leads : (symbol : Symbol) (items : List Item) (lexeme : Lexeme) (tail : List Lexeme) (at : Place) → is_fault lexeme.token ≡ false → choice symbol lexeme.token (next_of tail) ≡ Some items → opens symbol lexeme.token (next_of tail) ≡ false →

@@ -1,14 +1,13 @@
 -- What a builder may be told of a function: its begin, the return at its end, and its end.
-use Rattle.std.proofs.Common.{◌≡◌, ℕ, pos, ◌+◌, ◌<◌, ◌≤◌, List, [], ◌∷◌, ◌++◌, refl, ap, ◌∙◌, subst, Bool, true, false, arith, append_assoc}
-use Rattle.std.specs.Prelude.{Some}
+use Rattle.std.proofs.Common.{◌≡◌, ℕ, pos, ◌+◌, ◌<◌, ◌≤◌, List, [], ◌∷◌, ◌++◌, refl, ◌∙◌, subst, true, false, arith, append_assoc}
 use Rattle.grammar.specs.Actions.{Action, Begin, Finish, GiveBack, Push, body_actions, code_length, last_return}
 use Rattle.grammar.specs.Building.{Meaning, Appends, AppendsAll, MayFollow, StandsOpen}
-use Rattle.grammar.specs.Following.{AValue, InFunction, Number, follow_all}
+use Rattle.grammar.specs.Following.{AValue, InFunction, Number}
 use Rattle.grammar.specs.Nesting.{body_nesting}
 use Rattle.grammar.specs.Profile.{Profile}
 use Rattle.grammar.specs.Resolved.{InBody}
 use Rattle.grammar.specs.Tree.{Body}
-use Rattle.grammar.proofs.FollowingLaws.{KeepsFunction, Leads, body_leads, definition_leads, follow_one, function_begins, function_finishes, keeps_function, leads_to}
+use Rattle.grammar.proofs.FollowingLaws.{KeepsFunction, body_leads, definition_leads, follow_one, function_begins, function_finishes, keeps_function, leads_to}
 use Rattle.grammar.proofs.StandingLaws.{may_follow, stands_then}
 use Rattle.parsing.specs.Room.{HasPlace}
 use Rattle.lang.specs.Progress.{ClosesFunction, MayEnd}

@@ -1,33 +1,31 @@
 -- What the reading of a function's block derives, up to its closing brace.
-use Rattle.std.proofs.Common.{◌≡◌, ℕ, zero, ◌+◌, ◌≤◌, List, [], ◌∷◌, ◌++◌, refl, sym, ap, ◌∙◌, subst, Bool, true, false, arith, append-nil}
-use Rattle.std.specs.Prelude.{Option, Some, None, nat_le}
+use Rattle.std.proofs.Common.{◌≡◌, ℕ, ◌+◌, List, [], ◌∷◌, ◌++◌, refl, ap, subst, Bool, true, false, arith, append-nil}
+use Rattle.std.specs.Prelude.{Option, None, nat_le}
 use Rattle.tokens.specs.Reading.{Reading}
 use Rattle.tokens.specs.declared.lexemes.Lexeme.{Lexeme}
 use Rattle.tokens.specs.declared.lexemes.Mark.TheVariants as mark
 use Rattle.tokens.specs.declared.lexemes.Token.{Token}
 use Rattle.tokens.specs.declared.lexemes.Token.TheVariants as token
-use Rattle.tokens.specs.Tokens.{is_last, followed_by}
+use Rattle.tokens.specs.Tokens.{followed_by}
 use Rattle.grammar.specs.declared.diagnostics.Code.TheVariants as code
 use Rattle.grammar.specs.declared.diagnostics.Diagnostic.{Diagnostic}
-use Rattle.grammar.specs.Building.{Meaning, AppendsAll}
+use Rattle.grammar.specs.Building.{Meaning}
 use Rattle.grammar.specs.Compiled.{diagnostic}
 use Rattle.grammar.specs.Derivation.{ABody, Definition, state}
 use Rattle.grammar.specs.Faults.{fault, levels, misfit_code, most_levels, only_if}
 use Rattle.grammar.specs.Grammar.{Item, Declarations, Define, Empty, Exactly, FunctionBlock, Make, Part, Shut, Statements, choice, is_fault, is_mark}
 use Rattle.grammar.specs.Laws.{KeepsFunction}
-use Rattle.grammar.specs.Nesting.{body_nesting}
 use Rattle.grammar.specs.Parsing.{Passes}
-use Rattle.grammar.specs.Profile.{Profile, first_profile}
+use Rattle.grammar.specs.Profile.{first_profile}
 use Rattle.grammar.specs.Scope.{Scope}
-use Rattle.grammar.specs.Tree.{Done, join}
+use Rattle.grammar.specs.Tree.{Done}
 use Rattle.grammar.proofs.Firsts.{no_part}
 use Rattle.grammar.proofs.Keeping.{inner_keeps}
 use Rattle.grammar.proofs.Runs.{then}
 use Rattle.grammar.proofs.Steps.{make, mark as mark_step, part}
-use Rattle.parsing.specs.Position.{GoesOn, Place, next_at, place, scope_at, tokens_at}
-use Rattle.parsing.specs.Room.{room}
+use Rattle.parsing.specs.Position.{GoesOn, Place, next_at, place, scope_at}
 use Rattle.parsing.specs.Stretch.{Derives, FailsAt, GoesPast, StopsAt}
-use Rattle.parsing.proofs.Stretches.{Begins, Leads, joined, past, stand, stay, stops, told_begins}
+use Rattle.parsing.proofs.Stretches.{Begins, Leads, joined, past, stand, stops, told_begins}
 use Rattle.lang.specs.Progress.{AddsBlock, at_brace}
 use Rattle.statements.specs.Statements.{AddsBody}
 

@@ -1,24 +1,23 @@
 -- What a file is whose reading came to its end.
-use Rattle.std.proofs.Common.{◌≡◌, ℕ, List, [], ◌∷◌, ◌++◌, refl, sym, ap, ◌∙◌, subst, Bool, true, false, append_assoc, append-nil}
+use Rattle.std.proofs.Common.{◌≡◌, ℕ, List, [], ◌∷◌, ◌++◌, refl, sym, ap, ◌∙◌, subst, Bool, true, false}
 use Rattle.std.specs.Option.{option_map}
 use Rattle.std.specs.Prelude.{Option, Some, None, Ok, Err, Result, is_some}
-use Rattle.tokens.specs.Tokens.{is_last, tokens, followed_by}
+use Rattle.tokens.specs.Tokens.{is_last, tokens}
 use Rattle.tokens.specs.declared.lexemes.Lexeme.{Lexeme}
 use Rattle.tokens.specs.declared.lexemes.Token.{Token}
 use Rattle.tokens.specs.declared.lexemes.Token.TheVariants as token
 use Rattle.grammar.specs.declared.diagnostics.Code.TheVariants as code
 use Rattle.grammar.specs.declared.diagnostics.Diagnostic.{Diagnostic}
 use Rattle.grammar.specs.declared.diagnostics.ParseFault.{ParseFault}
-use Rattle.grammar.specs.declared.diagnostics.ParseFault.TheVariants as refusal
-use Rattle.grammar.specs.Actions.{Action, actions}
+use Rattle.grammar.specs.Actions.{Action}
 use Rattle.grammar.specs.Building.{Meaning}
 use Rattle.grammar.specs.Compiled.{compiled, compiled_tokens, diagnostic, last_line, main_name, resolved}
-use Rattle.grammar.specs.Derivation.{Definition, is_end, next_of, line_of, start, state}
-use Rattle.grammar.specs.Faults.{definitions_actions, misfit_code}
-use Rattle.grammar.specs.Grammar.{AnEnd, Part, Source, is_fault}
+use Rattle.grammar.specs.Derivation.{Definition, is_end, next_of, line_of, state}
+use Rattle.grammar.specs.Faults.{misfit_code}
+use Rattle.grammar.specs.Grammar.{AnEnd, Source, is_fault}
 use Rattle.grammar.specs.Naming.{line_of_undefined}
 use Rattle.grammar.specs.Parsing.{Passes}
-use Rattle.grammar.specs.Pools.{FunctionNames, Names, names_of}
+use Rattle.grammar.specs.Pools.{Names}
 use Rattle.grammar.specs.Profile.{Profile}
 use Rattle.grammar.specs.Scope.{Scope, function_number, no_names}
 use Rattle.grammar.specs.Tree.{File}

@@ -1,5 +1,5 @@
 -- How far a file was read: the functions defined, the builder's actions, and the derivation from the file's start.
-use Rattle.std.specs.Prelude.{ℕ, ◌+◌, ◌<◌, ◌≤◌, ◌≡◌, List, [], ◌∷◌, ◌++◌, length, Bool, true, false, Option, Some, None, is_some}
+use Rattle.std.specs.Prelude.{ℕ, ◌+◌, ◌<◌, ◌≤◌, ◌≡◌, List, [], ◌∷◌, ◌++◌, Bool, true, false, Some, None, is_some}
 use Rattle.tokens.specs.declared.lexemes.Lexeme.{Lexeme}
 use Rattle.tokens.specs.declared.lexemes.Mark.TheVariants as mark
 use Rattle.grammar.specs.declared.diagnostics.Code.TheVariants as code
@@ -23,7 +23,7 @@ use Rattle.grammar.specs.Resolved.{InBody}
 use Rattle.grammar.specs.Scope.{Scope, function_number}
 use Rattle.grammar.specs.Tree.{Body}
 use Rattle.parsing.specs.Position.{GoesOn, Place, Position, scope_at, tokens_at}
-use Rattle.parsing.specs.Stretch.{Derives, FailsAt, Takes}
+use Rattle.parsing.specs.Stretch.{Derives, Takes}
 
 -- From one place between functions to another the builder was told further functions, and the derivation, which goes from these items
 -- to those, defines them. It takes the same tokens whether the device tells them or not.

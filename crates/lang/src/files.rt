@@ -22,7 +22,11 @@ use tokens::{Feed, Mark, Token, Word};
 
 /// Reads a source from the device in one pass, tells the builder its actions, and gives its names.
 ///
-/// The builder is new: it stands for no action yet. No memory is asked for but by the builder.
+/// The device gives its bytes in pieces of any size. The source ends before the first byte 26, or where the device has no more
+/// bytes; it is too long past 1,048,576 bytes. At most 64 levels may be open at once, which bounds the recursion.
+///
+/// The builder is new: it stands for no action yet. On `Ok` it stands for those of the whole file, and nothing is left open in
+/// it. No memory is asked for but by the builder.
 ///
 /// # Errors
 /// `Source` with the first fault; `Device` where the device failed before that, or the end, was known; `Memory` where the
@@ -31,6 +35,7 @@ pub fn parse<F: Feed, B: Build>(feed: &mut F, build: &mut B) -> Result<Pools, Pa
     requires new { IsNew (B.stands build.old) }
     requires count { F.failures feed.old < 2 ^ 64 - 1 }
     ensures file { IfOk result (λ pools. IsFile (B.stands build.old) (B.stands build.new) (F.to_come feed.old) pools) }
+    ensures closed { OnOk result (StandsOpen (B.stands build.new) []) }
     ensures refused { IfErr result (λ fault. Refused (FailsBytes (B.stands build.old) (F.to_come feed.old)) B.allocates fault) }
     ensures counted { Counts result (F.failures feed.old) (F.failures feed.new) }
 {
@@ -49,6 +54,7 @@ fn source<F: Feed, B: Build>(
     requires count { F.failures feed.old < 2 ^ 64 - 1 }
     ensures parsed { OnOk result (Advances (B.stands build.old) (B.stands build.new) at_source at_source
         (place parser.old (F.to_come feed.old)) (place parser.new (F.to_come feed.new))) }
+    ensures open { OnOk result (StandsOpen (B.stands build.new) []) }
     ensures ended { OnOk result (is_end parser.new.reading.next.token ≡ true) }
     ensures refused { IfErr result (λ fault. Refused (StopsReading (B.stands build.old) at_source
         (place parser.old (F.to_come feed.old))) B.allocates fault) }

@@ -1,4 +1,5 @@
 //! The language of robot programs: one pass from a device's bytes to a builder, the diagnostics, and the names of a file.
+//! It hands on the trees of programs with the builder that makes them, and the laws on how programs are spelled.
 #![tactic(auto)]
 
 mod files;
@@ -9,4 +10,25 @@ pub use grammar::{
     Build, BuildFault, Callee, Code, Diagnostic, Function, Intrinsic, MOST_NAMES, Op, ParseFault,
     Pools, StoreOp, Var,
 };
+pub use spelling::laws;
 pub use tokens::{DeviceFault, Feed, Name};
+pub use trees::{Expr, Function as FunctionTree, Statement, TreeMaker};
+
+#[cfg(test)]
+mod builder_tests;
+#[cfg(test)]
+mod checks;
+#[cfg(test)]
+mod device_tests;
+#[cfg(test)]
+mod fault_tests;
+#[cfg(test)]
+mod limit_tests;
+#[cfg(test)]
+mod piece_tests;
+#[cfg(test)]
+mod refuser;
+#[cfg(test)]
+mod sources;
+#[cfg(test)]
+mod tree_tests;

@@ -1,3 +1,4 @@
 pub mod TreeLaws
 pub mod MakingLaws
 pub mod StandingLaws
+pub mod ReplayLaws

@@ -1,23 +1,23 @@
 -- What each action makes of what is open.
-use Rattle.std.proofs.Common.{◌≡◌, ℕ, ◌<◌, ◌↔◌, ℤ, List, [], ◌∷◌, ◌++◌, length, Bool, true, false, map, Vec, Box, Global, sym, ap, subst, ◌∙◌, refl, append_assoc, arith}
+use Rattle.std.proofs.Common.{◌≡◌, ℕ, ◌<◌, ◌↔◌, List, [], ◌∷◌, ◌++◌, length, Bool, true, false, map, Vec, Box, Global, sym, ap, subst, ◌∙◌, refl, append_assoc, arith}
 use Rattle.std.proofs.lemmas.Bool.Decides.{nat_tests}
-use Rattle.std.proofs.lemmas.List.{append-nil, length-replicate}
+use Rattle.std.proofs.lemmas.List.{length-replicate}
 use Rattle.std.specs.Option.{option_to_list}
-use Rattle.std.specs.Prelude.{pos, negsuc, if◌then◌else◌, Option, Some, None, IsSome, IsTrue, is_some, replicate}
+use Rattle.std.specs.Prelude.{pos, if◌then◌else◌, Option, Some, None, IsSome, IsTrue, is_some}
 use Rattle.grammar.specs.declared.names.Callee.{Callee}
 use Rattle.grammar.specs.declared.names.Var.{Var}
 use Rattle.grammar.specs.declared.names.Var.TheVariants as var
 use Rattle.grammar.specs.declared.operators.Op.{Op}
 use Rattle.grammar.specs.declared.operators.Op.TheVariants as op
 use Rattle.grammar.specs.declared.operators.StoreOp.{StoreOp}
-use Rattle.grammar.specs.Actions.{Action, Push, Get, Put, Apply, Middle, BeginCall, EndCall, EndIf, EndWhile, GiveBack, Chop, Begin, Finish, body_actions, args_actions, expr_actions, function_actions, last_return}
-use Rattle.grammar.specs.Following.{Open, InFunction, AValue, BeforeRight, InCall, InBranch, InElse, BeforeTest, InTurn, Opened, Origin, Number, Fetched, Stepped, Computed, follow, only_on, statement_done, call_done, is_number, is_step, stored, same_var, same_op, is_callee_numbered}
+use Rattle.grammar.specs.Actions.{Action, Apply, Middle, BeginCall, EndCall, EndIf, EndWhile, GiveBack, Chop, Finish, body_actions, args_actions, expr_actions}
+use Rattle.grammar.specs.Following.{InFunction, AValue, BeforeRight, Opened, Origin, Stepped, Computed, follow, only_on, statement_done, call_done, is_number, is_step, stored, same_var, same_op, is_callee_numbered}
 use Rattle.grammar.specs.Operators.{is_logic}
 use Rattle.grammar.specs.Tree.{Args, Body, Done}
 use Rattle.grammar.specs.Tree as tree
-use Rattle.trees.specs.Opened.{Continues, Ends, IsAllowed, origin_of, ends_in_return, place_of, open_of, opened, open_actions, heading_actions, entry_actions}
-use Rattle.trees.specs.Stacks.{AddsTo, above_call, below, below_call, ends_in_value, ends_in_body, past_middle, without_last}
-use Rattle.trees.specs.Trees.{arguments, expr_tree, statement_tree, body_tree, function_tree}
+use Rattle.trees.specs.Opened.{Continues, Ends, IsAllowed, origin_of, ends_in_return, place_of, opened, open_actions, heading_actions}
+use Rattle.trees.specs.Stacks.{AddsTo, above_call, below, below_call, ends_in_value, past_middle, without_last}
+use Rattle.trees.specs.Trees.{arguments, expr_tree, statement_actions, body_tree}
 use Rattle.trees.specs.declared.stack.Body as body_type
 use Rattle.trees.specs.declared.stack.Heading.{Heading}
 use Rattle.trees.specs.declared.stack.Heading.TheVariants as heading
@@ -26,10 +26,9 @@ use Rattle.trees.specs.declared.stack.Open.TheVariants.{Value, RightSide, Call, 
 use Rattle.trees.specs.declared.stack.Open.TheVariants as entry_of
 use Rattle.trees.specs.declared.tree.Expr.{Expr}
 use Rattle.trees.specs.declared.tree.Expr.TheVariants as expr
-use Rattle.trees.specs.declared.tree.Function.{Function}
 use Rattle.trees.specs.declared.tree.Statement.{Statement}
 use Rattle.trees.specs.declared.tree.Statement.TheVariants as statement
-use Rattle.trees.proofs.TreeLaws.{tree-Binary, tree-Assign, tree-Postfix, tree-Call, tree-Alone, tree-When, tree-Choose, tree-While, tree-Return, statement_actions, returns_zero, body_adds, body_ends, last_returns, arguments_add, number_is}
+use Rattle.trees.proofs.TreeLaws.{tree-Binary, tree-Assign, tree-Postfix, tree-Call, tree-Alone, tree-When, tree-Choose, tree-While, tree-Return, returns_zero, body_adds, body_ends, last_returns, arguments_add, number_is}
 
 -- The last statement is left.
 

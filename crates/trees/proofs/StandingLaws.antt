@@ -6,11 +6,10 @@ use Rattle.std.proofs.lemmas.Result.{on_ok_weaker}
 use Rattle.std.specs.Prelude.{if◌then◌else◌, Option, Some, None, IsTrue, is_some, nat_lt, nat_le, Result, OnOk}
 use Rattle.grammar.specs.declared.build.BuildFault.{BuildFault}
 use Rattle.grammar.specs.Actions.{Action, Push, Get, Put, Apply, Middle, BeginCall, EndCall, IfTest, ElsePart, EndIf, BeginWhile, WhileTest, EndWhile, GiveBack, Chop, Begin, Finish, instructions, code_length, function_actions}
-use Rattle.grammar.specs.Building.{Meaning, MayFollow, StandsOpen, AppendsAll, Appends, FitsWithin, IsOver}
-use Rattle.grammar.specs.Following.{Open, InFunction, AValue, BeforeRight, InCall, InBranch, InElse, BeforeTest, InTurn, Opened, Origin, Computed, counts, few_open, follow, follow_all, then_follow, within, only_on, is_place, statement_done, call_done, is_number, is_step, is_var_numbered, is_callee_numbered, same_op}
+use Rattle.grammar.specs.Building.{MayFollow, Appends, FitsWithin, IsOver}
+use Rattle.grammar.specs.Following.{Open, InFunction, AValue, BeforeRight, InCall, InBranch, InElse, BeforeTest, InTurn, Opened, Computed, few_open, follow, follow_all, then_follow, within, only_on, is_place, statement_done, call_done, is_var_numbered, is_callee_numbered}
 use Rattle.grammar.specs.Operators.{is_logic}
 use Rattle.grammar.specs.Profile.{Profile, first_profile}
-use Rattle.grammar.specs.Tree as tree
 use Rattle.trees.specs.Opened.{Continues, Ends, IsAllowed, opened, open_actions}
 use Rattle.trees.specs.Standing.{Kept, Fits, in_function, Builds, Passed, Stands}
 use Rattle.trees.specs.Trees.{function_tree, made_actions}

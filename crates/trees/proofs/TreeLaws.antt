@@ -7,16 +7,16 @@ use Rattle.grammar.specs.declared.names.Callee.{Callee}
 use Rattle.grammar.specs.declared.names.Var.{Var}
 use Rattle.grammar.specs.declared.operators.Op.{Op}
 use Rattle.grammar.specs.declared.operators.StoreOp.{StoreOp}
-use Rattle.grammar.specs.Actions.{Action, Chop, GiveBack, body_actions, args_actions, expr_actions, last_return}
+use Rattle.grammar.specs.Actions.{Chop, GiveBack, body_actions, args_actions, expr_actions, last_return}
 use Rattle.grammar.specs.Following.{Stepped, Computed, is_number}
 use Rattle.grammar.specs.Tree.{Args, Body, Done}
 use Rattle.grammar.specs.Tree as tree
 use Rattle.trees.specs.Opened.{origin_of, ends_in_return}
 use Rattle.trees.specs.Stacks.{without_last}
-use Rattle.trees.specs.Trees.{arguments, expr_node, expr_tree, in_order, statement_node, statement_tree, body_tree}
+use Rattle.trees.specs.Trees.{arguments, expr_node, expr_tree, statement_node, statement_tree, statement_actions, body_tree}
 use Rattle.trees.specs.declared.tree.Expr.{Expr, Expr-F, fold-roll-Expr}
 use Rattle.trees.specs.declared.tree.Expr.TheVariants as expr
-use Rattle.trees.specs.declared.tree.Statement.{Statement, Statement-F, fold-roll-Statement, fold_out-Statement, out-Statement}
+use Rattle.trees.specs.declared.tree.Statement.{Statement, Statement-F, fold-roll-Statement, fold_out-Statement}
 use Rattle.trees.specs.declared.tree.Statement.TheVariants as statement
 
 pub tree-Constant : (value : ℤ) → expr_tree (expr.Constant value) ≡ tree.Constant value
@@ -53,10 +53,6 @@ pub tree-Return : (e : Expr) → statement_tree (statement.Return e) ≡ (λ res
 tree-Return e = ap statement_tree (sym (statement.rolls-Return e)) ∙ fold-roll-Statement (Body → Body) statement_node (Statement-F.Return e)
 
 -- Lists of statements.
-
--- the actions of a statement
-abbrev pub statement_actions : Statement → List Action
-statement_actions s = body_actions (statement_tree s Done)
 
 node_first : (x : Statement-F (Body → Body)) (rest : Body) → body_actions (statement_node x rest) ≡ body_actions (statement_node x Done) ++ body_actions rest
 node_first (Statement-F.Alone e) rest = sym (append_assoc (expr_actions (expr_tree e)) (Chop ∷ []) (body_actions rest))

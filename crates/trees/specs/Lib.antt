@@ -2,3 +2,4 @@ pub mod Trees
 pub mod Stacks
 pub mod Opened
 pub mod Standing
+pub mod Replaying

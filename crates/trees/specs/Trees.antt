@@ -1,6 +1,6 @@
 -- The trees of the code as the trees of the language.
-use Rattle.std.specs.Prelude.{ℕ, ℤ, List, [], ◌∷◌, ◌++◌, map, replicate}
-use Rattle.grammar.specs.Actions.{Action, function_actions}
+use Rattle.std.specs.Prelude.{List, [], ◌∷◌, ◌++◌, map, replicate}
+use Rattle.grammar.specs.Actions.{Action, body_actions, function_actions}
 use Rattle.grammar.specs.Tree.{Args, NoMore, Argument, Body, Done}
 use Rattle.grammar.specs.Tree as tree
 use Rattle.trees.specs.declared.tree.Expr.{Expr, Expr-F, fold-Expr}
@@ -40,6 +40,10 @@ statement_node (Statement-F.Return e) rest = tree.Return (expr_tree e) rest
 -- a statement, and what stands behind it
 abbrev pub statement_tree : Statement → Body → Body
 statement_tree = fold-Statement (Body → Body) statement_node
+
+-- the actions of a statement
+abbrev pub statement_actions : Statement → List Action
+statement_actions s = body_actions (statement_tree s Done)
 
 -- the tree of a list of statements
 abbrev pub body_tree : List Statement → Body

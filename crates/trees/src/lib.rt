@@ -5,6 +5,7 @@ mod limits;
 mod maker;
 mod making;
 mod memory;
+mod replay;
 mod stack;
 mod tree;
 

@@ -1,4 +1,4 @@
-use Rattle.std.proofs.Common.{refl, true, ◌∙◌}
+use Rattle.std.proofs.Common.{refl, ◌∙◌}
 use Rattle.std.proofs.lemmas.Result.{err_from_is_err_and}
 use Rattle.lang.specs.Progress.{at_source}
 use Rattle.lang.proofs.Advancing.{advances_stay, advances_then, leave}

@@ -1,4 +1,4 @@
-use Rattle.std.proofs.Common.{◌≡◌, [], ◌∷◌}
+use Rattle.std.proofs.Common.{◌≡◌, []}
 use Rattle.tokens.specs.Reading.{remaining}
 use Rattle.grammar.specs.Building.{StandsOpen}
 use Rattle.parsing.specs.Position.{place}

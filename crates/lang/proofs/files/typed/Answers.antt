@@ -1,4 +1,3 @@
-use Rattle.std.proofs.Common.{true, false}
 use Rattle.std.proofs.lemmas.Result.{err_from_is_err_and}
 use Rattle.lang.specs.Progress.{at_source}
 use Rattle.lang.proofs.Advancing.{advances_then, leave}

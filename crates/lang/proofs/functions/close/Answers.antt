@@ -1,4 +1,4 @@
-use Rattle.lang.proofs.Closing.{closes, may_finish, may_give, may_push}
+use Rattle.lang.proofs.Closing.{may_finish, may_give, may_push}
 use Rattle.lang.proofs.functions.close.Goals as goal
 
 pub constant-requires : goal.constant-requires

@@ -1,10 +1,6 @@
-use Rattle.std.proofs.Common.{◌≡◌, ◌≤◌, [], ◌∷◌, true, false, refl, sym, ap, ◌∙◌, subst, arith, length}
+use Rattle.std.proofs.Common.{◌≡◌, refl, sym, ◌∙◌, arith}
 use Rattle.std.proofs.lemmas.Result.{err_from_is_err_and}
-use Rattle.tokens.specs.declared.lexemes.Mark.TheVariants as mark
-use Rattle.grammar.specs.Building.{StandsOpen}
-use Rattle.grammar.specs.Following.{InFunction}
-use Rattle.grammar.specs.Grammar.{is_fault}
-use Rattle.lang.proofs.Blocks.{IsEnded, IsSame, block_refused, brace_refused, closing_sound, function_advances, told_function, too_much_refused}
+use Rattle.lang.proofs.Blocks.{block_refused, brace_refused, closing_sound, function_advances, told_function, too_much_refused}
 use Rattle.lang.proofs.Closing.{begun, closed, has_place, may_begin, may_end}
 use Rattle.lang.proofs.functions.function.Goals as goal
 

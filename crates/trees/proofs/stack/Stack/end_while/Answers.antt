@@ -1,4 +1,3 @@
-use Rattle.std.proofs.Common.{sym, subst, ◌∙◌, ◌∷◌, ◌≡◌}
 use Rattle.std.proofs.lemmas.Result.{on_ok_weaker}
 use Rattle.trees.proofs.MakingLaws.{while_continues}
 use Rattle.trees.proofs.stack.Stack.end_while.Goals as goal

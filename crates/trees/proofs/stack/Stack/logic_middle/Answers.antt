@@ -1,4 +1,3 @@
-use Rattle.std.proofs.Common.{sym, subst, ◌∙◌, ◌∷◌, ◌≡◌}
 use Rattle.std.proofs.lemmas.Result.{on_ok_weaker}
 use Rattle.trees.proofs.MakingLaws.{middle_continues}
 use Rattle.trees.proofs.stack.Stack.logic_middle.Goals as goal

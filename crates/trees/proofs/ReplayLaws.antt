@@ -1,0 +1,234 @@
+-- A builder is told actions, one behind another.
+use Rattle.std.proofs.Common.{◌≡◌, ℕ, zero, suc, ◌+◌, ◌<◌, ◌≤◌, List, [], ◌∷◌, ◌++◌, length, get_or, Bool, true, false, map, take, drop, Vec, Box, Global, sym, ap, subst, ◌∙◌, refl, append_assoc, arith}
+use Rattle.std.proofs.lemmas.Bool.Decides.{nat_tests}
+use Rattle.std.proofs.lemmas.List.{append-nil, drop_more, length-replicate, take_more}
+use Rattle.std.specs.Prelude.{pos, if◌then◌else◌, Option, Some, None, IsTrue, is_some, nat_lt}
+use Rattle.grammar.specs.declared.names.Callee.{Callee}
+use Rattle.grammar.specs.declared.names.Var.{Var}
+use Rattle.grammar.specs.declared.operators.Op.{Op}
+use Rattle.grammar.specs.declared.operators.StoreOp.{StoreOp}
+use Rattle.grammar.specs.Actions.{Action, Push, Put, Apply, BeginCall, EndCall, IfTest, ElsePart, EndIf, BeginWhile, WhileTest, EndWhile, GiveBack, Begin, Finish, last_return, args_actions, body_actions, expr_actions, function_actions, middle, code_length}
+use Rattle.grammar.specs.Building.{Meaning, MayFollow, StandsOpen, AppendsAll, Appends, IsOver}
+use Rattle.grammar.specs.Following.{Opened, few_open, follow, follow_all, then_follow, IsBeginning}
+use Rattle.grammar.specs.Profile.{Profile}
+use Rattle.grammar.specs.Tree.{Done}
+use Rattle.trees.specs.Opened.{opened, open_actions}
+use Rattle.trees.specs.Replaying.{AppendsThose, MayFollowAll, StandsForNone, IsOverWith, IsOverWithThose}
+use Rattle.trees.specs.Standing.{Kept, Fits, Builds, Passed, Stands}
+use Rattle.trees.specs.Trees.{arguments, body_tree, expr_tree, function_tree, made_actions, statement_actions}
+use Rattle.trees.specs.declared.stack.Open as entry
+use Rattle.trees.specs.declared.tree.Expr.{Expr}
+use Rattle.trees.specs.declared.tree.Expr.TheVariants as expr
+use Rattle.trees.specs.declared.tree.Function.{Function}
+use Rattle.trees.specs.declared.tree.Statement.{Statement}
+use Rattle.trees.specs.declared.tree.Statement.TheVariants as statement
+use Rattle.trees.proofs.StandingLaws.{follow_inside, code_length-append, limit}
+use Rattle.trees.proofs.TreeLaws.{statement_first, tree-Binary, tree-Assign, tree-Call, tree-When, tree-Choose, tree-While}
+
+-- what begins actions that may follow may follow
+begins_front : (xs ys : List Action) (o : Opened) → IsTrue (is_some (follow_all (xs ++ ys) o)) → IsTrue (is_some (follow_all xs o))
+begins_front [] ys o h = refl
+begins_front (x ∷ xs) ys o h = next (follow x o) h (λ q k. begins_front xs ys q k)
+  where
+    next : (q : Option Opened) → IsTrue (is_some (then_follow (follow_all (xs ++ ys)) q)) → ((p : Opened) → IsTrue (is_some (follow_all (xs ++ ys) p)) → IsTrue (is_some (follow_all xs p))) → IsTrue (is_some (then_follow (follow_all xs) q))
+    next None k again = absurd (cc)
+    next (Some p) k again = guarded (few_open p) k
+      where
+        guarded : (b : Bool) → IsTrue (is_some (if b then follow_all (xs ++ ys) p else None)) → IsTrue (is_some (if b then follow_all xs p else None))
+        guarded true j = again p j
+        guarded false j = absurd (cc)
+
+-- the first of some actions may follow
+pub may_front : (before : Meaning) (xs ys : List Action) → MayFollowAll before (xs ++ ys) → MayFollowAll before xs
+may_front before xs ys may =
+    record { profile = may.profile; acts = may.acts; stood = may.stood; begins = begins_front (may.acts ++ xs) ys [] (subst IsBeginning (sym (append_assoc may.acts xs ys)) may.begins) }
+
+pub may_first : (before : Meaning) (x : Action) (xs : List Action) → MayFollowAll before (x ∷ xs) → MayFollow before x
+may_first before x xs may =
+    record { profile = may.profile; acts = may.acts; stood = may.stood; begins = begins_front (may.acts ++ x ∷ []) xs [] (subst IsBeginning (sym (append_assoc may.acts (x ∷ []) xs)) may.begins) }
+
+-- where the first ones were told, the others may follow
+pub may_then : (before behind : Meaning) (xs ys : List Action) → AppendsAll before behind xs → MayFollowAll before (xs ++ ys) → MayFollowAll behind ys
+may_then before behind xs ys added may =
+    record { profile = may.profile; acts = may.acts ++ xs; stood = added may.profile may.acts may.stood; begins = subst IsBeginning (sym (append_assoc may.acts xs ys)) may.begins }
+
+-- actions told one behind another
+pub appends_both : (before between behind : Meaning) (xs ys : List Action) → AppendsAll before between xs → AppendsAll between behind ys → AppendsAll before behind (xs ++ ys)
+appends_both before between behind xs ys first second p acts s = subst (behind p) (append_assoc acts xs ys) (second p (acts ++ xs) (first p acts s))
+
+pub appends_none : (before : Meaning) → AppendsAll before before []
+appends_none before p acts s = subst (before p) (sym (append-nil acts)) s
+
+-- the limit is passed with more actions too
+pub over_front : (before : Meaning) (xs ys : List Action) → IsOverWith before xs → IsOverWith before (xs ++ ys)
+over_front before xs ys over p acts s =
+    omega (arith, over p acts s, code_length-append (acts ++ xs) ys, ap code_length (append_assoc acts xs ys))
+
+pub over_then : (before behind : Meaning) (xs ys : List Action) → AppendsAll before behind xs → IsOverWith behind ys → IsOverWith before (xs ++ ys)
+over_then before behind xs ys added over p acts s =
+    subst (λ zs. p.instructions < code_length zs + 1) (append_assoc acts xs ys) (over p (acts ++ xs) (added p acts s))
+
+-- behind a call of its own the other actions may follow
+pub may_next : (before behind : Meaning) (x : Action) (xs : List Action) → Appends before behind x → MayFollowAll before (x ∷ xs) → MayFollowAll behind xs
+may_next before behind x xs added may = may_then before behind (x ∷ []) xs added may
+
+pub over_finish : (before : Meaning) (v : ℕ) → IsOver before → IsOverWith before (Finish v ∷ [])
+over_finish before v over p acts s = omega (arith, over p acts s, code_length-append acts (Finish v ∷ []))
+
+-- The actions of each kind of expression and statement.
+
+pub actions-Binary : (e : Expr) (op : Op) (a b : Box Expr Global) → e ≡ expr.Binary op a b →
+    expr_actions (expr_tree e) ≡ expr_actions (expr_tree a.value) ++ (middle op ++ (expr_actions (expr_tree b.value) ++ Apply op ∷ []))
+actions-Binary e op a b is = ap (λ e. expr_actions (expr_tree e)) is ∙ ap expr_actions (tree-Binary op a b)
+
+pub actions-Assign : (e : Expr) (op : StoreOp) (v : Var) (a : Box Expr Global) → e ≡ expr.Assign op v a →
+    expr_actions (expr_tree e) ≡ expr_actions (expr_tree a.value) ++ Put v op ∷ []
+actions-Assign e op v a is = ap (λ e. expr_actions (expr_tree e)) is ∙ ap expr_actions (tree-Assign op v a)
+
+pub actions-Call : (e : Expr) (callee : Callee) (es : Vec Expr Global) → e ≡ expr.Call callee es →
+    expr_actions (expr_tree e) ≡ BeginCall ∷ (args_actions (arguments (map expr_tree es.items)) ++ EndCall callee ∷ [])
+actions-Call e callee es is = ap (λ e. expr_actions (expr_tree e)) is ∙ ap expr_actions (tree-Call callee es)
+
+pub actions-When : (s : Statement) (c : Expr) (t : Vec Statement Global) → s ≡ statement.When c t →
+    statement_actions s ≡ (expr_actions (expr_tree c) ++ IfTest ∷ []) ++ (body_actions (body_tree t.items) ++ EndIf ∷ [])
+actions-When s c t is =
+    ap statement_actions is ∙ ap (λ f. body_actions (f Done)) (tree-When c t) ∙ sym (append_assoc (expr_actions (expr_tree c)) (IfTest ∷ []) (body_actions (body_tree t.items) ++ EndIf ∷ []))
+
+pub actions-Choose : (s : Statement) (c : Expr) (t u : Vec Statement Global) → s ≡ statement.Choose c t u →
+    statement_actions s ≡ (expr_actions (expr_tree c) ++ IfTest ∷ []) ++ (body_actions (body_tree t.items) ++ ElsePart ∷ (body_actions (body_tree u.items) ++ EndIf ∷ []))
+actions-Choose s c t u is =
+    ap statement_actions is ∙ ap (λ f. body_actions (f Done)) (tree-Choose c t u)
+    ∙ sym (append_assoc (expr_actions (expr_tree c)) (IfTest ∷ []) (body_actions (body_tree t.items) ++ ElsePart ∷ (body_actions (body_tree u.items) ++ EndIf ∷ [])))
+
+pub actions-While : (s : Statement) (c : Expr) (t : Vec Statement Global) → s ≡ statement.While c t →
+    statement_actions s ≡ (BeginWhile ∷ (expr_actions (expr_tree c) ++ WhileTest ∷ [])) ++ (body_actions (body_tree t.items) ++ EndWhile ∷ [])
+actions-While s c t is =
+    ap statement_actions is ∙ ap (λ f. body_actions (f Done)) (tree-While c t)
+    ∙ ap (λ acts. BeginWhile ∷ acts) (sym (append_assoc (expr_actions (expr_tree c)) (WhileTest ∷ []) (body_actions (body_tree t.items) ++ EndWhile ∷ [])))
+
+pub actions-Function : (f : Function) →
+    function_actions f.number (function_tree f) ≡ Begin f.number f.parameters ∷ (body_actions (body_tree f.body.items) ++ Push (pos 0) ∷ GiveBack ∷ Finish f.variables ∷ [])
+actions-Function f =
+    ap (λ n. Begin f.number f.parameters ∷ (body_actions (body_tree f.body.items) ++ (last_return ++ Finish n ∷ []))) (length-replicate f.variables [])
+
+-- Lists of arguments, of statements and of functions, of which some were told.
+
+-- a list of actions for each list of items, by which the items are told one behind another
+record Tells {X : Type 0} (acts : X → List Action) (told : List X → List Action) : Type 0 where
+  none : told [] ≡ []
+  more : (x : X) (xs : List X) → told (x ∷ xs) ≡ acts x ++ told xs
+
+tells_split : {X : Type 0} (acts : X → List Action) (told : List X → List Action) → Tells acts told → (i : ℕ) (xs : List X) → told xs ≡ told (take i xs) ++ told (drop i xs)
+tells_split acts told tells zero xs = sym (ap (λ ys. ys ++ told xs) tells.none)
+tells_split acts told tells (suc i) [] = sym (ap (λ ys. ys ++ told []) tells.none)
+tells_split acts told tells (suc i) (x ∷ xs) =
+    tells.more x xs ∙ ap (λ ys. acts x ++ ys) (tells_split acts told tells i xs) ∙ sym (append_assoc (acts x) (told (take i xs)) (told (drop i xs)))
+    ∙ ap (λ ys. ys ++ told (drop i xs)) (sym (tells.more x (take i xs)))
+
+-- the next item's actions may follow
+item_may : {X : Type 0} (acts : X → List Action) (told : List X → List Action) → Tells acts told →
+    (before behind : Meaning) (i : ℕ) (xs : List X) (x : X) → i < length xs → x ≡ get_or xs i x → AppendsAll before behind (told (take i xs)) → MayFollowAll before (told xs) →
+    MayFollowAll behind (acts x)
+item_may acts told tells before behind i xs x below is added may =
+    let rest = may_then before behind (told (take i xs)) (told (drop i xs)) added (subst (MayFollowAll before) (tells_split acts told tells i xs) may) in
+    let at : drop i xs ≡ x ∷ drop (i + 1) xs = drop_more xs i x below ∙ ap (λ y. y ∷ drop (i + 1) xs) (sym is) in
+    may_front behind (acts x) (told (drop (i + 1) xs)) (subst (MayFollowAll behind) (ap told at ∙ tells.more x (drop (i + 1) xs)) rest)
+
+item_last : {X : Type 0} (acts : X → List Action) (told : List X → List Action) → Tells acts told → (xs : List X) (x : X) → told (xs ++ x ∷ []) ≡ told xs ++ acts x
+item_last acts told tells [] x = tells.more x [] ∙ ap (λ ys. acts x ++ ys) tells.none ∙ append-nil (acts x) ∙ sym (ap (λ ys. ys ++ acts x) tells.none)
+item_last acts told tells (y ∷ xs) x =
+    tells.more y (xs ++ x ∷ []) ∙ ap (λ ys. acts y ++ ys) (item_last acts told tells xs x) ∙ sym (append_assoc (acts y) (told xs) (acts x))
+    ∙ ap (λ ys. ys ++ acts x) (sym (tells.more y xs))
+
+-- one item more was told
+items_more : {X : Type 0} (acts : X → List Action) (told : List X → List Action) → Tells acts told →
+    (before between behind : Meaning) (i : ℕ) (xs : List X) (x : X) → i < length xs → x ≡ get_or xs i x → AppendsAll before between (told (take i xs)) → AppendsAll between behind (acts x) →
+    AppendsAll before behind (told (take (i + 1) xs))
+items_more acts told tells before between behind i xs x below is first next =
+    let more : take (i + 1) xs ≡ take i xs ++ x ∷ [] = take_more xs i x below ∙ ap (λ y. take i xs ++ y ∷ []) (sym is) in
+    subst (AppendsAll before behind) (sym (ap told more ∙ item_last acts told tells (take i xs) x)) (appends_both before between behind (told (take i xs)) (acts x) first next)
+
+tells_arguments : Tells (λ e. expr_actions (expr_tree e)) (λ es. args_actions (arguments (map expr_tree es)))
+tells_arguments = record { none = refl; more = λ e es. refl }
+
+tells_statements : Tells statement_actions (λ ss. body_actions (body_tree ss))
+tells_statements = record { none = refl; more = λ s ss. statement_first s (body_tree ss) }
+
+tells_functions : Tells (λ f. function_actions f.number (function_tree f)) made_actions
+tells_functions = record { none = refl; more = λ f fs. refl }
+
+pub argument_may : (before behind : Meaning) (i : ℕ) (es : List Expr) (e : Expr) → i < length es → e ≡ get_or es i e →
+    AppendsAll before behind (args_actions (arguments (map expr_tree (take i es)))) → MayFollowAll before (args_actions (arguments (map expr_tree es))) → MayFollowAll behind (expr_actions (expr_tree e))
+argument_may = item_may _ _ tells_arguments
+
+pub arguments_more : (before between behind : Meaning) (i : ℕ) (es : List Expr) (e : Expr) → i < length es → e ≡ get_or es i e →
+    AppendsAll before between (args_actions (arguments (map expr_tree (take i es)))) → AppendsAll between behind (expr_actions (expr_tree e)) →
+    AppendsAll before behind (args_actions (arguments (map expr_tree (take (i + 1) es))))
+arguments_more = items_more _ _ tells_arguments
+
+pub statement_may : (before behind : Meaning) (i : ℕ) (ss : List Statement) (s : Statement) → i < length ss → s ≡ get_or ss i s →
+    AppendsAll before behind (body_actions (body_tree (take i ss))) → MayFollowAll before (body_actions (body_tree ss)) → MayFollowAll behind (statement_actions s)
+statement_may = item_may _ _ tells_statements
+
+pub statements_more : (before between behind : Meaning) (i : ℕ) (ss : List Statement) (s : Statement) → i < length ss → s ≡ get_or ss i s →
+    AppendsAll before between (body_actions (body_tree (take i ss))) → AppendsAll between behind (statement_actions s) → AppendsAll before behind (body_actions (body_tree (take (i + 1) ss)))
+statements_more = items_more _ _ tells_statements
+
+pub function_may : (before behind : Meaning) (i : ℕ) (fs : List Function) (f : Function) → i < length fs → f ≡ get_or fs i f →
+    AppendsAll before behind (made_actions (take i fs)) → MayFollowAll before (made_actions fs) → MayFollowAll behind (function_actions f.number (function_tree f))
+function_may = item_may _ _ tells_functions
+
+pub functions_more : (before between behind : Meaning) (i : ℕ) (fs : List Function) (f : Function) → i < length fs → f ≡ get_or fs i f →
+    AppendsAll before between (made_actions (take i fs)) → AppendsAll between behind (function_actions f.number (function_tree f)) → AppendsAll before behind (made_actions (take (i + 1) fs))
+functions_more = items_more _ _ tells_functions
+
+-- A maker that leaves nothing open stands for the actions of its functions.
+
+-- the actions of a maker's functions, where nothing is open in it
+pub record IsDone (m : Kept) : Type 0 where
+  pub begins : IsBeginning (made_actions m.functions)
+  pub each : (p : Profile) (acts : List Action) → Stands m p acts → acts ≡ made_actions m.functions
+
+nothing_actions : (xs : List entry.Open) → opened xs ≡ [] → open_actions xs ≡ []
+nothing_actions [] h = refl
+nothing_actions (x ∷ xs) h = absurd (cc)
+
+is_done_at : (m : Kept) (s : StandsOpen (λ p acts. Stands m p acts) []) → Fits m.code → IsDone m
+is_done_at m s fits =
+    let b : Builds m s.acts = s.stood.builds fits in
+    let same : Some (opened m.stack) ≡ Some [] = sym b.opens ∙ s.opens in
+    let none : opened m.stack ≡ [] = cc in
+    let each : (p : Profile) (acts : List Action) → Stands m p acts → acts ≡ made_actions m.functions =
+    λ p acts t. (t.builds fits).actions ∙ ap (λ xs. made_actions m.functions ++ xs) (nothing_actions m.stack none) ∙ append-nil (made_actions m.functions) in
+    record { begins = subst IsBeginning (each s.profile s.acts s.stood) (rw s.opens refl); each = each }
+
+pub is_done : (m : Kept) → StandsOpen (λ p acts. Stands m p acts) [] → IsDone m
+is_done m s = by_code (nat_lt m.code 2000) refl
+  where
+    by_code : (b : Bool) → nat_lt m.code 2000 ≡ b → IsDone m
+    by_code true h =
+        let fits : m.code < 2000 = grind (arith, nat_tests, h) in
+        is_done_at m s (omega (arith, limit, fits))
+    by_code false h =
+        let past : 2000 ≤ m.code = grind (arith, nat_tests, h) in
+        let q : Passed s.acts = s.stood.passed (omega (arith, limit, past)) in
+        let no : false ≡ true = sym (follow_inside s.acts [] [] s.opens) ∙ q.inside in
+        absurd (cc)
+
+-- the actions of a maker that leaves nothing open may be told to a builder that was told nothing
+pub may_replay : (m : Kept) (before : Meaning) → StandsOpen (λ p acts. Stands m p acts) [] → StandsForNone before → MayFollowAll before (made_actions m.functions)
+may_replay m before closed none = record { profile = none.profile; acts = []; stood = none.stood; begins = (is_done m closed).begins }
+
+-- all the functions were told
+pub appends_those : (m : Kept) (before behind : Meaning) → StandsOpen (λ p acts. Stands m p acts) [] → AppendsAll before behind (made_actions m.functions) → AppendsThose m before behind
+appends_those m before behind closed added p acts stands = subst (AppendsAll before behind) (sym ((is_done m closed).each p acts stands)) added
+
+-- the limit is passed in one of the functions
+pub over_those : (m : Kept) (before between : Meaning) (i : ℕ) (f : Function) → StandsOpen (λ p acts. Stands m p acts) [] → i < length m.functions → f ≡ get_or m.functions i f →
+    AppendsAll before between (made_actions (take i m.functions)) → IsOverWith between (function_actions f.number (function_tree f)) → IsOverWithThose m before
+over_those m before between i f closed below is added over p acts stands =
+    let split : made_actions m.functions ≡ made_actions (take i m.functions) ++ (function_actions f.number (function_tree f) ++ made_actions (drop (i + 1) m.functions)) =
+    tells_split _ _ tells_functions i m.functions ∙ ap (λ fs. made_actions (take i m.functions) ++ made_actions fs) (drop_more m.functions i f below ∙ ap (λ f. f ∷ drop (i + 1) m.functions) (sym is))
+    in
+    subst (IsOverWith before) (sym ((is_done m closed).each p acts stands ∙ split))
+    (over_then before between _ _ added (over_front between _ (made_actions (drop (i + 1) m.functions)) over))

@@ -1,0 +1,74 @@
+use Rattle.std.proofs.Common.{pos, [], ◌∷◌, sym, subst}
+use Rattle.std.proofs.lemmas.Result.{on_ok_weaker}
+use Rattle.grammar.specs.Actions.{Begin, Finish, GiveBack, Push, body_actions}
+use Rattle.grammar.specs.Building.{AppendsAll}
+use Rattle.trees.specs.Replaying.{IsOverWith, MayFollowAll}
+use Rattle.trees.specs.Trees.{body_tree}
+use Rattle.trees.proofs.ReplayLaws.{actions-Function, appends_both, may_first, may_front, may_next, may_then, over_finish, over_then}
+use Rattle.trees.proofs.replay.tell_function.Goals as goal
+
+pub begin_function-requires : goal.begin_function-requires
+begin_function-requires g c = record { follows = may_first _ _ _ c.requires }
+
+pub tell_statements-requires : goal.tell_statements-requires
+tell_statements-requires g c =
+    let at = g.B.Build.stands in
+    let whole = subst (MayFollowAll (at c.args.build.now)) (actions-Function c.args.function.now) c.requires in
+    let inside = may_next _ (at c.begin_function.new.self) (Begin c.args.function.now.number c.args.function.now.parameters) _ c.in_ok-begin_function.ensures.ok whole in
+    rw c.deref.ensures.value (may_front _ _ _ inside)
+
+pub constant-requires : goal.constant-requires
+constant-requires g c =
+    let at = g.B.Build.stands in
+    let whole = subst (MayFollowAll (at c.args.build.now)) (actions-Function c.args.function.now) c.requires in
+    let inside = may_next _ (at c.begin_function.new.self) (Begin c.args.function.now.number c.args.function.now.parameters) _ c.in_ok-begin_function.ensures.ok whole in
+    let told : AppendsAll (at c.begin_function.new.self) (at c.tell_statements.new.build) (body_actions (body_tree c.args.function.now.body.items)) = rw c.deref.ensures.value at c.in_ok-tell_statements.ensures.ok in
+    record { follows = may_first _ _ _ (may_then _ (at c.tell_statements.new.build) _ _ told inside) }
+
+pub give_back-requires : goal.give_back-requires
+give_back-requires g c =
+    let at = g.B.Build.stands in
+    let whole = subst (MayFollowAll (at c.args.build.now)) (actions-Function c.args.function.now) c.requires in
+    let inside = may_next _ (at c.begin_function.new.self) (Begin c.args.function.now.number c.args.function.now.parameters) _ c.in_ok-begin_function.ensures.ok whole in
+    let told : AppendsAll (at c.begin_function.new.self) (at c.tell_statements.new.build) (body_actions (body_tree c.args.function.now.body.items)) = rw c.deref.ensures.value at c.in_ok-tell_statements.ensures.ok in
+    let end = may_then _ (at c.tell_statements.new.build) _ _ told inside in
+    record { follows = may_first _ _ _ (may_next _ (at c.constant.new.self) (Push (pos 0)) _ c.in_ok-constant.ensures.ok end) }
+
+pub end_function-requires : goal.end_function-requires
+end_function-requires g c =
+    let at = g.B.Build.stands in
+    let whole = subst (MayFollowAll (at c.args.build.now)) (actions-Function c.args.function.now) c.requires in
+    let inside = may_next _ (at c.begin_function.new.self) (Begin c.args.function.now.number c.args.function.now.parameters) _ c.in_ok-begin_function.ensures.ok whole in
+    let told : AppendsAll (at c.begin_function.new.self) (at c.tell_statements.new.build) (body_actions (body_tree c.args.function.now.body.items)) = rw c.deref.ensures.value at c.in_ok-tell_statements.ensures.ok in
+    let end = may_then _ (at c.tell_statements.new.build) _ _ told inside in
+    let pushed = may_next _ (at c.constant.new.self) (Push (pos 0)) _ c.in_ok-constant.ensures.ok end in
+    record { follows = may_first _ _ _ (may_next _ (at c.give_back.new.self) GiveBack _ c.in_ok-give_back.ensures.ok pushed) }
+
+pub returns-clause-ok : goal.returns-clause-ok
+returns-clause-ok g c =
+    let at = g.B.Build.stands in
+    let first = at c.args.build.now in
+    let second = at c.begin_function.new.self in
+    let third = at c.tell_statements.new.build in
+    let fourth = at c.constant.new.self in
+    let fifth = at c.give_back.new.self in
+    let last = at c.end_function.new.self in
+    let told : AppendsAll (at c.begin_function.new.self) (at c.tell_statements.new.build) (body_actions (body_tree c.args.function.now.body.items)) = rw c.deref.ensures.value at c.in_ok-tell_statements.ensures.ok in
+    on_ok_weaker _ (λ ended. subst (AppendsAll first last) (sym (actions-Function c.args.function.now))
+    (appends_both first second last (Begin c.args.function.now.number c.args.function.now.parameters ∷ []) _ c.in_ok-begin_function.ensures.ok (appends_both second third last _ _ told
+    (appends_both third fourth last (Push (pos 0) ∷ []) _ c.in_ok-constant.ensures.ok
+    (appends_both fourth fifth last (GiveBack ∷ []) (Finish c.args.function.now.variables ∷ []) c.in_ok-give_back.ensures.ok ended))))) c.end_function.ensures.ok
+
+pub returns-clause-full : goal.returns-clause-full
+returns-clause-full g c =
+    let at = g.B.Build.stands in
+    let first = at c.args.build.now in
+    let second = at c.begin_function.new.self in
+    let third = at c.tell_statements.new.build in
+    let fourth = at c.constant.new.self in
+    let fifth = at c.give_back.new.self in
+    let told : AppendsAll (at c.begin_function.new.self) (at c.tell_statements.new.build) (body_actions (body_tree c.args.function.now.body.items)) = rw c.deref.ensures.value at c.in_ok-tell_statements.ensures.ok in
+    λ full. subst (IsOverWith first) (sym (actions-Function c.args.function.now))
+    (over_then first second (Begin c.args.function.now.number c.args.function.now.parameters ∷ []) _ c.in_ok-begin_function.ensures.ok (over_then second third _ _ told
+    (over_then third fourth (Push (pos 0) ∷ []) _ c.in_ok-constant.ensures.ok
+    (over_then fourth fifth (GiveBack ∷ []) _ c.in_ok-give_back.ensures.ok (over_finish fifth c.args.function.now.variables (c.end_function.ensures.full full))))))

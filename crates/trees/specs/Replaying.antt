@@ -1,0 +1,31 @@
+-- What a builder is told of trees.
+use Rattle.std.specs.Prelude.{◌+◌, ◌<◌, List, [], ◌++◌}
+use Rattle.grammar.specs.Actions.{Action, code_length}
+use Rattle.grammar.specs.Building.{Meaning, AppendsAll}
+use Rattle.grammar.specs.Following.{IsBeginning}
+use Rattle.grammar.specs.Profile.{Profile}
+use Rattle.trees.specs.Standing.{Kept, Stands}
+
+-- a list is stood for behind which these actions may follow, one behind another
+pub record MayFollowAll (before : Meaning) (more : List Action) : Type 0 where
+  pub profile : Profile
+  pub acts : List Action
+  pub stood : before profile acts
+  pub begins : IsBeginning (acts ++ more)
+
+-- the empty list is stood for
+pub record StandsForNone (before : Meaning) : Type 0 where
+  pub profile : Profile
+  pub stood : before profile []
+
+-- behind these actions the code and the last NOP pass the profile's limit
+abbrev pub IsOverWith : Meaning → List Action → Type 0
+IsOverWith before more = (profile : Profile) (acts : List Action) → before profile acts → profile.instructions < code_length (acts ++ more) + 1
+
+-- each list stood for before is stood for with the actions that the maker stands for
+abbrev pub AppendsThose : Kept → Meaning → Meaning → Type 0
+AppendsThose maker before behind = (profile : Profile) (acts : List Action) → Stands maker profile acts → AppendsAll before behind acts
+
+-- with the actions that the maker stands for, the code passes the limit
+abbrev pub IsOverWithThose : Kept → Meaning → Type 0
+IsOverWithThose maker before = (profile : Profile) (acts : List Action) → Stands maker profile acts → IsOverWith before acts

@@ -1,0 +1,196 @@
+//! Tells the trees to a builder, action by action.
+
+ghost use Rattle.std.specs.Prelude.{ℤ, pos, [], ◌∷◌, ◌++◌, IsErrOf, IsTrue, OnOk, map};
+ghost use Rattle.grammar.specs.Actions.{BeginWhile, Chop, Get, GiveBack, IfTest, Push, Put, WhileTest, args_actions, body_actions, expr_actions, function_actions, middle};
+ghost use Rattle.grammar.specs.Building.{AppendsAll, Refuses, StandsOpen};
+ghost use Rattle.trees.specs.Replaying.{AppendsThose, IsOverWith, IsOverWithThose, MayFollowAll, StandsForNone};
+ghost use Rattle.trees.specs.Standing.{Stands};
+ghost use Rattle.trees.specs.Trees.{arguments, body_tree, expr_tree, function_tree, statement_actions};
+
+use crate::maker::TreeMaker;
+use crate::tree::{Expr, Function, Statement};
+use grammar::{Build, BuildFault, Op, StoreOp, Var};
+
+impl TreeMaker {
+    /// Tells the builder the actions that the maker was told.
+    ///
+    /// # Errors
+    ///
+    /// The builder's refusal. What the builder stands for is then left open.
+    pub fn replay<B: Build>(&self, build: &mut B) -> Result<(), BuildFault>
+        requires closed { StandsOpen (λ p acts. Stands self.now p acts) [] }
+        requires told_nothing { StandsForNone (B.stands build.old) }
+        ensures ok { OnOk result (AppendsThose self.now (B.stands build.old) (B.stands build.new)) }
+        ensures full { IsErrOf result BuildFault.Full → IsOverWithThose self.now (B.stands build.old) }
+        ensures memory { IsErrOf result BuildFault.Memory → IsTrue B.allocates }
+    {
+        for function in self.functions() {
+            tell_function(function, build)?;
+        }
+        Ok(())
+    }
+}
+
+// Tells a function, with the `return 0;` at its end.
+fn tell_function<B: Build>(function: &Function, build: &mut B) -> Result<(), BuildFault>
+    requires { MayFollowAll (B.stands build.old) (function_actions function.now.number (function_tree function.now)) }
+    ensures ok { OnOk result (AppendsAll (B.stands build.old) (B.stands build.new) (function_actions function.now.number (function_tree function.now))) }
+    ensures full { IsErrOf result BuildFault.Full → IsOverWith (B.stands build.old) (function_actions function.now.number (function_tree function.now)) }
+    ensures memory { IsErrOf result BuildFault.Memory → IsTrue B.allocates }
+{
+    build.begin_function(function.number, function.parameters)?;
+    tell_statements(&function.body, build)?;
+    build.constant(0)?;
+    build.give_back()?;
+    build.end_function(function.variables)
+}
+
+// Tells statements in their order.
+#[cycle(statements)]
+fn tell_statements<B: Build>(statements: &[Statement], build: &mut B) -> Result<(), BuildFault>
+    requires { MayFollowAll (B.stands build.old) (body_actions (body_tree statements.now)) }
+    ensures ok { OnOk result (AppendsAll (B.stands build.old) (B.stands build.new) (body_actions (body_tree statements.now))) }
+    ensures memory { Refuses result B.allocates }
+{
+    for statement in statements {
+        tell_statement(statement, build)?;
+    }
+    Ok(())
+}
+
+// Tells a statement.
+#[cycle(statements)]
+fn tell_statement<B: Build>(statement: &Statement, build: &mut B) -> Result<(), BuildFault>
+    requires { MayFollowAll (B.stands build.old) (statement_actions statement.now) }
+    ensures ok { OnOk result (AppendsAll (B.stands build.old) (B.stands build.new) (statement_actions statement.now)) }
+    ensures memory { Refuses result B.allocates }
+{
+    match statement {
+        Statement::Alone(expr) => tell_alone(expr, build),
+        Statement::When(condition, branch) => {
+            tell_test(condition, build)?;
+            tell_statements(branch, build)?;
+            build.end_if()
+        }
+        Statement::Choose(condition, first, second) => {
+            tell_test(condition, build)?;
+            tell_statements(first, build)?;
+            build.else_part()?;
+            tell_statements(second, build)?;
+            build.end_if()
+        }
+        Statement::While(condition, body) => {
+            tell_loop_test(condition, build)?;
+            tell_statements(body, build)?;
+            build.end_while()
+        }
+        Statement::Return(expr) => tell_return(expr, build),
+    }
+}
+
+// Tells an expression whose value is dropped.
+fn tell_alone<B: Build>(expr: &Expr, build: &mut B) -> Result<(), BuildFault>
+    requires { MayFollowAll (B.stands build.old) (expr_actions (expr_tree expr.now) ++ Chop ∷ []) }
+    ensures ok { OnOk result (AppendsAll (B.stands build.old) (B.stands build.new) (expr_actions (expr_tree expr.now) ++ Chop ∷ [])) }
+    ensures memory { Refuses result B.allocates }
+{
+    tell_expr(expr, build)?;
+    build.chop()
+}
+
+// Tells the condition of an `if`.
+fn tell_test<B: Build>(condition: &Expr, build: &mut B) -> Result<(), BuildFault>
+    requires { MayFollowAll (B.stands build.old) (expr_actions (expr_tree condition.now) ++ IfTest ∷ []) }
+    ensures ok { OnOk result (AppendsAll (B.stands build.old) (B.stands build.new) (expr_actions (expr_tree condition.now) ++ IfTest ∷ [])) }
+    ensures memory { Refuses result B.allocates }
+{
+    tell_expr(condition, build)?;
+    build.if_test()
+}
+
+// Tells the condition of a `while`.
+fn tell_loop_test<B: Build>(condition: &Expr, build: &mut B) -> Result<(), BuildFault>
+    requires { MayFollowAll (B.stands build.old) (BeginWhile ∷ (expr_actions (expr_tree condition.now) ++ WhileTest ∷ [])) }
+    ensures ok { OnOk result (AppendsAll (B.stands build.old) (B.stands build.new) (BeginWhile ∷ (expr_actions (expr_tree condition.now) ++ WhileTest ∷ []))) }
+    ensures memory { Refuses result B.allocates }
+{
+    build.begin_while()?;
+    tell_expr(condition, build)?;
+    build.while_test()
+}
+
+// Tells a `return` with its value.
+fn tell_return<B: Build>(expr: &Expr, build: &mut B) -> Result<(), BuildFault>
+    requires { MayFollowAll (B.stands build.old) (expr_actions (expr_tree expr.now) ++ GiveBack ∷ []) }
+    ensures ok { OnOk result (AppendsAll (B.stands build.old) (B.stands build.new) (expr_actions (expr_tree expr.now) ++ GiveBack ∷ [])) }
+    ensures memory { Refuses result B.allocates }
+{
+    tell_expr(expr, build)?;
+    build.give_back()
+}
+
+// Tells an expression.
+#[cycle(expressions)]
+fn tell_expr<B: Build>(expr: &Expr, build: &mut B) -> Result<(), BuildFault>
+    requires { MayFollowAll (B.stands build.old) (expr_actions (expr_tree expr.now)) }
+    ensures ok { OnOk result (AppendsAll (B.stands build.old) (B.stands build.new) (expr_actions (expr_tree expr.now))) }
+    ensures memory { Refuses result B.allocates }
+{
+    match expr {
+        Expr::Constant(value) => build.constant(*value),
+        Expr::Variable(var) => build.fetch(*var),
+        Expr::Binary(op, left, right) => {
+            tell_expr(left, build)?;
+            tell_middle(*op, build)?;
+            tell_expr(right, build)?;
+            build.binop(*op)
+        }
+        Expr::Assign(op, var, right) => {
+            tell_expr(right, build)?;
+            build.store(*var, *op)
+        }
+        Expr::Postfix(op, var) => tell_step(*op, *var, build),
+        Expr::Call(callee, arguments) => {
+            build.begin_call()?;
+            tell_arguments(arguments, build)?;
+            build.end_call(*callee)
+        }
+    }
+}
+
+// Tells the arguments of a call.
+#[cycle(expressions)]
+fn tell_arguments<B: Build>(exprs: &[Expr], build: &mut B) -> Result<(), BuildFault>
+    requires { MayFollowAll (B.stands build.old) (args_actions (arguments (map expr_tree exprs.now))) }
+    ensures ok { OnOk result (AppendsAll (B.stands build.old) (B.stands build.new) (args_actions (arguments (map expr_tree exprs.now)))) }
+    ensures memory { Refuses result B.allocates }
+{
+    for expr in exprs {
+        tell_expr(expr, build)?;
+    }
+    Ok(())
+}
+
+// Tells what stands between the sides of an operator.
+fn tell_middle<B: Build>(op: Op, build: &mut B) -> Result<(), BuildFault>
+    requires { MayFollowAll (B.stands build.old) (middle op) }
+    ensures ok { OnOk result (AppendsAll (B.stands build.old) (B.stands build.new) (middle op)) }
+    ensures memory { Refuses result B.allocates }
+{
+    if !op.is_logic() {
+        return Ok(());
+    }
+    build.logic_middle(op)
+}
+
+// Tells `v++` or `v--`, by the operator that steps the variable.
+fn tell_step<B: Build>(op: StoreOp, var: Var, build: &mut B) -> Result<(), BuildFault>
+    requires { MayFollowAll (B.stands build.old) (Get var ∷ Push (pos 1) ∷ Put var op ∷ Chop ∷ []) }
+    ensures ok { OnOk result (AppendsAll (B.stands build.old) (B.stands build.new) (Get var ∷ Push (pos 1) ∷ Put var op ∷ Chop ∷ [])) }
+    ensures memory { Refuses result B.allocates }
+{
+    build.fetch(var)?;
+    build.constant(1)?;
+    build.store(var, op)?;
+    build.chop()
+}
