@@ -29,6 +29,8 @@ mod listing_tests;
 #[cfg(test)]
 mod machine_tests;
 #[cfg(test)]
+mod replay_tests;
+#[cfg(test)]
 mod run_tests;
 #[cfg(test)]
 mod tests;

@@ -2,21 +2,12 @@
 
 ghost use Rattle.code.specs.Standing.{FitsProgram};
 
-use crate::runs::compile;
+use crate::checks::program_of;
 use code::{Machine, Program, Want};
 use lang::Intrinsic;
 use std::alloc::{AllocError, Global};
 use std::process::Abort;
 use std::test::Fail;
-use tokens::Pieces;
-
-/// The program of a good source.
-fn program_of(source: &[u8]) -> Result<Program, Fail> {
-    let compiled = compile(&mut Pieces::new(source, 4096))
-        .ok()
-        .ok_or("the device failed")?;
-    Ok(compiled.ok().ok_or("the source has a fault")?)
-}
 
 /// The cycles that ask before the first restart, and the restart's own behind them, where each reply is 0.
 fn asks_and_restart(alloc: Global, program: &Program) -> Result<Vec<u32>, AllocError> {
