@@ -1,6 +1,6 @@
 -- The lines of a listing by number.
 use Rattle.std.specs.Prelude.{ℕ, zero, suc, ◌+◌, ◌-◌, ◌≡◌, ◌<◌, ◌≤◌, List, [], ◌∷◌, ◌++◌, length, drop, get_or, slice_get, Some}
-use Rattle.std.proofs.Common.{refl, sym, ap, ◌∙◌, arith, append_assoc, length-append, add-zero, add-one, drop-cons}
+use Rattle.std.proofs.Common.{refl, sym, ap, ◌∙◌, arith, length-append, add-zero, add-one, drop-cons}
 use Rattle.grammar.specs.declared.names.Intrinsic.{Intrinsic}
 use Rattle.grammar.specs.declared.names.Intrinsic.TheVariants as intrinsic
 use Rattle.grammar.specs.Intrinsics.{name_of}
@@ -59,38 +59,49 @@ length-functions_lines addresses i fs f h is =
     ∙ length-append (function_lines i f at) (functions_lines addresses (i + 1) (drop (i + 1) fs))
     ∙ ap (λ (n : ℕ). n + length (functions_lines addresses (i + 1) (drop (i + 1) fs))) (length-function_lines i f at)
 
-lines_from-next : (code : Code) (i : ℕ) (fs : List FunctionNames) (f : FunctionNames) → i < length fs → f ≡ get_or fs i f → lines_from code i (drop i fs) ≡ function_lines i f (get_or code.addresses i 0) ++ lines_from code (i + 1) (drop (i + 1) fs)
-lines_from-next code i fs f h is =
-    ap (λ (lines : List (List ℕ)). lines ++ instrs_lines code.instructions) (functions_lines-next code.addresses i fs f h is)
-    ∙ append_assoc (function_lines i f (get_or code.addresses i 0)) (functions_lines code.addresses (i + 1) (drop (i + 1) fs)) (instrs_lines code.instructions)
-
 -- a line of the function
-pub line_here : (code : Code) (i : ℕ) (fs : List FunctionNames) (f : FunctionNames) (n : ℕ) → i < length fs → f ≡ get_or fs i f → n < length f.variables + 1 → get_or (lines_from code i (drop i fs)) n [] ≡ get_or (function_lines i f (get_or code.addresses i 0)) n []
-line_here code i fs f n h is below =
-    let own = function_lines i f (get_or code.addresses i 0) in
-    ap (λ (lines : List (List ℕ)). get_or lines n []) (lines_from-next code i fs f h is)
-    ∙ get_or-append own (lines_from code (i + 1) (drop (i + 1) fs)) [] n (omega (arith, below, length-function_lines i f (get_or code.addresses i 0)))
+pub line_here : (addresses : List ℕ) (i : ℕ) (fs : List FunctionNames) (f : FunctionNames) (n : ℕ) → i < length fs → f ≡ get_or fs i f → n < length f.variables + 1 → get_or (functions_lines addresses i (drop i fs)) n [] ≡ get_or (function_lines i f (get_or addresses i 0)) n []
+line_here addresses i fs f n h is below =
+    let own = function_lines i f (get_or addresses i 0) in
+    ap (λ (lines : List (List ℕ)). get_or lines n []) (functions_lines-next addresses i fs f h is)
+    ∙ get_or-append own (functions_lines addresses (i + 1) (drop (i + 1) fs)) [] n (omega (arith, below, length-function_lines i f (get_or addresses i 0)))
 
 -- a line behind the function
-pub line_behind : (code : Code) (i : ℕ) (fs : List FunctionNames) (f : FunctionNames) (n : ℕ) → i < length fs → f ≡ get_or fs i f → length f.variables + 1 ≤ n → get_or (lines_from code i (drop i fs)) n [] ≡ get_or (lines_from code (i + 1) (drop (i + 1) fs)) (n - (length f.variables + 1)) []
-line_behind code i fs f n h is past =
-    let own = function_lines i f (get_or code.addresses i 0) in
-    let rest = lines_from code (i + 1) (drop (i + 1) fs) in
-    let split : n ≡ length own + (n - (length f.variables + 1)) = omega (arith, past, length-function_lines i f (get_or code.addresses i 0)) in
-    ap (λ (lines : List (List ℕ)). get_or lines n []) (lines_from-next code i fs f h is)
+pub line_behind : (addresses : List ℕ) (i : ℕ) (fs : List FunctionNames) (f : FunctionNames) (n : ℕ) → i < length fs → f ≡ get_or fs i f → length f.variables + 1 ≤ n → get_or (functions_lines addresses i (drop i fs)) n [] ≡ get_or (functions_lines addresses (i + 1) (drop (i + 1) fs)) (n - (length f.variables + 1)) []
+line_behind addresses i fs f n h is past =
+    let own = function_lines i f (get_or addresses i 0) in
+    let rest = functions_lines addresses (i + 1) (drop (i + 1) fs) in
+    let split : n ≡ length own + (n - (length f.variables + 1)) = omega (arith, past, length-function_lines i f (get_or addresses i 0)) in
+    ap (λ (lines : List (List ℕ)). get_or lines n []) (functions_lines-next addresses i fs f h is)
     ∙ ap (λ (k : ℕ). get_or (own ++ rest) k []) split
     ∙ get_or-append-add own rest (n - (length f.variables + 1)) []
 
-pub length-lines_from : (code : Code) (i : ℕ) (fs : List FunctionNames) (f : FunctionNames) → i < length fs → f ≡ get_or fs i f → length (lines_from code i (drop i fs)) ≡ length f.variables + 1 + length (lines_from code (i + 1) (drop (i + 1) fs))
-length-lines_from code i fs f h is =
-    let at = get_or code.addresses i 0 in
-    ap (λ (lines : List (List ℕ)). length lines) (lines_from-next code i fs f h is)
-    ∙ length-append (function_lines i f at) (lines_from code (i + 1) (drop (i + 1) fs))
-    ∙ ap (λ (n : ℕ). n + length (lines_from code (i + 1) (drop (i + 1) fs))) (length-function_lines i f at)
+-- behind the last function there is none
+pub functions_lines-end : (addresses : List ℕ) (i : ℕ) (fs : List FunctionNames) → length fs ≤ i → functions_lines addresses i (drop i fs) ≡ []
+functions_lines-end addresses i fs h = ap (functions_lines addresses i) (drop_of_length-le fs h)
 
--- behind the last function
-pub lines_from-end : (code : Code) (i : ℕ) (fs : List FunctionNames) → length fs ≤ i → lines_from code i (drop i fs) ≡ instrs_lines code.instructions
-lines_from-end code i fs h = ap (lines_from code i) (drop_of_length-le fs h)
+-- the lines of the functions stand before those of the code
+pub line_of_functions : (code : Code) (n : ℕ) (line : List ℕ) → n < length (functions_lines code.addresses 0 code.names.functions) → get_or (functions_lines code.addresses 0 code.names.functions) n [] ≡ line → get_or (lines_from code 0 code.names.functions) n [] ≡ line
+line_of_functions code n line h e =
+    get_or-append (functions_lines code.addresses 0 code.names.functions) (instrs_lines code.instructions) [] n h ∙ e
+
+pub line_of_code : (code : Code) (n : ℕ) (line : List ℕ) → length (functions_lines code.addresses 0 code.names.functions) ≤ n → get_or (instrs_lines code.instructions) (n - length (functions_lines code.addresses 0 code.names.functions)) [] ≡ line → get_or (lines_from code 0 code.names.functions) n [] ≡ line
+line_of_code code n line past e =
+    let own = functions_lines code.addresses 0 code.names.functions in
+    let split : n ≡ length own + (n - length own) = omega (arith, past) in
+    ap (λ (k : ℕ). get_or (own ++ instrs_lines code.instructions) k []) split
+    ∙ get_or-append-add own (instrs_lines code.instructions) (n - length own) []
+    ∙ e
+
+pub code_within : (code : Code) (n : ℕ) → length (functions_lines code.addresses 0 code.names.functions) ≤ n → n < length (lines_from code 0 code.names.functions) → n - length (functions_lines code.addresses 0 code.names.functions) ≤ length code.instructions
+code_within code n past within =
+    omega (
+      arith,
+      past,
+      within,
+      length-append (functions_lines code.addresses 0 code.names.functions) (instrs_lines code.instructions),
+      length-instrs_lines code.instructions,
+    )
 
 pub length-lines_of : (code : Code) → length (lines_of code) ≡ length code.names.externals + 1 + length (functions_lines code.addresses 0 code.names.functions) + length code.instructions + 1
 length-lines_of code =

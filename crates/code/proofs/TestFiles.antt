@@ -7,7 +7,7 @@ use Rattle.grammar.specs.Compiled.{main_name}
 use Rattle.grammar.specs.Pools.{Names, FunctionNames}
 use Rattle.grammar.specs.Resolved.{InBody, InFile, IsResolved}
 use Rattle.grammar.specs.Scope.{number_of_name}
-use Rattle.grammar.specs.Tree.{Constant, Call, NoMore, Body, Done, Alone, Choose, While, Return, Function, File}
+use Rattle.grammar.specs.Tree.{Constant, Call, NoMore, Body, Done, Alone, Choose, While, Function, File}
 
 abbrev main_of : Body → Function
 main_of body = record { name = codes "main"; parameters = 0; variables = []; body = body }
@@ -35,20 +35,6 @@ file_resolved body inside = record {
 -- its one name is main
 pub main_alone : {names : Names} → names ≡ record { externals = []; functions = record { name = codes "main"; parameters = 0; variables = [] } ∷ [] } → number_of_name main_name (map (λ (f : FunctionNames). f.name) names.functions) ≡ Some 0
 main_alone e = ap (λ (n : Names). number_of_name main_name (map (λ (f : FunctionNames). f.name) n.functions)) e
-
--- main(){return 5;}
-abbrev pub returning_file : File
-returning_file = file_of (Return (Constant (pos 5)) Done)
-
-pub returning_resolved : IsResolved returning_file
-returning_resolved = file_resolved (Return (Constant (pos 5)) Done) (tt, tt)
-
--- main(){main();}
-abbrev pub calling_itself_file : File
-calling_itself_file = file_of (Alone (Call (callee.Function 0) NoMore) Done)
-
-pub calling_itself_resolved : IsResolved calling_itself_file
-calling_itself_resolved = file_resolved (Alone (Call (callee.Function 0) NoMore) Done) ((omega arith, tt), tt)
 
 -- main(){damage();}
 abbrev pub asking_alone_file : File

@@ -16,9 +16,8 @@ impl Program {
     pub fn lines(&self) -> usize
         ensures { result ≡ length (lines_of self.now) }
     {
-        let names = self.names();
-        let externals = names.externals().len() + 1;
-        let functions = function_line_count(names.functions());
+        let externals = self.names().externals().len() + 1;
+        let functions = self.function_lines() as usize;
         let code = self.instructions().len() + 1;
         externals + functions + code
     }
@@ -41,10 +40,25 @@ impl Program {
     }
 
     // A line of the functions or of the code.
+    #[tactic(auto, using(crate::proofs::Lines::line_of_functions, crate::proofs::Lines::line_of_code, crate::proofs::Lines::code_within))]
     fn put_line_behind_externals(&self, line: &mut Line, n: usize)
         requires empty { line.old.items ≡ [] }
         requires within { n < length (lines_from self.now 0 self.now.names.functions) }
         ensures { slice_index_or (lines_from self.now 0 self.now.names.functions) n [] ≡ line.new.items }
+    {
+        let functions = self.function_lines() as usize;
+        if n < functions {
+            self.put_line_of_functions(line, n);
+        } else {
+            put_code_line(line, self.instructions(), n - functions);
+        }
+    }
+
+    // A line of the functions.
+    fn put_line_of_functions(&self, line: &mut Line, n: usize)
+        requires empty { line.old.items ≡ [] }
+        requires within { n < length (functions_lines self.now.addresses 0 self.now.names.functions) }
+        ensures { slice_index_or (functions_lines self.now.addresses 0 self.now.names.functions) n [] ≡ line.new.items }
     {
         let addresses = self.addresses();
         let mut rest = n;
@@ -56,12 +70,11 @@ impl Program {
             }
             rest -= count;
         }
-        put_code_line(line, self.instructions(), rest);
     }
 }
 
-// How many lines the functions have.
-fn function_line_count(functions: &[Function]) -> usize
+/// How many lines the functions have.
+pub fn function_line_count(functions: &[Function]) -> usize
     requires { length functions.now ≤ MOST_NAMES }
     ensures value { (addresses : List ℕ) → result ≡ length (functions_lines addresses 0 functions.now) }
     ensures most { result ≤ MOST_NAMES * (MOST_NAMES + 1) }

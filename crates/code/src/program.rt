@@ -2,10 +2,12 @@
 
 ghost use Rattle.std.specs.Prelude.{◌≡◌, ◌<◌, ◌≤◌, length};
 ghost use Rattle.code.specs.Finishing.{IsOfSomeFile};
+ghost use Rattle.code.specs.Listing.{functions_lines};
 ghost use Rattle.code.specs.Machine.{names_at, address_at};
 
 use crate::instr::Instr;
 use crate::limits::MOST_INSTRUCTIONS;
+use crate::listing::function_line_count;
 use arrayvec::ArrayVec;
 use grammar::{Function, MOST_NAMES, Pools};
 use std::marker::Model;
@@ -17,17 +19,22 @@ pub struct Program {
     addresses: ArrayVec<u16, MOST_NAMES>,
     names: Pools,
     main: u8,
+    // the lines that the functions have in a listing
+    function_lines: u16,
 }
 
 impl Model for Program {
+    ghost use Rattle.std.specs.Prelude.{◌≡◌, length};
     ghost use Rattle.code.specs.Generation.{Code};
+    ghost use Rattle.code.specs.Listing.{functions_lines};
     ghost use Rattle.code.specs.Finishing.{IsOfSomeFile};
 
     ghost Value = { Code };
 
     ghost view = { λ p. record { instructions = p.code.items; addresses = p.addresses.items; names = p.names; main = p.main } };
 
-    ghost invariant = { λ p. IsOfSomeFile (record { instructions = p.code.items; addresses = p.addresses.items; names = p.names; main = p.main }) };
+    ghost invariant = { λ p. IsOfSomeFile (record { instructions = p.code.items; addresses = p.addresses.items; names = p.names; main = p.main })
+        × (p.function_lines ≡ length (functions_lines p.addresses.items 0 p.names.functions)) };
 }
 
 impl Program {
@@ -41,11 +48,13 @@ impl Program {
         requires { IsOfSomeFile (record { instructions = code.items; addresses = addresses.items; names = names; main = main }) }
         ensures { result ≡ record { instructions = code.items; addresses = addresses.items; names = names; main = main } }
     {
+        let function_lines = function_line_count(names.functions()) as u16;
         Program {
             code,
             addresses,
             names,
             main,
+            function_lines,
         }
     }
 
@@ -66,6 +75,14 @@ impl Program {
         ensures each { length result.now ≡ length self.now.names.functions }
     {
         self.addresses.as_slice()
+    }
+
+    // How many lines the functions have in a listing.
+    #[inline(always)]
+    pub(crate) fn function_lines(&self) -> u16
+        ensures { result ≡ length (functions_lines self.now.addresses 0 self.now.names.functions) }
+    {
+        self.function_lines
     }
 
     /// The names of the externals, the functions and their variables.

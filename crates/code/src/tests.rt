@@ -39,31 +39,6 @@ fn asking_main() -> Result<Program, BuildFault> {
     Ok(maker.finish(main_alone()))
 }
 
-// `main(){return 5;}`
-fn returning_main() -> Result<Program, BuildFault> {
-    let mut maker = Maker::new();
-    maker.begin_function(0, 0)?;
-    maker.constant(5)?;
-    maker.give_back()?;
-    maker.constant(0)?;
-    maker.give_back()?;
-    maker.end_function(0)?;
-    Ok(maker.finish(main_alone()))
-}
-
-// `main(){main();}`
-fn calling_main() -> Result<Program, BuildFault> {
-    let mut maker = Maker::new();
-    maker.begin_function(0, 0)?;
-    maker.begin_call()?;
-    maker.end_call(Callee::Function(0))?;
-    maker.chop()?;
-    maker.constant(0)?;
-    maker.give_back()?;
-    maker.end_function(0)?;
-    Ok(maker.finish(main_alone()))
-}
-
 // `main(){while(1) if(0) 2; else 3;}`
 fn turning_main() -> Result<Program, BuildFault> {
     let mut maker = Maker::new();
@@ -147,18 +122,12 @@ fn first_restart(program: &Program) -> Option<u32> {
 }
 
 #[test]
-fn restarts_in_its_cycle(rt: HostRuntime) {
-    let (Ok(returning), Ok(calling), Ok(turning)) = (
-        returning_main(),
-        calling_main(),
-        turning_main(),
-    ) else {
+fn turns_without_a_restart(rt: HostRuntime) {
+    let Ok(program) = turning_main() else {
         assert!(rt; false, "full");
         return;
     };
-    assert_eq!(rt; first_restart(&returning), Some(2));
-    assert_eq!(rt; first_restart(&calling), Some(127));
-    assert_eq!(rt; first_restart(&turning), None);
+    assert_eq!(rt; first_restart(&program), None);
 }
 
 #[test]

@@ -2,10 +2,12 @@
 
 ghost use Rattle.std.specs.Prelude.{◌≡◌, ◌<◌, length};
 
+use crate::runs::compile;
 use crate::{
     CYCLES_DEFAULT, FILES_MAX, Mode, Recorder, RunFault, SEED_DEFAULT, Settings, Status, run,
 };
 use arrayvec::ArrayVec;
+use code::Program;
 use std::alloc::{AllocError, Global};
 use std::process::Abort;
 use std::test::Fail;
@@ -96,6 +98,14 @@ pub fn list(alloc: Global, word: &str, source: &[u8], most: usize) -> Result<End
         text: taken(alloc, &out)?,
         faults: taken(alloc, &err)?,
     })
+}
+
+/// The program of a good source.
+pub fn program_of(source: &[u8]) -> Result<Program, Fail> {
+    let compiled = compile(&mut Pieces::new(source, 4096))
+        .ok()
+        .ok_or("the device failed")?;
+    Ok(compiled.ok().ok_or("the source has a fault")?)
 }
 
 /// Lists a good file, whole and byte by byte, and compares the text.

@@ -29,6 +29,10 @@ mod checks;
 #[cfg(test)]
 mod listing_tests;
 #[cfg(test)]
+mod machine_tests;
+#[cfg(test)]
+mod replay_tests;
+#[cfg(test)]
 mod run_tests;
 #[cfg(test)]
 mod tests;

@@ -69,6 +69,30 @@ const PARAMETERS: &[&str] = &[
     "   16 NOP",
 ];
 
+/// The lines of the listing of `f(a){return a+damage();} main(){f(5);}`.
+const ASKING: &[&str] = &[
+    "File a.r",
+    "Externals 0",
+    "Function 0 f vars 1 at 0",
+    "  0 a",
+    "Function 1 main vars 0 at 7",
+    "Code 14",
+    "    0 FETCH L0",
+    "    1 FRAME",
+    "    2 FCALL damage",
+    "    3 BINOP +",
+    "    4 RETSUB",
+    "    5 CONST 0",
+    "    6 RETSUB",
+    "    7 FRAME",
+    "    8 CONST 5",
+    "    9 FCALL 0",
+    "   10 CHOP",
+    "   11 CONST 0",
+    "   12 RETSUB",
+    "   13 NOP",
+];
+
 /// The lines of the listing of `main(){if(a) if(b) c; else d;}`.
 const NEAREST_IF: &[&str] = &[
     "File a.r",
@@ -184,6 +208,12 @@ fn good_files_are_listed(rt: HostRuntime) -> Result<(), Fail> {
         "a.r",
         b"d(x,y) int x,y; {return(x*x+y*y);} main(){d(3);}",
         PARAMETERS,
+    )?;
+    check_listing(
+        &rt,
+        "a.r",
+        b"f(a){return a+damage();} main(){f(5);}",
+        ASKING,
     )?;
     check_listing(&rt, "a.r", b"main(){if(a) if(b) c; else d;}", NEAREST_IF)?;
     check_listing(&rt, "a.r", SHOT, SHOT_LISTED)?;

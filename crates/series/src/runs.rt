@@ -134,7 +134,7 @@ fn put_compiled<O: Sink, E: Sink>(
 }
 
 /// Compiles the file of a feed: its program, or its first fault.
-fn compile<F: Feed>(feed: &mut F) -> Result<Result<Program, Diagnostic>, DeviceFault>
+pub(crate) fn compile<F: Feed>(feed: &mut F) -> Result<Result<Program, Diagnostic>, DeviceFault>
     requires { F.failures feed.old < 2 ^ 64 - 1 }
     ensures file { IfOk result (λ compiled. (bytes : List ℕ) → F.to_come feed.old ≡ Some bytes → compiled ≡ compiled_code first_profile bytes) }
     ensures count { Counts result (F.failures feed.old) (F.failures feed.new) }

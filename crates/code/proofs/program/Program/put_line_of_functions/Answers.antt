@@ -1,9 +1,8 @@
 use Rattle.std.proofs.Common.{◌≡◌, ◌∙◌, ◌<◌, ◌≤◌, [], ℕ, List, length, get_or, arith, ap, sym, subst, ◌+◌, ◌-◌, drop}
 use Rattle.grammar.specs.Pools.{Names, FunctionNames}
-use Rattle.code.specs.declared.instr.Instr.{Instr}
-use Rattle.code.specs.Listing.{function_lines, lines_from}
-use Rattle.code.proofs.Lines.{line_here, line_behind, length-lines_from, length-instrs_lines, lines_from-end}
-use Rattle.code.proofs.program.Program.put_line_behind_externals.Goals as goal
+use Rattle.code.specs.Listing.{function_lines, functions_lines}
+use Rattle.code.proofs.Lines.{line_here, line_behind, length-functions_lines, functions_lines-end}
+use Rattle.code.proofs.program.Program.put_line_of_functions.Goals as goal
 
 pub returns-then-rest-count : goal.returns-then-rest-count
 returns-then-rest-count c =
@@ -17,7 +16,7 @@ returns-then-rest-count c =
     let is : f ≡ get_or code.names.functions i f = c.function-item.is ∙ ap (λ (fs : List FunctionNames). get_or fs i f) items in
     let count : length c.variables.result.now ≡ length f.variables = ap (λ (xs : List (List ℕ)). length xs) c.variables.ensures.names in
     c.loop-number.invariant.same
-    ∙ line_here code i code.names.functions f c.loop-number.rest inside is (omega (arith, count, c.if-rest-count.true))
+    ∙ line_here code.addresses i code.names.functions f c.loop-number.rest inside is (omega (arith, count, c.if-rest-count.true))
     ∙ ap (λ (addresses : List ℕ). get_or (function_lines i f (get_or addresses i 0)) c.loop-number.rest []) (sym c.addresses-addresses.ensures.addresses)
     ∙ c.put_function_line.ensures
 
@@ -34,21 +33,21 @@ loop-number-preserved c =
     let count : length c.variables.result.now ≡ length f.variables = ap (λ (xs : List (List ℕ)). length xs) c.variables.ensures.names in
     record {
       empty = c.loop-number.invariant.empty;
-      within = omega (arith, count, c.if-rest-count.false, c.loop-number.invariant.within, length-lines_from code i code.names.functions f inside is);
+      within = omega (arith, count, c.if-rest-count.false, c.loop-number.invariant.within, length-functions_lines code.addresses i code.names.functions f inside is);
       same =
           c.loop-number.invariant.same
-          ∙ line_behind code i code.names.functions f c.loop-number.rest inside is (omega (arith, count, c.if-rest-count.false))
-          ∙ ap (λ (k : ℕ). get_or (lines_from code (i + 1) (drop (i + 1) code.names.functions)) (c.loop-number.rest - (k + 1)) []) (sym count);
+          ∙ line_behind code.addresses i code.names.functions f c.loop-number.rest inside is (omega (arith, count, c.if-rest-count.false))
+          ∙ ap (λ (k : ℕ). get_or (functions_lines code.addresses (i + 1) (drop (i + 1) code.names.functions)) (c.loop-number.rest - (k + 1)) []) (sym count);
     }
 
-pub put_code_line-requires-clause-within : goal.put_code_line-requires-clause-within
-put_code_line-requires-clause-within c =
+-- each line of the functions is one function's
+pub returns : goal.returns
+returns c =
     let code = c.args.self.now in
     let i = c.loop-number.number in
     let items : c.functions-function-items.result.now ≡ code.names.functions =
     c.functions-function-items.ensures.names ∙ ap (λ (n : Names). n.functions) c.names.ensures
     in
     let past : length code.names.functions ≤ i = subst (λ (fs : List FunctionNames). length fs ≤ i) items c.loop-number-test.false in
-    let count : length c.instructions.result.now ≡ length code.instructions = ap (λ (xs : List Instr). length xs) c.instructions.ensures.code in
-    let all = ap (λ (lines : List (List ℕ)). length lines) (lines_from-end code i code.names.functions past) in
-    omega (arith, count, all, length-instrs_lines code.instructions, c.loop-number.invariant.within)
+    let none = ap (λ (lines : List (List ℕ)). length lines) (functions_lines-end code.addresses i code.names.functions past) in
+    absurd (omega (arith, none, c.loop-number.invariant.within))

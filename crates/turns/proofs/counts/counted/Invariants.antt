@@ -1,0 +1,7 @@
+use Rattle.std.proofs.Common.{◌+◌, ◌≤◌}
+use Rattle.code.specs.Standing.{FitsProgram}
+use Rattle.turns.proofs.counts.counted.Given as goal
+
+-- the machine fits its program, and each cycle counts once at most
+abbrev pub invariant-loop : goal.invariant-loop
+invariant-loop l = FitsProgram l.machine l.program × (l.counts.asks + l.counts.restarts ≤ l.counter)

@@ -1,0 +1,58 @@
+//! Runs one robot's machine for many cycles, and counts its asks and restarts: what a cycle costs is measured by it.
+#![tactic(auto)]
+
+mod counts;
+
+use crate::counts::counted;
+use anyhow::{Context, Result};
+use code::{Maker, Program};
+use lang::parse;
+use std::env;
+use tokens::Pieces;
+
+/// The robot. Each turn is 28 cycles, each tenth one 10 more, and after 100 turns it restarts in the sixth cycle.
+const ROBOT: &[u8] = b"
+    int heading;
+    turned(by) { return (heading + by) % 360; }
+    main() {
+      int turns, range;
+      while (turns < 100) {
+        heading = turned(7);
+        if (turns % 10 == 9) {
+          range = scan(heading, 10);
+          if (range > 0) cannon(heading, range);
+        }
+        turns++;
+      }
+    }
+";
+
+/// The cycles where none are asked for: ten runs of the robot up to its restart.
+const CYCLES: u32 = 29_060;
+
+fn main(rt: HostRuntime) -> Result<()> {
+    let cycles = cycles(&rt)?;
+    let program = compiled(ROBOT).context("the robot has a fault")?;
+    let counts = counted(&program, cycles);
+    println!(rt; "Cycles {cycles}")?;
+    println!(rt; "Asks {}", counts.asks)?;
+    println!(rt; "Restarts {}", counts.restarts)?;
+    Ok(())
+}
+
+/// How many cycles are asked for by the first word behind the program's name.
+fn cycles(rt: &HostRuntime) -> Result<u32> {
+    let mut words = env::args(rt)?;
+    let _ = words.next();
+    match words.next() {
+        Some(word) => Ok(word.parse::<u32>()?),
+        None => Ok(CYCLES),
+    }
+}
+
+/// The program of a source without a fault.
+fn compiled(source: &[u8]) -> Option<Program> {
+    let mut maker = Maker::new();
+    let names = parse(&mut Pieces::new(source, 4096), &mut maker).ok()?;
+    Some(maker.finish(names))
+}
