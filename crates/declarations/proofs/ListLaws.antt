@@ -83,10 +83,10 @@ opens_on depth front symbol items at now sound gives a =
     goes_on depth front (Part symbol ∷ []) items [] at now now (λ stack. refl) a (replaces now depth symbol items sound gives)
 
 -- a refusal behind a stretch
-pub leaves : (front mid below : List Item) (at now : Place) (f : ParseFault) → AreLevel below → ((depth : ℕ) → Derives depth front (mid ++ below) [] [] at now) →
-    Refused (λ d. (depth : ℕ) → FailsAt depth mid [] now d) false f → Refused (λ d. (depth : ℕ) → FailsAt depth front [] at d) false f
-leaves front mid below at now f level a =
-    refused_map _ _ false false f (λ d fails depth. fails_behind depth depth front mid below [] [] [] at now d (a depth) (λ stack same. level stack ∙ same) (fails depth)) (λ same. same)
+pub leaves : (used : ℕ) (front mid below : List Item) (at now : Place) (f : ParseFault) → AreLevel below → ((depth : ℕ) → Derives depth front (mid ++ below) [] [] at now) →
+    Refused (λ d. (depth : ℕ) → FailsAt depth mid [] now d) false used f → Refused (λ d. (depth : ℕ) → FailsAt depth front [] at d) false used f
+leaves used front mid below at now f level a =
+    refused_map used (λ d. (depth : ℕ) → FailsAt depth mid [] now d) (λ d. (depth : ℕ) → FailsAt depth front [] at d) false false f (λ d fails depth. fails_behind depth depth front mid below [] [] [] at now d (a depth) (λ stack same. level stack ∙ same) (fails depth)) (λ same. same)
 
 -- behind a comma of a list
 pub more_behind : (depth : ℕ) (role : Role) (at now there : Place) → is_fault (next_at now).token ≡ false → is_mark mark.Comma (next_at now).token ≡ true →

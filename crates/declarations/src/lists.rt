@@ -1,7 +1,8 @@
 //! Lists of names, and declarations of them.
 
 ghost use Rattle.std.specs.Prelude.{◌≡◌, ◌-◌, ◌<◌, ◌≤◌, ◌^◌, ℕ, [], ◌∷◌, IfErr, OnOk, false};
-ghost use Rattle.tokens.specs.Reading.{remaining};
+ghost use Rattle.tokens.specs.Reading.{IsNear, remaining, taken};
+ghost use Rattle.tokens.specs.Window.{Takes};
 ghost use Rattle.tokens.specs.declared.lexemes.Mark.TheVariants as mark;
 ghost use Rattle.tokens.specs.declared.lexemes.Word.TheVariants as word;
 ghost use Rattle.grammar.specs.Grammar.{AName, AWord, Exactly, More, Part, Types};
@@ -17,12 +18,15 @@ use tokens::{Feed, Mark, Word};
 
 /// `types → type types`
 pub fn type_words<F: Feed>(parser: &mut Parser, feed: &mut F) -> Result<(), ParseFault>
+    requires near { IsNear parser.old.reading }
     requires count { F.failures feed.old < 2 ^ 64 - 1 }
     ensures parsed { OnOk result ((depth : ℕ) → Derives depth (Part Types ∷ []) [] [] [] (place parser.old (F.to_come feed.old)) (place parser.new (F.to_come feed.new))) }
     ensures scope { OnOk result (parser.new.scope ≡ parser.old.scope) }
     ensures falls { OnOk result (remaining parser.new.reading ≤ remaining parser.old.reading) }
-    ensures refused { IfErr result (λ fault. Refused (λ d. (depth : ℕ) → FailsAt depth (Part Types ∷ []) [] (place parser.old (F.to_come feed.old)) d) false fault) }
+    ensures refused { IfErr result (λ fault. Refused (λ d. (depth : ℕ) → FailsAt depth (Part Types ∷ []) [] (place parser.old (F.to_come feed.old)) d) false (taken parser.new.reading) fault) }
     ensures counted { Counts result (F.failures feed.old) (F.failures feed.new) }
+    ensures near { OnOk result (IsNear parser.new.reading) }
+    ensures took { Takes (taken parser.old.reading) (taken parser.new.reading) (F.to_come feed.old) (F.to_come feed.new) }
 {
     while is_word(&parser.next().token, Word::Type) {
         parser.expect_word(feed, Word::Type)?;
@@ -36,12 +40,15 @@ pub fn more_names<F: Feed>(
     feed: &mut F,
     declared: Declared,
 ) -> Result<(), ParseFault>
+    requires near { IsNear parser.old.reading }
     requires count { F.failures feed.old < 2 ^ 64 - 1 }
     ensures parsed { OnOk result ((depth : ℕ) → Derives depth (Part (More (role_of declared)) ∷ []) [] [] [] (place parser.old (F.to_come feed.old)) (place parser.new (F.to_come feed.new))) }
     ensures stays { OnOk result (StaysAt declared parser.old.scope parser.new.scope) }
     ensures falls { OnOk result (remaining parser.new.reading ≤ remaining parser.old.reading) }
-    ensures refused { IfErr result (λ fault. Refused (λ d. (depth : ℕ) → FailsAt depth (Part (More (role_of declared)) ∷ []) [] (place parser.old (F.to_come feed.old)) d) false fault) }
+    ensures refused { IfErr result (λ fault. Refused (λ d. (depth : ℕ) → FailsAt depth (Part (More (role_of declared)) ∷ []) [] (place parser.old (F.to_come feed.old)) d) false (taken parser.new.reading) fault) }
     ensures counted { Counts result (F.failures feed.old) (F.failures feed.new) }
+    ensures near { OnOk result (IsNear parser.new.reading) }
+    ensures took { Takes (taken parser.old.reading) (taken parser.new.reading) (F.to_come feed.old) (F.to_come feed.new) }
 {
     while is_mark(&parser.next().token, Mark::Comma) {
         parser.expect(feed, Mark::Comma)?;
@@ -57,12 +64,15 @@ pub fn declarations<F: Feed>(
     declared: Declared,
 ) -> Result<(), ParseFault>
     requires blocks { IsInFunction declared }
+    requires near { IsNear parser.old.reading }
     requires count { F.failures feed.old < 2 ^ 64 - 1 }
     ensures parsed { OnOk result ((depth : ℕ) → Derives depth (Part (declarations_of declared) ∷ []) [] [] [] (place parser.old (F.to_come feed.old)) (place parser.new (F.to_come feed.new))) }
     ensures stays { OnOk result (StaysAt declared parser.old.scope parser.new.scope) }
     ensures falls { OnOk result (remaining parser.new.reading ≤ remaining parser.old.reading) }
-    ensures refused { IfErr result (λ fault. Refused (λ d. (depth : ℕ) → FailsAt depth (Part (declarations_of declared) ∷ []) [] (place parser.old (F.to_come feed.old)) d) false fault) }
+    ensures refused { IfErr result (λ fault. Refused (λ d. (depth : ℕ) → FailsAt depth (Part (declarations_of declared) ∷ []) [] (place parser.old (F.to_come feed.old)) d) false (taken parser.new.reading) fault) }
     ensures counted { Counts result (F.failures feed.old) (F.failures feed.new) }
+    ensures near { OnOk result (IsNear parser.new.reading) }
+    ensures took { Takes (taken parser.old.reading) (taken parser.new.reading) (F.to_come feed.old) (F.to_come feed.new) }
 {
     while is_word(&parser.next().token, Word::Type) {
         declaration(parser, feed, declared)?;
@@ -76,12 +86,15 @@ fn declaration<F: Feed>(
     feed: &mut F,
     declared: Declared,
 ) -> Result<(), ParseFault>
+    requires near { IsNear parser.old.reading }
     requires count { F.failures feed.old < 2 ^ 64 - 1 }
     ensures parsed { OnOk result ((depth : ℕ) → Derives depth (AWord word.Type ∷ Part Types ∷ AName (role_of declared) ∷ Part (More (role_of declared)) ∷ Exactly mark.Semicolon ∷ []) [] [] [] (place parser.old (F.to_come feed.old)) (place parser.new (F.to_come feed.new))) }
     ensures stays { OnOk result (StaysAt declared parser.old.scope parser.new.scope) }
     ensures falls { OnOk result (remaining parser.new.reading < remaining parser.old.reading) }
-    ensures refused { IfErr result (λ fault. Refused (λ d. (depth : ℕ) → FailsAt depth (AWord word.Type ∷ Part Types ∷ AName (role_of declared) ∷ Part (More (role_of declared)) ∷ Exactly mark.Semicolon ∷ []) [] (place parser.old (F.to_come feed.old)) d) false fault) }
+    ensures refused { IfErr result (λ fault. Refused (λ d. (depth : ℕ) → FailsAt depth (AWord word.Type ∷ Part Types ∷ AName (role_of declared) ∷ Part (More (role_of declared)) ∷ Exactly mark.Semicolon ∷ []) [] (place parser.old (F.to_come feed.old)) d) false (taken parser.new.reading) fault) }
     ensures counted { Counts result (F.failures feed.old) (F.failures feed.new) }
+    ensures near { OnOk result (IsNear parser.new.reading) }
+    ensures took { Takes (taken parser.old.reading) (taken parser.new.reading) (F.to_come feed.old) (F.to_come feed.new) }
 {
     parser.expect_word(feed, Word::Type)?;
     type_words(parser, feed)?;
@@ -94,12 +107,15 @@ pub fn names<F: Feed>(
     feed: &mut F,
     declared: Declared,
 ) -> Result<(), ParseFault>
+    requires near { IsNear parser.old.reading }
     requires count { F.failures feed.old < 2 ^ 64 - 1 }
     ensures parsed { OnOk result ((depth : ℕ) → Derives depth (AName (role_of declared) ∷ Part (More (role_of declared)) ∷ Exactly mark.Semicolon ∷ []) [] [] [] (place parser.old (F.to_come feed.old)) (place parser.new (F.to_come feed.new))) }
     ensures stays { OnOk result (StaysAt declared parser.old.scope parser.new.scope) }
     ensures falls { OnOk result (remaining parser.new.reading < remaining parser.old.reading) }
-    ensures refused { IfErr result (λ fault. Refused (λ d. (depth : ℕ) → FailsAt depth (AName (role_of declared) ∷ Part (More (role_of declared)) ∷ Exactly mark.Semicolon ∷ []) [] (place parser.old (F.to_come feed.old)) d) false fault) }
+    ensures refused { IfErr result (λ fault. Refused (λ d. (depth : ℕ) → FailsAt depth (AName (role_of declared) ∷ Part (More (role_of declared)) ∷ Exactly mark.Semicolon ∷ []) [] (place parser.old (F.to_come feed.old)) d) false (taken parser.new.reading) fault) }
     ensures counted { Counts result (F.failures feed.old) (F.failures feed.new) }
+    ensures near { OnOk result (IsNear parser.new.reading) }
+    ensures took { Takes (taken parser.old.reading) (taken parser.new.reading) (F.to_come feed.old) (F.to_come feed.new) }
 {
     parser.declare(feed, declared)?;
     more_names(parser, feed, declared)?;

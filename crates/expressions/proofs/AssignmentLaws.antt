@@ -21,7 +21,8 @@ use Rattle.grammar.specs.Resolved.{InExpr, IsVariable}
 use Rattle.grammar.specs.Tree.{Assign, Expr}
 use Rattle.parsing.specs.Position.{Place, after_at, next_at}
 use Rattle.parsing.specs.Room.{HasRoom, room}
-use Rattle.parsing.specs.Stretch.{Derives, DerivesItem, FailsAt, FailsItem, GoesPast, Refused, StopsAt}
+use Rattle.parsing.specs.Stopping.{stop_with}
+use Rattle.parsing.specs.Stretch.{IsNearTo, Derives, DerivesItem, FailsAt, FailsItem, GoesPast, Refused, StopsAt}
 use Rattle.parsing.proofs.Stretches.{exit, exit_item, joined}
 use Rattle.expressions.specs.Expressions.{AddsExpr}
 use Rattle.expressions.proofs.NameLaws.{behind_name_is}
@@ -52,10 +53,10 @@ plain_stands at depth sound none =
     chosen at depth Expression (Part (Level 1) ∷ []) []
     (record { sound = sound; is = λ after more. plain_choice (next_at at).token after (none_behind at after none more) }) (λ after more. plain_opens (next_at at).token after (none_behind at after none more))
 
-pub plain_refused : (at : Place) (depth : ℕ) (allocates : Bool) (f : ParseFault) → is_fault (next_at at).token ≡ false → NoAssignment at →
-    Refused (FailsAt depth (Part (Level 1) ∷ []) [] at) allocates f → Refused (FailsAt depth (Part Expression ∷ []) [] at) allocates f
-plain_refused at depth allocates f sound none =
-    exit depth depth (Part Expression ∷ []) (Part (Level 1) ∷ []) [] [] [] [] at at allocates allocates f (plain_stands at depth sound none) (λ stack same. same) (λ same. same)
+pub plain_refused : (used : ℕ) (at : Place) (depth : ℕ) (allocates : Bool) (f : ParseFault) → is_fault (next_at at).token ≡ false → NoAssignment at →
+    Refused (FailsAt depth (Part (Level 1) ∷ []) [] at) allocates used f → Refused (FailsAt depth (Part Expression ∷ []) [] at) allocates used f
+plain_refused used at depth allocates f sound none =
+    exit used depth depth (Part Expression ∷ []) (Part (Level 1) ∷ []) [] [] [] [] at at allocates allocates f (plain_stands at depth sound none) (λ stack same. same) (λ same. same)
 
 pub plain_adds : (before after : Meaning) (at there : Place) (depth : ℕ) → is_fault (next_at at).token ≡ false → NoAssignment at →
     AddsExpr before after depth 1 (Part (Level 1) ∷ []) [] at there → AddsExpr before after depth 1 (Part Expression ∷ []) [] at there
@@ -109,20 +110,20 @@ store_chooses at o a s = record {
 store_opens_level : (at : Place) (o : StoreOp) (a : IsAssignment at o) (s : SpellsStore o (after_at at)) → OpensLevel at Expression
 store_opens_level at o a s after more = let n : (next_at at).token ≡ token.Name a.named.name = a.named.is in rw (n, after_name at after a.named more, s.is) (store_opens a.named.name s.m o s.store)
 
-pub store_too_deep : (at : Place) (depth : ℕ) (o : StoreOp) → IsAssignment at o → 64 ≤ depth → FailsAt depth (Part Expression ∷ []) [] at (diagnostic (next_at at).line code.NestedTooDeeply)
-store_too_deep at depth o a deep =
+pub store_too_deep : (at : Place) (used : ℕ) (near : IsNearTo at used) (depth : ℕ) (o : StoreOp) → IsAssignment at o → 64 ≤ depth → FailsAt depth (Part Expression ∷ []) [] at (stop_with (Some (diagnostic (next_at at).line code.NestedTooDeeply)) used)
+store_too_deep at used near depth o a deep =
     let s : SpellsStore o (after_at at) = sign_of at o a in
     let n : (next_at at).token ≡ token.Name a.named.name = a.named.is in
-    name_too_deep at depth Expression Mentioned a.named.name (Exactly s.m ∷ Part Expression ∷ Make (Store o) ∷ Shut ∷ []) (store_chooses at o a s) (store_opens_level at o a s) (rw n refl) deep
+    name_too_deep at used near depth Expression Mentioned a.named.name (Exactly s.m ∷ Part Expression ∷ Make (Store o) ∷ Shut ∷ []) (store_chooses at o a s) (store_opens_level at o a s) (rw n refl) deep
 
 store_stands : (at : Place) (depth : ℕ) (o : StoreOp) (a : IsAssignment at o) → depth < 64 → (s : SpellsStore o (after_at at)) →
     Derives depth (Part Expression ∷ []) (AName Mentioned ∷ Exactly s.m ∷ Part Expression ∷ Make (Store o) ∷ Shut ∷ []) [] [] at at
 store_stands at depth o a shallow s = chosen_within at depth Expression (AName Mentioned ∷ Exactly s.m ∷ Part Expression ∷ Make (Store o) ∷ Shut ∷ []) (store_chooses at o a s) shallow
 
-pub target_refused : (at : Place) (depth : ℕ) (o : StoreOp) (more : Bool) (f : ParseFault) → IsAssignment at o → depth < 64 → Refused (FailsItem (AName Mentioned) at) false f → Refused (FailsAt depth (Part Expression ∷ []) [] at) more f
-target_refused at depth o more f a shallow =
+pub target_refused : (used : ℕ) (at : Place) (depth : ℕ) (o : StoreOp) (more : Bool) (f : ParseFault) → IsAssignment at o → depth < 64 → Refused (FailsItem (AName Mentioned) at) false used f → Refused (FailsAt depth (Part Expression ∷ []) [] at) more used f
+target_refused used at depth o more f a shallow =
     let s : SpellsStore o (after_at at) = sign_of at o a in
-    exit_item depth (depth + 1) (Part Expression ∷ []) (AName Mentioned) (Exactly s.m ∷ Part Expression ∷ Make (Store o) ∷ Shut ∷ []) [] [] at at more f
+    exit_item used depth (depth + 1) (Part Expression ∷ []) (AName Mentioned) (Exactly s.m ∷ Part Expression ∷ Make (Store o) ∷ Shut ∷ []) [] [] at at more f
     (store_stands at depth o a shallow s) (λ stack same. ap (λ n. n + 1) same)
 
 target_past : (at now : Place) (depth : ℕ) (o : StoreOp) (v : Var) (a : IsAssignment at o) → depth < 64 → DerivesItem (AName Mentioned) [] (AVariable v ∷ []) at now → (s : SpellsStore o (after_at at)) →
@@ -141,12 +142,12 @@ sign_goes_on at now o v a item = rw (next_is at now o v a item) (store_goes_on o
 sign_fits : (at now : Place) (o : StoreOp) (v : Var) → IsAssignment at o → DerivesItem (AName Mentioned) [] (AVariable v ∷ []) at now → (s : SpellsStore o (after_at at)) → is_mark s.m (next_at now).token ≡ true
 sign_fits at now o v a item s = rw (next_is at now o v a item) s.fits
 
-pub sign_refused : (at now : Place) (depth : ℕ) (o : StoreOp) (v : Var) (more : Bool) (f : ParseFault) → IsAssignment at o → depth < 64 → DerivesItem (AName Mentioned) [] (AVariable v ∷ []) at now →
-    Refused (StopsAt now) false f → Refused (FailsAt depth (Part Expression ∷ []) [] at) more f
-sign_refused at now depth o v more f a shallow item stop =
+pub sign_refused : (used : ℕ) (at now : Place) (depth : ℕ) (o : StoreOp) (v : Var) (more : Bool) (f : ParseFault) → IsAssignment at o → depth < 64 → DerivesItem (AName Mentioned) [] (AVariable v ∷ []) at now →
+    Refused (StopsAt now) false used f → Refused (FailsAt depth (Part Expression ∷ []) [] at) more used f
+sign_refused used at now depth o v more f a shallow item stop =
     let s : SpellsStore o (after_at at) = sign_of at o a in
-    exit_item depth (depth + 1) (Part Expression ∷ []) (Exactly s.m) (Part Expression ∷ Make (Store o) ∷ Shut ∷ []) [] (AVariable v ∷ []) at now more f
-    (target_past at now depth o v a shallow item s) (λ stack same. ap (λ n. n + 1) same) (mark_ends now s.m f (sign_fits at now o v a item s) stop)
+    exit_item used depth (depth + 1) (Part Expression ∷ []) (Exactly s.m) (Part Expression ∷ Make (Store o) ∷ Shut ∷ []) [] (AVariable v ∷ []) at now more f
+    (target_past at now depth o v a shallow item s) (λ stack same. ap (λ n. n + 1) same) (mark_ends used now s.m f (sign_fits at now o v a item s) stop)
 
 sign_past : (at now next : Place) (depth : ℕ) (o : StoreOp) (v : Var) → IsAssignment at o → depth < 64 → DerivesItem (AName Mentioned) [] (AVariable v ∷ []) at now → GoesPast now next →
     Derives depth (Part Expression ∷ []) (Part Expression ∷ Make (Store o) ∷ Shut ∷ []) [] (AVariable v ∷ []) at next
@@ -155,10 +156,10 @@ sign_past at now next depth o v a shallow item goes =
     item_done depth (depth + 1) (Part Expression ∷ []) (Exactly s.m) (Part Expression ∷ Make (Store o) ∷ Shut ∷ []) [] [] (AVariable v ∷ []) at now next
     (target_past at now depth o v a shallow item s) (mark_past now next s.m (sign_fits at now o v a item s) goes (depth + 1)) (λ stack same. ap (λ n. n + 1) same)
 
-pub value_refused : (at now next : Place) (depth : ℕ) (o : StoreOp) (v : Var) (allocates : Bool) (f : ParseFault) → IsAssignment at o → depth < 64 → DerivesItem (AName Mentioned) [] (AVariable v ∷ []) at now →
-    GoesPast now next → Refused (FailsAt (depth + 1) (Part Expression ∷ []) [] next) allocates f → Refused (FailsAt depth (Part Expression ∷ []) [] at) allocates f
-value_refused at now next depth o v allocates f a shallow item goes =
-    exit depth (depth + 1) (Part Expression ∷ []) (Part Expression ∷ []) (Make (Store o) ∷ Shut ∷ []) [] [] (AVariable v ∷ []) at next allocates allocates f
+pub value_refused : (used : ℕ) (at now next : Place) (depth : ℕ) (o : StoreOp) (v : Var) (allocates : Bool) (f : ParseFault) → IsAssignment at o → depth < 64 → DerivesItem (AName Mentioned) [] (AVariable v ∷ []) at now →
+    GoesPast now next → Refused (FailsAt (depth + 1) (Part Expression ∷ []) [] next) allocates used f → Refused (FailsAt depth (Part Expression ∷ []) [] at) allocates used f
+value_refused used at now next depth o v allocates f a shallow item goes =
+    exit used depth (depth + 1) (Part Expression ∷ []) (Part Expression ∷ []) (Make (Store o) ∷ Shut ∷ []) [] [] (AVariable v ∷ []) at next allocates allocates f
     (sign_past at now next depth o v a shallow item goes) (λ stack same. ap (λ n. n + 1) same) (λ same. same)
 
 store_makes : (o : StoreOp) (v : Var) (e : Expr) → MakesOnly (Store o) (AnExpr e ∷ AVariable v ∷ []) (AnExpr (Assign o v e) ∷ [])

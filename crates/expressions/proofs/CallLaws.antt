@@ -20,7 +20,8 @@ use Rattle.grammar.proofs.FollowingLaws.{act, args_lead, pushed}
 use Rattle.grammar.proofs.StandingLaws.{stands_then}
 use Rattle.parsing.specs.Position.{Place, after_at, next_at}
 use Rattle.parsing.specs.Room.{HasRoom, room}
-use Rattle.parsing.specs.Stretch.{Derives, DerivesItem, FailsAt, FailsItem, Refused}
+use Rattle.parsing.specs.Stopping.{stop_with}
+use Rattle.parsing.specs.Stretch.{IsNearTo, Derives, DerivesItem, FailsAt, FailsItem, Refused}
 use Rattle.parsing.proofs.Stretches.{exit_item, fails_behind, joined, refused_map}
 use Rattle.expressions.specs.Expressions.{AddsArgs, AddsExpr, FailsArgs}
 use Rattle.parsing.proofs.Parts.{MakesOnly, make_stands, mark_is}
@@ -73,10 +74,10 @@ first_stands at depth callee sound other =
     chosen at depth Arguments (Part Expression ∷ Make Pass ∷ Part MoreArguments ∷ []) (ACall callee NoMore ∷ [])
     (record { sound = sound; is = λ after more. first_choice (next_at at).token after other }) (λ after more. refl)
 
-pub first_refused : (at : Place) (depth : ℕ) (allocates : Bool) (f : ParseFault) → is_fault (next_at at).token ≡ false → is_mark mark.CloseRound (next_at at).token ≡ false →
-    Refused (FailsAt depth (Part Expression ∷ []) [] at) allocates f → Refused (FailsArgs depth at) allocates f
-first_refused at depth allocates f sound other =
-    refused_map (FailsAt depth (Part Expression ∷ []) [] at) (FailsArgs depth at) allocates allocates f
+pub first_refused : (used : ℕ) (at : Place) (depth : ℕ) (allocates : Bool) (f : ParseFault) → is_fault (next_at at).token ≡ false → is_mark mark.CloseRound (next_at at).token ≡ false →
+    Refused (FailsAt depth (Part Expression ∷ []) [] at) allocates used f → Refused (FailsArgs depth at) allocates used f
+first_refused used at depth allocates f sound other =
+    refused_map used (FailsAt depth (Part Expression ∷ []) [] at) (FailsArgs depth at) allocates allocates f
     (λ d h callee. fails_behind depth depth (Part Arguments ∷ []) (Part Expression ∷ []) (Make Pass ∷ Part MoreArguments ∷ []) (ACall callee NoMore ∷ []) [] (ACall callee NoMore ∷ []) at at d
     (first_stands at depth callee sound other) (λ stack same. same) h) (λ same. same)
 
@@ -112,10 +113,10 @@ comma_stands before mid at now depth h callee fits =
     (chosen now depth MoreArguments (Exactly mark.Comma ∷ Part Expression ∷ Make Pass ∷ Part MoreArguments ∷ []) (ACall callee h.tree ∷ [])
     (record { sound = mark_sound mark.Comma (next_at now).token fits; is = λ after more. comma_choice (next_at now).token after fits }) (λ after more. refl)) (λ stack same. same)
 
-pub comma_refused : (before mid : Meaning) (at now : Place) (depth : ℕ) (more : Bool) (f : ParseFault) → AddsArgs before mid depth (Part Arguments ∷ []) (Part MoreArguments ∷ []) at now →
-    is_mark mark.Comma (next_at now).token ≡ true → Refused (FailsItem (Exactly mark.Comma) now) false f → Refused (FailsArgs depth at) more f
-comma_refused before mid at now depth more f h fits =
-    refused_map (FailsItem (Exactly mark.Comma) now) (FailsArgs depth at) false more f
+pub comma_refused : (used : ℕ) (before mid : Meaning) (at now : Place) (depth : ℕ) (more : Bool) (f : ParseFault) → AddsArgs before mid depth (Part Arguments ∷ []) (Part MoreArguments ∷ []) at now →
+    is_mark mark.Comma (next_at now).token ≡ true → Refused (FailsItem (Exactly mark.Comma) now) false used f → Refused (FailsArgs depth at) more used f
+comma_refused used before mid at now depth more f h fits =
+    refused_map used (FailsItem (Exactly mark.Comma) now) (FailsArgs depth at) false more f
     (λ d k callee. fails_behind depth depth (Part Arguments ∷ []) (Exactly mark.Comma ∷ []) (Part Expression ∷ Make Pass ∷ Part MoreArguments ∷ []) (ACall callee NoMore ∷ []) [] (ACall callee h.tree ∷ []) at now d
     (comma_stands before mid at now depth h callee fits) (λ stack same. same) (k depth)) (λ never. absurd (cc))
 
@@ -126,10 +127,10 @@ comma_past before mid at now next depth h callee fits sign =
     item_done depth depth (Part Arguments ∷ []) (Exactly mark.Comma) (Part Expression ∷ Make Pass ∷ Part MoreArguments ∷ []) (ACall callee NoMore ∷ []) [] (ACall callee h.tree ∷ []) at now next
     (comma_stands before mid at now depth h callee fits) (sign depth) (λ stack same. same)
 
-pub argument_refused : (before mid : Meaning) (at now next : Place) (depth : ℕ) (allocates : Bool) (f : ParseFault) → AddsArgs before mid depth (Part Arguments ∷ []) (Part MoreArguments ∷ []) at now →
-    is_mark mark.Comma (next_at now).token ≡ true → DerivesItem (Exactly mark.Comma) [] [] now next → Refused (FailsAt depth (Part Expression ∷ []) [] next) allocates f → Refused (FailsArgs depth at) allocates f
-argument_refused before mid at now next depth allocates f h fits sign =
-    refused_map (FailsAt depth (Part Expression ∷ []) [] next) (FailsArgs depth at) allocates allocates f
+pub argument_refused : (used : ℕ) (before mid : Meaning) (at now next : Place) (depth : ℕ) (allocates : Bool) (f : ParseFault) → AddsArgs before mid depth (Part Arguments ∷ []) (Part MoreArguments ∷ []) at now →
+    is_mark mark.Comma (next_at now).token ≡ true → DerivesItem (Exactly mark.Comma) [] [] now next → Refused (FailsAt depth (Part Expression ∷ []) [] next) allocates used f → Refused (FailsArgs depth at) allocates used f
+argument_refused used before mid at now next depth allocates f h fits sign =
+    refused_map used (FailsAt depth (Part Expression ∷ []) [] next) (FailsArgs depth at) allocates allocates f
     (λ d k callee. fails_behind depth depth (Part Arguments ∷ []) (Part Expression ∷ []) (Make Pass ∷ Part MoreArguments ∷ []) (ACall callee NoMore ∷ []) [] (ACall callee h.tree ∷ []) at next d
     (comma_past before mid at now next depth h callee fits sign) (λ stack same. same) k) (λ same. same)
 
@@ -181,10 +182,10 @@ call_chooses at n fits = record {
 call_opens : (at : Place) → IsNamed (next_at at).token → is_mark mark.OpenRound (after_at at) ≡ true → OpensLevel at Primary
 call_opens at n fits after more = let t : after_at at ≡ token.Mark mark.OpenRound = mark_is mark.OpenRound (after_at at) fits in rw (n.is, after_name at after n more, t) refl
 
-pub call_too_deep : (at : Place) (depth : ℕ) → IsNamed (next_at at).token → is_mark mark.OpenRound (after_at at) ≡ true → 64 ≤ depth →
-    FailsAt depth (Part Primary ∷ []) [] at (diagnostic (next_at at).line code.NestedTooDeeply)
-call_too_deep at depth n fits deep =
-    name_too_deep at depth Primary Called n.name (Exactly mark.OpenRound ∷ Part Arguments ∷ Exactly mark.CloseRound ∷ Make Invoke ∷ Shut ∷ []) (call_chooses at n fits) (call_opens at n fits) (rw n.is refl) deep
+pub call_too_deep : (at : Place) (used : ℕ) (near : IsNearTo at used) (depth : ℕ) → IsNamed (next_at at).token → is_mark mark.OpenRound (after_at at) ≡ true → 64 ≤ depth →
+    FailsAt depth (Part Primary ∷ []) [] at (stop_with (Some (diagnostic (next_at at).line code.NestedTooDeeply)) used)
+call_too_deep at used near depth n fits deep =
+    name_too_deep at used near depth Primary Called n.name (Exactly mark.OpenRound ∷ Part Arguments ∷ Exactly mark.CloseRound ∷ Make Invoke ∷ Shut ∷ []) (call_chooses at n fits) (call_opens at n fits) (rw n.is refl) deep
 
 -- what a call was found to be, and up to where
 pub record IsCall (at : Place) (depth : ℕ) : Type 0 where
@@ -196,9 +197,9 @@ call_stands : (at : Place) (depth : ℕ) → IsCall at depth → Derives depth (
 call_stands at depth c =
     chosen_within at depth Primary (AName Called ∷ Exactly mark.OpenRound ∷ Part Arguments ∷ Exactly mark.CloseRound ∷ Make Invoke ∷ Shut ∷ []) (call_chooses at c.named c.fits) c.shallow
 
-pub callee_refused : (at : Place) (depth : ℕ) (more : Bool) (f : ParseFault) → IsCall at depth → Refused (FailsItem (AName Called) at) false f → Refused (FailsAt depth (Part Primary ∷ []) [] at) more f
-callee_refused at depth more f c =
-    exit_item depth (depth + 1) (Part Primary ∷ []) (AName Called) (Exactly mark.OpenRound ∷ Part Arguments ∷ Exactly mark.CloseRound ∷ Make Invoke ∷ Shut ∷ []) [] [] at at more f
+pub callee_refused : (used : ℕ) (at : Place) (depth : ℕ) (more : Bool) (f : ParseFault) → IsCall at depth → Refused (FailsItem (AName Called) at) false used f → Refused (FailsAt depth (Part Primary ∷ []) [] at) more used f
+callee_refused used at depth more f c =
+    exit_item used depth (depth + 1) (Part Primary ∷ []) (AName Called) (Exactly mark.OpenRound ∷ Part Arguments ∷ Exactly mark.CloseRound ∷ Make Invoke ∷ Shut ∷ []) [] [] at at more f
     (call_stands at depth c) (λ stack same. ap (λ n. n + 1) same)
 
 callee_past : (at now : Place) (depth : ℕ) (callee : Callee) → IsCall at depth → DerivesItem (AName Called) [] (ACall callee NoMore ∷ []) at now →
@@ -207,10 +208,10 @@ callee_past at now depth callee c item =
     item_done depth (depth + 1) (Part Primary ∷ []) (AName Called) (Exactly mark.OpenRound ∷ Part Arguments ∷ Exactly mark.CloseRound ∷ Make Invoke ∷ Shut ∷ []) [] (ACall callee NoMore ∷ []) [] at at now
     (call_stands at depth c) (item (depth + 1)) (λ stack same. ap (λ n. n + 1) same)
 
-pub call_open_refused : (at now : Place) (depth : ℕ) (callee : Callee) (more : Bool) (f : ParseFault) → IsCall at depth → DerivesItem (AName Called) [] (ACall callee NoMore ∷ []) at now →
-    Refused (FailsItem (Exactly mark.OpenRound) now) false f → Refused (FailsAt depth (Part Primary ∷ []) [] at) more f
-call_open_refused at now depth callee more f c item =
-    exit_item depth (depth + 1) (Part Primary ∷ []) (Exactly mark.OpenRound) (Part Arguments ∷ Exactly mark.CloseRound ∷ Make Invoke ∷ Shut ∷ []) [] (ACall callee NoMore ∷ []) at now more f
+pub call_open_refused : (used : ℕ) (at now : Place) (depth : ℕ) (callee : Callee) (more : Bool) (f : ParseFault) → IsCall at depth → DerivesItem (AName Called) [] (ACall callee NoMore ∷ []) at now →
+    Refused (FailsItem (Exactly mark.OpenRound) now) false used f → Refused (FailsAt depth (Part Primary ∷ []) [] at) more used f
+call_open_refused used at now depth callee more f c item =
+    exit_item used depth (depth + 1) (Part Primary ∷ []) (Exactly mark.OpenRound) (Part Arguments ∷ Exactly mark.CloseRound ∷ Make Invoke ∷ Shut ∷ []) [] (ACall callee NoMore ∷ []) at now more f
     (callee_past at now depth callee c item) (λ stack same. ap (λ n. n + 1) same)
 
 call_open_past : (at now inner : Place) (depth : ℕ) (callee : Callee) → IsCall at depth → DerivesItem (AName Called) [] (ACall callee NoMore ∷ []) at now → DerivesItem (Exactly mark.OpenRound) [] [] now inner →
@@ -219,10 +220,10 @@ call_open_past at now inner depth callee c item bracket =
     item_done depth (depth + 1) (Part Primary ∷ []) (Exactly mark.OpenRound) (Part Arguments ∷ Exactly mark.CloseRound ∷ Make Invoke ∷ Shut ∷ []) [] [] (ACall callee NoMore ∷ []) at now inner
     (callee_past at now depth callee c item) (bracket (depth + 1)) (λ stack same. ap (λ n. n + 1) same)
 
-pub arguments_refused : (at now inner : Place) (depth : ℕ) (callee : Callee) (allocates : Bool) (f : ParseFault) → IsCall at depth → DerivesItem (AName Called) [] (ACall callee NoMore ∷ []) at now →
-    DerivesItem (Exactly mark.OpenRound) [] [] now inner → Refused (FailsArgs (depth + 1) inner) allocates f → Refused (FailsAt depth (Part Primary ∷ []) [] at) allocates f
-arguments_refused at now inner depth callee allocates f c item bracket =
-    refused_map (FailsArgs (depth + 1) inner) (FailsAt depth (Part Primary ∷ []) [] at) allocates allocates f
+pub arguments_refused : (used : ℕ) (at now inner : Place) (depth : ℕ) (callee : Callee) (allocates : Bool) (f : ParseFault) → IsCall at depth → DerivesItem (AName Called) [] (ACall callee NoMore ∷ []) at now →
+    DerivesItem (Exactly mark.OpenRound) [] [] now inner → Refused (FailsArgs (depth + 1) inner) allocates used f → Refused (FailsAt depth (Part Primary ∷ []) [] at) allocates used f
+arguments_refused used at now inner depth callee allocates f c item bracket =
+    refused_map used (FailsArgs (depth + 1) inner) (FailsAt depth (Part Primary ∷ []) [] at) allocates allocates f
     (λ d h. fails_behind depth (depth + 1) (Part Primary ∷ []) (Part Arguments ∷ []) (Exactly mark.CloseRound ∷ Make Invoke ∷ Shut ∷ []) [] (ACall callee NoMore ∷ []) [] at inner d
     (call_open_past at now inner depth callee c item bracket) (λ stack same. ap (λ n. n + 1) same) (h callee)) (λ same. same)
 
@@ -233,11 +234,11 @@ arguments_past before after at now inner behind depth callee c item bracket h =
     joined depth (depth + 1) (Part Primary ∷ []) (Part Arguments ∷ []) [] (Exactly mark.CloseRound ∷ Make Invoke ∷ Shut ∷ []) [] (ACall callee NoMore ∷ []) (ACall callee h.tree ∷ []) [] at inner behind
     (call_open_past at now inner depth callee c item bracket) (h.derives callee) (λ stack same. ap (λ n. n + 1) same)
 
-pub call_close_refused : (before after : Meaning) (at now inner behind : Place) (depth : ℕ) (callee : Callee) (more : Bool) (f : ParseFault) → IsCall at depth → DerivesItem (AName Called) [] (ACall callee NoMore ∷ []) at now →
-    DerivesItem (Exactly mark.OpenRound) [] [] now inner → AddsArgs before after (depth + 1) (Part Arguments ∷ []) [] inner behind → Refused (FailsItem (Exactly mark.CloseRound) behind) false f →
-    Refused (FailsAt depth (Part Primary ∷ []) [] at) more f
-call_close_refused before after at now inner behind depth callee more f c item bracket h =
-    exit_item depth (depth + 1) (Part Primary ∷ []) (Exactly mark.CloseRound) (Make Invoke ∷ Shut ∷ []) [] (ACall callee h.tree ∷ []) at behind more f
+pub call_close_refused : (used : ℕ) (before after : Meaning) (at now inner behind : Place) (depth : ℕ) (callee : Callee) (more : Bool) (f : ParseFault) → IsCall at depth → DerivesItem (AName Called) [] (ACall callee NoMore ∷ []) at now →
+    DerivesItem (Exactly mark.OpenRound) [] [] now inner → AddsArgs before after (depth + 1) (Part Arguments ∷ []) [] inner behind → Refused (FailsItem (Exactly mark.CloseRound) behind) false used f →
+    Refused (FailsAt depth (Part Primary ∷ []) [] at) more used f
+call_close_refused used before after at now inner behind depth callee more f c item bracket h =
+    exit_item used depth (depth + 1) (Part Primary ∷ []) (Exactly mark.CloseRound) (Make Invoke ∷ Shut ∷ []) [] (ACall callee h.tree ∷ []) at behind more f
     (arguments_past before after at now inner behind depth callee c item bracket h) (λ stack same. ap (λ n. n + 1) same)
 
 invoke_makes : (callee : Callee) (args : Args) → MakesOnly Invoke (ACall callee args ∷ []) (AnExpr (Call callee args) ∷ [])

@@ -14,7 +14,8 @@ use Rattle.grammar.specs.Grammar.{Exactly, Expression, Part, Primary, Shut, Unar
 use Rattle.grammar.specs.Nesting.{nesting}
 use Rattle.parsing.specs.Position.{Place, next_at}
 use Rattle.parsing.specs.Room.{HasRoom, room}
-use Rattle.parsing.specs.Stretch.{Derives, DerivesItem, FailsAt, FailsItem, GoesPast, Refused, StopsAt}
+use Rattle.parsing.specs.Stopping.{stop_with}
+use Rattle.parsing.specs.Stretch.{IsNearTo, Derives, DerivesItem, FailsAt, FailsItem, GoesPast, Refused, StopsAt}
 use Rattle.parsing.proofs.Stretches.{exit, exit_item, joined}
 use Rattle.expressions.specs.declared.signs.Sign.{Sign}
 use Rattle.expressions.specs.declared.signs.Sign.TheVariants as sign
@@ -37,18 +38,18 @@ open_chooses at fits = record {
 open_opens : (at : Place) → is_mark mark.OpenRound (next_at at).token ≡ true → OpensLevel at Primary
 open_opens at fits after more = let t : (next_at at).token ≡ token.Mark mark.OpenRound = mark_is mark.OpenRound (next_at at).token fits in rw t refl
 
-pub bracket_too_deep : (at : Place) (depth : ℕ) → is_mark mark.OpenRound (next_at at).token ≡ true → 64 ≤ depth → FailsAt depth (Part Primary ∷ []) [] at (diagnostic (next_at at).line code.NestedTooDeeply)
-bracket_too_deep at depth fits deep = mark_too_deep at depth Primary mark.OpenRound (Part Expression ∷ Exactly mark.CloseRound ∷ Shut ∷ []) (open_chooses at fits) (open_opens at fits) fits deep
+pub bracket_too_deep : (at : Place) (used : ℕ) (near : IsNearTo at used) (depth : ℕ) → is_mark mark.OpenRound (next_at at).token ≡ true → 64 ≤ depth → FailsAt depth (Part Primary ∷ []) [] at (stop_with (Some (diagnostic (next_at at).line code.NestedTooDeeply)) used)
+bracket_too_deep at used near depth fits deep = mark_too_deep at used near depth Primary mark.OpenRound (Part Expression ∷ Exactly mark.CloseRound ∷ Shut ∷ []) (open_chooses at fits) (open_opens at fits) fits deep
 
 open_stands : (at : Place) (depth : ℕ) → is_mark mark.OpenRound (next_at at).token ≡ true → depth < 64 →
     Derives depth (Part Primary ∷ []) (Exactly mark.OpenRound ∷ Part Expression ∷ Exactly mark.CloseRound ∷ Shut ∷ []) [] [] at at
 open_stands at depth fits shallow = chosen_within at depth Primary (Exactly mark.OpenRound ∷ Part Expression ∷ Exactly mark.CloseRound ∷ Shut ∷ []) (open_chooses at fits) shallow
 
-pub open_ends : (at : Place) (depth : ℕ) (more : Bool) (f : ParseFault) → is_mark mark.OpenRound (next_at at).token ≡ true → depth < 64 →
-    Refused (StopsAt at) false f → Refused (FailsAt depth (Part Primary ∷ []) [] at) more f
-open_ends at depth more f fits shallow stop =
-    exit_item depth (depth + 1) (Part Primary ∷ []) (Exactly mark.OpenRound) (Part Expression ∷ Exactly mark.CloseRound ∷ Shut ∷ []) [] [] at at more f
-    (open_stands at depth fits shallow) (λ stack same. ap (λ n. n + 1) same) (mark_ends at mark.OpenRound f fits stop)
+pub open_ends : (used : ℕ) (at : Place) (depth : ℕ) (more : Bool) (f : ParseFault) → is_mark mark.OpenRound (next_at at).token ≡ true → depth < 64 →
+    Refused (StopsAt at) false used f → Refused (FailsAt depth (Part Primary ∷ []) [] at) more used f
+open_ends used at depth more f fits shallow stop =
+    exit_item used depth (depth + 1) (Part Primary ∷ []) (Exactly mark.OpenRound) (Part Expression ∷ Exactly mark.CloseRound ∷ Shut ∷ []) [] [] at at more f
+    (open_stands at depth fits shallow) (λ stack same. ap (λ n. n + 1) same) (mark_ends used at mark.OpenRound f fits stop)
 
 open_past : (at now : Place) (depth : ℕ) → is_mark mark.OpenRound (next_at at).token ≡ true → depth < 64 → GoesPast at now →
     Derives depth (Part Primary ∷ []) (Part Expression ∷ Exactly mark.CloseRound ∷ Shut ∷ []) [] [] at now
@@ -56,10 +57,10 @@ open_past at now depth fits shallow goes =
     item_done depth (depth + 1) (Part Primary ∷ []) (Exactly mark.OpenRound) (Part Expression ∷ Exactly mark.CloseRound ∷ Shut ∷ []) [] [] [] at at now
     (open_stands at depth fits shallow) (mark_past at now mark.OpenRound fits goes (depth + 1)) (λ stack same. ap (λ n. n + 1) same)
 
-pub inside_refused : (at now : Place) (depth : ℕ) (allocates : Bool) (f : ParseFault) → is_mark mark.OpenRound (next_at at).token ≡ true → depth < 64 → GoesPast at now →
-    Refused (FailsAt (depth + 1) (Part Expression ∷ []) [] now) allocates f → Refused (FailsAt depth (Part Primary ∷ []) [] at) allocates f
-inside_refused at now depth allocates f fits shallow goes =
-    exit depth (depth + 1) (Part Primary ∷ []) (Part Expression ∷ []) (Exactly mark.CloseRound ∷ Shut ∷ []) [] [] [] at now allocates allocates f
+pub inside_refused : (used : ℕ) (at now : Place) (depth : ℕ) (allocates : Bool) (f : ParseFault) → is_mark mark.OpenRound (next_at at).token ≡ true → depth < 64 → GoesPast at now →
+    Refused (FailsAt (depth + 1) (Part Expression ∷ []) [] now) allocates used f → Refused (FailsAt depth (Part Primary ∷ []) [] at) allocates used f
+inside_refused used at now depth allocates f fits shallow goes =
+    exit used depth (depth + 1) (Part Primary ∷ []) (Part Expression ∷ []) (Exactly mark.CloseRound ∷ Shut ∷ []) [] [] [] at now allocates allocates f
     (open_past at now depth fits shallow goes) (λ stack same. ap (λ n. n + 1) same) (λ same. same)
 
 inside_past : (before after : Meaning) (at now behind : Place) (depth : ℕ) → is_mark mark.OpenRound (next_at at).token ≡ true → depth < 64 → GoesPast at now →
@@ -68,10 +69,10 @@ inside_past before after at now behind depth fits shallow goes h =
     joined depth (depth + 1) (Part Primary ∷ []) (Part Expression ∷ []) [] (Exactly mark.CloseRound ∷ Shut ∷ []) [] [] (AnExpr h.tree ∷ []) [] at now behind
     (open_past at now depth fits shallow goes) h.derives (λ stack same. ap (λ n. n + 1) same)
 
-pub close_refused : (before after : Meaning) (at now behind : Place) (depth : ℕ) (more : Bool) (f : ParseFault) → is_mark mark.OpenRound (next_at at).token ≡ true → depth < 64 → GoesPast at now →
-    AddsExpr before after (depth + 1) 1 (Part Expression ∷ []) [] now behind → Refused (FailsItem (Exactly mark.CloseRound) behind) false f → Refused (FailsAt depth (Part Primary ∷ []) [] at) more f
-close_refused before after at now behind depth more f fits shallow goes h =
-    exit_item depth (depth + 1) (Part Primary ∷ []) (Exactly mark.CloseRound) (Shut ∷ []) [] (AnExpr h.tree ∷ []) at behind more f
+pub close_refused : (used : ℕ) (before after : Meaning) (at now behind : Place) (depth : ℕ) (more : Bool) (f : ParseFault) → is_mark mark.OpenRound (next_at at).token ≡ true → depth < 64 → GoesPast at now →
+    AddsExpr before after (depth + 1) 1 (Part Expression ∷ []) [] now behind → Refused (FailsItem (Exactly mark.CloseRound) behind) false used f → Refused (FailsAt depth (Part Primary ∷ []) [] at) more used f
+close_refused used before after at now behind depth more f fits shallow goes h =
+    exit_item used depth (depth + 1) (Part Primary ∷ []) (Exactly mark.CloseRound) (Shut ∷ []) [] (AnExpr h.tree ∷ []) at behind more f
     (inside_past before after at now behind depth fits shallow goes h) (λ stack same. ap (λ n. n + 1) same)
 
 pub bracket_adds : (before after : Meaning) (at now behind there : Place) (depth : ℕ) → is_mark mark.OpenRound (next_at at).token ≡ true → depth < 64 → GoesPast at now →
@@ -117,10 +118,10 @@ primary_stands : (at : Place) (depth : ℕ) → NoOperator (next_at at).token �
 primary_stands at depth n =
     chosen at depth Unary (Part Primary ∷ []) [] (record { sound = n.sound; is = λ after more. primary_choice (next_at at).token after n.signs n.steps }) (λ after more. primary_opens (next_at at).token after n.signs)
 
-pub primary_refused : (at : Place) (depth : ℕ) (allocates : Bool) (f : ParseFault) → NoOperator (next_at at).token →
-    Refused (FailsAt depth (Part Primary ∷ []) [] at) allocates f → Refused (FailsAt depth (Part Unary ∷ []) [] at) allocates f
-primary_refused at depth allocates f n =
-    exit depth depth (Part Unary ∷ []) (Part Primary ∷ []) [] [] [] [] at at allocates allocates f (primary_stands at depth n) (λ stack same. same) (λ same. same)
+pub primary_refused : (used : ℕ) (at : Place) (depth : ℕ) (allocates : Bool) (f : ParseFault) → NoOperator (next_at at).token →
+    Refused (FailsAt depth (Part Primary ∷ []) [] at) allocates used f → Refused (FailsAt depth (Part Unary ∷ []) [] at) allocates used f
+primary_refused used at depth allocates f n =
+    exit used depth depth (Part Unary ∷ []) (Part Primary ∷ []) [] [] [] [] at at allocates allocates f (primary_stands at depth n) (λ stack same. same) (λ same. same)
 
 pub primary_adds : (before after : Meaning) (at there : Place) (depth : ℕ) → NoOperator (next_at at).token → AddsExpr before after depth 11 (Part Primary ∷ []) [] at there → AddsExpr before after depth 11 (Part Unary ∷ []) [] at there
 primary_adds before after at there depth n h = record {
@@ -149,6 +150,6 @@ no_primary_opens (token.Name name) after n = absurd (n.name name refl)
 no_primary_opens (token.Mark mark.OpenRound) after n = let e : is_mark mark.OpenRound (token.Mark mark.OpenRound) ≡ false = n.bracket in absurd (cc)
 no_primary_opens t after n = refl
 
-pub primary_misfits : (at : Place) (depth : ℕ) → is_fault (next_at at).token ≡ false → NoPrimary (next_at at).token →
-    FailsAt depth (Part Primary ∷ []) [] at (diagnostic (next_at at).line (misfit_code (next_at at).token))
-primary_misfits at depth sound n = none_chosen at depth Primary sound (λ after more. no_primary (next_at at).token after n) (λ after more. no_primary_opens (next_at at).token after n)
+pub primary_misfits : (at : Place) (used : ℕ) (near : IsNearTo at used) (depth : ℕ) → is_fault (next_at at).token ≡ false → NoPrimary (next_at at).token →
+    FailsAt depth (Part Primary ∷ []) [] at (stop_with (Some (diagnostic (next_at at).line (misfit_code (next_at at).token))) used)
+primary_misfits at used near depth sound n = none_chosen at used near depth Primary sound (λ after more. no_primary (next_at at).token after n) (λ after more. no_primary_opens (next_at at).token after n)

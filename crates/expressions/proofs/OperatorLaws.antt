@@ -53,10 +53,10 @@ last_stands : (at : Place) (depth n : ℕ) → 10 < n → is_fault (next_at at).
 last_stands at depth n last sound =
     chosen at depth (Level n) (Part Unary ∷ []) [] (record { sound = sound; is = λ after more. last_choice n (next_at at).token after last }) (λ after more. refl)
 
-pub last_refused : (at : Place) (depth n : ℕ) (allocates : Bool) (f : ParseFault) → 10 < n → is_fault (next_at at).token ≡ false →
-    Refused (FailsAt depth (Part Unary ∷ []) [] at) allocates f → Refused (FailsAt depth (Part (Level n) ∷ []) [] at) allocates f
-last_refused at depth n allocates f last sound =
-    exit depth depth (Part (Level n) ∷ []) (Part Unary ∷ []) [] [] [] [] at at allocates allocates f (last_stands at depth n last sound) (λ stack same. same) (λ same. same)
+pub last_refused : (used : ℕ) (at : Place) (depth n : ℕ) (allocates : Bool) (f : ParseFault) → 10 < n → is_fault (next_at at).token ≡ false →
+    Refused (FailsAt depth (Part Unary ∷ []) [] at) allocates used f → Refused (FailsAt depth (Part (Level n) ∷ []) [] at) allocates used f
+last_refused used at depth n allocates f last sound =
+    exit used depth depth (Part (Level n) ∷ []) (Part Unary ∷ []) [] [] [] [] at at allocates allocates f (last_stands at depth n last sound) (λ stack same. same) (λ same. same)
 
 pub last_adds : (before after : Meaning) (at there : Place) (depth n : ℕ) → 10 < n → n ≤ 11 → is_fault (next_at at).token ≡ false →
     AddsExpr before after depth 11 (Part Unary ∷ []) [] at there → AddsExpr before after depth n (Part (Level n) ∷ []) [] at there
@@ -68,10 +68,10 @@ last_adds before after at there depth n last most sound h = record {
   derives = joined depth depth (Part (Level n) ∷ []) (Part Unary ∷ []) [] [] [] [] (AnExpr h.tree ∷ []) [] at at there (last_stands at depth n last sound) h.derives (λ stack same. same);
 }
 
-pub level_refused : (at : Place) (depth n : ℕ) (allocates : Bool) (f : ParseFault) → n ≤ 10 → is_fault (next_at at).token ≡ false →
-    Refused (FailsAt depth (Part (Level (n + 1)) ∷ []) [] at) allocates f → Refused (FailsAt depth (Part (Level n) ∷ []) [] at) allocates f
-level_refused at depth n allocates f small sound =
-    exit depth depth (Part (Level n) ∷ []) (Part (Level (n + 1)) ∷ []) (Part (Tail n) ∷ []) [] [] [] at at allocates allocates f (level_stands at depth n small sound) (λ stack same. same) (λ same. same)
+pub level_refused : (used : ℕ) (at : Place) (depth n : ℕ) (allocates : Bool) (f : ParseFault) → n ≤ 10 → is_fault (next_at at).token ≡ false →
+    Refused (FailsAt depth (Part (Level (n + 1)) ∷ []) [] at) allocates used f → Refused (FailsAt depth (Part (Level n) ∷ []) [] at) allocates used f
+level_refused used at depth n allocates f small sound =
+    exit used depth depth (Part (Level n) ∷ []) (Part (Level (n + 1)) ∷ []) (Part (Tail n) ∷ []) [] [] [] at at allocates allocates f (level_stands at depth n small sound) (λ stack same. same) (λ same. same)
 
 pub level_adds : (before after : Meaning) (at there : Place) (depth n : ℕ) → n ≤ 10 → is_fault (next_at at).token ≡ false →
     AddsExpr before after depth (n + 1) (Part (Level (n + 1)) ∷ []) [] at there → AddsExpr before after depth n (Part (Level n) ∷ []) (Part (Tail n) ∷ []) at there
@@ -96,10 +96,10 @@ tail_adds before mid after at now there depth n o h r = record {
       h.derives (r.derives h.tree) (λ stack same. same);
 }
 
-pub tail_refused : (before mid : Meaning) (at now : Place) (depth n : ℕ) (allocates : Bool) (f : ParseFault) →
-    AddsExpr before mid depth n (Part (Level n) ∷ []) (Part (Tail n) ∷ []) at now → Refused (FailsOperand depth n now) allocates f → Refused (FailsAt depth (Part (Level n) ∷ []) [] at) allocates f
-tail_refused before mid at now depth n allocates f h =
-    refused_map (FailsOperand depth n now) (FailsAt depth (Part (Level n) ∷ []) [] at) allocates allocates f
+pub tail_refused : (used : ℕ) (before mid : Meaning) (at now : Place) (depth n : ℕ) (allocates : Bool) (f : ParseFault) →
+    AddsExpr before mid depth n (Part (Level n) ∷ []) (Part (Tail n) ∷ []) at now → Refused (FailsOperand depth n now) allocates used f → Refused (FailsAt depth (Part (Level n) ∷ []) [] at) allocates used f
+tail_refused used before mid at now depth n allocates f h =
+    refused_map used (FailsOperand depth n now) (FailsAt depth (Part (Level n) ∷ []) [] at) allocates allocates f
     (λ d fails. fails_then depth (Part (Level n) ∷ []) (Part (Tail n) ∷ []) [] (AnExpr h.tree ∷ []) at now d h.derives (fails h.tree)) (λ same. same)
 
 no_operator : (n : ℕ) (t after : Token) → operator_at n t ≡ None → choice (Tail n) t after ≡ Some []
@@ -158,14 +158,14 @@ operator_stands at depth n o left s =
     chosen at depth (Tail n) (Exactly s.m ∷ Part (Level (n + 1)) ∷ Make (Operate o) ∷ Part (Tail n) ∷ []) (AnExpr left ∷ [])
     (record { sound = mark_sound s.m (next_at at).token s.fits; is = λ after more. s.choice_is after }) (λ after more. refl)
 
-pub operator_ends : (at : Place) (depth n : ℕ) (o : Op) (more : Bool) (f : ParseFault) → operator_at n (next_at at).token ≡ Some o → Refused (StopsAt at) false f → Refused (FailsOperand depth n at) more f
-operator_ends at depth n o more f is stop = ended (spells n o (next_at at).token is) f stop
+pub operator_ends : (used : ℕ) (at : Place) (depth n : ℕ) (o : Op) (more : Bool) (f : ParseFault) → operator_at n (next_at at).token ≡ Some o → Refused (StopsAt at) false used f → Refused (FailsOperand depth n at) more used f
+operator_ends used at depth n o more f is stop = ended (spells n o (next_at at).token is) f stop
   where
-    ended : (s : SpellsOperator n o (next_at at).token) (f : ParseFault) → Refused (StopsAt at) false f → Refused (FailsOperand depth n at) more f
+    ended : (s : SpellsOperator n o (next_at at).token) (f : ParseFault) → Refused (StopsAt at) false used f → Refused (FailsOperand depth n at) more used f
     ended s f stop =
-        refused_map (FailsItem (Exactly s.m) at) (FailsOperand depth n at) false more f
+        refused_map used (FailsItem (Exactly s.m) at) (FailsOperand depth n at) false more f
         (λ d h left. fails_behind depth depth (Part (Tail n) ∷ []) (Exactly s.m ∷ []) (Part (Level (n + 1)) ∷ Make (Operate o) ∷ Part (Tail n) ∷ []) (AnExpr left ∷ []) [] (AnExpr left ∷ []) at at d
-        (operator_stands at depth n o left s) (λ stack same. same) (h depth)) (λ never. absurd (cc)) (mark_ends at s.m f s.fits stop)
+        (operator_stands at depth n o left s) (λ stack same. same) (h depth)) (λ never. absurd (cc)) (mark_ends used at s.m f s.fits stop)
 
 operator_past : (at now : Place) (depth n : ℕ) (o : Op) (left : Expr) → operator_at n (next_at at).token ≡ Some o → GoesPast at now →
     Derives depth (Part (Tail n) ∷ []) (Part (Level (n + 1)) ∷ Make (Operate o) ∷ Part (Tail n) ∷ []) (AnExpr left ∷ []) (AnExpr left ∷ []) at now
@@ -174,10 +174,10 @@ operator_past at now depth n o left is goes =
     item_done depth depth (Part (Tail n) ∷ []) (Exactly s.m) (Part (Level (n + 1)) ∷ Make (Operate o) ∷ Part (Tail n) ∷ []) (AnExpr left ∷ []) [] (AnExpr left ∷ []) at at now
     (operator_stands at depth n o left s) (mark_past at now s.m s.fits goes depth) (λ stack same. same)
 
-pub right_refused : (at now : Place) (depth n : ℕ) (o : Op) (allocates : Bool) (f : ParseFault) → operator_at n (next_at at).token ≡ Some o → GoesPast at now →
-    Refused (FailsAt depth (Part (Level (n + 1)) ∷ []) [] now) allocates f → Refused (FailsOperand depth n at) allocates f
-right_refused at now depth n o allocates f is goes =
-    refused_map (FailsAt depth (Part (Level (n + 1)) ∷ []) [] now) (FailsOperand depth n at) allocates allocates f
+pub right_refused : (used : ℕ) (at now : Place) (depth n : ℕ) (o : Op) (allocates : Bool) (f : ParseFault) → operator_at n (next_at at).token ≡ Some o → GoesPast at now →
+    Refused (FailsAt depth (Part (Level (n + 1)) ∷ []) [] now) allocates used f → Refused (FailsOperand depth n at) allocates used f
+right_refused used at now depth n o allocates f is goes =
+    refused_map used (FailsAt depth (Part (Level (n + 1)) ∷ []) [] now) (FailsOperand depth n at) allocates allocates f
     (λ d h left. fails_behind depth depth (Part (Tail n) ∷ []) (Part (Level (n + 1)) ∷ []) (Make (Operate o) ∷ Part (Tail n) ∷ []) (AnExpr left ∷ []) [] (AnExpr left ∷ []) at now d
     (operator_past at now depth n o left is goes) (λ stack same. same) h) (λ same. same)
 

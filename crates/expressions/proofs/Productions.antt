@@ -19,10 +19,11 @@ use Rattle.grammar.proofs.Firsts.{no_part, too_deep, too_deep_name}
 use Rattle.grammar.proofs.Runs.{then}
 use Rattle.grammar.proofs.Steps.{part, shut}
 use Rattle.parsing.specs.Position.{Place, after_at, next_at, scope_at}
-use Rattle.parsing.specs.Stretch.{Derives, DerivesItem, FailsAt, FailsItem, GoesPast, Refused, StopsAt}
+use Rattle.parsing.specs.Stopping.{stop_with}
+use Rattle.parsing.specs.Stretch.{IsNearTo, Derives, DerivesItem, FailsAt, FailsItem, GoesPast, Refused, StopsAt}
 use Rattle.parsing.proofs.Items.{mark_derives, mark_stops}
 use Rattle.parsing.proofs.Parts.{MakesOnly, beyond, make_leads, mark_is, within}
-use Rattle.parsing.proofs.Stretches.{Begins, IsBehind, fails_behind, joined, refused_map, stand, told_begins}
+use Rattle.parsing.proofs.Stretches.{IsBehind, fails_at_next, fails_behind, joined, refused_map, stand}
 
 -- Marks.
 
@@ -43,9 +44,9 @@ pub mark_past : (at there : Place) (m : Mark) → is_mark m (next_at at).token �
 mark_past at there m fits goes = mark_derives at.position.reading (scope_at at) at.to_come there m (mark_sound m (next_at at).token fits) fits goes
 
 -- the token behind it is a fault
-pub mark_ends : (at : Place) (m : Mark) (f : ParseFault) → is_mark m (next_at at).token ≡ true → Refused (StopsAt at) false f → Refused (FailsItem (Exactly m) at) false f
-mark_ends at m f fits =
-    refused_map (StopsAt at) (FailsItem (Exactly m) at) false false f (mark_stops at.position.reading (scope_at at) at.to_come m (mark_sound m (next_at at).token fits) fits) (λ same. same)
+pub mark_ends : (used : ℕ) (at : Place) (m : Mark) (f : ParseFault) → is_mark m (next_at at).token ≡ true → Refused (StopsAt at) false used f → Refused (FailsItem (Exactly m) at) false used f
+mark_ends used at m f fits =
+    refused_map used (StopsAt at) (FailsItem (Exactly m) at) false false f (mark_stops at.position.reading (scope_at at) at.to_come m (mark_sound m (next_at at).token fits) fits) (λ same. same)
 
 -- The choice of a production.
 
@@ -90,28 +91,28 @@ chosen_within at depth symbol items c shallow = stand at depth (Part symbol ∷ 
 })
 
 -- one that would open a level beyond the last one, by a mark
-pub mark_too_deep : (at : Place) (depth : ℕ) (symbol : Symbol) (m : Mark) (items : List Item) → Chooses at symbol (Exactly m ∷ items) → OpensLevel at symbol →
-    is_mark m (next_at at).token ≡ true → 64 ≤ depth → FailsAt depth (Part symbol ∷ []) [] at (diagnostic (next_at at).line code.NestedTooDeeply)
-mark_too_deep at depth symbol m items c opened fits deep lexemes shows profile stack values functions depths =
-    let b : Begins at.position.reading lexemes = told_begins at lexemes shows in
-    rw b.is (too_deep profile symbol m items stack (next_at at) b.tail values (scope_at at) functions c.sound (c.is (next_of b.tail) (next_behind at b.tail b.behind)) fits
-    (beyond (opens symbol (next_at at).token (next_of b.tail)) (levels stack) (next_at at ∷ b.tail) (opened (next_of b.tail) (next_behind at b.tail b.behind)) (rw depths deep)))
+pub mark_too_deep : (at : Place) (used : ℕ) (near : IsNearTo at used) (depth : ℕ) (symbol : Symbol) (m : Mark) (items : List Item) → Chooses at symbol (Exactly m ∷ items) → OpensLevel at symbol →
+    is_mark m (next_at at).token ≡ true → 64 ≤ depth → FailsAt depth (Part symbol ∷ []) [] at (stop_with (Some (diagnostic (next_at at).line code.NestedTooDeeply)) used)
+mark_too_deep at used near depth symbol m items c opened fits deep =
+    fails_at_next depth (Part symbol ∷ []) [] at _ used near (λ tail b profile stack values functions depths.
+    too_deep profile symbol m items stack (next_at at) tail values (scope_at at) functions c.sound (c.is (next_of tail) (next_behind at tail b)) fits
+    (beyond (opens symbol (next_at at).token (next_of tail)) (levels stack) (next_at at ∷ tail) (opened (next_of tail) (next_behind at tail b)) (rw depths deep)))
 
 -- by a name
-pub name_too_deep : (at : Place) (depth : ℕ) (symbol : Symbol) (role : Role) (name : List ℕ) (items : List Item) → Chooses at symbol (AName role ∷ items) → OpensLevel at symbol →
-    name_of_token (next_at at).token ≡ Some name → 64 ≤ depth → FailsAt depth (Part symbol ∷ []) [] at (diagnostic (next_at at).line code.NestedTooDeeply)
-name_too_deep at depth symbol role name items c opened fits deep lexemes shows profile stack values functions depths =
-    let b : Begins at.position.reading lexemes = told_begins at lexemes shows in
-    rw b.is (too_deep_name profile symbol role name items stack (next_at at) b.tail values (scope_at at) functions c.sound (c.is (next_of b.tail) (next_behind at b.tail b.behind)) fits
-    (beyond (opens symbol (next_at at).token (next_of b.tail)) (levels stack) (next_at at ∷ b.tail) (opened (next_of b.tail) (next_behind at b.tail b.behind)) (rw depths deep)))
+pub name_too_deep : (at : Place) (used : ℕ) (near : IsNearTo at used) (depth : ℕ) (symbol : Symbol) (role : Role) (name : List ℕ) (items : List Item) → Chooses at symbol (AName role ∷ items) → OpensLevel at symbol →
+    name_of_token (next_at at).token ≡ Some name → 64 ≤ depth → FailsAt depth (Part symbol ∷ []) [] at (stop_with (Some (diagnostic (next_at at).line code.NestedTooDeeply)) used)
+name_too_deep at used near depth symbol role name items c opened fits deep =
+    fails_at_next depth (Part symbol ∷ []) [] at _ used near (λ tail b profile stack values functions depths.
+    too_deep_name profile symbol role name items stack (next_at at) tail values (scope_at at) functions c.sound (c.is (next_of tail) (next_behind at tail b)) fits
+    (beyond (opens symbol (next_at at).token (next_of tail)) (levels stack) (next_at at ∷ tail) (opened (next_of tail) (next_behind at tail b)) (rw depths deep)))
 
 -- no production fits
-pub none_chosen : (at : Place) (depth : ℕ) (symbol : Symbol) → is_fault (next_at at).token ≡ false → WithAfter at (λ after. choice symbol (next_at at).token after ≡ None) → OpensNone at symbol →
-    FailsAt depth (Part symbol ∷ []) [] at (diagnostic (next_at at).line (misfit_code (next_at at).token))
-none_chosen at depth symbol sound none opened lexemes shows profile stack values functions depths =
-    let b : Begins at.position.reading lexemes = told_begins at lexemes shows in
-    rw b.is (no_part profile symbol stack (next_at at ∷ b.tail) values (scope_at at) functions sound (none (next_of b.tail) (next_behind at b.tail b.behind))
-    (free (levels stack) (opens symbol (next_at at).token (next_of b.tail)) (next_at at ∷ b.tail) (opened (next_of b.tail) (next_behind at b.tail b.behind))))
+pub none_chosen : (at : Place) (used : ℕ) (near : IsNearTo at used) (depth : ℕ) (symbol : Symbol) → is_fault (next_at at).token ≡ false → WithAfter at (λ after. choice symbol (next_at at).token after ≡ None) → OpensNone at symbol →
+    FailsAt depth (Part symbol ∷ []) [] at (stop_with (Some (diagnostic (next_at at).line (misfit_code (next_at at).token))) used)
+none_chosen at used near depth symbol sound none opened =
+    fails_at_next depth (Part symbol ∷ []) [] at _ used near (λ tail b profile stack values functions depths.
+    no_part profile symbol stack (next_at at ∷ tail) values (scope_at at) functions sound (none (next_of tail) (next_behind at tail b))
+    (free (levels stack) (opens symbol (next_at at).token (next_of tail)) (next_at at ∷ tail) (opened (next_of tail) (next_behind at tail b))))
 
 -- The trees made.
 
@@ -127,11 +128,11 @@ makes_and_shuts at depth rule taken left sound m = stand at depth (Make rule ∷
 
 -- The exits of a function that matches a symbol at any depth.
 
-pub item_exit : (whole item : Item) (below : List Item) (under : List Value) (at now : Place) (more : Bool) (f : ParseFault) →
+pub item_exit : (used : ℕ) (whole item : Item) (below : List Item) (under : List Value) (at now : Place) (more : Bool) (f : ParseFault) →
     ((depth : ℕ) → Derives depth (whole ∷ []) (item ∷ below) [] under at now) → ((depth : ℕ) (stack : List Item) → levels stack ≡ depth → levels (below ++ stack) ≡ depth) →
-    Refused (FailsItem item now) false f → Refused (FailsItem whole at) more f
-item_exit whole item below under at now more f a opens =
-    refused_map (FailsItem item now) (FailsItem whole at) false more f
+    Refused (FailsItem item now) false used f → Refused (FailsItem whole at) more used f
+item_exit used whole item below under at now more f a opens =
+    refused_map used (FailsItem item now) (FailsItem whole at) false more f
     (λ d h depth. fails_behind depth depth (whole ∷ []) (item ∷ []) below [] [] under at now d (a depth) (opens depth) (h depth)) (λ never. absurd (cc))
 
 -- the next item is done, and its trees stand on the others

@@ -17,7 +17,8 @@ use Rattle.grammar.specs.Tree.{Expr}
 use Rattle.grammar.proofs.FollowingLaws.{Leads, act, expr_leads, origin_of}
 use Rattle.parsing.specs.Position.{Place, next_at}
 use Rattle.parsing.specs.Room.{HasRoom, room}
-use Rattle.parsing.specs.Stretch.{Derives, FailsAt, GoesPast, Refused, StopsAt}
+use Rattle.parsing.specs.Stopping.{stop_with}
+use Rattle.parsing.specs.Stretch.{IsNearTo, Derives, FailsAt, GoesPast, Refused, StopsAt}
 use Rattle.parsing.proofs.Stretches.{exit, exit_item, joined}
 use Rattle.expressions.specs.declared.signs.Sign.{Sign}
 use Rattle.expressions.specs.declared.signs.Sign.TheVariants as sign
@@ -54,19 +55,19 @@ sign_makes sign.Negation e = record { makes = λ values. refl; clean = λ profil
 sign_makes sign.Denial e = record { makes = λ values. refl; clean = λ profile stack rest values scope functions. refl; learns = λ scope. refl; defines = λ values scope. refl }
 sign_makes sign.Complement e = record { makes = λ values. refl; clean = λ profile stack rest values scope functions. refl; learns = λ scope. refl; defines = λ values scope. refl }
 
-pub sign_too_deep : (at : Place) (depth : ℕ) (s : Sign) → is_mark (sign_mark s) (next_at at).token ≡ true → 64 ≤ depth →
-    FailsAt depth (Part Unary ∷ []) [] at (diagnostic (next_at at).line code.NestedTooDeeply)
-sign_too_deep at depth s fits deep = mark_too_deep at depth Unary (sign_mark s) (Part Unary ∷ Make (sign_rule s) ∷ Shut ∷ []) (sign_chooses at s fits) (sign_opens_level at s fits) fits deep
+pub sign_too_deep : (at : Place) (used : ℕ) (near : IsNearTo at used) (depth : ℕ) (s : Sign) → is_mark (sign_mark s) (next_at at).token ≡ true → 64 ≤ depth →
+    FailsAt depth (Part Unary ∷ []) [] at (stop_with (Some (diagnostic (next_at at).line code.NestedTooDeeply)) used)
+sign_too_deep at used near depth s fits deep = mark_too_deep at used near depth Unary (sign_mark s) (Part Unary ∷ Make (sign_rule s) ∷ Shut ∷ []) (sign_chooses at s fits) (sign_opens_level at s fits) fits deep
 
 sign_stands : (at : Place) (depth : ℕ) (s : Sign) → is_mark (sign_mark s) (next_at at).token ≡ true → depth < 64 →
     Derives depth (Part Unary ∷ []) (Exactly (sign_mark s) ∷ Part Unary ∷ Make (sign_rule s) ∷ Shut ∷ []) [] [] at at
 sign_stands at depth s fits shallow = chosen_within at depth Unary (Exactly (sign_mark s) ∷ Part Unary ∷ Make (sign_rule s) ∷ Shut ∷ []) (sign_chooses at s fits) shallow
 
-pub sign_ends : (at : Place) (depth : ℕ) (s : Sign) (more : Bool) (f : ParseFault) → is_mark (sign_mark s) (next_at at).token ≡ true → depth < 64 →
-    Refused (StopsAt at) false f → Refused (FailsAt depth (Part Unary ∷ []) [] at) more f
-sign_ends at depth s more f fits shallow stop =
-    exit_item depth (depth + 1) (Part Unary ∷ []) (Exactly (sign_mark s)) (Part Unary ∷ Make (sign_rule s) ∷ Shut ∷ []) [] [] at at more f
-    (sign_stands at depth s fits shallow) (λ stack same. ap (λ n. n + 1) same) (mark_ends at (sign_mark s) f fits stop)
+pub sign_ends : (used : ℕ) (at : Place) (depth : ℕ) (s : Sign) (more : Bool) (f : ParseFault) → is_mark (sign_mark s) (next_at at).token ≡ true → depth < 64 →
+    Refused (StopsAt at) false used f → Refused (FailsAt depth (Part Unary ∷ []) [] at) more used f
+sign_ends used at depth s more f fits shallow stop =
+    exit_item used depth (depth + 1) (Part Unary ∷ []) (Exactly (sign_mark s)) (Part Unary ∷ Make (sign_rule s) ∷ Shut ∷ []) [] [] at at more f
+    (sign_stands at depth s fits shallow) (λ stack same. ap (λ n. n + 1) same) (mark_ends used at (sign_mark s) f fits stop)
 
 sign_past : (at now : Place) (depth : ℕ) (s : Sign) → is_mark (sign_mark s) (next_at at).token ≡ true → depth < 64 → GoesPast at now →
     Derives depth (Part Unary ∷ []) (Part Unary ∷ Make (sign_rule s) ∷ Shut ∷ []) [] [] at now
@@ -74,10 +75,10 @@ sign_past at now depth s fits shallow goes =
     item_done depth (depth + 1) (Part Unary ∷ []) (Exactly (sign_mark s)) (Part Unary ∷ Make (sign_rule s) ∷ Shut ∷ []) [] [] [] at at now
     (sign_stands at depth s fits shallow) (mark_past at now (sign_mark s) fits goes (depth + 1)) (λ stack same. ap (λ n. n + 1) same)
 
-pub operand_refused : (at now : Place) (depth : ℕ) (s : Sign) (allocates : Bool) (f : ParseFault) → is_mark (sign_mark s) (next_at at).token ≡ true → depth < 64 → GoesPast at now →
-    Refused (FailsAt (depth + 1) (Part Unary ∷ []) [] now) allocates f → Refused (FailsAt depth (Part Unary ∷ []) [] at) allocates f
-operand_refused at now depth s allocates f fits shallow goes =
-    exit depth (depth + 1) (Part Unary ∷ []) (Part Unary ∷ []) (Make (sign_rule s) ∷ Shut ∷ []) [] [] [] at now allocates allocates f
+pub operand_refused : (used : ℕ) (at now : Place) (depth : ℕ) (s : Sign) (allocates : Bool) (f : ParseFault) → is_mark (sign_mark s) (next_at at).token ≡ true → depth < 64 → GoesPast at now →
+    Refused (FailsAt (depth + 1) (Part Unary ∷ []) [] now) allocates used f → Refused (FailsAt depth (Part Unary ∷ []) [] at) allocates used f
+operand_refused used at now depth s allocates f fits shallow goes =
+    exit used depth (depth + 1) (Part Unary ∷ []) (Part Unary ∷ []) (Make (sign_rule s) ∷ Shut ∷ []) [] [] [] at now allocates allocates f
     (sign_past at now depth s fits shallow goes) (λ stack same. ap (λ n. n + 1) same) (λ same. same)
 
 -- What is told.

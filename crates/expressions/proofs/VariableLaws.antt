@@ -85,10 +85,10 @@ constant_past at there value is goes depth =
 constant_stands : (at : Place) (value : ℕ) → (next_at at).token ≡ token.Constant value → (depth : ℕ) → Derives depth (Part Primary ∷ []) (AConstant ∷ []) [] [] at at
 constant_stands at value is depth = chosen at depth Primary (AConstant ∷ []) [] (constant_chooses at value is) (constant_opens at value is)
 
-pub constant_ends : (at : Place) (value : ℕ) (more : Bool) (f : ParseFault) → (next_at at).token ≡ token.Constant value → Refused (StopsAt at) false f → Refused (FailsItem (Part Primary) at) more f
-constant_ends at value more f is stop =
-    item_exit (Part Primary) AConstant [] [] at at more f (constant_stands at value is) (λ depth stack same. same)
-    (refused_map (StopsAt at) (FailsItem AConstant at) false false f
+pub constant_ends : (used : ℕ) (at : Place) (value : ℕ) (more : Bool) (f : ParseFault) → (next_at at).token ≡ token.Constant value → Refused (StopsAt at) false used f → Refused (FailsItem (Part Primary) at) more used f
+constant_ends used at value more f is stop =
+    item_exit used (Part Primary) AConstant [] [] at at more f (constant_stands at value is) (λ depth stack same. same)
+    (refused_map used (StopsAt at) (FailsItem AConstant at) false false f
     (λ d s depth. stops at.position.reading (scope_at at) (scope_at at) at.to_come d depth (AConstant ∷ []) [] [] (AnExpr (Constant (pos value)) ∷ []) (λ rest b. constant_leads (next_at at) value is depth (scope_at at) rest) s)
     (λ same. same) stop)
 
@@ -145,9 +145,9 @@ fetch_stands : (at : Place) → IsNamed (next_at at).token → is_mark mark.Open
     Derives depth (Part Primary ∷ []) (AName Mentioned ∷ Make Fetch ∷ []) [] [] at at
 fetch_stands at n call none depth = chosen at depth Primary (AName Mentioned ∷ Make Fetch ∷ []) [] (fetch_chooses at n call none) (name_opens_none at n call)
 
-pub fetch_ends : (at : Place) (more : Bool) (f : ParseFault) → IsNamed (next_at at).token → is_mark mark.OpenRound (after_at at) ≡ false → NoStep at →
-    Refused (FailsItem (AName Mentioned) at) false f → Refused (FailsItem (Part Primary) at) more f
-fetch_ends at more f n call none = item_exit (Part Primary) (AName Mentioned) (Make Fetch ∷ []) [] at at more f (fetch_stands at n call none) (λ depth stack same. same)
+pub fetch_ends : (used : ℕ) (at : Place) (more : Bool) (f : ParseFault) → IsNamed (next_at at).token → is_mark mark.OpenRound (after_at at) ≡ false → NoStep at →
+    Refused (FailsItem (AName Mentioned) at) false used f → Refused (FailsItem (Part Primary) at) more used f
+fetch_ends used at more f n call none = item_exit used (Part Primary) (AName Mentioned) (Make Fetch ∷ []) [] at at more f (fetch_stands at n call none) (λ depth stack same. same)
 
 fetch_makes : (v : Var) → MakesOnly Fetch (AVariable v ∷ []) (AnExpr (Variable v) ∷ [])
 fetch_makes v = record { makes = λ values. refl; clean = λ profile stack rest values scope functions. refl; learns = λ scope. refl; defines = λ values scope. refl }
@@ -192,10 +192,10 @@ behind_stands : (at : Place) (s : Step) → IsNamed (next_at at).token → is_ma
 behind_stands at s n fits depth =
     chosen at depth Primary (AName Mentioned ∷ Exactly (step_mark s) ∷ Make (StepBehind (step_store s)) ∷ []) [] (behind_chooses at s n fits) (behind_opens_none at s n fits)
 
-pub behind_name_ends : (at : Place) (s : Step) (more : Bool) (f : ParseFault) → IsNamed (next_at at).token → is_mark (step_mark s) (after_at at) ≡ true →
-    Refused (FailsItem (AName Mentioned) at) false f → Refused (FailsItem (Part Primary) at) more f
-behind_name_ends at s more f n fits =
-    item_exit (Part Primary) (AName Mentioned) (Exactly (step_mark s) ∷ Make (StepBehind (step_store s)) ∷ []) [] at at more f (behind_stands at s n fits) (λ depth stack same. same)
+pub behind_name_ends : (used : ℕ) (at : Place) (s : Step) (more : Bool) (f : ParseFault) → IsNamed (next_at at).token → is_mark (step_mark s) (after_at at) ≡ true →
+    Refused (FailsItem (AName Mentioned) at) false used f → Refused (FailsItem (Part Primary) at) more used f
+behind_name_ends used at s more f n fits =
+    item_exit used (Part Primary) (AName Mentioned) (Exactly (step_mark s) ∷ Make (StepBehind (step_store s)) ∷ []) [] at at more f (behind_stands at s n fits) (λ depth stack same. same)
 
 behind_past_name : (at now : Place) (s : Step) (v : Var) → IsNamed (next_at at).token → is_mark (step_mark s) (after_at at) ≡ true → DerivesItem (AName Mentioned) [] (AVariable v ∷ []) at now → (depth : ℕ) →
     Derives depth (Part Primary ∷ []) (Exactly (step_mark s) ∷ Make (StepBehind (step_store s)) ∷ []) [] (AVariable v ∷ []) at now
@@ -203,10 +203,10 @@ behind_past_name at now s v n fits item depth =
     item_done depth depth (Part Primary ∷ []) (AName Mentioned) (Exactly (step_mark s) ∷ Make (StepBehind (step_store s)) ∷ []) [] (AVariable v ∷ []) [] at at now
     (behind_stands at s n fits depth) (item depth) (λ stack same. same)
 
-pub behind_mark_ends : (at now : Place) (s : Step) (v : Var) (more : Bool) (f : ParseFault) → IsNamed (next_at at).token → is_mark (step_mark s) (after_at at) ≡ true →
-    DerivesItem (AName Mentioned) [] (AVariable v ∷ []) at now → Refused (FailsItem (Exactly (step_mark s)) now) false f → Refused (FailsItem (Part Primary) at) more f
-behind_mark_ends at now s v more f n fits item =
-    item_exit (Part Primary) (Exactly (step_mark s)) (Make (StepBehind (step_store s)) ∷ []) (AVariable v ∷ []) at now more f (behind_past_name at now s v n fits item) (λ depth stack same. same)
+pub behind_mark_ends : (used : ℕ) (at now : Place) (s : Step) (v : Var) (more : Bool) (f : ParseFault) → IsNamed (next_at at).token → is_mark (step_mark s) (after_at at) ≡ true →
+    DerivesItem (AName Mentioned) [] (AVariable v ∷ []) at now → Refused (FailsItem (Exactly (step_mark s)) now) false used f → Refused (FailsItem (Part Primary) at) more used f
+behind_mark_ends used at now s v more f n fits item =
+    item_exit used (Part Primary) (Exactly (step_mark s)) (Make (StepBehind (step_store s)) ∷ []) (AVariable v ∷ []) at now more f (behind_past_name at now s v n fits item) (λ depth stack same. same)
 
 behind_makes : (o : StoreOp) (v : Var) → MakesOnly (StepBehind o) (AVariable v ∷ []) (AnExpr (Postfix o v) ∷ [])
 behind_makes o v = record { makes = λ values. refl; clean = λ profile stack rest values scope functions. refl; learns = λ scope. refl; defines = λ values scope. refl }
@@ -244,9 +244,9 @@ before_stands at s fits depth =
     chosen at depth Unary (Exactly (step_mark s) ∷ AName Mentioned ∷ Make (StepBefore (step_store s)) ∷ []) []
     (record { sound = mark_sound (step_mark s) (next_at at).token fits; is = λ after more. rw t (before_choice s after) }) (λ after more. rw t (before_opens s after))
 
-pub before_mark_ends : (at : Place) (s : Step) (more : Bool) (f : ParseFault) → is_mark (step_mark s) (next_at at).token ≡ true → Refused (StopsAt at) false f → Refused (FailsItem (Part Unary) at) more f
-before_mark_ends at s more f fits stop =
-    item_exit (Part Unary) (Exactly (step_mark s)) (AName Mentioned ∷ Make (StepBefore (step_store s)) ∷ []) [] at at more f (before_stands at s fits) (λ depth stack same. same) (mark_ends at (step_mark s) f fits stop)
+pub before_mark_ends : (used : ℕ) (at : Place) (s : Step) (more : Bool) (f : ParseFault) → is_mark (step_mark s) (next_at at).token ≡ true → Refused (StopsAt at) false used f → Refused (FailsItem (Part Unary) at) more used f
+before_mark_ends used at s more f fits stop =
+    item_exit used (Part Unary) (Exactly (step_mark s)) (AName Mentioned ∷ Make (StepBefore (step_store s)) ∷ []) [] at at more f (before_stands at s fits) (λ depth stack same. same) (mark_ends used at (step_mark s) f fits stop)
 
 before_past_mark : (at now : Place) (s : Step) → is_mark (step_mark s) (next_at at).token ≡ true → GoesPast at now → (depth : ℕ) →
     Derives depth (Part Unary ∷ []) (AName Mentioned ∷ Make (StepBefore (step_store s)) ∷ []) [] [] at now
@@ -254,10 +254,10 @@ before_past_mark at now s fits goes depth =
     item_done depth depth (Part Unary ∷ []) (Exactly (step_mark s)) (AName Mentioned ∷ Make (StepBefore (step_store s)) ∷ []) [] [] [] at at now
     (before_stands at s fits depth) (mark_past at now (step_mark s) fits goes depth) (λ stack same. same)
 
-pub before_name_ends : (at now : Place) (s : Step) (more : Bool) (f : ParseFault) → is_mark (step_mark s) (next_at at).token ≡ true → GoesPast at now →
-    Refused (FailsItem (AName Mentioned) now) false f → Refused (FailsItem (Part Unary) at) more f
-before_name_ends at now s more f fits goes =
-    item_exit (Part Unary) (AName Mentioned) (Make (StepBefore (step_store s)) ∷ []) [] at now more f (before_past_mark at now s fits goes) (λ depth stack same. same)
+pub before_name_ends : (used : ℕ) (at now : Place) (s : Step) (more : Bool) (f : ParseFault) → is_mark (step_mark s) (next_at at).token ≡ true → GoesPast at now →
+    Refused (FailsItem (AName Mentioned) now) false used f → Refused (FailsItem (Part Unary) at) more used f
+before_name_ends used at now s more f fits goes =
+    item_exit used (Part Unary) (AName Mentioned) (Make (StepBefore (step_store s)) ∷ []) [] at now more f (before_past_mark at now s fits goes) (λ depth stack same. same)
 
 before_makes : (o : StoreOp) (v : Var) → MakesOnly (StepBefore o) (AVariable v ∷ []) (AnExpr (Assign o v (Constant (pos 1))) ∷ [])
 before_makes o v = record { makes = λ values. refl; clean = λ profile stack rest values scope functions. refl; learns = λ scope. refl; defines = λ values scope. refl }

@@ -1,6 +1,6 @@
 -- What the parse of an expression did: the builder was told the actions of a tree, and the derivation made the same tree.
 use Rattle.std.specs.Prelude.{ℕ, ◌+◌, ◌≤◌, List, [], ◌∷◌, ◌++◌}
-use Rattle.grammar.specs.declared.diagnostics.Diagnostic.{Diagnostic}
+use Rattle.parsing.specs.Stopping.{Stop}
 use Rattle.grammar.specs.declared.names.Callee.{Callee}
 use Rattle.grammar.specs.declared.operators.Op.{Op}
 use Rattle.grammar.specs.Actions.{Apply, args_actions, expr_actions, middle}
@@ -31,7 +31,7 @@ pub record AddsOperand (before after : Meaning) (depth level : ℕ) (op : Op) (h
   pub derives : (left : Expr) → Derives depth (Part (Tail level) ∷ []) (Part (Tail level) ∷ []) (AnExpr left ∷ []) (AnExpr (Binary op left right) ∷ []) here there
 
 -- The first fault from there on, whatever the left side is.
-abbrev pub FailsOperand : ℕ → ℕ → Place → Diagnostic → Type 0
+abbrev pub FailsOperand : ℕ → ℕ → Place → Stop → Type 0
 FailsOperand depth level here d = (left : Expr) → FailsAt depth (Part (Tail level) ∷ []) (AnExpr left ∷ []) here d
 
 -- The arguments of a call were read, whatever it calls.
@@ -42,5 +42,5 @@ pub record AddsArgs (before after : Meaning) (depth : ℕ) (front pending : List
   pub added : AppendsAll before after (args_actions tree)
   pub derives : (callee : Callee) → Derives depth front pending (ACall callee NoMore ∷ []) (ACall callee tree ∷ []) here there
 
-abbrev pub FailsArgs : ℕ → Place → Diagnostic → Type 0
+abbrev pub FailsArgs : ℕ → Place → Stop → Type 0
 FailsArgs depth here d = (callee : Callee) → FailsAt depth (Part Arguments ∷ []) (ACall callee NoMore ∷ []) here d

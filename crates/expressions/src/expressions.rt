@@ -1,7 +1,8 @@
 //! Assignments, the ten levels of binary operators, signs, brackets and calls.
 
 ghost use Rattle.std.specs.Prelude.{◌≡◌, ◌+◌, ◌-◌, ◌*◌, ◌<◌, ◌≤◌, ◌^◌, ℕ, List, [], ◌∷◌, Option, Some, None, IfErr, IfNone, IfSome, OnOk, is_some, false, true};
-ghost use Rattle.tokens.specs.Reading.{remaining};
+ghost use Rattle.tokens.specs.Reading.{IsNear, remaining, taken};
+ghost use Rattle.tokens.specs.Window.{Takes};
 ghost use Rattle.tokens.specs.declared.lexemes.Mark.TheVariants as mark;
 ghost use Rattle.grammar.specs.Actions.{middle};
 ghost use Rattle.grammar.specs.Building.{AppendsAll, MayFollow, Refuses};
@@ -33,12 +34,15 @@ pub fn expression<F: Feed, B: Build>(
 ) -> Result<(), ParseFault>
     requires deep { depth ≤ 64 }
     requires open { HasRoom (B.stands build.old) (room depth 1) }
+    requires near { IsNear parser.old.reading }
     requires count { F.failures feed.old < 2 ^ 64 - 1 }
     ensures parsed { OnOk result (AddsExpr (B.stands build.old) (B.stands build.new) depth 1 (Part Expression ∷ []) [] (place parser.old (F.to_come feed.old)) (place parser.new (F.to_come feed.new))) }
     ensures sound { OnOk result (is_fault parser.new.reading.next.token ≡ false) }
     ensures falls { OnOk result (remaining parser.new.reading < remaining parser.old.reading) }
-    ensures refused { IfErr result (λ fault. Refused (FailsAt depth (Part Expression ∷ []) [] (place parser.old (F.to_come feed.old))) B.allocates fault) }
+    ensures refused { IfErr result (λ fault. Refused (FailsAt depth (Part Expression ∷ []) [] (place parser.old (F.to_come feed.old))) B.allocates (taken parser.new.reading) fault) }
     ensures counted { Counts result (F.failures feed.old) (F.failures feed.new) }
+    ensures near { OnOk result (IsNear parser.new.reading) }
+    ensures took { Takes (taken parser.old.reading) (taken parser.new.reading) (F.to_come feed.old) (F.to_come feed.new) }
 {
     if let Some(op) = assignment_operator(parser) {
         assignment(parser, feed, build, op, depth)?;
@@ -61,12 +65,15 @@ fn assignment<F: Feed, B: Build>(
     requires open { HasRoom (B.stands build.old) (room depth 1) }
     requires named { is_some (name_of_token parser.old.reading.next.token) ≡ true }
     requires is { store_operator parser.old.reading.after.token ≡ Some op }
+    requires near { IsNear parser.old.reading }
     requires count { F.failures feed.old < 2 ^ 64 - 1 }
     ensures parsed { OnOk result (AddsExpr (B.stands build.old) (B.stands build.new) depth 1 (Part Expression ∷ []) [] (place parser.old (F.to_come feed.old)) (place parser.new (F.to_come feed.new))) }
     ensures sound { OnOk result (is_fault parser.new.reading.next.token ≡ false) }
     ensures falls { OnOk result (remaining parser.new.reading < remaining parser.old.reading) }
-    ensures refused { IfErr result (λ fault. Refused (FailsAt depth (Part Expression ∷ []) [] (place parser.old (F.to_come feed.old))) B.allocates fault) }
+    ensures refused { IfErr result (λ fault. Refused (FailsAt depth (Part Expression ∷ []) [] (place parser.old (F.to_come feed.old))) B.allocates (taken parser.new.reading) fault) }
     ensures counted { Counts result (F.failures feed.old) (F.failures feed.new) }
+    ensures near { OnOk result (IsNear parser.new.reading) }
+    ensures took { Takes (taken parser.old.reading) (taken parser.new.reading) (F.to_come feed.old) (F.to_come feed.new) }
 {
     if depth >= MOST_LEVELS {
         return Err(parser.refusal(Code::NestedTooDeeply));
@@ -91,12 +98,15 @@ fn levels<F: Feed, B: Build>(
     requires deep { depth ≤ 64 }
     requires open { HasRoom (B.stands build.old) (room depth level) }
     requires sound { is_fault parser.old.reading.next.token ≡ false }
+    requires near { IsNear parser.old.reading }
     requires count { F.failures feed.old < 2 ^ 64 - 1 }
     ensures parsed { OnOk result (AddsExpr (B.stands build.old) (B.stands build.new) depth level (Part (Level level) ∷ []) [] (place parser.old (F.to_come feed.old)) (place parser.new (F.to_come feed.new))) }
     ensures sound { OnOk result (is_fault parser.new.reading.next.token ≡ false) }
     ensures falls { OnOk result (remaining parser.new.reading < remaining parser.old.reading) }
-    ensures refused { IfErr result (λ fault. Refused (FailsAt depth (Part (Level level) ∷ []) [] (place parser.old (F.to_come feed.old))) B.allocates fault) }
+    ensures refused { IfErr result (λ fault. Refused (FailsAt depth (Part (Level level) ∷ []) [] (place parser.old (F.to_come feed.old))) B.allocates (taken parser.new.reading) fault) }
     ensures counted { Counts result (F.failures feed.old) (F.failures feed.new) }
+    ensures near { OnOk result (IsNear parser.new.reading) }
+    ensures took { Takes (taken parser.old.reading) (taken parser.new.reading) (F.to_come feed.old) (F.to_come feed.new) }
 {
     if level > LAST_LEVEL {
         unary(parser, feed, build, depth)?;
@@ -123,12 +133,15 @@ fn operand<F: Feed, B: Build>(
     requires deep { depth ≤ 64 }
     requires open { HasLeft (B.stands build.old) (room depth level) }
     requires is { operator_at level parser.old.reading.next.token ≡ Some op }
+    requires near { IsNear parser.old.reading }
     requires count { F.failures feed.old < 2 ^ 64 - 1 }
     ensures parsed { OnOk result (AddsOperand (B.stands build.old) (B.stands build.new) depth level op (place parser.old (F.to_come feed.old)) (place parser.new (F.to_come feed.new))) }
     ensures sound { OnOk result (is_fault parser.new.reading.next.token ≡ false) }
     ensures falls { OnOk result (remaining parser.new.reading < remaining parser.old.reading) }
-    ensures refused { IfErr result (λ fault. Refused (FailsOperand depth level (place parser.old (F.to_come feed.old))) B.allocates fault) }
+    ensures refused { IfErr result (λ fault. Refused (FailsOperand depth level (place parser.old (F.to_come feed.old))) B.allocates (taken parser.new.reading) fault) }
     ensures counted { Counts result (F.failures feed.old) (F.failures feed.new) }
+    ensures near { OnOk result (IsNear parser.new.reading) }
+    ensures took { Takes (taken parser.old.reading) (taken parser.new.reading) (F.to_come feed.old) (F.to_come feed.new) }
 {
     parser.advance(feed)?;
     tell_middle(build, op)?;
@@ -147,12 +160,15 @@ fn unary<F: Feed, B: Build>(
 ) -> Result<(), ParseFault>
     requires deep { depth ≤ 64 }
     requires open { HasRoom (B.stands build.old) (room depth 11) }
+    requires near { IsNear parser.old.reading }
     requires count { F.failures feed.old < 2 ^ 64 - 1 }
     ensures parsed { OnOk result (AddsExpr (B.stands build.old) (B.stands build.new) depth 11 (Part Unary ∷ []) [] (place parser.old (F.to_come feed.old)) (place parser.new (F.to_come feed.new))) }
     ensures sound { OnOk result (is_fault parser.new.reading.next.token ≡ false) }
     ensures falls { OnOk result (remaining parser.new.reading < remaining parser.old.reading) }
-    ensures refused { IfErr result (λ fault. Refused (FailsAt depth (Part Unary ∷ []) [] (place parser.old (F.to_come feed.old))) B.allocates fault) }
+    ensures refused { IfErr result (λ fault. Refused (FailsAt depth (Part Unary ∷ []) [] (place parser.old (F.to_come feed.old))) B.allocates (taken parser.new.reading) fault) }
     ensures counted { Counts result (F.failures feed.old) (F.failures feed.new) }
+    ensures near { OnOk result (IsNear parser.new.reading) }
+    ensures took { Takes (taken parser.old.reading) (taken parser.new.reading) (F.to_come feed.old) (F.to_come feed.new) }
 {
     if let Some(sign) = sign_of(&parser.next().token) {
         signed(parser, feed, build, sign, depth)?;
@@ -176,12 +192,15 @@ fn signed<F: Feed, B: Build>(
     requires deep { depth ≤ 64 }
     requires open { HasRoom (B.stands build.old) (room depth 11) }
     requires is { is_mark (sign_mark sign) parser.old.reading.next.token ≡ true }
+    requires near { IsNear parser.old.reading }
     requires count { F.failures feed.old < 2 ^ 64 - 1 }
     ensures parsed { OnOk result (AddsExpr (B.stands build.old) (B.stands build.new) depth 11 (Part Unary ∷ []) [] (place parser.old (F.to_come feed.old)) (place parser.new (F.to_come feed.new))) }
     ensures sound { OnOk result (is_fault parser.new.reading.next.token ≡ false) }
     ensures falls { OnOk result (remaining parser.new.reading < remaining parser.old.reading) }
-    ensures refused { IfErr result (λ fault. Refused (FailsAt depth (Part Unary ∷ []) [] (place parser.old (F.to_come feed.old))) B.allocates fault) }
+    ensures refused { IfErr result (λ fault. Refused (FailsAt depth (Part Unary ∷ []) [] (place parser.old (F.to_come feed.old))) B.allocates (taken parser.new.reading) fault) }
     ensures counted { Counts result (F.failures feed.old) (F.failures feed.new) }
+    ensures near { OnOk result (IsNear parser.new.reading) }
+    ensures took { Takes (taken parser.old.reading) (taken parser.new.reading) (F.to_come feed.old) (F.to_come feed.new) }
 {
     if depth >= MOST_LEVELS {
         return Err(parser.refusal(Code::NestedTooDeeply));
@@ -203,12 +222,15 @@ fn primary<F: Feed, B: Build>(
 ) -> Result<(), ParseFault>
     requires deep { depth ≤ 64 }
     requires open { HasRoom (B.stands build.old) (room depth 11) }
+    requires near { IsNear parser.old.reading }
     requires count { F.failures feed.old < 2 ^ 64 - 1 }
     ensures parsed { OnOk result (AddsExpr (B.stands build.old) (B.stands build.new) depth 11 (Part Primary ∷ []) [] (place parser.old (F.to_come feed.old)) (place parser.new (F.to_come feed.new))) }
     ensures sound { OnOk result (is_fault parser.new.reading.next.token ≡ false) }
     ensures falls { OnOk result (remaining parser.new.reading < remaining parser.old.reading) }
-    ensures refused { IfErr result (λ fault. Refused (FailsAt depth (Part Primary ∷ []) [] (place parser.old (F.to_come feed.old))) B.allocates fault) }
+    ensures refused { IfErr result (λ fault. Refused (FailsAt depth (Part Primary ∷ []) [] (place parser.old (F.to_come feed.old))) B.allocates (taken parser.new.reading) fault) }
     ensures counted { Counts result (F.failures feed.old) (F.failures feed.new) }
+    ensures near { OnOk result (IsNear parser.new.reading) }
+    ensures took { Takes (taken parser.old.reading) (taken parser.new.reading) (F.to_come feed.old) (F.to_come feed.new) }
 {
     match parser.next().token {
         Token::Constant(value) => constant(parser, feed, build, value)?,
@@ -236,12 +258,15 @@ fn call<F: Feed, B: Build>(
     requires open { HasRoom (B.stands build.old) (room depth 11) }
     requires named { is_some (name_of_token parser.old.reading.next.token) ≡ true }
     requires is { is_mark mark.OpenRound parser.old.reading.after.token ≡ true }
+    requires near { IsNear parser.old.reading }
     requires count { F.failures feed.old < 2 ^ 64 - 1 }
     ensures parsed { OnOk result (AddsExpr (B.stands build.old) (B.stands build.new) depth 11 (Part Primary ∷ []) [] (place parser.old (F.to_come feed.old)) (place parser.new (F.to_come feed.new))) }
     ensures sound { OnOk result (is_fault parser.new.reading.next.token ≡ false) }
     ensures falls { OnOk result (remaining parser.new.reading < remaining parser.old.reading) }
-    ensures refused { IfErr result (λ fault. Refused (FailsAt depth (Part Primary ∷ []) [] (place parser.old (F.to_come feed.old))) B.allocates fault) }
+    ensures refused { IfErr result (λ fault. Refused (FailsAt depth (Part Primary ∷ []) [] (place parser.old (F.to_come feed.old))) B.allocates (taken parser.new.reading) fault) }
     ensures counted { Counts result (F.failures feed.old) (F.failures feed.new) }
+    ensures near { OnOk result (IsNear parser.new.reading) }
+    ensures took { Takes (taken parser.old.reading) (taken parser.new.reading) (F.to_come feed.old) (F.to_come feed.new) }
 {
     if depth >= MOST_LEVELS {
         return Err(parser.refusal(Code::NestedTooDeeply));
@@ -265,11 +290,14 @@ fn arguments<F: Feed, B: Build>(
 ) -> Result<(), ParseFault>
     requires deep { depth ≤ 64 }
     requires open { HasRoom (B.stands build.old) (room depth 1) }
+    requires near { IsNear parser.old.reading }
     requires count { F.failures feed.old < 2 ^ 64 - 1 }
     ensures parsed { OnOk result (AddsArgs (B.stands build.old) (B.stands build.new) depth (Part Arguments ∷ []) [] (place parser.old (F.to_come feed.old)) (place parser.new (F.to_come feed.new))) }
     ensures falls { OnOk result (remaining parser.new.reading ≤ remaining parser.old.reading) }
-    ensures refused { IfErr result (λ fault. Refused (FailsArgs depth (place parser.old (F.to_come feed.old))) B.allocates fault) }
+    ensures refused { IfErr result (λ fault. Refused (FailsArgs depth (place parser.old (F.to_come feed.old))) B.allocates (taken parser.new.reading) fault) }
     ensures counted { Counts result (F.failures feed.old) (F.failures feed.new) }
+    ensures near { OnOk result (IsNear parser.new.reading) }
+    ensures took { Takes (taken parser.old.reading) (taken parser.new.reading) (F.to_come feed.old) (F.to_come feed.new) }
 {
     if is_mark(&parser.next().token, Mark::CloseRound) {
         return Ok(());
@@ -293,12 +321,15 @@ fn bracketed<F: Feed, B: Build>(
     requires deep { depth ≤ 64 }
     requires open { HasRoom (B.stands build.old) (room depth 11) }
     requires is { is_mark mark.OpenRound parser.old.reading.next.token ≡ true }
+    requires near { IsNear parser.old.reading }
     requires count { F.failures feed.old < 2 ^ 64 - 1 }
     ensures parsed { OnOk result (AddsExpr (B.stands build.old) (B.stands build.new) depth 11 (Part Primary ∷ []) [] (place parser.old (F.to_come feed.old)) (place parser.new (F.to_come feed.new))) }
     ensures sound { OnOk result (is_fault parser.new.reading.next.token ≡ false) }
     ensures falls { OnOk result (remaining parser.new.reading < remaining parser.old.reading) }
-    ensures refused { IfErr result (λ fault. Refused (FailsAt depth (Part Primary ∷ []) [] (place parser.old (F.to_come feed.old))) B.allocates fault) }
+    ensures refused { IfErr result (λ fault. Refused (FailsAt depth (Part Primary ∷ []) [] (place parser.old (F.to_come feed.old))) B.allocates (taken parser.new.reading) fault) }
     ensures counted { Counts result (F.failures feed.old) (F.failures feed.new) }
+    ensures near { OnOk result (IsNear parser.new.reading) }
+    ensures took { Takes (taken parser.old.reading) (taken parser.new.reading) (F.to_come feed.old) (F.to_come feed.new) }
 {
     if depth >= MOST_LEVELS {
         return Err(parser.refusal(Code::NestedTooDeeply));

@@ -1,7 +1,8 @@
 //! Operands without operands of their own: constants and variables, with `++` and `--`.
 
 ghost use Rattle.std.specs.Prelude.{◌≡◌, ◌-◌, ◌<◌, ◌≤◌, ◌^◌, ℕ, [], ◌∷◌, IfErr, OnOk, is_some, false, true};
-ghost use Rattle.tokens.specs.Reading.{remaining};
+ghost use Rattle.tokens.specs.Reading.{IsNear, remaining, taken};
+ghost use Rattle.tokens.specs.Window.{Takes};
 ghost use Rattle.tokens.specs.declared.lexemes.Mark.TheVariants as mark;
 ghost use Rattle.tokens.specs.declared.lexemes.Token.TheVariants as token;
 ghost use Rattle.grammar.specs.Derivation.{name_of_token};
@@ -27,12 +28,15 @@ pub fn constant<F: Feed, B: Build>(
     requires open { HasRoom (B.stands build.old) 0 }
     requires fits { value ≤ 2147483647 }
     requires is { parser.old.reading.next.token ≡ token.Constant value }
+    requires near { IsNear parser.old.reading }
     requires count { F.failures feed.old < 2 ^ 64 - 1 }
     ensures parsed { OnOk result ((depth : ℕ) → AddsExpr (B.stands build.old) (B.stands build.new) depth 11 (Part Primary ∷ []) [] (place parser.old (F.to_come feed.old)) (place parser.new (F.to_come feed.new))) }
     ensures sound { OnOk result (is_fault parser.new.reading.next.token ≡ false) }
     ensures falls { OnOk result (remaining parser.new.reading < remaining parser.old.reading) }
-    ensures refused { IfErr result (λ fault. Refused (FailsItem (Part Primary) (place parser.old (F.to_come feed.old))) B.allocates fault) }
+    ensures refused { IfErr result (λ fault. Refused (FailsItem (Part Primary) (place parser.old (F.to_come feed.old))) B.allocates (taken parser.new.reading) fault) }
     ensures counted { Counts result (F.failures feed.old) (F.failures feed.new) }
+    ensures near { OnOk result (IsNear parser.new.reading) }
+    ensures took { Takes (taken parser.old.reading) (taken parser.new.reading) (F.to_come feed.old) (F.to_come feed.new) }
 {
     build.constant(value as i32)?;
     parser.advance(feed)?;
@@ -48,12 +52,15 @@ pub fn variable<F: Feed, B: Build>(
     requires open { HasRoom (B.stands build.old) 0 }
     requires named { is_some (name_of_token parser.old.reading.next.token) ≡ true }
     requires plain { is_mark mark.OpenRound parser.old.reading.after.token ≡ false }
+    requires near { IsNear parser.old.reading }
     requires count { F.failures feed.old < 2 ^ 64 - 1 }
     ensures parsed { OnOk result ((depth : ℕ) → AddsExpr (B.stands build.old) (B.stands build.new) depth 11 (Part Primary ∷ []) [] (place parser.old (F.to_come feed.old)) (place parser.new (F.to_come feed.new))) }
     ensures sound { OnOk result (is_fault parser.new.reading.next.token ≡ false) }
     ensures falls { OnOk result (remaining parser.new.reading < remaining parser.old.reading) }
-    ensures refused { IfErr result (λ fault. Refused (FailsItem (Part Primary) (place parser.old (F.to_come feed.old))) B.allocates fault) }
+    ensures refused { IfErr result (λ fault. Refused (FailsItem (Part Primary) (place parser.old (F.to_come feed.old))) B.allocates (taken parser.new.reading) fault) }
     ensures counted { Counts result (F.failures feed.old) (F.failures feed.new) }
+    ensures near { OnOk result (IsNear parser.new.reading) }
+    ensures took { Takes (taken parser.old.reading) (taken parser.new.reading) (F.to_come feed.old) (F.to_come feed.new) }
 {
     if let Some(step) = step_of(parser.after()) {
         step_behind(parser, feed, build, step)?;
@@ -74,12 +81,15 @@ fn step_behind<F: Feed, B: Build>(
     requires open { HasRoom (B.stands build.old) 0 }
     requires named { is_some (name_of_token parser.old.reading.next.token) ≡ true }
     requires is { is_mark (step_mark step) parser.old.reading.after.token ≡ true }
+    requires near { IsNear parser.old.reading }
     requires count { F.failures feed.old < 2 ^ 64 - 1 }
     ensures parsed { OnOk result ((depth : ℕ) → AddsExpr (B.stands build.old) (B.stands build.new) depth 11 (Part Primary ∷ []) [] (place parser.old (F.to_come feed.old)) (place parser.new (F.to_come feed.new))) }
     ensures sound { OnOk result (is_fault parser.new.reading.next.token ≡ false) }
     ensures falls { OnOk result (remaining parser.new.reading < remaining parser.old.reading) }
-    ensures refused { IfErr result (λ fault. Refused (FailsItem (Part Primary) (place parser.old (F.to_come feed.old))) B.allocates fault) }
+    ensures refused { IfErr result (λ fault. Refused (FailsItem (Part Primary) (place parser.old (F.to_come feed.old))) B.allocates (taken parser.new.reading) fault) }
     ensures counted { Counts result (F.failures feed.old) (F.failures feed.new) }
+    ensures near { OnOk result (IsNear parser.new.reading) }
+    ensures took { Takes (taken parser.old.reading) (taken parser.new.reading) (F.to_come feed.old) (F.to_come feed.new) }
 {
     let var = parser.mention(feed)?;
     build.fetch(var)?;
@@ -99,12 +109,15 @@ pub fn step_before<F: Feed, B: Build>(
 ) -> Result<(), ParseFault>
     requires open { HasRoom (B.stands build.old) 0 }
     requires is { is_mark (step_mark step) parser.old.reading.next.token ≡ true }
+    requires near { IsNear parser.old.reading }
     requires count { F.failures feed.old < 2 ^ 64 - 1 }
     ensures parsed { OnOk result ((depth : ℕ) → AddsExpr (B.stands build.old) (B.stands build.new) depth 11 (Part Unary ∷ []) [] (place parser.old (F.to_come feed.old)) (place parser.new (F.to_come feed.new))) }
     ensures sound { OnOk result (is_fault parser.new.reading.next.token ≡ false) }
     ensures falls { OnOk result (remaining parser.new.reading < remaining parser.old.reading) }
-    ensures refused { IfErr result (λ fault. Refused (FailsItem (Part Unary) (place parser.old (F.to_come feed.old))) B.allocates fault) }
+    ensures refused { IfErr result (λ fault. Refused (FailsItem (Part Unary) (place parser.old (F.to_come feed.old))) B.allocates (taken parser.new.reading) fault) }
     ensures counted { Counts result (F.failures feed.old) (F.failures feed.new) }
+    ensures near { OnOk result (IsNear parser.new.reading) }
+    ensures took { Takes (taken parser.old.reading) (taken parser.new.reading) (F.to_come feed.old) (F.to_come feed.new) }
 {
     parser.advance(feed)?;
     let var = parser.mention(feed)?;

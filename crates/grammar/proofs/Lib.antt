@@ -15,3 +15,6 @@ pub mod Phases
 pub mod Soundness
 pub mod ResolvedLaws
 pub mod ScopeLaws
+pub mod LastTokens
+pub mod Bottoms
+pub mod Reach

@@ -84,7 +84,7 @@ in_either f (x ∷ xs) ys (inl e) = inl (inl e)
 in_either f (x ∷ xs) ys (inr h) = ⊎_elim (λ k. inl (inr k)) (λ k. inr k) (in_either f xs ys h)
 
 -- each fault that was gathered comes in the derivation
-gathered : (profile : Profile) (n : ℕ) (s : State) (f : Fault) → IsIn f (faults_in profile n s) → IsFault profile s f
+pub gathered : (profile : Profile) (n : ℕ) (s : State) (f : Fault) → IsIn f (faults_in profile n s) → IsFault profile s f
 gathered profile zero s f h = absurd h
 gathered profile (suc n) s f h = gathered_at profile n s f (λ k. gathered profile n (stepped s) f k) (in_either f (faults_at profile s) (faults_in profile n (stepped s)) h)
   where
@@ -160,7 +160,7 @@ kept_rests : (s : State) (o : Option State) → Rests s.rest o → IsRest (unwra
 kept_rests s None h = rest_itself s.rest
 kept_rests s (Some t) h = h
 
-run_rests : (n : ℕ) (s : State) → IsRest (run n s).rest s.rest
+pub run_rests : (n : ℕ) (s : State) → IsRest (run n s).rest s.rest
 run_rests zero s = rest_itself s.rest
 run_rests (suc n) s = rest_of_rest _ _ _ (run_rests n (stepped s))
     (kept_rests s (step s) (guarded_rests (is_fault (next_of s.rest)) s.rest _ (step_rests s.stack s.rest s.values s.scope s.functions)))

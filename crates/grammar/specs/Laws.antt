@@ -1,17 +1,20 @@
 -- Laws on the definitions: a derivation ends, and a source is what its derivation leads to.
-use Rattle.std.specs.Prelude.{◌≡◌, ◌≤◌, ℕ, List, [], ◌∷◌, Bool, Some, None, Ok, Err, if◌then◌else◌, slice_get}
+use Rattle.std.specs.Prelude.{◌≡◌, ◌≤◌, ℕ, List, [], ◌∷◌, ◌++◌, length, Bool, Some, None, Ok, Err, if◌then◌else◌, slice_get}
+use Rattle.tokens.specs.Reading.{reach_of}
+use Rattle.tokens.specs.Tokens.{tokens}
 use Rattle.tokens.specs.declared.lexemes.Lexeme.{Lexeme}
 use Rattle.tokens.specs.declared.lexemes.Token.{Token}
 use Rattle.grammar.specs.declared.diagnostics.Diagnostic.{Diagnostic}
 use Rattle.grammar.specs.Compiled.{compiled_tokens, last_state, resolved}
 use Rattle.grammar.specs.Derivation.{State, state, Value, Definition, start, step, run}
-use Rattle.grammar.specs.Faults.{faults_at, levels}
+use Rattle.grammar.specs.Faults.{Fault, faults_at, levels}
 use Rattle.grammar.specs.Actions.{Action, actions}
 use Rattle.grammar.specs.Building.{Meaning, MayFollow, StandsOpen}
 use Rattle.grammar.specs.Following.{Opened, follow, follow_all, open_count}
 use Rattle.grammar.specs.Grammar.{Symbol, Declarations, Statements, Item, Part, Make, Define, Production, choice, opens}
+use Rattle.grammar.specs.Need.{need}
 use Rattle.grammar.specs.Nesting.{body_nesting}
-use Rattle.grammar.specs.Parsing.{Fails, Passes}
+use Rattle.grammar.specs.Parsing.{Fails, IsFault, Passes}
 use Rattle.grammar.specs.Profile.{Profile}
 use Rattle.grammar.specs.Resolved.{IsResolved}
 use Rattle.grammar.specs.Scope.{Scope}
@@ -66,3 +69,8 @@ abbrev pub BlocksKeepTheFunction : Type 0
 BlocksKeepTheFunction = (n : ℕ) (stack : List Item) (rest later : List Lexeme) (values left : List Value) (known learnt : Scope) (functions : List Definition) →
     run n (state (Part Declarations ∷ Part Statements ∷ Make Define ∷ stack) rest values known functions) ≡ state (Make Define ∷ stack) later left learnt functions →
     KeepsFunction known learnt
+
+-- Where no fault stands before these last tokens of a source, the source is needed up to the second of them, or the first where it is the last.
+abbrev pub WhatWasReadIsNeeded : Type 0
+WhatWasReadIsNeeded = (profile : Profile) (bytes : List ℕ) (passed rest : List Lexeme) → tokens bytes ≡ passed ++ rest →
+    ((f : Fault) → IsFault profile (start (tokens bytes)) f → length f.rest ≤ length rest) → reach_of rest ≤ need profile bytes

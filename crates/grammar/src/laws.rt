@@ -1,6 +1,6 @@
 //! Laws on the definitions of the language.
 
-ghost use Rattle.grammar.specs.Laws.{BlocksKeepTheFunction, CompiledIsResolved, EachDerivationEnds, EachFileFollows, FaultlessIsResolved, FirstFaultDecides, LevelsAreShut, MayBeTold};
+ghost use Rattle.grammar.specs.Laws.{BlocksKeepTheFunction, CompiledIsResolved, EachDerivationEnds, EachFileFollows, FaultlessIsResolved, FirstFaultDecides, LevelsAreShut, MayBeTold, WhatWasReadIsNeeded};
 
 use crate::build::Build;
 
@@ -14,6 +14,11 @@ pub fn derivations()
 /// The grammar's productions shut each level that they open.
 pub fn levels()
     ensures { LevelsAreShut }
+{}
+
+/// What was read of a source is needed: where no fault stands before the tokens that are next, up to the second of them.
+pub fn reach()
+    ensures { WhatWasReadIsNeeded }
 {}
 
 /// A function's block changes neither which function is being defined, nor its name, nor its parameters.

@@ -1,5 +1,5 @@
 -- How the reading of a file goes on, and where it stops.
-use Rattle.std.proofs.Common.{◌≡◌, List, [], ◌∷◌, ◌++◌, refl, sym, ap, ◌∙◌, subst, Bool, true, append_assoc, append-nil}
+use Rattle.std.proofs.Common.{◌≡◌, List, [], ◌∷◌, ◌++◌, refl, sym, ap, ◌∙◌, subst, Bool, true, append_assoc, append-nil, ℕ}
 use Rattle.tokens.specs.declared.lexemes.Lexeme.{Lexeme}
 use Rattle.grammar.specs.declared.diagnostics.Diagnostic.{Diagnostic}
 use Rattle.grammar.specs.declared.diagnostics.ParseFault.{ParseFault}
@@ -8,11 +8,14 @@ use Rattle.grammar.specs.Building.{Meaning}
 use Rattle.grammar.specs.Derivation.{Definition, state}
 use Rattle.grammar.specs.Faults.{definitions_actions, levels}
 use Rattle.grammar.specs.Grammar.{Item}
-use Rattle.grammar.specs.Parsing.{Passes}
-use Rattle.grammar.proofs.Runs.{back, here, then}
-use Rattle.parsing.specs.Position.{GoesOn, Place, scope_at}
-use Rattle.parsing.specs.Stretch.{Derives, FailsAt, Refused, Takes}
-use Rattle.parsing.proofs.Stretches.{refused_map, told_goes}
+use Rattle.grammar.specs.Parsing.{Passes, Fails}
+use Rattle.grammar.proofs.Runs.{here, then}
+use Rattle.parsing.specs.Position.{GoesOn, Place, scope_at, next_at}
+use Rattle.parsing.specs.Stopping.{Stop, stop_with}
+use Rattle.std.specs.Prelude.{Some}
+use Rattle.grammar.specs.Profile.{Profile}
+use Rattle.parsing.specs.Stretch.{Derives, FailsAt, Refused, Takes, IsNearTo}
+use Rattle.parsing.proofs.Stretches.{refused_map, told_goes, Begins, near_told, stops_back, stops_here, told_begins}
 use Rattle.lang.specs.Progress.{Advances, StopsReading}
 
 pub definitions_actions-append : (ds es : List Definition) → definitions_actions (ds ++ es) ≡ definitions_actions ds ++ definitions_actions es
@@ -53,12 +56,12 @@ advances_then before mid after front between pending at now there a b = record {
 }
 
 -- a fault behind a reading
-pub stops_then : (before mid : Meaning) (front between : List Item) (at now : Place) (d : Diagnostic) →
+pub stops_then : (before mid : Meaning) (front between : List Item) (at now : Place) (d : Stop) →
     Advances before mid front between at now → StopsReading mid between now d → StopsReading before front at d
 stops_then before mid front between at now d a stops lexemes is profile functions h =
     let t : Takes a.consumed lexemes now = a.told lexemes is in
     let told : mid profile (definitions_actions (functions ++ a.more)) = subst (λ (xs : List Action). mid profile xs) (sym (definitions_actions-append functions a.more)) (a.added profile _ h) in
-    rw t.is (back profile _ _ d (a.passes t.rest (told_goes now t.rest t.shows) profile functions h) (stops t.rest t.shows profile (functions ++ a.more) told))
+    rw t.is (stops_back profile _ _ d a.consumed refl (a.passes t.rest (told_goes now t.rest t.shows) profile functions h) (stops t.rest t.shows profile (functions ++ a.more) told))
 
 -- a stretch between functions
 pub stretch_advances : (before : Meaning) (front pending stack : List Item) (at there : Place) → levels stack ≡ 0 → Derives 0 front pending [] [] at there →
@@ -75,15 +78,24 @@ stretch_advances before front pending stack at there depths a = record {
 }
 
 -- a fault within one
-pub stretch_stops : (before : Meaning) (front stack : List Item) (at : Place) (d : Diagnostic) → levels stack ≡ 0 → FailsAt 0 front [] at d → StopsReading before (front ++ stack) at d
+pub stretch_stops : (before : Meaning) (front stack : List Item) (at : Place) (d : Stop) → levels stack ≡ 0 → FailsAt 0 front [] at d → StopsReading before (front ++ stack) at d
 stretch_stops before front stack at d depths fails lexemes is profile functions h = fails lexemes is profile stack [] functions depths
 
 -- a refusal behind a reading
-pub leave : (before mid : Meaning) (front between : List Item) (at now : Place) (allocates more : Bool) (f : ParseFault) → Advances before mid front between at now →
-    ((allocates ≡ true) → more ≡ true) → Refused (StopsReading mid between now) allocates f → Refused (StopsReading before front at) more f
-leave before mid front between at now allocates more f a memory = refused_map _ _ allocates more f (λ d. stops_then before mid front between at now d a) memory
+pub leave : (used : ℕ) (before mid : Meaning) (front between : List Item) (at now : Place) (allocates more : Bool) (f : ParseFault) → Advances before mid front between at now →
+    ((allocates ≡ true) → more ≡ true) → Refused (StopsReading mid between now) allocates used f → Refused (StopsReading before front at) more used f
+leave used before mid front between at now allocates more f a memory = refused_map used _ _ allocates more f (λ d. stops_then before mid front between at now d a) memory
 
 -- a refusal of a callee within a stretch
-pub leave_stretch : (before : Meaning) (front stack : List Item) (at : Place) (allocates more : Bool) (f : ParseFault) → levels stack ≡ 0 →
-    ((allocates ≡ true) → more ≡ true) → Refused (FailsAt 0 front [] at) allocates f → Refused (StopsReading before (front ++ stack) at) more f
-leave_stretch before front stack at allocates more f depths memory = refused_map _ _ allocates more f (λ d. stretch_stops before front stack at d depths) memory
+pub leave_stretch : (used : ℕ) (before : Meaning) (front stack : List Item) (at : Place) (allocates more : Bool) (f : ParseFault) → levels stack ≡ 0 →
+    ((allocates ≡ true) → more ≡ true) → Refused (FailsAt 0 front [] at) allocates used f → Refused (StopsReading before (front ++ stack) at) more used f
+leave_stretch used before front stack at allocates more f depths memory = refused_map used _ _ allocates more f (λ d. stretch_stops before front stack at d depths) memory
+
+-- the first fault stands at the next token
+pub reading_fails_at_next : (before : Meaning) (front : List Item) (at : Place) (d : Diagnostic) (used : ℕ) → IsNearTo at used →
+    ((tail : List Lexeme) (profile : Profile) (functions : List Definition) → Fails profile (state front (next_at at ∷ tail) [] (scope_at at) functions) d) →
+    StopsReading before front at (stop_with (Some d) used)
+reading_fails_at_next before front at d used near fails lexemes is profile functions h =
+    let b : Begins at.position.reading lexemes = told_begins at lexemes is in
+    let here : Fails profile (state front lexemes [] (scope_at at) functions) d = rw b.is (fails b.tail profile functions) in
+    stops_here profile (state front lexemes [] (scope_at at) functions) (stop_with (Some d) used) here (near_told at lexemes used is near)

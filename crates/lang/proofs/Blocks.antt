@@ -1,28 +1,31 @@
 -- What the reading of a function derives.
 use Rattle.std.proofs.Common.{◌≡◌, ℕ, ◌+◌, ◌<◌, ◌≤◌, List, [], ◌∷◌, ◌++◌, refl, sym, ap, ◌∙◌, subst, Bool, true, false, arith, append_assoc, append-nil}
 use Rattle.std.proofs.lemmas.Bool.Decides.{nat_tests}
-use Rattle.std.specs.Prelude.{length, nat_lt}
+use Rattle.std.specs.Prelude.{length, nat_lt, Some, None}
 use Rattle.tokens.specs.declared.lexemes.Lexeme.{Lexeme}
 use Rattle.tokens.specs.declared.lexemes.Mark.TheVariants as mark
 use Rattle.tokens.specs.declared.lexemes.Token.{Token}
 use Rattle.tokens.specs.declared.lexemes.Token.TheVariants as token
-use Rattle.grammar.specs.declared.diagnostics.Diagnostic.{Diagnostic}
+use Rattle.grammar.specs.declared.diagnostics.Code.TheVariants as code
 use Rattle.grammar.specs.declared.diagnostics.ParseFault.{ParseFault}
+use Rattle.grammar.specs.declared.diagnostics.ParseFault.TheVariants as refusal
 use Rattle.grammar.specs.Actions.{Action, Begin, Finish, body_actions, code_length, function_actions, last_return}
 use Rattle.grammar.specs.Building.{Meaning, AppendsAll}
 use Rattle.grammar.specs.Derivation.{ABody, Definition, definition_of, state}
 use Rattle.grammar.specs.Faults.{definitions_actions, is_too_long}
 use Rattle.grammar.specs.Grammar.{Item, AName, Define, Defined, Exactly, FunctionBlock, Make, ParameterTypes, Parameters, Part, Shut, is_fault, is_mark}
-use Rattle.grammar.specs.Parsing.{Passes}
+use Rattle.grammar.specs.Parsing.{Passes, Fails}
 use Rattle.grammar.specs.Profile.{Profile}
 use Rattle.grammar.specs.Scope.{Scope, end_definition}
 use Rattle.grammar.specs.Tree.{Body}
 use Rattle.grammar.proofs.Firsts.{too_long}
-use Rattle.grammar.proofs.Runs.{back, then}
+use Rattle.grammar.proofs.Runs.{then}
 use Rattle.grammar.proofs.Steps.{make, shut}
 use Rattle.parsing.specs.Position.{GoesOn, Place, next_at, scope_at, tokens_at}
-use Rattle.parsing.specs.Stretch.{Derives, DerivesItem, FailsAt, FailsItem, Refused, Takes}
-use Rattle.parsing.proofs.Stretches.{Begins, fails_then, goes_begins, joined, refused_map, stay, told_begins, told_goes}
+use Rattle.parsing.specs.Stopping.{Stop, Stops, stop_with}
+use Rattle.grammar.specs.Compiled.{diagnostic}
+use Rattle.parsing.specs.Stretch.{Derives, DerivesItem, FailsAt, FailsItem, Refused, Takes, IsNearTo}
+use Rattle.parsing.proofs.Stretches.{Begins, fails_then, goes_begins, joined, refused_map, stay, told_begins, told_goes, near_told, stops_back, stops_here}
 use Rattle.lang.specs.Progress.{AddsBlock, Advances, ClosesFunction, IsTooMuch, StopsReading, at_brace, at_definition, at_source}
 use Rattle.lang.proofs.Advancing.{definitions_actions-append}
 
@@ -146,39 +149,47 @@ function_advances first second third fourth at now brace ended there number para
 
 -- Where the reading of a function stops.
 
-heading_stops : (before : Meaning) (at : Place) (d : Diagnostic) → FailsAt 0 heading_items [] at d → StopsReading before at_definition at d
+heading_stops : (before : Meaning) (at : Place) (d : Stop) → FailsAt 0 heading_items [] at d → StopsReading before at_definition at d
 heading_stops before at d fails lexemes is profile functions h = fails lexemes is profile (Part FunctionBlock ∷ at_source) [] functions refl
 
-pub heading_refused : (before : Meaning) (at : Place) (f : ParseFault) (more : Bool) → Refused (FailsAt 0 heading_items [] at) false f → Refused (StopsReading before at_definition at) more f
-heading_refused before at f more = refused_map _ _ false more f (λ d. heading_stops before at d) (λ never. absurd (cc))
+pub heading_refused : (used : ℕ) (before : Meaning) (at : Place) (f : ParseFault) (more : Bool) → Refused (FailsAt 0 heading_items [] at) false used f → Refused (StopsReading before at_definition at) more used f
+heading_refused used before at f more = refused_map used _ _ false more f (λ d. heading_stops before at d) (λ never. absurd (cc))
 
-block_stops : (before : Meaning) (at now : Place) (d : Diagnostic) → Derives 0 heading_items [] [] [] at now → FailsAt 0 (Part FunctionBlock ∷ []) [] now d → StopsReading before at_definition at d
+block_stops : (before : Meaning) (at now : Place) (d : Stop) → Derives 0 heading_items [] [] [] at now → FailsAt 0 (Part FunctionBlock ∷ []) [] now d → StopsReading before at_definition at d
 block_stops before at now d h fails lexemes is profile functions k =
     fails_then 0 definition_items (Part FunctionBlock ∷ []) [] [] at now d (headed at now h) fails lexemes is profile at_source [] functions refl
 
-pub block_refused : (before : Meaning) (at now : Place) (f : ParseFault) (allocates : Bool) → Derives 0 heading_items [] [] [] at now → Refused (FailsAt 0 (Part FunctionBlock ∷ []) [] now) allocates f →
-    Refused (StopsReading before at_definition at) allocates f
-block_refused before at now f allocates h = refused_map _ _ allocates allocates f (λ d. block_stops before at now d h) (λ same. same)
+pub block_refused : (used : ℕ) (before : Meaning) (at now : Place) (f : ParseFault) (allocates : Bool) → Derives 0 heading_items [] [] [] at now → Refused (FailsAt 0 (Part FunctionBlock ∷ []) [] now) allocates used f →
+    Refused (StopsReading before at_definition at) allocates used f
+block_refused used before at now f allocates h = refused_map used _ _ allocates allocates f (λ d. block_stops before at now d h) (λ same. same)
 
-too_much_stops : (first second third : Meaning) (at now brace : Place) (number parameters : ℕ) (d : Diagnostic) → Derives 0 heading_items [] [] [] at now → (b : AddsBlock second third now brace) →
+too_much_stops : (first second third : Meaning) (at now brace : Place) (number parameters : ℕ) (d : Stop) → IsNearTo brace d.taken → Derives 0 heading_items [] [] [] at now → (b : AddsBlock second third now brace) →
     AppendsAll first second (Begin number parameters ∷ []) → is_fault (next_at brace).token ≡ false → is_mark mark.CloseCurly (next_at brace).token ≡ true → IsTooMuch third (next_at brace).line d → StopsReading first at_definition at d
-too_much_stops first second third at now brace number parameters d h b told sound closed much lexemes is profile functions k =
+too_much_stops first second third at now brace number parameters d near h b told sound closed much lexemes is profile functions k =
     let s : Derives 0 definition_items at_brace [] (ABody b.tree ∷ []) at brace = braced second third at now brace h b in
     let t : Takes s.consumed lexemes brace = s.told lexemes is in
     let x : Begins brace.position.reading t.rest = told_begins brace t.rest t.shows in
     let long : is_too_long profile (functions ++ definition_of (scope_at brace) b.tree ∷ []) ≡ true = past_limit profile _ _ (code_with functions (scope_at brace) b.tree parameters number) (much.over profile _ (b.added profile _ (told profile _ k))) in
-    rw (t.is, much.is)
-    (back profile _ _ _ (s.passes t.rest (told_goes brace t.rest t.shows) profile at_source [] functions refl)
-    (rw x.is (too_long profile (Shut ∷ at_source) (next_at brace) x.tail (ABody b.tree ∷ []) (scope_at brace) functions sound closed (rw long refl))))
+    let fails : Fails profile (state (at_brace ++ at_source) t.rest (ABody b.tree ∷ []) (scope_at brace) functions) (diagnostic (next_at brace).line code.TooMuchCode) =
+    rw x.is (too_long profile (Shut ∷ at_source) (next_at brace) x.tail (ABody b.tree ∷ []) (scope_at brace) functions sound closed (rw long refl)) in
+    let stop : Stops profile (state (at_brace ++ at_source) t.rest (ABody b.tree ∷ []) (scope_at brace) functions) d =
+    stops_here profile (state (at_brace ++ at_source) t.rest (ABody b.tree ∷ []) (scope_at brace) functions) d (rw much.is fails) (rw much.is (near_told brace t.rest d.taken t.shows near)) in
+    rw t.is
+    (stops_back profile _ _ d s.consumed refl (s.passes t.rest (told_goes brace t.rest t.shows) profile at_source [] functions refl) stop)
 
-pub too_much_refused : (first second third : Meaning) (at now brace : Place) (number parameters : ℕ) (f : ParseFault) (allocates : Bool) → Derives 0 heading_items [] [] [] at now → AddsBlock second third now brace →
-    AppendsAll first second (Begin number parameters ∷ []) → is_fault (next_at brace).token ≡ false → is_mark mark.CloseCurly (next_at brace).token ≡ true → Refused (IsTooMuch third (next_at brace).line) allocates f →
-    Refused (StopsReading first at_definition at) allocates f
-too_much_refused first second third at now brace number parameters f allocates h b told sound closed =
-    refused_map _ _ allocates allocates f (λ d. too_much_stops first second third at now brace number parameters d h b told sound closed) (λ same. same)
+pub too_much_refused : (used : ℕ) (first second third : Meaning) (at now brace : Place) (number parameters : ℕ) (f : ParseFault) (allocates : Bool) → IsNearTo brace used → Derives 0 heading_items [] [] [] at now → AddsBlock second third now brace →
+    AppendsAll first second (Begin number parameters ∷ []) → is_fault (next_at brace).token ≡ false → is_mark mark.CloseCurly (next_at brace).token ≡ true → Refused (IsTooMuch third (next_at brace).line) allocates used f →
+    Refused (StopsReading first at_definition at) allocates used f
+too_much_refused used first second third at now brace number parameters f allocates near h b told sound closed =
+    by_fault f
+  where
+    by_fault : (f : ParseFault) → Refused (IsTooMuch third (next_at brace).line) allocates used f → Refused (StopsReading first at_definition at) allocates used f
+    by_fault (refusal.Source d) much = too_much_stops first second third at now brace number parameters (stop_with (Some d) used) near h b told sound closed much
+    by_fault refusal.Device much = too_much_stops first second third at now brace number parameters (stop_with None used) near h b told sound closed much
+    by_fault refusal.Memory much = much
 
 -- the closing brace itself is always there, but the token behind it may be a fault
-brace_stops : (first second third fourth : Meaning) (at now brace ended : Place) (number parameters variables : ℕ) (d : Diagnostic) →
+brace_stops : (first second third fourth : Meaning) (at now brace ended : Place) (number parameters variables : ℕ) (d : Stop) →
     Derives 0 heading_items [] [] [] at now → AddsBlock second third now brace → IsEnded brace ended →
     AppendsAll first second (Begin number parameters ∷ []) → ClosesFunction third fourth variables → is_fault (next_at brace).token ≡ false →
     FailsItem (Exactly mark.CloseCurly) ended d → StopsReading first at_definition at d
@@ -189,16 +200,16 @@ brace_stops first second third fourth at now brace ended number parameters varia
     let f : Definition = definition_of (scope_at brace) b.tree in
     let short : is_too_long profile (functions ++ f ∷ []) ≡ false = short_enough profile second third fourth functions (scope_at brace) b.tree number parameters variables b.added c (told profile _ k) in
     rw t.is
-    (back profile _ _ _ (x.passes t.rest (told_goes brace t.rest t.shows) profile at_source [] functions refl)
-    (back profile _ _ _ (define_step profile t.rest (scope_at brace) (scope_at ended) functions b.tree (Exactly mark.CloseCurly ∷ Shut ∷ at_source) (next_at brace) y.tail y.is sound s.scope short)
+    (stops_back profile _ _ _ x.consumed refl (x.passes t.rest (told_goes brace t.rest t.shows) profile at_source [] functions refl)
+    (stops_back profile _ _ _ [] refl (define_step profile t.rest (scope_at brace) (scope_at ended) functions b.tree (Exactly mark.CloseCurly ∷ Shut ∷ at_source) (next_at brace) y.tail y.is sound s.scope short)
     (fails 1 t.rest (tokens_ended brace ended s ∙ t.shows) profile (Shut ∷ at_source) [] (functions ++ f ∷ []) refl)))
 
-pub brace_refused : (first second third fourth : Meaning) (at now brace ended : Place) (number parameters variables : ℕ) (f : ParseFault) (more : Bool) →
+pub brace_refused : (used : ℕ) (first second third fourth : Meaning) (at now brace ended : Place) (number parameters variables : ℕ) (f : ParseFault) (more : Bool) →
     Derives 0 heading_items [] [] [] at now → AddsBlock second third now brace → IsEnded brace ended →
     AppendsAll first second (Begin number parameters ∷ []) → ClosesFunction third fourth variables → is_fault (next_at brace).token ≡ false →
-    Refused (FailsItem (Exactly mark.CloseCurly) ended) false f → Refused (StopsReading first at_definition at) more f
-brace_refused first second third fourth at now brace ended number parameters variables f more h b s told c sound =
-    refused_map _ _ false more f (λ d. brace_stops first second third fourth at now brace ended number parameters variables d h b s told c sound) (λ never. absurd (cc))
+    Refused (FailsItem (Exactly mark.CloseCurly) ended) false used f → Refused (StopsReading first at_definition at) more used f
+brace_refused used first second third fourth at now brace ended number parameters variables f more h b s told c sound =
+    refused_map used _ _ false more f (λ d. brace_stops first second third fourth at now brace ended number parameters variables d h b s told c sound) (λ never. absurd (cc))
 
 -- A closing brace is no fault.
 pub closing_sound : (t : Token) → is_mark mark.CloseCurly t ≡ true → is_fault t ≡ false

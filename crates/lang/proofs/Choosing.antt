@@ -17,10 +17,11 @@ use Rattle.grammar.specs.Grammar.{Item, AName, AWord, Defined, Exactly, External
 use Rattle.grammar.proofs.Firsts.{no_part}
 use Rattle.grammar.proofs.Steps.{part}
 use Rattle.parsing.specs.Position.{Place, after_at, next_at, scope_at}
-use Rattle.parsing.specs.Stretch.{Derives, DerivesItem, FailsAt, FailsItem, Refused}
-use Rattle.parsing.proofs.Stretches.{Begins, IsBehind, Leads, refused_map, stand, told_begins}
+use Rattle.parsing.specs.Stopping.{stop_with}
+use Rattle.parsing.specs.Stretch.{Derives, DerivesItem, FailsAt, FailsItem, Refused, IsNearTo}
+use Rattle.parsing.proofs.Stretches.{IsBehind, Leads, refused_map, stand}
 use Rattle.lang.specs.Progress.{Advances, StopsReading, at_definition, at_source}
-use Rattle.lang.proofs.Advancing.{advances_then, leave, stops_then, stretch_advances, stretch_stops}
+use Rattle.lang.proofs.Advancing.{advances_then, leave, stops_then, stretch_advances, stretch_stops, reading_fails_at_next}
 
 -- a symbol that opens no level was replaced
 symbol_leads : (symbol : Symbol) (items : List Item) (lexeme : Lexeme) (tail : List Lexeme) (at : Place) → is_fault lexeme.token ≡ false → choice symbol lexeme.token (next_of tail) ≡ Some items → opens symbol lexeme.token (next_of tail) ≡ false →
@@ -64,11 +65,10 @@ source_none (token.Mark m) after end type name = refl
 source_none (token.Constant value) after end type name = refl
 source_none (token.Fault flaw) after end type name = refl
 
-pub source_misfits : (before : Meaning) (at : Place) → is_fault (next_at at).token ≡ false → ((next_at at).token ≡ token.End → ⊥) → is_word word.Type (next_at at).token ≡ false → ((name : List ℕ) → (next_at at).token ≡ token.Name name → ⊥) →
-    StopsReading before at_source at (diagnostic (next_at at).line (misfit_code (next_at at).token))
-source_misfits before at sound end type name lexemes shows profile functions h =
-    let b : Begins at.position.reading lexemes = told_begins at lexemes shows in
-    rw b.is (no_part profile Source [] (next_at at ∷ b.tail) [] (scope_at at) functions sound (source_none (next_at at).token _ end type name) refl)
+pub source_misfits : (before : Meaning) (at : Place) (used : ℕ) (near : IsNearTo at used) → is_fault (next_at at).token ≡ false → ((next_at at).token ≡ token.End → ⊥) → is_word word.Type (next_at at).token ≡ false → ((name : List ℕ) → (next_at at).token ≡ token.Name name → ⊥) →
+    StopsReading before at_source at (stop_with (Some (diagnostic (next_at at).line (misfit_code (next_at at).token))) used)
+source_misfits before at used near sound end type name =
+    reading_fails_at_next before at_source at _ used near (λ tail profile functions. no_part profile Source [] (next_at at ∷ tail) [] (scope_at at) functions sound (source_none (next_at at).token _ end type name) refl)
 
 -- Behind the type words.
 
@@ -88,13 +88,13 @@ typed_head before at now behind is d e =
     advances_then before before before at_source (Part Types ∷ at_head) at_head at now behind
     (advances_then before before before at_source typed_items (Part Types ∷ at_head) at at now (source_typed before at is) (type_word before at now d)) (more_types before now behind e)
 
-pub word_refused : (before : Meaning) (at : Place) (f : ParseFault) (more : Bool) → is_word word.Type (next_at at).token ≡ true → Refused (FailsItem (AWord word.Type) at) false f → Refused (StopsReading before at_source at) more f
-word_refused before at f more is = refused_map _ _ false more f
+pub word_refused : (used : ℕ) (before : Meaning) (at : Place) (f : ParseFault) (more : Bool) → is_word word.Type (next_at at).token ≡ true → Refused (FailsItem (AWord word.Type) at) false used f → Refused (StopsReading before at_source at) more used f
+word_refused used before at f more is = refused_map used (FailsItem (AWord word.Type) at) (StopsReading before at_source at) false more f
     (λ d fails. stops_then before before at_source typed_items at at d (source_typed before at is) (stretch_stops before (AWord word.Type ∷ []) (Part Types ∷ at_head) at d refl (fails 0))) (λ never. absurd (cc))
 
-pub types_refused : (before : Meaning) (at now : Place) (f : ParseFault) (more : Bool) → is_word word.Type (next_at at).token ≡ true → DerivesItem (AWord word.Type) [] [] at now →
-    Refused (λ d. (depth : ℕ) → FailsAt depth (Part Types ∷ []) [] now d) false f → Refused (StopsReading before at_source at) more f
-types_refused before at now f more is passed = refused_map _ _ false more f
+pub types_refused : (used : ℕ) (before : Meaning) (at now : Place) (f : ParseFault) (more : Bool) → is_word word.Type (next_at at).token ≡ true → DerivesItem (AWord word.Type) [] [] at now →
+    Refused (λ d. (depth : ℕ) → FailsAt depth (Part Types ∷ []) [] now d) false used f → Refused (StopsReading before at_source at) more used f
+types_refused used before at now f more is passed = refused_map used (λ d. (depth : ℕ) → FailsAt depth (Part Types ∷ []) [] now d) (StopsReading before at_source at) false more f
     (λ d fails. stops_then before before at_source (Part Types ∷ at_head) at now d
     (advances_then before before before at_source typed_items (Part Types ∷ at_head) at at now (source_typed before at is) (type_word before at now passed))
     (stretch_stops before (Part Types ∷ []) at_head now d refl (fails 0))) (λ never. absurd (cc))
@@ -153,25 +153,24 @@ head_none (token.Mark m) after name = refl
 head_none (token.Constant value) after name = refl
 head_none (token.Fault flaw) after name = refl
 
-pub head_misfits : (before : Meaning) (at : Place) → is_fault (next_at at).token ≡ false → ((name : List ℕ) → (next_at at).token ≡ token.Name name → ⊥) →
-    StopsReading before at_head at (diagnostic (next_at at).line (misfit_code (next_at at).token))
-head_misfits before at sound name lexemes shows profile functions h =
-    let b : Begins at.position.reading lexemes = told_begins at lexemes shows in
-    rw b.is (no_part profile Head at_source (next_at at ∷ b.tail) [] (scope_at at) functions sound (head_none (next_at at).token _ name) refl)
+pub head_misfits : (before : Meaning) (at : Place) (used : ℕ) (near : IsNearTo at used) → is_fault (next_at at).token ≡ false → ((name : List ℕ) → (next_at at).token ≡ token.Name name → ⊥) →
+    StopsReading before at_head at (stop_with (Some (diagnostic (next_at at).line (misfit_code (next_at at).token))) used)
+head_misfits before at used near sound name =
+    reading_fails_at_next before at_head at _ used near (λ tail profile functions. no_part profile Head at_source (next_at at ∷ tail) [] (scope_at at) functions sound (head_none (next_at at).token _ name) refl)
 
 -- externals were declared
 pub externals_read : (before : Meaning) (at now : Place) (name : List ℕ) → (next_at at).token ≡ token.Name name → is_mark mark.OpenRound (after_at at) ≡ false → Derives 0 external_items [] [] [] at now → Advances before before at_head at_source at now
 externals_read before at now name same other d =
     advances_then before before before at_head (external_items ++ at_source) at_source at at now (head_external before at name same other) (stretch_advances before external_items [] at_source at now refl d)
 
-pub externals_refused : (before : Meaning) (at : Place) (name : List ℕ) (f : ParseFault) (more : Bool) → (next_at at).token ≡ token.Name name → is_mark mark.OpenRound (after_at at) ≡ false →
-    Refused (λ d. (depth : ℕ) → FailsAt depth external_items [] at d) false f → Refused (StopsReading before at_head at) more f
-externals_refused before at name f more same other = refused_map _ _ false more f
+pub externals_refused : (used : ℕ) (before : Meaning) (at : Place) (name : List ℕ) (f : ParseFault) (more : Bool) → (next_at at).token ≡ token.Name name → is_mark mark.OpenRound (after_at at) ≡ false →
+    Refused (λ d. (depth : ℕ) → FailsAt depth external_items [] at d) false used f → Refused (StopsReading before at_head at) more used f
+externals_refused used before at name f more same other = refused_map used (λ d. (depth : ℕ) → FailsAt depth external_items [] at d) (StopsReading before at_head at) false more f
     (λ d fails. stops_then before before at_head (external_items ++ at_source) at at d (head_external before at name same other) (stretch_stops before external_items at_source at d refl (fails 0))) (λ never. absurd (cc))
 
 -- a function was read behind what leads to it
 pub function_read : (before after : Meaning) (front : List Item) (at there : Place) → Advances before before front at_definition at at → Advances before after at_definition at_source at there → Advances before after front at_source at there
 function_read before after front at there a b = advances_then before before after front at_definition at_source at at there a b
 
-pub function_refused : (before : Meaning) (front : List Item) (at : Place) (f : ParseFault) (allocates : Bool) → Advances before before front at_definition at at → Refused (StopsReading before at_definition at) allocates f → Refused (StopsReading before front at) allocates f
-function_refused before front at f allocates a = leave before before front at_definition at at allocates allocates f a (λ same. same)
+pub function_refused : (used : ℕ) (before : Meaning) (front : List Item) (at : Place) (f : ParseFault) (allocates : Bool) → Advances before before front at_definition at at → Refused (StopsReading before at_definition at) allocates used f → Refused (StopsReading before front at) allocates used f
+function_refused used before front at f allocates a = leave used before before front at_definition at at allocates allocates f a (λ same. same)

@@ -1,6 +1,6 @@
 -- What the reading of a function's block derives, up to its closing brace.
 use Rattle.std.proofs.Common.{◌≡◌, ℕ, ◌+◌, List, [], ◌∷◌, ◌++◌, refl, ap, subst, Bool, true, false, arith, append-nil}
-use Rattle.std.specs.Prelude.{Option, None, nat_le}
+use Rattle.std.specs.Prelude.{Option, None, nat_le, Some}
 use Rattle.tokens.specs.Reading.{Reading}
 use Rattle.tokens.specs.declared.lexemes.Lexeme.{Lexeme}
 use Rattle.tokens.specs.declared.lexemes.Mark.TheVariants as mark
@@ -8,7 +8,6 @@ use Rattle.tokens.specs.declared.lexemes.Token.{Token}
 use Rattle.tokens.specs.declared.lexemes.Token.TheVariants as token
 use Rattle.tokens.specs.Tokens.{followed_by}
 use Rattle.grammar.specs.declared.diagnostics.Code.TheVariants as code
-use Rattle.grammar.specs.declared.diagnostics.Diagnostic.{Diagnostic}
 use Rattle.grammar.specs.Building.{Meaning}
 use Rattle.grammar.specs.Compiled.{diagnostic}
 use Rattle.grammar.specs.Derivation.{ABody, Definition, state}
@@ -24,8 +23,9 @@ use Rattle.grammar.proofs.Keeping.{inner_keeps}
 use Rattle.grammar.proofs.Runs.{then}
 use Rattle.grammar.proofs.Steps.{make, mark as mark_step, part}
 use Rattle.parsing.specs.Position.{GoesOn, Place, next_at, place, scope_at}
-use Rattle.parsing.specs.Stretch.{Derives, FailsAt, GoesPast, StopsAt}
-use Rattle.parsing.proofs.Stretches.{Begins, Leads, joined, past, stand, stops, told_begins}
+use Rattle.parsing.specs.Stopping.{Stop, stop_with}
+use Rattle.parsing.specs.Stretch.{IsNearTo, Derives, FailsAt, GoesPast, StopsAt}
+use Rattle.parsing.proofs.Stretches.{Leads, joined, past, stand, stops, fails_at_next}
 use Rattle.lang.specs.Progress.{AddsBlock, at_brace}
 use Rattle.statements.specs.Statements.{AddsBody}
 
@@ -73,13 +73,13 @@ empty_leads lexeme sound known rest = record {
       (append-nil functions) (make profile Empty (inside_items ++ stack) (lexeme ∷ rest) values known functions sound refl);
 }
 
-pub brace_misfits : (at : Place) → is_fault (next_at at).token ≡ false → is_mark mark.OpenCurly (next_at at).token ≡ false →
-    FailsAt 0 (Part FunctionBlock ∷ []) [] at (diagnostic (next_at at).line (misfit_code (next_at at).token))
-brace_misfits at sound other lexemes shows profile stack values functions depths =
-    let b : Begins at.position.reading lexemes = told_begins at lexemes shows in
-    rw b.is (no_part profile FunctionBlock stack (next_at at ∷ b.tail) values (scope_at at) functions sound (not_open (next_at at).token _ other) (first_level _ (levels stack) (next_at at ∷ b.tail) depths))
+pub brace_misfits : (at : Place) (used : ℕ) (near : IsNearTo at used) → is_fault (next_at at).token ≡ false → is_mark mark.OpenCurly (next_at at).token ≡ false →
+    FailsAt 0 (Part FunctionBlock ∷ []) [] at (stop_with (Some (diagnostic (next_at at).line (misfit_code (next_at at).token))) used)
+brace_misfits at used near sound other =
+    fails_at_next 0 (Part FunctionBlock ∷ []) [] at _ used near (λ tail b profile stack values functions depths.
+    no_part profile FunctionBlock stack (next_at at ∷ tail) values (scope_at at) functions sound (not_open (next_at at).token _ other) (first_level _ (levels stack) (next_at at ∷ tail) depths))
 
-pub brace_stops : (reading : Reading) (known : Scope) (more : Option (List ℕ)) → is_mark mark.OpenCurly reading.next.token ≡ true → (d : Diagnostic) →
+pub brace_stops : (reading : Reading) (known : Scope) (more : Option (List ℕ)) → is_mark mark.OpenCurly reading.next.token ≡ true → (d : Stop) →
     StopsAt (place (record { reading = reading; scope = known }) more) d → FailsAt 0 (Part FunctionBlock ∷ []) [] (place (record { reading = reading; scope = known }) more) d
 brace_stops reading known more is d stop =
     stops reading known known more d 0 (Part FunctionBlock ∷ []) (Make Empty ∷ inside_items) [] [] (λ rest b. brace_leads reading.next is known rest) stop

@@ -1,36 +1,42 @@
 -- What a file is whose reading came to its end.
-use Rattle.std.proofs.Common.{◌≡◌, ℕ, List, [], ◌∷◌, ◌++◌, refl, sym, ap, ◌∙◌, subst, Bool, true, false}
+use Rattle.std.proofs.Common.{◌≡◌, ℕ, List, [], ◌∷◌, ◌++◌, refl, sym, ap, ◌∙◌, subst, Bool, true, false, drop, ◌+◌, ◌≤◌, arith}
 use Rattle.std.specs.Option.{option_map}
 use Rattle.std.specs.Prelude.{Option, Some, None, Ok, Err, Result, is_some}
+use Rattle.tokens.specs.Reading.{reach_of}
 use Rattle.tokens.specs.Tokens.{is_last, tokens}
+use Rattle.tokens.specs.Window.{Takes as TakesBytes}
 use Rattle.tokens.specs.declared.lexemes.Lexeme.{Lexeme}
 use Rattle.tokens.specs.declared.lexemes.Token.{Token}
 use Rattle.tokens.specs.declared.lexemes.Token.TheVariants as token
 use Rattle.grammar.specs.declared.diagnostics.Code.TheVariants as code
 use Rattle.grammar.specs.declared.diagnostics.Diagnostic.{Diagnostic}
 use Rattle.grammar.specs.declared.diagnostics.ParseFault.{ParseFault}
+use Rattle.grammar.specs.declared.diagnostics.ParseFault.TheVariants as refusal
 use Rattle.grammar.specs.Actions.{Action}
 use Rattle.grammar.specs.Building.{Meaning}
 use Rattle.grammar.specs.Compiled.{compiled, compiled_tokens, diagnostic, last_line, main_name, resolved}
-use Rattle.grammar.specs.Derivation.{Definition, is_end, next_of, line_of, state}
+use Rattle.grammar.specs.Derivation.{start, Definition, is_end, next_of, line_of, state}
 use Rattle.grammar.specs.Faults.{misfit_code}
 use Rattle.grammar.specs.Grammar.{AnEnd, Source, is_fault}
 use Rattle.grammar.specs.Naming.{line_of_undefined}
+use Rattle.grammar.specs.Need.{need}
 use Rattle.grammar.specs.Parsing.{Passes}
 use Rattle.grammar.specs.Pools.{Names}
 use Rattle.grammar.specs.Profile.{Profile}
 use Rattle.grammar.specs.Scope.{Scope, function_number, no_names}
 use Rattle.grammar.specs.Tree.{File}
 use Rattle.grammar.proofs.Firsts.{at_fault}
+use Rattle.grammar.proofs.Reach.{what_was_read_is_needed}
 use Rattle.grammar.proofs.Runs.{then}
 use Rattle.grammar.proofs.Steps.{last, part}
 use Rattle.grammar.proofs.Verdicts.{clean_verdict, fault_verdict}
 use Rattle.finishing.specs.Finished.{IsFinished, PassesAll}
 use Rattle.finishing.proofs.FileLaws.{finished, undefined, without_main}
 use Rattle.parsing.specs.Position.{GoesOn, Place, next_at, scope_at, tokens_at}
-use Rattle.parsing.specs.Stretch.{Refused, StopsFirst, Takes}
-use Rattle.parsing.proofs.Stretches.{refused_map, told_goes}
-use Rattle.lang.specs.Files.{FailsBytes, IsFile, IsNew}
+use Rattle.parsing.specs.Stopping.{NoneBefore, Stops, slack as slack_of, stop_with}
+use Rattle.parsing.specs.Stretch.{IsNearTo, Refused, StopsFirst, StopsOpening, Takes}
+use Rattle.parsing.proofs.Stretches.{near_told, none_back, none_before, told_goes}
+use Rattle.lang.specs.Files.{FailsBytes, IsFile, IsNew, Says, StopsTaking, TakesNoMore, TakesUpTo}
 use Rattle.lang.specs.Progress.{ADefinition, AMain, Advances, Lacks, Lists, StopsReading, at_source}
 
 end_is : (t : Token) → is_end t ≡ true → t ≡ token.End
@@ -126,26 +132,87 @@ lacks_main before after told at there w defined none bytes shows profile h =
     (without_main profile (all_of before after told at there w) (scope_at there) w.reads.more (passes_all before after told at there w profile h) defined none
     ∙ ap (λ (n : ℕ). Err (diagnostic n code.NoMainFunction)) (last_line_is w.reads.consumed (next_at there)))
 
-pub lacking : (before after : Meaning) (told : Option (List ℕ)) (at there : Place) (f : ParseFault) (allocates : Bool) → IsWhole before after told at there → Lacks there.position f → Refused (FailsBytes before told) allocates f
+pub lacking : (before after : Meaning) (told : Option (List ℕ)) (at there : Place) (f : ParseFault) (allocates : Bool) → IsWhole before after told at there → Lacks there.position f → Says (FailsBytes before told) allocates f
 lacking before after told at there f allocates w (ADefinition line is same) = rw same (lacks_definition before after told at there line w is)
 lacking before after told at there f allocates w (AMain defined none same) = rw same (lacks_main before after told at there w defined none)
 
 -- Where the reading stops, the file's first fault is there.
 
-stops_bytes : (before : Meaning) (told : Option (List ℕ)) (at : Place) (d : Diagnostic) → scope_at at ≡ no_names → tokens_at at ≡ option_map tokens told → StopsReading before at_source at d → FailsBytes before told d
-stops_bytes before told at d nothing tells stops bytes shows profile h =
+stops_bytes : (before : Meaning) (told : Option (List ℕ)) (at : Place) (d : Diagnostic) (used : ℕ) → scope_at at ≡ no_names → tokens_at at ≡ option_map tokens told → StopsReading before at_source at (stop_with (Some d) used) → FailsBytes before told d
+stops_bytes before told at d used nothing tells stops bytes shows profile h =
     compiled_as profile bytes (tokens bytes) (Err d) refl
-    (fault_verdict profile (tokens bytes) d (rw (sym nothing) (stops (tokens bytes) (tells ∙ ap (option_map tokens) shows) profile [] h)))
+    (fault_verdict profile (tokens bytes) d (rw (sym nothing) (stops (tokens bytes) (tells ∙ ap (option_map tokens) shows) profile [] h).fails))
 
-pub stopped : (before : Meaning) (told : Option (List ℕ)) (at : Place) (f : ParseFault) (allocates : Bool) → scope_at at ≡ no_names → tokens_at at ≡ option_map tokens told →
-    Refused (StopsReading before at_source at) allocates f → Refused (FailsBytes before told) allocates f
-stopped before told at f allocates nothing tells = refused_map _ _ allocates allocates f (λ d. stops_bytes before told at d nothing tells) (λ same. same)
+pub stopped : (used : ℕ) (before : Meaning) (told : Option (List ℕ)) (at : Place) (f : ParseFault) (allocates : Bool) → scope_at at ≡ no_names → tokens_at at ≡ option_map tokens told →
+    Refused (StopsReading before at_source at) allocates used f → Says (FailsBytes before told) allocates f
+stopped used before told at (refusal.Source d) allocates nothing tells h = stops_bytes before told at d used nothing tells h
+stopped used before told at refusal.Device allocates nothing tells h = tt
+stopped used before told at refusal.Memory allocates nothing tells h = h
 
-first_fails : (before : Meaning) (told : Option (List ℕ)) (d : Diagnostic) → StopsFirst (option_map tokens told) d → FailsBytes before told d
-first_fails before told d stops bytes shows profile h =
-    let s : (is_fault (next_of (tokens bytes)) ≡ true) × (d ≡ diagnostic (line_of (tokens bytes)) (misfit_code (next_of (tokens bytes)))) = stops (tokens bytes) (ap (option_map tokens) shows) in
+first_fails : (before : Meaning) (told told' : Option (List ℕ)) (d : Diagnostic) → StopsOpening told told' (refusal.Source d) → FailsBytes before told d
+first_fails before told told' d stops bytes shows profile h =
+    let s : (is_fault (next_of (tokens bytes)) ≡ true) × (d ≡ diagnostic (line_of (tokens bytes)) (misfit_code (next_of (tokens bytes)))) = stops.refused.flaw (tokens bytes) (ap (option_map tokens) shows) in
     compiled_as profile bytes (tokens bytes) (Err d) refl
     (fault_verdict profile (tokens bytes) d (rw s.1 (at_fault profile at_source (tokens bytes) [] no_names [] s.0)))
 
-pub first_refused : (before : Meaning) (told : Option (List ℕ)) (f : ParseFault) (more : Bool) → Refused (StopsFirst (option_map tokens told)) false f → Refused (FailsBytes before told) more f
-first_refused before told f more = refused_map _ _ false more f (λ d. first_fails before told d) (λ never. absurd (cc))
+pub first_refused : (before : Meaning) (told told' : Option (List ℕ)) (f : ParseFault) (more : Bool) → StopsOpening told told' f → Says (FailsBytes before told) more f
+first_refused before told told' (refusal.Source d) more stops = first_fails before told told' d stops
+first_refused before told told' refusal.Device more stops = tt
+first_refused before told told' refusal.Memory more stops = let never : false ≡ true = stops.refused in absurd (cc)
+
+-- How much was taken.
+
+takes_up_to : (profile : Profile) (bytes : List ℕ) (to_come : Option (List ℕ)) (used more : ℕ) (passed rest : List Lexeme) → tokens bytes ≡ passed ++ rest → NoneBefore profile (start (tokens bytes)) rest →
+    to_come ≡ Some (drop used bytes) → used ≤ reach_of rest + more → TakesUpTo profile bytes to_come more
+takes_up_to profile bytes to_come used more passed rest is none took taken =
+    let needed : reach_of rest ≤ need profile bytes = what_was_read_is_needed profile bytes passed rest is none.each in
+    record { count = used; took = took; needed = omega (arith, needed, taken) }
+
+-- the bytes taken from a device that tells its bytes
+abbrev pub HasTaken : ℕ → (told to_come : Option (List ℕ)) → Type 0
+HasTaken used told to_come = (bytes : List ℕ) → told ≡ Some bytes → to_come ≡ Some (drop used bytes)
+
+pub has_taken : (first used : ℕ) (told between to_come : Option (List ℕ)) → between ≡ option_map (drop first) told → TakesBytes first used between to_come → HasTaken used told to_come
+has_taken first used told between to_come opened took bytes is = took.rest told opened ∙ rw is refl
+
+reading_takes : (used slack : ℕ) (before : Meaning) (told to_come : Option (List ℕ)) (at : Place) (o : Option Diagnostic) → slack ≡ slack_of o → scope_at at ≡ no_names → tokens_at at ≡ option_map tokens told →
+    HasTaken used told to_come → StopsReading before at_source at (stop_with o used) → TakesNoMore before told to_come slack
+reading_takes used slack before told to_come at o same nothing tells taken stops bytes shows profile h =
+    let s : Stops profile (state at_source (tokens bytes) [] no_names []) (stop_with o used) =
+    subst (λ (known : Scope). Stops profile (state at_source (tokens bytes) [] known []) (stop_with o used)) nothing (stops (tokens bytes) (tells ∙ ap (option_map tokens) shows) profile [] h) in
+    takes_up_to profile bytes to_come used slack s.passed s.rest s.is s.none_before (taken bytes shows) (rw same s.taken)
+
+pub stops_taking : (used : ℕ) (before : Meaning) (told to_come : Option (List ℕ)) (at : Place) (f : ParseFault) (allocates : Bool) → scope_at at ≡ no_names → tokens_at at ≡ option_map tokens told →
+    HasTaken used told to_come → Refused (StopsReading before at_source at) allocates used f → StopsTaking before told to_come f
+stops_taking used before told to_come at (refusal.Source d) allocates nothing tells taken h = reading_takes used 4096 before told to_come at (Some d) refl nothing tells taken h
+stops_taking used before told to_come at refusal.Device allocates nothing tells taken h = reading_takes used 0 before told to_come at None refl nothing tells taken h
+stops_taking used before told to_come at refusal.Memory allocates nothing tells taken h = tt
+
+opening_takes : (slack : ℕ) (before : Meaning) (told to_come : Option (List ℕ)) (o : Option Diagnostic) (used : ℕ) → slack ≡ slack_of o → HasTaken used told to_come →
+    StopsFirst (option_map tokens told) (stop_with o used) → TakesNoMore before told to_come slack
+opening_takes slack before told to_come o used same taken stops bytes shows profile h =
+    takes_up_to profile bytes to_come used slack [] (tokens bytes) refl (none_before profile (start (tokens bytes))) (taken bytes shows) (rw same (stops.taken (tokens bytes) (ap (option_map tokens) shows)))
+
+pub first_taking : (before : Meaning) (told to_come : Option (List ℕ)) (f : ParseFault) → StopsOpening told to_come f → StopsTaking before told to_come f
+first_taking before told to_come (refusal.Source d) stops = opening_takes 4096 before told to_come (Some d) stops.taken refl stops.took stops.refused
+first_taking before told to_come refusal.Device stops = opening_takes 0 before told to_come None stops.taken refl stops.took stops.refused
+first_taking before told to_come refusal.Memory stops = tt
+
+-- a file that was read to its end
+pub whole_takes : (used : ℕ) (before after : Meaning) (told to_come : Option (List ℕ)) (at there : Place) → IsWhole before after told at there → IsNearTo there used → HasTaken used told to_come →
+    TakesNoMore before told to_come 4096
+whole_takes used before after told to_come at there w near taken bytes shows profile h =
+    let t : Takes w.reads.consumed (tokens bytes) there = w.reads.told (tokens bytes) (w.tells ∙ ap (option_map tokens) shows) in
+    let alone : t.rest ≡ next_at there ∷ [] = ends_alone there t.rest w.ends (told_goes there t.rest t.shows) in
+    let reached : Passes profile (state at_source (w.reads.consumed ++ t.rest) [] no_names []) (state at_source t.rest [] (scope_at there) w.reads.more) =
+    subst (λ (known : Scope). Passes profile (state at_source (w.reads.consumed ++ t.rest) [] known []) (state at_source t.rest [] (scope_at there) w.reads.more)) w.nothing
+    (w.reads.passes t.rest (told_goes there t.rest t.shows) profile [] h) in
+    let none : NoneBefore profile (start (tokens bytes)) t.rest =
+    subst (λ (ls : List Lexeme). NoneBefore profile (start ls) t.rest) (sym t.is)
+    (none_back profile _ (state at_source t.rest [] (scope_at there) w.reads.more) t.rest reached (none_before profile (state at_source t.rest [] (scope_at there) w.reads.more))) in
+    takes_up_to profile bytes to_come used 4096 w.reads.consumed t.rest t.is none (taken bytes shows) (near_told there t.rest used t.shows near)
+
+pub lacks_taking : (used : ℕ) (before after : Meaning) (told to_come : Option (List ℕ)) (at there : Place) (f : ParseFault) → IsWhole before after told at there → Lacks there.position f → IsNearTo there used → HasTaken used told to_come →
+    StopsTaking before told to_come f
+lacks_taking used before after told to_come at there f w (ADefinition line is same) near taken = rw same (whole_takes used before after told to_come at there w near taken)
+lacks_taking used before after told to_come at there f w (AMain defined none same) near taken = rw same (whole_takes used before after told to_come at there w near taken)

@@ -1,9 +1,12 @@
 -- What a parse gives: a file, or its first fault.
-use Rattle.std.specs.Prelude.{ℕ, ◌≡◌, List, [], map, Option, Some, Ok, Err}
+use Rattle.std.specs.Prelude.{ℕ, ◌+◌, ◌≡◌, ◌≤◌, List, [], drop, map, Bool, IsTrue, Option, Some, Ok, Err}
 use Rattle.grammar.specs.declared.diagnostics.Diagnostic.{Diagnostic}
+use Rattle.grammar.specs.declared.diagnostics.ParseFault.{ParseFault}
+use Rattle.grammar.specs.declared.diagnostics.ParseFault.TheVariants as refusal
 use Rattle.grammar.specs.Actions.{actions}
 use Rattle.grammar.specs.Building.{Meaning}
 use Rattle.grammar.specs.Compiled.{compiled, main_name}
+use Rattle.grammar.specs.Need.{need}
 use Rattle.grammar.specs.Pools.{FunctionNames, Names, names_of}
 use Rattle.grammar.specs.Profile.{Profile}
 use Rattle.grammar.specs.Resolved.{IsResolved}
@@ -28,3 +31,25 @@ pub record IsFile (before after : Meaning) (told : Option (List ℕ)) (names : N
 -- where the device tells its bytes, the diagnostic is that of their first fault
 abbrev pub FailsBytes : Meaning → Option (List ℕ) → Diagnostic → Type 0
 FailsBytes before told d = (bytes : List ℕ) → told ≡ Some bytes → (profile : Profile) → before profile [] → compiled profile bytes ≡ Err d
+
+-- what a refusal says: of a source its fault, of memory that the builder asks for it
+abbrev pub Says : (Diagnostic → Type 0) → Bool → ParseFault → Type 0
+Says fault allocates (refusal.Source d) = fault d
+Says fault allocates refusal.Device = Unit {0}
+Says fault allocates refusal.Memory = IsTrue allocates
+
+-- from a device that tells its bytes no more were taken than decide what they are, and so many more
+pub record TakesUpTo (profile : Profile) (bytes : List ℕ) (to_come : Option (List ℕ)) (more : ℕ) : Type 0 where
+  pub count : ℕ
+  pub took : to_come ≡ Some (drop count bytes)
+  pub needed : count ≤ need profile bytes + more
+
+-- the same of each profile that the builder goes by, where the device tells its bytes
+abbrev pub TakesNoMore : Meaning → (told to_come : Option (List ℕ)) → ℕ → Type 0
+TakesNoMore before told to_come more = (bytes : List ℕ) → told ≡ Some bytes → (profile : Profile) → before profile [] → TakesUpTo profile bytes to_come more
+
+-- what was taken where a source was refused: a window past what decides the fault at most, and where the device failed, nothing past it
+abbrev pub StopsTaking : Meaning → (told to_come : Option (List ℕ)) → ParseFault → Type 0
+StopsTaking before told to_come (refusal.Source d) = TakesNoMore before told to_come 4096
+StopsTaking before told to_come refusal.Device = TakesNoMore before told to_come 0
+StopsTaking before told to_come refusal.Memory = Unit {0}

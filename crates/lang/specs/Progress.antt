@@ -3,7 +3,6 @@ use Rattle.std.specs.Prelude.{ℕ, ◌+◌, ◌<◌, ◌≤◌, ◌≡◌, List,
 use Rattle.tokens.specs.declared.lexemes.Lexeme.{Lexeme}
 use Rattle.tokens.specs.declared.lexemes.Mark.TheVariants as mark
 use Rattle.grammar.specs.declared.diagnostics.Code.TheVariants as code
-use Rattle.grammar.specs.declared.diagnostics.Diagnostic.{Diagnostic}
 use Rattle.grammar.specs.Actions.{Action, Finish, body_actions, code_length, last_return}
 use Rattle.grammar.specs.Building.{Meaning, AppendsAll, StandsOpen}
 use Rattle.grammar.specs.declared.diagnostics.ParseFault.{ParseFault}
@@ -16,13 +15,14 @@ use Rattle.grammar.specs.Grammar.{Item, AName, Define, Defined, Exactly, Functio
 use Rattle.grammar.specs.Laws.{KeepsFunction}
 use Rattle.grammar.specs.Naming.{line_of_undefined}
 use Rattle.grammar.specs.Nesting.{body_nesting}
-use Rattle.grammar.specs.Parsing.{Fails, Passes}
+use Rattle.grammar.specs.Parsing.{Passes}
 use Rattle.grammar.specs.Pools.{Names}
 use Rattle.grammar.specs.Profile.{Profile}
 use Rattle.grammar.specs.Resolved.{InBody}
 use Rattle.grammar.specs.Scope.{Scope, function_number}
 use Rattle.grammar.specs.Tree.{Body}
 use Rattle.parsing.specs.Position.{GoesOn, Place, Position, scope_at, tokens_at}
+use Rattle.parsing.specs.Stopping.{Stop, Stops}
 use Rattle.parsing.specs.Stretch.{Derives, Takes}
 
 -- From one place between functions to another the builder was told further functions, and the derivation, which goes from these items
@@ -36,11 +36,11 @@ pub record Advances (before after : Meaning) (front pending : List Item) (here t
   pub passes : (rest : List Lexeme) → GoesOn there rest → (profile : Profile) (functions : List Definition) → before profile (definitions_actions functions) →
       Passes profile (state front (consumed ++ rest) [] (scope_at here) functions) (state pending rest [] (scope_at there) (functions ++ more))
 
--- where the tokens are told, the diagnostic is that of the first fault from these items on
-abbrev pub StopsReading : Meaning → List Item → Place → Diagnostic → Type 0
-StopsReading before front here d =
+-- where the tokens are told, the derivation from these items on stops so
+abbrev pub StopsReading : Meaning → List Item → Place → Stop → Type 0
+StopsReading before front here stop =
     (lexemes : List Lexeme) → tokens_at here ≡ Some lexemes → (profile : Profile) (functions : List Definition) → before profile (definitions_actions functions) →
-    Fails profile (state front lexemes [] (scope_at here) functions) d
+    Stops profile (state front lexemes [] (scope_at here) functions) stop
 
 -- between the parts of a file
 abbrev pub at_source : List Item
@@ -78,8 +78,8 @@ pub record ClosesFunction (before after : Meaning) (variables : ℕ) : Type 0 wh
   pub fits : (profile : Profile) (acts : List Action) → before profile acts → code_length (acts ++ last_return) + 1 ≤ profile.instructions
 
 -- The code passes the limit, and the diagnostic says so at this line.
-pub record IsTooMuch (before : Meaning) (line : ℕ) (d : Diagnostic) : Type 0 where
-  pub is : d ≡ diagnostic line code.TooMuchCode
+pub record IsTooMuch (before : Meaning) (line : ℕ) (stop : Stop) : Type 0 where
+  pub is : stop.fault ≡ Some (diagnostic line code.TooMuchCode)
   pub over : (profile : Profile) (acts : List Action) → before profile acts → profile.instructions < code_length (acts ++ last_return) + 1
 
 -- Each function that was mentioned is defined, main is among them, and these are the names.

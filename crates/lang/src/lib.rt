@@ -25,6 +25,8 @@ mod fault_tests;
 #[cfg(test)]
 mod limit_tests;
 #[cfg(test)]
+mod memory_tests;
+#[cfg(test)]
 mod piece_tests;
 #[cfg(test)]
 mod refuser;

@@ -8,7 +8,6 @@ use Rattle.tokens.specs.declared.lexemes.Token.TheVariants as token
 use Rattle.tokens.specs.declared.lexemes.Word.{Word}
 use Rattle.grammar.specs.declared.diagnostics.Code.{Code}
 use Rattle.grammar.specs.declared.diagnostics.ParseFault.{ParseFault}
-use Rattle.grammar.specs.declared.diagnostics.Diagnostic.{Diagnostic}
 use Rattle.grammar.specs.Compiled.{diagnostic}
 use Rattle.grammar.specs.Derivation.{Value, name_of_token, of_name}
 use Rattle.grammar.specs.Faults.{misfit_code}
@@ -21,8 +20,9 @@ use Rattle.parsing.specs.declared.roles.Declared.{Declared}
 use Rattle.parsing.specs.declared.roles.Declared.TheVariants as kind
 use Rattle.parsing.specs.Position.{Place, place, next_at, scope_at}
 use Rattle.parsing.specs.Roles.{role_of}
-use Rattle.parsing.specs.Stretch.{DerivesItem, FailsItem, GoesPast, IsNoName, Refused, StopsAt}
-use Rattle.parsing.proofs.Stretches.{Begins, Leads, past, stops, told_begins}
+use Rattle.parsing.specs.Stopping.{Stop, stop_with}
+use Rattle.parsing.specs.Stretch.{IsNearTo, DerivesItem, FailsItem, GoesPast, IsNoName, Refused, StopsAt}
+use Rattle.parsing.proofs.Stretches.{Leads, fails_at_next, past, stops}
 
 mark_leads : (lexeme : Lexeme) (m : Mark) (depth : ℕ) (known : Scope) (rest : List Lexeme) → is_fault lexeme.token ≡ false → is_mark m lexeme.token ≡ true →
     Leads depth (Exactly m ∷ []) [] [] [] known known (lexeme ∷ rest) rest
@@ -33,16 +33,15 @@ pub mark_derives : (reading : Reading) (known : Scope) (more : Option (List ℕ)
 mark_derives reading known more there m sound fits goes depth =
     past reading known known more there depth (Exactly m ∷ []) [] [] [] goes (λ rest b. mark_leads reading.next m depth known rest sound fits)
 
-pub mark_stops : (reading : Reading) (known : Scope) (more : Option (List ℕ)) (m : Mark) → is_fault reading.next.token ≡ false → is_mark m reading.next.token ≡ true → (d : Diagnostic) →
+pub mark_stops : (reading : Reading) (known : Scope) (more : Option (List ℕ)) (m : Mark) → is_fault reading.next.token ≡ false → is_mark m reading.next.token ≡ true → (d : Stop) →
     StopsAt (place (record { reading = reading; scope = known }) more) d → FailsItem (Exactly m) (place (record { reading = reading; scope = known }) more) d
 mark_stops reading known more m sound fits d stop depth =
     stops reading known known more d depth (Exactly m ∷ []) [] [] [] (λ rest b. mark_leads reading.next m depth known rest sound fits) stop
 
-pub mark_misfits : (at : Place) (m : Mark) → is_fault (next_at at).token ≡ false → is_mark m (next_at at).token ≡ false →
-    FailsItem (Exactly m) at (diagnostic (next_at at).line (misfit_code (next_at at).token))
-mark_misfits at m sound misses depth lexemes is profile stack values functions depths =
-    let b : Begins at.position.reading lexemes = told_begins at lexemes is in
-    rw b.is (no_mark profile m stack (next_at at ∷ b.tail) values (scope_at at) functions sound misses)
+pub mark_misfits : {n : ℕ} (at : Place) (m : Mark) → IsNearTo at n → is_fault (next_at at).token ≡ false → is_mark m (next_at at).token ≡ false →
+    FailsItem (Exactly m) at (stop_with (Some (diagnostic (next_at at).line (misfit_code (next_at at).token))) n)
+mark_misfits at m near sound misses depth =
+    fails_at_next depth (Exactly m ∷ []) [] at _ _ near (λ tail b profile stack values functions depths. no_mark profile m stack (next_at at ∷ tail) values (scope_at at) functions sound misses)
 
 word_leads : (lexeme : Lexeme) (w : Word) (depth : ℕ) (known : Scope) (rest : List Lexeme) → is_fault lexeme.token ≡ false → is_word w lexeme.token ≡ true →
     Leads depth (AWord w ∷ []) [] [] [] known known (lexeme ∷ rest) rest
@@ -53,16 +52,15 @@ pub word_derives : (reading : Reading) (known : Scope) (more : Option (List ℕ)
 word_derives reading known more there w sound fits goes depth =
     past reading known known more there depth (AWord w ∷ []) [] [] [] goes (λ rest b. word_leads reading.next w depth known rest sound fits)
 
-pub word_stops : (reading : Reading) (known : Scope) (more : Option (List ℕ)) (w : Word) → is_fault reading.next.token ≡ false → is_word w reading.next.token ≡ true → (d : Diagnostic) →
+pub word_stops : (reading : Reading) (known : Scope) (more : Option (List ℕ)) (w : Word) → is_fault reading.next.token ≡ false → is_word w reading.next.token ≡ true → (d : Stop) →
     StopsAt (place (record { reading = reading; scope = known }) more) d → FailsItem (AWord w) (place (record { reading = reading; scope = known }) more) d
 word_stops reading known more w sound fits d stop depth =
     stops reading known known more d depth (AWord w ∷ []) [] [] [] (λ rest b. word_leads reading.next w depth known rest sound fits) stop
 
-pub word_misfits : (at : Place) (w : Word) → is_fault (next_at at).token ≡ false → is_word w (next_at at).token ≡ false →
-    FailsItem (AWord w) at (diagnostic (next_at at).line (misfit_code (next_at at).token))
-word_misfits at w sound misses depth lexemes is profile stack values functions depths =
-    let b : Begins at.position.reading lexemes = told_begins at lexemes is in
-    rw b.is (no_word profile w stack (next_at at ∷ b.tail) values (scope_at at) functions sound misses)
+pub word_misfits : {n : ℕ} (at : Place) (w : Word) → IsNearTo at n → is_fault (next_at at).token ≡ false → is_word w (next_at at).token ≡ false →
+    FailsItem (AWord w) at (stop_with (Some (diagnostic (next_at at).line (misfit_code (next_at at).token))) n)
+word_misfits at w near sound misses depth =
+    fails_at_next depth (AWord w ∷ []) [] at _ _ near (λ tail b profile stack values functions depths. no_word profile w stack (next_at at ∷ tail) values (scope_at at) functions sound misses)
 
 -- Names.
 
@@ -83,26 +81,24 @@ name_derives reading known learnt more there role bytes left is knows same goes 
 
 -- the token behind it is a fault
 pub name_stops : (reading : Reading) (known learnt : Scope) (more : Option (List ℕ)) (role : Role) (bytes : List ℕ) → reading.next.token ≡ token.Name bytes →
-    Knows role bytes reading.next.line known learnt → (d : Diagnostic) → StopsAt (place (record { reading = reading; scope = learnt }) more) d →
+    Knows role bytes reading.next.line known learnt → (d : Stop) → StopsAt (place (record { reading = reading; scope = learnt }) more) d →
     FailsItem (AName role) (place (record { reading = reading; scope = known }) more) d
 name_stops reading known learnt more role bytes is knows d stop depth =
     stops reading known learnt more d depth (AName role ∷ []) [] [] (of_name role bytes known) (λ rest b. name_leads reading.next role bytes depth known learnt rest is knows) stop
 
 -- the name has a fault in its role
-pub name_refused : (at : Place) (role : Role) (bytes : List ℕ) (c : Code) → (next_at at).token ≡ token.Name bytes → RefusesName role bytes (scope_at at) c →
-    FailsItem (AName role) at (diagnostic (next_at at).line c)
-name_refused at role bytes c is fails depth lexemes shows profile stack values functions depths =
-    let b : Begins at.position.reading lexemes = told_begins at lexemes shows in
-    rw b.is (name_fails profile role bytes c stack (next_at at) b.tail values (scope_at at) functions (rw is refl) (rw is refl) (fails (next_at at ∷ b.tail)))
+pub name_refused : {n : ℕ} (at : Place) (role : Role) (bytes : List ℕ) (c : Code) → IsNearTo at n → (next_at at).token ≡ token.Name bytes → RefusesName role bytes (scope_at at) c →
+    FailsItem (AName role) at (stop_with (Some (diagnostic (next_at at).line c)) n)
+name_refused at role bytes c near is fails depth =
+    fails_at_next depth (AName role ∷ []) [] at _ _ near (λ tail b profile stack values functions depths. name_fails profile role bytes c stack (next_at at) tail values (scope_at at) functions (rw is refl) (rw is refl) (fails (next_at at ∷ tail)))
 
 -- there is no name
-pub name_misfits : (at : Place) (role : Role) (f : ParseFault) → IsNoName (next_at at) f → Refused (FailsItem (AName role) at) false f
-name_misfits at role f none = rw none.is (fails)
+pub name_misfits : (n : ℕ) (at : Place) (role : Role) (f : ParseFault) → IsNearTo at n → IsNoName (next_at at) f → Refused (FailsItem (AName role) at) false n f
+name_misfits n at role f near none = rw none.is (fails)
   where
-    fails : FailsItem (AName role) at (diagnostic (next_at at).line (misfit_code (next_at at).token))
-    fails depth lexemes shows profile stack values functions depths =
-        let b : Begins at.position.reading lexemes = told_begins at lexemes shows in
-        rw b.is (no_name profile role stack (next_at at ∷ b.tail) values (scope_at at) functions none.sound none.other)
+    fails : FailsItem (AName role) at (stop_with (Some (diagnostic (next_at at).line (misfit_code (next_at at).token))) n)
+    fails depth =
+        fails_at_next depth (AName role ∷ []) [] at _ _ near (λ tail b profile stack values functions depths. no_name profile role stack (next_at at ∷ tail) values (scope_at at) functions none.sound none.other)
 
 -- a name that is declared makes no tree
 pub no_tree : (bytes : List ℕ) (known : Scope) (declared : Declared) → [] ≡ of_name (role_of declared) bytes known

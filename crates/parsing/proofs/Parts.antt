@@ -11,7 +11,6 @@ use Rattle.tokens.specs.contracts.lexemes.Mark as marks
 use Rattle.tokens.specs.contracts.lexemes.Word as words
 use denote.Enum.Bare.{same_true}
 use Rattle.grammar.specs.declared.diagnostics.Code.TheVariants as code
-use Rattle.grammar.specs.declared.diagnostics.Diagnostic.{Diagnostic}
 use Rattle.grammar.specs.Compiled.{diagnostic}
 use Rattle.grammar.specs.Derivation.{State, Value, Definition, behind_rule, defined, made, next_of, state}
 use Rattle.grammar.specs.Faults.{fault, item_faults, level_faults, levels, most_levels, only_if}
@@ -23,8 +22,9 @@ use Rattle.grammar.proofs.Firsts.{too_deep, too_deep_word}
 use Rattle.grammar.proofs.Runs.{then}
 use Rattle.grammar.proofs.Steps.{make, mark, part, shut, word}
 use Rattle.parsing.specs.Position.{Place, next_at, scope_at}
-use Rattle.parsing.specs.Stretch.{Derives, FailsAt, GoesPast, StopsAt}
-use Rattle.parsing.proofs.Stretches.{Begins, Leads, past, stand, stops, told_begins}
+use Rattle.parsing.specs.Stopping.{Stop, stop_with}
+use Rattle.parsing.specs.Stretch.{Derives, FailsAt, GoesPast, IsNearTo, StopsAt}
+use Rattle.parsing.proofs.Stretches.{Leads, fails_at_next, past, stand, stops}
 
 -- Which token it is.
 
@@ -105,7 +105,7 @@ word_past at there depth symbol w items trees sound chosen fits free goes =
     past at.position.reading (scope_at at) (scope_at at) at.to_come there depth (Part symbol ∷ []) items trees trees goes
     (λ rest b. word_leads (next_at at) depth symbol w items trees (scope_at at) rest sound chosen fits free)
 
-pub word_stops : (at : Place) (d : Diagnostic) (depth : ℕ) (symbol : Symbol) (w : Word) (items : List Item) (trees : List Value) → is_fault (next_at at).token ≡ false →
+pub word_stops : (at : Place) (d : Stop) (depth : ℕ) (symbol : Symbol) (w : Word) (items : List Item) (trees : List Value) → is_fault (next_at at).token ≡ false →
     Chooses symbol (next_at at).token (AWord w ∷ items) → is_word w (next_at at).token ≡ true → IsFree depth symbol (next_at at) → StopsAt at d →
     FailsAt depth (Part symbol ∷ []) trees at d
 word_stops at d depth symbol w items trees sound chosen fits free stop =
@@ -127,7 +127,7 @@ mark_past at there depth symbol m items trees sound chosen fits free goes =
     past at.position.reading (scope_at at) (scope_at at) at.to_come there depth (Part symbol ∷ []) items trees trees goes
     (λ rest b. mark_leads (next_at at) depth symbol m items trees (scope_at at) rest sound chosen fits free)
 
-pub mark_stops : (at : Place) (d : Diagnostic) (depth : ℕ) (symbol : Symbol) (m : Mark) (items : List Item) (trees : List Value) → is_fault (next_at at).token ≡ false →
+pub mark_stops : (at : Place) (d : Stop) (depth : ℕ) (symbol : Symbol) (m : Mark) (items : List Item) (trees : List Value) → is_fault (next_at at).token ≡ false →
     Chooses symbol (next_at at).token (Exactly m ∷ items) → is_mark m (next_at at).token ≡ true → IsFree depth symbol (next_at at) → StopsAt at d →
     FailsAt depth (Part symbol ∷ []) trees at d
 mark_stops at d depth symbol m items trees sound chosen fits free stop =
@@ -136,21 +136,21 @@ mark_stops at d depth symbol m items trees sound chosen fits free stop =
 
 -- A level beyond the last one.
 
-pub word_too_deep : (at : Place) (depth : ℕ) (symbol : Symbol) (w : Word) (items : List Item) (trees : List Value) → is_fault (next_at at).token ≡ false →
+pub word_too_deep : (at : Place) (n : ℕ) (near : IsNearTo at n) (depth : ℕ) (symbol : Symbol) (w : Word) (items : List Item) (trees : List Value) → is_fault (next_at at).token ≡ false →
     Chooses symbol (next_at at).token (AWord w ∷ items) → is_word w (next_at at).token ≡ true → ((after : Token) → opens symbol (next_at at).token after ≡ true) → 64 ≤ depth →
-    FailsAt depth (Part symbol ∷ []) trees at (diagnostic (next_at at).line code.NestedTooDeeply)
-word_too_deep at depth symbol w items trees sound chosen fits opened deep lexemes shows profile stack values functions depths =
-    let b : Begins at.position.reading lexemes = told_begins at lexemes shows in
-    rw b.is (too_deep_word profile symbol w items stack (next_at at) b.tail _ (scope_at at) functions sound (chosen (next_of b.tail)) fits
-    (beyond (opens symbol (next_at at).token (next_of b.tail)) (levels stack) (next_at at ∷ b.tail) (opened (next_of b.tail)) (rw depths deep)))
+    FailsAt depth (Part symbol ∷ []) trees at (stop_with (Some (diagnostic (next_at at).line code.NestedTooDeeply)) n)
+word_too_deep at n near depth symbol w items trees sound chosen fits opened deep =
+    fails_at_next depth (Part symbol ∷ []) trees at _ n near (λ tail b profile stack values functions depths.
+    too_deep_word profile symbol w items stack (next_at at) tail _ (scope_at at) functions sound (chosen (next_of tail)) fits
+    (beyond (opens symbol (next_at at).token (next_of tail)) (levels stack) (next_at at ∷ tail) (opened (next_of tail)) (rw depths deep)))
 
-pub mark_too_deep : (at : Place) (depth : ℕ) (symbol : Symbol) (m : Mark) (items : List Item) (trees : List Value) → is_fault (next_at at).token ≡ false →
+pub mark_too_deep : (at : Place) (n : ℕ) (near : IsNearTo at n) (depth : ℕ) (symbol : Symbol) (m : Mark) (items : List Item) (trees : List Value) → is_fault (next_at at).token ≡ false →
     Chooses symbol (next_at at).token (Exactly m ∷ items) → is_mark m (next_at at).token ≡ true → ((after : Token) → opens symbol (next_at at).token after ≡ true) → 64 ≤ depth →
-    FailsAt depth (Part symbol ∷ []) trees at (diagnostic (next_at at).line code.NestedTooDeeply)
-mark_too_deep at depth symbol m items trees sound chosen fits opened deep lexemes shows profile stack values functions depths =
-    let b : Begins at.position.reading lexemes = told_begins at lexemes shows in
-    rw b.is (too_deep profile symbol m items stack (next_at at) b.tail _ (scope_at at) functions sound (chosen (next_of b.tail)) fits
-    (beyond (opens symbol (next_at at).token (next_of b.tail)) (levels stack) (next_at at ∷ b.tail) (opened (next_of b.tail)) (rw depths deep)))
+    FailsAt depth (Part symbol ∷ []) trees at (stop_with (Some (diagnostic (next_at at).line code.NestedTooDeeply)) n)
+mark_too_deep at n near depth symbol m items trees sound chosen fits opened deep =
+    fails_at_next depth (Part symbol ∷ []) trees at _ n near (λ tail b profile stack values functions depths.
+    too_deep profile symbol m items stack (next_at at) tail _ (scope_at at) functions sound (chosen (next_of tail)) fits
+    (beyond (opens symbol (next_at at).token (next_of tail)) (levels stack) (next_at at ∷ tail) (opened (next_of tail)) (rw depths deep)))
 
 -- Trees.
 

@@ -1,24 +1,26 @@
 -- Stretches of the derivation between two places of a parser.
-use Rattle.std.proofs.Common.{◌≡◌, ℕ, List, [], ◌∷◌, ◌++◌, refl, sym, ap, ◌∙◌, subst, Bool, true, false, append_assoc}
-use Rattle.std.specs.Prelude.{Option, Some, None, cond}
-use Rattle.tokens.specs.Reading.{Reading, shown}
-use Rattle.tokens.specs.Tokens.{is_last, followed_by}
+use Rattle.std.proofs.Common.{◌≡◌, ℕ, ◌+◌, ◌≤◌, drop, length, List, [], ◌∷◌, ◌++◌, refl, sym, ap, ◌∙◌, subst, Bool, true, false, append_assoc, arith}
+use Rattle.std.specs.Prelude.{Option, Some, None, IfSome, cond}
+use Rattle.std.specs.Option.{option_map}
+use Rattle.tokens.specs.Reading.{IsNear, Reading, reach, reach_of, shown, taken}
+use Rattle.tokens.specs.Tokens.{is_last, followed_by, tokens}
 use Rattle.tokens.specs.declared.lexemes.Lexeme.{Lexeme}
 use Rattle.tokens.specs.declared.lexemes.Token.{Token}
 use Rattle.grammar.specs.declared.diagnostics.Diagnostic.{Diagnostic}
 use Rattle.grammar.specs.declared.diagnostics.ParseFault.{ParseFault}
 use Rattle.grammar.specs.declared.diagnostics.ParseFault.TheVariants as refusal
 use Rattle.grammar.specs.Compiled.{diagnostic}
-use Rattle.grammar.specs.Derivation.{state, Value, Definition, next_of, line_of}
+use Rattle.grammar.specs.Derivation.{State, run, state, Value, Definition, next_of, line_of}
 use Rattle.grammar.specs.Faults.{misfit_code, levels}
 use Rattle.grammar.specs.Grammar.{Item, is_fault}
-use Rattle.grammar.specs.Parsing.{Passes}
+use Rattle.grammar.specs.Parsing.{Fails, IsFault, Passes}
 use Rattle.grammar.specs.Profile.{Profile}
-use Rattle.grammar.specs.Scope.{Scope}
-use Rattle.grammar.proofs.Runs.{then, back, here}
-use Rattle.grammar.proofs.Firsts.{at_fault}
+use Rattle.grammar.specs.Scope.{Scope, no_names}
+use Rattle.grammar.proofs.Runs.{then, back, here, later}
+use Rattle.grammar.proofs.Firsts.{at_fault, at_rest, run_keeps}
 use Rattle.parsing.specs.Position.{Position, Place, place, GoesOn, tokens_at, next_at, scope_at}
-use Rattle.parsing.specs.Stretch.{Derives, FailsAt, FailsItem, GoesPast, Refused, StopsAt, Takes}
+use Rattle.parsing.specs.Stopping.{NoneBefore, Stop, Stops, slack, stop_with}
+use Rattle.parsing.specs.Stretch.{Derives, FailsAt, FailsItem, GoesPast, HasFlaw, IsNearTo, Refused, StopsAt, StopsOpening, Takes}
 
 -- The tokens at a place.
 
@@ -128,16 +130,91 @@ past reading known learnt more there depth front pending taken left goes leads =
       (sym goes.scope) ((leads rest b).passes profile stack values functions depths);
 }
 
--- the token behind the one that was passed is a fault
-pub stops : (reading : Reading) (known learnt : Scope) (more : Option (List ℕ)) (d : Diagnostic) (depth : ℕ) (front pending : List Item) (taken left : List Value) →
+-- Where a reading stops.
+
+-- behind these there is none before
+pub none_before : (profile : Profile) (s : State) → NoneBefore profile s s.rest
+none_before profile s = record {
+  each = λ f is. subst (λ (ls : List Lexeme). length ls ≤ length s.rest) (sym (at_rest profile f (run is.steps s) is.here)) (run_keeps is.steps s);
+}
+
+-- it stops at the next token
+pub stops_here : (profile : Profile) (s : State) (stop : Stop) → IfSome stop.fault (Fails profile s) → stop.taken ≤ reach_of s.rest + slack stop.fault → Stops profile s stop
+stops_here profile s stop fails taken = record {
+  passed = [];
+  rest = s.rest;
+  is = refl;
+  none_before = none_before profile s;
+  fails = fails;
+  taken = taken;
+}
+
+fails_back : (profile : Profile) (s t : State) (o : Option Diagnostic) → Passes profile s t → IfSome o (Fails profile t) → IfSome o (Fails profile s)
+fails_back profile s t (Some d) p h = back profile s t d p h
+fails_back profile s t None p h = tt
+
+pub none_back : (profile : Profile) (s t : State) (rest : List Lexeme) → Passes profile s t → NoneBefore profile t rest → NoneBefore profile s rest
+none_back profile s t rest p h = record {
+  each = λ f from. h.each f (subst (λ (v : State). IsFault profile v f) p.leads (later profile p.steps s f p.clean from.steps from.here));
+}
+
+-- where it stops goes back along a stretch without faults
+pub stops_back : (profile : Profile) (s t : State) (stop : Stop) (consumed : List Lexeme) → s.rest ≡ consumed ++ t.rest → Passes profile s t → Stops profile t stop → Stops profile s stop
+stops_back profile s t stop consumed is p h = record {
+  passed = consumed ++ h.passed;
+  rest = h.rest;
+  is = is ∙ ap (λ (ls : List Lexeme). consumed ++ ls) h.is ∙ sym (append_assoc consumed h.passed h.rest);
+  none_before = none_back profile s t h.rest p h.none_before;
+  fails = fails_back profile s t stop.fault p h.fails;
+  taken = h.taken;
+}
+
+-- the two tokens that a place holds end where those told end
+reach_told_at : (next after : Lexeme) (others lexemes : List Lexeme) (last : Bool) → is_last next.token ≡ last → lexemes ≡ followed_by next (followed_by after others) →
+    reach_of lexemes ≡ cond last next.end after.end
+reach_told_at next after others lexemes true e is = rw (is, e) refl
+reach_told_at next after others lexemes false e is = rw (is, e) refl
+
+pub reach_told : (at : Place) (lexemes : List Lexeme) → tokens_at at ≡ Some lexemes → reach at.position.reading ≡ reach_of lexemes
+reach_told at lexemes is =
+    let g : GoesOn at lexemes = told_goes at lexemes is in
+    sym (reach_told_at (next_at at) at.position.reading.after g.behind lexemes (is_last (next_at at).token) refl g.is)
+
+pub near_told : (at : Place) (lexemes : List Lexeme) (used : ℕ) → tokens_at at ≡ Some lexemes → IsNearTo at used → used ≤ reach_of lexemes + 4096
+near_told at lexemes used is near = subst (λ (k : ℕ). used ≤ k + 4096) (reach_told at lexemes is) near
+
+-- the first fault stands at the next token
+pub fails_at_next : (depth : ℕ) (front : List Item) (taken : List Value) (at : Place) (d : Diagnostic) (n : ℕ) → IsNearTo at n →
+    ((tail : List Lexeme) → IsBehind at.position.reading tail → (profile : Profile) (stack : List Item) (values : List Value) (functions : List Definition) → levels stack ≡ depth →
+    Fails profile (state (front ++ stack) (next_at at ∷ tail) (taken ++ values) (scope_at at) functions) d) →
+    FailsAt depth front taken at (stop_with (Some d) n)
+fails_at_next depth front taken at d n near fails lexemes is profile stack values functions depths =
+    let b : Begins at.position.reading lexemes = told_begins at lexemes is in
+    let bound : n ≤ reach_of lexemes + 4096 = near_told at lexemes n is near in
+    let here : Fails profile (state (front ++ stack) lexemes (taken ++ values) (scope_at at) functions) d =
+    rw b.is (fails b.tail b.behind profile stack values functions depths) in
+    stops_here profile (state (front ++ stack) lexemes (taken ++ values) (scope_at at) functions) (stop_with (Some d) n) here bound
+
+-- the token behind the one that was passed is a fault, or the device failed
+pub stops : (reading : Reading) (known learnt : Scope) (more : Option (List ℕ)) (d : Stop) (depth : ℕ) (front pending : List Item) (taken left : List Value) →
     ((rest : List Lexeme) → IsBehind reading rest → Leads depth front pending taken left known learnt (reading.next ∷ rest) rest) →
     StopsAt (place (record { reading = reading; scope = learnt }) more) d → FailsAt depth front taken (place (record { reading = reading; scope = known }) more) d
 stops reading known learnt more d depth front pending taken left leads stop lexemes is profile stack values functions depths =
     let b : Begins reading lexemes = told_begins (place (record { reading = reading; scope = known }) more) lexemes is in
     let behind : b.tail ≡ reading.after ∷ b.behind.others = b.behind.is stop.more in
-    let same : d ≡ diagnostic (line_of b.tail) (misfit_code (next_of b.tail)) = stop.is ∙ rw behind refl in
-    let flaw : is_fault (next_of b.tail) ≡ true = rw behind stop.flaw in
-    rw (b.is, same) (back profile _ _ _ ((leads b.tail b.behind).passes profile stack values functions depths) (at_fault profile _ b.tail _ learnt functions flaw))
+    let t : State = state (pending ++ stack) b.tail (left ++ values) learnt functions in
+    let fails : IfSome d.fault (Fails profile t) = flaw_fails d.fault b.tail b.behind.others behind stop.flaw in
+    let last : d.taken ≤ reach_of b.tail + slack d.fault = stop.taken reading.next b.tail (is ∙ ap Some b.is) in
+    rw b.is (stops_back profile (state (front ++ stack) (reading.next ∷ b.tail) (taken ++ values) known functions) t d (reading.next ∷ []) refl
+    ((leads b.tail b.behind).passes profile stack values functions depths) (stops_here profile t d fails last))
+  where
+    flaw_fails : (o : Option Diagnostic) (tail others : List Lexeme) → tail ≡ reading.after ∷ others → IfSome o (HasFlaw (place (record { reading = reading; scope = learnt }) more)) →
+        IfSome o (Fails profile (state (pending ++ stack) tail (left ++ values) learnt functions))
+    flaw_fails None tail others behind h = tt
+    flaw_fails (Some e) tail others behind h =
+        let same : e ≡ diagnostic (line_of tail) (misfit_code (next_of tail)) = h.is ∙ rw behind refl in
+        let flaw : is_fault (next_of tail) ≡ true = rw behind h.flaw in
+        rw same (at_fault profile _ tail _ learnt functions flaw)
 
 -- Stretches one behind another.
 
@@ -168,16 +245,16 @@ joined depth inner front mid pending below taken between left under at now there
 }
 
 -- a fault behind a stretch
-pub fails_then : (depth : ℕ) (front mid : List Item) (taken between : List Value) (at now : Place) (d : Diagnostic) →
+pub fails_then : (depth : ℕ) (front mid : List Item) (taken between : List Value) (at now : Place) (d : Stop) →
     Derives depth front mid taken between at now → FailsAt depth mid between now d → FailsAt depth front taken at d
 fails_then depth front mid taken between at now d a fails lexemes is profile stack values functions depths =
     let t : Takes a.consumed lexemes now = a.told lexemes is in
     rw t.is
-    (back profile _ _ d (a.passes t.rest (told_goes now t.rest t.shows) profile stack values functions depths)
+    (stops_back profile _ _ d a.consumed refl (a.passes t.rest (told_goes now t.rest t.shows) profile stack values functions depths)
     (fails t.rest t.shows profile stack values functions depths))
 
 -- the same fault, over more items and trees
-pub under_more : (depth inner : ℕ) (front below : List Item) (taken beneath : List Value) (at : Place) (d : Diagnostic) →
+pub under_more : (depth inner : ℕ) (front below : List Item) (taken beneath : List Value) (at : Place) (d : Stop) →
     ((stack : List Item) → levels stack ≡ depth → levels (below ++ stack) ≡ inner) →
     FailsAt inner front taken at d → FailsAt depth (front ++ below) (taken ++ beneath) at d
 under_more depth inner front below taken beneath at d opens fails lexemes is profile stack values functions depths =
@@ -185,7 +262,7 @@ under_more depth inner front below taken beneath at d opens fails lexemes is pro
     (fails lexemes is profile (below ++ stack) (beneath ++ values) functions (opens stack depths))
 
 -- a fault behind a stretch, over more items and trees
-pub fails_behind : (depth inner : ℕ) (front mid below : List Item) (taken between under : List Value) (at now : Place) (d : Diagnostic) →
+pub fails_behind : (depth inner : ℕ) (front mid below : List Item) (taken between under : List Value) (at now : Place) (d : Stop) →
     Derives depth front (mid ++ below) taken (between ++ under) at now → ((stack : List Item) → levels stack ≡ depth → levels (below ++ stack) ≡ inner) →
     FailsAt inner mid between now d → FailsAt depth front taken at d
 fails_behind depth inner front mid below taken between under at now d a opens fails =
@@ -193,21 +270,58 @@ fails_behind depth inner front mid below taken between under at now d a opens fa
 
 -- Refusals.
 
-pub refused_map : (P Q : Diagnostic → Type 0) (allocates more : Bool) (f : ParseFault) → ((d : Diagnostic) → P d → Q d) → ((allocates ≡ true) → more ≡ true) → Refused P allocates f → Refused Q more f
-refused_map P Q allocates more (refusal.Source d) each memory h = each d h
-refused_map P Q allocates more refusal.Device each memory h = tt
-refused_map P Q allocates more refusal.Memory each memory h = memory h
+pub refused_map : (n : ℕ) (P Q : Stop → Type 0) (allocates more : Bool) (f : ParseFault) → ((d : Stop) → P d → Q d) → ((allocates ≡ true) → more ≡ true) → Refused P allocates n f → Refused Q more n f
+refused_map n P Q allocates more (refusal.Source d) each memory h = each (stop_with (Some d) n) h
+refused_map n P Q allocates more refusal.Device each memory h = each (stop_with None n) h
+refused_map n P Q allocates more refusal.Memory each memory h = memory h
 
 -- a refusal of a callee behind a stretch is one of the caller's
-pub exit : (depth inner : ℕ) (front mid below : List Item) (taken between under : List Value) (at now : Place) (allocates more : Bool) (f : ParseFault) →
+pub exit : (n : ℕ) (depth inner : ℕ) (front mid below : List Item) (taken between under : List Value) (at now : Place) (allocates more : Bool) (f : ParseFault) →
     Derives depth front (mid ++ below) taken (between ++ under) at now → ((stack : List Item) → levels stack ≡ depth → levels (below ++ stack) ≡ inner) →
-    ((allocates ≡ true) → more ≡ true) → Refused (FailsAt inner mid between now) allocates f → Refused (FailsAt depth front taken at) more f
-exit depth inner front mid below taken between under at now allocates more f a opens memory =
-    refused_map _ _ allocates more f (λ d. fails_behind depth inner front mid below taken between under at now d a opens) memory
+    ((allocates ≡ true) → more ≡ true) → Refused (FailsAt inner mid between now) allocates n f → Refused (FailsAt depth front taken at) more n f
+exit n depth inner front mid below taken between under at now allocates more f a opens memory =
+    refused_map n _ _ allocates more f (λ d. fails_behind depth inner front mid below taken between under at now d a opens) memory
 
 -- of one that matches an item
-pub exit_item : (depth inner : ℕ) (front : List Item) (item : Item) (below : List Item) (taken under : List Value) (at now : Place) (more : Bool) (f : ParseFault) →
+pub exit_item : (n : ℕ) (depth inner : ℕ) (front : List Item) (item : Item) (below : List Item) (taken under : List Value) (at now : Place) (more : Bool) (f : ParseFault) →
     Derives depth front (item ∷ below) taken under at now → ((stack : List Item) → levels stack ≡ depth → levels (below ++ stack) ≡ inner) →
-    Refused (FailsItem item now) false f → Refused (FailsAt depth front taken at) more f
-exit_item depth inner front item below taken under at now more f a opens =
-    refused_map _ _ false more f (λ d h. fails_behind depth inner front (item ∷ []) below taken [] under at now d a opens (h inner)) (λ never. absurd (cc))
+    Refused (FailsItem item now) false n f → Refused (FailsAt depth front taken at) more n f
+exit_item n depth inner front item below taken under at now more f a opens =
+    refused_map n (FailsItem item now) (FailsAt depth front taken at) false more f (λ d h. fails_behind depth inner front (item ∷ []) below taken [] under at now d a opens (h inner)) (λ never. absurd (cc))
+
+-- At the first token.
+
+pub no_opening : (told told' : Option (List ℕ)) →
+    ((bytes : List ℕ) → told ≡ Some bytes → (count : ℕ) × (told' ≡ Some (drop count bytes)) × (count ≤ reach_of (tokens bytes))) → StopsOpening told told' refusal.Device
+no_opening None told' h = record {
+  taken = 0;
+  took = λ bytes e. absurd (cc);
+  refused = record { flaw = λ lexemes e. tt; taken = λ lexemes e. absurd (cc) };
+}
+no_opening (Some bytes) told' h =
+    let found = h bytes refl in
+    record {
+      taken = found.0;
+      took = λ others e. rw (sym (some_same bytes others e)) found.1;
+      refused = record {
+        flaw = λ lexemes e. tt;
+        taken = λ lexemes e. rw (sym (some_same (tokens bytes) lexemes e)) (omega (arith, found.2));
+      };
+    }
+
+-- the first token is a fault
+pub opens_at_flaw : (reading : Reading) (told told' : Option (List ℕ)) → shown reading told' ≡ option_map tokens told → told' ≡ option_map (drop (taken reading)) told → IsNear reading →
+    is_fault reading.next.token ≡ true → StopsOpening told told' (refusal.Source (diagnostic reading.next.line (misfit_code reading.next.token)))
+opens_at_flaw reading told told' shows took near flaw = record {
+  taken = taken reading;
+  took = λ bytes e. took ∙ rw e refl;
+  refused = record {
+    flaw = λ lexemes e.
+        let b : Begins reading lexemes = told_begins at lexemes (shows ∙ e) in
+        (rw b.is flaw, rw b.is refl);
+    taken = λ lexemes e. subst (λ (k : ℕ). taken reading ≤ k + 4096) (reach_told at lexemes (shows ∙ e)) near;
+  };
+}
+  where
+    at : Place
+    at = place (record { reading = reading; scope = no_names }) told'

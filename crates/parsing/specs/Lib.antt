@@ -1,5 +1,6 @@
 pub mod Position
 pub mod Defining
 pub mod Roles
+pub mod Stopping
 pub mod Stretch
 pub mod Room

@@ -1,6 +1,8 @@
--- What a part of the parser did: a stretch of the derivation without a fault, or the first fault.
-use Rattle.std.specs.Prelude.{ℕ, ◌+◌, ◌≡◌, ◌<◌, List, [], ◌∷◌, ◌++◌, Bool, true, false, Option, Some, None, IsTrue, Result, Ok, Err, length}
-use Rattle.tokens.specs.Tokens.{is_last}
+-- What a part of the parser did: a stretch of the derivation without a fault, or one that stops.
+use Rattle.std.specs.Prelude.{ℕ, ◌+◌, ◌≡◌, ◌<◌, ◌≤◌, List, [], ◌∷◌, ◌++◌, Bool, true, false, Option, Some, None, IfSome, IsTrue, Result, Ok, Err, drop, length}
+use Rattle.std.specs.Option.{option_map}
+use Rattle.tokens.specs.Reading.{reach, reach_of}
+use Rattle.tokens.specs.Tokens.{is_last, tokens}
 use Rattle.tokens.specs.declared.lexemes.Lexeme.{Lexeme}
 use Rattle.grammar.specs.declared.diagnostics.Diagnostic.{Diagnostic}
 use Rattle.grammar.specs.declared.diagnostics.ParseFault.{ParseFault}
@@ -9,10 +11,11 @@ use Rattle.grammar.specs.Compiled.{diagnostic}
 use Rattle.grammar.specs.Derivation.{state, Value, Definition, line_of, name_of_token, next_of}
 use Rattle.grammar.specs.Faults.{levels, misfit_code}
 use Rattle.grammar.specs.Grammar.{Item, is_fault}
-use Rattle.grammar.specs.Parsing.{Fails, Passes}
+use Rattle.grammar.specs.Parsing.{Passes}
 use Rattle.grammar.specs.Profile.{Profile}
 use Rattle.parsing.specs.Defining.{IsWithin}
 use Rattle.parsing.specs.Position.{Place, Position, GoesOn, tokens_at, next_at, scope_at}
+use Rattle.parsing.specs.Stopping.{Stop, Stops, slack, stop_with}
 
 -- the tokens told at a place are those that a stretch took, and then those told behind it
 pub record Takes (consumed lexemes : List Lexeme) (there : Place) : Type 0 where
@@ -30,18 +33,18 @@ pub record Derives (depth : ℕ) (front pending : List Item) (taken left : List 
       levels stack ≡ depth →
       Passes profile (state (front ++ stack) (consumed ++ rest) (taken ++ values) (scope_at here) functions) (state (pending ++ stack) rest (left ++ values) (scope_at there) functions)
 
--- where the tokens are told, the diagnostic is that of the first fault from these items on, with so many levels open
-abbrev pub FailsAt : ℕ → List Item → List Value → Place → Diagnostic → Type 0
-FailsAt depth front taken here d =
+-- where the tokens are told, the derivation from these items on stops so, with so many levels open
+abbrev pub FailsAt : ℕ → List Item → List Value → Place → Stop → Type 0
+FailsAt depth front taken here stop =
     (lexemes : List Lexeme) → tokens_at here ≡ Some lexemes → (profile : Profile) (stack : List Item) (values : List Value) (functions : List Definition) →
-    levels stack ≡ depth → Fails profile (state (front ++ stack) lexemes (taken ++ values) (scope_at here) functions) d
+    levels stack ≡ depth → Stops profile (state (front ++ stack) lexemes (taken ++ values) (scope_at here) functions) stop
 
 -- one item was matched or replaced, however many levels are open
 abbrev pub DerivesItem : Item → List Item → List Value → Place → Place → Type 0
 DerivesItem item pending left here there = (depth : ℕ) → Derives depth (item ∷ []) pending [] left here there
 
-abbrev pub FailsItem : Item → Place → Diagnostic → Type 0
-FailsItem item here d = (depth : ℕ) → FailsAt depth (item ∷ []) [] here d
+abbrev pub FailsItem : Item → Place → Stop → Type 0
+FailsItem item here stop = (depth : ℕ) → FailsAt depth (item ∷ []) [] here stop
 
 -- one token was passed, and no name became known
 pub record GoesPast (here there : Place) : Type 0 where
@@ -51,15 +54,25 @@ pub record GoesPast (here there : Place) : Type 0 where
   pub scope : scope_at there ≡ scope_at here
 
 -- the token behind the next is a fault, which stops any derivation
-pub record StopsAt (here : Place) (d : Diagnostic) : Type 0 where
-  pub more : is_last (next_at here).token ≡ false
+pub record HasFlaw (here : Place) (d : Diagnostic) : Type 0 where
   pub flaw : is_fault here.position.reading.after.token ≡ true
   pub is : d ≡ diagnostic here.position.reading.after.line (misfit_code here.position.reading.after.token)
 
--- the first token is a fault
-abbrev pub StopsFirst : Option (List Lexeme) → Diagnostic → Type 0
-StopsFirst told d = (lexemes : List Lexeme) → told ≡ Some lexemes →
-    (is_fault (next_of lexemes) ≡ true) × (d ≡ diagnostic (line_of lexemes) (misfit_code (next_of lexemes)))
+-- the next token fits, and behind it a fault is the next, or the device failed
+pub record StopsAt (here : Place) (stop : Stop) : Type 0 where
+  pub more : is_last (next_at here).token ≡ false
+  pub flaw : IfSome stop.fault (HasFlaw here)
+  pub taken : (next : Lexeme) (others : List Lexeme) → tokens_at here ≡ Some (next ∷ others) → stop.taken ≤ reach_of others + slack stop.fault
+
+-- the first token is a fault, or the device failed
+pub record StopsFirst (told : Option (List Lexeme)) (stop : Stop) : Type 0 where
+  pub flaw : (lexemes : List Lexeme) → told ≡ Some lexemes → IfSome stop.fault (λ d.
+      (is_fault (next_of lexemes) ≡ true) × (d ≡ diagnostic (line_of lexemes) (misfit_code (next_of lexemes))))
+  pub taken : (lexemes : List Lexeme) → told ≡ Some lexemes → stop.taken ≤ reach_of lexemes + slack stop.fault
+
+-- no more bytes were taken than a window behind the two tokens that are held
+abbrev pub IsNearTo : Place → ℕ → Type 0
+IsNearTo here taken = taken ≤ reach here.position.reading + 4096
 
 -- the token is no name, and is refused for that
 pub record IsNoName (next : Lexeme) (fault : ParseFault) : Type 0 where
@@ -74,11 +87,18 @@ pub record BeginsDefinition (number : ℕ) (old new : Position) : Type 0 where
   pub mentioned : number < length new.scope.functions
   pub within : IsWithin old.scope → IsWithin new.scope
 
--- what a refusal says: of a source its fault, of memory that the builder asks for it
-abbrev pub Refused : (Diagnostic → Type 0) → Bool → ParseFault → Type 0
-Refused fault allocates (refusal.Source d) = fault d
-Refused fault allocates refusal.Device = Unit {0}
-Refused fault allocates refusal.Memory = IsTrue allocates
+-- what a refusal says, with so many bytes taken: of a source its fault, of the device how far it had to be read, of memory that the builder
+-- asks for it
+abbrev pub Refused : (Stop → Type 0) → Bool → ℕ → ParseFault → Type 0
+Refused stops allocates taken (refusal.Source d) = stops (stop_with (Some d) taken)
+Refused stops allocates taken refusal.Device = stops (stop_with None taken)
+Refused stops allocates taken refusal.Memory = IsTrue allocates
+
+-- what a refusal at the first token says, by the bytes to come before and behind
+pub record StopsOpening (told told' : Option (List ℕ)) (fault : ParseFault) : Type 0 where
+  pub taken : ℕ
+  pub took : (bytes : List ℕ) → told ≡ Some bytes → told' ≡ Some (drop taken bytes)
+  pub refused : Refused (StopsFirst (option_map tokens told)) false taken fault
 
 -- failures of a device, before and behind: one more where it is the device that is answered
 abbrev pub counted : ℕ → ParseFault → ℕ

@@ -1,9 +1,10 @@
 //! A parser's state: a cursor over the tokens and the names known, with the calls that go past one token.
 
-ghost use Rattle.std.specs.Prelude.{◌≡◌, ◌-◌, ◌<◌, ◌≤◌, ◌^◌, ◌∷◌, [], ℕ, length, is_some, false, true, OnOk, IfOk, IfErr};
+ghost use Rattle.std.specs.Prelude.{◌≡◌, ◌-◌, drop, ◌<◌, ◌≤◌, ◌^◌, ◌∷◌, [], ℕ, length, is_some, false, true, OnOk, IfOk, IfErr};
 ghost use Rattle.std.specs.Option.{option_map};
-ghost use Rattle.tokens.specs.Reading.{remaining};
+ghost use Rattle.tokens.specs.Reading.{IsNear, remaining, taken};
 ghost use Rattle.tokens.specs.Tokens.{FitsToken, is_last, tokens};
+ghost use Rattle.tokens.specs.Window.{Takes};
 ghost use Rattle.tokens.specs.declared.lexemes.Token.TheVariants as token;
 ghost use Rattle.grammar.specs.Compiled.{diagnostic, main_name};
 ghost use Rattle.grammar.specs.Derivation.{ACall, AVariable, name_of_token};
@@ -48,14 +49,16 @@ impl Model for Parser {
 impl Parser {
     ghost use Rattle.parsing.specs.Defining.{StaysAt, StaysInBody};
     ghost use Rattle.parsing.specs.Position.{place, tokens_at};
-    ghost use Rattle.parsing.specs.Stretch.{BeginsDefinition, Counts, DerivesItem, FailsItem, GoesPast, IsNoName, Refused, StopsAt, StopsFirst};
+    ghost use Rattle.parsing.specs.Stretch.{BeginsDefinition, Counts, DerivesItem, FailsItem, GoesPast, IsNoName, Refused, StopsAt, StopsOpening};
 
     /// A parser at the first token of a device's bytes.
     pub fn open<F: Feed>(feed: &mut F) -> Result<Parser, ParseFault>
         requires count { F.failures feed.old < 2 ^ 64 - 1 }
         ensures tokens { IfOk result (λ parser. tokens_at (place parser (F.to_come feed.new)) ≡ option_map tokens (F.to_come feed.old)) }
         ensures names { IfOk result (λ parser. parser.scope ≡ no_names) }
-        ensures refused { IfErr result (λ fault. Refused (StopsFirst (option_map tokens (F.to_come feed.old))) false fault) }
+        ensures refused { IfErr result (StopsOpening (F.to_come feed.old) (F.to_come feed.new)) }
+        ensures near { IfOk result (λ parser. IsNear parser.reading) }
+        ensures took { IfOk result (λ parser. F.to_come feed.new ≡ option_map (drop (taken parser.reading)) (F.to_come feed.old)) }
         ensures counted { Counts result (F.failures feed.old) (F.failures feed.new) }
     {
         let cursor = Cursor::open(feed)?;
@@ -104,12 +107,15 @@ impl Parser {
     /// Goes past the next token. A fault behind it is refused before the parser stands at it.
     pub fn advance<F: Feed>(&mut self, feed: &mut F) -> Result<(), ParseFault>
         requires more { is_last self.old.reading.next.token ≡ false }
+        requires near { IsNear self.old.reading }
         requires count { F.failures feed.old < 2 ^ 64 - 1 }
         ensures passed { OnOk result (GoesPast (place self.old (F.to_come feed.old)) (place self.new (F.to_come feed.new))) }
         ensures sound { OnOk result (is_fault self.new.reading.next.token ≡ false) }
         ensures falls { OnOk result (remaining self.new.reading < remaining self.old.reading) }
-        ensures refused { IfErr result (λ fault. Refused (StopsAt (place self.old (F.to_come feed.old))) false fault) }
+        ensures refused { IfErr result (λ fault. Refused (StopsAt (place self.old (F.to_come feed.old))) false (taken self.new.reading) fault) }
         ensures counted { Counts result (F.failures feed.old) (F.failures feed.new) }
+        ensures near { OnOk result (IsNear self.new.reading) }
+        ensures took { Takes (taken self.old.reading) (taken self.new.reading) (F.to_come feed.old) (F.to_come feed.new) }
     {
         if let Token::Fault(_) = self.cursor.after().token {
             return Err(misfit(self.cursor.after()));
@@ -120,13 +126,16 @@ impl Parser {
 
     /// Goes past this mark, which has to be the next token.
     pub fn expect<F: Feed>(&mut self, feed: &mut F, mark: Mark) -> Result<(), ParseFault>
+        requires near { IsNear self.old.reading }
         requires count { F.failures feed.old < 2 ^ 64 - 1 }
         ensures passed { OnOk result (DerivesItem (Exactly mark) [] [] (place self.old (F.to_come feed.old)) (place self.new (F.to_come feed.new))) }
         ensures scope { OnOk result (self.new.scope ≡ self.old.scope) }
         ensures sound { OnOk result (is_fault self.new.reading.next.token ≡ false) }
         ensures falls { OnOk result (remaining self.new.reading < remaining self.old.reading) }
-        ensures refused { IfErr result (λ fault. Refused (FailsItem (Exactly mark) (place self.old (F.to_come feed.old))) false fault) }
+        ensures refused { IfErr result (λ fault. Refused (FailsItem (Exactly mark) (place self.old (F.to_come feed.old))) false (taken self.new.reading) fault) }
         ensures counted { Counts result (F.failures feed.old) (F.failures feed.new) }
+        ensures near { OnOk result (IsNear self.new.reading) }
+        ensures took { Takes (taken self.old.reading) (taken self.new.reading) (F.to_come feed.old) (F.to_come feed.new) }
     {
         if !is_mark(&self.next().token, mark) {
             return Err(self.misfit());
@@ -137,13 +146,16 @@ impl Parser {
 
     /// Goes past this word, which has to be the next token.
     pub fn expect_word<F: Feed>(&mut self, feed: &mut F, word: Word) -> Result<(), ParseFault>
+        requires near { IsNear self.old.reading }
         requires count { F.failures feed.old < 2 ^ 64 - 1 }
         ensures passed { OnOk result (DerivesItem (AWord word) [] [] (place self.old (F.to_come feed.old)) (place self.new (F.to_come feed.new))) }
         ensures scope { OnOk result (self.new.scope ≡ self.old.scope) }
         ensures sound { OnOk result (is_fault self.new.reading.next.token ≡ false) }
         ensures falls { OnOk result (remaining self.new.reading < remaining self.old.reading) }
-        ensures refused { IfErr result (λ fault. Refused (FailsItem (AWord word) (place self.old (F.to_come feed.old))) false fault) }
+        ensures refused { IfErr result (λ fault. Refused (FailsItem (AWord word) (place self.old (F.to_come feed.old))) false (taken self.new.reading) fault) }
         ensures counted { Counts result (F.failures feed.old) (F.failures feed.new) }
+        ensures near { OnOk result (IsNear self.new.reading) }
+        ensures took { Takes (taken self.old.reading) (taken self.new.reading) (F.to_come feed.old) (F.to_come feed.new) }
     {
         if !is_word(&self.next().token, word) {
             return Err(self.misfit());
@@ -154,14 +166,17 @@ impl Parser {
 
     /// Goes past the name of a variable that is mentioned, which has to be the next token, and tells the variable.
     pub fn mention<F: Feed>(&mut self, feed: &mut F) -> Result<Var, ParseFault>
+        requires near { IsNear self.old.reading }
         requires count { F.failures feed.old < 2 ^ 64 - 1 }
         ensures passed { IfOk result (λ v. DerivesItem (AName Mentioned) [] (AVariable v ∷ []) (place self.old (F.to_come feed.old)) (place self.new (F.to_come feed.new))) }
         ensures within { IfOk result (IsVariable 64 64) }
         ensures stays { OnOk result (StaysInBody self.old.scope self.new.scope) }
         ensures sound { OnOk result (is_fault self.new.reading.next.token ≡ false) }
         ensures falls { OnOk result (remaining self.new.reading < remaining self.old.reading) }
-        ensures refused { IfErr result (λ fault. Refused (FailsItem (AName Mentioned) (place self.old (F.to_come feed.old))) false fault) }
+        ensures refused { IfErr result (λ fault. Refused (FailsItem (AName Mentioned) (place self.old (F.to_come feed.old))) false (taken self.new.reading) fault) }
         ensures counted { Counts result (F.failures feed.old) (F.failures feed.new) }
+        ensures near { OnOk result (IsNear self.new.reading) }
+        ensures took { Takes (taken self.old.reading) (taken self.new.reading) (F.to_come feed.old) (F.to_come feed.new) }
     {
         let name = self.name()?;
         let var = match self.scope.mention(name) {
@@ -174,14 +189,17 @@ impl Parser {
 
     /// Goes past the name of a function that is called, which has to be the next token, and tells the function.
     pub fn callee<F: Feed>(&mut self, feed: &mut F) -> Result<Callee, ParseFault>
+        requires near { IsNear self.old.reading }
         requires count { F.failures feed.old < 2 ^ 64 - 1 }
         ensures passed { IfOk result (λ f. DerivesItem (AName Called) [] (ACall f NoMore ∷ []) (place self.old (F.to_come feed.old)) (place self.new (F.to_come feed.new))) }
         ensures within { IfOk result (IsCallable 64) }
         ensures stays { OnOk result (StaysInBody self.old.scope self.new.scope) }
         ensures sound { OnOk result (is_fault self.new.reading.next.token ≡ false) }
         ensures falls { OnOk result (remaining self.new.reading < remaining self.old.reading) }
-        ensures refused { IfErr result (λ fault. Refused (FailsItem (AName Called) (place self.old (F.to_come feed.old))) false fault) }
+        ensures refused { IfErr result (λ fault. Refused (FailsItem (AName Called) (place self.old (F.to_come feed.old))) false (taken self.new.reading) fault) }
         ensures counted { Counts result (F.failures feed.old) (F.failures feed.new) }
+        ensures near { OnOk result (IsNear self.new.reading) }
+        ensures took { Takes (taken self.old.reading) (taken self.new.reading) (F.to_come feed.old) (F.to_come feed.new) }
     {
         let name = self.name()?;
         let line = self.next().line;
@@ -195,13 +213,16 @@ impl Parser {
 
     /// Goes past the name of a function whose definition begins, which has to be the next token, and tells its number.
     pub fn define<F: Feed>(&mut self, feed: &mut F) -> Result<u8, ParseFault>
+        requires near { IsNear self.old.reading }
         requires count { F.failures feed.old < 2 ^ 64 - 1 }
         ensures passed { OnOk result (DerivesItem (AName Defined) [] [] (place self.old (F.to_come feed.old)) (place self.new (F.to_come feed.new))) }
         ensures begun { IfOk result (λ number. BeginsDefinition number self.old self.new) }
         ensures sound { OnOk result (is_fault self.new.reading.next.token ≡ false) }
         ensures falls { OnOk result (remaining self.new.reading < remaining self.old.reading) }
-        ensures refused { IfErr result (λ fault. Refused (FailsItem (AName Defined) (place self.old (F.to_come feed.old))) false fault) }
+        ensures refused { IfErr result (λ fault. Refused (FailsItem (AName Defined) (place self.old (F.to_come feed.old))) false (taken self.new.reading) fault) }
         ensures counted { Counts result (F.failures feed.old) (F.failures feed.new) }
+        ensures near { OnOk result (IsNear self.new.reading) }
+        ensures took { Takes (taken self.old.reading) (taken self.new.reading) (F.to_come feed.old) (F.to_come feed.new) }
     {
         let name = self.name()?;
         let line = self.next().line;
@@ -215,13 +236,16 @@ impl Parser {
 
     /// Goes past a name that is declared, which has to be the next token.
     pub fn declare<F: Feed>(&mut self, feed: &mut F, declared: Declared) -> Result<(), ParseFault>
+        requires near { IsNear self.old.reading }
         requires count { F.failures feed.old < 2 ^ 64 - 1 }
         ensures passed { OnOk result (DerivesItem (AName (role_of declared)) [] [] (place self.old (F.to_come feed.old)) (place self.new (F.to_come feed.new))) }
         ensures stays { OnOk result (StaysAt declared self.old.scope self.new.scope) }
         ensures sound { OnOk result (is_fault self.new.reading.next.token ≡ false) }
         ensures falls { OnOk result (remaining self.new.reading < remaining self.old.reading) }
-        ensures refused { IfErr result (λ fault. Refused (FailsItem (AName (role_of declared)) (place self.old (F.to_come feed.old))) false fault) }
+        ensures refused { IfErr result (λ fault. Refused (FailsItem (AName (role_of declared)) (place self.old (F.to_come feed.old))) false (taken self.new.reading) fault) }
         ensures counted { Counts result (F.failures feed.old) (F.failures feed.new) }
+        ensures near { OnOk result (IsNear self.new.reading) }
+        ensures took { Takes (taken self.old.reading) (taken self.new.reading) (F.to_come feed.old) (F.to_come feed.new) }
     {
         let name = self.name()?;
         if let Err(code) = declare(&mut self.scope, name, declared) {

@@ -4,7 +4,6 @@ use Rattle.std.specs.Prelude.{Option, Some, None}
 use Rattle.tokens.specs.declared.lexemes.Mark.TheVariants as mark
 use Rattle.tokens.specs.declared.lexemes.Word.TheVariants as word
 use Rattle.grammar.specs.declared.diagnostics.Code.TheVariants as code
-use Rattle.grammar.specs.declared.diagnostics.Diagnostic.{Diagnostic}
 use Rattle.grammar.specs.Actions.{Action, BeginWhile, ElsePart as BetweenBranches, EndIf, EndWhile, IfTest, WhileTest, body_actions, expr_actions}
 use Rattle.grammar.specs.Building.{Appends, AppendsAll, Meaning}
 use Rattle.grammar.specs.Compiled.{diagnostic}
@@ -16,7 +15,8 @@ use Rattle.grammar.specs.Resolved.{InBody, InExpr}
 use Rattle.grammar.specs.Tree.{Body, Choose, Done, Expr, When, While, join}
 use Rattle.parsing.specs.Position.{Place, next_at}
 use Rattle.parsing.specs.Room.{room}
-use Rattle.parsing.specs.Stretch.{Derives, DerivesItem, FailsAt, FailsItem, GoesPast, StopsAt}
+use Rattle.parsing.specs.Stopping.{Stop, stop_with}
+use Rattle.parsing.specs.Stretch.{IsNearTo, Derives, DerivesItem, FailsAt, FailsItem, GoesPast, StopsAt}
 use Rattle.parsing.proofs.Stretches.{fails_behind, joined, stay}
 use Rattle.statements.specs.Branches.{AddsElse, FailsElse, IsElseNumbered, before_else, decided, else_actions, else_nesting}
 use Rattle.expressions.specs.Expressions.{AddsExpr}
@@ -43,26 +43,26 @@ braces_past at now depth b sound is shallow goes =
     (part_stands at depth Statement (Part Block ∷ []) (ABody b ∷ []) sound begins.statement (free_of depth Statement (next_at at) begins.shallow))
     (mark_past at now depth Block mark.OpenCurly in_braces (ABody b ∷ []) sound begins.chosen is (free_below depth Block (next_at at) shallow) goes) (λ stack same. same)
 
-block_fails : (at : Place) (depth : ℕ) (b : Body) → is_fault (next_at at).token ≡ false → is_mark mark.OpenCurly (next_at at).token ≡ true → (d : Diagnostic) →
+block_fails : (at : Place) (depth : ℕ) (b : Body) → is_fault (next_at at).token ≡ false → is_mark mark.OpenCurly (next_at at).token ≡ true → (d : Stop) →
     FailsAt depth (Part Block ∷ []) (ABody b ∷ []) at d → FailsAt depth (Part Statement ∷ []) (ABody b ∷ []) at d
 block_fails at depth b sound is d fails =
     let begins : BeginsBlock (next_at at).token = begins_block _ is in
     fails_behind depth depth (Part Statement ∷ []) (Part Block ∷ []) [] (ABody b ∷ []) (ABody b ∷ []) [] at at d
     (part_stands at depth Statement (Part Block ∷ []) (ABody b ∷ []) sound begins.statement (free_of depth Statement (next_at at) begins.shallow)) (λ stack same. same) fails
 
-pub block_too_deep : (at : Place) (depth : ℕ) → is_fault (next_at at).token ≡ false → is_mark mark.OpenCurly (next_at at).token ≡ true → 64 ≤ depth →
-    FailsBody depth (Part Statement ∷ []) at (diagnostic (next_at at).line code.NestedTooDeeply)
-block_too_deep at depth sound is deep b =
+pub block_too_deep : (at : Place) (used : ℕ) (near : IsNearTo at used) (depth : ℕ) → is_fault (next_at at).token ≡ false → is_mark mark.OpenCurly (next_at at).token ≡ true → 64 ≤ depth →
+    FailsBody depth (Part Statement ∷ []) at (stop_with (Some (diagnostic (next_at at).line code.NestedTooDeeply)) used)
+block_too_deep at used near depth sound is deep b =
     let begins : BeginsBlock (next_at at).token = begins_block _ is in
-    block_fails at depth b sound is _ (mark_too_deep at depth Block mark.OpenCurly in_braces (ABody b ∷ []) sound begins.chosen is begins.opened deep)
+    block_fails at depth b sound is _ (mark_too_deep at used near depth Block mark.OpenCurly in_braces (ABody b ∷ []) sound begins.chosen is begins.opened deep)
 
-pub brace_stops : (at : Place) (depth : ℕ) → is_fault (next_at at).token ≡ false → is_mark mark.OpenCurly (next_at at).token ≡ true → depth < 64 → (d : Diagnostic) → StopsAt at d →
+pub brace_stops : (at : Place) (depth : ℕ) → is_fault (next_at at).token ≡ false → is_mark mark.OpenCurly (next_at at).token ≡ true → depth < 64 → (d : Stop) → StopsAt at d →
     FailsBody depth (Part Statement ∷ []) at d
 brace_stops at depth sound is shallow d stop b =
     let begins : BeginsBlock (next_at at).token = begins_block _ is in
     block_fails at depth b sound is d (mark_stops at d depth Block mark.OpenCurly in_braces (ABody b ∷ []) sound begins.chosen is (free_below depth Block (next_at at) shallow) stop)
 
-pub declarations_fail : (at now : Place) (depth : ℕ) → is_fault (next_at at).token ≡ false → is_mark mark.OpenCurly (next_at at).token ≡ true → depth < 64 → GoesPast at now → (d : Diagnostic) →
+pub declarations_fail : (at now : Place) (depth : ℕ) → is_fault (next_at at).token ≡ false → is_mark mark.OpenCurly (next_at at).token ≡ true → depth < 64 → GoesPast at now → (d : Stop) →
     ((n : ℕ) → FailsAt n (Part Declarations ∷ []) [] now d) → FailsBody depth (Part Statement ∷ []) at d
 declarations_fail at now depth sound is shallow goes d fails b =
     fails_behind depth (depth + 1) (Part Statement ∷ []) (Part Declarations ∷ []) (Part Statements ∷ Exactly mark.CloseCurly ∷ Shut ∷ []) (ABody b ∷ []) [] (ABody b ∷ []) at now d
@@ -76,7 +76,7 @@ declarations_past at now later depth b sound is shallow goes declared =
     (braces_past at now depth b sound is shallow goes) (declared (depth + 1)) (deeper depth)
 
 pub within_fails : (at now later : Place) (depth : ℕ) → is_fault (next_at at).token ≡ false → is_mark mark.OpenCurly (next_at at).token ≡ true → depth < 64 → GoesPast at now →
-    ((n : ℕ) → Derives n (Part Declarations ∷ []) [] [] [] now later) → (d : Diagnostic) → FailsBody (depth + 1) (Part Statements ∷ []) later d → FailsBody depth (Part Statement ∷ []) at d
+    ((n : ℕ) → Derives n (Part Declarations ∷ []) [] [] [] now later) → (d : Stop) → FailsBody (depth + 1) (Part Statements ∷ []) later d → FailsBody depth (Part Statement ∷ []) at d
 within_fails at now later depth sound is shallow goes declared d fails b =
     fails_behind depth (depth + 1) (Part Statement ∷ []) (Part Statements ∷ []) (Exactly mark.CloseCurly ∷ Shut ∷ []) (ABody b ∷ []) (ABody b ∷ []) [] at later d
     (declarations_past at now later depth b sound is shallow goes declared) (deeper depth) (fails b)
@@ -89,7 +89,7 @@ within_past at now later behind before after depth b sound is shallow goes decla
     (declarations_past at now later depth b sound is shallow goes declared) (h.derives b) (deeper depth)
 
 pub brace_fails : (at now later behind : Place) (before after : Meaning) (depth : ℕ) → is_fault (next_at at).token ≡ false → is_mark mark.OpenCurly (next_at at).token ≡ true → depth < 64 → GoesPast at now →
-    ((n : ℕ) → Derives n (Part Declarations ∷ []) [] [] [] now later) → AddsBody before after (depth + 1) (Part Statements ∷ []) [] later behind → (d : Diagnostic) →
+    ((n : ℕ) → Derives n (Part Declarations ∷ []) [] [] [] now later) → AddsBody before after (depth + 1) (Part Statements ∷ []) [] later behind → (d : Stop) →
     FailsItem (Exactly mark.CloseCurly) behind d → FailsBody depth (Part Statement ∷ []) at d
 brace_fails at now later behind before after depth sound is shallow goes declared h d fails b =
     fails_behind depth (depth + 1) (Part Statement ∷ []) (Exactly mark.CloseCurly ∷ []) (Shut ∷ []) (ABody b ∷ []) [] (ABody (join b h.tree) ∷ []) at behind d
@@ -123,29 +123,29 @@ pub while_past : (at now : Place) (depth : ℕ) → is_fault (next_at at).token 
 while_past at now depth sound is shallow goes b =
     word_past at now depth Statement word.While (in_brackets ++ behind_while) (ABody b ∷ []) sound (while_chosen _ is) is (free_below depth Statement (next_at at) shallow) goes
 
-pub if_stops : (at : Place) (depth : ℕ) → is_fault (next_at at).token ≡ false → is_word word.If (next_at at).token ≡ true → depth < 64 → (d : Diagnostic) → StopsAt at d → FailsBody depth (Part Statement ∷ []) at d
+pub if_stops : (at : Place) (depth : ℕ) → is_fault (next_at at).token ≡ false → is_word word.If (next_at at).token ≡ true → depth < 64 → (d : Stop) → StopsAt at d → FailsBody depth (Part Statement ∷ []) at d
 if_stops at depth sound is shallow d stop b =
     word_stops at d depth Statement word.If (in_brackets ++ behind_if) (ABody b ∷ []) sound (if_chosen _ is) is (free_below depth Statement (next_at at) shallow) stop
 
-pub while_stops : (at : Place) (depth : ℕ) → is_fault (next_at at).token ≡ false → is_word word.While (next_at at).token ≡ true → depth < 64 → (d : Diagnostic) → StopsAt at d → FailsBody depth (Part Statement ∷ []) at d
+pub while_stops : (at : Place) (depth : ℕ) → is_fault (next_at at).token ≡ false → is_word word.While (next_at at).token ≡ true → depth < 64 → (d : Stop) → StopsAt at d → FailsBody depth (Part Statement ∷ []) at d
 while_stops at depth sound is shallow d stop b =
     word_stops at d depth Statement word.While (in_brackets ++ behind_while) (ABody b ∷ []) sound (while_chosen _ is) is (free_below depth Statement (next_at at) shallow) stop
 
-pub if_too_deep : (at : Place) (depth : ℕ) → is_fault (next_at at).token ≡ false → is_word word.If (next_at at).token ≡ true → 64 ≤ depth →
-    FailsBody depth (Part Statement ∷ []) at (diagnostic (next_at at).line code.NestedTooDeeply)
-if_too_deep at depth sound is deep b =
-    word_too_deep at depth Statement word.If (in_brackets ++ behind_if) (ABody b ∷ []) sound (if_chosen _ is) is (if_opens _ is) deep
+pub if_too_deep : (at : Place) (used : ℕ) (near : IsNearTo at used) (depth : ℕ) → is_fault (next_at at).token ≡ false → is_word word.If (next_at at).token ≡ true → 64 ≤ depth →
+    FailsBody depth (Part Statement ∷ []) at (stop_with (Some (diagnostic (next_at at).line code.NestedTooDeeply)) used)
+if_too_deep at used near depth sound is deep b =
+    word_too_deep at used near depth Statement word.If (in_brackets ++ behind_if) (ABody b ∷ []) sound (if_chosen _ is) is (if_opens _ is) deep
 
-pub while_too_deep : (at : Place) (depth : ℕ) → is_fault (next_at at).token ≡ false → is_word word.While (next_at at).token ≡ true → 64 ≤ depth →
-    FailsBody depth (Part Statement ∷ []) at (diagnostic (next_at at).line code.NestedTooDeeply)
-while_too_deep at depth sound is deep b =
-    word_too_deep at depth Statement word.While (in_brackets ++ behind_while) (ABody b ∷ []) sound (while_chosen _ is) is (while_opens _ is) deep
+pub while_too_deep : (at : Place) (used : ℕ) (near : IsNearTo at used) (depth : ℕ) → is_fault (next_at at).token ≡ false → is_word word.While (next_at at).token ≡ true → 64 ≤ depth →
+    FailsBody depth (Part Statement ∷ []) at (stop_with (Some (diagnostic (next_at at).line code.NestedTooDeeply)) used)
+while_too_deep at used near depth sound is deep b =
+    word_too_deep at used near depth Statement word.While (in_brackets ++ behind_while) (ABody b ∷ []) sound (while_chosen _ is) is (while_opens _ is) deep
 
 -- the items behind the first statement keep one level open
 abbrev pub ShutsOne : List Item → Type 0
 ShutsOne items = (stack : List Item) → levels (items ++ stack) ≡ levels stack + 1
 
-pub test_fails : (at now : Place) (depth : ℕ) (items : List Item) → ShutsOne items → Conditioned depth items at now → (d : Diagnostic) → FailsAt (depth + 1) in_brackets [] now d → FailsBody depth (Part Statement ∷ []) at d
+pub test_fails : (at now : Place) (depth : ℕ) (items : List Item) → ShutsOne items → Conditioned depth items at now → (d : Stop) → FailsAt (depth + 1) in_brackets [] now d → FailsBody depth (Part Statement ∷ []) at d
 test_fails at now depth items shuts begun d fails b =
     fails_behind depth (depth + 1) (Part Statement ∷ []) in_brackets (Make Empty ∷ Part Statement ∷ items) (ABody b ∷ []) [] (ABody b ∷ []) at now d (begun b)
     (λ stack same. shuts stack ∙ deeper depth stack same) fails
@@ -161,7 +161,7 @@ test_past at now later before after depth items b shuts begun c sound =
     (make_stands later (depth + 1) Empty [] (ABody Done ∷ []) sound empty_makes) (λ stack same. shuts stack ∙ deeper depth stack same)
 
 pub first_fails : (at now later : Place) (before after : Meaning) (depth : ℕ) (items : List Item) → ShutsOne items → Conditioned depth items at now →
-    AddsExpr before after (depth + 1) 1 in_brackets [] now later → is_fault (next_at later).token ≡ false → (d : Diagnostic) →
+    AddsExpr before after (depth + 1) 1 in_brackets [] now later → is_fault (next_at later).token ≡ false → (d : Stop) →
     FailsBody (depth + 1) (Part Statement ∷ []) later d → FailsBody depth (Part Statement ∷ []) at d
 first_fails at now later before after depth items shuts begun c sound d fails b =
     fails_behind depth (depth + 1) (Part Statement ∷ []) (Part Statement ∷ []) items (ABody b ∷ []) (ABody Done ∷ []) (AnExpr c.tree ∷ ABody b ∷ []) at later d
@@ -181,7 +181,7 @@ if_shuts stack = refl
 
 pub second_fails : (at now later behind : Place) (before after inside first : Meaning) (depth : ℕ) → Conditioned depth (Part ElsePart ∷ Shut ∷ []) at now →
     AddsExpr before after (depth + 1) 1 in_brackets [] now later → is_fault (next_at later).token ≡ false → AddsBody inside first (depth + 1) (Part Statement ∷ []) [] later behind →
-    (d : Diagnostic) → FailsElse (depth + 1) behind d → FailsBody depth (Part Statement ∷ []) at d
+    (d : Stop) → FailsElse (depth + 1) behind d → FailsBody depth (Part Statement ∷ []) at d
 second_fails at now later behind before after inside first depth begun c sound s d fails b =
     fails_behind depth (depth + 1) (Part Statement ∷ []) (Part ElsePart ∷ []) (Shut ∷ []) (ABody b ∷ []) (before_else s.tree c.tree b) [] at behind d
     (first_past at now later behind before after inside first depth (Part ElsePart ∷ Shut ∷ []) b if_shuts begun c sound s) (deeper depth) (fails s.tree c.tree b)
@@ -229,7 +229,7 @@ no_else_adds at before depth sound other = record {
       (make_stands at depth Decide (before_else s c b) (ABody (join b (When c s Done)) ∷ []) sound (decide_makes s c b)) (λ stack same. same);
 }
 
-pub else_stops : (at : Place) (depth : ℕ) → is_fault (next_at at).token ≡ false → is_word word.Else (next_at at).token ≡ true → (d : Diagnostic) → StopsAt at d → FailsElse depth at d
+pub else_stops : (at : Place) (depth : ℕ) → is_fault (next_at at).token ≡ false → is_word word.Else (next_at at).token ≡ true → (d : Stop) → StopsAt at d → FailsElse depth at d
 else_stops at depth sound is d stop s c b =
     word_stops at d depth ElsePart word.Else (Make Empty ∷ Part Statement ∷ Make DecideElse ∷ []) (before_else s c b) sound (else_chosen _ is) is (free_of depth ElsePart (next_at at) (λ after. refl)) stop
 
@@ -241,7 +241,7 @@ else_past at now depth s c b sound is goes sound_behind =
     (word_past at now depth ElsePart word.Else (Make Empty ∷ Part Statement ∷ Make DecideElse ∷ []) (before_else s c b) sound (else_chosen _ is) is (free_of depth ElsePart (next_at at) (λ after. refl)) goes)
     (make_stands now depth Empty [] (ABody Done ∷ []) sound_behind empty_makes) (λ stack same. same)
 
-pub else_fails : (at now : Place) (depth : ℕ) → is_fault (next_at at).token ≡ false → is_word word.Else (next_at at).token ≡ true → GoesPast at now → is_fault (next_at now).token ≡ false → (d : Diagnostic) →
+pub else_fails : (at now : Place) (depth : ℕ) → is_fault (next_at at).token ≡ false → is_word word.Else (next_at at).token ≡ true → GoesPast at now → is_fault (next_at now).token ≡ false → (d : Stop) →
     FailsBody depth (Part Statement ∷ []) now d → FailsElse depth at d
 else_fails at now depth sound is goes sound_behind d fails s c b =
     fails_behind depth depth (Part ElsePart ∷ []) (Part Statement ∷ []) (Make DecideElse ∷ []) (before_else s c b) (ABody Done ∷ []) (before_else s c b) at now d
@@ -317,7 +317,7 @@ statements_more at now there before mid after depth sound other h s = record {
 }
 
 pub statements_fail : (at now : Place) (before mid : Meaning) (depth : ℕ) → is_fault (next_at now).token ≡ false → is_mark mark.CloseCurly (next_at now).token ≡ false →
-    AddsBody before mid depth (Part Statements ∷ []) (Part Statements ∷ []) at now → (d : Diagnostic) →
+    AddsBody before mid depth (Part Statements ∷ []) (Part Statements ∷ []) at now → (d : Stop) →
     FailsBody depth (Part Statement ∷ []) now d → FailsBody depth (Part Statements ∷ []) at d
 statements_fail at now before mid depth sound other h d fails b =
     fails_behind depth depth (Part Statements ∷ []) (Part Statement ∷ []) (Part Statements ∷ []) (ABody b ∷ []) (ABody (join b h.tree) ∷ []) [] at now d

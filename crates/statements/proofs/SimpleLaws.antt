@@ -2,13 +2,13 @@
 use Rattle.std.proofs.Common.{◌≡◌, ℕ, pos, List, [], ◌∷◌, refl, sym, subst, true, false, append-nil, arith}
 use Rattle.tokens.specs.declared.lexemes.Mark.TheVariants as mark
 use Rattle.tokens.specs.declared.lexemes.Word.TheVariants as word
-use Rattle.grammar.specs.declared.diagnostics.Diagnostic.{Diagnostic}
 use Rattle.grammar.specs.Actions.{Action, Chop, GiveBack as Returns, Push, expr_actions}
 use Rattle.grammar.specs.Building.{Appends, AppendsAll, Meaning}
 use Rattle.grammar.specs.Derivation.{ABody, AnExpr}
 use Rattle.grammar.specs.Grammar.{Back, Evaluate, Exactly, Expression, GiveBack, Make, Part, Statement, Zero, is_fault, is_mark, is_word}
 use Rattle.grammar.specs.Tree.{Alone, Body, Constant, Done, Return, join}
 use Rattle.parsing.specs.Position.{Place, next_at}
+use Rattle.parsing.specs.Stopping.{Stop}
 use Rattle.parsing.specs.Stretch.{Derives, DerivesItem, FailsAt, FailsItem, GoesPast, StopsAt}
 use Rattle.parsing.proofs.Stretches.{fails_behind, joined, stay}
 use Rattle.expressions.specs.Expressions.{AddsExpr}
@@ -30,7 +30,7 @@ empty_stands : (at : Place) (depth : ℕ) (b : Body) → is_fault (next_at at).t
 empty_stands at depth b sound is =
     part_stands at depth Statement (Exactly mark.Semicolon ∷ []) (ABody b ∷ []) sound (empty_chosen _ is) (free_of depth Statement (next_at at) (empty_shallow _ is))
 
-pub empty_fails : (at : Place) (depth : ℕ) → is_fault (next_at at).token ≡ false → is_mark mark.Semicolon (next_at at).token ≡ true → (d : Diagnostic) →
+pub empty_fails : (at : Place) (depth : ℕ) → is_fault (next_at at).token ≡ false → is_mark mark.Semicolon (next_at at).token ≡ true → (d : Stop) →
     FailsItem (Exactly mark.Semicolon) at d → FailsBody depth (Part Statement ∷ []) at d
 empty_fails at depth sound is d fails b =
     fails_behind depth depth (Part Statement ∷ []) (Exactly mark.Semicolon ∷ []) [] (ABody b ∷ []) [] (ABody b ∷ []) at at d (empty_stands at depth b sound is) (λ stack same. same) (fails depth)
@@ -55,7 +55,7 @@ evaluation_stands at depth b sound plain =
     let e : Evaluates (next_at at).token = evaluates (next_at at).token plain in
     part_stands at depth Statement (Part Expression ∷ Exactly mark.Semicolon ∷ Make Evaluate ∷ []) (ABody b ∷ []) sound e.chosen (free_of depth Statement (next_at at) e.shallow)
 
-pub value_fails : (at : Place) (depth : ℕ) → is_fault (next_at at).token ≡ false → opens_statement (next_at at).token ≡ false → (d : Diagnostic) →
+pub value_fails : (at : Place) (depth : ℕ) → is_fault (next_at at).token ≡ false → opens_statement (next_at at).token ≡ false → (d : Stop) →
     FailsAt depth (Part Expression ∷ []) [] at d → FailsBody depth (Part Statement ∷ []) at d
 value_fails at depth sound plain d fails b =
     fails_behind depth depth (Part Statement ∷ []) (Part Expression ∷ []) (Exactly mark.Semicolon ∷ Make Evaluate ∷ []) (ABody b ∷ []) [] (ABody b ∷ []) at at d
@@ -69,7 +69,7 @@ value_past at now before after depth b sound plain h =
     (evaluation_stands at depth b sound plain) h.derives (λ stack same. same)
 
 pub semicolon_fails : (at now : Place) (before after : Meaning) (depth : ℕ) → is_fault (next_at at).token ≡ false → opens_statement (next_at at).token ≡ false →
-    AddsExpr before after depth 1 (Part Expression ∷ []) [] at now → (d : Diagnostic) → FailsItem (Exactly mark.Semicolon) now d → FailsBody depth (Part Statement ∷ []) at d
+    AddsExpr before after depth 1 (Part Expression ∷ []) [] at now → (d : Stop) → FailsItem (Exactly mark.Semicolon) now d → FailsBody depth (Part Statement ∷ []) at d
 semicolon_fails at now before after depth sound plain h d fails b =
     fails_behind depth depth (Part Statement ∷ []) (Exactly mark.Semicolon ∷ []) (Make Evaluate ∷ []) (ABody b ∷ []) [] (AnExpr h.tree ∷ ABody b ∷ []) at now d
     (value_past at now before after depth b sound plain h) (λ stack same. same) (fails depth)
@@ -105,7 +105,7 @@ zero_adds at before after depth sound is pushed = record {
 back_stands : (at : Place) (depth : ℕ) → is_fault (next_at at).token ≡ false → is_mark mark.Semicolon (next_at at).token ≡ false → Derives depth (Part Back ∷ []) (Part Expression ∷ []) [] [] at at
 back_stands at depth sound other = part_stands at depth Back (Part Expression ∷ []) [] sound (value_chosen _ other) (free_of depth Back (next_at at) (λ after. refl))
 
-pub back_fails : (at : Place) (depth : ℕ) → is_fault (next_at at).token ≡ false → is_mark mark.Semicolon (next_at at).token ≡ false → (d : Diagnostic) →
+pub back_fails : (at : Place) (depth : ℕ) → is_fault (next_at at).token ≡ false → is_mark mark.Semicolon (next_at at).token ≡ false → (d : Stop) →
     FailsAt depth (Part Expression ∷ []) [] at d → FailsAt depth (Part Back ∷ []) [] at d
 back_fails at depth sound other d fails =
     fails_behind depth depth (Part Back ∷ []) (Part Expression ∷ []) [] [] [] [] at at d (back_stands at depth sound other) (λ stack same. same) fails
@@ -127,11 +127,11 @@ return_past : (at now : Place) (depth : ℕ) (b : Body) → is_fault (next_at at
 return_past at now depth b sound is goes =
     word_past at now depth Statement word.Return (Part Back ∷ Exactly mark.Semicolon ∷ Make GiveBack ∷ []) (ABody b ∷ []) sound (return_chosen _ is) is (free_of depth Statement (next_at at) (return_shallow _ is)) goes
 
-pub return_stops : (at : Place) (depth : ℕ) → is_fault (next_at at).token ≡ false → is_word word.Return (next_at at).token ≡ true → (d : Diagnostic) → StopsAt at d → FailsBody depth (Part Statement ∷ []) at d
+pub return_stops : (at : Place) (depth : ℕ) → is_fault (next_at at).token ≡ false → is_word word.Return (next_at at).token ≡ true → (d : Stop) → StopsAt at d → FailsBody depth (Part Statement ∷ []) at d
 return_stops at depth sound is d stop b =
     word_stops at d depth Statement word.Return (Part Back ∷ Exactly mark.Semicolon ∷ Make GiveBack ∷ []) (ABody b ∷ []) sound (return_chosen _ is) is (free_of depth Statement (next_at at) (return_shallow _ is)) stop
 
-pub given_fails : (at now : Place) (depth : ℕ) → is_fault (next_at at).token ≡ false → is_word word.Return (next_at at).token ≡ true → GoesPast at now → (d : Diagnostic) →
+pub given_fails : (at now : Place) (depth : ℕ) → is_fault (next_at at).token ≡ false → is_word word.Return (next_at at).token ≡ true → GoesPast at now → (d : Stop) →
     FailsAt depth (Part Back ∷ []) [] now d → FailsBody depth (Part Statement ∷ []) at d
 given_fails at now depth sound is goes d fails b =
     fails_behind depth depth (Part Statement ∷ []) (Part Back ∷ []) (Exactly mark.Semicolon ∷ Make GiveBack ∷ []) (ABody b ∷ []) [] (ABody b ∷ []) at now d
@@ -145,7 +145,7 @@ given_past at now later before after depth b sound is goes h =
     (return_past at now depth b sound is goes) h.derives (λ stack same. same)
 
 pub return_unended : (at now later : Place) (before after : Meaning) (depth : ℕ) → is_fault (next_at at).token ≡ false → is_word word.Return (next_at at).token ≡ true → GoesPast at now →
-    AddsExpr before after depth 1 (Part Back ∷ []) [] now later → (d : Diagnostic) → FailsItem (Exactly mark.Semicolon) later d → FailsBody depth (Part Statement ∷ []) at d
+    AddsExpr before after depth 1 (Part Back ∷ []) [] now later → (d : Stop) → FailsItem (Exactly mark.Semicolon) later d → FailsBody depth (Part Statement ∷ []) at d
 return_unended at now later before after depth sound is goes h d fails b =
     fails_behind depth depth (Part Statement ∷ []) (Exactly mark.Semicolon ∷ []) (Make GiveBack ∷ []) (ABody b ∷ []) [] (AnExpr h.tree ∷ ABody b ∷ []) at later d
     (given_past at now later before after depth b sound is goes h) (λ stack same. same) (fails depth)
@@ -170,11 +170,11 @@ bracket_past : (at now : Place) (depth : ℕ) → DerivesItem (Exactly mark.Open
 bracket_past at now depth opened =
     joined depth depth in_brackets (Exactly mark.OpenRound ∷ []) [] (Part Expression ∷ Exactly mark.CloseRound ∷ []) [] [] [] [] at at now (stay at depth in_brackets []) (opened depth) (λ stack same. same)
 
-pub bracket_fails : (at : Place) (depth : ℕ) (d : Diagnostic) → FailsItem (Exactly mark.OpenRound) at d → FailsAt depth in_brackets [] at d
+pub bracket_fails : (at : Place) (depth : ℕ) (d : Stop) → FailsItem (Exactly mark.OpenRound) at d → FailsAt depth in_brackets [] at d
 bracket_fails at depth d fails =
     fails_behind depth depth in_brackets (Exactly mark.OpenRound ∷ []) (Part Expression ∷ Exactly mark.CloseRound ∷ []) [] [] [] at at d (stay at depth in_brackets []) (λ stack same. same) (fails depth)
 
-pub condition_fails : (at now : Place) (depth : ℕ) → DerivesItem (Exactly mark.OpenRound) [] [] at now → (d : Diagnostic) → FailsAt depth (Part Expression ∷ []) [] now d → FailsAt depth in_brackets [] at d
+pub condition_fails : (at now : Place) (depth : ℕ) → DerivesItem (Exactly mark.OpenRound) [] [] at now → (d : Stop) → FailsAt depth (Part Expression ∷ []) [] now d → FailsAt depth in_brackets [] at d
 condition_fails at now depth opened d fails =
     fails_behind depth depth in_brackets (Part Expression ∷ []) (Exactly mark.CloseRound ∷ []) [] [] [] at now d (bracket_past at now depth opened) (λ stack same. same) fails
 
@@ -184,7 +184,7 @@ condition_past at now later before after depth opened h =
     joined depth depth in_brackets (Part Expression ∷ []) [] (Exactly mark.CloseRound ∷ []) [] [] (AnExpr h.tree ∷ []) [] at now later (bracket_past at now depth opened) h.derives (λ stack same. same)
 
 pub condition_unended : (at now later : Place) (before after : Meaning) (depth : ℕ) → DerivesItem (Exactly mark.OpenRound) [] [] at now → AddsExpr before after depth 1 (Part Expression ∷ []) [] now later →
-    (d : Diagnostic) → FailsItem (Exactly mark.CloseRound) later d → FailsAt depth in_brackets [] at d
+    (d : Stop) → FailsItem (Exactly mark.CloseRound) later d → FailsAt depth in_brackets [] at d
 condition_unended at now later before after depth opened h d fails =
     fails_behind depth depth in_brackets (Exactly mark.CloseRound ∷ []) [] [] [] (AnExpr h.tree ∷ []) at later d (condition_past at now later before after depth opened h) (λ stack same. same) (fails depth)
 

@@ -1,6 +1,6 @@
 -- What may stand behind the first branch of an `if`: nothing, or an `else` with a second branch.
 use Rattle.std.specs.Prelude.{ℕ, ◌+◌, ◌≡◌, ◌≤◌, true, List, [], ◌∷◌, Option, Some, None}
-use Rattle.grammar.specs.declared.diagnostics.Diagnostic.{Diagnostic}
+use Rattle.parsing.specs.Stopping.{Stop}
 use Rattle.grammar.specs.Actions.{Action, ElsePart as BetweenBranches, body_actions}
 use Rattle.grammar.specs.Building.{Meaning, AppendsAll, StandsOpen}
 use Rattle.grammar.specs.Derivation.{Value, ABody, AnExpr}
@@ -44,7 +44,7 @@ pub record AddsElse (before after : Meaning) (depth : ℕ) (here there : Place) 
   pub derives : (s : Body) (c : Expr) (body : Body) → Derives depth (Part ElsePart ∷ []) [] (before_else s c body) (ABody (join body (decided c s tree)) ∷ []) here there
 
 -- The first fault from there on, whatever the `if` is so far.
-abbrev pub FailsElse : ℕ → Place → Diagnostic → Type 0
+abbrev pub FailsElse : ℕ → Place → Stop → Type 0
 FailsElse depth here d = (s : Body) (c : Expr) (body : Body) → FailsAt depth (Part ElsePart ∷ []) (before_else s c body) here d
 
 -- A list is stood for that leaves this open, where a statement stands, and room for so many more.

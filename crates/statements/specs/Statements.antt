@@ -1,6 +1,6 @@
 -- What the parse of statements did: the builder was told their actions, and the derivation put them behind the body so far.
 use Rattle.std.specs.Prelude.{ℕ, ◌≤◌, List, [], ◌∷◌}
-use Rattle.grammar.specs.declared.diagnostics.Diagnostic.{Diagnostic}
+use Rattle.parsing.specs.Stopping.{Stop}
 use Rattle.grammar.specs.Actions.{body_actions}
 use Rattle.grammar.specs.Building.{Meaning, AppendsAll}
 use Rattle.grammar.specs.Derivation.{ABody}
@@ -21,5 +21,5 @@ pub record AddsBody (before after : Meaning) (depth : ℕ) (front pending : List
   pub derives : (body : Body) → Derives depth front pending (ABody body ∷ []) (ABody (join body tree) ∷ []) here there
 
 -- The first fault from there on, whatever the body is so far.
-abbrev pub FailsBody : ℕ → List Item → Place → Diagnostic → Type 0
+abbrev pub FailsBody : ℕ → List Item → Place → Stop → Type 0
 FailsBody depth front here d = (body : Body) → FailsAt depth front (ABody body ∷ []) here d

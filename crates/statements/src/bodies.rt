@@ -1,7 +1,8 @@
 //! Blocks, branches, loops, returns and expressions for their effect.
 
 ghost use Rattle.std.specs.Prelude.{◌≡◌, ◌+◌, ◌-◌, ◌*◌, ◌<◌, ◌≤◌, ◌^◌, ℕ, [], ◌∷◌, IfErr, OnOk, false, true};
-ghost use Rattle.tokens.specs.Reading.{remaining};
+ghost use Rattle.tokens.specs.Reading.{IsNear, remaining, taken};
+ghost use Rattle.tokens.specs.Window.{Takes};
 ghost use Rattle.tokens.specs.declared.lexemes.Mark.TheVariants as mark;
 ghost use Rattle.tokens.specs.declared.lexemes.Word.TheVariants as word;
 ghost use Rattle.grammar.specs.Following.{InBranch};
@@ -30,12 +31,15 @@ pub fn statements<F: Feed, B: Build>(
 ) -> Result<(), ParseFault>
     requires deep { depth ≤ 64 }
     requires open { HasPlace (B.stands build.old) (room depth 1) }
+    requires near { IsNear parser.old.reading }
     requires count { F.failures feed.old < 2 ^ 64 - 1 }
     ensures parsed { OnOk result (AddsBody (B.stands build.old) (B.stands build.new) depth (Part Statements ∷ []) [] (place parser.old (F.to_come feed.old)) (place parser.new (F.to_come feed.new))) }
     ensures closed { OnOk result (is_mark mark.CloseCurly parser.new.reading.next.token ≡ true) }
     ensures falls { OnOk result (remaining parser.new.reading ≤ remaining parser.old.reading) }
-    ensures refused { IfErr result (λ fault. Refused (FailsBody depth (Part Statements ∷ []) (place parser.old (F.to_come feed.old))) B.allocates fault) }
+    ensures refused { IfErr result (λ fault. Refused (FailsBody depth (Part Statements ∷ []) (place parser.old (F.to_come feed.old))) B.allocates (taken parser.new.reading) fault) }
     ensures counted { Counts result (F.failures feed.old) (F.failures feed.new) }
+    ensures near { OnOk result (IsNear parser.new.reading) }
+    ensures took { Takes (taken parser.old.reading) (taken parser.new.reading) (F.to_come feed.old) (F.to_come feed.new) }
 {
     while !is_mark(&parser.next().token, Mark::CloseCurly) {
         statement(parser, feed, build, depth)?;
@@ -53,12 +57,15 @@ fn statement<F: Feed, B: Build>(
 ) -> Result<(), ParseFault>
     requires deep { depth ≤ 64 }
     requires open { HasPlace (B.stands build.old) (room depth 1) }
+    requires near { IsNear parser.old.reading }
     requires count { F.failures feed.old < 2 ^ 64 - 1 }
     ensures parsed { OnOk result (AddsBody (B.stands build.old) (B.stands build.new) depth (Part Statement ∷ []) [] (place parser.old (F.to_come feed.old)) (place parser.new (F.to_come feed.new))) }
     ensures sound { OnOk result (is_fault parser.new.reading.next.token ≡ false) }
     ensures falls { OnOk result (remaining parser.new.reading < remaining parser.old.reading) }
-    ensures refused { IfErr result (λ fault. Refused (FailsBody depth (Part Statement ∷ []) (place parser.old (F.to_come feed.old))) B.allocates fault) }
+    ensures refused { IfErr result (λ fault. Refused (FailsBody depth (Part Statement ∷ []) (place parser.old (F.to_come feed.old))) B.allocates (taken parser.new.reading) fault) }
     ensures counted { Counts result (F.failures feed.old) (F.failures feed.new) }
+    ensures near { OnOk result (IsNear parser.new.reading) }
+    ensures took { Takes (taken parser.old.reading) (taken parser.new.reading) (F.to_come feed.old) (F.to_come feed.new) }
 {
     match parser.next().token {
         Token::Mark(Mark::Semicolon) => parser.expect(feed, Mark::Semicolon)?,
@@ -83,12 +90,15 @@ fn block<F: Feed, B: Build>(
     requires sound { is_fault parser.old.reading.next.token ≡ false }
     requires open { HasPlace (B.stands build.old) (room depth 1) }
     requires is { is_mark mark.OpenCurly parser.old.reading.next.token ≡ true }
+    requires near { IsNear parser.old.reading }
     requires count { F.failures feed.old < 2 ^ 64 - 1 }
     ensures parsed { OnOk result (AddsBody (B.stands build.old) (B.stands build.new) depth (Part Statement ∷ []) [] (place parser.old (F.to_come feed.old)) (place parser.new (F.to_come feed.new))) }
     ensures sound { OnOk result (is_fault parser.new.reading.next.token ≡ false) }
     ensures falls { OnOk result (remaining parser.new.reading < remaining parser.old.reading) }
-    ensures refused { IfErr result (λ fault. Refused (FailsBody depth (Part Statement ∷ []) (place parser.old (F.to_come feed.old))) B.allocates fault) }
+    ensures refused { IfErr result (λ fault. Refused (FailsBody depth (Part Statement ∷ []) (place parser.old (F.to_come feed.old))) B.allocates (taken parser.new.reading) fault) }
     ensures counted { Counts result (F.failures feed.old) (F.failures feed.new) }
+    ensures near { OnOk result (IsNear parser.new.reading) }
+    ensures took { Takes (taken parser.old.reading) (taken parser.new.reading) (F.to_come feed.old) (F.to_come feed.new) }
 {
     if depth >= MOST_LEVELS {
         return Err(parser.refusal(Code::NestedTooDeeply));
@@ -112,12 +122,15 @@ fn branch<F: Feed, B: Build>(
     requires sound { is_fault parser.old.reading.next.token ≡ false }
     requires open { HasPlace (B.stands build.old) (room depth 1) }
     requires is { is_word word.If parser.old.reading.next.token ≡ true }
+    requires near { IsNear parser.old.reading }
     requires count { F.failures feed.old < 2 ^ 64 - 1 }
     ensures parsed { OnOk result (AddsBody (B.stands build.old) (B.stands build.new) depth (Part Statement ∷ []) [] (place parser.old (F.to_come feed.old)) (place parser.new (F.to_come feed.new))) }
     ensures sound { OnOk result (is_fault parser.new.reading.next.token ≡ false) }
     ensures falls { OnOk result (remaining parser.new.reading < remaining parser.old.reading) }
-    ensures refused { IfErr result (λ fault. Refused (FailsBody depth (Part Statement ∷ []) (place parser.old (F.to_come feed.old))) B.allocates fault) }
+    ensures refused { IfErr result (λ fault. Refused (FailsBody depth (Part Statement ∷ []) (place parser.old (F.to_come feed.old))) B.allocates (taken parser.new.reading) fault) }
     ensures counted { Counts result (F.failures feed.old) (F.failures feed.new) }
+    ensures near { OnOk result (IsNear parser.new.reading) }
+    ensures took { Takes (taken parser.old.reading) (taken parser.new.reading) (F.to_come feed.old) (F.to_come feed.new) }
 {
     if depth >= MOST_LEVELS {
         return Err(parser.refusal(Code::NestedTooDeeply));
@@ -141,12 +154,15 @@ fn else_part<F: Feed, B: Build>(
 ) -> Result<(), ParseFault>
     requires deep { depth ≤ 64 }
     requires open { HasInside InBranch (B.stands build.old) (room depth 1) }
+    requires near { IsNear parser.old.reading }
     requires count { F.failures feed.old < 2 ^ 64 - 1 }
     ensures parsed { OnOk result (AddsElse (B.stands build.old) (B.stands build.new) depth (place parser.old (F.to_come feed.old)) (place parser.new (F.to_come feed.new))) }
     ensures sound { OnOk result (is_fault parser.new.reading.next.token ≡ false) }
     ensures falls { OnOk result (remaining parser.new.reading ≤ remaining parser.old.reading) }
-    ensures refused { IfErr result (λ fault. Refused (FailsElse depth (place parser.old (F.to_come feed.old))) B.allocates fault) }
+    ensures refused { IfErr result (λ fault. Refused (FailsElse depth (place parser.old (F.to_come feed.old))) B.allocates (taken parser.new.reading) fault) }
     ensures counted { Counts result (F.failures feed.old) (F.failures feed.new) }
+    ensures near { OnOk result (IsNear parser.new.reading) }
+    ensures took { Takes (taken parser.old.reading) (taken parser.new.reading) (F.to_come feed.old) (F.to_come feed.new) }
 {
     if is_word(&parser.next().token, Word::Else) {
         build.else_part()?;
@@ -168,12 +184,15 @@ fn repetition<F: Feed, B: Build>(
     requires sound { is_fault parser.old.reading.next.token ≡ false }
     requires open { HasPlace (B.stands build.old) (room depth 1) }
     requires is { is_word word.While parser.old.reading.next.token ≡ true }
+    requires near { IsNear parser.old.reading }
     requires count { F.failures feed.old < 2 ^ 64 - 1 }
     ensures parsed { OnOk result (AddsBody (B.stands build.old) (B.stands build.new) depth (Part Statement ∷ []) [] (place parser.old (F.to_come feed.old)) (place parser.new (F.to_come feed.new))) }
     ensures sound { OnOk result (is_fault parser.new.reading.next.token ≡ false) }
     ensures falls { OnOk result (remaining parser.new.reading < remaining parser.old.reading) }
-    ensures refused { IfErr result (λ fault. Refused (FailsBody depth (Part Statement ∷ []) (place parser.old (F.to_come feed.old))) B.allocates fault) }
+    ensures refused { IfErr result (λ fault. Refused (FailsBody depth (Part Statement ∷ []) (place parser.old (F.to_come feed.old))) B.allocates (taken parser.new.reading) fault) }
     ensures counted { Counts result (F.failures feed.old) (F.failures feed.new) }
+    ensures near { OnOk result (IsNear parser.new.reading) }
+    ensures took { Takes (taken parser.old.reading) (taken parser.new.reading) (F.to_come feed.old) (F.to_come feed.new) }
 {
     if depth >= MOST_LEVELS {
         return Err(parser.refusal(Code::NestedTooDeeply));
@@ -196,12 +215,15 @@ fn condition<F: Feed, B: Build>(
 ) -> Result<(), ParseFault>
     requires deep { depth ≤ 64 }
     requires open { HasRoom (B.stands build.old) (room depth 1) }
+    requires near { IsNear parser.old.reading }
     requires count { F.failures feed.old < 2 ^ 64 - 1 }
     ensures parsed { OnOk result (AddsExpr (B.stands build.old) (B.stands build.new) depth 1 in_brackets [] (place parser.old (F.to_come feed.old)) (place parser.new (F.to_come feed.new))) }
     ensures sound { OnOk result (is_fault parser.new.reading.next.token ≡ false) }
     ensures falls { OnOk result (remaining parser.new.reading < remaining parser.old.reading) }
-    ensures refused { IfErr result (λ fault. Refused (FailsAt depth in_brackets [] (place parser.old (F.to_come feed.old))) B.allocates fault) }
+    ensures refused { IfErr result (λ fault. Refused (FailsAt depth in_brackets [] (place parser.old (F.to_come feed.old))) B.allocates (taken parser.new.reading) fault) }
     ensures counted { Counts result (F.failures feed.old) (F.failures feed.new) }
+    ensures near { OnOk result (IsNear parser.new.reading) }
+    ensures took { Takes (taken parser.old.reading) (taken parser.new.reading) (F.to_come feed.old) (F.to_come feed.new) }
 {
     parser.expect(feed, Mark::OpenRound)?;
     expression(parser, feed, build, depth)?;
@@ -220,12 +242,15 @@ fn give_back<F: Feed, B: Build>(
     requires sound { is_fault parser.old.reading.next.token ≡ false }
     requires open { HasPlace (B.stands build.old) (room depth 1) }
     requires is { is_word word.Return parser.old.reading.next.token ≡ true }
+    requires near { IsNear parser.old.reading }
     requires count { F.failures feed.old < 2 ^ 64 - 1 }
     ensures parsed { OnOk result (AddsBody (B.stands build.old) (B.stands build.new) depth (Part Statement ∷ []) [] (place parser.old (F.to_come feed.old)) (place parser.new (F.to_come feed.new))) }
     ensures sound { OnOk result (is_fault parser.new.reading.next.token ≡ false) }
     ensures falls { OnOk result (remaining parser.new.reading < remaining parser.old.reading) }
-    ensures refused { IfErr result (λ fault. Refused (FailsBody depth (Part Statement ∷ []) (place parser.old (F.to_come feed.old))) B.allocates fault) }
+    ensures refused { IfErr result (λ fault. Refused (FailsBody depth (Part Statement ∷ []) (place parser.old (F.to_come feed.old))) B.allocates (taken parser.new.reading) fault) }
     ensures counted { Counts result (F.failures feed.old) (F.failures feed.new) }
+    ensures near { OnOk result (IsNear parser.new.reading) }
+    ensures took { Takes (taken parser.old.reading) (taken parser.new.reading) (F.to_come feed.old) (F.to_come feed.new) }
 {
     parser.advance(feed)?;
     back(parser, feed, build, depth)?;
@@ -243,11 +268,14 @@ fn back<F: Feed, B: Build>(
 ) -> Result<(), ParseFault>
     requires deep { depth ≤ 64 }
     requires open { HasRoom (B.stands build.old) (room depth 1) }
+    requires near { IsNear parser.old.reading }
     requires count { F.failures feed.old < 2 ^ 64 - 1 }
     ensures parsed { OnOk result (AddsExpr (B.stands build.old) (B.stands build.new) depth 1 (Part Back ∷ []) [] (place parser.old (F.to_come feed.old)) (place parser.new (F.to_come feed.new))) }
     ensures falls { OnOk result (remaining parser.new.reading ≤ remaining parser.old.reading) }
-    ensures refused { IfErr result (λ fault. Refused (FailsAt depth (Part Back ∷ []) [] (place parser.old (F.to_come feed.old))) B.allocates fault) }
+    ensures refused { IfErr result (λ fault. Refused (FailsAt depth (Part Back ∷ []) [] (place parser.old (F.to_come feed.old))) B.allocates (taken parser.new.reading) fault) }
     ensures counted { Counts result (F.failures feed.old) (F.failures feed.new) }
+    ensures near { OnOk result (IsNear parser.new.reading) }
+    ensures took { Takes (taken parser.old.reading) (taken parser.new.reading) (F.to_come feed.old) (F.to_come feed.new) }
 {
     if is_mark(&parser.next().token, Mark::Semicolon) {
         build.constant(0)?;
@@ -268,12 +296,15 @@ fn evaluation<F: Feed, B: Build>(
     requires sound { is_fault parser.old.reading.next.token ≡ false }
     requires open { HasPlace (B.stands build.old) (room depth 1) }
     requires plain { opens_statement parser.old.reading.next.token ≡ false }
+    requires near { IsNear parser.old.reading }
     requires count { F.failures feed.old < 2 ^ 64 - 1 }
     ensures parsed { OnOk result (AddsBody (B.stands build.old) (B.stands build.new) depth (Part Statement ∷ []) [] (place parser.old (F.to_come feed.old)) (place parser.new (F.to_come feed.new))) }
     ensures sound { OnOk result (is_fault parser.new.reading.next.token ≡ false) }
     ensures falls { OnOk result (remaining parser.new.reading < remaining parser.old.reading) }
-    ensures refused { IfErr result (λ fault. Refused (FailsBody depth (Part Statement ∷ []) (place parser.old (F.to_come feed.old))) B.allocates fault) }
+    ensures refused { IfErr result (λ fault. Refused (FailsBody depth (Part Statement ∷ []) (place parser.old (F.to_come feed.old))) B.allocates (taken parser.new.reading) fault) }
     ensures counted { Counts result (F.failures feed.old) (F.failures feed.new) }
+    ensures near { OnOk result (IsNear parser.new.reading) }
+    ensures took { Takes (taken parser.old.reading) (taken parser.new.reading) (F.to_come feed.old) (F.to_come feed.new) }
 {
     expression(parser, feed, build, depth)?;
     parser.expect(feed, Mark::Semicolon)?;

@@ -1,5 +1,5 @@
 -- Small sources and their tokens.
-use Rattle.std.specs.Prelude.{◌≡◌, ℕ, List, [], ◌∷◌, ◌++◌, codes}
+use Rattle.std.specs.Prelude.{◌≡◌, ℕ, [], ◌∷◌, ◌++◌, codes}
 use Rattle.tokens.specs.declared.lexemes.Mark.TheVariants as mark
 use Rattle.tokens.specs.declared.lexemes.Word.TheVariants as word
 use Rattle.tokens.specs.declared.lexemes.Flaw.TheVariants as flaw

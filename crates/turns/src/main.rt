@@ -4,10 +4,10 @@
 mod counts;
 
 use crate::counts::counted;
-use anyhow::{Context, Result};
 use code::{Maker, Program};
 use lang::parse;
-use std::env;
+use std::io::ErrorKind;
+use std::{env, io};
 use tokens::Pieces;
 
 /// The robot. Each turn is 28 cycles, each tenth one 10 more, and after 100 turns it restarts in the sixth cycle.
@@ -30,9 +30,9 @@ const ROBOT: &[u8] = b"
 /// The cycles where none are asked for: ten runs of the robot up to its restart.
 const CYCLES: u32 = 29_060;
 
-fn main(rt: HostRuntime) -> Result<()> {
+fn main(rt: HostRuntime) -> io::Result<()> {
     let cycles = cycles(&rt)?;
-    let program = compiled(ROBOT).context("the robot has a fault")?;
+    let program = compiled(ROBOT).ok_or(ErrorKind::InvalidData)?;
     let counts = counted(&program, cycles);
     println!(rt; "Cycles {cycles}")?;
     println!(rt; "Asks {}", counts.asks)?;
@@ -41,11 +41,11 @@ fn main(rt: HostRuntime) -> Result<()> {
 }
 
 /// How many cycles are asked for by the first word behind the program's name.
-fn cycles(rt: &HostRuntime) -> Result<u32> {
+fn cycles(rt: &HostRuntime) -> io::Result<u32> {
     let mut words = env::args(rt)?;
     let _ = words.next();
     match words.next() {
-        Some(word) => Ok(word.parse::<u32>()?),
+        Some(word) => Ok(word.parse::<u32>().map_err(|_| ErrorKind::InvalidInput)?),
         None => Ok(CYCLES),
     }
 }

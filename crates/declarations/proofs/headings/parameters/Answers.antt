@@ -13,7 +13,7 @@ returns-in_err-declare-clause-refused g c =
     let sound : is_fault c.args.parser.now.reading.next.token ≡ false = cc in
     let is : c.args.parser.now.reading.next.token ≡ token.Name c.in-Name.field-0 = cc in
     let p = err_from_is_err_and c.from_residual.result c.from_residual.ensures.1 in
-    rw (p.1, p.2) (leaves (Part Parameters ∷ []) (AName Parameter ∷ []) (Part (More Parameter) ∷ []) _ _ c.in_err-declare.field-0.0 (λ stack. refl)
+    rw (p.1, p.2) (leaves _ (Part Parameters ∷ []) (AName Parameter ∷ []) (Part (More Parameter) ∷ []) _ _ c.in_err-declare.field-0.0 (λ stack. refl)
     (parameters_open _ c.in-Name.field-0 sound is) c.in_err-declare.ensures.refused)
 
 pub returns-in_err-more_names-clause-refused : goal.returns-in_err-more_names-clause-refused
@@ -21,7 +21,7 @@ returns-in_err-more_names-clause-refused g c =
     let sound : is_fault c.args.parser.now.reading.next.token ≡ false = cc in
     let is : c.args.parser.now.reading.next.token ≡ token.Name c.in-Name.field-0 = cc in
     let p = err_from_is_err_and c.from_residual-in_err-more_names.result c.from_residual-in_err-more_names.ensures.1 in
-    rw (p.1, p.2) (leaves (Part Parameters ∷ []) (Part (More Parameter) ∷ []) [] _ _ c.in_err-more_names.field-0.0 (λ stack. refl)
+    rw (p.1, p.2) (leaves _ (Part Parameters ∷ []) (Part (More Parameter) ∷ []) [] _ _ c.in_err-more_names.field-0.0 (λ stack. refl)
     (parameter_first _ _ c.in-Name.field-0 sound is c.in_ok-declare.ensures.passed) c.in_err-more_names.ensures.refused)
 
 pub returns-in_ok-more_names-clause-parsed : goal.returns-in_ok-more_names-clause-parsed
@@ -40,4 +40,6 @@ returns-in_default g c =
       falls = le_refl _;
       refused = tt;
       counted = refl;
+      near = c.requires.near;
+      took = record { rest = λ total h. h };
     }

@@ -18,6 +18,8 @@ loop-declared-preserved g c =
       falls = omega (arith, c.in_ok-declaration.ensures.falls, c.loop-declared.invariant.falls);
       stays = stays_at_then c.args.declared _ _ _ c.loop-declared.invariant.stays c.in_ok-declaration.ensures.stays;
       counted = c.in_ok-declaration.ensures.counted ∙ c.loop-declared.invariant.counted;
+      near = c.in_ok-declaration.ensures.near;
+      took = record { rest = λ total h. c.in_ok-declaration.ensures.took.rest total (c.loop-declared.invariant.took.rest total h) };
     }
 
 pub returns-in_err-declaration-clause-refused : goal.returns-in_err-declaration-clause-refused
@@ -25,7 +27,7 @@ returns-in_err-declaration-clause-refused g c =
     let sound : is_fault c.loop-declared.parser.reading.next.token ≡ false = cc in
     let is : is_word word.Type c.loop-declared.parser.reading.next.token ≡ true = cc in
     let p = err_from_is_err_and c.from_residual.result c.from_residual.ensures.1 in
-    rw (p.1, p.2) (leaves (Part (declarations_of c.args.declared) ∷ []) (declaration_items c.args.declared) (Part (declarations_of c.args.declared) ∷ []) _ _ c.in_err-declaration.field-0.0 (λ stack. refl)
+    rw (p.1, p.2) (leaves _ (Part (declarations_of c.args.declared) ∷ []) (declaration_items c.args.declared) (Part (declarations_of c.args.declared) ∷ []) _ _ c.in_err-declaration.field-0.0 (λ stack. refl)
     (λ depth. opens_on depth _ (declarations_of c.args.declared) (declaration_items c.args.declared ++ Part (declarations_of c.args.declared) ∷ []) _ _ sound (declarations_more c.args.declared _ c.requires.blocks is) (c.loop-declared.invariant.parsed depth))
     c.in_err-declaration.ensures.refused)
 

@@ -14,7 +14,7 @@ returns-in_err-expect-clause-refused g c =
     let sound : is_fault c.loop-declared.parser.reading.next.token ≡ false = cc in
     let is : is_mark mark.Comma c.loop-declared.parser.reading.next.token ≡ true = cc in
     let p = err_from_is_err_and c.from_residual.result c.from_residual.ensures.1 in
-    rw (p.1, p.2) (leaves (Part (More (role_of c.args.declared)) ∷ []) (Exactly mark.Comma ∷ []) (AName (role_of c.args.declared) ∷ Part (More (role_of c.args.declared)) ∷ []) _ _ c.in_err-expect.field-0.0 (λ stack. refl)
+    rw (p.1, p.2) (leaves _ (Part (More (role_of c.args.declared)) ∷ []) (Exactly mark.Comma ∷ []) (AName (role_of c.args.declared) ∷ Part (More (role_of c.args.declared)) ∷ []) _ _ c.in_err-expect.field-0.0 (λ stack. refl)
     (λ depth. opens_on depth _ (More (role_of c.args.declared)) (Exactly mark.Comma ∷ AName (role_of c.args.declared) ∷ Part (More (role_of c.args.declared)) ∷ []) _ _ sound (names_more _ _ is) (c.loop-declared.invariant.parsed depth))
     c.in_err-expect.ensures.refused)
 
@@ -30,6 +30,8 @@ loop-declared-preserved g c =
       stays = stays_at_then c.args.declared _ _ _ c.loop-declared.invariant.stays
           (subst (λ (s : Scope). StaysAt c.args.declared s c.declare.new.self.scope) c.in_ok-expect.ensures.scope c.in_ok-declare.ensures.stays);
       counted = c.in_ok-declare.ensures.counted ∙ c.in_ok-expect.ensures.counted ∙ c.loop-declared.invariant.counted;
+      near = c.in_ok-declare.ensures.near;
+      took = record { rest = λ total h. c.in_ok-declare.ensures.took.rest total (c.in_ok-expect.ensures.took.rest total (c.loop-declared.invariant.took.rest total h)) };
     }
 
 pub returns-in_err-declare-clause-refused : goal.returns-in_err-declare-clause-refused
@@ -37,7 +39,7 @@ returns-in_err-declare-clause-refused g c =
     let sound : is_fault c.loop-declared.parser.reading.next.token ≡ false = cc in
     let is : is_mark mark.Comma c.loop-declared.parser.reading.next.token ≡ true = cc in
     let p = err_from_is_err_and c.from_residual-in_err-declare.result c.from_residual-in_err-declare.ensures.1 in
-    rw (p.1, p.2) (leaves (Part (More (role_of c.args.declared)) ∷ []) (AName (role_of c.args.declared) ∷ []) (Part (More (role_of c.args.declared)) ∷ []) _ _ c.in_err-declare.field-0.0 (λ stack. refl)
+    rw (p.1, p.2) (leaves _ (Part (More (role_of c.args.declared)) ∷ []) (AName (role_of c.args.declared) ∷ []) (Part (More (role_of c.args.declared)) ∷ []) _ _ c.in_err-declare.field-0.0 (λ stack. refl)
     (λ depth. more_behind depth (role_of c.args.declared) _ _ _ sound is (c.loop-declared.invariant.parsed depth) (c.in_ok-expect.ensures.passed depth))
     c.in_err-declare.ensures.refused)
 

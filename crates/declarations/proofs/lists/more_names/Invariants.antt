@@ -1,5 +1,6 @@
 use Rattle.std.proofs.Common.{◌≡◌, ◌≤◌, [], ◌∷◌, ℕ}
-use Rattle.tokens.specs.Reading.{remaining}
+use Rattle.tokens.specs.Reading.{IsNear, remaining, taken}
+use Rattle.tokens.specs.Window.{Takes}
 use Rattle.grammar.specs.Grammar.{More, Part}
 use Rattle.parsing.specs.Defining.{StaysAt}
 use Rattle.parsing.specs.Position.{place}
@@ -13,6 +14,8 @@ invariant-loop-declared g l = record {
   falls : remaining l.parser.reading ≤ remaining l.fn.parser.reading;
   stays : StaysAt l.declared l.fn.parser.scope l.parser.scope;
   counted : g.F.Feed.failures l.feed ≡ g.F.Feed.failures l.fn.feed;
+  near : IsNear l.parser.reading;
+  took : Takes (taken l.fn.parser.reading) (taken l.parser.reading) (g.F.Feed.to_come l.fn.feed) (g.F.Feed.to_come l.feed);
 }
 
 abbrev pub decreases-loop-declared : goal.decreases-loop-declared

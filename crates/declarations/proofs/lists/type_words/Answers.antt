@@ -16,6 +16,8 @@ loop-parser-preserved g c =
       falls = omega (arith, c.in_ok-expect_word.ensures.falls, c.loop-parser.invariant.falls);
       scope = c.in_ok-expect_word.ensures.scope ∙ c.loop-parser.invariant.scope;
       counted = c.in_ok-expect_word.ensures.counted ∙ c.loop-parser.invariant.counted;
+      near = c.in_ok-expect_word.ensures.near;
+      took = record { rest = λ total h. c.in_ok-expect_word.ensures.took.rest total (c.loop-parser.invariant.took.rest total h) };
     }
 
 pub returns-in_err-expect_word-clause-refused : goal.returns-in_err-expect_word-clause-refused
@@ -23,7 +25,7 @@ returns-in_err-expect_word-clause-refused g c =
     let sound : is_fault c.loop-parser.parser.reading.next.token ≡ false = cc in
     let is : is_word word.Type c.loop-parser.parser.reading.next.token ≡ true = cc in
     let p = err_from_is_err_and c.from_residual.result c.from_residual.ensures.1 in
-    rw (p.1, p.2) (leaves (Part Types ∷ []) (AWord word.Type ∷ []) (Part Types ∷ []) _ _ c.in_err-expect_word.field-0.0 (λ stack. refl)
+    rw (p.1, p.2) (leaves _ (Part Types ∷ []) (AWord word.Type ∷ []) (Part Types ∷ []) _ _ c.in_err-expect_word.field-0.0 (λ stack. refl)
     (λ depth. opens_on depth (Part Types ∷ []) Types (AWord word.Type ∷ Part Types ∷ []) _ _ sound (types_more _ is) (c.loop-parser.invariant.parsed depth))
     c.in_err-expect_word.ensures.refused)
 

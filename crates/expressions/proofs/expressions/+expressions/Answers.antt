@@ -1,4 +1,4 @@
--- What each exit leaves to show: the fault goes back to the start, or the stretches join.
+-- What each exit _ leaves _ to show: the fault goes back to the start, or the stretches join.
 use Rattle.std.proofs.Common.{rules, ◌≡◌, ◌+◌, ◌<◌, ◌≤◌, ◌∙◌, ap, refl, true, false, arith}
 use Rattle.std.specs.Prelude.{None}
 use Rattle.std.proofs.lemmas.Result.{err_from_is_err_and}
@@ -18,25 +18,25 @@ use Rattle.expressions.proofs.expressions.+expressions.Goals as goal
 
 pub bracketed-returns-then-depth-ge-MOST_LEVELS-clause-refused : goal.bracketed-returns-then-depth-ge-MOST_LEVELS-clause-refused
 bracketed-returns-then-depth-ge-MOST_LEVELS-clause-refused g t c =
-    rw c.refusal.ensures (bracket_too_deep (place c.args.parser.now (g.F.Feed.to_come c.args.feed.now)) c.args.depth c.requires.is (omega arith))
+    rw c.refusal.ensures (bracket_too_deep (place c.args.parser.now (g.F.Feed.to_come c.args.feed.now)) _ c.requires.near c.args.depth c.requires.is (omega arith))
 
 pub bracketed-returns-in_err-advance-clause-refused : goal.bracketed-returns-in_err-advance-clause-refused
 bracketed-returns-in_err-advance-clause-refused g t c =
     let shallow : c.args.depth < 64 = omega arith in
     let p = err_from_is_err_and c.from_residual.result c.from_residual.ensures.1 in
-    rw (p.1, p.2) (open_ends (place c.args.parser.now (g.F.Feed.to_come c.args.feed.now)) c.args.depth _ c.in_err-advance.field-0.0 c.requires.is shallow c.in_err-advance.ensures.refused)
+    rw (p.1, p.2) (open_ends _ (place c.args.parser.now (g.F.Feed.to_come c.args.feed.now)) c.args.depth _ c.in_err-advance.field-0.0 c.requires.is shallow c.in_err-advance.ensures.refused)
 
 pub bracketed-returns-in_err-expression-clause-refused : goal.bracketed-returns-in_err-expression-clause-refused
 bracketed-returns-in_err-expression-clause-refused g t c =
     let shallow : c.args.depth < 64 = omega arith in
     let p = err_from_is_err_and c.from_residual-in_err-expression.result c.from_residual-in_err-expression.ensures.1 in
-    rw (p.1, p.2) (inside_refused (place c.args.parser.now (g.F.Feed.to_come c.args.feed.now)) _ c.args.depth _ c.in_err-expression.field-0.0 c.requires.is shallow c.in_ok-advance.ensures.passed c.in_err-expression.ensures.refused)
+    rw (p.1, p.2) (inside_refused _ (place c.args.parser.now (g.F.Feed.to_come c.args.feed.now)) _ c.args.depth _ c.in_err-expression.field-0.0 c.requires.is shallow c.in_ok-advance.ensures.passed c.in_err-expression.ensures.refused)
 
 pub bracketed-returns-in_err-expect-clause-refused : goal.bracketed-returns-in_err-expect-clause-refused
 bracketed-returns-in_err-expect-clause-refused g t c =
     let shallow : c.args.depth < 64 = omega arith in
     let p = err_from_is_err_and c.from_residual-in_err-expect.result c.from_residual-in_err-expect.ensures.1 in
-    rw (p.1, p.2) (close_refused _ _ (place c.args.parser.now (g.F.Feed.to_come c.args.feed.now)) _ _ c.args.depth _ c.in_err-expect.field-0.0 c.requires.is shallow c.in_ok-advance.ensures.passed c.in_ok-expression.ensures.parsed c.in_err-expect.ensures.refused)
+    rw (p.1, p.2) (close_refused _ _ _ (place c.args.parser.now (g.F.Feed.to_come c.args.feed.now)) _ _ c.args.depth _ c.in_err-expect.field-0.0 c.requires.is shallow c.in_ok-advance.ensures.passed c.in_ok-expression.ensures.parsed c.in_err-expect.ensures.refused)
 
 pub bracketed-returns-clause-parsed : goal.bracketed-returns-clause-parsed
 bracketed-returns-clause-parsed g t c =
@@ -45,13 +45,13 @@ bracketed-returns-clause-parsed g t c =
 
 pub signed-returns-then-depth-ge-MOST_LEVELS-clause-refused : goal.signed-returns-then-depth-ge-MOST_LEVELS-clause-refused
 signed-returns-then-depth-ge-MOST_LEVELS-clause-refused g t c =
-    rw c.refusal.ensures (sign_too_deep (place c.args.parser.now (g.F.Feed.to_come c.args.feed.now)) c.args.depth c.args.sign c.requires.is (omega arith))
+    rw c.refusal.ensures (sign_too_deep (place c.args.parser.now (g.F.Feed.to_come c.args.feed.now)) _ c.requires.near c.args.depth c.args.sign c.requires.is (omega arith))
 
 pub signed-returns-in_err-advance-clause-refused : goal.signed-returns-in_err-advance-clause-refused
 signed-returns-in_err-advance-clause-refused g t c =
     let shallow : c.args.depth < 64 = omega arith in
     let p = err_from_is_err_and c.from_residual.result c.from_residual.ensures.1 in
-    rw (p.1, p.2) (sign_ends (place c.args.parser.now (g.F.Feed.to_come c.args.feed.now)) c.args.depth c.args.sign _ c.in_err-advance.field-0.0 c.requires.is shallow c.in_err-advance.ensures.refused)
+    rw (p.1, p.2) (sign_ends _ (place c.args.parser.now (g.F.Feed.to_come c.args.feed.now)) c.args.depth c.args.sign _ c.in_err-advance.field-0.0 c.requires.is shallow c.in_err-advance.ensures.refused)
 
 pub signed-begin-requires : goal.signed-begin-requires
 signed-begin-requires g t c =
@@ -61,7 +61,7 @@ pub signed-returns-in_err-unary-clause-refused : goal.signed-returns-in_err-unar
 signed-returns-in_err-unary-clause-refused g t c =
     let shallow : c.args.depth < 64 = omega arith in
     let p = err_from_is_err_and c.from_residual-in_err-unary.result c.from_residual-in_err-unary.ensures.1 in
-    rw (p.1, p.2) (operand_refused (place c.args.parser.now (g.F.Feed.to_come c.args.feed.now)) _ c.args.depth c.args.sign _ c.in_err-unary.field-0.0 c.requires.is shallow c.in_ok-advance.ensures.passed c.in_err-unary.ensures.refused)
+    rw (p.1, p.2) (operand_refused _ (place c.args.parser.now (g.F.Feed.to_come c.args.feed.now)) _ c.args.depth c.args.sign _ c.in_err-unary.field-0.0 c.requires.is shallow c.in_ok-advance.ensures.passed c.in_err-unary.ensures.refused)
 
 pub signed-end-requires : goal.signed-end-requires
 signed-end-requires g t c =
@@ -77,7 +77,7 @@ pub levels-returns-in_err-unary-clause-refused : goal.levels-returns-in_err-unar
 levels-returns-in_err-unary-clause-refused g t c =
     let last : 10 < c.args.level = omega arith in
     let p = err_from_is_err_and c.from_residual.result c.from_residual.ensures.1 in
-    rw (p.1, p.2) (last_refused (place c.args.parser.now (g.F.Feed.to_come c.args.feed.now)) c.args.depth c.args.level _ c.in_err-unary.field-0.0 last c.requires.sound c.in_err-unary.ensures.refused)
+    rw (p.1, p.2) (last_refused _ (place c.args.parser.now (g.F.Feed.to_come c.args.feed.now)) c.args.depth c.args.level _ c.in_err-unary.field-0.0 last c.requires.sound c.in_err-unary.ensures.refused)
 
 pub levels-returns-then-level-gt-LAST_LEVEL-clause-parsed : goal.levels-returns-then-level-gt-LAST_LEVEL-clause-parsed
 levels-returns-then-level-gt-LAST_LEVEL-clause-parsed g t c =
@@ -87,7 +87,7 @@ pub levels-returns-in_err-levels-clause-refused : goal.levels-returns-in_err-lev
 levels-returns-in_err-levels-clause-refused g t c =
     let small : c.args.level ≤ 10 = omega arith in
     let p = err_from_is_err_and c.from_residual-in_err-levels.result c.from_residual-in_err-levels.ensures.1 in
-    rw (p.1, p.2) (level_refused (place c.args.parser.now (g.F.Feed.to_come c.args.feed.now)) c.args.depth c.args.level _ c.in_err-levels.field-0.0 small c.requires.sound c.in_err-levels.ensures.refused)
+    rw (p.1, p.2) (level_refused _ (place c.args.parser.now (g.F.Feed.to_come c.args.feed.now)) c.args.depth c.args.level _ c.in_err-levels.field-0.0 small c.requires.sound c.in_err-levels.ensures.refused)
 
 pub levels-loop-op-init : goal.levels-loop-op-init
 levels-loop-op-init g t c =
@@ -96,6 +96,8 @@ levels-loop-op-init g t c =
       sound = c.in_ok-levels.ensures.sound;
       falls = c.in_ok-levels.ensures.falls;
       counted = c.in_ok-levels.ensures.counted;
+      near = c.in_ok-levels.ensures.near;
+      took = record { rest = λ total h. c.in_ok-levels.ensures.took.rest total h };
     }
 
 pub levels-loop-op-preserved : goal.levels-loop-op-preserved
@@ -105,12 +107,14 @@ levels-loop-op-preserved g t c =
       sound = c.in_ok-operand.ensures.sound;
       falls = omega (arith, c.in_ok-operand.ensures.falls);
       counted = c.in_ok-operand.ensures.counted ∙ c.loop-op.invariant.counted;
+      near = c.in_ok-operand.ensures.near;
+      took = record { rest = λ total h. c.in_ok-operand.ensures.took.rest total (c.loop-op.invariant.took.rest total h) };
     }
 
 pub levels-returns-in_err-operand-clause-refused : goal.levels-returns-in_err-operand-clause-refused
 levels-returns-in_err-operand-clause-refused g t c =
     let p = err_from_is_err_and c.from_residual-in_err-operand.result c.from_residual-in_err-operand.ensures.1 in
-    rw (p.1, p.2) (tail_refused _ _ (place c.args.parser.now (g.F.Feed.to_come c.args.feed.now)) _ c.args.depth c.args.level _ c.in_err-operand.field-0.0 c.loop-op.invariant.parsed c.in_err-operand.ensures.refused)
+    rw (p.1, p.2) (tail_refused _ _ _ (place c.args.parser.now (g.F.Feed.to_come c.args.feed.now)) _ c.args.depth c.args.level _ c.in_err-operand.field-0.0 c.loop-op.invariant.parsed c.in_err-operand.ensures.refused)
 
 pub levels-returns-clause-parsed : goal.levels-returns-clause-parsed
 levels-returns-clause-parsed g t c =
@@ -120,7 +124,7 @@ levels-returns-clause-parsed g t c =
 pub operand-returns-in_err-advance-clause-refused : goal.operand-returns-in_err-advance-clause-refused
 operand-returns-in_err-advance-clause-refused g t c =
     let p = err_from_is_err_and c.from_residual.result c.from_residual.ensures.1 in
-    rw (p.1, p.2) (operator_ends (place c.args.parser.now (g.F.Feed.to_come c.args.feed.now)) c.args.depth c.args.level c.args.op _ c.in_err-advance.field-0.0 c.requires.is c.in_err-advance.ensures.refused)
+    rw (p.1, p.2) (operator_ends _ (place c.args.parser.now (g.F.Feed.to_come c.args.feed.now)) c.args.depth c.args.level c.args.op _ c.in_err-advance.field-0.0 c.requires.is c.in_err-advance.ensures.refused)
 
 pub operand-tell_middle-requires : goal.operand-tell_middle-requires
 operand-tell_middle-requires g t c =
@@ -129,7 +133,7 @@ operand-tell_middle-requires g t c =
 pub operand-returns-in_err-levels-clause-refused : goal.operand-returns-in_err-levels-clause-refused
 operand-returns-in_err-levels-clause-refused g t c =
     let p = err_from_is_err_and c.from_residual-in_err-levels.result c.from_residual-in_err-levels.ensures.1 in
-    rw (p.1, p.2) (right_refused (place c.args.parser.now (g.F.Feed.to_come c.args.feed.now)) _ c.args.depth c.args.level c.args.op _ c.in_err-levels.field-0.0 c.requires.is c.in_ok-advance.ensures.passed c.in_err-levels.ensures.refused)
+    rw (p.1, p.2) (right_refused _ (place c.args.parser.now (g.F.Feed.to_come c.args.feed.now)) _ c.args.depth c.args.level c.args.op _ c.in_err-levels.field-0.0 c.requires.is c.in_ok-advance.ensures.passed c.in_err-levels.ensures.refused)
 
 pub operand-binop-requires : goal.operand-binop-requires
 operand-binop-requires g t c =
@@ -141,14 +145,14 @@ operand-returns-clause-parsed g t c =
 
 pub call-returns-then-depth-ge-MOST_LEVELS-clause-refused : goal.call-returns-then-depth-ge-MOST_LEVELS-clause-refused
 call-returns-then-depth-ge-MOST_LEVELS-clause-refused g t c =
-    rw c.refusal.ensures (call_too_deep (place c.args.parser.now (g.F.Feed.to_come c.args.feed.now)) c.args.depth (is_named _ c.requires.named) c.requires.is (omega arith))
+    rw c.refusal.ensures (call_too_deep (place c.args.parser.now (g.F.Feed.to_come c.args.feed.now)) _ c.requires.near c.args.depth (is_named _ c.requires.named) c.requires.is (omega arith))
 
 pub call-returns-in_err-callee-clause-refused : goal.call-returns-in_err-callee-clause-refused
 call-returns-in_err-callee-clause-refused g t c =
     let shallow : c.args.depth < 64 = omega arith in
     let is : IsCall (place c.args.parser.now (g.F.Feed.to_come c.args.feed.now)) c.args.depth = record { named = is_named _ c.requires.named; fits = c.requires.is; shallow = shallow } in
     let p = err_from_is_err_and c.from_residual.result c.from_residual.ensures.1 in
-    rw (p.1, p.2) (callee_refused (place c.args.parser.now (g.F.Feed.to_come c.args.feed.now)) c.args.depth _ c.in_err-callee.field-0.0 is c.in_err-callee.ensures.refused)
+    rw (p.1, p.2) (callee_refused _ (place c.args.parser.now (g.F.Feed.to_come c.args.feed.now)) c.args.depth _ c.in_err-callee.field-0.0 is c.in_err-callee.ensures.refused)
 
 pub call-begin_call-requires : goal.call-begin_call-requires
 call-begin_call-requires g t c =
@@ -160,21 +164,21 @@ call-returns-in_err-expect-clause-refused g t c =
     let shallow : c.args.depth < 64 = omega arith in
     let is : IsCall (place c.args.parser.now (g.F.Feed.to_come c.args.feed.now)) c.args.depth = record { named = is_named _ c.requires.named; fits = c.requires.is; shallow = shallow } in
     let p = err_from_is_err_and c.from_residual-in_err-expect.result c.from_residual-in_err-expect.ensures.1 in
-    rw (p.1, p.2) (call_open_refused (place c.args.parser.now (g.F.Feed.to_come c.args.feed.now)) _ c.args.depth c.in_ok-callee.callee _ c.in_err-expect.field-0.0 is c.in_ok-callee.ensures.passed c.in_err-expect.ensures.refused)
+    rw (p.1, p.2) (call_open_refused _ (place c.args.parser.now (g.F.Feed.to_come c.args.feed.now)) _ c.args.depth c.in_ok-callee.callee _ c.in_err-expect.field-0.0 is c.in_ok-callee.ensures.passed c.in_err-expect.ensures.refused)
 
 pub call-returns-in_err-arguments-clause-refused : goal.call-returns-in_err-arguments-clause-refused
 call-returns-in_err-arguments-clause-refused g t c =
     let shallow : c.args.depth < 64 = omega arith in
     let is : IsCall (place c.args.parser.now (g.F.Feed.to_come c.args.feed.now)) c.args.depth = record { named = is_named _ c.requires.named; fits = c.requires.is; shallow = shallow } in
     let p = err_from_is_err_and c.from_residual-in_err-arguments.result c.from_residual-in_err-arguments.ensures.1 in
-    rw (p.1, p.2) (arguments_refused (place c.args.parser.now (g.F.Feed.to_come c.args.feed.now)) _ _ c.args.depth c.in_ok-callee.callee _ c.in_err-arguments.field-0.0 is c.in_ok-callee.ensures.passed c.in_ok-expect.ensures.passed c.in_err-arguments.ensures.refused)
+    rw (p.1, p.2) (arguments_refused _ (place c.args.parser.now (g.F.Feed.to_come c.args.feed.now)) _ _ c.args.depth c.in_ok-callee.callee _ c.in_err-arguments.field-0.0 is c.in_ok-callee.ensures.passed c.in_ok-expect.ensures.passed c.in_err-arguments.ensures.refused)
 
 pub call-returns-in_err-expect-2-clause-refused : goal.call-returns-in_err-expect-2-clause-refused
 call-returns-in_err-expect-2-clause-refused g t c =
     let shallow : c.args.depth < 64 = omega arith in
     let is : IsCall (place c.args.parser.now (g.F.Feed.to_come c.args.feed.now)) c.args.depth = record { named = is_named _ c.requires.named; fits = c.requires.is; shallow = shallow } in
     let p = err_from_is_err_and c.from_residual-in_err-expect-2.result c.from_residual-in_err-expect-2.ensures.1 in
-    rw (p.1, p.2) (call_close_refused _ _ (place c.args.parser.now (g.F.Feed.to_come c.args.feed.now)) _ _ _ c.args.depth c.in_ok-callee.callee _ c.in_err-expect-2.field-0.0 is c.in_ok-callee.ensures.passed c.in_ok-expect.ensures.passed c.in_ok-arguments.ensures.parsed c.in_err-expect-2.ensures.refused)
+    rw (p.1, p.2) (call_close_refused _ _ _ (place c.args.parser.now (g.F.Feed.to_come c.args.feed.now)) _ _ _ c.args.depth c.in_ok-callee.callee _ c.in_err-expect-2.field-0.0 is c.in_ok-callee.ensures.passed c.in_ok-expect.ensures.passed c.in_ok-arguments.ensures.parsed c.in_err-expect-2.ensures.refused)
 
 pub call-end_call-requires : goal.call-end_call-requires
 call-end_call-requires g t c =
@@ -197,7 +201,7 @@ arguments-returns-in_err-expression-clause-refused g t c =
     let sound : is_fault c.args.parser.now.reading.next.token ≡ false = cc in
     let other : is_mark mark.CloseRound c.args.parser.now.reading.next.token ≡ false = cc in
     let p = err_from_is_err_and c.from_residual.result c.from_residual.ensures.1 in
-    rw (p.1, p.2) (first_refused (place c.args.parser.now (g.F.Feed.to_come c.args.feed.now)) c.args.depth _ c.in_err-expression.field-0.0 sound other c.in_err-expression.ensures.refused)
+    rw (p.1, p.2) (first_refused _ (place c.args.parser.now (g.F.Feed.to_come c.args.feed.now)) c.args.depth _ c.in_err-expression.field-0.0 sound other c.in_err-expression.ensures.refused)
 
 pub arguments-loop-parser-init : goal.arguments-loop-parser-init
 arguments-loop-parser-init g t c =
@@ -207,13 +211,15 @@ arguments-loop-parser-init g t c =
       parsed = first_adds _ _ (place c.args.parser.now (g.F.Feed.to_come c.args.feed.now)) _ c.args.depth sound other c.in_ok-expression.ensures.parsed c.in_ok-expression.ensures.sound;
       falls = omega (arith, c.in_ok-expression.ensures.falls);
       counted = c.in_ok-expression.ensures.counted;
+      near = c.in_ok-expression.ensures.near;
+      took = record { rest = λ total h. c.in_ok-expression.ensures.took.rest total h };
     }
 
 pub arguments-returns-in_err-expect-clause-refused : goal.arguments-returns-in_err-expect-clause-refused
 arguments-returns-in_err-expect-clause-refused g t c =
     let fits : is_mark mark.Comma c.loop-parser.parser.reading.next.token ≡ true = cc in
     let p = err_from_is_err_and c.from_residual-in_err-expect.result c.from_residual-in_err-expect.ensures.1 in
-    rw (p.1, p.2) (comma_refused _ _ (place c.args.parser.now (g.F.Feed.to_come c.args.feed.now)) _ c.args.depth _ c.in_err-expect.field-0.0 c.loop-parser.invariant.parsed fits c.in_err-expect.ensures.refused)
+    rw (p.1, p.2) (comma_refused _ _ _ (place c.args.parser.now (g.F.Feed.to_come c.args.feed.now)) _ c.args.depth _ c.in_err-expect.field-0.0 c.loop-parser.invariant.parsed fits c.in_err-expect.ensures.refused)
 
 pub arguments-loop-parser-preserved : goal.arguments-loop-parser-preserved
 arguments-loop-parser-preserved g t c =
@@ -222,13 +228,15 @@ arguments-loop-parser-preserved g t c =
       parsed = argument_adds _ _ _ (place c.args.parser.now (g.F.Feed.to_come c.args.feed.now)) _ _ _ c.args.depth c.loop-parser.invariant.parsed fits c.in_ok-expect.ensures.passed c.in_ok-expression-2.ensures.parsed c.in_ok-expression-2.ensures.sound;
       falls = omega (arith, c.in_ok-expect.ensures.falls, c.in_ok-expression-2.ensures.falls);
       counted = c.in_ok-expression-2.ensures.counted ∙ c.in_ok-expect.ensures.counted ∙ c.loop-parser.invariant.counted;
+      near = c.in_ok-expression-2.ensures.near;
+      took = record { rest = λ total h. c.in_ok-expression-2.ensures.took.rest total (c.in_ok-expect.ensures.took.rest total (c.loop-parser.invariant.took.rest total h)) };
     }
 
 pub arguments-returns-in_err-expression-2-clause-refused : goal.arguments-returns-in_err-expression-2-clause-refused
 arguments-returns-in_err-expression-2-clause-refused g t c =
     let fits : is_mark mark.Comma c.loop-parser.parser.reading.next.token ≡ true = cc in
     let p = err_from_is_err_and c.from_residual-in_err-expression-2.result c.from_residual-in_err-expression-2.ensures.1 in
-    rw (p.1, p.2) (argument_refused _ _ (place c.args.parser.now (g.F.Feed.to_come c.args.feed.now)) _ _ c.args.depth _ c.in_err-expression-2.field-0.0 c.loop-parser.invariant.parsed fits c.in_ok-expect.ensures.passed c.in_err-expression-2.ensures.refused)
+    rw (p.1, p.2) (argument_refused _ _ _ (place c.args.parser.now (g.F.Feed.to_come c.args.feed.now)) _ _ c.args.depth _ c.in_err-expression-2.field-0.0 c.loop-parser.invariant.parsed fits c.in_ok-expect.ensures.passed c.in_err-expression-2.ensures.refused)
 
 pub arguments-returns-clause-parsed : goal.arguments-returns-clause-parsed
 arguments-returns-clause-parsed g t c =
@@ -239,14 +247,14 @@ arguments-returns-clause-parsed g t c =
 pub assignment-returns-then-depth-ge-MOST_LEVELS-clause-refused : goal.assignment-returns-then-depth-ge-MOST_LEVELS-clause-refused
 assignment-returns-then-depth-ge-MOST_LEVELS-clause-refused g t c =
     let is : IsAssignment (place c.args.parser.now (g.F.Feed.to_come c.args.feed.now)) c.args.op = record { named = is_named _ c.requires.named; is = c.requires.is } in
-    rw c.refusal.ensures (store_too_deep (place c.args.parser.now (g.F.Feed.to_come c.args.feed.now)) c.args.depth c.args.op is (omega arith))
+    rw c.refusal.ensures (store_too_deep (place c.args.parser.now (g.F.Feed.to_come c.args.feed.now)) _ c.requires.near c.args.depth c.args.op is (omega arith))
 
 pub assignment-returns-in_err-var-clause-refused : goal.assignment-returns-in_err-var-clause-refused
 assignment-returns-in_err-var-clause-refused g t c =
     let shallow : c.args.depth < 64 = omega arith in
     let is : IsAssignment (place c.args.parser.now (g.F.Feed.to_come c.args.feed.now)) c.args.op = record { named = is_named _ c.requires.named; is = c.requires.is } in
     let p = err_from_is_err_and c.from_residual.result c.from_residual.ensures.1 in
-    rw (p.1, p.2) (target_refused (place c.args.parser.now (g.F.Feed.to_come c.args.feed.now)) c.args.depth c.args.op _ c.in_err-var.field-0.0 is shallow c.in_err-var.ensures.refused)
+    rw (p.1, p.2) (target_refused _ (place c.args.parser.now (g.F.Feed.to_come c.args.feed.now)) c.args.depth c.args.op _ c.in_err-var.field-0.0 is shallow c.in_err-var.ensures.refused)
 
 pub assignment-advance-requires-clause-more : goal.assignment-advance-requires-clause-more
 assignment-advance-requires-clause-more g t c =
@@ -258,14 +266,14 @@ assignment-returns-in_err-advance-clause-refused g t c =
     let shallow : c.args.depth < 64 = omega arith in
     let is : IsAssignment (place c.args.parser.now (g.F.Feed.to_come c.args.feed.now)) c.args.op = record { named = is_named _ c.requires.named; is = c.requires.is } in
     let p = err_from_is_err_and c.from_residual-in_err-advance.result c.from_residual-in_err-advance.ensures.1 in
-    rw (p.1, p.2) (sign_refused (place c.args.parser.now (g.F.Feed.to_come c.args.feed.now)) _ c.args.depth c.args.op c.in_ok-var.var _ c.in_err-advance.field-0.0 is shallow c.in_ok-var.ensures.passed c.in_err-advance.ensures.refused)
+    rw (p.1, p.2) (sign_refused _ (place c.args.parser.now (g.F.Feed.to_come c.args.feed.now)) _ c.args.depth c.args.op c.in_ok-var.var _ c.in_err-advance.field-0.0 is shallow c.in_ok-var.ensures.passed c.in_err-advance.ensures.refused)
 
 pub assignment-returns-in_err-expression-clause-refused : goal.assignment-returns-in_err-expression-clause-refused
 assignment-returns-in_err-expression-clause-refused g t c =
     let shallow : c.args.depth < 64 = omega arith in
     let is : IsAssignment (place c.args.parser.now (g.F.Feed.to_come c.args.feed.now)) c.args.op = record { named = is_named _ c.requires.named; is = c.requires.is } in
     let p = err_from_is_err_and c.from_residual-in_err-expression.result c.from_residual-in_err-expression.ensures.1 in
-    rw (p.1, p.2) (value_refused (place c.args.parser.now (g.F.Feed.to_come c.args.feed.now)) _ _ c.args.depth c.args.op c.in_ok-var.var _ c.in_err-expression.field-0.0 is shallow c.in_ok-var.ensures.passed c.in_ok-advance.ensures.passed c.in_err-expression.ensures.refused)
+    rw (p.1, p.2) (value_refused _ (place c.args.parser.now (g.F.Feed.to_come c.args.feed.now)) _ _ c.args.depth c.args.op c.in_ok-var.var _ c.in_err-expression.field-0.0 is shallow c.in_ok-var.ensures.passed c.in_ok-advance.ensures.passed c.in_err-expression.ensures.refused)
 
 pub assignment-store-requires : goal.assignment-store-requires
 assignment-store-requires g t c =
@@ -281,7 +289,7 @@ assignment-returns-clause-parsed g t c =
 pub expression-returns-in_err-levels-clause-refused : goal.expression-returns-in_err-levels-clause-refused
 expression-returns-in_err-levels-clause-refused g t c =
     let p = err_from_is_err_and c.from_residual-in_err-levels.result c.from_residual-in_err-levels.ensures.1 in
-    rw (p.1, p.2) (plain_refused (place c.args.parser.now (g.F.Feed.to_come c.args.feed.now)) c.args.depth _ c.in_err-levels.field-0.0 c.assignment_operator.ensures.sound c.in_default.ensures.none c.in_err-levels.ensures.refused)
+    rw (p.1, p.2) (plain_refused _ (place c.args.parser.now (g.F.Feed.to_come c.args.feed.now)) c.args.depth _ c.in_err-levels.field-0.0 c.assignment_operator.ensures.sound c.in_default.ensures.none c.in_err-levels.ensures.refused)
 
 pub expression-returns-in_ok-levels-clause-parsed : goal.expression-returns-in_ok-levels-clause-parsed
 expression-returns-in_ok-levels-clause-parsed g t c =
@@ -327,8 +335,10 @@ primary-returns-in_default-2 g t c =
       parsed = tt;
       sound = tt;
       falls = tt;
-      refused = rw c.misfit.ensures (primary_misfits (place c.args.parser.now (g.F.Feed.to_come c.args.feed.now)) c.args.depth sound none);
+      refused = rw c.misfit.ensures (primary_misfits (place c.args.parser.now (g.F.Feed.to_come c.args.feed.now)) _ c.requires.near c.args.depth sound none);
       counted = rw c.misfit.ensures refl;
+      near = tt;
+      took = record { rest = λ total h. h };
     }
 
 pub unary-returns-in_err-primary-clause-refused : goal.unary-returns-in_err-primary-clause-refused
@@ -339,7 +349,7 @@ unary-returns-in_err-primary-clause-refused g t c =
       steps = λ s. rw c.next-in_default.ensures.value at (c.in_default-step_of.ensures.none s);
     } in
     let p = err_from_is_err_and c.from_residual-in_err-primary.result c.from_residual-in_err-primary.ensures.1 in
-    rw (p.1, p.2) (primary_refused (place c.args.parser.now (g.F.Feed.to_come c.args.feed.now)) c.args.depth _ c.in_err-primary.field-0.0 none c.in_err-primary.ensures.refused)
+    rw (p.1, p.2) (primary_refused _ (place c.args.parser.now (g.F.Feed.to_come c.args.feed.now)) c.args.depth _ c.in_err-primary.field-0.0 none c.in_err-primary.ensures.refused)
 
 pub unary-returns-in_ok-primary-clause-parsed : goal.unary-returns-in_ok-primary-clause-parsed
 unary-returns-in_ok-primary-clause-parsed g t c =

@@ -1,5 +1,6 @@
 use Rattle.std.proofs.Common.{◌≡◌, ◌+◌, ◌-◌, ◌*◌, ◌<◌, ◌≤◌, [], ◌∷◌, false}
-use Rattle.tokens.specs.Reading.{remaining}
+use Rattle.tokens.specs.Reading.{IsNear, remaining, taken}
+use Rattle.tokens.specs.Window.{Takes}
 use Rattle.grammar.specs.Grammar.{Arguments, Level, MoreArguments, Part, Tail, is_fault}
 use Rattle.parsing.specs.Position.{place}
 use Rattle.expressions.specs.Expressions.{AddsArgs, AddsExpr}
@@ -41,6 +42,8 @@ invariant-levels-loop-op g l = record {
   sound : is_fault l.parser.reading.next.token ≡ false;
   falls : remaining l.parser.reading < remaining l.fn.parser.reading;
   counted : g.F.Feed.failures l.feed ≡ g.F.Feed.failures l.fn.feed;
+  near : IsNear l.parser.reading;
+  took : Takes (taken l.fn.parser.reading) (taken l.parser.reading) (g.F.Feed.to_come l.fn.feed) (g.F.Feed.to_come l.feed);
 }
 
 abbrev pub decreases-levels-loop-op : goal.decreases-levels-loop-op
@@ -51,6 +54,8 @@ invariant-arguments-loop-parser g l = record {
   parsed : AddsArgs (g.B.Build.stands l.fn.build) (g.B.Build.stands l.build) l.depth (Part Arguments ∷ []) (Part MoreArguments ∷ []) (place l.fn.parser (g.F.Feed.to_come l.fn.feed)) (place l.parser (g.F.Feed.to_come l.feed));
   falls : remaining l.parser.reading ≤ remaining l.fn.parser.reading;
   counted : g.F.Feed.failures l.feed ≡ g.F.Feed.failures l.fn.feed;
+  near : IsNear l.parser.reading;
+  took : Takes (taken l.fn.parser.reading) (taken l.parser.reading) (g.F.Feed.to_come l.fn.feed) (g.F.Feed.to_come l.feed);
 }
 
 abbrev pub decreases-arguments-loop-parser : goal.decreases-arguments-loop-parser

@@ -12,7 +12,7 @@ constant-requires g c = record { follows = constant_follows _ 0 (to_z w32 c.args
 pub returns-in_err-advance-clause-refused : goal.returns-in_err-advance-clause-refused
 returns-in_err-advance-clause-refused g c =
     let p = err_from_is_err_and c.from_residual-in_err-advance.result c.from_residual-in_err-advance.ensures.1 in
-    rw (p.1, p.2) (constant_ends (place c.args.parser.now (g.F.Feed.to_come c.args.feed.now)) c.args.value _ c.in_err-advance.field-0.0 c.requires.is c.in_err-advance.ensures.refused)
+    rw (p.1, p.2) (constant_ends _ (place c.args.parser.now (g.F.Feed.to_come c.args.feed.now)) c.args.value _ c.in_err-advance.field-0.0 c.requires.is c.in_err-advance.ensures.refused)
 
 pub returns-clause-parsed : goal.returns-clause-parsed
 returns-clause-parsed g c = constant_adds _ _ (place c.args.parser.now (g.F.Feed.to_come c.args.feed.now)) _ c.args.value c.requires.is c.in_ok-advance.ensures.passed

@@ -11,12 +11,12 @@ use Rattle.expressions.proofs.variables.step_before.Goals as goal
 pub returns-in_err-advance-clause-refused : goal.returns-in_err-advance-clause-refused
 returns-in_err-advance-clause-refused g c =
     let p = err_from_is_err_and c.from_residual.result c.from_residual.ensures.1 in
-    rw (p.1, p.2) (before_mark_ends (place c.args.parser.now (g.F.Feed.to_come c.args.feed.now)) c.args.step _ c.in_err-advance.field-0.0 c.requires.is c.in_err-advance.ensures.refused)
+    rw (p.1, p.2) (before_mark_ends _ (place c.args.parser.now (g.F.Feed.to_come c.args.feed.now)) c.args.step _ c.in_err-advance.field-0.0 c.requires.is c.in_err-advance.ensures.refused)
 
 pub returns-in_err-var-clause-refused : goal.returns-in_err-var-clause-refused
 returns-in_err-var-clause-refused g c =
     let p = err_from_is_err_and c.from_residual-in_err-var.result c.from_residual-in_err-var.ensures.1 in
-    rw (p.1, p.2) (before_name_ends (place c.args.parser.now (g.F.Feed.to_come c.args.feed.now)) _ c.args.step _ c.in_err-var.field-0.0 c.requires.is c.in_ok-advance.ensures.passed c.in_err-var.ensures.refused)
+    rw (p.1, p.2) (before_name_ends _ (place c.args.parser.now (g.F.Feed.to_come c.args.feed.now)) _ c.args.step _ c.in_err-var.field-0.0 c.requires.is c.in_ok-advance.ensures.passed c.in_err-var.ensures.refused)
 
 pub constant-requires : goal.constant-requires
 constant-requires g c = record { follows = constant_follows _ 0 (pos 1) c.requires.open }

@@ -11,7 +11,7 @@ use Rattle.expressions.proofs.variables.step_behind.Goals as goal
 pub returns-in_err-var-clause-refused : goal.returns-in_err-var-clause-refused
 returns-in_err-var-clause-refused g c =
     let p = err_from_is_err_and c.from_residual.result c.from_residual.ensures.1 in
-    rw (p.1, p.2) (behind_name_ends (place c.args.parser.now (g.F.Feed.to_come c.args.feed.now)) c.args.step _ c.in_err-var.field-0.0 (is_named _ c.requires.named) c.requires.is c.in_err-var.ensures.refused)
+    rw (p.1, p.2) (behind_name_ends _ (place c.args.parser.now (g.F.Feed.to_come c.args.feed.now)) c.args.step _ c.in_err-var.field-0.0 (is_named _ c.requires.named) c.requires.is c.in_err-var.ensures.refused)
 
 pub fetch-requires : goal.fetch-requires
 fetch-requires g c = record {
@@ -43,7 +43,7 @@ chop-requires g c = record {
 pub returns-in_err-expect-clause-refused : goal.returns-in_err-expect-clause-refused
 returns-in_err-expect-clause-refused g c =
     let p = err_from_is_err_and c.from_residual-in_err-expect.result c.from_residual-in_err-expect.ensures.1 in
-    rw (p.1, p.2) (behind_mark_ends (place c.args.parser.now (g.F.Feed.to_come c.args.feed.now)) _ c.args.step c.in_ok-var.var _ c.in_err-expect.field-0.0 (is_named _ c.requires.named) c.requires.is
+    rw (p.1, p.2) (behind_mark_ends _ (place c.args.parser.now (g.F.Feed.to_come c.args.feed.now)) _ c.args.step c.in_ok-var.var _ c.in_err-expect.field-0.0 (is_named _ c.requires.named) c.requires.is
     c.in_ok-var.ensures.passed (rw c.mark.ensures at c.in_err-expect.ensures.refused))
 
 pub returns-clause-parsed : goal.returns-clause-parsed

@@ -11,7 +11,7 @@ pub returns-in_err-var-clause-refused : goal.returns-in_err-var-clause-refused
 returns-in_err-var-clause-refused g c =
     let none : NoStep (place c.args.parser.now (g.F.Feed.to_come c.args.feed.now)) = λ s. rw c.after.ensures.value at (c.in_default.ensures.none s) in
     let p = err_from_is_err_and c.from_residual-in_err-var.result c.from_residual-in_err-var.ensures.1 in
-    rw (p.1, p.2) (fetch_ends (place c.args.parser.now (g.F.Feed.to_come c.args.feed.now)) _ c.in_err-var.field-0.0 (is_named _ c.requires.named) c.requires.plain none c.in_err-var.ensures.refused)
+    rw (p.1, p.2) (fetch_ends _ (place c.args.parser.now (g.F.Feed.to_come c.args.feed.now)) _ c.in_err-var.field-0.0 (is_named _ c.requires.named) c.requires.plain none c.in_err-var.ensures.refused)
 
 pub fetch-requires : goal.fetch-requires
 fetch-requires g c = record { follows = first_follows _ (Get c.in_ok-var.var) [] (tree_follows _ 0 (Variable c.in_ok-var.var) c.requires.open c.in_ok-var.ensures.within (omega arith)) }

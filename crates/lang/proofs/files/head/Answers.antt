@@ -12,14 +12,14 @@ returns-in_err-function-in-Name-clause-refused g c =
     let named : c.args.parser.now.reading.next.token ≡ token.Name c.in-Name.field-0 = ap (λ (l : Lexeme). l.token) (sym c.next.ensures.value) ∙ c.in-Name.is in
     let is : is_mark mark.OpenRound c.args.parser.now.reading.after.token ≡ true = cc in
     let p = err_from_is_err_and c.from_residual.result c.from_residual.ensures.1 in
-    rw (p.1, p.2) (function_refused (g.B.Build.stands c.args.build.now) at_head _ c.in_err-function-in-Name.field-0.0 _ (head_defined (g.B.Build.stands c.args.build.now) _ c.in-Name.field-0 named is) c.in_err-function-in-Name.ensures.refused)
+    rw (p.1, p.2) (function_refused _ (g.B.Build.stands c.args.build.now) at_head _ c.in_err-function-in-Name.field-0.0 _ (head_defined (g.B.Build.stands c.args.build.now) _ c.in-Name.field-0 named is) c.in_err-function-in-Name.ensures.refused)
 
 pub returns-in_err-externals-in-Name-2-clause-refused : goal.returns-in_err-externals-in-Name-2-clause-refused
 returns-in_err-externals-in-Name-2-clause-refused g c =
     let named : c.args.parser.now.reading.next.token ≡ token.Name c.in-Name-2.field-0 = ap (λ (l : Lexeme). l.token) (sym c.next.ensures.value) ∙ c.in-Name-2.is in
     let other : is_mark mark.OpenRound c.args.parser.now.reading.after.token ≡ false = cc in
     let p = err_from_is_err_and c.from_residual-in_err-externals-in-Name-2.result c.from_residual-in_err-externals-in-Name-2.ensures.1 in
-    rw (p.1, p.2) (externals_refused (g.B.Build.stands c.args.build.now) _ c.in-Name-2.field-0 c.in_err-externals-in-Name-2.field-0.0 _ named other c.in_err-externals-in-Name-2.ensures.refused)
+    rw (p.1, p.2) (externals_refused _ (g.B.Build.stands c.args.build.now) _ c.in-Name-2.field-0 c.in_err-externals-in-Name-2.field-0.0 _ named other c.in_err-externals-in-Name-2.ensures.refused)
 
 pub returns-in_default : goal.returns-in_default
 returns-in_default g c =
@@ -28,8 +28,10 @@ returns-in_default g c =
       parsed = tt;
       «open» = tt;
       falls = tt;
-      refused = rw c.misfit.ensures (head_misfits (g.B.Build.stands c.args.build.now) _ sound (λ name same. c.in_default.not-Name name (ap (λ (l : Lexeme). l.token) c.next.ensures.value ∙ same)));
+      refused = rw c.misfit.ensures (head_misfits (g.B.Build.stands c.args.build.now) _ _ c.requires.near sound (λ name same. c.in_default.not-Name name (ap (λ (l : Lexeme). l.token) c.next.ensures.value ∙ same)));
       counted = rw c.misfit.ensures refl;
+      near = tt;
+      took = record { rest = λ total h. h };
     }
 
 pub returns-in_ok-function-in-Name-clause-parsed : goal.returns-in_ok-function-in-Name-clause-parsed

@@ -12,7 +12,7 @@ pub returns-in_err-function-clause-refused : goal.returns-in_err-function-clause
 returns-in_err-function-clause-refused g c =
     let named : c.args.parser.now.reading.next.token ≡ token.Name c.in-Name.field-0 = ap (λ (l : Lexeme). l.token) (sym c.next-else-is_word.ensures.value) ∙ c.in-Name.is in
     let p = err_from_is_err_and c.from_residual-in_err-function.result c.from_residual-in_err-function.ensures.1 in
-    rw (p.1, p.2) (function_refused (g.B.Build.stands c.args.build.now) at_source _ c.in_err-function.field-0.0 _ (source_named (g.B.Build.stands c.args.build.now) _ c.in-Name.field-0 named) c.in_err-function.ensures.refused)
+    rw (p.1, p.2) (function_refused _ (g.B.Build.stands c.args.build.now) at_source _ c.in_err-function.field-0.0 _ (source_named (g.B.Build.stands c.args.build.now) _ c.in-Name.field-0 named) c.in_err-function.ensures.refused)
 
 pub returns-in_default : goal.returns-in_default
 returns-in_default g c =
@@ -22,9 +22,11 @@ returns-in_default g c =
       parsed = tt;
       «open» = tt;
       falls = tt;
-      refused = rw c.misfit.ensures (source_misfits (g.B.Build.stands c.args.build.now) _ sound c.requires.more other
+      refused = rw c.misfit.ensures (source_misfits (g.B.Build.stands c.args.build.now) _ _ c.requires.near sound c.requires.more other
           (λ name same. c.in_default.not-Name name (ap (λ (l : Lexeme). l.token) c.next-else-is_word.ensures.value ∙ same)));
       counted = rw c.misfit.ensures refl;
+      near = tt;
+      took = record { rest = λ total h. h };
     }
 
 pub returns-in_ok-function-clause-parsed : goal.returns-in_ok-function-clause-parsed

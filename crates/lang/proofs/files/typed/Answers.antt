@@ -7,17 +7,17 @@ use Rattle.lang.proofs.files.typed.Goals as goal
 pub returns-in_err-expect_word-clause-refused : goal.returns-in_err-expect_word-clause-refused
 returns-in_err-expect_word-clause-refused g c =
     let p = err_from_is_err_and c.from_residual.result c.from_residual.ensures.1 in
-    rw (p.1, p.2) (word_refused (g.B.Build.stands c.args.build.now) _ c.in_err-expect_word.field-0.0 _ c.requires.is c.in_err-expect_word.ensures.refused)
+    rw (p.1, p.2) (word_refused _ (g.B.Build.stands c.args.build.now) _ c.in_err-expect_word.field-0.0 _ c.requires.is c.in_err-expect_word.ensures.refused)
 
 pub returns-in_err-type_words-clause-refused : goal.returns-in_err-type_words-clause-refused
 returns-in_err-type_words-clause-refused g c =
     let p = err_from_is_err_and c.from_residual-in_err-type_words.result c.from_residual-in_err-type_words.ensures.1 in
-    rw (p.1, p.2) (types_refused (g.B.Build.stands c.args.build.now) _ _ c.in_err-type_words.field-0.0 _ c.requires.is c.in_ok-expect_word.ensures.passed c.in_err-type_words.ensures.refused)
+    rw (p.1, p.2) (types_refused _ (g.B.Build.stands c.args.build.now) _ _ c.in_err-type_words.field-0.0 _ c.requires.is c.in_ok-expect_word.ensures.passed c.in_err-type_words.ensures.refused)
 
 pub returns-in_err-head-clause-refused : goal.returns-in_err-head-clause-refused
 returns-in_err-head-clause-refused g c =
     let p = err_from_is_err_and c.from_residual-in_err-head.result c.from_residual-in_err-head.ensures.1 in
-    rw (p.1, p.2) (leave (g.B.Build.stands c.args.build.now) (g.B.Build.stands c.args.build.now) at_source at_head _ _ _ _ c.in_err-head.field-0.0
+    rw (p.1, p.2) (leave _ (g.B.Build.stands c.args.build.now) (g.B.Build.stands c.args.build.now) at_source at_head _ _ _ _ c.in_err-head.field-0.0
     (typed_head (g.B.Build.stands c.args.build.now) _ _ _ c.requires.is c.in_ok-expect_word.ensures.passed (c.in_ok-type_words.ensures.parsed 0)) (λ same. same) c.in_err-head.ensures.refused)
 
 pub returns-clause-parsed : goal.returns-clause-parsed

@@ -14,7 +14,7 @@ block-requires-clause-open g c =
 pub returns-in_err-block-clause-refused : goal.returns-in_err-block-clause-refused
 returns-in_err-block-clause-refused g c =
     let p = err_from_is_err_and c.from_residual-in_err-block.result c.from_residual-in_err-block.ensures.1 in
-    rw (p.1, p.2) (block_refused (g.B.Build.stands c.args.build.now) _ _ c.in_err-block.field-0.0 _ (c.in_ok-number.ensures.parsed 0) c.in_err-block.ensures.refused)
+    rw (p.1, p.2) (block_refused _ (g.B.Build.stands c.args.build.now) _ _ c.in_err-block.field-0.0 _ (c.in_ok-number.ensures.parsed 0) c.in_err-block.ensures.refused)
 
 pub close-requires : goal.close-requires
 close-requires g c =
@@ -28,13 +28,13 @@ close-requires g c =
 pub returns-in_err-close-clause-refused : goal.returns-in_err-close-clause-refused
 returns-in_err-close-clause-refused g c =
     let p = err_from_is_err_and c.from_residual-in_err-close.result c.from_residual-in_err-close.ensures.1 in
-    rw (p.1, p.2) (too_much_refused _ _ _ _ _ _ c.in_ok-number.number c.parameters.result c.in_err-close.field-0.0 _ (c.in_ok-number.ensures.parsed 0) c.in_ok-block.ensures.parsed c.in_ok-begin_function.ensures.ok
+    rw (p.1, p.2) (too_much_refused _ _ _ _ _ _ _ c.in_ok-number.number c.parameters.result c.in_err-close.field-0.0 _ c.in_ok-block.ensures.near (c.in_ok-number.ensures.parsed 0) c.in_ok-block.ensures.parsed c.in_ok-begin_function.ensures.ok
     (closing_sound _ c.in_ok-block.ensures.closed) c.in_ok-block.ensures.closed c.in_err-close.ensures.refused)
 
 pub returns-in_err-expect-clause-refused : goal.returns-in_err-expect-clause-refused
 returns-in_err-expect-clause-refused g c =
     let p = err_from_is_err_and c.from_residual-in_err-expect.result c.from_residual-in_err-expect.ensures.1 in
-    rw (p.1, p.2) (brace_refused _ _ _ _ _ _ _ _ c.in_ok-number.number c.parameters.result c.variables.result c.in_err-expect.field-0.0 _ (c.in_ok-number.ensures.parsed 0) c.in_ok-block.ensures.parsed
+    rw (p.1, p.2) (brace_refused _ _ _ _ _ _ _ _ _ c.in_ok-number.number c.parameters.result c.variables.result c.in_err-expect.field-0.0 _ (c.in_ok-number.ensures.parsed 0) c.in_ok-block.ensures.parsed
     (record { reading = c.end_definition.ensures.reading; to_come = refl; scope = c.end_definition.ensures.scope }) c.in_ok-begin_function.ensures.ok c.in_ok-close.ensures.closed
     (closing_sound _ c.in_ok-block.ensures.closed) c.in_err-expect.ensures.refused)
 

@@ -1,4 +1,4 @@
--- What each exit leaves to show: the fault goes back to the start, or the stretches join; and what a builder may be told.
+-- What each exit _ leaves _ to show: the fault goes back to the start, or the stretches join; and what a builder may be told.
 use Rattle.std.proofs.Common.{◌≡◌, ◌+◌, ◌<◌, ◌∙◌, [], ◌∷◌, refl, true, false, arith, rules}
 use Rattle.std.proofs.lemmas.Result.{err_from_is_err_and}
 use Rattle.tokens.specs.declared.lexemes.Mark.TheVariants as mark
@@ -15,31 +15,31 @@ use Rattle.statements.proofs.bodies.+statements.Goals as goal
 -- Blocks.
 
 pub block-returns-then-depth-ge-MOST_LEVELS-clause-refused : goal.block-returns-then-depth-ge-MOST_LEVELS-clause-refused
-block-returns-then-depth-ge-MOST_LEVELS-clause-refused g t c = rw c.refusal.ensures (block_too_deep _ c.args.depth c.requires.sound c.requires.is (omega arith))
+block-returns-then-depth-ge-MOST_LEVELS-clause-refused g t c = rw c.refusal.ensures (block_too_deep _ _ c.requires.near c.args.depth c.requires.sound c.requires.is (omega arith))
 
 pub block-returns-in_err-advance-clause-refused : goal.block-returns-in_err-advance-clause-refused
 block-returns-in_err-advance-clause-refused g t c =
     let shallow : c.args.depth < 64 = omega arith in
     let p = err_from_is_err_and c.from_residual.result c.from_residual.ensures.1 in
-    rw (p.1, p.2) (refused_map _ _ false _ c.in_err-advance.field-0.0 (brace_stops _ c.args.depth c.requires.sound c.requires.is shallow) (λ never. absurd (cc)) c.in_err-advance.ensures.refused)
+    rw (p.1, p.2) (refused_map _ _ _ false _ c.in_err-advance.field-0.0 (brace_stops _ c.args.depth c.requires.sound c.requires.is shallow) (λ never. absurd (cc)) c.in_err-advance.ensures.refused)
 
 pub block-returns-in_err-declarations-clause-refused : goal.block-returns-in_err-declarations-clause-refused
 block-returns-in_err-declarations-clause-refused g t c =
     let shallow : c.args.depth < 64 = omega arith in
     let p = err_from_is_err_and c.from_residual-in_err-declarations.result c.from_residual-in_err-declarations.ensures.1 in
-    rw (p.1, p.2) (refused_map _ _ false _ c.in_err-declarations.field-0.0 (declarations_fail _ _ c.args.depth c.requires.sound c.requires.is shallow c.in_ok-advance.ensures.passed) (λ never. absurd (cc)) c.in_err-declarations.ensures.refused)
+    rw (p.1, p.2) (refused_map _ _ _ false _ c.in_err-declarations.field-0.0 (declarations_fail _ _ c.args.depth c.requires.sound c.requires.is shallow c.in_ok-advance.ensures.passed) (λ never. absurd (cc)) c.in_err-declarations.ensures.refused)
 
 pub block-returns-in_err-statements-clause-refused : goal.block-returns-in_err-statements-clause-refused
 block-returns-in_err-statements-clause-refused g t c =
     let shallow : c.args.depth < 64 = omega arith in
     let p = err_from_is_err_and c.from_residual-in_err-statements.result c.from_residual-in_err-statements.ensures.1 in
-    rw (p.1, p.2) (refused_map _ _ _ _ c.in_err-statements.field-0.0 (within_fails _ _ _ c.args.depth c.requires.sound c.requires.is shallow c.in_ok-advance.ensures.passed c.in_ok-declarations.ensures.parsed) (λ same. same) c.in_err-statements.ensures.refused)
+    rw (p.1, p.2) (refused_map _ _ _ _ _ c.in_err-statements.field-0.0 (within_fails _ _ _ c.args.depth c.requires.sound c.requires.is shallow c.in_ok-advance.ensures.passed c.in_ok-declarations.ensures.parsed) (λ same. same) c.in_err-statements.ensures.refused)
 
 pub block-returns-in_err-expect-clause-refused : goal.block-returns-in_err-expect-clause-refused
 block-returns-in_err-expect-clause-refused g t c =
     let shallow : c.args.depth < 64 = omega arith in
     let p = err_from_is_err_and c.from_residual-in_err-expect.result c.from_residual-in_err-expect.ensures.1 in
-    rw (p.1, p.2) (refused_map _ _ false _ c.in_err-expect.field-0.0 (brace_fails _ _ _ _ _ _ c.args.depth c.requires.sound c.requires.is shallow c.in_ok-advance.ensures.passed c.in_ok-declarations.ensures.parsed c.in_ok-statements.ensures.parsed) (λ never. absurd (cc)) c.in_err-expect.ensures.refused)
+    rw (p.1, p.2) (refused_map _ _ _ false _ c.in_err-expect.field-0.0 (brace_fails _ _ _ _ _ _ c.args.depth c.requires.sound c.requires.is shallow c.in_ok-advance.ensures.passed c.in_ok-declarations.ensures.parsed c.in_ok-statements.ensures.parsed) (λ never. absurd (cc)) c.in_err-expect.ensures.refused)
 
 pub block-returns-clause-parsed : goal.block-returns-clause-parsed
 block-returns-clause-parsed g t c =
@@ -49,34 +49,34 @@ block-returns-clause-parsed g t c =
 -- Branches.
 
 pub branch-returns-then-depth-ge-MOST_LEVELS-clause-refused : goal.branch-returns-then-depth-ge-MOST_LEVELS-clause-refused
-branch-returns-then-depth-ge-MOST_LEVELS-clause-refused g t c = rw c.refusal.ensures (if_too_deep _ c.args.depth c.requires.sound c.requires.is (omega arith))
+branch-returns-then-depth-ge-MOST_LEVELS-clause-refused g t c = rw c.refusal.ensures (if_too_deep _ _ c.requires.near c.args.depth c.requires.sound c.requires.is (omega arith))
 
 pub branch-returns-in_err-advance-clause-refused : goal.branch-returns-in_err-advance-clause-refused
 branch-returns-in_err-advance-clause-refused g t c =
     let shallow : c.args.depth < 64 = omega arith in
     let p = err_from_is_err_and c.from_residual.result c.from_residual.ensures.1 in
-    rw (p.1, p.2) (refused_map _ _ false _ c.in_err-advance.field-0.0 (if_stops _ c.args.depth c.requires.sound c.requires.is shallow) (λ never. absurd (cc)) c.in_err-advance.ensures.refused)
+    rw (p.1, p.2) (refused_map _ _ _ false _ c.in_err-advance.field-0.0 (if_stops _ c.args.depth c.requires.sound c.requires.is shallow) (λ never. absurd (cc)) c.in_err-advance.ensures.refused)
 
 pub branch-returns-in_err-condition-clause-refused : goal.branch-returns-in_err-condition-clause-refused
 branch-returns-in_err-condition-clause-refused g t c =
     let shallow : c.args.depth < 64 = omega arith in
     let begun = if_past _ _ c.args.depth c.requires.sound c.requires.is shallow c.in_ok-advance.ensures.passed in
     let p = err_from_is_err_and c.from_residual-in_err-condition.result c.from_residual-in_err-condition.ensures.1 in
-    rw (p.1, p.2) (refused_map _ _ _ _ c.in_err-condition.field-0.0 (test_fails _ _ c.args.depth (Part ElsePart ∷ Shut ∷ []) if_shuts begun) (λ same. same) c.in_err-condition.ensures.refused)
+    rw (p.1, p.2) (refused_map _ _ _ _ _ c.in_err-condition.field-0.0 (test_fails _ _ c.args.depth (Part ElsePart ∷ Shut ∷ []) if_shuts begun) (λ same. same) c.in_err-condition.ensures.refused)
 
 pub branch-returns-in_err-statement-clause-refused : goal.branch-returns-in_err-statement-clause-refused
 branch-returns-in_err-statement-clause-refused g t c =
     let shallow : c.args.depth < 64 = omega arith in
     let begun = if_past _ _ c.args.depth c.requires.sound c.requires.is shallow c.in_ok-advance.ensures.passed in
     let p = err_from_is_err_and c.from_residual-in_err-statement.result c.from_residual-in_err-statement.ensures.1 in
-    rw (p.1, p.2) (refused_map _ _ _ _ c.in_err-statement.field-0.0 (first_fails _ _ _ _ _ c.args.depth (Part ElsePart ∷ Shut ∷ []) if_shuts begun c.in_ok-condition.ensures.parsed c.in_ok-condition.ensures.sound) (λ same. same) c.in_err-statement.ensures.refused)
+    rw (p.1, p.2) (refused_map _ _ _ _ _ c.in_err-statement.field-0.0 (first_fails _ _ _ _ _ c.args.depth (Part ElsePart ∷ Shut ∷ []) if_shuts begun c.in_ok-condition.ensures.parsed c.in_ok-condition.ensures.sound) (λ same. same) c.in_err-statement.ensures.refused)
 
 pub branch-returns-in_err-else_part-clause-refused : goal.branch-returns-in_err-else_part-clause-refused
 branch-returns-in_err-else_part-clause-refused g t c =
     let shallow : c.args.depth < 64 = omega arith in
     let begun = if_past _ _ c.args.depth c.requires.sound c.requires.is shallow c.in_ok-advance.ensures.passed in
     let p = err_from_is_err_and c.from_residual-in_err-else_part.result c.from_residual-in_err-else_part.ensures.1 in
-    rw (p.1, p.2) (refused_map _ _ _ _ c.in_err-else_part.field-0.0 (second_fails _ _ _ _ _ _ _ _ c.args.depth begun c.in_ok-condition.ensures.parsed c.in_ok-condition.ensures.sound c.in_ok-statement.ensures.parsed) (λ same. same) c.in_err-else_part.ensures.refused)
+    rw (p.1, p.2) (refused_map _ _ _ _ _ c.in_err-else_part.field-0.0 (second_fails _ _ _ _ _ _ _ _ c.args.depth begun c.in_ok-condition.ensures.parsed c.in_ok-condition.ensures.sound c.in_ok-statement.ensures.parsed) (λ same. same) c.in_err-else_part.ensures.refused)
 
 pub branch-returns-clause-parsed : goal.branch-returns-clause-parsed
 branch-returns-clause-parsed g t c =
@@ -88,27 +88,27 @@ branch-returns-clause-parsed g t c =
 -- Loops.
 
 pub repetition-returns-then-depth-ge-MOST_LEVELS-clause-refused : goal.repetition-returns-then-depth-ge-MOST_LEVELS-clause-refused
-repetition-returns-then-depth-ge-MOST_LEVELS-clause-refused g t c = rw c.refusal.ensures (while_too_deep _ c.args.depth c.requires.sound c.requires.is (omega arith))
+repetition-returns-then-depth-ge-MOST_LEVELS-clause-refused g t c = rw c.refusal.ensures (while_too_deep _ _ c.requires.near c.args.depth c.requires.sound c.requires.is (omega arith))
 
 pub repetition-returns-in_err-advance-clause-refused : goal.repetition-returns-in_err-advance-clause-refused
 repetition-returns-in_err-advance-clause-refused g t c =
     let shallow : c.args.depth < 64 = omega arith in
     let p = err_from_is_err_and c.from_residual-in_err-advance.result c.from_residual-in_err-advance.ensures.1 in
-    rw (p.1, p.2) (refused_map _ _ false _ c.in_err-advance.field-0.0 (while_stops _ c.args.depth c.requires.sound c.requires.is shallow) (λ never. absurd (cc)) c.in_err-advance.ensures.refused)
+    rw (p.1, p.2) (refused_map _ _ _ false _ c.in_err-advance.field-0.0 (while_stops _ c.args.depth c.requires.sound c.requires.is shallow) (λ never. absurd (cc)) c.in_err-advance.ensures.refused)
 
 pub repetition-returns-in_err-condition-clause-refused : goal.repetition-returns-in_err-condition-clause-refused
 repetition-returns-in_err-condition-clause-refused g t c =
     let shallow : c.args.depth < 64 = omega arith in
     let begun = while_past _ _ c.args.depth c.requires.sound c.requires.is shallow c.in_ok-advance.ensures.passed in
     let p = err_from_is_err_and c.from_residual-in_err-condition.result c.from_residual-in_err-condition.ensures.1 in
-    rw (p.1, p.2) (refused_map _ _ _ _ c.in_err-condition.field-0.0 (test_fails _ _ c.args.depth (Make Repeat ∷ Shut ∷ []) while_shuts begun) (λ same. same) c.in_err-condition.ensures.refused)
+    rw (p.1, p.2) (refused_map _ _ _ _ _ c.in_err-condition.field-0.0 (test_fails _ _ c.args.depth (Make Repeat ∷ Shut ∷ []) while_shuts begun) (λ same. same) c.in_err-condition.ensures.refused)
 
 pub repetition-returns-in_err-statement-clause-refused : goal.repetition-returns-in_err-statement-clause-refused
 repetition-returns-in_err-statement-clause-refused g t c =
     let shallow : c.args.depth < 64 = omega arith in
     let begun = while_past _ _ c.args.depth c.requires.sound c.requires.is shallow c.in_ok-advance.ensures.passed in
     let p = err_from_is_err_and c.from_residual-in_err-statement.result c.from_residual-in_err-statement.ensures.1 in
-    rw (p.1, p.2) (refused_map _ _ _ _ c.in_err-statement.field-0.0 (first_fails _ _ _ _ _ c.args.depth (Make Repeat ∷ Shut ∷ []) while_shuts begun c.in_ok-condition.ensures.parsed c.in_ok-condition.ensures.sound) (λ same. same) c.in_err-statement.ensures.refused)
+    rw (p.1, p.2) (refused_map _ _ _ _ _ c.in_err-statement.field-0.0 (first_fails _ _ _ _ _ c.args.depth (Make Repeat ∷ Shut ∷ []) while_shuts begun c.in_ok-condition.ensures.parsed c.in_ok-condition.ensures.sound) (λ same. same) c.in_err-statement.ensures.refused)
 
 pub repetition-returns-clause-parsed : goal.repetition-returns-clause-parsed
 repetition-returns-clause-parsed g t c =
@@ -128,7 +128,7 @@ block-statements-requires g t c =
 pub branch-condition-requires : goal.branch-condition-requires
 branch-condition-requires g t c =
     let shallow : c.args.depth < 64 = omega arith in
-    record { deep = search rules; «open» = room_in_brackets _ c.args.depth shallow c.requires.open; count = search rules }
+    record { deep = search rules; «open» = room_in_brackets _ c.args.depth shallow c.requires.open; near = search rules; count = search rules }
 
 pub branch-if_test-requires : goal.branch-if_test-requires
 branch-if_test-requires g t c =
@@ -169,7 +169,7 @@ repetition-begin_while-requires g t c = record { follows = may_begin_loop _ c.ar
 pub repetition-condition-requires : goal.repetition-condition-requires
 repetition-condition-requires g t c =
     let shallow : c.args.depth < 64 = omega arith in
-    record { deep = search rules; «open» = loop_room _ _ (loop_open _ _ c.args.depth shallow c.requires.open c.in_ok-begin_while.ensures.ok); count = search rules }
+    record { deep = search rules; «open» = loop_room _ _ (loop_open _ _ c.args.depth shallow c.requires.open c.in_ok-begin_while.ensures.ok); near = search rules; count = search rules }
 
 pub repetition-while_test-requires : goal.repetition-while_test-requires
 repetition-while_test-requires g t c =
@@ -202,6 +202,8 @@ statements-loop-parser-init g t c = record {
   parsed = statements_begin _ _ c.args.depth;
   falls = omega arith;
   counted = refl;
+  near = c.requires.near;
+  took = record { rest = λ total h. h };
 }
 
 pub statements-loop-parser-preserved : goal.statements-loop-parser-preserved
@@ -212,6 +214,8 @@ statements-loop-parser-preserved g t c =
       parsed = statements_more _ _ _ _ _ _ c.args.depth sound other c.loop-parser.invariant.parsed c.in_ok-statement.ensures.parsed;
       falls = omega (arith, c.in_ok-statement.ensures.falls, c.loop-parser.invariant.falls);
       counted = c.in_ok-statement.ensures.counted ∙ c.loop-parser.invariant.counted;
+      near = c.in_ok-statement.ensures.near;
+      took = record { rest = λ total h. c.in_ok-statement.ensures.took.rest total (c.loop-parser.invariant.took.rest total h) };
     }
 
 pub statements-returns-in_err-statement-clause-refused : goal.statements-returns-in_err-statement-clause-refused
@@ -219,7 +223,7 @@ statements-returns-in_err-statement-clause-refused g t c =
     let sound : is_fault c.loop-parser.parser.reading.next.token ≡ false = cc in
     let other : is_mark mark.CloseCurly c.loop-parser.parser.reading.next.token ≡ false = cc in
     let p = err_from_is_err_and c.from_residual.result c.from_residual.ensures.1 in
-    rw (p.1, p.2) (refused_map _ _ _ _ c.in_err-statement.field-0.0 (statements_fail _ _ _ _ c.args.depth sound other c.loop-parser.invariant.parsed) (λ same. same) c.in_err-statement.ensures.refused)
+    rw (p.1, p.2) (refused_map _ _ _ _ _ c.in_err-statement.field-0.0 (statements_fail _ _ _ _ c.args.depth sound other c.loop-parser.invariant.parsed) (λ same. same) c.in_err-statement.ensures.refused)
 
 pub statements-returns-clause-parsed : goal.statements-returns-clause-parsed
 statements-returns-clause-parsed g t c =
@@ -234,14 +238,14 @@ else_part-returns-in_err-advance-clause-refused g t c =
     let sound : is_fault c.args.parser.now.reading.next.token ≡ false = cc in
     let is : is_word word.Else c.args.parser.now.reading.next.token ≡ true = cc in
     let p = err_from_is_err_and c.from_residual-in_err-advance.result c.from_residual-in_err-advance.ensures.1 in
-    rw (p.1, p.2) (refused_map _ _ false _ c.in_err-advance.field-0.0 (else_stops _ c.args.depth sound is) (λ never. absurd (cc)) c.in_err-advance.ensures.refused)
+    rw (p.1, p.2) (refused_map _ _ _ false _ c.in_err-advance.field-0.0 (else_stops _ c.args.depth sound is) (λ never. absurd (cc)) c.in_err-advance.ensures.refused)
 
 pub else_part-returns-in_err-statement-clause-refused : goal.else_part-returns-in_err-statement-clause-refused
 else_part-returns-in_err-statement-clause-refused g t c =
     let sound : is_fault c.args.parser.now.reading.next.token ≡ false = cc in
     let is : is_word word.Else c.args.parser.now.reading.next.token ≡ true = cc in
     let p = err_from_is_err_and c.from_residual-in_err-statement.result c.from_residual-in_err-statement.ensures.1 in
-    rw (p.1, p.2) (refused_map _ _ _ _ c.in_err-statement.field-0.0 (else_fails _ _ c.args.depth sound is c.in_ok-advance.ensures.passed c.in_ok-advance.ensures.sound) (λ same. same) c.in_err-statement.ensures.refused)
+    rw (p.1, p.2) (refused_map _ _ _ _ _ c.in_err-statement.field-0.0 (else_fails _ _ c.args.depth sound is c.in_ok-advance.ensures.passed c.in_ok-advance.ensures.sound) (λ same. same) c.in_err-statement.ensures.refused)
 
 pub else_part-returns-in_ok-statement-clause-parsed : goal.else_part-returns-in_ok-statement-clause-parsed
 else_part-returns-in_ok-statement-clause-parsed g t c =
@@ -263,7 +267,7 @@ statement-returns-in_err-expect-in-Mark-Semicolon-clause-refused g t c =
     let at : c.args.parser.now.reading.next.token ≡ token.Mark mark.Semicolon = search rules in
     let is : is_mark mark.Semicolon c.args.parser.now.reading.next.token ≡ true = rw at refl in
     let p = err_from_is_err_and c.from_residual.result c.from_residual.ensures.1 in
-    rw (p.1, p.2) (refused_map _ _ false _ c.in_err-expect-in-Mark-Semicolon.field-0.0 (empty_fails _ c.args.depth sound is) (λ never. absurd (cc)) c.in_err-expect-in-Mark-Semicolon.ensures.refused)
+    rw (p.1, p.2) (refused_map _ _ _ false _ c.in_err-expect-in-Mark-Semicolon.field-0.0 (empty_fails _ c.args.depth sound is) (λ never. absurd (cc)) c.in_err-expect-in-Mark-Semicolon.ensures.refused)
 
 pub statement-returns-in_ok-expect-in-Mark-Semicolon-clause-parsed : goal.statement-returns-in_ok-expect-in-Mark-Semicolon-clause-parsed
 statement-returns-in_ok-expect-in-Mark-Semicolon-clause-parsed g t c =

@@ -1,5 +1,6 @@
 use Rattle.std.proofs.Common.{◌≡◌, ◌+◌, ◌-◌, ◌*◌, ◌≤◌, [], ◌∷◌}
-use Rattle.tokens.specs.Reading.{remaining}
+use Rattle.tokens.specs.Reading.{IsNear, remaining, taken}
+use Rattle.tokens.specs.Window.{Takes}
 use Rattle.grammar.specs.Grammar.{Part, Statements}
 use Rattle.parsing.specs.Position.{place}
 use Rattle.statements.specs.Statements.{AddsBody}
@@ -28,6 +29,8 @@ invariant-statements-loop-parser g l = record {
   parsed : AddsBody (g.B.Build.stands l.fn.build) (g.B.Build.stands l.build) l.depth (Part Statements ∷ []) (Part Statements ∷ []) (place l.fn.parser (g.F.Feed.to_come l.fn.feed)) (place l.parser (g.F.Feed.to_come l.feed));
   falls : remaining l.parser.reading ≤ remaining l.fn.parser.reading;
   counted : g.F.Feed.failures l.feed ≡ g.F.Feed.failures l.fn.feed;
+  near : IsNear l.parser.reading;
+  took : Takes (taken l.fn.parser.reading) (taken l.parser.reading) (g.F.Feed.to_come l.fn.feed) (g.F.Feed.to_come l.feed);
 }
 
 abbrev pub decreases-statements-loop-parser : goal.decreases-statements-loop-parser

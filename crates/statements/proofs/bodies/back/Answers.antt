@@ -22,7 +22,7 @@ returns-in_err-expression-clause-refused g c =
     let sound : is_fault c.args.parser.now.reading.next.token ≡ false = cc in
     let other : is_mark mark.Semicolon c.args.parser.now.reading.next.token ≡ false = cc in
     let p = err_from_is_err_and c.from_residual-in_err-expression.result c.from_residual-in_err-expression.ensures.1 in
-    rw (p.1, p.2) (refused_map _ _ _ _ c.in_err-expression.field-0.0 (back_fails _ c.args.depth sound other) (λ same. same) c.in_err-expression.ensures.refused)
+    rw (p.1, p.2) (refused_map _ _ _ _ _ c.in_err-expression.field-0.0 (back_fails _ c.args.depth sound other) (λ same. same) c.in_err-expression.ensures.refused)
 
 pub returns-clause-parsed : goal.returns-clause-parsed
 returns-clause-parsed g c =

@@ -9,12 +9,12 @@ use Rattle.statements.proofs.bodies.evaluation.Goals as goal
 pub returns-in_err-expression-clause-refused : goal.returns-in_err-expression-clause-refused
 returns-in_err-expression-clause-refused g c =
     let p = err_from_is_err_and c.from_residual.result c.from_residual.ensures.1 in
-    rw (p.1, p.2) (refused_map _ _ _ _ c.in_err-expression.field-0.0 (value_fails _ c.args.depth c.requires.sound c.requires.plain) (λ same. same) c.in_err-expression.ensures.refused)
+    rw (p.1, p.2) (refused_map _ _ _ _ _ c.in_err-expression.field-0.0 (value_fails _ c.args.depth c.requires.sound c.requires.plain) (λ same. same) c.in_err-expression.ensures.refused)
 
 pub returns-in_err-expect-clause-refused : goal.returns-in_err-expect-clause-refused
 returns-in_err-expect-clause-refused g c =
     let p = err_from_is_err_and c.from_residual-in_err-expect.result c.from_residual-in_err-expect.ensures.1 in
-    rw (p.1, p.2) (refused_map _ _ false _ c.in_err-expect.field-0.0 (semicolon_fails _ _ _ _ c.args.depth c.requires.sound c.requires.plain c.in_ok-expression.ensures.parsed) (λ never. absurd (cc)) c.in_err-expect.ensures.refused)
+    rw (p.1, p.2) (refused_map _ _ _ false _ c.in_err-expect.field-0.0 (semicolon_fails _ _ _ _ c.args.depth c.requires.sound c.requires.plain c.in_ok-expression.ensures.parsed) (λ never. absurd (cc)) c.in_err-expect.ensures.refused)
 
 pub chop-requires : goal.chop-requires
 chop-requires g c =

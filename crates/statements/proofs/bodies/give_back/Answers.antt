@@ -12,17 +12,17 @@ use Rattle.statements.proofs.bodies.give_back.Goals as goal
 pub returns-in_err-advance-clause-refused : goal.returns-in_err-advance-clause-refused
 returns-in_err-advance-clause-refused g c =
     let p = err_from_is_err_and c.from_residual.result c.from_residual.ensures.1 in
-    rw (p.1, p.2) (refused_map _ _ false _ c.in_err-advance.field-0.0 (return_stops _ c.args.depth c.requires.sound c.requires.is) (λ never. absurd (cc)) c.in_err-advance.ensures.refused)
+    rw (p.1, p.2) (refused_map _ _ _ false _ c.in_err-advance.field-0.0 (return_stops _ c.args.depth c.requires.sound c.requires.is) (λ never. absurd (cc)) c.in_err-advance.ensures.refused)
 
 pub returns-in_err-back-clause-refused : goal.returns-in_err-back-clause-refused
 returns-in_err-back-clause-refused g c =
     let p = err_from_is_err_and c.from_residual-in_err-back.result c.from_residual-in_err-back.ensures.1 in
-    rw (p.1, p.2) (refused_map _ _ _ _ c.in_err-back.field-0.0 (given_fails _ _ c.args.depth c.requires.sound c.requires.is c.in_ok-advance.ensures.passed) (λ same. same) c.in_err-back.ensures.refused)
+    rw (p.1, p.2) (refused_map _ _ _ _ _ c.in_err-back.field-0.0 (given_fails _ _ c.args.depth c.requires.sound c.requires.is c.in_ok-advance.ensures.passed) (λ same. same) c.in_err-back.ensures.refused)
 
 pub returns-in_err-expect-clause-refused : goal.returns-in_err-expect-clause-refused
 returns-in_err-expect-clause-refused g c =
     let p = err_from_is_err_and c.from_residual-in_err-expect.result c.from_residual-in_err-expect.ensures.1 in
-    rw (p.1, p.2) (refused_map _ _ false _ c.in_err-expect.field-0.0 (return_unended _ _ _ _ _ c.args.depth c.requires.sound c.requires.is c.in_ok-advance.ensures.passed c.in_ok-back.ensures.parsed) (λ never. absurd (cc)) c.in_err-expect.ensures.refused)
+    rw (p.1, p.2) (refused_map _ _ _ false _ c.in_err-expect.field-0.0 (return_unended _ _ _ _ _ c.args.depth c.requires.sound c.requires.is c.in_ok-advance.ensures.passed c.in_ok-back.ensures.parsed) (λ never. absurd (cc)) c.in_err-expect.ensures.refused)
 
 pub give_back-requires : goal.give_back-requires
 give_back-requires g c =

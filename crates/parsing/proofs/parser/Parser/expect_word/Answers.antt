@@ -9,14 +9,14 @@ pub returns-then-not-is_word-clause-refused : goal.returns-then-not-is_word-clau
 returns-then-not-is_word-clause-refused g c =
     let sound : is_fault c.args.self.now.reading.next.token ≡ false = cc in
     let misses : is_word c.args.word c.args.self.now.reading.next.token ≡ false = cc in
-    rw c.misfit.ensures (word_misfits _ c.args.word sound misses)
+    rw c.misfit.ensures (word_misfits _ c.args.word c.requires.near sound misses)
 
 pub returns-in_err-advance-clause-refused : goal.returns-in_err-advance-clause-refused
 returns-in_err-advance-clause-refused g c =
     let sound : is_fault c.args.self.now.reading.next.token ≡ false = cc in
     let fits : is_word c.args.word c.args.self.now.reading.next.token ≡ true = cc in
     let p = err_from_is_err_and c.from_residual.result c.from_residual.ensures.1 in
-    rw (p.1, p.2) (refused_map _ _ false false c.in_err-advance.field-0.0 (word_stops c.args.self.now.reading c.args.self.now.scope _ c.args.word sound fits) (λ same. same) c.in_err-advance.ensures.refused)
+    rw (p.1, p.2) (refused_map _ _ _ false false c.in_err-advance.field-0.0 (word_stops c.args.self.now.reading c.args.self.now.scope _ c.args.word sound fits) (λ same. same) c.in_err-advance.ensures.refused)
 
 pub returns-clause-passed : goal.returns-clause-passed
 returns-clause-passed g c =

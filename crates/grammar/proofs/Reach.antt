@@ -1,0 +1,89 @@
+-- What was read of a source is needed, where no fault stands before it.
+use Rattle.std.proofs.Common.{◌≡◌, ℕ, ◌<◌, ◌≤◌, List, [], ◌∷◌, ◌++◌, sym, ap, ◌∙◌, subst, arith, length, length-append, le_refl}
+use Rattle.tokens.specs.Ends.{IsRising}
+use Rattle.tokens.specs.Reading.{reach_of}
+use Rattle.tokens.specs.Tokens.{tokens}
+use Rattle.tokens.specs.declared.lexemes.Lexeme.{Lexeme}
+use Rattle.tokens.proofs.EndLemmas.{tokens-rising}
+use Rattle.grammar.specs.Compiled.{all_faults, enough}
+use Rattle.grammar.specs.Derivation.{State, start, run}
+use Rattle.grammar.specs.Faults.{Fault, first_of}
+use Rattle.grammar.specs.Laws.{WhatWasReadIsNeeded}
+use Rattle.grammar.specs.Need.{end_behind, last_end, need, needed}
+use Rattle.grammar.specs.Parsing.{IsIn, IsFault}
+use Rattle.grammar.specs.Profile.{Profile}
+use Rattle.grammar.proofs.Bottoms.{fault_at_token}
+use Rattle.grammar.proofs.Firsts.{at_rest}
+use Rattle.grammar.proofs.LastTokens.{tokens_end}
+use Rattle.grammar.proofs.Order.{first_in}
+use Rattle.grammar.proofs.Verdicts.{IsRest, gathered, run_rests}
+
+-- All tokens end where the last one does, or before.
+
+next_by_last : (place : ℕ) (next : Lexeme) (others : List Lexeme) → IsRising place (next ∷ others) → next.end ≤ last_end (next ∷ others)
+next_by_last place next [] rising = le_refl next.end
+next_by_last place next (after ∷ others) rising = omega (arith, rising.1.0, next_by_last next.end after others rising.1)
+
+reach_by_last : (place : ℕ) (rest : List Lexeme) → IsRising place rest → reach_of rest ≤ last_end rest
+reach_by_last place [] rising = le_refl 0
+reach_by_last place (next ∷ []) rising = le_refl next.end
+reach_by_last place (next ∷ after ∷ others) rising = next_by_last next.end after others rising.1
+
+last_behind : (lexeme : Lexeme) (others : List Lexeme) → last_end others ≤ last_end (lexeme ∷ others)
+last_behind lexeme [] = omega arith
+last_behind lexeme (other ∷ others) = le_refl (last_end (other ∷ others))
+
+all_by_last : (place : ℕ) (passed rest : List Lexeme) → IsRising place (passed ++ rest) → reach_of rest ≤ last_end (passed ++ rest)
+all_by_last place [] rest rising = reach_by_last place rest rising
+all_by_last place (lexeme ∷ passed) rest rising = omega (arith, last_behind lexeme (passed ++ rest), all_by_last lexeme.end passed rest rising.1)
+
+-- What is reached from a token is reached from those behind it.
+
+reach_behind : (place : ℕ) (lexeme : Lexeme) (others : List Lexeme) → 0 < length others → IsRising place (lexeme ∷ others) → reach_of (lexeme ∷ others) ≤ reach_of others
+reach_behind place lexeme [] some rising = absurd (omega (arith, some))
+reach_behind place lexeme (next ∷ []) some rising = le_refl next.end
+reach_behind place lexeme (next ∷ after ∷ others) some rising = rising.1.1.0
+
+reach_is_end : (rest : List Lexeme) → reach_of rest ≤ end_behind rest
+reach_is_end [] = le_refl 0
+reach_is_end (next ∷ []) = le_refl next.end
+reach_is_end (next ∷ after ∷ others) = le_refl after.end
+
+reach_later : (place : ℕ) (before rest : List Lexeme) → 0 < length rest → IsRising place (before ++ rest) → reach_of (before ++ rest) ≤ end_behind rest
+reach_later place [] rest some rising = reach_is_end rest
+reach_later place (lexeme ∷ before) rest some rising =
+    let others : 0 < length (before ++ rest) = omega (arith, length-append before rest, some) in
+    omega (arith, reach_behind place lexeme (before ++ rest) others rising, reach_later lexeme.end before rest some rising.1)
+
+same_others : (x y : Lexeme) (xs ys : List Lexeme) → x ∷ xs ≡ y ∷ ys → xs ≡ ys
+same_others x y xs ys e = cc
+
+-- with as many tokens left, or fewer
+reach_by : (place : ℕ) (before left passed rest : List Lexeme) → before ++ left ≡ passed ++ rest → length left ≤ length rest → 0 < length left →
+    IsRising place (passed ++ rest) → reach_of rest ≤ end_behind left
+reach_by place before left [] rest is fewer some rising =
+    subst (λ xs. reach_of xs ≤ end_behind left) is (reach_later place before left some (subst (IsRising place) (sym is) rising))
+reach_by place [] left (lexeme ∷ passed) rest is fewer some rising =
+    absurd (omega (arith, ap length is, length-append passed rest, fewer))
+reach_by place (x ∷ before) left (lexeme ∷ passed) rest is fewer some rising = reach_by lexeme.end before left passed rest (same_others x lexeme _ _ is) fewer some rising.1
+
+fault_by : (profile : Profile) (bytes : List ℕ) (passed rest : List Lexeme) (f : Fault) → tokens bytes ≡ passed ++ rest → length f.rest ≤ length rest →
+    IsFault profile (start (tokens bytes)) f → reach_of rest ≤ end_behind f.rest
+fault_by profile bytes passed rest f is fewer comes =
+    let s : State = run comes.steps (start (tokens bytes)) in
+    let at : f.rest ≡ s.rest = at_rest profile f s comes.here in
+    let behind : IsRest s.rest (tokens bytes) = run_rests comes.steps (start (tokens bytes)) in
+    let some : 0 < length s.rest = fault_at_token profile (tokens bytes) comes.steps f (tokens_end bytes) comes.here in
+    subst (λ xs. reach_of rest ≤ end_behind xs) (sym at)
+    (reach_by 0 behind.before s.rest passed rest (sym behind.is ∙ is) (subst (λ xs. length xs ≤ length rest) at fewer) some (subst (IsRising 0) is (tokens-rising bytes)))
+
+pub what_was_read_is_needed : WhatWasReadIsNeeded
+unfolding need
+what_was_read_is_needed profile bytes passed rest is none =
+    by (all_faults profile (tokens bytes)) (gathered profile (enough (tokens bytes)) (start (tokens bytes)))
+  where
+    by : (faults : List Fault) → ((f : Fault) → IsIn f faults → IsFault profile (start (tokens bytes)) f) → reach_of rest ≤ needed (tokens bytes) faults
+    by [] each = subst (λ xs. reach_of rest ≤ last_end xs) (sym is) (all_by_last 0 passed rest (subst (IsRising 0) is (tokens-rising bytes)))
+    by (f ∷ faults) each =
+        let comes : IsFault profile (start (tokens bytes)) (first_of f faults) = each (first_of f faults) (first_in f faults) in
+        fault_by profile bytes passed rest (first_of f faults) is (none (first_of f faults) comes) comes
