@@ -1,0 +1,94 @@
+//! The drills: a field whose robots march and shoot, one at rest, scans, bearings.
+
+ghost use Rattle.std.specs.Prelude.{◌≡◌, ◌≤◌, length};
+
+use arena::{Arena, MOST_ROBOTS};
+use arith::bearing;
+use arrayvec::ArrayVec;
+use grammar::Intrinsic;
+
+/// The most updates of a drill.
+const MOST_UPDATES: u32 = 10_000_000;
+
+/// After so many updates the robots turn, and shoot again as far as they can: a missile flies so long.
+const ROUND: u32 = 14;
+
+/// Four robots that march to and fro, with two missiles each in the air; answers the damage of the first one.
+pub fn marches(updates: u32) -> u8 {
+    let mut arena = far_apart();
+    for update in 0..updates.min(MOST_UPDATES) {
+        if update % ROUND == 0 {
+            for robot in 0..MOST_ROBOTS {
+                order(&mut arena, robot, update / ROUND % 2 == 0);
+            }
+        }
+        arena.update();
+    }
+    arena.damage(0)
+}
+
+/// Four robots that stand still, with nothing in the air; answers the damage of the first one.
+pub fn rests(updates: u32) -> u8 {
+    let mut arena = far_apart();
+    for _ in 0..updates.min(MOST_UPDATES) {
+        arena.update();
+    }
+    arena.damage(0)
+}
+
+/// Scans that see three robots; answers the range of the nearest.
+pub fn scans(times: u32) -> i32 {
+    let mut arena = in_a_row();
+    let mut range = 0;
+    for _ in 0..times {
+        if arena.alive(0) {
+            range = arena.ask(0, Intrinsic::Scan, [45, 10]);
+        }
+    }
+    range
+}
+
+/// Bearings of points all over the field; answers the last one.
+pub fn bearings(times: u32) -> u16 {
+    let mut degree = 0;
+    for n in 0..times {
+        let dx = (n % 1999) as i32 - 999;
+        let dy = (n / 1999 % 1999) as i32 - 999;
+        degree = bearing(dx, dy);
+    }
+    degree
+}
+
+/// Has a live robot march east or west, and shoot twice to where nobody is.
+fn order(arena: &mut Arena, robot: usize, is_east: bool)
+    requires { length arena.old.robots ≡ MOST_ROBOTS }
+    requires inside { robot < MOST_ROBOTS }
+    ensures updates { arena.new.updates ≡ arena.old.updates }
+    ensures robots { length arena.new.robots ≡ MOST_ROBOTS }
+{
+    let heading = if is_east { 0 } else { 180 };
+    for _ in 0..2 {
+        if arena.alive(robot) {
+            arena.ask(robot, Intrinsic::Cannon, [90, 700]);
+        }
+    }
+    if arena.alive(robot) {
+        arena.ask(robot, Intrinsic::Drive, [heading, 50]);
+    }
+}
+
+/// Four robots, each in a corner of its own, none within the reach of another's bursts.
+fn far_apart() -> Arena
+    ensures begun { result.updates ≡ 0 }
+    ensures robots { length result.robots ≡ MOST_ROBOTS }
+{
+    Arena::placed(1, 1, &ArrayVec::from([(1000, 500), (8000, 500), (3000, 1500), (6000, 1500)]))
+}
+
+/// Four robots nearly on one line: the first one sees the three others.
+fn in_a_row() -> Arena
+    ensures begun { result.updates ≡ 0 }
+    ensures robots { length result.robots ≡ MOST_ROBOTS }
+{
+    Arena::placed(1, 1, &ArrayVec::from([(1000, 1000), (5000, 5000), (6000, 6100), (7000, 6900)]))
+}
