@@ -1,7 +1,12 @@
 -- Calls follow their meaning, where the body of the function called does.
-use Rattle.std.specs.Prelude.{ℕ, ℤ, pos, suc, ◌+◌, ◌-◌, ◌≡◌, ◌<◌, ◌≤◌, List, [], ◌∷◌, ◌++◌, Option, Some, length, take, replicate, nat_lt, nat_le}
-use Rattle.std.proofs.Common.{refl, sym, ap, subst, arith, length-append, length-take}
-use Rattle.std.proofs.lemmas.List.{length-replicate}
+use Rattle.std.specs.Prelude.{ℕ, ℤ, pos, suc, ◌+◌, ◌-◌, ◌≡◌, ◌<◌, ◌≤◌, List, [], ◌∷◌, ◌++◌, Bool, true, false, Option, Some, length, map, take, replicate, get_or, nat_lt, nat_le, if◌then◌else◌}
+use Rattle.std.proofs.Common.{refl, sym, ap, ◌∙◌, subst, arith, min, zero-add, length-append, length-take}
+use Rattle.std.proofs.lemmas.Bool.Decides.{nat_tests}
+use Rattle.std.proofs.lemmas.List.{length-replicate, get_or-replicate, get_or_past, get_or-take, ext_get_or}
+use Rattle.std.proofs.lemmas.List.FromFn.{get_or-map-range_with_len, length-map-range_with_len}
+use Rattle.std.proofs.Math.ListN.{get_or-append}
+use Rattle.std.proofs.Math.Seq.{get_or-append_right}
+use Rattle.std.specs.List.{range_with_len}
 use Rattle.grammar.specs.declared.names.Callee.{Callee}
 use Rattle.grammar.specs.declared.names.Callee.TheVariants as callee
 use Rattle.grammar.specs.Pools.{FunctionNames, names_of_function}
@@ -36,17 +41,61 @@ Follows_sooner code file n again =
     f.base ≡ length below → Tied (length file.externals) l n below (f ∷ fs) vars [] depth frames trace → length trace < n → StandsAt code at (body_code code.profile b at) →
     Follows (length file.externals) l n (again b vars depth frames trace) (wants code (run at below (f ∷ fs) vars []) trace) (flown code (at + length (body_code code.profile b at)) below f fs)
 
--- the variables that a function begins with are as many as it has
-first_sizes : (f : Function) (arguments : List ℤ) → f.parameters ≤ length f.variables → length (first_locals f arguments) ≡ length f.variables
-first_sizes f arguments h =
+-- a variable by its place: what stands there of the arguments, or 0
+variable_at : (parameters variables : ℕ) (arguments : List ℤ) (j : ℕ) → parameters ≤ variables → j < variables → (b : Bool) → nat_lt j parameters ≡ b →
+    get_or (variables_of parameters variables arguments) j (pos 0) ≡ (if b then get_or arguments j (pos 0) else pos 0)
+variable_at parameters variables arguments j h within b is = by (nat_lt j (length given)) refl
+  where
+    given : List ℤ
+    given = take parameters arguments
+
+    count : length given ≡ min parameters (length arguments)
+    count = length-take parameters arguments
+
+    rest : List ℤ
+    rest = replicate (variables - length given) (pos 0)
+
+    -- past what was given
+    past : length given ≤ j → (b : Bool) → nat_lt j parameters ≡ b → pos 0 ≡ (if b then get_or arguments j (pos 0) else pos 0)
+    past out true is =
+        let low : j < parameters = grind (arith, nat_tests, is) in
+        sym (get_or_past arguments j (pos 0) (omega (arith, out, count, low)))
+    past out false is = refl
+
+    here : j < length given → (b : Bool) → nat_lt j parameters ≡ b → get_or arguments j (pos 0) ≡ (if b then get_or arguments j (pos 0) else pos 0)
+    here low true is = refl
+    here low false is = let high : parameters ≤ j = grind (arith, nat_tests, is) in absurd (omega (arith, low, high, count))
+
+    by : (inside : Bool) → nat_lt j (length given) ≡ inside → get_or (given ++ rest) j (pos 0) ≡ (if b then get_or arguments j (pos 0) else pos 0)
+    by true t =
+        let low : j < length given = grind (arith, nat_tests, t) in
+        get_or-append given rest (pos 0) j low ∙ get_or-take parameters arguments j (pos 0) (omega (arith, low, count)) ∙ here low b is
+    by false t =
+        let out : length given ≤ j = grind (arith, nat_tests, t) in
+        get_or-append_right given rest j (pos 0) out
+        ∙ get_or-replicate (variables - length given) (j - length given) (pos 0) (pos 0) (omega (arith, out, within))
+        ∙ past out b is
+
+-- what a call leaves on the stack are the variables by their places
+first_is : (f : Function) (arguments : List ℤ) → f.parameters ≤ length f.variables → variables_of f.parameters (length f.variables) arguments ≡ first_locals f arguments
+first_is f arguments h =
+    let v = length f.variables in
+    let place = λ (j : ℕ). if nat_lt j f.parameters then get_or arguments j (pos 0) else pos 0 in
     let given = take f.parameters arguments in
-    omega (
-      arith,
-      h,
-      length-append given (replicate (length f.variables - length given) (pos 0)),
-      length-replicate (length f.variables - length given) (pos 0),
-      length-take f.parameters arguments,
-    )
+    let size : length (variables_of f.parameters v arguments) ≡ v =
+    omega (arith, h, length-append given (replicate (v - length given) (pos 0)), length-replicate (v - length given) (pos 0), length-take f.parameters arguments)
+    in
+    ext_get_or (pos 0) (variables_of f.parameters v arguments) (map place (range_with_len 0 v))
+    (size ∙ sym (length-map-range_with_len place 0 v))
+    (λ j below.
+    let within : j < v = omega (arith, below, size) in
+    variable_at f.parameters v arguments j h within (nat_lt j f.parameters) refl
+    ∙ sym (get_or-map-range_with_len place 0 v j j (pos 0) within (zero-add j)))
+
+-- the variables that a function begins with are as many as it has
+first_sizes : (f : Function) (arguments : List ℤ) → length (first_locals f arguments) ≡ length f.variables
+first_sizes f arguments =
+    length-map-range_with_len (λ (j : ℕ). if nat_lt j f.parameters then get_or arguments j (pos 0) else pos 0) 0 (length f.variables)
 
 module _ (code : Code) (e l n : ℕ) {A : Type 0} where
   -- the end of a function's run
@@ -98,7 +147,7 @@ module _ (code : Code) (file : File) (l n : ℕ) (again : Again) (holds : Holds 
       let body : (r1 : List ℤ) → suc (length r1) ≡ length rest → Follows e l n (go r1) (wants code (run start base (frame ∷ g ∷ fs) first []) r1) k =
       λ r1 h1.
       let tied : Tied e v n base (frame ∷ g ∷ fs) first [] (depth + v) (frames + 1) r1 = record {
-        sizes = record { externals_are = sizes.externals_are; locals_are = first_sizes f xs known.parameters };
+        sizes = record { externals_are = sizes.externals_are; locals_are = first_sizes f xs };
         deep = deep_inside;
         count = count_inside;
         inside = omega arith;
@@ -116,7 +165,8 @@ module _ (code : Code) (file : File) (l n : ℕ) (again : Again) (holds : Holds 
       follows_from e l n (go r1)
       (wants code (run start base (frame ∷ g ∷ fs) (record { externals = vars.externals; locals = variables_of (parameters_at code j) (variables_at code j) xs }) []) r1)
       (wants code (run start base (frame ∷ g ∷ fs) first []) r1) k
-      (ap (λ (names : FunctionNames). wants code (run start base (frame ∷ g ∷ fs) (record { externals = vars.externals; locals = variables_of names.parameters (length names.variables) xs }) []) r1) (holds.named j callable))
+      (ap (λ (names : FunctionNames). wants code (run start base (frame ∷ g ∷ fs) (record { externals = vars.externals; locals = variables_of names.parameters (length names.variables) xs }) []) r1) (holds.named j callable)
+      ∙ ap (λ (locals : List ℤ). wants code (run start base (frame ∷ g ∷ fs) (record { externals = vars.externals; locals = locals }) []) r1) (first_is f xs known.parameters))
       (body r1 h1)))
 
   -- the whole call: a frame, the arguments, and the call
