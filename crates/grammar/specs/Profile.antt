@@ -1,11 +1,18 @@
--- A language profile: what a program may use.
-use Rattle.std.specs.Prelude.{ℕ, Bool, false}
+-- A language profile: what && and || evaluate, and how much a program may use.
+use Rattle.std.specs.Prelude.{◌≡◌, ◌⊎◌, ℕ, Bool, false, true}
 
 pub record Profile : Type 0 where
   pub instructions : ℕ  -- the most instructions of a file's code, with the last NOP
   pub words : ℕ  -- the words of a robot's stack
   pub frames : ℕ  -- the most frames that are open at once
-  pub short_circuit : Bool  -- whether && and || leave out their right side
+  pub short_circuit : Bool  -- whether && and || leave out their right side, as in C
 
 unfoldable pub first_profile : Profile
 first_profile = record { instructions = 2000; words = 500; frames = 64; short_circuit = false }
+
+unfoldable pub second_profile : Profile
+second_profile = record { instructions = 4000; words = 1000; frames = 128; short_circuit = true }
+
+-- one of the two that a program can have
+abbrev pub IsProfile : Profile → Type 0
+IsProfile p = (p ≡ first_profile) ⊎ (p ≡ second_profile)

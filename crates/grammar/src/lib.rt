@@ -8,6 +8,7 @@ pub mod laws;
 mod names;
 mod operators;
 mod pools;
+mod profiles;
 mod scope;
 
 pub use build::{Build, BuildFault};
@@ -16,5 +17,6 @@ pub use known::{known_sources, known_texts};
 pub use names::{Callee, Intrinsic, Var};
 pub use operators::{LAST_LEVEL, Op, StoreOp, operator_at, store_operator};
 pub use pools::{Function, MOST_NAMES, Pools};
+pub use profiles::Profile;
 pub use scope::{Scope, intrinsic, number_of};
 pub use tokens::{DeviceFault, Feed, Name};

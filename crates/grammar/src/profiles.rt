@@ -1,0 +1,88 @@
+//! The language profiles.
+
+ghost use Rattle.std.specs.Prelude.{◌≡◌, ◌≤◌};
+ghost use Rattle.grammar.specs.Profile.{first_profile, second_profile, IsProfile};
+
+use std::marker::Model;
+
+/// A language profile: what `&&` and `||` evaluate, and how much a program may use. There are two.
+#[derive(Clone, Copy, Debug, PartialEq, Eq)]
+pub struct Profile {
+    instructions: u16,
+    words: u16,
+    frames: u16,
+    short_circuit: bool,
+}
+
+impl Model for Profile {
+    ghost use Rattle.grammar.specs.Profile.{Profile, IsProfile};
+
+    ghost Value = { Profile };
+
+    ghost view = { λ p. record { instructions = p.instructions; words = p.words; frames = p.frames; short_circuit = p.short_circuit } };
+
+    ghost invariant = { λ p. IsProfile (record { instructions = p.instructions; words = p.words; frames = p.frames; short_circuit = p.short_circuit }) };
+
+    ghost inverse = { λ p. record { instructions = p.instructions; words = p.words; frames = p.frames; short_circuit = p.short_circuit } };
+}
+
+impl Profile {
+    /// `&&` and `||` evaluate both sides. A program has at most 2,000 instructions, 500 words of stack and 64 frames.
+    #[tactic(auto, unfolding(crate::specs::Profile::first_profile))]
+    pub fn first() -> Profile
+        ensures { result ≡ first_profile }
+    {
+        Profile {
+            instructions: 2000,
+            words: 500,
+            frames: 64,
+            short_circuit: false,
+        }
+    }
+
+    /// `&&` and `||` leave out their right side, as in C. A program has at most 4,000 instructions, 1,000 words of stack
+    /// and 128 frames.
+    #[tactic(auto, unfolding(crate::specs::Profile::second_profile))]
+    pub fn second() -> Profile
+        ensures { result ≡ second_profile }
+    {
+        Profile {
+            instructions: 4000,
+            words: 1000,
+            frames: 128,
+            short_circuit: true,
+        }
+    }
+
+    /// The most instructions of a program, with the NOP that ends its code.
+    pub fn instructions(self) -> u16
+        ensures value { result ≡ self.instructions }
+        ensures known { IsProfile self }
+    {
+        self.instructions
+    }
+
+    /// The words of a robot's stack.
+    pub fn words(self) -> u16
+        ensures value { result ≡ self.words }
+        ensures known { IsProfile self }
+    {
+        self.words
+    }
+
+    /// The most frames that are open at once.
+    pub fn frames(self) -> u16
+        ensures value { result ≡ self.frames }
+        ensures known { IsProfile self }
+    {
+        self.frames
+    }
+
+    /// Whether `&&` and `||` leave out their right side.
+    pub fn short_circuit(self) -> bool
+        ensures value { result ≡ self.short_circuit }
+        ensures known { IsProfile self }
+    {
+        self.short_circuit
+    }
+}
