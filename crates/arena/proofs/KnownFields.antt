@@ -7,7 +7,7 @@ use Rattle.arith.specs.Root.{root_by_quarters, root_of}
 use Rattle.arith.specs.Bearing.{reach_of, first_greatest, reaches, bearing_of}
 use Rattle.arena.specs.Leg.{brought, along, way_east, way_north, candidate_x, candidate_y, place_x, place_y, begun, stopped, steered, approached, sped, grown, is_outside, hits_wall, walled, tried, driven}
 use Rattle.arena.specs.Field.{damage_of, is_alive, no_robot, robot_at, metres_x, metres_y}
-use Rattle.arena.specs.Collisions.{mover, moves, square, is_close, is_no_further, collides, others, touches}
+use Rattle.arena.specs.Collisions.{candidate, mover, moves, square, is_close, is_no_further, collides, others, touches}
 use Rattle.arena.specs.Shots.{aimed_x, aimed_y, flight, shot, in_air, due_at, ring, bursts}
 use Rattle.arena.specs.Moved.{put_back, settled, knocks, moved_robot, moved}
 use Rattle.arena.specs.Scan.{apart, east_to, north_to, in_arc, sees, range_of, nearest, scanned}
@@ -31,7 +31,7 @@ unfolding start drawn_robot drawn_place quadrant word generator standing answer 
 starts = record { words = refl; quadrants = refl; stand = refl; next_word = refl }
 
 pub drives : Drives
-unfolding answer directed wanting argument degree_of brought robot_at placed standing is_alive damage_of no_robot place_x place_y candidate_x candidate_y way_east way_north along begun stopped steered approached sped grown is_outside hits_wall walled tried driven mover moves square is_close is_no_further collides others touches due_at ring bursts put_back settled knocks moved_robot moved cosine_at sine_at sines
+unfolding answer directed wanting argument degree_of brought robot_at placed standing is_alive damage_of no_robot place_x place_y candidate_x candidate_y way_east way_north along begun stopped steered approached sped grown is_outside hits_wall walled tried driven candidate mover moves square is_close is_no_further collides others touches due_at ring bursts put_back settled knocks moved_robot moved cosine_at sine_at sines
 drives = record {
   six_updates = (refl, refl, refl);
   brakes = (refl, refl, refl);
@@ -43,7 +43,7 @@ drives = record {
 }
 
 pub knocks_ : Knocks
-unfolding answer directed wanting argument degree_of brought robot_at placed standing is_alive damage_of no_robot place_x place_y metres_x candidate_x candidate_y way_east way_north along begun stopped steered approached sped grown is_outside hits_wall walled tried driven mover moves square is_close is_no_further collides others touches due_at ring bursts put_back settled knocks moved_robot moved cosine_at sine_at sines
+unfolding answer directed wanting argument degree_of brought robot_at placed standing is_alive damage_of no_robot place_x place_y metres_x candidate_x candidate_y way_east way_north along begun stopped steered approached sped grown is_outside hits_wall walled tried driven candidate mover moves square is_close is_no_further collides others touches due_at ring bursts put_back settled knocks moved_robot moved cosine_at sine_at sines
 knocks_ = record {
   both_hurt = refl;
   both_back = refl;
@@ -57,7 +57,7 @@ knocks_ = record {
 }
 
 pub rings : Rings
-unfolding answer fired shot aimed_x aimed_y flight in_air argument degree_of brought robot_at placed standing is_alive damage_of no_robot place_x place_y candidate_x candidate_y way_east way_north along begun stopped steered approached sped grown is_outside hits_wall walled tried driven mover moves square is_close is_no_further collides others touches due_at ring bursts put_back settled knocks moved_robot moved cosine_at sine_at sines
+unfolding answer fired shot aimed_x aimed_y flight in_air argument degree_of brought robot_at placed standing is_alive damage_of no_robot place_x place_y candidate_x candidate_y way_east way_north along begun stopped steered approached sped grown is_outside hits_wall walled tried driven candidate mover moves square is_close is_no_further collides others touches due_at ring bursts put_back settled knocks moved_robot moved cosine_at sine_at sines
 rings = record {
   at_5_metres = refl;
   at_5_metres_aslant = refl;
@@ -70,7 +70,7 @@ rings = record {
 }
 
 pub missiles : Missiles
-unfolding answer fired shot aimed_x aimed_y flight in_air argument degree_of brought robot_at placed standing is_alive damage_of no_robot place_x place_y candidate_x candidate_y way_east way_north along begun stopped steered approached sped grown is_outside hits_wall walled tried driven mover moves square is_close is_no_further collides others touches due_at ring bursts put_back settled knocks moved_robot moved cosine_at sine_at sines
+unfolding answer fired shot aimed_x aimed_y flight in_air argument degree_of brought robot_at placed standing is_alive damage_of no_robot place_x place_y candidate_x candidate_y way_east way_north along begun stopped steered approached sped grown is_outside hits_wall walled tried driven candidate mover moves square is_close is_no_further collides others touches due_at ring bursts put_back settled knocks moved_robot moved cosine_at sine_at sines
 missiles = record {
   first = refl;
   second = refl;

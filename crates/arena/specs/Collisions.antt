@@ -1,26 +1,28 @@
 -- Which robots collide in an update. Every pair is judged by where both were and where both would be next.
-use Rattle.std.specs.Prelude.{ℕ, ◌+◌, ◌*◌, Bool, not, ◌&&◌, ◌||◌, ◌==◌, nat_lt, nat_le, List, ◌++◌, take, drop, count_by, slice_index_or}
+use Rattle.std.specs.Prelude.{ℕ, ◌+◌, ◌*◌, Bool, not, ◌&&◌, ◌||◌, ◌==◌, nat_lt, nat_le, if◌then◌else◌, List, ◌++◌, take, drop, count_by, slice_index_or}
 use Rattle.std.specs.Int.{abs_diff}
-use Rattle.arena.specs.Leg.{place_x, place_y, tried, driven, hits_wall}
+use Rattle.arena.specs.Leg.{Leg, place_x, place_y, driven}
 use Rattle.arena.specs.Field.{Robot, is_alive, no_robot}
 
--- a robot's place before the update, its candidate for the place after it, and whether a wall held it up there
+-- where a robot would drive on its own; a dead one stays
+unfoldable pub candidate : Robot → Leg
+candidate robot = if is_alive robot then driven robot.leg else robot.leg
+
+-- a robot's place before the update, and its candidate for the place after it
 pub record Mover : Type 0 where
   pub live : Bool
   pub from_x : ℕ
   pub from_y : ℕ
   pub x : ℕ
   pub y : ℕ
-  pub walled : Bool
 
 unfoldable pub mover : Robot → Mover
 mover robot = record {
   live = is_alive robot;
   from_x = place_x robot.leg;
   from_y = place_y robot.leg;
-  x = place_x (driven robot.leg);
-  y = place_y (driven robot.leg);
-  walled = hits_wall (tried robot.leg);
+  x = place_x (candidate robot);
+  y = place_y (candidate robot);
 }
 
 unfoldable pub moves : Mover → Bool

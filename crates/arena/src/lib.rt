@@ -3,5 +3,9 @@
 #![tactic(auto)]
 
 mod known;
+mod limits;
+mod motion;
+mod robots;
 
 pub use known::known_fields;
+pub use limits::{LAST_PLACE, MOST_MISSILES, MOST_ROBOTS, MOST_UPDATES};
