@@ -6,6 +6,7 @@ mod known;
 mod limits;
 mod motion;
 mod robots;
+mod words;
 
 pub use known::known_fields;
 pub use limits::{LAST_PLACE, MOST_MISSILES, MOST_ROBOTS, MOST_UPDATES};
