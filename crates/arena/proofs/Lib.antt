@@ -1,2 +1,5 @@
 pub mod KnownFields
 pub mod Tracks
+pub mod Touches
+pub mod Wear
+pub mod Loops

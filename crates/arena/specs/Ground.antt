@@ -1,5 +1,5 @@
 -- What an arena keeps of a field: sums of the way, one number of damage for each robot, and the missiles in the air.
-use Rattle.std.specs.Prelude.{ℕ, Bool, List, nat_lt, ℤ, slice_index_or}
+use Rattle.std.specs.Prelude.{ℕ, ◌≤◌, Bool, List, nat_lt, ℤ, unsigned_abs, slice_index_or}
 use Rattle.rand_pcg.specs.Lcg.{Lcg}
 use Rattle.arena.specs.Leg.{Leg, place_x, place_y, way_east, way_north}
 use Rattle.arena.specs.Field.{Shot, Robot, damage_of, no_robot}
@@ -58,3 +58,7 @@ pub record Ground : Type 0 where
 -- a robot lives; there is none past the last
 unfoldable pub lives : Ground → ℕ → Bool
 lives g i = nat_lt (slice_index_or g.robots i (body_of no_robot)).damage 100
+
+-- neither sum of the way is further from 0 than this
+abbrev pub IsWithin : ℕ → Track → Type 0
+IsWithin way track = (unsigned_abs track.east ≤ way) × (unsigned_abs track.north ≤ way)

@@ -8,5 +8,6 @@ pub mod Words
 pub mod Start
 pub mod Answer
 pub mod Ground
+pub mod Drive
 pub mod Standing
 pub mod KnownFields

@@ -2,6 +2,7 @@
 //! intrinsic functions.
 #![tactic(auto)]
 
+mod collisions;
 mod known;
 mod limits;
 mod motion;

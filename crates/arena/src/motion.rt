@@ -51,7 +51,7 @@ impl Model for Motion {
 }
 
 /// A robot's motion after walls, and whether a wall stopped it.
-#[derive(Clone, Copy, Drop)]
+#[derive(Clone, Copy, Default, Drop)]
 pub struct Drive {
     pub motion: Motion,
     pub walled: bool,
