@@ -3,3 +3,4 @@ pub mod Tracks
 pub mod Touches
 pub mod Wear
 pub mod Loops
+pub mod SlotLaws

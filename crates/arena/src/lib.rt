@@ -7,6 +7,7 @@ mod known;
 mod limits;
 mod motion;
 mod robots;
+mod slots;
 mod words;
 
 pub use known::known_fields;

@@ -263,9 +263,9 @@ fn further(way: i64, speed: u8, part: i32) -> i64
     way + i64::from(speed) * i64::from(part)
 }
 
-// The coordinate to which a way leads from an origin, perhaps beyond a wall.
+/// The coordinate to which a way leads from an origin, perhaps beyond a wall.
 #[tactic(auto, unfolding(crate::specs::Leg::along))]
-fn along(origin: u16, way: i64) -> i64
+pub(crate) fn along(origin: u16, way: i64) -> i64
     requires { unsigned_abs way < 2 ^ 51 }
     ensures { result ≡ along origin way }
 {
@@ -287,9 +287,9 @@ fn hits_wall(x: i64, y: i64) -> bool
     is_outside(x) || is_outside(y)
 }
 
-// The nearest place of the field.
+/// The nearest place of the field.
 #[tactic(auto, unfolding(crate::specs::Leg::brought))]
-fn brought(z: i64) -> u16
+pub(crate) fn brought(z: i64) -> u16
     ensures value { result ≡ brought last_place z }
     ensures most { result ≤ 9999 }
 {

@@ -1,5 +1,5 @@
 -- A word is one step of the generator.
-use Rattle.std.proofs.Common.{◌≡◌, ap, ◌∙◌, add-one, ℕ}
+use Rattle.std.proofs.Common.{ap, ◌∙◌, add-one, ℕ}
 use Rattle.rand_pcg.specs.Lcg.{Lcg}
 use Rattle.rand_pcg.specs.Pcg.{pcg32}
 use Rattle.arena.specs.Words.{generator, word}

@@ -1,9 +1,9 @@
 -- What is left of the word is below the limit, so it fits.
-use Rattle.std.proofs.Common.{◌≡◌, ◌%◌, pos, ap, ◌∙◌, arith}
+use Rattle.std.proofs.Common.{◌%◌, pos, ap, ◌∙◌, arith}
 use Rattle.std.specs.Int.{w32}
 use Rattle.std.proofs.lemmas.Int.{to_z_pos, to_z-of_z}
 use Rattle.arena.specs.Words.{word}
-use Rattle.arena.specs.Answer.{random_limit, random_number}
+use Rattle.arena.specs.Answer.{random_number}
 use Rattle.arena.proofs.words.random_number.Goals as goal
 
 pub returns-clause-value : goal.returns-clause-value
