@@ -4,3 +4,4 @@ pub mod Touches
 pub mod Wear
 pub mod Loops
 pub mod SlotLaws
+pub mod StartLaws

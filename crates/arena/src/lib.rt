@@ -8,6 +8,7 @@ mod limits;
 mod motion;
 mod robots;
 mod slots;
+mod starts;
 mod words;
 
 pub use known::known_fields;
