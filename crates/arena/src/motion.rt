@@ -68,7 +68,8 @@ impl Motion {
     pub fn standing(x: u16, y: u16) -> Motion
         requires x { x ≤ 9999 }
         requires y { y ≤ 9999 }
-        ensures { result ≡ track_of (standing x y).leg }
+        ensures track { result ≡ track_of (standing x y).leg }
+        ensures still { (result.east ≡ pos 0) × (result.north ≡ pos 0) }
     {
         Motion {
             origin_x: x,

@@ -52,7 +52,8 @@ impl Robot {
     pub fn standing(x: u16, y: u16) -> Robot
         requires x { x ≤ 9999 }
         requires y { y ≤ 9999 }
-        ensures { result ≡ body_of (standing x y) }
+        ensures body { result ≡ body_of (standing x y) }
+        ensures still { IsWithin 0 result.track }
     {
         Robot {
             motion: Motion::standing(x, y),

@@ -1,37 +1,37 @@
--- Each turn adds a robot at its place.
-use Rattle.std.proofs.Common.{◌≡◌, ℤ, pos, List, get_or, map, ap, ◌∙◌, sym, subst, All, to_z, of_z, rules}
-use Rattle.std.specs.Int.{w32, w64}
+use Rattle.std.proofs.Common.{◌≡◌, ℕ, ◌++◌, [], ◌∷◌, List, length, ap, ◌∙◌, get_or, map, take, sym, ℤ, pos, FitsSigned, w32, rules, arith}
 use Rattle.std.proofs.lemmas.Int.{to_z-of_z}
-use Rattle.std.proofs.lemmas.List.{take_all}
+use Rattle.std.proofs.lemmas.List.{take_all, map_more}
+use Rattle.std.proofs.lemmas.List.Elements.{All-push}
+use Rattle.std.proofs.lemmas.Simd.{map-map}
 use Rattle.arena.specs.Leg.{last_place, brought}
-use Rattle.arena.specs.Start.{IsPlace, standing, placed}
-use Rattle.arena.specs.Ground.{body_of}
-use Rattle.arena.proofs.SlotLaws.{inside_is}
-use Rattle.arena.proofs.StartLaws.{placed_at, place_fits_32, place_fits_64, one_placed, all_at_rest, at_rest}
+use Rattle.arena.specs.Field.{Robot}
+use Rattle.arena.specs.Start.{standing, placed}
+use Rattle.arena.specs.Ground.{Body, body_of, IsWithin}
 use Rattle.arena.proofs.starts.placed_robots.Goals as goal
 
-pub loop-x-preserved : goal.loop-x-preserved
-loop-x-preserved c =
-    let so_far = c.loop-x.invariant in
-    let places = c.as_slice-x-items.result.now in
-    let i = c.loop-x.x-index in
-    let place : ℤ × ℤ = get_or places i (pos 0, pos 0) in
-    let at : place ≡ get_or places i place = inside_is places i (pos 0, pos 0) place c.loop-x-test.true in
-    let all : All IsPlace places = subst (λ (ps : List (ℤ × ℤ)). All IsPlace ps) (sym c.as_slice-x-items.ensures.value) c.requires in
-    let is = all i (pos 0, pos 0) c.loop-x-test.true in
-    let east : c.from.result ≡ place.0 = c.from.ensures ∙ to_z-of_z w32 place.0 (place_fits_32 place.0 is.0 is.1) in
-    let north : c.from-in-loop-x.result ≡ place.1 = c.from-in-loop-x.ensures ∙ to_z-of_z w32 place.1 (place_fits_32 place.1 is.2 is.3) in
-    let x : c.brought.result ≡ brought last_place place.0 = c.brought.ensures.value ∙ ap (λ z. brought last_place (to_z w64 (of_z w64 z))) east ∙ ap (brought last_place) (to_z-of_z w64 place.0 (place_fits_64 place.0 is.0 is.1)) in
-    let y : c.brought-in-loop-x.result ≡ brought last_place place.1 = c.brought-in-loop-x.ensures.value ∙ ap (λ z. brought last_place (to_z w64 (of_z w64 z))) north ∙ ap (brought last_place) (to_z-of_z w64 place.1 (place_fits_64 place.1 is.2 is.3)) in
-    let stands : c.standing.result ≡ body_of (placed_at place) = c.standing.ensures ∙ ap (λ n. body_of (standing n c.brought-in-loop-x.result)) x ∙ ap (λ n. body_of (standing (brought last_place place.0) n)) y in
-    record {
-      robots = c.push.ensures.items ∙ one_placed places i place c.loop-x.robots.items c.standing.result c.loop-x-test.true at so_far.robots stands;
-      count = search (rules, c.push.ensures);
-      still = rw c.push.ensures.items (all_at_rest c.loop-x.robots.items c.standing.result so_far.still (at_rest _ _ c.standing.result c.standing.ensures));
-    }
+-- the robot at a given place
+abbrev robot_at_place : ℤ × ℤ → Robot
+robot_at_place place = standing (brought last_place place.0) (brought last_place place.1)
+
+pub loop-place-preserved : goal.loop-place-preserved
+loop-place-preserved c = record {
+  count = omega arith;
+  robots =
+    let items = c.as_slice-place-items.result.now in
+    let x_fits : FitsSigned w32 (get_or items c.loop-place.place-index (pos 0, pos 0)).0 = search rules in
+    let y_fits : FitsSigned w32 (get_or items c.loop-place.place-index (pos 0, pos 0)).1 = search rules in
+    let x = simp to_z-of_z at c.coordinate.ensures.value in
+    let y = simp to_z-of_z at c.coordinate-in-loop-place.ensures.value in
+    let body = rw (x, y) at c.standing.ensures.body in
+    c.push.ensures.items ∙ ap (λ (l : List Body). l ++ c.standing.result ∷ []) c.loop-place.invariant.robots ∙
+    ap (λ (b : Body). map (λ place. body_of (robot_at_place place)) (take c.loop-place.place-index items) ++ b ∷ []) body ∙
+    sym (map_more (λ place. body_of (robot_at_place place)) items c.loop-place.place-index (pos 0, pos 0) c.loop-place-test.true);
+  still = rw c.push.ensures.items (All-push (λ (b : Body). IsWithin 0 b.track) _ _ c.loop-place.invariant.still c.standing.ensures.still);
+}
 
 pub returns-clause-robots : goal.returns-clause-robots
 unfolding placed
 returns-clause-robots c = λ seed number.
-    let all = take_all c.loop-x.x-index c.as_slice-x-items.result.now c.loop-x-test.false in
-    c.loop-x.invariant.robots ∙ ap (λ ps. map body_of (map placed_at ps)) (all ∙ c.as_slice-x-items.ensures.value)
+    let all = take_all c.loop-place.place-index c.as_slice-place-items.result.now c.loop-place-test.false in
+    c.loop-place.invariant.robots ∙ ap (map (λ place. body_of (robot_at_place place))) (all ∙ c.as_slice-place-items.ensures.value) ∙
+    sym (map-map body_of robot_at_place c.args.places.now.items)

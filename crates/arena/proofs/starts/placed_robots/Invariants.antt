@@ -1,12 +1,13 @@
-use Rattle.std.proofs.Common.{◌≡◌, map, take, All, length}
-use Rattle.arena.specs.Ground.{Body, IsWithin, body_of}
-use Rattle.arena.proofs.StartLaws.{placed_at}
+use Rattle.std.proofs.Common.{◌≡◌, length, take, map}
+use Rattle.std.specs.List.{All}
+use Rattle.arena.specs.Leg.{last_place, brought}
+use Rattle.arena.specs.Start.{standing}
+use Rattle.arena.specs.Ground.{Body, body_of, IsWithin}
 use Rattle.arena.proofs.starts.placed_robots.Given as goal
 
--- a robot at each of the places so far
-abbrev pub invariant-loop-x : goal.invariant-loop-x
-invariant-loop-x l = record {
-  robots : l.robots.items ≡ map body_of (map placed_at (take l.x-index l.x-items));
-  count : length l.robots.items ≡ l.x-index;
+abbrev pub invariant-loop-place : goal.invariant-loop-place
+invariant-loop-place l = record {
+  count : length l.robots.items ≡ l.place-index;
+  robots : l.robots.items ≡ map (λ place. body_of (standing (brought last_place place.0) (brought last_place place.1))) (take l.place-index l.place-items);
   still : All (λ (b : Body). IsWithin 0 b.track) l.robots.items;
 }
