@@ -1,0 +1,10 @@
+//! Battles: the programs of one to four files fight on the field, cycle by cycle.
+#![tactic(auto)]
+
+mod limits;
+mod outcome;
+mod programs;
+
+pub use limits::{CYCLES_MAX, FILES_MAX};
+pub use outcome::Outcome;
+pub use programs::Programs;
