@@ -54,43 +54,43 @@ updated number stage =
 unfoldable pub cycle : List Robot → ℕ → Stage → Stage
 cycle robots number stage = updated number (turns robots (length robots) stage)
 
+-- a battle is over after an update that leaves at most one robot alive
+unfoldable pub is_over : ℕ → Stage → Bool
+is_over number stage = is_due number && nat_le (live_count stage.field) 1
+
 -- the stage after so many cycles
 unfoldable pub stage_after : List Robot → Stage → ℕ → Stage
 stage_after robots opening zero = opening
 stage_after robots opening (suc n) = cycle robots (suc n) (stage_after robots opening n)
-
--- no battle goes on after an update that leaves at most one robot alive
-unfoldable pub is_decided : List Robot → Stage → ℕ → Bool
-is_decided robots opening number = is_due number && nat_le (live_count (stage_after robots opening number).field) 1
 
 -- the least of so many numbers above n that passes, or the last of them
 unfoldable pub first_above : (ℕ → Bool) → ℕ → ℕ → ℕ
 first_above passes n zero = n
 first_above passes n (suc count) = if passes (n + 1) then n + 1 else first_above passes (n + 1) count
 
--- a battle is decided, or it reaches its limit
+-- the least cycle after which the battle is over, or its limit
 unfoldable pub last_cycle : List Robot → Stage → ℕ → ℕ
-last_cycle robots opening limit = first_above (is_decided robots opening) 0 limit
+last_cycle robots opening limit = first_above (λ number. is_over number (stage_after robots opening number)) 0 limit
 
 -- so many robots at the start of the match of this number, with no replies yet
 unfoldable pub opening : ℕ → ℕ → ℕ → Stage
 opening n seed number = record { field = start seed number n; traces = replicate n [] }
+
+-- the damages of so many robots
+unfoldable pub damages_of : ℕ → Field → List ℕ
+damages_of n field = map (λ i. damage_of (robot_at field i)) (range_with_len 0 n)
 
 -- how a battle ends: after how many cycles, and with which damage of each robot, in percent
 pub record Outcome : Type 0 where
   pub cycles : ℕ
   pub damages : List ℕ
 
-unfoldable pub outcome_at : List Robot → Stage → ℕ → Outcome
-outcome_at robots opening cycles = record {
-  cycles = cycles;
-  damages = map (λ i. damage_of (robot_at (stage_after robots opening cycles).field i)) (range_with_len 0 (length robots));
-}
-
 -- the battle of these robots with this seed, in the match of this number, with this limit of cycles
 unfoldable pub battle : List Robot → (seed number limit : ℕ) → Outcome
 battle robots seed number limit =
-    let begun = opening (length robots) seed number in outcome_at robots begun (last_cycle robots begun limit)
+    let begun = opening (length robots) seed number in
+    let cycles = last_cycle robots begun limit in
+    record { cycles = cycles; damages = damages_of (length robots) (stage_after robots begun cycles).field }
 
 -- a robot is alive if its damage is below 100
 unfoldable pub alive : Outcome → ℕ → Bool
