@@ -86,7 +86,7 @@ pub record KnownListings : Type 0 where
 -- The trees and the instructions want the same behind these replies.
 pub record Wants (file : File) (trace : List ℤ) (event : Want) : Type 0 where
   pub source : want first_profile file trace ≡ event
-  pub instructions : want_code first_profile (code_of first_profile file) trace ≡ event
+  pub instructions : want_code (code_of first_profile file) trace ≡ event
 
 -- what is wanted in this cycle, the first of which is 1, where every reply is 0
 abbrev pub InCycle : File → ℕ → Want → Type 0
@@ -132,7 +132,7 @@ first_restart wanted cycle (suc n) = if is_restart (wanted (zeros (cycle - 1))) 
 -- by the trees and by the instructions the first restart is in this cycle
 pub record RestartsIn (cycle : ℕ) (file : File) : Type 0 where
   pub source : first_restart (want first_profile file) 1 200 ≡ Some cycle
-  pub instructions : first_restart (want_code first_profile (code_of first_profile file)) 1 200 ≡ Some cycle
+  pub instructions : first_restart (want_code (code_of first_profile file)) 1 200 ≡ Some cycle
 
 -- a function f with so many locals that does something, and a main that calls it
 abbrev pub calls_f : ℕ → Body → File
