@@ -6,7 +6,7 @@ use Rattle.arena.specs.Field.{Field, damage_of, robot_at}
 use Rattle.arena.specs.Ground.{Ground}
 use Rattle.arena.specs.Standing.{StandsFor as IsGroundOf}
 use Rattle.arena.specs.Start.{start}
-use Rattle.grammar.specs.Profile.{Profile, first_profile}
+use Rattle.grammar.specs.Profile.{Profile}
 use Rattle.grammar.specs.Resolved.{IsResolved}
 use Rattle.grammar.specs.Tree.{File}
 use Rattle.code.specs.Generation.{Code, code_of}
@@ -15,7 +15,7 @@ use Rattle.code.specs.Meaning.{want}
 use Rattle.code.specs.Standing.{StandsFor, FitsProgram}
 use Rattle.battles.specs.Battle.{Robot, Outcome, opening, damages_of, stage_after, last_cycle, battle}
 use Rattle.battles.specs.Carrying.{AreRobotsOf, EachFits, EachStandsFor, HasReached}
-use Rattle.battles.specs.Codes.{AreCodesOf}
+use Rattle.code.specs.Codes.{AreCodesOf}
 use Rattle.battles.specs.Pairing.{paired, robots_of}
 use Rattle.battles.proofs.Stages.{robots_length}
 
@@ -68,17 +68,17 @@ paired_resolved [] all = all
 paired_resolved (file ∷ []) all = both_resolved file (all 0 file (omega arith))
 paired_resolved (file ∷ other ∷ files) all = all
 
-robots_are_each : (files : List File) → All IsResolved files → AreRobotsOf (map (code_of first_profile) files) (map (want first_profile) files)
-robots_are_each [] all = tt
-robots_are_each (file ∷ files) all = (
-  record { file = file; resolved = all 0 file (omega arith); program = refl; wants = refl },
-  robots_are_each files (λ k none within. all (suc k) none (omega arith)),
+robots_are_each : (p : Profile) (files : List File) → All IsResolved files → AreRobotsOf (map (code_of p) files) (map (want p) files)
+robots_are_each p [] all = tt
+robots_are_each p (file ∷ files) all = (
+  record { profile = p; file = file; resolved = all 0 file (omega arith); program = refl; wants = refl },
+  robots_are_each p files (λ k none within. all (suc k) none (omega arith)),
 )
 
-pub robots_are : (codes : List Code) (files : List File) → AreCodesOf codes first_profile files
-    → AreRobotsOf (paired codes) (robots_of first_profile files)
-robots_are codes files are =
-    rw (are.are, paired_codes first_profile files) (robots_are_each (paired files) (paired_resolved files are.resolved))
+pub robots_are : (codes : List Code) (p : Profile) (files : List File) → AreCodesOf codes p files
+    → AreRobotsOf (paired codes) (robots_of p files)
+robots_are codes p files are =
+    rw (are.are, paired_codes p files) (robots_are_each p (paired files) (paired_resolved files are.resolved))
 
 -- the damages of one robot more
 pub damages_none : (f : Field) → damages_of 0 f ≡ []

@@ -2,7 +2,7 @@
 use Rattle.std.specs.Prelude.{ℤ, ◌≡◌, List, [], ◌∷◌}
 use Rattle.arena.specs.Ground.{Ground}
 use Rattle.arena.specs.Standing.{StandsFor as IsGroundOf}
-use Rattle.grammar.specs.Profile.{first_profile}
+use Rattle.grammar.specs.Profile.{Profile}
 use Rattle.grammar.specs.Resolved.{IsResolved}
 use Rattle.grammar.specs.Tree.{File}
 use Rattle.code.specs.Generation.{Code, IsProgramOf}
@@ -13,10 +13,11 @@ use Rattle.battles.specs.Battle.{Robot, Stage}
 
 -- the robot wants what the trees of the program's file want
 pub record IsRobotOf (code : Code) (robot : Robot) : Type 0 where
+  pub profile : Profile
   pub file : File
   pub resolved : IsResolved file
-  pub program : IsProgramOf code first_profile file
-  pub wants : robot ≡ want first_profile file
+  pub program : IsProgramOf code profile file
+  pub wants : robot ≡ want profile file
 
 abbrev pub AreRobotsOf : List Code → List Robot → Type 0
 AreRobotsOf [] [] = Unit {0}

@@ -1,5 +1,4 @@
 pub mod Programs
-pub mod Codes
 pub mod Battle
 pub mod Pairing
 pub mod Carrying

@@ -3,28 +3,28 @@
 ghost use Rattle.std.specs.Prelude.{◌≡◌, ◌<◌, ◌≤◌, [], List, All, length, replicate};
 ghost use Rattle.arena.specs.Field.{Field};
 ghost use Rattle.arena.specs.Standing.{StandsFor as IsGroundOf};
-ghost use Rattle.grammar.specs.Profile.{first_profile};
+ghost use Rattle.grammar.specs.Profile.{Profile};
 ghost use Rattle.grammar.specs.Tree.{File};
+ghost use Rattle.code.specs.Codes.{AreCodesOf};
 ghost use Rattle.battles.specs.Battle.{battle, damages_of};
 ghost use Rattle.battles.specs.Carrying.{EachFits, EachStandsFor};
-ghost use Rattle.battles.specs.Codes.{AreCodesOf};
 ghost use Rattle.battles.specs.Pairing.{paired, robots_of};
 
-use crate::limits::{CYCLES_MAX, FILES_MAX};
 use crate::outcome::Outcome;
 use crate::programs::Programs;
 use crate::scheduler::play;
 use arena::Arena;
 use arrayvec::ArrayVec;
 use code::Machine;
+use settings::{CYCLES_MAX, FILES_MAX};
 
 /// Plays the battle of the match of this number, counted from 1. The seed and the number choose the random numbers;
 /// the battle ends after `limit` cycles if it isn't over before. Nothing is allocated, and no battle fails.
 pub fn battle(programs: &Programs, seed: u64, number: u32, limit: u32) -> Outcome
     requires some { 0 < length programs.now }
     requires limit { limit ≤ CYCLES_MAX }
-    ensures battle { (files : List File) → AreCodesOf programs.now first_profile files
-        → result ≡ battle (robots_of first_profile files) seed number limit }
+    ensures battle { (p : Profile) (files : List File) → AreCodesOf programs.now p files
+        → result ≡ battle (robots_of p files) seed number limit }
     ensures manned { length result.damages ≡ length (paired programs.now) }
     ensures most { All (λ d. d ≤ 100) result.damages }
 {

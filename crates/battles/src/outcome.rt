@@ -3,8 +3,8 @@
 ghost use Rattle.std.specs.Prelude.{◌≡◌, ◌<◌, ◌≤◌, length, slice_index};
 ghost use Rattle.battles.specs.Battle.{alive};
 
-use crate::limits::FILES_MAX;
 use arrayvec::ArrayVec;
+use settings::FILES_MAX;
 use std::marker::Model;
 
 /// How a battle ends: after how many cycles, and with which damage of each robot, in percent.

@@ -6,9 +6,9 @@ ghost use Rattle.battles.specs.Pairing.{paired};
 ghost use Rattle.battles.specs.Programs.{AllSome};
 ghost use Rattle.code.specs.Generation.{Code};
 
-use crate::limits::FILES_MAX;
 use arrayvec::ArrayVec;
 use code::Program;
+use settings::FILES_MAX;
 use std::marker::Model;
 
 /// The programs of a series, one to four, in the order of their files.

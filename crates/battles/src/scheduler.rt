@@ -8,10 +8,10 @@ ghost use Rattle.battles.specs.Battle.{Robot, Stage, step, turns, cycle, is_over
 ghost use Rattle.battles.specs.Carrying.{IsRobotOf, AreRobotsOf, EachFits, HasReached};
 ghost use Rattle.battles.specs.Pairing.{paired};
 
-use crate::limits::CYCLES_MAX;
 use crate::programs::Programs;
 use arena::Arena;
 use code::{Machine, Program, Want};
+use settings::CYCLES_MAX;
 
 /// An update follows each cycle whose number is a multiple of this.
 const UPDATE_CYCLES: u32 = 15;

@@ -1,5 +1,4 @@
 use Rattle.std.proofs.Common.{◌≡◌, length, sym, ◌∙◌}
-use Rattle.grammar.specs.Profile.{first_profile}
 use Rattle.battles.specs.Battle.{opening}
 use Rattle.battles.specs.Carrying.{HasReached}
 use Rattle.battles.specs.Pairing.{paired, robots_of}
@@ -8,10 +7,10 @@ use Rattle.battles.proofs.Stages.{robots_length}
 use Rattle.battles.proofs.battles.battle.Goals as goal
 
 pub returns-clause-battle : goal.returns-clause-battle
-returns-clause-battle c = λ files are.
-    let robots = robots_of first_profile files in
+returns-clause-battle c = λ p files are.
+    let robots = robots_of p files in
     let codes = paired c.args.programs.now in
-    let each = robots_are c.args.programs.now files are in
+    let each = robots_are c.args.programs.now p files are in
     let reached : HasReached c.as_mut_slice.result.now codes c.new-arena.result (opening (length robots) c.args.seed c.args.number) =
     rw c.as_mut_slice.ensures.value (
     opening_reached c.machines-machines.result.items codes c.new-arena.result robots _ c.args.seed c.args.number each
