@@ -61,7 +61,7 @@ pub fn bearings(times: u32) -> u16 {
 
 /// Has a live robot march east or west, and shoot twice to where nobody is.
 fn order(arena: &mut Arena, robot: usize, is_east: bool)
-    requires { length arena.old.robots ≡ MOST_ROBOTS }
+    requires robots { length arena.old.robots ≡ MOST_ROBOTS }
     requires inside { robot < MOST_ROBOTS }
     ensures updates { arena.new.updates ≡ arena.old.updates }
     ensures robots { length arena.new.robots ≡ MOST_ROBOTS }
@@ -82,7 +82,11 @@ fn far_apart() -> Arena
     ensures begun { result.updates ≡ 0 }
     ensures robots { length result.robots ≡ MOST_ROBOTS }
 {
-    Arena::placed(1, 1, &ArrayVec::from([(1000, 500), (8000, 500), (3000, 1500), (6000, 1500)]))
+    Arena::placed(
+        1,
+        1,
+        &ArrayVec::from([(1000, 500), (8000, 500), (3000, 1500), (6000, 1500)]),
+    )
 }
 
 /// Four robots nearly on one line: the first one sees the three others.
@@ -90,5 +94,9 @@ fn in_a_row() -> Arena
     ensures begun { result.updates ≡ 0 }
     ensures robots { length result.robots ≡ MOST_ROBOTS }
 {
-    Arena::placed(1, 1, &ArrayVec::from([(1000, 1000), (5000, 5000), (6000, 6100), (7000, 6900)]))
+    Arena::placed(
+        1,
+        1,
+        &ArrayVec::from([(1000, 1000), (5000, 5000), (6000, 6100), (7000, 6900)]),
+    )
 }
