@@ -1,0 +1,2 @@
+pub mod NumbersLemmas
+pub mod KnownSettings

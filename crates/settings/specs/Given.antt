@@ -1,0 +1,84 @@
+-- The settings that follow from what the command line gave.
+use Rattle.std.specs.Prelude.{ℕ, ◌≤◌, List, Bool, Option, Some, None, Result, Err, length, nat_lt, option_map, ok_or, if◌then◌else◌, ◌==◌}
+use Rattle.grammar.specs.Profile.{Profile, IsProfile, first_profile, second_profile}
+use Rattle.settings.specs.declared.faults.UseFault.{UseFault}
+use Rattle.settings.specs.declared.faults.UseFault.TheVariants.{Number, TooMany, NoMode}
+use Rattle.settings.specs.declared.settings.Mode.{Mode}
+use Rattle.settings.specs.declared.settings.Mode.TheVariants.{Listing, Matches}
+use Rattle.settings.specs.Limits.{matches_max, matches_default, cycles_max, cycles_default, seed_max, seed_default, first_max, first_default, files_max}
+use Rattle.settings.specs.Numbers.{number_of}
+use Rattle.settings.specs.Setup.{Setup}
+
+-- whether `-c` was given, the texts of `-m`, `-l`, `-s`, `-p` and `-f`, and the words that name files
+pub record Given : Type 0 where
+  pub listing : Bool
+  pub matches : Option (List ℕ)
+  pub limit : Option (List ℕ)
+  pub seed : Option (List ℕ)
+  pub profile : Option (List ℕ)
+  pub first : Option (List ℕ)
+  pub files : List (List ℕ)
+
+-- the number of an option, which has a default; there is none if its text is no number within its limits
+abbrev pub value_of : ℕ → ℕ → ℕ → Option (List ℕ) → Option ℕ
+value_of least most default None = Some default
+value_of least most default (Some text) = number_of least most text
+
+-- the profile of a number, 1 or 2
+abbrev pub profile_by : ℕ → Profile
+profile_by n = if n == 1 then first_profile else second_profile
+
+-- `-c` asks for listings, and else `-m` for matches
+abbrev pub mode_of : Given → Option Mode
+mode_of given = if given.listing then Some Listing else option_map (λ _. Matches) given.matches
+
+-- the numbers of a command line
+pub record Numbers : Type 0 where
+  pub matches : ℕ
+  pub limit : ℕ
+  pub seed : ℕ
+  pub profile : Profile
+  pub first : ℕ
+
+-- each is within its limits
+pub record AreWithin (numbers : Numbers) : Type 0 where
+  pub matches : (1 ≤ numbers.matches) × (numbers.matches ≤ matches_max)
+  pub limit : (1 ≤ numbers.limit) × (numbers.limit ≤ cycles_max)
+  pub seed : numbers.seed ≤ seed_max
+  pub profile : IsProfile numbers.profile
+  pub first : (1 ≤ numbers.first) × (numbers.first ≤ first_max)
+
+-- goes on with the number of a value, if there is one
+abbrev pub with_number : {A : Type 0} → Option ℕ → (ℕ → Option A) → Option A
+with_number None next = None
+with_number (Some n) next = next n
+
+-- the numbers that are asked for, if each value is one
+unfoldable pub numbers_of : Given → Option Numbers
+numbers_of given =
+    with_number (value_of 1 matches_max matches_default given.matches) (λ matches.
+    with_number (value_of 1 cycles_max cycles_default given.limit) (λ limit.
+    with_number (value_of 0 seed_max seed_default given.seed) (λ seed.
+    with_number (value_of 1 2 1 given.profile) (λ profile.
+    with_number (value_of 1 first_max first_default given.first) (λ first.
+    Some (record { matches = matches; limit = limit; seed = seed; profile = profile_by profile; first = first }))))))
+
+abbrev pub setup_of : Numbers → Mode → List (List ℕ) → Setup
+setup_of numbers mode files = record {
+  mode = mode;
+  matches = numbers.matches;
+  limit = numbers.limit;
+  seed = numbers.seed;
+  profile = numbers.profile;
+  first = numbers.first;
+  words = files;
+}
+
+-- the settings, with these numbers and this mode, or the first fault: a value, then how many files there are, then the mode
+abbrev pub settled_by : List (List ℕ) → Option Numbers → Option Mode → Result Setup UseFault
+settled_by files None mode = Err Number
+settled_by files (Some numbers) mode = if nat_lt files_max (length files) then Err TooMany else ok_or (option_map (λ m. setup_of numbers m files) mode) NoMode
+
+-- the settings that are asked for, or the first fault
+abbrev pub settled : Given → Result Setup UseFault
+settled given = settled_by given.files (numbers_of given) (mode_of given)

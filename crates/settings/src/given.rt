@@ -1,0 +1,160 @@
+//! What the command line gave, and the settings that follow from it.
+
+ghost use Rattle.std.specs.Prelude.{◌≡◌, ◌<◌, ◌≤◌, length, map, option_map, IfSome};
+ghost use Rattle.settings.specs.Given.{mode_of, numbers_of, profile_by, settled, setup_of, value_of};
+
+use crate::faults::UseFault;
+use crate::limits::{CYCLES_DEFAULT, CYCLES_MAX, FILES_MAX, FIRST_MAX, MATCHES_MAX, SEED_DEFAULT};
+use crate::numbers::number;
+use crate::settings::{Mode, Settings};
+use arrayvec::ArrayVec;
+use grammar::Profile;
+use std::marker::Model;
+
+/// What the command line gave: a flag, the text of each option, and the words that name files.
+#[derive(Drop)]
+pub struct Given<'w, 'a> {
+    /// Whether listings are asked for.
+    pub listing: bool,
+    /// The number of matches.
+    pub matches: Option<&'a str>,
+    /// The most cycles of a match.
+    pub limit: Option<&'a str>,
+    /// The seed of the random numbers.
+    pub seed: Option<&'a str>,
+    /// The number of the language profile.
+    pub profile: Option<&'a str>,
+    /// The number of the first match.
+    pub first: Option<&'a str>,
+    /// The words that name files.
+    pub files: &'w [&'a str],
+}
+
+impl<'w, 'a> Model for Given<'w, 'a> {
+    ghost use Rattle.std.specs.Prelude.{map, option_map};
+    ghost use Rattle.settings.specs.Given.{Given};
+
+    ghost Value = { Given };
+
+    ghost view = { λ g. record {
+      listing = g.listing;
+      matches = option_map (λ text. text.now) g.matches;
+      limit = option_map (λ text. text.now) g.limit;
+      seed = option_map (λ text. text.now) g.seed;
+      profile = option_map (λ text. text.now) g.profile;
+      first = option_map (λ text. text.now) g.first;
+      files = map (λ word. word.now) g.files.now;
+    } };
+}
+
+/// Works out the settings that the command line asks for.
+///
+/// # Errors
+///
+/// The first that applies of `Number` if a value is no number within its limits, `TooMany` for over four files, and
+/// `NoMode` if neither listings nor matches are asked for.
+pub fn settle<'a>(given: Given<'_, 'a>) -> Result<Settings<'a>, UseFault>
+    requires { 0 < length given.files }
+    ensures { result ≡ settled given.entry }
+{
+    let Some(numbers) = read_numbers(&given) else {
+        return Err(UseFault::Number);
+    };
+    let Ok(words) = ArrayVec::try_from(given.files) else {
+        return Err(UseFault::TooMany);
+    };
+    let Some(mode) = mode(&given) else {
+        return Err(UseFault::NoMode);
+    };
+    Ok(numbers.settings(mode, words))
+}
+
+/// The numbers that a command line asks for, each within its limits.
+#[derive(Drop)]
+struct Numbers {
+    matches: u32,
+    limit: u32,
+    seed: u64,
+    profile: Profile,
+    first: u32,
+}
+
+impl Model for Numbers {
+    ghost use Rattle.settings.specs.Given.{Numbers, AreWithin};
+
+    ghost Value = { Numbers };
+
+    ghost view = { λ n. record { matches = n.matches; limit = n.limit; seed = n.seed; profile = n.profile; first = n.first } };
+
+    ghost invariant = { λ n. AreWithin (record { matches = n.matches; limit = n.limit; seed = n.seed; profile = n.profile; first = n.first }) };
+}
+
+impl Numbers {
+    /// The settings of these numbers, this mode and these files.
+    fn settings<'a>(self, mode: Mode, words: ArrayVec<&'a str, FILES_MAX>) -> Settings<'a>
+        requires { 0 < length words.items }
+        ensures { result ≡ setup_of self mode (map (λ word. word.now) words.entry.items) }
+    {
+        Settings::new(
+            mode,
+            self.matches,
+            self.limit,
+            self.seed,
+            self.profile,
+            self.first,
+            words,
+        )
+    }
+}
+
+/// The numbers that are asked for, if each value is one within its limits.
+#[tactic(auto, unfolding(crate::specs::Given::numbers_of))]
+fn read_numbers(given: &Given<'_, '_>) -> Option<Numbers>
+    ensures { result ≡ numbers_of given.now }
+{
+    Some(Numbers {
+        matches: value(given.matches, 1, u64::from(MATCHES_MAX), 1)? as u32,
+        limit: value(
+            given.limit,
+            1,
+            u64::from(CYCLES_MAX),
+            u64::from(CYCLES_DEFAULT),
+        )? as u32,
+        seed: value(given.seed, 0, u64::MAX, SEED_DEFAULT)?,
+        profile: profile_of(value(given.profile, 1, 2, 1)?),
+        first: value(given.first, 1, u64::from(FIRST_MAX), 1)? as u32,
+    })
+}
+
+/// Reads the value of an option, which has a default.
+fn value(given: Option<&str>, least: u64, most: u64, default: u64) -> Option<u64>
+    ensures value { result ≡ value_of least most default (option_map (λ text. text.now) given.entry) }
+    ensures within { least ≤ default → default ≤ most → IfSome result (λ n. (least ≤ n) × (n ≤ most)) }
+{
+    match given {
+        Some(text) => number(text, least, most),
+        None => Some(default),
+    }
+}
+
+/// The profile of a number, 1 or 2.
+fn profile_of(number: u64) -> Profile
+    ensures { result ≡ profile_by number }
+{
+    if number == 1 {
+        Profile::first()
+    } else {
+        Profile::second()
+    }
+}
+
+/// The mode that is asked for, if any.
+fn mode(given: &Given<'_, '_>) -> Option<Mode>
+    ensures { result ≡ mode_of given.now }
+{
+    if given.listing {
+        Some(Mode::Listing)
+    } else {
+        given.matches.map(|_| Mode::Matches)
+    }
+}
