@@ -26,52 +26,52 @@ use Rattle.code.proofs.Expressions.{const_law, fetch_law, binary_law, assign_law
 use Rattle.code.proofs.Calls.{Holds, Follows_sooner, call_law}
 use Rattle.code.proofs.Statements.{done_law, alone_law, when_law, choose_law, while_law, return_law}
 
-module _ (p : Profile) (code : Code) (file : File) (n : ℕ) (again : Again) (holds : Holds p code file) (sooner : Follows_sooner p code file n again) (l : ℕ) where
+module _ (code : Code) (file : File) (n : ℕ) (again : Again) (holds : Holds code file) (sooner : Follows_sooner code file n again) (l : ℕ) where
   abbrev e : ℕ
   e = length file.externals
 
   mutual
-    value_law : (x : Expr) → InExpr e l (length file.functions) x → Evaluates p code e l n (expr_code p x) (λ vars depth frames trace. value p file again x vars depth frames trace)
-    value_law (Constant x) r = const_law p code e l n x
-    value_law (Variable v) r = fetch_law p code e l n v r
+    value_law : (x : Expr) → InExpr e l (length file.functions) x → Evaluates code e l n (expr_code code.profile x) (λ vars depth frames trace. value code.profile file again x vars depth frames trace)
+    value_law (Constant x) r = const_law code e l n x
+    value_law (Variable v) r = fetch_law code e l n v r
     value_law (Binary o a b) r =
-        binary_law p code e l n o (expr_code p a) (expr_code p b) (λ vars depth frames trace. value p file again a vars depth frames trace) (λ vars depth frames trace. value p file again b vars depth frames trace)
+        binary_law code e l n o (expr_code code.profile a) (expr_code code.profile b) (λ vars depth frames trace. value code.profile file again a vars depth frames trace) (λ vars depth frames trace. value code.profile file again b vars depth frames trace)
         (value_law a r.0) (value_law b r.1)
     value_law (Assign o v a) r =
-        assign_law p code e l n o v (expr_code p a) (λ vars depth frames trace. value p file again a vars depth frames trace) r.0 (value_law a r.1)
-    value_law (Postfix o v) r = postfix_law p code e l n o v r
+        assign_law code e l n o v (expr_code code.profile a) (λ vars depth frames trace. value code.profile file again a vars depth frames trace) r.0 (value_law a r.1)
+    value_law (Postfix o v) r = postfix_law code e l n o v r
     value_law (Call f xs) r =
-        call_law p code file l n again holds sooner f r.0 (args_code p xs) (λ vars depth frames trace. values p file again xs vars depth frames trace) (values_law xs r.1)
+        call_law code file l n again holds sooner f r.0 (args_code code.profile xs) (λ vars depth frames trace. values code.profile file again xs vars depth frames trace) (values_law xs r.1)
 
-    values_law : (xs : Args) → InArgs e l (length file.functions) xs → EvaluatesAll p code e l n (args_code p xs) (λ vars depth frames trace. values p file again xs vars depth frames trace)
-    values_law NoMore r = no_more_law p code e l n
+    values_law : (xs : Args) → InArgs e l (length file.functions) xs → EvaluatesAll code e l n (args_code code.profile xs) (λ vars depth frames trace. values code.profile file again xs vars depth frames trace)
+    values_law NoMore r = no_more_law code e l n
     values_law (Argument a xs) r =
-        argument_law p code e l n (expr_code p a) (args_code p xs) (λ vars depth frames trace. value p file again a vars depth frames trace) (λ vars depth frames trace. values p file again xs vars depth frames trace)
+        argument_law code e l n (expr_code code.profile a) (args_code code.profile xs) (λ vars depth frames trace. value code.profile file again a vars depth frames trace) (λ vars depth frames trace. values code.profile file again xs vars depth frames trace)
         (value_law a r.0) (values_law xs r.1)
 
-  effect_law : (b : Body) → InBody e l (length file.functions) b → Effects p code e l n (body_code p b) (λ vars depth frames trace. effect p file again b vars depth frames trace)
-  effect_law Done r = done_law p code e l n
+  effect_law : (b : Body) → InBody e l (length file.functions) b → Effects code e l n (body_code code.profile b) (λ vars depth frames trace. effect code.profile file again b vars depth frames trace)
+  effect_law Done r = done_law code e l n
   effect_law (Alone a next) r =
-      alone_law p code e l n (expr_code p a) (body_code p next) (λ vars depth frames trace. value p file again a vars depth frames trace) (λ vars depth frames trace. effect p file again next vars depth frames trace)
+      alone_law code e l n (expr_code code.profile a) (body_code code.profile next) (λ vars depth frames trace. value code.profile file again a vars depth frames trace) (λ vars depth frames trace. effect code.profile file again next vars depth frames trace)
       (value_law a r.0) (effect_law next r.1)
   effect_law (When c s next) r =
-      when_law p code e l n (expr_code p c) (body_code p s) (body_code p next) (λ vars depth frames trace. value p file again c vars depth frames trace) (λ vars depth frames trace. effect p file again s vars depth frames trace) (λ vars depth frames trace. effect p file again next vars depth frames trace)
+      when_law code e l n (expr_code code.profile c) (body_code code.profile s) (body_code code.profile next) (λ vars depth frames trace. value code.profile file again c vars depth frames trace) (λ vars depth frames trace. effect code.profile file again s vars depth frames trace) (λ vars depth frames trace. effect code.profile file again next vars depth frames trace)
       (value_law c r.0) (effect_law s r.1) (effect_law next r.2)
   effect_law (Choose c s t next) r =
-      choose_law p code e l n (expr_code p c) (body_code p s) (body_code p t) (body_code p next) (λ vars depth frames trace. value p file again c vars depth frames trace) (λ vars depth frames trace. effect p file again s vars depth frames trace) (λ vars depth frames trace. effect p file again t vars depth frames trace) (λ vars depth frames trace. effect p file again next vars depth frames trace)
+      choose_law code e l n (expr_code code.profile c) (body_code code.profile s) (body_code code.profile t) (body_code code.profile next) (λ vars depth frames trace. value code.profile file again c vars depth frames trace) (λ vars depth frames trace. effect code.profile file again s vars depth frames trace) (λ vars depth frames trace. effect code.profile file again t vars depth frames trace) (λ vars depth frames trace. effect code.profile file again next vars depth frames trace)
       (value_law c r.0) (effect_law s r.1) (effect_law t r.2) (effect_law next r.3)
   effect_law (While c s next) r =
-      while_law p code e l n (expr_code p c) (body_code p s) (body_code p next) (λ vars depth frames trace. value p file again c vars depth frames trace) (λ vars depth frames trace. effect p file again s vars depth frames trace) (λ vars depth frames trace. effect p file again next vars depth frames trace) (λ vars depth frames trace. again (While c s next) vars depth frames trace)
+      while_law code e l n (expr_code code.profile c) (body_code code.profile s) (body_code code.profile next) (λ vars depth frames trace. value code.profile file again c vars depth frames trace) (λ vars depth frames trace. effect code.profile file again s vars depth frames trace) (λ vars depth frames trace. effect code.profile file again next vars depth frames trace) (λ vars depth frames trace. again (While c s next) vars depth frames trace)
       (value_law c r.0) (effect_law s r.1) (effect_law next r.2) (sooner l (While c s next) r)
   effect_law (Return a next) r =
-      return_law p code e l n (expr_code p a) (body_code p next) (λ vars depth frames trace. value p file again a vars depth frames trace) (value_law a r.0)
+      return_law code e l n (expr_code code.profile a) (body_code code.profile next) (λ vars depth frames trace. value code.profile file again a vars depth frames trace) (value_law a r.0)
 
 -- At each bound, along as many replies as the bound allows.
-pub bounded : (p : Profile) (code : Code) (file : File) → Holds p code file → (n : ℕ) → Follows_sooner p code file n (effect_within p file n)
-bounded p code file holds zero l b r below f fs at vars depth frames trace base t short s = absurd (omega (arith, short))
-bounded p code file holds (suc n) l b r below f fs at vars depth frames trace base t short s =
+pub bounded : (code : Code) (file : File) → Holds code file → (n : ℕ) → Follows_sooner code file n (effect_within code.profile file n)
+bounded code file holds zero l b r below f fs at vars depth frames trace base t short s = absurd (omega (arith, short))
+bounded code file holds (suc n) l b r below f fs at vars depth frames trace base t short s =
     let e = length file.externals in
-    let again = effect_within p file n in
+    let again = effect_within code.profile file n in
     let tied : Tied e l n below (f ∷ fs) vars [] depth frames trace = record {
       sizes = t.sizes;
       deep = t.deep;
@@ -79,8 +79,8 @@ bounded p code file holds (suc n) l b r below f fs at vars depth frames trace ba
       inside = t.inside;
       short = omega (arith, short);
     } in
-    follows_longer e l n (effect p file again b vars depth frames trace) (wants p code (run at below (f ∷ fs) vars []) trace) (flown p code (at + length (body_code p b at)) below f fs)
-    (effect_law p code file n again holds (bounded p code file holds n) l b r below f fs at vars depth frames trace base tied s)
+    follows_longer e l n (effect code.profile file again b vars depth frames trace) (wants code (run at below (f ∷ fs) vars []) trace) (flown code (at + length (body_code code.profile b at)) below f fs)
+    (effect_law code file n again holds (bounded code file holds n) l b r below f fs at vars depth frames trace base tied s)
 
 -- a list's part behind another part stands there
 stands_behind : (code : Code) (front xs : List Instr) → code.instructions ≡ front ++ xs → StandsAt code (length front) xs
@@ -115,7 +115,7 @@ module _ (p : Profile) (file : File) where
       (λ other. placed_in k order behind both.second (elim here [ inl same ↦ absurd (other same) | inr later ↦ later ]))
       (k == n) refl
 
-  holds : IsResolved file → Holds p (code_of p file) file
+  holds : IsResolved file → Holds (code_of p file) file
   holds r = record {
     placed = λ k defined.
         let whole = stands_behind (code_of p file) [] (functions_code p file file.order 0 ++ Nop ∷ []) refl in
@@ -148,7 +148,7 @@ module _ (p : Profile) (file : File) where
   read_off e l n (Awaits event) w f = f
 
   -- main does not end
-  main_law : (n : ℕ) (o : Outcome Flow) (w : Option Want) (at : ℕ) → StandsAt (code_of p file) at (Const (pos 0) ∷ Retsub ∷ []) → Follows (length file.externals) (length main.variables) n o w (flown p (code_of p file) at [] first_frame []) → w ≡ Some (wanted (and_then o (λ flow vars rest. closed p (length main.variables) 1 flow vars rest (λ x vars rest. Awaits Restart))))
+  main_law : (n : ℕ) (o : Outcome Flow) (w : Option Want) (at : ℕ) → StandsAt (code_of p file) at (Const (pos 0) ∷ Retsub ∷ []) → Follows (length file.externals) (length main.variables) n o w (flown (code_of p file) at [] first_frame []) → w ≡ Some (wanted (and_then o (λ flow vars rest. closed p (length main.variables) 1 flow vars rest (λ x vars rest. Awaits Restart))))
   main_law n o w at s f =
       let code = code_of p file in
       let e = length file.externals in
@@ -157,17 +157,17 @@ module _ (p : Profile) (file : File) where
       let deep : IsDepth l [] [] l = record { is = omega arith } in
       let end = λ (flow : Flow) (vars : Vars) (rest : List ℤ). closed {A = ℤ} p l 1 flow vars rest (λ x vars rest. Awaits Restart) in
       read_off e l n (and_then o end) w
-      (chain e l e l n o w (flown p code at [] first_frame []) end k f
+      (chain e l e l n o w (flown code at [] first_frame []) end k f
       (λ flow vars rest sizes short.
-      elim flow as (λ (flow : Flow). Follows e l n (end flow vars rest) (flown p code at [] first_frame [] flow vars rest) k) [
+      elim flow as (λ (flow : Flow). Follows e l n (end flow vars rest) (flown code at [] first_frame [] flow vars rest) k) [
         | Through ↦
-            on_const p code e l n [] (first_frame ∷ []) at k l vars [] l (pos 0) rest (λ rest. tick (nat_lt 1 1) Quiet rest (λ reply rest. Awaits Restart)) s.0 sizes deep
-            (λ r1 h1. on_retsub_of_main p code e l n [] [] (at + 1) k first_frame vars [] 1 (pos 0) r1 (λ rest. Awaits Restart) s.1.0 refl refl)
+            on_const code e l n [] (first_frame ∷ []) at k l vars [] l (pos 0) rest (λ rest. tick (nat_lt 1 1) Quiet rest (λ reply rest. Awaits Restart)) s.0 sizes deep
+            (λ r1 h1. on_retsub_of_main code e l n [] [] (at + 1) k first_frame vars [] 1 (pos 0) r1 (λ rest. Awaits Restart) s.1.0 refl refl)
         | Returns x ↦ refl
       ]))
 
 -- Along all replies a resolved file's instructions find what they take, and want what its trees want.
-pub shown_is_want : (p : Profile) (file : File) → IsResolved file → (trace : List ℤ) → wants p (code_of p file) (start_state (code_of p file)) trace ≡ Some (want p file trace)
+pub shown_is_want : (p : Profile) (file : File) → IsResolved file → (trace : List ℤ) → wants (code_of p file) (start_state (code_of p file)) trace ≡ Some (want p file trace)
 shown_is_want p file r trace =
     let code = code_of p file in
     let f = main p file in
@@ -185,23 +185,23 @@ shown_is_want p file r trace =
       inside = omega arith;
       short = omega arith;
     } in
-    ap (λ (s : State). wants p code s trace) (start_is p file)
-    ∙ main_law p file n (effect_within p file n f.body vars l 1 trace) (wants p code (run start [] (first_frame ∷ []) vars []) trace) (start + length (body_code p f.body start)) both.second
-    (bounded p code file known n l f.body (known.resolved file.main r.main).body [] first_frame [] start vars l 1 trace refl tied (omega arith) both.first)
+    ap (λ (s : State). wants code s trace) (start_is p file)
+    ∙ main_law p file n (effect_within p file n f.body vars l 1 trace) (wants code (run start [] (first_frame ∷ []) vars []) trace) (start + length (body_code p f.body start)) both.second
+    (bounded code file known n l f.body (known.resolved file.main r.main).body [] first_frame [] start vars l 1 trace refl tied (omega arith) both.first)
 
 shown_if : (b : Bool) (v w : Want) → (if b then Some v else None) ≡ Some w → (v ≡ w) × (b ≡ true)
 shown_if true v w e = (cc, refl)
 shown_if false v w e = (cc, cc)
 
 -- what is shown is wanted, and the instruction is ready
-shown_ready : (p : Profile) (code : Code) (s : State) (w : Want) → shown p code s ≡ Some w → (want_next p code s ≡ w) × (is_ready code s (instr_at code s.at) ≡ true)
-shown_ready p code s w e = shown_if (is_ready code s (instr_at code s.at)) (want_next p code s) w e
+shown_ready : (code : Code) (s : State) (w : Want) → shown code s ≡ Some w → (want_next code s ≡ w) × (is_ready code s (instr_at code s.at) ≡ true)
+shown_ready code s w e = shown_if (is_ready code s (instr_at code s.at)) (want_next code s) w e
 
-pub want_code_is_want : (p : Profile) (file : File) → IsResolved file → (trace : List ℤ) → want_code p (code_of p file) trace ≡ want p file trace
+pub want_code_is_want : (p : Profile) (file : File) → IsResolved file → (trace : List ℤ) → want_code (code_of p file) trace ≡ want p file trace
 unfolding wants
-want_code_is_want p file r trace = (shown_ready p (code_of p file) (reached p (code_of p file) (start_state (code_of p file)) trace) (want p file trace) (shown_is_want p file r trace)).0
+want_code_is_want p file r trace = (shown_ready (code_of p file) (reached (code_of p file) (start_state (code_of p file)) trace) (want p file trace) (shown_is_want p file r trace)).0
 
 -- no instruction lacks what it takes
-pub never_stuck : (p : Profile) (file : File) → IsResolved file → (trace : List ℤ) → let s = reached p (code_of p file) (start_state (code_of p file)) trace in is_ready (code_of p file) s (instr_at (code_of p file) s.at) ≡ true
+pub never_stuck : (p : Profile) (file : File) → IsResolved file → (trace : List ℤ) → let s = reached (code_of p file) (start_state (code_of p file)) trace in is_ready (code_of p file) s (instr_at (code_of p file) s.at) ≡ true
 unfolding wants
-never_stuck p file r trace = (shown_ready p (code_of p file) (reached p (code_of p file) (start_state (code_of p file)) trace) (want p file trace) (shown_is_want p file r trace)).1
+never_stuck p file r trace = (shown_ready (code_of p file) (reached (code_of p file) (start_state (code_of p file)) trace) (want p file trace) (shown_is_want p file r trace)).1

@@ -8,11 +8,13 @@ pub mod Statements
 pub mod Correct
 pub mod Making
 pub mod Addresses
+pub mod Steps
 pub mod Open
 pub mod Told
 pub mod Finished
 pub mod TestFiles
 pub mod Mains
+pub mod Bounds
 pub mod Programs
 pub mod Frames
 pub mod Variables

@@ -1,7 +1,6 @@
 -- Where pieces of code stand, and what it is for one to evaluate an expression or to have the effect of statements.
 use Rattle.std.specs.Prelude.{ℕ, ℤ, pos, suc, ◌+◌, ◌≡◌, ◌<◌, ◌≤◌, List, [], ◌∷◌, ◌++◌, Option, Some, length}
 use Rattle.std.proofs.Common.{ap, subst, arith, length-append}
-use Rattle.grammar.specs.Profile.{Profile}
 use Rattle.code.specs.declared.instr.Instr.{Instr}
 use Rattle.code.specs.declared.instr.Instr.TheVariants.{Const, Branch}
 use Rattle.code.specs.declared.want.Want.{Want}
@@ -74,45 +73,45 @@ pub record Tied (e l n : ℕ) (below : List ℤ) (fs : List Frame) (vars : Vars)
 abbrev pub Evaluation : Type 0 → Type 0
 Evaluation A = Vars → ℕ → ℕ → List ℤ → Outcome A
 
-module _ (p : Profile) (code : Code) where
+module _ (code : Code) where
   -- the run of a function goes on behind a piece, with its values pushed
   abbrev pub gone_on : ℕ → List ℤ → List Frame → List ℤ → ℤ → Vars → List ℤ → Option Want
-  gone_on at below fs temps x vars rest = wants p code (run at below fs vars (temps ++ x ∷ [])) rest
+  gone_on at below fs temps x vars rest = wants code (run at below fs vars (temps ++ x ∷ [])) rest
 
   abbrev pub gone_on_with : ℕ → List ℤ → List Frame → List ℤ → List ℤ → Vars → List ℤ → Option Want
-  gone_on_with at below fs temps xs vars rest = wants p code (run at below fs vars (temps ++ xs)) rest
+  gone_on_with at below fs temps xs vars rest = wants code (run at below fs vars (temps ++ xs)) rest
 
   -- behind statements: the run goes on, or the function has returned, which main never does
   abbrev pub flown : ℕ → List ℤ → Frame → List Frame → Flow → Vars → List ℤ → Option Want
-  flown at below f fs Through vars rest = wants p code (run at below (f ∷ fs) vars []) rest
+  flown at below f fs Through vars rest = wants code (run at below (f ∷ fs) vars []) rest
   flown at below f [] (Returns x) vars rest = Some Restart
-  flown at below f (g ∷ fs) (Returns x) vars rest = wants p code (back_with f below (g ∷ fs) vars.externals x) rest
+  flown at below f (g ∷ fs) (Returns x) vars rest = wants code (back_with f below (g ∷ fs) vars.externals x) rest
 
-module _ (p : Profile) (code : Code) (e l n : ℕ) where
+module _ (code : Code) (e l n : ℕ) where
   -- wherever it stands, the piece follows the evaluation and pushes its value
   abbrev pub Evaluates : Piece → Evaluation ℤ → Type 0
   Evaluates piece ev =
       (below : List ℤ) (fs : List Frame) (at : ℕ) (vars : Vars) (temps : List ℤ) (depth frames : ℕ) (trace : List ℤ) →
       Tied e l n below fs vars temps depth frames trace → StandsAt code at (piece at) →
-      Follows e l n (ev vars depth frames trace) (wants p code (run at below fs vars temps) trace) (gone_on p code (at + length (piece at)) below fs temps)
+      Follows e l n (ev vars depth frames trace) (wants code (run at below fs vars temps) trace) (gone_on code (at + length (piece at)) below fs temps)
 
   abbrev pub EvaluatesAll : Piece → Evaluation (List ℤ) → Type 0
   EvaluatesAll piece ev =
       (below : List ℤ) (fs : List Frame) (at : ℕ) (vars : Vars) (temps : List ℤ) (depth frames : ℕ) (trace : List ℤ) →
       Tied e l n below fs vars temps depth frames trace → StandsAt code at (piece at) →
-      Follows e l n (ev vars depth frames trace) (wants p code (run at below fs vars temps) trace) (gone_on_with p code (at + length (piece at)) below fs temps)
+      Follows e l n (ev vars depth frames trace) (wants code (run at below fs vars temps) trace) (gone_on_with code (at + length (piece at)) below fs temps)
 
   -- the same of statements, which leave the stack as it was
   abbrev pub Effects : Piece → Evaluation Flow → Type 0
   Effects piece ev =
       (below : List ℤ) (f : Frame) (fs : List Frame) (at : ℕ) (vars : Vars) (depth frames : ℕ) (trace : List ℤ) →
       f.base ≡ length below → Tied e l n below (f ∷ fs) vars [] depth frames trace → StandsAt code at (piece at) →
-      Follows e l n (ev vars depth frames trace) (wants p code (run at below (f ∷ fs) vars []) trace) (flown p code (at + length (piece at)) below f fs)
+      Follows e l n (ev vars depth frames trace) (wants code (run at below (f ∷ fs) vars []) trace) (flown code (at + length (piece at)) below f fs)
 
   -- an evaluation is done where the run arrives
-  pub arrives : (below : List ℤ) (fs : List Frame) (from to : ℕ) (vars : Vars) (temps : List ℤ) (rest : List ℤ) → HasSizes e l vars → length rest ≤ n → from ≡ to → Arrives e l n vars rest (wants p code (run from below fs vars temps) rest) (wants p code (run to below fs vars temps) rest)
+  pub arrives : (below : List ℤ) (fs : List Frame) (from to : ℕ) (vars : Vars) (temps : List ℤ) (rest : List ℤ) → HasSizes e l vars → length rest ≤ n → from ≡ to → Arrives e l n vars rest (wants code (run from below fs vars temps) rest) (wants code (run to below fs vars temps) rest)
   arrives below fs from to vars temps rest sizes short same = record {
     sizes = sizes;
     short = short;
-    same = ap (λ (at : ℕ). wants p code (run at below fs vars temps) rest) same;
+    same = ap (λ (at : ℕ). wants code (run at below fs vars temps) rest) same;
   }

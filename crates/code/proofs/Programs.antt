@@ -5,7 +5,6 @@ use Rattle.std.proofs.Common.{sym, ap, ◌∙◌, arith}
 use Rattle.std.proofs.lemmas.List.{length-map}
 use Rattle.std.proofs.lemmas.List.FromFn.{length-range_with_len}
 use Rattle.grammar.specs.Pools.{FunctionNames, names_of_function}
-use Rattle.grammar.specs.Profile.{first_profile}
 use Rattle.code.specs.Finishing.{IsOfSomeFile}
 use Rattle.code.specs.Generation.{Code, place_of}
 use Rattle.code.specs.Machine.{no_names}
@@ -14,7 +13,7 @@ pub addresses_of_file : (code : Code) → IsOfSomeFile code → length code.addr
 addresses_of_file code of =
     let n = length of.file.functions in
     ap (λ (c : Code). length c.addresses) of.is
-    ∙ length-map (range_with_len 0 n) (λ k. place_of first_profile of.file k of.file.order 0)
+    ∙ length-map (range_with_len 0 n) (λ k. place_of code.profile of.file k of.file.order 0)
     ∙ length-range_with_len 0 n
     ∙ sym (length-map of.file.functions names_of_function)
     ∙ sym (ap (λ (c : Code). length c.names.functions) of.is)

@@ -3,7 +3,7 @@ use Rattle.std.specs.Prelude.{◌≡◌, Some, map}
 use Rattle.grammar.specs.Actions.{actions}
 use Rattle.grammar.specs.Compiled.{main_name}
 use Rattle.grammar.specs.Pools.{Names, FunctionNames, names_of}
-use Rattle.grammar.specs.Profile.{first_profile}
+use Rattle.grammar.specs.Profile.{Profile}
 use Rattle.grammar.specs.Resolved.{IsResolved}
 use Rattle.grammar.specs.Scope.{number_of_name}
 use Rattle.grammar.specs.Tree.{File}
@@ -12,18 +12,19 @@ use Rattle.code.specs.Making.{Made}
 use Rattle.code.specs.Told.{Stands}
 
 -- the maker was told the actions of a resolved file, the names are that file's, and its main is the function of that name
-pub record IsTold (maker : Made) (names : Names) (file : File) : Type 0 where
+pub record IsTold (maker : Made) (p : Profile) (names : Names) (file : File) : Type 0 where
   pub resolved : IsResolved file
-  pub stands : Stands maker first_profile (actions file)
+  pub stands : Stands maker p (actions file)
   pub named : names ≡ names_of file
   pub main : number_of_name main_name (map (λ (f : FunctionNames). f.name) names.functions) ≡ Some file.main
 
 pub record IsToldSomeFile (maker : Made) (names : Names) : Type 0 where
+  pub profile : Profile
   pub file : File
-  pub told : IsTold maker names file
+  pub told : IsTold maker profile names file
 
 -- the code is that of a resolved file
 pub record IsOfSomeFile (code : Code) : Type 0 where
   pub file : File
   pub resolved : IsResolved file
-  pub is : IsProgramOf code first_profile file
+  pub is : IsProgramOf code code.profile file

@@ -7,6 +7,8 @@ pub mod Making
 pub mod Told
 pub mod Finishing
 pub mod Standing
+pub mod Codes
+pub mod Laws
 pub mod Spelling
 pub mod Listing
 pub mod KnownPrograms

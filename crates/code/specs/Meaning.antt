@@ -1,6 +1,7 @@
 -- What a program's trees want along the replies that it got. No instruction, address or stack is meant here:
 -- there are only the trees, the variables, how deep the stack is, how many frames are open, and the replies.
-use Rattle.std.specs.Prelude.{ℕ, ℤ, pos, zero, suc, ◌+◌, ◌-◌, List, [], ◌∷◌, ◌++◌, Bool, true, false, length, take, replicate, get_or, slice_set, nat_lt, nat_le, if◌then◌else◌}
+use Rattle.std.specs.Prelude.{ℕ, ℤ, pos, zero, suc, ◌+◌, List, [], ◌∷◌, Bool, true, false, length, map, replicate, get_or, slice_set, nat_lt, nat_le, if◌then◌else◌}
+use Rattle.std.specs.List.{range_with_len}
 use Rattle.arith.specs.Op.{holds, truth}
 use Rattle.grammar.specs.declared.names.Callee.{Callee}
 use Rattle.grammar.specs.declared.names.Callee.TheVariants as callee
@@ -53,10 +54,10 @@ pub data Flow : Type 0 where
 abbrev pub Again : Type 0
 Again = Body → Vars → ℕ → ℕ → List ℤ → Outcome Flow
 
--- the variables that a function begins with: its parameters, and zeros
+-- the variables that a function begins with: a parameter is the argument in its place, and all else is 0
 abbrev pub first_locals : Function → List ℤ → List ℤ
 first_locals f arguments =
-    let given = take f.parameters arguments in given ++ replicate (length f.variables - length given) (pos 0)
+    map (λ j. if nat_lt j f.parameters then get_or arguments j (pos 0) else pos 0) (range_with_len 0 (length f.variables))
 
 -- a word is pushed
 abbrev pub push : {A : Type 0} → Profile → ℕ → List ℤ → (List ℤ → Outcome A) → Outcome A

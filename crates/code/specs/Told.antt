@@ -1,10 +1,7 @@
 -- Which actions a maker was told.
-use Rattle.std.specs.Prelude.{◌+◌, ◌≡◌, ◌<◌, ◌≤◌, List, [], ◌∷◌, Bool, true, false, length, Option, Some, None}
-use Rattle.grammar.specs.Actions.{Action, Push, Get, Put, Apply, BeginCall, EndCall, GiveBack, Chop, Finish, code_length}
-use Rattle.grammar.specs.Profile.{Profile, first_profile}
-use Rattle.code.specs.declared.instr.Instr.{Instr}
-use Rattle.code.specs.declared.instr.Instr.TheVariants.{Fetch, Store, Const, Binop, Fcall, Retsub}
-use Rattle.code.specs.declared.instr.Instr.TheVariants as instr
+use Rattle.std.specs.Prelude.{ℕ, ◌+◌, ◌≡◌, ◌<◌, ◌≤◌, List, [], ◌∷◌, Bool, true, false, length}
+use Rattle.grammar.specs.Actions.{Action, Finish, code_length}
+use Rattle.grammar.specs.Profile.{Profile}
 use Rattle.code.specs.Making.{Made, made}
 
 -- the action ends a function
@@ -20,25 +17,21 @@ is_ended (a ∷ b ∷ acts) = is_ended (b ∷ acts)
 
 -- the code and the last NOP are within the profile's limit
 abbrev pub Fits : Profile → List Action → Type 0
-Fits p acts = code_length acts + 1 ≤ p.instructions
+Fits p acts = code_length p acts + 1 ≤ p.instructions
 
--- the actions that make this instruction and nothing else
-abbrev pub instr_of : Action → Option Instr
-instr_of (Push value) = Some (Const value)
-instr_of (Get v) = Some (Fetch v)
-instr_of (Put v op) = Some (Store v op)
-instr_of (Apply op) = Some (Binop op)
-instr_of BeginCall = Some instr.Frame
-instr_of (EndCall callee) = Some (Fcall callee)
-instr_of GiveBack = Some Retsub
-instr_of Chop = Some instr.Chop
-instr_of _ = None
+-- A maker becomes this one if so many further instructions and the last NOP have room. Else its code is full, or was.
+-- As many addresses are open in any case.
+pub record Adds (old new target : Made) (count : ℕ) : Type 0 where
+  pub room : length old.code + count < old.profile.instructions → new ≡ target
+  pub full : old.profile.instructions ≤ length old.code + count → old.profile.instructions ≤ length new.code
+  pub opened : length new.opened ≡ length target.opened
+  pub profile : new.profile ≡ old.profile
 
--- A maker stands for these actions: while they fit, it holds what they make; then its code is full.
+-- A maker represents these actions by its profile: while they fit, it holds what they make; then its code is full.
 -- As many addresses are open as the actions leave open. At a function's end the actions fit.
 pub record Stands (maker : Made) (p : Profile) (acts : List Action) : Type 0 where
-  pub profile : p ≡ first_profile
-  pub holds : Fits p acts → maker ≡ made acts
-  pub full : p.instructions < code_length acts + 1 → length maker.code ≡ p.instructions
-  pub opened : length maker.opened ≡ length (made acts).opened
+  pub profile : p ≡ maker.profile
+  pub holds : Fits p acts → maker ≡ made p acts
+  pub full : p.instructions < code_length p acts + 1 → p.instructions ≤ length maker.code
+  pub opened : length maker.opened ≡ length (made p acts).opened
   pub ended : is_ended acts ≡ true → Fits p acts

@@ -4,6 +4,7 @@
 mod frame;
 mod instr;
 mod known;
+mod laws;
 mod limits;
 mod listing;
 mod machine;
@@ -17,8 +18,10 @@ mod values;
 mod want;
 
 pub use frame::Frame;
+pub use grammar::{Intrinsic, Profile};
 pub use instr::Instr;
 pub use known::known_programs;
+pub use laws::length_of_code;
 pub use limits::{LINE_BYTES, MOST_FRAMES, MOST_INSTRUCTIONS, MOST_WORDS};
 pub use machine::Machine;
 pub use maker::Maker;

@@ -1,20 +1,22 @@
 //! The program of a file: its code and its names.
 
 ghost use Rattle.std.specs.Prelude.{◌≡◌, ◌<◌, ◌≤◌, length};
+ghost use Rattle.grammar.specs.Profile.{IsProfile};
 ghost use Rattle.code.specs.Finishing.{IsOfSomeFile};
 ghost use Rattle.code.specs.Listing.{functions_lines};
 ghost use Rattle.code.specs.Machine.{names_at, address_at};
 
 use crate::instr::Instr;
-use crate::limits::MOST_INSTRUCTIONS;
+use crate::limits::{MOST_FRAMES, MOST_INSTRUCTIONS, MOST_WORDS};
 use crate::listing::function_line_count;
 use arrayvec::ArrayVec;
-use grammar::{Function, MOST_NAMES, Pools};
+use grammar::{Function, MOST_NAMES, Pools, Profile};
 use std::marker::Model;
 
 /// The program of a file.
 #[derive(Drop)]
 pub struct Program {
+    profile: Profile,
     code: ArrayVec<Instr, MOST_INSTRUCTIONS>,
     addresses: ArrayVec<u16, MOST_NAMES>,
     names: Pools,
@@ -28,28 +30,32 @@ impl Model for Program {
     ghost use Rattle.code.specs.Generation.{Code};
     ghost use Rattle.code.specs.Listing.{functions_lines};
     ghost use Rattle.code.specs.Finishing.{IsOfSomeFile};
+    ghost use Rattle.grammar.specs.Profile.{IsProfile};
 
     ghost Value = { Code };
 
-    ghost view = { λ p. record { instructions = p.code.items; addresses = p.addresses.items; names = p.names; main = p.main } };
+    ghost view = { λ p. record { profile = p.profile; instructions = p.code.items; addresses = p.addresses.items; names = p.names; main = p.main } };
 
-    ghost invariant = { λ p. IsOfSomeFile (record { instructions = p.code.items; addresses = p.addresses.items; names = p.names; main = p.main })
+    ghost invariant = { λ p. IsProfile p.profile × IsOfSomeFile (record { profile = p.profile; instructions = p.code.items; addresses = p.addresses.items; names = p.names; main = p.main })
         × (p.function_lines ≡ length (functions_lines p.addresses.items 0 p.names.functions)) };
 }
 
 impl Program {
-    // The program with this code, these addresses of its functions and these names.
+    // The program by this profile with this code, these addresses of its functions and these names.
     pub(crate) fn new(
+        profile: Profile,
         code: ArrayVec<Instr, MOST_INSTRUCTIONS>,
         addresses: ArrayVec<u16, MOST_NAMES>,
         names: Pools,
         main: u8,
     ) -> Program
-        requires { IsOfSomeFile (record { instructions = code.items; addresses = addresses.items; names = names; main = main }) }
-        ensures { result ≡ record { instructions = code.items; addresses = addresses.items; names = names; main = main } }
+        requires known { IsProfile profile }
+        requires file { IsOfSomeFile (record { profile = profile; instructions = code.items; addresses = addresses.items; names = names; main = main }) }
+        ensures { result ≡ record { profile = profile; instructions = code.items; addresses = addresses.items; names = names; main = main } }
     {
         let function_lines = function_line_count(names.functions()) as u16;
         Program {
+            profile,
             code,
             addresses,
             names,
@@ -58,12 +64,40 @@ impl Program {
         }
     }
 
+    /// The profile by which the program was made.
+    #[inline(always)]
+    pub fn profile(&self) -> Profile
+        ensures profile { result ≡ self.now.profile }
+        ensures known { IsProfile result }
+    {
+        self.profile
+    }
+
+    // The words of a machine's stack.
+    #[inline(always)]
+    pub(crate) fn words(&self) -> usize
+        ensures words { result ≡ self.now.profile.words }
+        ensures most { result ≤ MOST_WORDS }
+    {
+        self.profile.words() as usize
+    }
+
+    // The most frames that are open at once.
+    #[inline(always)]
+    pub(crate) fn frames(&self) -> usize
+        ensures frames { result ≡ self.now.profile.frames }
+        ensures most { result ≤ MOST_FRAMES }
+    {
+        self.profile.frames() as usize
+    }
+
     /// The instructions: the address of each is its place.
     #[inline(always)]
     pub fn instructions(&self) -> &[Instr]
         ensures code { result.now ≡ self.now.instructions }
         ensures most { length result.now ≤ MOST_INSTRUCTIONS }
         ensures file { IsOfSomeFile self.now }
+        ensures known { IsProfile self.now.profile }
     {
         self.code.as_slice()
     }

@@ -3,7 +3,7 @@
 ghost use Rattle.std.specs.Prelude.{◌≡◌, ◌≤◌, [], ◌∷◌, codes, length};
 
 use super::*;
-use grammar::{Build, BuildFault, Callee, Function, Intrinsic, Name, Pools};
+use grammar::{Build, BuildFault, Callee, Function, Intrinsic, Name, Pools, Profile};
 
 // A name of these bytes.
 fn name_of(bytes: &[u8]) -> Name
@@ -28,7 +28,7 @@ fn main_alone() -> Pools
 
 // `main(){damage();}`
 fn asking_main() -> Result<Program, BuildFault> {
-    let mut maker = Maker::new();
+    let mut maker = Maker::new(Profile::first());
     maker.begin_function(0, 0)?;
     maker.begin_call()?;
     maker.end_call(Callee::Intrinsic(Intrinsic::Damage))?;
@@ -41,7 +41,7 @@ fn asking_main() -> Result<Program, BuildFault> {
 
 // `main(){while(1) if(0) 2; else 3;}`
 fn turning_main() -> Result<Program, BuildFault> {
-    let mut maker = Maker::new();
+    let mut maker = Maker::new(Profile::first());
     maker.begin_function(0, 0)?;
     maker.begin_while()?;
     maker.constant(1)?;
@@ -150,7 +150,7 @@ fn asks_in_its_cycle(rt: HostRuntime) {
 
 // A main function with this many statements `1;`.
 fn ends(statements: u32) -> Result<(), BuildFault> {
-    let mut maker = Maker::new();
+    let mut maker = Maker::new(Profile::first());
     maker.begin_function(0, 0)?;
     for _ in 0..statements {
         maker.constant(1)?;

@@ -3,8 +3,10 @@ use Rattle.std.specs.Prelude.{ℕ, ℤ, pos, ◌+◌, List, [], ◌∷◌, ◌++
 use Rattle.grammar.specs.declared.names.Callee.{Callee}
 use Rattle.grammar.specs.declared.names.Var.{Var}
 use Rattle.grammar.specs.declared.operators.Op.{Op}
+use Rattle.grammar.specs.declared.operators.Op.TheVariants as op
 use Rattle.grammar.specs.declared.operators.StoreOp.{StoreOp}
 use Rattle.grammar.specs.Operators.{is_logic}
+use Rattle.grammar.specs.Profile.{Profile}
 use Rattle.grammar.specs.Tree.{Expr, Constant, Variable, Binary, Assign, Postfix, Call, Args, NoMore, Argument, Body, Done, Alone, When, Choose, While, Return, Function, File}
 
 pub data Action : Type 0 where
@@ -26,30 +28,41 @@ pub data Action : Type 0 where
   Begin : (number parameters : ℕ) → Action  -- a function begins
   Finish : (variables : ℕ) → Action  -- it ends
 
+-- where the right side of && and || is left out: how many instructions are made between the sides
+abbrev pub middle_length : Op → ℕ
+middle_length op.And = 1
+middle_length op.Or = 4
+middle_length o = 0
+
+-- and behind both sides
+abbrev pub end_length : Op → ℕ
+end_length op.And = 4
+end_length o = 1
+
 -- how many instructions an action makes
-abbrev pub instructions : Action → ℕ
-instructions (Push value) = 1
-instructions (Get v) = 1
-instructions (Put v op) = 1
-instructions (Apply op) = 1
-instructions (Middle op) = 0
-instructions BeginCall = 1
-instructions (EndCall callee) = 1
-instructions IfTest = 1
-instructions ElsePart = 2
-instructions EndIf = 0
-instructions BeginWhile = 0
-instructions WhileTest = 1
-instructions EndWhile = 2
-instructions GiveBack = 1
-instructions Chop = 1
-instructions (Begin number parameters) = 0
-instructions (Finish variables) = 0
+abbrev pub instructions : Profile → Action → ℕ
+instructions p (Push value) = 1
+instructions p (Get v) = 1
+instructions p (Put v o) = 1
+instructions p (Apply o) = if p.short_circuit then end_length o else 1
+instructions p (Middle o) = if p.short_circuit then middle_length o else 0
+instructions p BeginCall = 1
+instructions p (EndCall callee) = 1
+instructions p IfTest = 1
+instructions p ElsePart = 2
+instructions p EndIf = 0
+instructions p BeginWhile = 0
+instructions p WhileTest = 1
+instructions p EndWhile = 2
+instructions p GiveBack = 1
+instructions p Chop = 1
+instructions p (Begin number parameters) = 0
+instructions p (Finish variables) = 0
 
 -- how many instructions these actions make
-abbrev pub code_length : List Action → ℕ
-code_length [] = 0
-code_length (a ∷ acts) = instructions a + code_length acts
+abbrev pub code_length : Profile → List Action → ℕ
+code_length p [] = 0
+code_length p (a ∷ acts) = instructions p a + code_length p acts
 
 abbrev pub middle : Op → List Action
 middle op = if is_logic op then Middle op ∷ [] else []

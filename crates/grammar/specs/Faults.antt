@@ -116,7 +116,7 @@ definitions_actions (d ∷ ds) = function_actions d.number d.function ++ definit
 
 -- the code of these functions and the last NOP pass the profile's instructions
 abbrev pub is_too_long : Profile → List Definition → Bool
-is_too_long profile functions = nat_lt profile.instructions (code_length (definitions_actions functions) + 1)
+is_too_long profile functions = nat_lt profile.instructions (code_length profile (definitions_actions functions) + 1)
 
 -- the code with the function that is about to be defined passes the limit, at its closing brace
 abbrev pub length_faults : Profile → Scope → List Definition → List Value → List Lexeme → List Fault

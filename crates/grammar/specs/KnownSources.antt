@@ -127,7 +127,7 @@ constant n = Constant (pos n)
 -- the source is this file, with so many instructions
 pub record IsFile (source : List Lexeme) (file : File) (instructions : ℕ) : Type 0 where
   pub compiled : compiled_tokens first_profile source ≡ Ok file
-  pub code : code_length (actions file) + 1 ≡ instructions
+  pub code : code_length first_profile (actions file) + 1 ≡ instructions
 
 -- it has this fault at the token of this line
 abbrev pub HasFault : List Lexeme → ℕ → Code → Type 0
@@ -293,7 +293,7 @@ ones (suc n) = number 1 ∷ end ∷ ones n
 
 -- the source is a file with so many instructions
 abbrev pub length_of : Result File Diagnostic → Option ℕ
-length_of (Ok file) = Some (code_length (actions file) + 1)
+length_of (Ok file) = Some (code_length first_profile (actions file) + 1)
 length_of (Err d) = None
 
 abbrev pub HasLength : List Lexeme → ℕ → Type 0

@@ -47,20 +47,20 @@ braced before after at now there h b = joined 0 0 definition_items (Part Functio
 
 -- How long the code is.
 
-pub code_length-append : (a b : List Action) → code_length (a ++ b) ≡ code_length a + code_length b
-code_length-append [] b = omega arith
-code_length-append (x ∷ a) b = omega (arith, code_length-append a b)
+pub code_length-append : (p : Profile) (a b : List Action) → code_length p (a ++ b) ≡ code_length p a + code_length p b
+code_length-append p [] b = omega arith
+code_length-append p (x ∷ a) b = omega (arith, code_length-append p a b)
 
 -- the code of functions and one more is what was told up to its return
-code_with : (functions : List Definition) (scope : Scope) (body : Body) (parameters number : ℕ) →
-    code_length (definitions_actions (functions ++ definition_of scope body ∷ [])) ≡ code_length (((definitions_actions functions ++ Begin number parameters ∷ []) ++ body_actions body) ++ last_return)
-code_with functions scope body parameters number =
+code_with : (p : Profile) (functions : List Definition) (scope : Scope) (body : Body) (parameters number : ℕ) →
+    code_length p (definitions_actions (functions ++ definition_of scope body ∷ [])) ≡ code_length p (((definitions_actions functions ++ Begin number parameters ∷ []) ++ body_actions body) ++ last_return)
+code_with p functions scope body parameters number =
     let d : Definition = definition_of scope body in
     let finish : List Action = last_return ++ Finish (length scope.current.variables) ∷ [] in
     let told : List Action = definitions_actions functions ++ Begin number parameters ∷ [] in
-    ap code_length (definitions_actions-append functions (d ∷ []))
-    ∙ code_length-append (definitions_actions functions) (function_actions d.number d.function ++ [])
-    ∙ omega (arith, code_length-append (function_actions d.number d.function) [], code_length-append (body_actions body) finish, code_length-append (told ++ body_actions body) last_return, code_length-append told (body_actions body), code_length-append (definitions_actions functions) (Begin number parameters ∷ []))
+    ap (code_length p) (definitions_actions-append functions (d ∷ []))
+    ∙ code_length-append p (definitions_actions functions) (function_actions d.number d.function ++ [])
+    ∙ omega (arith, code_length-append p (function_actions d.number d.function) [], code_length-append p (body_actions body) finish, code_length-append p (told ++ body_actions body) last_return, code_length-append p told (body_actions body), code_length-append p (definitions_actions functions) (Begin number parameters ∷ []))
 
 within_limit : (profile : Profile) (n m : ℕ) → n ≡ m → m + 1 ≤ profile.instructions → nat_lt profile.instructions (n + 1) ≡ false
 within_limit profile n m e h = grind (arith, nat_tests)
@@ -91,7 +91,7 @@ function_told number parameters variables scope body s = rw (append-nil, s.numbe
 short_enough : (profile : Profile) (second third fourth : Meaning) (functions : List Definition) (scope : Scope) (body : Body) (number parameters variables : ℕ) → AppendsAll second third (body_actions body) → ClosesFunction third fourth variables →
     second profile (definitions_actions functions ++ Begin number parameters ∷ []) → is_too_long profile (functions ++ definition_of scope body ∷ []) ≡ false
 short_enough profile second third fourth functions scope body number parameters variables b c h =
-    within_limit profile _ _ (code_with functions scope body parameters number) (c.fits profile _ (b profile _ h))
+    within_limit profile _ _ (code_with profile functions scope body parameters number) (c.fits profile _ (b profile _ h))
 
 define_step : (profile : Profile) (lexemes : List Lexeme) (known learnt : Scope) (functions : List Definition) (body : Body) (stack : List Item) (next : Lexeme) (tail : List Lexeme) → lexemes ≡ next ∷ tail → is_fault next.token ≡ false → learnt ≡ end_definition known →
     is_too_long profile (functions ++ definition_of known body ∷ []) ≡ false →
@@ -169,7 +169,7 @@ too_much_stops first second third at now brace number parameters d near h b told
     let s : Derives 0 definition_items at_brace [] (ABody b.tree ∷ []) at brace = braced second third at now brace h b in
     let t : Takes s.consumed lexemes brace = s.told lexemes is in
     let x : Begins brace.position.reading t.rest = told_begins brace t.rest t.shows in
-    let long : is_too_long profile (functions ++ definition_of (scope_at brace) b.tree ∷ []) ≡ true = past_limit profile _ _ (code_with functions (scope_at brace) b.tree parameters number) (much.over profile _ (b.added profile _ (told profile _ k))) in
+    let long : is_too_long profile (functions ++ definition_of (scope_at brace) b.tree ∷ []) ≡ true = past_limit profile _ _ (code_with profile functions (scope_at brace) b.tree parameters number) (much.over profile _ (b.added profile _ (told profile _ k))) in
     let fails : Fails profile (state (at_brace ++ at_source) t.rest (ABody b.tree ∷ []) (scope_at brace) functions) (diagnostic (next_at brace).line code.TooMuchCode) =
     rw x.is (too_long profile (Shut ∷ at_source) (next_at brace) x.tail (ABody b.tree ∷ []) (scope_at brace) functions sound closed (rw long refl)) in
     let stop : Stops profile (state (at_brace ++ at_source) t.rest (ABody b.tree ∷ []) (scope_at brace) functions) d =

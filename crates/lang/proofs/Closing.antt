@@ -64,10 +64,10 @@ may_finish before mid behind variables m told given =
 
 -- what was told of its end
 pub closes : (before mid between after : Meaning) (variables : ℕ) → Appends before mid (Push (pos 0)) → Appends mid between GiveBack → Appends between after (Finish variables) →
-    ((profile : Profile) (acts : List Action) → between profile acts → code_length acts + 1 ≤ profile.instructions) → ClosesFunction before after variables
+    ((profile : Profile) (acts : List Action) → between profile acts → code_length profile acts + 1 ≤ profile.instructions) → ClosesFunction before after variables
 closes before mid between after variables a b c fits = record {
   added = λ profile acts h. subst (λ (xs : List Action). after profile xs) (rejoin acts) (c profile _ (b profile _ (a profile acts h)));
-  fits = λ profile acts h. subst (λ (xs : List Action). code_length xs + 1 ≤ profile.instructions) (append_assoc acts (Push (pos 0) ∷ []) (GiveBack ∷ [])) (fits profile _ (b profile _ (a profile acts h)));
+  fits = λ profile acts h. subst (λ (xs : List Action). code_length profile xs + 1 ≤ profile.instructions) (append_assoc acts (Push (pos 0) ∷ []) (GiveBack ∷ [])) (fits profile _ (b profile _ (a profile acts h)));
 }
   where
     rejoin : (acts : List Action) → ((acts ++ Push (pos 0) ∷ []) ++ GiveBack ∷ []) ++ Finish variables ∷ [] ≡ acts ++ (last_return ++ Finish variables ∷ [])

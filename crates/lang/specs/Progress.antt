@@ -75,12 +75,12 @@ pub record MayEnd (before : Meaning) (variables : ℕ) : Type 0 where
 -- The builder was told the last return and the function's end, and the code is within the limit.
 pub record ClosesFunction (before after : Meaning) (variables : ℕ) : Type 0 where
   pub added : AppendsAll before after (last_return ++ Finish variables ∷ [])
-  pub fits : (profile : Profile) (acts : List Action) → before profile acts → code_length (acts ++ last_return) + 1 ≤ profile.instructions
+  pub fits : (profile : Profile) (acts : List Action) → before profile acts → code_length profile (acts ++ last_return) + 1 ≤ profile.instructions
 
 -- The code passes the limit, and the diagnostic says so at this line.
 pub record IsTooMuch (before : Meaning) (line : ℕ) (stop : Stop) : Type 0 where
   pub is : stop.fault ≡ Some (diagnostic line code.TooMuchCode)
-  pub over : (profile : Profile) (acts : List Action) → before profile acts → profile.instructions < code_length (acts ++ last_return) + 1
+  pub over : (profile : Profile) (acts : List Action) → before profile acts → profile.instructions < code_length profile (acts ++ last_return) + 1
 
 -- Each function that was mentioned is defined, main is among them, and these are the names.
 pub record Lists (scope : Scope) (names : Names) : Type 0 where

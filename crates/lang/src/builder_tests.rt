@@ -2,7 +2,7 @@
 
 use crate::checks::source_fault;
 use crate::refuser::Refuser;
-use crate::{BuildFault, Code, ParseFault, TreeMaker, parse};
+use crate::{BuildFault, Code, ParseFault, Profile, TreeMaker, parse};
 use std::alloc::Global;
 use std::process::Abort;
 use std::test::Fail;
@@ -22,9 +22,9 @@ const SOURCES: &[&[u8]] = &[
 #[test]
 fn trees_are_told_to_another_builder(rt: HostRuntime) -> Result<(), Fail> {
     for source in SOURCES {
-        let mut trees = TreeMaker::new(rt.alloc());
+        let mut trees = TreeMaker::new(rt.alloc(), Profile::first());
         parse(&mut Pieces::new(source, 4_096), &mut trees)?;
-        let mut others = TreeMaker::new(rt.alloc());
+        let mut others = TreeMaker::new(rt.alloc(), Profile::first());
         trees.replay(&mut others)?;
         let made = format!(in rt.alloc(); "{:?}", trees.functions())?;
         let again = format!(in rt.alloc(); "{:?}", others.functions())?;
@@ -41,7 +41,7 @@ fn refusal(actions: usize) -> Option<ParseFault> {
 
 // The same of the trees that are told to it.
 fn refusal_of_trees(alloc: Global, actions: usize) -> Result<Option<BuildFault>, ParseFault> {
-    let mut trees = TreeMaker::new(alloc);
+    let mut trees = TreeMaker::new(alloc, Profile::first());
     parse(&mut Pieces::new(b"main(){1;}", 4_096), &mut trees)?;
     Ok(trees.replay(&mut Refuser { left: actions }).err())
 }

@@ -2,7 +2,7 @@
 
 ghost use Rattle.std.specs.Prelude.{◌≡◌, ◌<◌, ◌-◌, ◌^◌};
 
-use crate::{Code, Diagnostic, FunctionTree, ParseFault, Pools, TreeMaker, parse};
+use crate::{Code, Diagnostic, FunctionTree, ParseFault, Pools, Profile, TreeMaker, parse};
 use std::alloc::Global;
 use std::process::Abort;
 use std::str;
@@ -39,7 +39,7 @@ impl Outcome {
 pub fn parsed(alloc: Global, mut feed: Pieces) -> Outcome
     requires { feed.failures < 2 ^ 64 - 1 }
 {
-    let mut trees = TreeMaker::new(alloc);
+    let mut trees = TreeMaker::new(alloc, Profile::first());
     let answer = parse(&mut feed, &mut trees);
     Outcome {
         answer,

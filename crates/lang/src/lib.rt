@@ -8,7 +8,7 @@ mod functions;
 pub use files::parse;
 pub use grammar::{
     Build, BuildFault, Callee, Code, Diagnostic, Function, Intrinsic, MOST_NAMES, Op, ParseFault,
-    Pools, StoreOp, Var,
+    Pools, Profile, StoreOp, Var,
 };
 pub use spelling::laws;
 pub use tokens::{DeviceFault, Feed, Name};

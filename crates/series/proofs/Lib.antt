@@ -1,7 +1,11 @@
 pub mod KnownOutputs
-pub mod ProgramsLemmas
 pub mod RunsLemmas
+pub mod CompilingLemmas
+pub mod CoursesLemmas
+pub mod OutputLemmas
+pub mod PlayingLemmas
 pub mod PiecesLemmas
 pub mod TextsLemmas
+pub mod SeriesTextsLemmas
 pub mod PortionsLemmas
 pub mod DraftLemmas

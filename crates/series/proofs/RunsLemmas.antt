@@ -1,129 +1,15 @@
--- A run, file by file.
-use Rattle.std.proofs.Common.{◌≡◌, ◌⊎◌, ℕ, ◌+◌, ◌<◌, Bool, true, false, List, [], ◌∷◌, ◌++◌, length, take, drop, get_or, map, Option, Some, None, Result, Ok, Err, refl, sym, ap, ◌∙◌, subst, inl, inr, add-zero, add-one, set, zero, suc, arith}
-use Rattle.std.specs.Prelude.{is_err, if◌then◌else◌, ◌||◌}
-use Rattle.std.specs.List.{list_any, fold}
-use Rattle.std.proofs.lemmas.List.Sums.{fold-append}
-use Rattle.std.proofs.lemmas.List.{take_more, map-append, take-append-drop, get_or-map, get_or-drop, drop-set-lt, length-map, map-set}
+-- A run's feeds and sources, file by file.
+use Rattle.std.proofs.Common.{◌≡◌, ◌⊎◌, ℕ, ◌+◌, ◌<◌, List, [], ◌∷◌, length, drop, get_or, map, Option, Some, refl, sym, ap, ◌∙◌, subst, inl, inr, add-zero, add-one, set, zero, suc, arith}
+use Rattle.std.proofs.lemmas.List.{get_or-map, get_or-drop, drop-set-lt, length-map, map-set}
 use Rattle.std.proofs.Math.Seq.{map-set_same}
-use Rattle.grammar.specs.Profile.{Profile}
-use Rattle.grammar.specs.declared.diagnostics.Diagnostic.{Diagnostic}
-use Rattle.grammar.specs.Compiled.{compiled}
-use Rattle.grammar.specs.Tree.{File}
-use Rattle.code.specs.Generation.{Code, code_of}
-use Rattle.series.specs.declared.settings.Status.{Status}
-use Rattle.series.specs.declared.settings.Status.TheVariants.{Done, Faulty}
-use Rattle.series.specs.Output.{Source, code_or_fault, compiled_code, and_code, codes_of, piece_of, source_piece, listings, status_of, is_faulty}
-use Rattle.series.specs.Pieces.{Taken, Writes, Begins}
-use Rattle.series.specs.declared.settings.RunFault.{RunFault}
-use Rattle.series.specs.Runs.{AreSources, Compiles, Failures, Lists, failures, feed_failed, programs_by, SinkFailed}
+use Rattle.series.specs.Compiling.{Source}
+use Rattle.series.specs.Failures.{Failures, failures, feed_failed, SinkFailed}
+use Rattle.series.specs.Runs.{AreSources}
 use Rattle.series.specs.Texts.{file_name}
-use Rattle.series.proofs.PiecesLemmas.{writes_then, begins_then, begins_more}
 
 -- no source at all
 abbrev pub no_source : Source
 no_source = record { word = []; bytes = [] }
-
--- nothing of a code is kept behind a faulty file
-none_kept : (profile : Profile) (sources : List Source)
-    → fold (λ codes source. and_code codes (compiled_code profile source.bytes)) None sources ≡ None
-none_kept profile [] = refl
-none_kept profile (source ∷ sources) = none_kept profile sources
-
--- the status by what is kept
-abbrev status_by : Option (List Code) → Status
-status_by None = Faulty
-status_by (Some codes) = Done
-
--- what is kept tells whether a file was faulty
-status_kept : (profile : Profile) (codes : List Code) (sources : List Source)
-    → status_by (fold (λ codes source. and_code codes (compiled_code profile source.bytes)) (Some codes) sources) ≡ status_of profile sources
-status_kept profile codes [] = refl
-status_kept profile codes (source ∷ sources) =
-    by_verdict (λ code. status_kept profile (codes ++ code ∷ []) sources) (compiled profile source.bytes)
-  where
-    by_verdict : ((code : Code) → status_by (fold (λ codes source. and_code codes (compiled_code profile source.bytes)) (Some (codes ++ code ∷ [])) sources) ≡ status_of profile sources)
-        → (verdict : Result File Diagnostic)
-        → status_by (fold (λ codes source. and_code codes (compiled_code profile source.bytes)) (and_code (Some codes) (code_or_fault profile verdict)) sources)
-        ≡ (if is_err verdict || list_any (is_faulty profile) sources then Faulty else Done)
-    by_verdict rest (Ok file) = rest (code_of profile file)
-    by_verdict rest (Err d) = ap status_by (none_kept profile sources)
-
--- where each program is kept, the run is done
-pub status_done : (profile : Profile) (sources : List Source) (codes : List Code) → Some codes ≡ codes_of profile sources → Done ≡ status_of profile sources
-status_done profile sources codes kept = ap status_by kept ∙ status_kept profile [] sources
-
--- where none is kept, a file was faulty
-pub status_faulty : (profile : Profile) (sources : List Source) → None ≡ codes_of profile sources → Faulty ≡ status_of profile sources
-status_faulty profile sources kept = ap status_by kept ∙ status_kept profile [] sources
-
--- a run is as good as the programs that were kept tell
-pub lists_kept : (profile : Profile) (sources : List Source) (result : Result Status RunFault) (kept : List Code) (before after : Taken)
-    → Compiles profile sources (programs_by result kept) before after → Lists profile sources result before after
-lists_kept profile sources (Ok Done) kept before after (writes, is) = (writes, status_done profile sources kept is)
-lists_kept profile sources (Ok Faulty) kept before after (writes, is) = (writes, status_faulty profile sources is)
-lists_kept profile sources (Err fault) kept before after stops = stops
-
--- the codes with one file more
-codes_more : (profile : Profile) (sources : List Source) (file : ℕ) → file < length sources
-    → codes_of profile (take (file + 1) sources) ≡ and_code (codes_of profile (take file sources)) (compiled_code profile (get_or sources file no_source).bytes)
-codes_more profile sources file within =
-    rw (take_more sources file no_source within) (fold-append (λ codes source. and_code codes (compiled_code profile source.bytes)) (Some []) (take file sources) (get_or sources file no_source ∷ []))
-
--- what a loop keeps, with one file more
-pub kept_more : (profile : Profile) (sources : List Source) (file : ℕ) (kept : Option (List Code)) (code : Result Code Diagnostic) → file < length sources
-    → kept ≡ codes_of profile (take file sources) → code ≡ compiled_code profile (get_or sources file no_source).bytes
-    → and_code kept code ≡ codes_of profile (take (file + 1) sources)
-kept_more profile sources file kept code within so_far is = rw (so_far, is) (sym (codes_more profile sources file within))
-
--- a good file's code is kept, unless a file was faulty
-pub kept_good : (faulty later : Bool) (codes after : List Code) (code : Code) (r : Result Code Diagnostic) (x : Option (List Code))
-    → r ≡ Ok code → later ≡ faulty → after ≡ codes ++ code ∷ []
-    → and_code (if faulty then None else Some codes) r ≡ x → (if later then None else Some after) ≡ x
-kept_good faulty later codes after code r x is same more kept = rw (same, more) (by_faults faulty ∙ rw is at kept)
-  where
-    by_faults : (b : Bool) → (if b then None else Some (codes ++ code ∷ [])) ≡ and_code (if b then None else Some codes) (Ok code)
-    by_faults true = refl
-    by_faults false = refl
-
--- a faulty file leaves no code
-pub kept_fault : (kept : Option (List Code)) (later : Bool) (after : List Code) (d : Diagnostic) (r : Result Code Diagnostic) (x : Option (List Code))
-    → r ≡ Err d → later ≡ true → and_code kept r ≡ x → (if later then None else Some after) ≡ x
-kept_fault kept later after d r x is now more = rw now (by_kept kept ∙ rw is at more)
-  where
-    by_kept : (k : Option (List Code)) → None ≡ and_code k (Err d)
-    by_kept None = refl
-    by_kept (Some codes) = refl
-
--- one file's piece more
-pub listed_more : (profile : Profile) (sources : List Source) (file : ℕ) (before now after : Taken) (code : Result Code Diagnostic)
-    → file < length sources → Writes before now (listings profile (take file sources))
-    → code ≡ compiled_code profile (get_or sources file no_source).bytes
-    → Writes now after (piece_of (file_name (get_or sources file no_source).word) code ∷ [])
-    → Writes before after (listings profile (take (file + 1) sources))
-listed_more profile sources file before now after code within so_far is writes =
-    let source : Source = get_or sources file no_source in
-    let P : Result Code Diagnostic → Type 0 = λ r. Writes now after (piece_of (file_name source.word) r ∷ []) in
-    rw (take_more sources file no_source within, map-append (source_piece profile) (take file sources) (source ∷ []))
-    (writes_then before now after (listings profile (take file sources)) (source_piece profile source ∷ []) so_far (subst P is writes))
-
--- the next file's piece was cut
-pub listed_cut : (profile : Profile) (sources : List Source) (file : ℕ) (before now after : Taken) (code : Result Code Diagnostic)
-    → file < length sources → Writes before now (listings profile (take file sources))
-    → code ≡ compiled_code profile (get_or sources file no_source).bytes
-    → Begins now after (piece_of (file_name (get_or sources file no_source).word) code ∷ [])
-    → Begins before after (listings profile sources)
-listed_cut profile sources file before now after code within so_far is begins =
-    let source : Source = get_or sources file no_source in
-    let P : Result Code Diagnostic → Type 0 = λ r. Begins now after (piece_of (file_name source.word) r ∷ []) in
-    let split : listings profile sources ≡ listings profile (take (file + 1) sources) ++ listings profile (drop (file + 1) sources) =
-    sym (ap (λ l. map (source_piece profile) l) (take-append-drop (file + 1) sources))
-    ∙ map-append (source_piece profile) (take (file + 1) sources) (drop (file + 1) sources) in
-    let here : listings profile (take (file + 1) sources) ≡ listings profile (take file sources) ++ source_piece profile source ∷ [] =
-    ap (λ l. map (source_piece profile) l) (take_more sources file no_source within)
-    ∙ map-append (source_piece profile) (take file sources) (source ∷ []) in
-    rw (split, here)
-    (begins_more before after (listings profile (take file sources) ++ source_piece profile source ∷ []) (listings profile (drop (file + 1) sources))
-    (begins_then before now after (listings profile (take file sources)) (source_piece profile source ∷ []) so_far (subst P is begins)))
 
 -- each word has its source
 pub length_sources : (sources : List Source) (words : List (List ℕ)) (told : List (Option (List ℕ))) → AreSources sources words told

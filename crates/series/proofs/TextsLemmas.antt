@@ -8,6 +8,7 @@ use Rattle.std.proofs.lemmas.List.Sums.{suffix_len_is}
 use Rattle.std.proofs.lemmas.Slice.{between_to_end}
 use Rattle.std.proofs.lemmas.Bool.Decides.{nat_tests}
 use Rattle.std.proofs.lemmas.Fmt.{decimal_step, decimal_digit}
+use Rattle.code.specs.Listing.{ended_line}
 use Rattle.series.specs.Texts.{file_name, column, lines_text}
 
 -- the last digit is a column of its own
@@ -39,3 +40,9 @@ pub lines_text_more : (text : List ℕ) (lines : List (List ℕ)) (n : ℕ) → 
     → text ++ lines_text (take (n + 1) lines) ≡ ((text ++ lines_text (take n lines)) ++ get_or lines n []) ++ 10 ∷ []
 lines_text_more text lines n within =
     simp (take_more lines n [] within, map-append, concat-append, append-nil, append_assoc)
+
+-- the same, with the line ended
+pub lines_text_then : (text : List ℕ) (lines : List (List ℕ)) (n : ℕ) → n < length lines
+    → text ++ lines_text (take (n + 1) lines) ≡ (text ++ lines_text (take n lines)) ++ ended_line (get_or lines n [])
+lines_text_then text lines n within =
+    lines_text_more text lines n within ∙ append_assoc (text ++ lines_text (take n lines)) (get_or lines n []) (10 ∷ [])

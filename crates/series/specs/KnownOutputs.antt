@@ -1,8 +1,12 @@
 -- Known outputs: from the bytes of files to what a run writes.
-use Rattle.std.specs.Prelude.{◌≡◌, ℕ, List, [], ◌∷◌, codes}
+use Rattle.std.specs.Prelude.{◌≡◌, ℕ, List, [], ◌∷◌, codes, map}
 use Rattle.grammar.specs.Profile.{first_profile}
-use Rattle.series.specs.declared.settings.Status.TheVariants.{Done, Faulty}
-use Rattle.series.specs.Output.{listing_output}
+use Rattle.series.specs.declared.endings.Status.TheVariants.{Done, Faulty}
+use Rattle.series.specs.Compiling.{Source}
+use Rattle.series.specs.Output.{Output, output}
+use Rattle.settings.specs.Setup.{Setup}
+use Rattle.settings.specs.declared.settings.Mode.{Mode}
+use Rattle.settings.specs.declared.settings.Mode.TheVariants.{Listing}
 use Rattle.series.specs.Pieces.{Text, Faults}
 use Rattle.series.specs.Texts.{file_name, column, diagnostic_line}
 
@@ -15,8 +19,24 @@ pub record KnownTexts : Type 0 where
   pub past_the_column : column 3 1999 ≡ codes "1999"
   pub diagnostic : diagnostic_line (codes "c.r") 2 (codes "reserved word") ≡ codes "c.r:2: reserved word\n"
 
+-- a setup by the first profile and the seed 1
+abbrev asked : Mode → ℕ → ℕ → List Source → Setup
+asked mode matches limit sources = record {
+  mode = mode;
+  matches = matches;
+  limit = limit;
+  seed = 1;
+  profile = first_profile;
+  first = 1;
+  words = map (λ s. s.word) sources;
+}
+
+-- what a run writes that lists these files
+abbrev listing_output : List Source → Output
+listing_output sources = output (asked Listing 1 500000 sources) sources
+
 pub record KnownOutputs : Type 0 where
-  pub listed : listing_output first_profile (record { word = codes "k/a.r"; bytes = codes "main(){1+2;}" } ∷ [])
+  pub listed : listing_output (record { word = codes "k/a.r"; bytes = codes "main(){1+2;}" } ∷ [])
       ≡ record {
         pieces = record {
           channel = Text;
@@ -24,13 +44,13 @@ pub record KnownOutputs : Type 0 where
         } ∷ [];
         status = Done;
       }
-  pub faulty : listing_output first_profile (record { word = codes "e.r"; bytes = [] } ∷ record { word = codes "c.r"; bytes = codes "main(){\nbreak; }" } ∷ [])
+  pub faulty : listing_output (record { word = codes "e.r"; bytes = [] } ∷ record { word = codes "c.r"; bytes = codes "main(){\nbreak; }" } ∷ [])
       ≡ record {
         pieces = record { channel = Faults; bytes = codes "e.r:1: no main function\n" }
             ∷ record { channel = Faults; bytes = codes "c.r:2: reserved word\n" } ∷ [];
         status = Faulty;
       }
-  pub mixed : listing_output first_profile
+  pub mixed : listing_output
       (record { word = codes "a.r"; bytes = codes "main(){}" } ∷ record { word = codes "b.r"; bytes = codes "main(){ f(); }" } ∷ record { word = codes "c.r"; bytes = codes "main(){\nbreak; }" } ∷ [])
       ≡ record {
         pieces = record { channel = Text; bytes = codes "File a.r\nExternals 0\nFunction 0 main vars 0 at 0\nCode 3\n    0 CONST 0\n    1 RETSUB\n    2 NOP\n" }

@@ -1,10 +1,15 @@
 pub mod Portions
 pub mod Draft
 pub mod Texts
+pub mod Names
 pub mod Pieces
-pub mod Setup
 pub mod Recording
+pub mod Compiling
+pub mod Reports
+pub mod Totals
+pub mod Playing
 pub mod Output
 pub mod Runs
-pub mod Programs
+pub mod Failures
+pub mod Courses
 pub mod KnownOutputs

@@ -8,6 +8,7 @@ use crate::{
 };
 use arrayvec::ArrayVec;
 use code::Program;
+use grammar::Profile;
 use std::alloc::{AllocError, Global};
 use std::process::Abort;
 use std::test::Fail;
@@ -49,7 +50,15 @@ pub fn listing<'a>(words: ArrayVec<&'a str, FILES_MAX>) -> Settings<'a>
     ensures words { length result.words ≡ length words.entry.items }
     ensures mode { result.mode ≡ Mode.Listing }
 {
-    Settings::new(Mode::Listing, 1, CYCLES_DEFAULT, SEED_DEFAULT, words)
+    Settings::new(
+        Mode::Listing,
+        1,
+        CYCLES_DEFAULT,
+        SEED_DEFAULT,
+        Profile::first(),
+        1,
+        words,
+    )
 }
 
 /// The settings of a run that lists one file.
@@ -102,7 +111,7 @@ pub fn list(alloc: Global, word: &str, source: &[u8], most: usize) -> Result<End
 
 /// The program of a good source.
 pub fn program_of(source: &[u8]) -> Result<Program, Fail> {
-    let compiled = compile(&mut Pieces::new(source, 4096))
+    let compiled = compile(Profile::first(), &mut Pieces::new(source, 4096))
         .ok()
         .ok_or("the device failed")?;
     Ok(compiled.ok().ok_or("the source has a fault")?)

@@ -1,25 +1,31 @@
-//! Series of robots: their listings and diagnostics, written on two channels piece by piece.
+//! Series of robots: their listings, diagnostics, matches and totals, written on two channels piece by piece.
 #![tactic(auto)]
 
+mod courses;
+mod endings;
 mod known;
-mod limits;
 mod listing;
+mod names;
 mod pen;
-mod programs;
 mod recorder;
+mod reports;
 mod runs;
-mod settings;
+mod series;
 mod sink;
+mod tallies;
 mod texts;
 
+pub use battles::Programs;
+pub use endings::{RunFault, SeriesFault, Status, Step};
 pub use known::known_outputs;
-pub use limits::{CYCLES_DEFAULT, CYCLES_MAX, FILES_MAX, MATCHES_MAX, SEED_DEFAULT};
 pub use listing::put_listing;
 pub use pen::{PAGE, Pen};
-pub use programs::Programs;
 pub use recorder::Recorder;
 pub use runs::{compile_files, run};
-pub use settings::{Mode, RunFault, Settings, Status};
+pub use series::Series;
+pub use settings::{
+    CYCLES_DEFAULT, CYCLES_MAX, FILES_MAX, FIRST_MAX, MATCHES_MAX, Mode, SEED_DEFAULT, Settings,
+};
 pub use sink::{Sink, put_all};
 pub use texts::{name_of, put_diagnostic};
 pub use tokens::{DeviceFault, Feed};

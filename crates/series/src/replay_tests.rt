@@ -2,6 +2,7 @@
 
 use crate::checks::program_of;
 use code::{Line, Maker, Program};
+use grammar::Profile;
 use lang::{TreeMaker, parse};
 use std::alloc::Global;
 use std::test::Fail;
@@ -9,11 +10,12 @@ use tokens::Pieces;
 
 /// The program of a good source, whose trees are made first and then told to the maker.
 fn replayed(alloc: Global, source: &[u8]) -> Option<Program> {
-    let mut trees = TreeMaker::new(alloc);
+    let profile = Profile::first();
+    let mut trees = TreeMaker::new(alloc, profile);
     let Ok(names) = parse(&mut Pieces::new(source, 4096), &mut trees) else {
         return None;
     };
-    let mut maker = Maker::new();
+    let mut maker = Maker::new(profile);
     match trees.replay(&mut maker) {
         Ok(()) => Some(maker.finish(names)),
         Err(_) => None,

@@ -22,7 +22,7 @@ use Rattle.trees.specs.declared.tree.Expr.TheVariants as expr
 use Rattle.trees.specs.declared.tree.Function.{Function}
 use Rattle.trees.specs.declared.tree.Statement.{Statement}
 use Rattle.trees.specs.declared.tree.Statement.TheVariants as statement
-use Rattle.trees.proofs.StandingLaws.{follow_inside, code_length-append, limit}
+use Rattle.trees.proofs.StandingLaws.{follow_inside, code_length-append}
 use Rattle.trees.proofs.TreeLaws.{Tells, tells_arguments, tells_functions, tells_last, tells_split, tells_statements, tree-Binary, tree-Assign, tree-Call, tree-When, tree-Choose, tree-While}
 
 -- what begins actions that may follow may follow
@@ -62,11 +62,11 @@ appends_none before p acts s = subst (before p) (sym (append-nil acts)) s
 -- the limit is passed with more actions too
 pub over_front : (before : Meaning) (xs ys : List Action) → IsOverWith before xs → IsOverWith before (xs ++ ys)
 over_front before xs ys over p acts s =
-    omega (arith, over p acts s, code_length-append (acts ++ xs) ys, ap code_length (append_assoc acts xs ys))
+    omega (arith, over p acts s, code_length-append p (acts ++ xs) ys, ap (code_length p) (append_assoc acts xs ys))
 
 pub over_then : (before behind : Meaning) (xs ys : List Action) → AppendsAll before behind xs → IsOverWith behind ys → IsOverWith before (xs ++ ys)
 over_then before behind xs ys added over p acts s =
-    subst (λ zs. p.instructions < code_length zs + 1) (append_assoc acts xs ys) (over p (acts ++ xs) (added p acts s))
+    subst (λ zs. p.instructions < code_length p zs + 1) (append_assoc acts xs ys) (over p (acts ++ xs) (added p acts s))
 
 -- behind a call of its own the other actions may follow
 pub may_next : (before behind : Meaning) (x : Action) (xs : List Action) → Appends before behind x → MayFollowAll before (x ∷ xs) → MayFollowAll behind xs
@@ -76,7 +76,7 @@ pub may_return : (before : Meaning) → MayFollowAll before last_return → MayF
 may_return before may = may_first before (Push (pos 0)) (GiveBack ∷ []) may
 
 pub over_finish : (before : Meaning) (v : ℕ) → IsOver before → IsOverWith before (Finish v ∷ [])
-over_finish before v over p acts s = omega (arith, over p acts s, code_length-append acts (Finish v ∷ []))
+over_finish before v over p acts s = omega (arith, over p acts s, code_length-append p acts (Finish v ∷ []))
 
 -- The actions of each kind of expression and statement.
 
@@ -169,7 +169,7 @@ nothing_actions : (xs : List entry.Open) → opened xs ≡ [] → open_actions x
 nothing_actions [] h = refl
 nothing_actions (x ∷ xs) h = absurd (cc)
 
-is_done_at : (m : Kept) (s : StandsOpen (λ p acts. Stands m p acts) []) → Fits m.code → IsDone m
+is_done_at : (m : Kept) (s : StandsOpen (λ p acts. Stands m p acts) []) → Fits m → IsDone m
 is_done_at m s fits =
     let b : Builds m s.acts = s.stood.builds fits in
     let same : Some (opened m.stack) ≡ Some [] = sym b.opens ∙ s.opens in
@@ -179,15 +179,15 @@ is_done_at m s fits =
     record { begins = subst IsBeginning (each s.profile s.acts s.stood) (rw s.opens refl); each = each }
 
 pub is_done : (m : Kept) → StandsOpen (λ p acts. Stands m p acts) [] → IsDone m
-is_done m s = by_code (nat_lt m.code 2000) refl
+is_done m s = by_code (nat_lt m.code m.profile.instructions) refl
   where
-    by_code : (b : Bool) → nat_lt m.code 2000 ≡ b → IsDone m
+    by_code : (b : Bool) → nat_lt m.code m.profile.instructions ≡ b → IsDone m
     by_code true h =
-        let fits : m.code < 2000 = grind (arith, nat_tests, h) in
-        is_done_at m s (omega (arith, limit, fits))
+        let fits : m.code < m.profile.instructions = grind (arith, nat_tests, h) in
+        is_done_at m s (omega (arith, fits))
     by_code false h =
-        let past : 2000 ≤ m.code = grind (arith, nat_tests, h) in
-        let q : Passed s.acts = s.stood.passed (omega (arith, limit, past)) in
+        let past : m.profile.instructions ≤ m.code = grind (arith, nat_tests, h) in
+        let q : Passed m.profile s.acts = s.stood.passed (omega (arith, past)) in
         let no : false ≡ true = sym (follow_inside s.acts [] [] s.opens) ∙ q.inside in
         absurd (cc)
 

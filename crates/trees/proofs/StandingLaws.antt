@@ -1,5 +1,5 @@
 -- What a maker of trees stands for behind each action.
-use Rattle.std.proofs.Common.{◌≡◌, ℕ, ◌+◌, ◌<◌, ◌≤◌, min, List, [], ◌∷◌, ◌++◌, Bool, true, false, sym, ap, subst, ◌∙◌, refl, append_assoc, arith}
+use Rattle.std.proofs.Common.{◌≡◌, ℕ, ◌+◌, ◌<◌, ◌≤◌, min, List, [], ◌∷◌, ◌++◌, Bool, true, false, sym, ap, subst, ◌∙◌, refl, append_assoc, arith, inl, inr}
 use Rattle.std.proofs.lemmas.Bool.Decides.{nat_tests}
 use Rattle.std.proofs.lemmas.Result.{on_ok_weaker}
 use Rattle.std.specs.Prelude.{if◌then◌else◌, Option, Some, None, IsTrue, is_some, nat_lt, nat_le, Result, OnOk}
@@ -8,7 +8,7 @@ use Rattle.grammar.specs.Actions.{Action, Push, Get, Put, Apply, Middle, BeginCa
 use Rattle.grammar.specs.Building.{MayFollow, Appends, FitsWithin, IsOver}
 use Rattle.grammar.specs.Following.{Open, InFunction, AValue, BeforeRight, InCall, InBranch, InElse, BeforeTest, InTurn, Opened, Computed, few_open, follow, follow_all, then_follow, within, only_on, is_place, statement_done, call_done, is_var_numbered, is_callee_numbered}
 use Rattle.grammar.specs.Operators.{is_logic}
-use Rattle.grammar.specs.Profile.{Profile, first_profile}
+use Rattle.grammar.specs.Profile.{Profile, first_profile, second_profile, IsProfile}
 use Rattle.grammar.proofs.FollowingLaws.{follow_append}
 use Rattle.trees.specs.Opened.{Continues, Ends, IsAllowed, opened, open_actions}
 use Rattle.trees.specs.Standing.{Kept, Fits, in_function, Builds, Passed, Stands}
@@ -17,16 +17,24 @@ use Rattle.trees.specs.declared.stack.Open as entry
 use Rattle.trees.specs.declared.tree.Function.{Function}
 use Rattle.trees.proofs.TreeLaws.{functions_add}
 
-pub limit : first_profile.instructions ≡ 2000
-unfolding first_profile
-limit = refl
+-- no profile has more instructions than a maker can count
+pub small : (p : Profile) → IsProfile p → p.instructions ≤ 4000
+unfolding first_profile second_profile
+small p (inl e) = let same = ap (λ (p : Profile). p.instructions) e in omega (arith, same)
+small p (inr e) = let same = ap (λ (p : Profile). p.instructions) e in omega (arith, same)
 
-pub code_length-append : (xs ys : List Action) → code_length (xs ++ ys) ≡ code_length xs + code_length ys
-code_length-append [] ys = omega arith
-code_length-append (x ∷ xs) ys = omega (arith, code_length-append xs ys)
+-- a maker that was told nothing has room
+pub some : (p : Profile) → IsProfile p → 0 < p.instructions
+unfolding first_profile second_profile
+some p (inl e) = let same = ap (λ (p : Profile). p.instructions) e in omega (arith, same)
+some p (inr e) = let same = ap (λ (p : Profile). p.instructions) e in omega (arith, same)
 
-length-last : (acts : List Action) (a : Action) → code_length (acts ++ a ∷ []) ≡ code_length acts + instructions a
-length-last acts a = omega (arith, code_length-append acts (a ∷ []))
+pub code_length-append : (p : Profile) (xs ys : List Action) → code_length p (xs ++ ys) ≡ code_length p xs + code_length p ys
+code_length-append p [] ys = omega arith
+code_length-append p (x ∷ xs) ys = omega (arith, code_length-append p xs ys)
+
+length-last : (p : Profile) (acts : List Action) (a : Action) → code_length p (acts ++ a ∷ []) ≡ code_length p acts + instructions p a
+length-last p acts a = omega (arith, code_length-append p acts (a ∷ []))
 
 -- Actions one behind another.
 
@@ -44,13 +52,13 @@ next_one a o (Some p) e h = record { behind = p; is = e; few = guarded (few_open
     guarded true k = refl
     guarded false k = absurd (cc)
 
-next_of : (m : Kept) (a : Action) → Fits m.code → MayFollow (λ p acts. Stands m p acts) a → Next a (opened m.stack)
+next_of : (m : Kept) (a : Action) → Fits m → MayFollow (λ p acts. Stands m p acts) a → Next a (opened m.stack)
 next_of m a fits may =
     let b : Builds m may.acts = may.stood.builds fits in
     next_one a (opened m.stack) (follow a (opened m.stack)) refl
     (subst (λ o. IsTrue (is_some o)) (follow_append may.acts (a ∷ []) [] (opened m.stack) b.opens) may.begins)
 
-pub allowed : (m : Kept) (a : Action) → Fits m.code → MayFollow (λ p acts. Stands m p acts) a → IsAllowed a m.stack
+pub allowed : (m : Kept) (a : Action) → Fits m → MayFollow (λ p acts. Stands m p acts) a → IsAllowed a m.stack
 allowed m a fits may = let next : Next a (opened m.stack) = next_of m a fits may in rw next.is refl
 
 -- Whether a function is open.
@@ -173,19 +181,22 @@ one_next : (a : Action) (o p : Opened) → follow a o ≡ Some p → few_open p 
 one_next a o p e few = rw (e, few) refl
 
 -- within the limit the trees have the action
-pub goes_on : (m n : Kept) (a : Action) → n.functions ≡ m.functions → Continues a m.stack n.stack → n.code ≡ min (m.code + instructions a) 65535 → n.code < 2000 →
+pub goes_on : (m n : Kept) (a : Action) → n.profile ≡ m.profile → n.functions ≡ m.functions → Continues a m.stack n.stack → n.code ≡ min (m.code + instructions m.profile a) 65535 → n.code < m.profile.instructions →
     MayFollow (λ p acts. Stands m p acts) a → Appends (λ p acts. Stands m p acts) (λ p acts. Stands n p acts) a
-goes_on m n a same k counted fits may p acts s =
-    let before : Fits m.code = omega (arith, limit, counted, fits) in
+goes_on m n a by same k counted fits may p acts s =
+    let few_code = small m.profile s.known in
+    let before : Fits m = omega (arith, few_code, counted, fits) in
     let b : Builds m acts = s.builds before in
     let next : Next a (opened m.stack) = next_of m a before may in
     let few : few_open (opened n.stack) ≡ true = some_few next.behind (opened n.stack) (sym next.is ∙ k.follows) next.few in
+    let limit = ap (λ (p : Profile). p.instructions) by in
     record {
-      profile = s.profile;
+      profile = s.profile ∙ sym by;
+      known = subst IsProfile (sym by) s.known;
       builds = λ _. record {
         actions = ap (λ xs. xs ++ a ∷ []) b.actions ∙ append_assoc (made_actions m.functions) (open_actions m.stack) (a ∷ []) ∙ ap (λ xs. made_actions m.functions ++ xs) k.adds ∙ ap (λ fs. made_actions fs ++ open_actions n.stack) (sym same);
         opens = follow_append acts (a ∷ []) [] (opened m.stack) b.opens ∙ one_next a (opened m.stack) (opened n.stack) k.follows few;
-        counted = omega (arith, length-last acts a, b.counted, counted, fits);
+        counted = ap (λ (p : Profile). code_length p (acts ++ a ∷ [])) by ∙ omega (arith, few_code, length-last m.profile acts a, b.counted, counted, fits);
       };
       passed = λ over. absurd (omega (arith, limit, over, fits));
     }
@@ -194,50 +205,59 @@ goes_on m n a same k counted fits may p acts s =
     some_few x y e h = let same : x ≡ y = cc in subst (λ o. few_open o ≡ true) same h
 
 -- past it the code has passed the limit in a function that is still open
-passed_by : (m n : Kept) (a : Action) (acts : List Action) (p : Profile) → n.code ≡ min (m.code + instructions a) 65535 → 2000 ≤ n.code → in_function true (a ∷ []) ≡ true →
-    MayFollow (λ p acts. Stands m p acts) a → Stands m p acts → Passed (acts ++ a ∷ [])
-passed_by m n a acts p counted over ends may s = by_code (nat_lt m.code 2000) refl
+passed_by : (m n : Kept) (a : Action) (acts : List Action) (p : Profile) → n.code ≡ min (m.code + instructions m.profile a) 65535 → m.profile.instructions ≤ n.code → in_function true (a ∷ []) ≡ true →
+    MayFollow (λ p acts. Stands m p acts) a → Stands m p acts → Passed m.profile (acts ++ a ∷ [])
+passed_by m n a acts p counted over ends may s = by_code (nat_lt m.code m.profile.instructions) refl
   where
-    by_code : (b : Bool) → nat_lt m.code 2000 ≡ b → Passed (acts ++ a ∷ [])
+    by_code : (b : Bool) → nat_lt m.code m.profile.instructions ≡ b → Passed m.profile (acts ++ a ∷ [])
     by_code true h =
-        let fits : m.code < 2000 = grind (arith, nat_tests, h) in
-        let before : Fits m.code = omega (arith, limit, fits) in
+        let fits : m.code < m.profile.instructions = grind (arith, nat_tests, h) in
+        let before : Fits m = omega (arith, fits) in
         let b : Builds m acts = s.builds before in
         let next : Next a (opened m.stack) = next_of m a before may in
         let opens : follow_all (acts ++ a ∷ []) [] ≡ Some next.behind = follow_append acts (a ∷ []) [] (opened m.stack) b.opens ∙ one_next a (opened m.stack) next.behind next.is next.few in
         record {
-          over = omega (arith, limit, length-last acts a, b.counted, counted, over);
+          over = omega (arith, length-last m.profile acts a, b.counted, counted, over);
           inside = follow_inside (acts ++ a ∷ []) [] next.behind opens ∙ stays_open a (opened m.stack) next.behind ends next.is;
         }
     by_code false h =
-        let past : 2000 ≤ m.code = grind (arith, nat_tests, h) in
-        let q : Passed acts = s.passed (omega (arith, limit, past)) in
+        let past : m.profile.instructions ≤ m.code = grind (arith, nat_tests, h) in
+        let q : Passed m.profile acts = s.passed (omega (arith, past)) in
         record {
-          over = omega (arith, q.over, length-last acts a);
+          over = omega (arith, q.over, length-last m.profile acts a);
           inside = inside_append false acts (a ∷ []) ∙ ap (λ b. in_function b (a ∷ [])) q.inside ∙ ends;
         }
 
-pub stops : (m n : Kept) (a : Action) → n.code ≡ min (m.code + instructions a) 65535 → 2000 ≤ n.code → in_function true (a ∷ []) ≡ true →
+pub stops : (m n : Kept) (a : Action) → n.profile ≡ m.profile → n.code ≡ min (m.code + instructions m.profile a) 65535 → m.profile.instructions ≤ n.code → in_function true (a ∷ []) ≡ true →
     MayFollow (λ p acts. Stands m p acts) a → Appends (λ p acts. Stands m p acts) (λ p acts. Stands n p acts) a
-stops m n a counted over ends may p acts s =
-    record { profile = s.profile; builds = λ fits. absurd (omega (arith, limit, fits, over)); passed = λ _. passed_by m n a acts p counted over ends may s }
+stops m n a by counted over ends may p acts s =
+    let limit = ap (λ (p : Profile). p.instructions) by in
+    record {
+      profile = s.profile ∙ sym by;
+      known = subst IsProfile (sym by) s.known;
+      builds = λ fits. absurd (omega (arith, limit, fits, over));
+      passed = λ _. subst (λ p. Passed p (acts ++ a ∷ [])) (sym by) (passed_by m n a acts p counted over ends may s);
+    }
 
 -- A function ends.
 
-pub ends : (m n : Kept) (v : ℕ) (f : Function) → Ends v m.stack n.stack f → n.functions ≡ m.functions ++ f ∷ [] → n.code ≡ min (m.code + 0) 65535 → n.code < 2000 →
+pub ends : (m n : Kept) (v : ℕ) (f : Function) → n.profile ≡ m.profile → Ends v m.stack n.stack f → n.functions ≡ m.functions ++ f ∷ [] → n.code ≡ min (m.code + 0) 65535 → n.code < m.profile.instructions →
     MayFollow (λ p acts. Stands m p acts) (Finish v) → Appends (λ p acts. Stands m p acts) (λ p acts. Stands n p acts) (Finish v)
-ends m n v f k same counted fits may p acts s =
-    let before : Fits m.code = omega (arith, limit, counted, fits) in
+ends m n v f by k same counted fits may p acts s =
+    let few_code = small m.profile s.known in
+    let before : Fits m = omega (arith, few_code, counted, fits) in
     let b : Builds m acts = s.builds before in
     let next : Next (Finish v) (opened m.stack) = next_of m (Finish v) before may in
     let shut : is_open next.behind ≡ false = shuts (Finish v) (opened m.stack) next.behind refl next.is in
     let nothing : next.behind ≡ opened n.stack = rw k.nothing (shut_is next.behind shut) in
+    let limit = ap (λ (p : Profile). p.instructions) by in
     record {
-      profile = s.profile;
+      profile = s.profile ∙ sym by;
+      known = subst IsProfile (sym by) s.known;
       builds = λ _. record {
         actions = rw (same, k.nothing, functions_add m.functions f, k.actions, b.actions) (simp append_assoc refl);
         opens = follow_append acts (Finish v ∷ []) [] (opened m.stack) b.opens ∙ one_next (Finish v) (opened m.stack) next.behind next.is next.few ∙ ap Some nothing;
-        counted = omega (arith, length-last acts (Finish v), b.counted, counted, fits);
+        counted = ap (λ (p : Profile). code_length p (acts ++ Finish v ∷ [])) by ∙ omega (arith, few_code, length-last m.profile acts (Finish v), b.counted, counted, fits);
       };
       passed = λ over. absurd (omega (arith, limit, over, fits));
     }
@@ -246,57 +266,63 @@ ends m n v f k same counted fits may p acts s =
     shut_is [] h = refl
     shut_is (x ∷ o) h = absurd (cc)
 
-pub fits_within : (m : Kept) → m.code < 2000 → FitsWithin (λ p acts. Stands m p acts)
+pub fits_within : (m : Kept) → m.code < m.profile.instructions → FitsWithin (λ p acts. Stands m p acts)
 fits_within m fits p acts s =
-    let before : Fits m.code = omega (arith, limit, fits) in
+    let before : Fits m = omega (arith, fits) in
     let b : Builds m acts = s.builds before in
-    rw s.profile (omega (arith, limit, b.counted, fits))
+    rw s.profile (omega (arith, b.counted, fits))
 
-pub is_over : (m : Kept) → 2000 ≤ m.code → IsOver (λ p acts. Stands m p acts)
+pub is_over : (m : Kept) → m.profile.instructions ≤ m.code → IsOver (λ p acts. Stands m p acts)
 is_over m over p acts s =
-    let q : Passed acts = s.passed (omega (arith, limit, over)) in
+    let q : Passed m.profile acts = s.passed (omega (arith, over)) in
     rw s.profile q.over
 
-pub stands_new : (m : Kept) → m ≡ record { functions = []; stack = []; code = 0 } → Stands m first_profile []
-stands_new m is = rw is (record { profile = refl; builds = λ _. record { actions = refl; opens = refl; counted = refl }; passed = λ over. absurd (omega (arith, limit, over)) })
+pub stands_new : (m : Kept) (p : Profile) → IsProfile p → m ≡ record { profile = p; functions = []; stack = []; code = 0 } → Stands m p []
+stands_new m p known is =
+    rw is (record {
+      profile = refl;
+      known = known;
+      builds = λ _. record { actions = refl; opens = refl; counted = refl };
+      passed = λ over. absurd (omega (arith, some p known, over));
+    })
 
 -- What the maker's calls need: m is the maker before, q the one that has counted the action's instructions.
 
-within_limit : (m q : Kept) (a : Action) (over : Bool) → q.code ≡ min (m.code + instructions a) 65535 → over ≡ nat_le 2000 q.code → over ≡ false → (Fits m.code) × (q.code < 2000)
-within_limit m q a over counted is not_over =
-    let few : q.code < 2000 = grind (arith, nat_tests, is, not_over) in
-    (omega (arith, limit, counted, few), few)
+within_limit : (m q : Kept) (a : Action) (over : Bool) → IsProfile m.profile → q.code ≡ min (m.code + instructions m.profile a) 65535 → over ≡ nat_le m.profile.instructions q.code → over ≡ false → (Fits m) × (q.code < m.profile.instructions)
+within_limit m q a over known counted is not_over =
+    let few : q.code < m.profile.instructions = grind (arith, nat_tests, is, not_over) in
+    (omega (arith, small m.profile known, counted, few), few)
 
-pub stopped : (m q : Kept) (a : Action) (over : Bool) → q.code ≡ min (m.code + instructions a) 65535 → over ≡ nat_le 2000 q.code → over ≡ true → in_function true (a ∷ []) ≡ true →
+pub stopped : (m q : Kept) (a : Action) (over : Bool) → q.profile ≡ m.profile → q.code ≡ min (m.code + instructions m.profile a) 65535 → over ≡ nat_le m.profile.instructions q.code → over ≡ true → in_function true (a ∷ []) ≡ true →
     MayFollow (λ p acts. Stands m p acts) a → Appends (λ p acts. Stands m p acts) (λ p acts. Stands q p acts) a
-stopped m q a over counted is is_over ends may = stops m q a counted (grind (arith, nat_tests, is, is_over)) ends may
+stopped m q a over by counted is is_over ends may = stops m q a by counted (grind (arith, nat_tests, is, is_over)) ends may
 
-pub may_go_on : (m q : Kept) (a : Action) (over : Bool) → q.stack ≡ m.stack → q.code ≡ min (m.code + instructions a) 65535 → over ≡ nat_le 2000 q.code → over ≡ false →
+pub may_go_on : (m q : Kept) (a : Action) (over : Bool) → q.stack ≡ m.stack → q.code ≡ min (m.code + instructions m.profile a) 65535 → over ≡ nat_le m.profile.instructions q.code → over ≡ false →
     MayFollow (λ p acts. Stands m p acts) a → IsAllowed a q.stack
-may_go_on m q a over stack counted is not_over may = rw stack (allowed m a (within_limit m q a over counted is not_over).0 may)
+may_go_on m q a over stack counted is not_over may = rw stack (allowed m a (within_limit m q a over may.stood.known counted is not_over).0 may)
 
-pub went_on : {A : Type 0} (m q : Kept) (xs : List entry.Open) (a : Action) (over : Bool) (r : Result A BuildFault) → q.functions ≡ m.functions → q.stack ≡ m.stack → q.code ≡ min (m.code + instructions a) 65535 →
-    over ≡ nat_le 2000 q.code → over ≡ false → MayFollow (λ p acts. Stands m p acts) a → OnOk r (Continues a q.stack xs) →
-    OnOk r (Appends (λ p acts. Stands m p acts) (λ p acts. Stands (record { functions = q.functions; stack = xs; code = q.code }) p acts) a)
-went_on m q xs a over r functions stack counted is not_over may told =
+pub went_on : {A : Type 0} (m q : Kept) (xs : List entry.Open) (a : Action) (over : Bool) (r : Result A BuildFault) → q.profile ≡ m.profile → q.functions ≡ m.functions → q.stack ≡ m.stack → q.code ≡ min (m.code + instructions m.profile a) 65535 →
+    over ≡ nat_le m.profile.instructions q.code → over ≡ false → MayFollow (λ p acts. Stands m p acts) a → OnOk r (Continues a q.stack xs) →
+    OnOk r (Appends (λ p acts. Stands m p acts) (λ p acts. Stands (record { profile = q.profile; functions = q.functions; stack = xs; code = q.code }) p acts) a)
+went_on m q xs a over r by functions stack counted is not_over may told =
     on_ok_weaker r
-    (λ k. goes_on m (record { functions = q.functions; stack = xs; code = q.code }) a functions (subst (λ ys. Continues a ys xs) stack k) counted (within_limit m q a over counted is not_over).1 may)
+    (λ k. goes_on m (record { profile = q.profile; functions = q.functions; stack = xs; code = q.code }) a by functions (subst (λ ys. Continues a ys xs) stack k) counted (within_limit m q a over may.stood.known counted is not_over).1 may)
     told
 
-pub over_at_end : (m q : Kept) (over : Bool) → q.code ≡ min (m.code + 0) 65535 → over ≡ nat_le 2000 q.code → over ≡ true → IsOver (λ p acts. Stands m p acts)
+pub over_at_end : (m q : Kept) (over : Bool) → q.code ≡ min (m.code + 0) 65535 → over ≡ nat_le m.profile.instructions q.code → over ≡ true → IsOver (λ p acts. Stands m p acts)
 over_at_end m q over counted is passed =
-    let many : 2000 ≤ q.code = grind (arith, nat_tests, is, passed) in
+    let many : m.profile.instructions ≤ q.code = grind (arith, nat_tests, is, passed) in
     is_over m (omega (arith, counted, many))
 
-pub fits_at_end : (m q : Kept) (over : Bool) → q.code ≡ min (m.code + 0) 65535 → over ≡ nat_le 2000 q.code → over ≡ false → FitsWithin (λ p acts. Stands m p acts)
-fits_at_end m q over counted is passed =
-    let few : q.code < 2000 = grind (arith, nat_tests, is, passed) in
-    fits_within m (omega (arith, counted, few))
+pub fits_at_end : (m q : Kept) (over : Bool) → IsProfile m.profile → q.code ≡ min (m.code + 0) 65535 → over ≡ nat_le m.profile.instructions q.code → over ≡ false → FitsWithin (λ p acts. Stands m p acts)
+fits_at_end m q over known counted is passed =
+    let few : q.code < m.profile.instructions = grind (arith, nat_tests, is, passed) in
+    fits_within m (omega (arith, small m.profile known, counted, few))
 
-pub ended : {A : Type 0} (m q : Kept) (fs : List Function) (xs : List entry.Open) (v : ℕ) (f : Function) (over : Bool) (r : Result A BuildFault) → q.functions ≡ m.functions → q.stack ≡ m.stack → q.code ≡ min (m.code + 0) 65535 →
-    over ≡ nat_le 2000 q.code → over ≡ false → MayFollow (λ p acts. Stands m p acts) (Finish v) → Ends v q.stack xs f → OnOk r (fs ≡ q.functions ++ f ∷ []) →
-    OnOk r (Appends (λ p acts. Stands m p acts) (λ p acts. Stands (record { functions = fs; stack = xs; code = q.code }) p acts) (Finish v))
-ended m q fs xs v f over r functions stack counted is not_over may ends_at longer =
+pub ended : {A : Type 0} (m q : Kept) (fs : List Function) (xs : List entry.Open) (v : ℕ) (f : Function) (over : Bool) (r : Result A BuildFault) → q.profile ≡ m.profile → q.functions ≡ m.functions → q.stack ≡ m.stack → q.code ≡ min (m.code + 0) 65535 →
+    over ≡ nat_le m.profile.instructions q.code → over ≡ false → MayFollow (λ p acts. Stands m p acts) (Finish v) → Ends v q.stack xs f → OnOk r (fs ≡ q.functions ++ f ∷ []) →
+    OnOk r (Appends (λ p acts. Stands m p acts) (λ p acts. Stands (record { profile = q.profile; functions = fs; stack = xs; code = q.code }) p acts) (Finish v))
+ended m q fs xs v f over r by functions stack counted is not_over may ends_at longer =
     on_ok_weaker r
-    (λ k. ends m (record { functions = fs; stack = xs; code = q.code }) v f (subst (λ ys. Ends v ys xs f) stack ends_at) (k ∙ ap (λ gs. gs ++ f ∷ []) functions) counted (within_limit m q (Finish v) over counted is not_over).1 may)
+    (λ k. ends m (record { profile = q.profile; functions = fs; stack = xs; code = q.code }) v f by (subst (λ ys. Ends v ys xs f) stack ends_at) (k ∙ ap (λ gs. gs ++ f ∷ []) functions) counted (within_limit m q (Finish v) over may.stood.known counted is not_over).1 may)
     longer

@@ -20,7 +20,7 @@ pub record StandsForNone (before : Meaning) : Type 0 where
 
 -- behind these actions the code and the last NOP pass the profile's limit
 abbrev pub IsOverWith : Meaning → List Action → Type 0
-IsOverWith before more = (profile : Profile) (acts : List Action) → before profile acts → profile.instructions < code_length (acts ++ more) + 1
+IsOverWith before more = (profile : Profile) (acts : List Action) → before profile acts → profile.instructions < code_length profile (acts ++ more) + 1
 
 -- each list stood for before is stood for with the actions that the maker stands for
 abbrev pub AppendsThose : Kept → Meaning → Meaning → Type 0

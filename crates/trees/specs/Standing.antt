@@ -1,22 +1,24 @@
--- What a maker of trees stands for.
+-- What a maker of trees represents.
 use Rattle.std.specs.Prelude.{ℕ, ◌+◌, ◌≡◌, ◌<◌, ◌≤◌, List, [], ◌∷◌, ◌++◌, Bool, true, false, Some}
 use Rattle.grammar.specs.Actions.{Action, Begin, Finish, code_length}
 use Rattle.grammar.specs.Following.{follow_all}
-use Rattle.grammar.specs.Profile.{Profile, first_profile}
+use Rattle.grammar.specs.Profile.{Profile, IsProfile}
 use Rattle.trees.specs.Opened.{opened, open_actions}
 use Rattle.trees.specs.Trees.{made_actions}
 use Rattle.trees.specs.declared.stack.Open.{Open}
 use Rattle.trees.specs.declared.tree.Function.{Function}
 
--- what a maker keeps: the functions that are done, what is open, the innermost first, and how many instructions it counted
+-- what a maker keeps: its profile, the functions that are done, what is open, the innermost first, and how many instructions
+-- it counted
 pub record Kept : Type 0 where
+  pub profile : Profile
   pub functions : List Function
   pub stack : List Open
   pub code : ℕ
 
--- the instructions so far and the last NOP are within the limit
-abbrev pub Fits : ℕ → Type 0
-Fits code = code + 1 ≤ first_profile.instructions
+-- the instructions so far and the last NOP are within the profile's limit
+abbrev pub Fits : Kept → Type 0
+Fits m = m.code + 1 ≤ m.profile.instructions
 
 -- whether a function is open behind the actions, if one was before or not
 abbrev pub in_function : Bool → List Action → Bool
@@ -25,19 +27,20 @@ in_function before (Begin number parameters ∷ acts) = in_function true acts
 in_function before (Finish variables ∷ acts) = in_function false acts
 in_function before (a ∷ acts) = in_function before acts
 
--- the actions are those of the functions that are done, and behind them those of what is open
+-- the actions are those of the functions that are done, and after them those of what is open
 pub record Builds (m : Kept) (acts : List Action) : Type 0 where
   pub actions : acts ≡ made_actions m.functions ++ open_actions m.stack
   pub opens : follow_all acts [] ≡ Some (opened m.stack)
-  pub counted : code_length acts ≡ m.code
+  pub counted : code_length m.profile acts ≡ m.code
 
 -- the code has passed the limit in a function that is still open
-pub record Passed (acts : List Action) : Type 0 where
-  pub over : first_profile.instructions < code_length acts + 1
+pub record Passed (p : Profile) (acts : List Action) : Type 0 where
+  pub over : p.instructions < code_length p acts + 1
   pub inside : in_function false acts ≡ true
 
--- A maker stands for these actions: within the limit its trees have them, and past it only the code counts.
+-- A maker represents these actions by its profile: within the limit its trees have them, and past it only the code counts.
 pub record Stands (m : Kept) (p : Profile) (acts : List Action) : Type 0 where
-  pub profile : p ≡ first_profile
-  pub builds : Fits m.code → Builds m acts
-  pub passed : first_profile.instructions < m.code + 1 → Passed acts
+  pub profile : p ≡ m.profile
+  pub known : IsProfile m.profile
+  pub builds : Fits m → Builds m acts
+  pub passed : m.profile.instructions < m.code + 1 → Passed m.profile acts

@@ -1,7 +1,6 @@
 //! The trees of robot programs: a builder that makes them, and tells them to another builder.
 #![tactic(auto)]
 
-mod limits;
 mod maker;
 mod making;
 mod memory;
@@ -9,6 +8,6 @@ mod replay;
 mod stack;
 mod tree;
 
-pub use limits::MOST_INSTRUCTIONS;
+pub use grammar::Profile;
 pub use maker::TreeMaker;
 pub use tree::{Expr, Function, Statement};

@@ -1,23 +1,24 @@
 //! The builder that makes trees.
 
 ghost use Rattle.std.specs.Prelude.{◌≡◌, ◌+◌, [], min, nat_le, true};
-ghost use Rattle.grammar.specs.Profile.{first_profile};
+ghost use Rattle.grammar.specs.Actions.{Apply, Middle, instructions};
 ghost use Rattle.trees.specs.Standing.{Stands};
 
-use crate::limits::MOST_INSTRUCTIONS;
 use crate::memory::put;
 use crate::stack::Stack;
 use crate::tree::Function;
-use grammar::{Build, BuildFault, Callee, Op, StoreOp, Var};
+use grammar::{Build, BuildFault, Callee, Op, Profile, StoreOp, Var};
 use std::alloc::Global;
 use std::marker::Model;
 
 /// Makes the tree of each function that it is told.
 ///
 /// It asks its allocator for memory, and answers `Memory` where a request is refused.
-/// Once the code and the final NOP pass `MOST_INSTRUCTIONS`, it makes no more trees, and the end of that function answers `Full`.
+/// Once the code and the final NOP pass the profile's instructions, it makes no more trees, and the end of that function
+/// answers `Full`.
 #[derive(Drop)]
 pub struct TreeMaker {
+    profile: Profile,
     functions: Vec<Function>,
     stack: Stack,
     code: u16,
@@ -33,15 +34,17 @@ impl Model for TreeMaker {
 
     ghost coded = { Prim.hlevel (codes, expr.the_row.coded, statement.the_row.coded) };
 
-    ghost view = { λ a. record { functions = a.functions.items; stack = a.stack; code = a.code } };
+    ghost view = { λ a. record { profile = a.profile; functions = a.functions.items; stack = a.stack; code = a.code } };
 }
 
 impl TreeMaker {
-    /// A maker without trees, which keeps this allocator.
-    pub fn new(alloc: Global) -> TreeMaker
-        ensures { Stands result first_profile [] }
+    /// A maker without trees, which keeps this allocator and goes by this profile.
+    pub fn new(alloc: Global, profile: Profile) -> TreeMaker
+        ensures { Stands result profile [] }
     {
+        prove!(0 < profile.instructions());
         TreeMaker {
+            profile,
             functions: Vec::new(alloc),
             stack: Stack::new(alloc),
             code: 0,
@@ -57,13 +60,41 @@ impl TreeMaker {
 
     // Counts more instructions, and whether the code with the final NOP now passes the limit.
     fn passes(&mut self, instructions: u16) -> bool
+        ensures profile { self.new.profile ≡ self.old.profile }
         ensures functions { self.new.functions ≡ self.old.functions }
         ensures stack { self.new.stack ≡ self.old.stack }
         ensures code { self.new.code ≡ min (self.old.code + instructions) 65535 }
-        ensures passes { result ≡ nat_le 2000 self.new.code }
+        ensures passes { result ≡ nat_le self.old.profile.instructions self.new.code }
     {
         self.code = self.code.saturating_add(instructions);
-        self.code >= MOST_INSTRUCTIONS
+        self.code >= self.profile.instructions()
+    }
+}
+
+// How many instructions stand between the sides of an operator.
+fn middle_length(profile: Profile, op: Op) -> u16
+    ensures { result ≡ instructions profile (Middle op) }
+{
+    if !profile.short_circuit() {
+        return 0;
+    }
+    match op {
+        Op::And => 1,
+        Op::Or => 4,
+        _ => 0,
+    }
+}
+
+// How many stand at the end of its right side.
+fn end_length(profile: Profile, op: Op) -> u16
+    ensures { result ≡ instructions profile (Apply op) }
+{
+    if !profile.short_circuit() {
+        return 1;
+    }
+    match op {
+        Op::And => 4,
+        _ => 1,
     }
 }
 
@@ -94,14 +125,16 @@ impl Build for TreeMaker {
     }
 
     fn binop(&mut self, op: Op) -> Result<(), BuildFault> {
-        if self.passes(1) {
+        let instructions = end_length(self.profile, op);
+        if self.passes(instructions) {
             return Ok(());
         }
         self.stack.binop(op)
     }
 
     fn logic_middle(&mut self, op: Op) -> Result<(), BuildFault> {
-        if self.passes(0) {
+        let instructions = middle_length(self.profile, op);
+        if self.passes(instructions) {
             return Ok(());
         }
         self.stack.logic_middle(op)

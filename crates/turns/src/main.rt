@@ -4,7 +4,7 @@
 mod counts;
 
 use crate::counts::counted;
-use code::{Maker, Program};
+use code::{Maker, Profile, Program};
 use lang::parse;
 use std::io::ErrorKind;
 use std::{env, io};
@@ -52,7 +52,7 @@ fn cycles(rt: &HostRuntime) -> io::Result<u32> {
 
 /// The program of a source without a fault.
 fn compiled(source: &[u8]) -> Option<Program> {
-    let mut maker = Maker::new();
+    let mut maker = Maker::new(Profile::first());
     let names = parse(&mut Pieces::new(source, 4096), &mut maker).ok()?;
     Some(maker.finish(names))
 }

@@ -1,4 +1,4 @@
-use Rattle.code.proofs.KnownPrograms.{listings, restarts, wants}
+use Rattle.code.proofs.KnownPrograms.{choices, listings, operators, restarts, values, wants}
 use Rattle.code.proofs.known.known_programs.Goals as goal
 
 pub returns-clause-listings : goal.returns-clause-listings
@@ -6,6 +6,15 @@ returns-clause-listings c = listings
 
 pub returns-clause-wants : goal.returns-clause-wants
 returns-clause-wants c = wants
+
+pub returns-clause-choices : goal.returns-clause-choices
+returns-clause-choices c = choices
+
+pub returns-clause-values : goal.returns-clause-values
+returns-clause-values c = values
+
+pub returns-clause-operators : goal.returns-clause-operators
+returns-clause-operators c = operators
 
 pub returns-clause-restarts : goal.returns-clause-restarts
 returns-clause-restarts c = restarts

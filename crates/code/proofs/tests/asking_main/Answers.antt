@@ -37,6 +37,7 @@ end_function-requires c = record { follows = follows (Finish 0) (c.in_ok-give_ba
 
 pub finish-requires : goal.finish-requires
 finish-requires c = record {
+  profile = _;
   file = asking_alone_file;
   told = record {
     resolved = asking_alone_resolved;

@@ -1,10 +1,10 @@
-use Rattle.std.proofs.Common.{◌<◌, ◌^◌, ◌-◌, ◌∙◌, sym, subst, ap, List, ℕ, Some, None, [], ◌∷◌, length, map, arith, length-append}
+use Rattle.std.proofs.Common.{true, ◌≡◌, ◌+◌, ◌<◌, ◌^◌, ◌-◌, ◌∙◌, sym, subst, ap, List, ℕ, Some, None, [], ◌∷◌, length, map, arith, length-append}
 use Rattle.std.specs.Prelude.{if◌then◌else◌}
 use Rattle.std.proofs.lemmas.List.{length-map}
 use Rattle.std.proofs.lemmas.List.Elements.{All-get_or}
-use Rattle.grammar.specs.Profile.{first_profile}
 use Rattle.series.specs.Runs.{AreSources}
-use Rattle.series.proofs.RunsLemmas.{feed_here, told_here, name_here, length_sources, none_failed, rest_more, listed_more, listed_cut, kept_more, kept_good, kept_fault}
+use Rattle.series.proofs.CompilingLemmas.{pieces_more, pieces_cut, kept_more, kept_good, kept_fault}
+use Rattle.series.proofs.RunsLemmas.{feed_here, told_here, name_here, length_sources, none_failed, rest_more}
 use Rattle.series.proofs.runs.compile_into.Goals as goal
 use Rattle.series.proofs.runs.compile_into.Goals.{in-Ok-compiled, in-Err-compiled}
 
@@ -22,12 +22,15 @@ returns-in-Err-put_compiled-clause-output g c = λ sources are.
     let in_words : c.loop-file.file < length c.words-words.result.now =
     omega (arith, ap length c.words-words.ensures.value, length-map c.words-words.result.now (λ word. word.now)) in
     let in_sources : c.loop-file.file < length sources = omega (arith, length_sources sources c.args.settings.now.words _ are) in
-    listed_cut first_profile sources c.loop-file.file _ _ _ c.in-Ok.compiled in_sources
+    pieces_cut c.args.settings.now.mode c.args.settings.now.profile sources c.loop-file.file _ _ _ c.in-Ok.compiled in_sources
     (c.loop-file.invariant.3 sources are).0
-    (c.in-Ok.ensures.file _ (told_here g.F.Feed.to_come c.args.feeds.now c.loop-file.feeds sources c.args.settings.now.words c.loop-file.file
-    c.index-feeds-file.result are c.requires.files within c.loop-file.invariant.0))
-    (rw (name_here (λ word. word.now) c.words-words.result.now sources _ c.loop-file.file _ c.as_bytes.result.now c.name_of-name.result.now
-    named in_words c.as_bytes.ensures.value c.name_of-name.ensures) at c.in-Err-put_compiled.ensures.taken)
+    (rw c.profile-profile.ensures.value at (c.in-Ok.ensures.file _ (told_here g.F.Feed.to_come c.args.feeds.now c.loop-file.feeds sources c.args.settings.now.words
+    c.loop-file.file c.index-feeds-file.result are c.requires.files within c.loop-file.invariant.0)))
+    (rw (
+      c.mode-mode.ensures.value,
+      name_here (λ word. word.now) c.words-words.result.now sources _ c.loop-file.file _ c.as_bytes.result.now c.name_of-name.result.now
+          named in_words c.as_bytes.ensures.value c.name_of-name.ensures,
+    ) at c.in-Err-put_compiled.ensures.taken)
 
 pub loop-file-preserved : goal.loop-file-preserved
 loop-file-preserved g c = (
@@ -38,8 +41,13 @@ loop-file-preserved g c = (
     c.in_default.ensures.failures.1,
   ) c.loop-file.invariant.1,
   elim c.match-compiled.branch [
-    | in-Ok-compiled w ↦ rw (w.programs-is, w.push.ensures) (omega (arith, length-append c.loop-file.programs (w.in-Ok-compiled.program ∷ [])))
-    | in-Err-compiled w ↦ rw w.programs-is (omega arith)
+    | in-Ok-compiled w ↦
+        let more : length c.match-compiled.programs ≡ length c.loop-file.programs + 1 =
+        ap length (w.programs-is ∙ w.push.ensures) ∙ length-append c.loop-file.programs (w.in-Ok-compiled.program ∷ []) in
+        (omega arith, λ good. omega (arith, c.loop-file.invariant.2.1 (sym w.faulty-is ∙ good)))
+    | in-Err-compiled w ↦
+        let same : length c.match-compiled.programs ≡ length c.loop-file.programs = ap length w.programs-is in
+        (omega arith, λ good. let bad : c.match-compiled.faulty ≡ true = w.faulty-is in cc)
   ],
   λ sources are.
       let within : c.loop-file.file < length c.args.feeds.now = omega arith in
@@ -48,12 +56,15 @@ loop-file-preserved g c = (
       let in_words : c.loop-file.file < length c.words-words.result.now =
       omega (arith, ap length c.words-words.ensures.value, length-map c.words-words.result.now (λ word. word.now)) in
       let in_sources : c.loop-file.file < length sources = omega (arith, length_sources sources c.args.settings.now.words _ are) in
-      let code = c.in-Ok.ensures.file _ (told_here g.F.Feed.to_come c.args.feeds.now c.loop-file.feeds sources c.args.settings.now.words c.loop-file.file
-      c.index-feeds-file.result are c.requires.files within c.loop-file.invariant.0) in
-      let more = kept_more first_profile sources c.loop-file.file _ c.in-Ok.compiled in_sources (c.loop-file.invariant.3 sources are).1 code in (
-        listed_more first_profile sources c.loop-file.file _ _ _ c.in-Ok.compiled in_sources (c.loop-file.invariant.3 sources are).0 code
-            (rw (name_here (λ word. word.now) c.words-words.result.now sources _ c.loop-file.file _ c.as_bytes.result.now c.name_of-name.result.now
-            named in_words c.as_bytes.ensures.value c.name_of-name.ensures) at c.in_default.ensures.taken),
+      let code = rw c.profile-profile.ensures.value at (c.in-Ok.ensures.file _ (told_here g.F.Feed.to_come c.args.feeds.now c.loop-file.feeds sources c.args.settings.now.words c.loop-file.file
+      c.index-feeds-file.result are c.requires.files within c.loop-file.invariant.0)) in
+      let more = kept_more c.args.settings.now.profile sources c.loop-file.file _ c.in-Ok.compiled in_sources (c.loop-file.invariant.3 sources are).1 code in (
+        pieces_more c.args.settings.now.mode c.args.settings.now.profile sources c.loop-file.file _ _ _ c.in-Ok.compiled in_sources (c.loop-file.invariant.3 sources are).0 code
+            (rw (
+              c.mode-mode.ensures.value,
+              name_here (λ word. word.now) c.words-words.result.now sources _ c.loop-file.file _ c.as_bytes.result.now c.name_of-name.result.now
+                  named in_words c.as_bytes.ensures.value c.name_of-name.ensures,
+            ) at c.in_default.ensures.taken),
         elim c.match-compiled.branch [
           | in-Ok-compiled w ↦ kept_good c.loop-file.faulty c.match-compiled.faulty c.loop-file.programs c.match-compiled.programs w.in-Ok-compiled.program
               c.in-Ok.compiled _ w.in-Ok-compiled.is w.faulty-is (w.programs-is ∙ w.push.ensures) more

@@ -1,20 +1,21 @@
-use Rattle.std.proofs.Common.{◌≡◌, ◌≤◌, List, Some, None, length, drop, take, map}
+use Rattle.std.proofs.Common.{false, ◌≡◌, ◌≤◌, List, Some, None, length, drop, take, map}
 use Rattle.std.specs.Prelude.{if◌then◌else◌}
-use Rattle.grammar.specs.Profile.{first_profile}
-use Rattle.series.specs.Output.{Source, listings, codes_of}
+use Rattle.series.specs.Compiling.{Source, compiling, codes_of}
+use Rattle.series.specs.Failures.{failures}
 use Rattle.series.specs.Pieces.{taken, Writes}
-use Rattle.series.specs.Runs.{AreSources, failures}
+use Rattle.series.specs.Runs.{AreSources}
 use Rattle.series.proofs.runs.compile_into.Given as goal
 
--- The feeds of the files to come are as they were, nothing failed, there is at most a program for each file so far,
--- and the files so far are listed and compiled.
+-- The feeds of the files to come are as they were, nothing failed, there is a program for each file so far
+-- unless one was faulty,
+-- and the files so far are compiled.
 abbrev pub invariant-loop-file : goal.invariant-loop-file
 invariant-loop-file g l =
     (drop l.file l.feeds ≡ drop l.file l.fn.feeds)
     × (failures (map g.F.Feed.failures l.feeds) (g.O.Sink.failures l.out) (g.E.Sink.failures l.err)
     ≡ failures (map g.F.Feed.failures l.fn.feeds) (g.O.Sink.failures l.fn.out) (g.E.Sink.failures l.fn.err))
-    × (length l.programs ≤ l.file)
+    × ((length l.programs ≤ l.file) × (l.faulty ≡ false → length l.programs ≡ l.file))
     × ((sources : List Source) → AreSources sources l.settings.words (map g.F.Feed.to_come l.fn.feeds)
     → Writes (taken (g.O.Sink.portions l.fn.out) (g.E.Sink.portions l.fn.err)) (taken (g.O.Sink.portions l.out) (g.E.Sink.portions l.err))
-    (listings first_profile (take l.file sources))
-    × ((if l.faulty then None else Some l.programs) ≡ codes_of first_profile (take l.file sources)))
+    (compiling l.settings.mode l.settings.profile (take l.file sources))
+    × ((if l.faulty then None else Some l.programs) ≡ codes_of l.settings.profile (take l.file sources)))

@@ -6,5 +6,5 @@ use Rattle.code.proofs.program.Program.addresses.Goals as goal
 pub returns-clause-each : goal.returns-clause-each
 returns-clause-each c =
     ap (λ (xs : List ℕ). length xs) c.as_slice.ensures.value
-    ∙ addresses_of_file _ c.self.invariant.0
+    ∙ addresses_of_file _ c.self.invariant.1
     ∙ ap (λ (code : Code). length code.names.functions) c.self.view_is

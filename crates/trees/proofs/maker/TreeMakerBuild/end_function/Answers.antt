@@ -17,11 +17,11 @@ end_function-function-requires c =
 pub returns-clause-ok : goal.returns-clause-ok
 returns-clause-ok c =
     let counted = c.passes.ensures in
-    let inside : Kept = record { functions = c.self.inside.functions.items; stack = c.self.inside.stack; code = c.self.inside.code } in
+    let inside : Kept = record { profile = c.self.inside.profile; functions = c.self.inside.functions.items; stack = c.self.inside.stack; code = c.self.inside.code } in
     ended c.args.self.now inside c.put.new.items.items c.end_function-function.new.self c.args.variables c.end_function-function.result c.passes.result c.put.result
-    (ap (λ (k : Kept). k.functions) c.self.view_is ∙ counted.functions) (ap (λ (k : Kept). k.stack) c.self.view_is ∙ counted.stack) (ap (λ (k : Kept). k.code) c.self.view_is ∙ counted.code)
+    (ap (λ (k : Kept). k.profile) c.self.view_is ∙ counted.profile) (ap (λ (k : Kept). k.functions) c.self.view_is ∙ counted.functions) (ap (λ (k : Kept). k.stack) c.self.view_is ∙ counted.stack) (ap (λ (k : Kept). k.code) c.self.view_is ∙ counted.code)
     (rw (ap (λ (k : Kept). k.code) c.self.view_is) counted.passes) c.if-passes.false c.requires.follows c.end_function-function.ensures c.put.ensures.ok
 
 pub returns-clause-fits : goal.returns-clause-fits
 returns-clause-fits c =
-    on_ok_weaker c.put.result (λ _. fits_at_end c.args.self.now c.passes.new.self c.passes.result c.passes.ensures.code c.passes.ensures.passes c.if-passes.false) c.put.ensures.ok
+    on_ok_weaker c.put.result (λ _. fits_at_end c.args.self.now c.passes.new.self c.passes.result c.requires.follows.stood.known c.passes.ensures.code c.passes.ensures.passes c.if-passes.false) c.put.ensures.ok

@@ -1,0 +1,89 @@
+-- What a cycle does, and which cycle is the last.
+use Rattle.std.proofs.Common.{◌≡◌, ◌≢◌, ℕ, ◌+◌, ◌-◌, ◌%◌, ◌<◌, suc, Bool, true, false, List, length, refl, sym, ◌∙◌, arith, add-one}
+use Rattle.std.specs.Prelude.{nat_le}
+use Rattle.std.proofs.lemmas.Bool.Decides.{nat_tests}
+use Rattle.arena.specs.Field.{live_count}
+use Rattle.arena.specs.Ground.{Ground}
+use Rattle.arena.specs.Moved.{moved}
+use Rattle.arena.specs.Standing.{StandsFor as IsGroundOf}
+use Rattle.code.specs.Generation.{Code}
+use Rattle.code.specs.Machine.{State}
+use Rattle.battles.specs.Battle.{Robot, Stage, turns, is_due, updated, cycle, is_over, stage_after, first_above, last_cycle}
+use Rattle.battles.specs.Carrying.{HasReached}
+
+is_due_yes : (number : ℕ) → number % 15 ≡ 0 → is_due number ≡ true
+unfolding is_due
+is_due_yes number e = grind (arith, nat_tests)
+
+is_due_no : (number : ℕ) → number % 15 ≢ 0 → is_due number ≡ false
+unfolding is_due
+is_due_no number e = grind (arith, nat_tests)
+
+-- no update is due
+pub cycle_alone : (robots : List Robot) (number : ℕ) (s : Stage) → number % 15 ≢ 0 → cycle robots number s ≡ turns robots (length robots) s
+unfolding cycle updated
+cycle_alone robots number s e = rw (is_due_no number e) refl
+
+pub goes_on : (number : ℕ) (s : Stage) → number % 15 ≢ 0 → is_over number s ≡ false
+unfolding is_over
+goes_on number s e = rw (is_due_no number e) refl
+
+-- one is due
+pub cycle_updates : (robots : List Robot) (number : ℕ) (s : Stage) → number % 15 ≡ 0
+    → cycle robots number s ≡ record { field = moved (turns robots (length robots) s).field; traces = (turns robots (length robots) s).traces }
+unfolding cycle updated
+cycle_updates robots number s e = rw (is_due_yes number e) refl
+
+pub over_if_few : (number : ℕ) (s : Stage) → number % 15 ≡ 0 → is_over number s ≡ nat_le (live_count s.field) 1
+unfolding is_over
+over_if_few number s e = rw (is_due_yes number e) refl
+
+pub updated_reached : (machines : List State) (codes : List Code) (arena after : Ground) (s : Stage)
+    → HasReached machines codes arena s → IsGroundOf after (moved s.field)
+    → HasReached machines codes after (record { field = moved s.field; traces = s.traces })
+updated_reached machines codes arena after s reached moves = record { field = moves; traces = reached.traces }
+
+-- no cycle was run yet
+pub stage_none : (robots : List Robot) (s : Stage) → stage_after robots s 0 ≡ s
+unfolding stage_after
+stage_none robots s = refl
+
+pub stage_more : (robots : List Robot) (s : Stage) (n : ℕ) → stage_after robots s (n + 1) ≡ cycle robots (n + 1) (stage_after robots s n)
+unfolding stage_after
+stage_more robots s n = rw add-one refl
+
+-- the search for the last cycle goes on from a cycle that is not the last
+pub first_begins : (robots : List Robot) (s : Stage) (limit : ℕ)
+    → first_above (λ n. is_over n (stage_after robots s n)) 0 (limit - 0) ≡ last_cycle robots s limit
+unfolding last_cycle
+first_begins robots s limit = let e : limit - 0 ≡ limit = omega arith in rw e refl
+
+first_here : (passes : ℕ → Bool) (n count : ℕ) → passes (n + 1) ≡ true → first_above passes n (suc count) ≡ n + 1
+unfolding first_above
+first_here passes n count here = rw here refl
+
+first_later : (passes : ℕ → Bool) (n count : ℕ) → passes (n + 1) ≡ false → first_above passes n (suc count) ≡ first_above passes (n + 1) count
+unfolding first_above
+first_later passes n count here = rw here refl
+
+first_none : (passes : ℕ → Bool) (n : ℕ) → first_above passes n 0 ≡ n
+unfolding first_above
+first_none passes n = refl
+
+pub first_more : (passes : ℕ → Bool) (n limit last : ℕ) → n < limit → first_above passes n (limit - n) ≡ last
+    → passes (n + 1) ≡ false → first_above passes (n + 1) (limit - (n + 1)) ≡ last
+first_more passes n limit last within so later =
+    let e : limit - n ≡ suc (limit - (n + 1)) = omega arith in
+    sym (first_later passes n (limit - (n + 1)) later) ∙ rw e at so
+
+pub first_is : (passes : ℕ → Bool) (n limit last : ℕ) → n < limit → first_above passes n (limit - n) ≡ last
+    → passes (n + 1) ≡ true → n + 1 ≡ last
+first_is passes n limit last within so here =
+    let e : limit - n ≡ suc (limit - (n + 1)) = omega arith in
+    sym (first_here passes n (limit - (n + 1)) here) ∙ rw e at so
+
+pub first_ends : (passes : ℕ → Bool) (n limit last : ℕ) → n ≡ limit → first_above passes n (limit - n) ≡ last → limit ≡ last
+first_ends passes n limit last done so =
+    let e : limit - n ≡ 0 = omega arith in
+    let at_end : first_above passes n 0 ≡ last = rw e at so in
+    sym done ∙ sym (first_none passes n) ∙ at_end

@@ -1,0 +1,4 @@
+pub mod ProgramsLemmas
+pub mod Stages
+pub mod Cycles
+pub mod Beginnings

@@ -1,0 +1,26 @@
+-- How programs are kept.
+use Rattle.std.proofs.Common.{◌≡◌, ℕ, ◌<◌, zero, suc, List, [], ◌∷◌, length, map, Option, Some, None, get_or, arith, refl, sym, ap, ◌∙◌}
+use Rattle.std.specs.Prelude.{slice_get, flat_map}
+use Rattle.std.specs.Option.{option_to_list}
+use Rattle.battles.specs.Programs.{AllSome}
+
+-- what is kept at a place is the program of that place
+pub kept_here : {A : Type 0} (items : List A) (place : ℕ) (d : Option A) → place < length items
+    → get_or (map (λ (x : A). Some x) items) place d ≡ slice_get items place
+kept_here [] place d within = absurd (omega arith)
+kept_here (x ∷ items) zero d within = refl
+kept_here (x ∷ items) (suc place) d within = kept_here items place d (omega arith)
+
+-- so something is
+pub kept_some : {A : Type 0} (items : List A) (place : ℕ) → place < length items → slice_get items place ≡ None → ⊥
+kept_some [] place within none = absurd (omega arith)
+kept_some (x ∷ items) zero within none = cc
+kept_some (x ∷ items) (suc place) within none = kept_some items place (omega arith) none
+
+-- what is found at a place is the program of that place
+pub kept_at : {A : Type 0} (kept shelf : List (Option A)) (items : List A) (place : ℕ) (found : Option A)
+    → AllSome kept → flat_map option_to_list kept ≡ items → shelf ≡ kept → place < length items → found ≡ get_or shelf place found
+    → slice_get items place ≡ found
+kept_at {A} kept shelf items place found all are same within here =
+    let each : shelf ≡ map (λ (x : A). Some x) items = same ∙ all ∙ ap (λ l. map (λ (x : A). Some x) l) are in
+    sym (kept_here items place found within) ∙ ap (λ l. get_or l place found) (sym each) ∙ sym here

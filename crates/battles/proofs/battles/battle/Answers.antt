@@ -1,0 +1,22 @@
+use Rattle.std.proofs.Common.{◌≡◌, length, sym, ◌∙◌}
+use Rattle.battles.specs.Battle.{opening}
+use Rattle.battles.specs.Carrying.{HasReached}
+use Rattle.battles.specs.Pairing.{paired, robots_of}
+use Rattle.battles.proofs.Beginnings.{robots_are, opening_reached, battle_is}
+use Rattle.battles.proofs.Stages.{robots_length}
+use Rattle.battles.proofs.battles.battle.Goals as goal
+
+pub returns-clause-battle : goal.returns-clause-battle
+returns-clause-battle c = λ p files are.
+    let robots = robots_of p files in
+    let codes = paired c.args.programs.now in
+    let each = robots_are c.args.programs.now p files are in
+    let reached : HasReached c.as_mut_slice.result.now codes c.new-arena.result (opening (length robots) c.args.seed c.args.number) =
+    rw c.as_mut_slice.ensures.value (
+    opening_reached c.machines-machines.result.items codes c.new-arena.result robots _ c.args.seed c.args.number each
+    c.robots-robots.ensures.robots (rw c.from.ensures at c.new-arena.ensures.stands) c.machines-machines.ensures.stands) in
+    let ended = c.play-cycles.ensures.stage robots _ each reached in
+    let all : c.robots-robots.result ≡ length robots = c.robots-robots.ensures.robots ∙ sym (robots_length codes robots each) in
+    c.new.ensures
+    ∙ battle_is robots c.args.seed c.args.number c.args.limit _ _ (c.play-cycles.ensures.cycles robots _ each reached)
+    (rw all at (c.damages.ensures.damages _ ended.field))

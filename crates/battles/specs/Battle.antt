@@ -1,0 +1,97 @@
+-- A battle: robots on the field, cycle by cycle, from the start of a match to its end.
+use Rattle.std.specs.Prelude.{ℕ, ℤ, pos, zero, suc, ◌+◌, ◌%◌, ◌==◌, ◌&&◌, Bool, nat_lt, nat_le, if◌then◌else◌, List, [], ◌∷◌, ◌++◌, length, map, replicate, slice_index_or, slice_set}
+use Rattle.std.specs.List.{range_with_len}
+use Rattle.arena.specs.Answer.{answer}
+use Rattle.arena.specs.Field.{Field, damage_of, robot_at, is_live, live_count}
+use Rattle.arena.specs.Moved.{moved}
+use Rattle.arena.specs.Start.{start}
+use Rattle.code.specs.declared.want.Want.{Want}
+use Rattle.code.specs.declared.want.Want.TheVariants.{Quiet, Ask, Restart}
+
+-- What a robot wants next, by its trace: the replies that it got since it began.
+abbrev pub Robot : Type 0
+Robot = List ℤ → Want
+
+-- the field, and the trace of each robot
+pub record Stage : Type 0 where
+  pub field : Field
+  pub traces : List (List ℤ)
+
+-- what a want of the robot with this index makes of the field and of its trace
+unfoldable pub granted : Want → ℕ → Field → List ℤ → Field × List ℤ
+granted Quiet i field trace = (field, trace ++ pos 0 ∷ [])
+granted (Ask intrinsic arguments) i field trace =
+    let asked = answer field i intrinsic arguments in (asked.1, trace ++ asked.0 ∷ [])
+granted Restart i field trace = (field, [])
+
+-- one cycle of one robot: a dead one does nothing
+unfoldable pub step : Robot → ℕ → Field → List ℤ → Field × List ℤ
+step robot i field trace = if is_live field i then granted (robot trace) i field trace else (field, trace)
+
+-- past the last robot there is one that wants nothing
+unfoldable pub robot_of : List Robot → ℕ → Robot
+robot_of robots i = slice_index_or robots i (λ trace. Quiet)
+
+unfoldable pub turn : List Robot → ℕ → Stage → Stage
+turn robots i stage =
+    let stepped = step (robot_of robots i) i stage.field (slice_index_or stage.traces i []) in
+    record { field = stepped.0; traces = slice_set stage.traces i stepped.1 }
+
+-- the turns of the first n robots, in their order
+unfoldable pub turns : List Robot → ℕ → Stage → Stage
+turns robots zero stage = stage
+turns robots (suc n) stage = turn robots n (turns robots n stage)
+
+-- an update follows every 15th cycle
+unfoldable pub is_due : ℕ → Bool
+is_due number = number % 15 == 0
+
+unfoldable pub updated : ℕ → Stage → Stage
+updated number stage =
+    if is_due number then record { field = moved stage.field; traces = stage.traces } else stage
+
+-- the cycle of this number; the first is 1
+unfoldable pub cycle : List Robot → ℕ → Stage → Stage
+cycle robots number stage = updated number (turns robots (length robots) stage)
+
+-- a battle is over after an update that leaves at most one robot alive
+unfoldable pub is_over : ℕ → Stage → Bool
+is_over number stage = is_due number && nat_le (live_count stage.field) 1
+
+-- the stage after so many cycles
+unfoldable pub stage_after : List Robot → Stage → ℕ → Stage
+stage_after robots opening zero = opening
+stage_after robots opening (suc n) = cycle robots (suc n) (stage_after robots opening n)
+
+-- the least of so many numbers above n that passes, or the last of them
+unfoldable pub first_above : (ℕ → Bool) → ℕ → ℕ → ℕ
+first_above passes n zero = n
+first_above passes n (suc count) = if passes (n + 1) then n + 1 else first_above passes (n + 1) count
+
+-- the least cycle after which the battle is over, or its limit
+unfoldable pub last_cycle : List Robot → Stage → ℕ → ℕ
+last_cycle robots opening limit = first_above (λ number. is_over number (stage_after robots opening number)) 0 limit
+
+-- so many robots at the start of the match of this number, with no replies yet
+unfoldable pub opening : ℕ → ℕ → ℕ → Stage
+opening n seed number = record { field = start seed number n; traces = replicate n [] }
+
+-- the damages of so many robots
+unfoldable pub damages_of : ℕ → Field → List ℕ
+damages_of n field = map (λ i. damage_of (robot_at field i)) (range_with_len 0 n)
+
+-- how a battle ends: after how many cycles, and with which damage of each robot, in percent
+pub record Outcome : Type 0 where
+  pub cycles : ℕ
+  pub damages : List ℕ
+
+-- the battle of these robots with this seed, in the match of this number, with this limit of cycles
+unfoldable pub battle : List Robot → (seed number limit : ℕ) → Outcome
+battle robots seed number limit =
+    let begun = opening (length robots) seed number in
+    let cycles = last_cycle robots begun limit in
+    record { cycles = cycles; damages = damages_of (length robots) (stage_after robots begun cycles).field }
+
+-- a robot is alive if its damage is below 100
+unfoldable pub alive : Outcome → ℕ → Bool
+alive outcome i = nat_lt (slice_index_or outcome.damages i 100) 100

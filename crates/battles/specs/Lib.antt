@@ -1,0 +1,4 @@
+pub mod Programs
+pub mod Battle
+pub mod Pairing
+pub mod Carrying

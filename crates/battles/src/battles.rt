@@ -1,0 +1,63 @@
+//! Battles, from the start of a match to their outcome.
+
+ghost use Rattle.std.specs.Prelude.{◌≡◌, ◌<◌, ◌≤◌, [], List, All, length, replicate};
+ghost use Rattle.arena.specs.Field.{Field};
+ghost use Rattle.arena.specs.Standing.{StandsFor as IsGroundOf};
+ghost use Rattle.grammar.specs.Profile.{Profile};
+ghost use Rattle.grammar.specs.Tree.{File};
+ghost use Rattle.code.specs.Codes.{AreCodesOf};
+ghost use Rattle.battles.specs.Battle.{battle, damages_of};
+ghost use Rattle.battles.specs.Carrying.{EachFits, EachStandsFor};
+ghost use Rattle.battles.specs.Pairing.{paired, robots_of};
+
+use crate::outcome::Outcome;
+use crate::programs::Programs;
+use crate::scheduler::play;
+use arena::Arena;
+use arrayvec::ArrayVec;
+use code::Machine;
+use settings::{CYCLES_MAX, FILES_MAX};
+
+/// Plays the battle of the match of this number, counted from 1. The seed and the number choose the random numbers;
+/// the battle ends after `limit` cycles if it isn't over before. Nothing is allocated, and no battle fails.
+pub fn battle(programs: &Programs, seed: u64, number: u32, limit: u32) -> Outcome
+    requires some { 0 < length programs.now }
+    requires limit { limit ≤ CYCLES_MAX }
+    ensures battle { (p : Profile) (files : List File) → AreCodesOf programs.now p files
+        → result ≡ battle (robots_of p files) seed number limit }
+    ensures manned { length result.damages ≡ length (paired programs.now) }
+    ensures most { All (λ d. d ≤ 100) result.damages }
+{
+    let robots = programs.robots();
+    let mut arena = Arena::new(seed, u64::from(number), robots);
+    let mut machines = machines(programs);
+    let cycles = play(machines.as_mut_slice(), programs, &mut arena, limit);
+    Outcome::new(cycles, damages(&arena, robots))
+}
+
+// Makes a machine for each robot, at the start of its program.
+fn machines(programs: &Programs) -> ArrayVec<Machine, FILES_MAX>
+    ensures fits { EachFits result.items (paired programs.now) }
+    ensures stands { EachStandsFor result.items (paired programs.now) (replicate (length (paired programs.now)) []) }
+{
+    let mut machines = ArrayVec::new();
+    for robot in 0..programs.robots() {
+        machines.push(Machine::new(programs.pilot(robot)));
+    }
+    machines
+}
+
+// Returns the damage of each robot.
+fn damages(arena: &Arena, robots: usize) -> ArrayVec<u8, FILES_MAX>
+    requires manned { length arena.now.robots ≡ robots }
+    requires most { robots ≤ FILES_MAX }
+    ensures damages { (f : Field) → IsGroundOf arena.now f → result.items ≡ damages_of robots f }
+    ensures each { length result.items ≡ robots }
+    ensures most { All (λ d. d ≤ 100) result.items }
+{
+    let mut damages = ArrayVec::new();
+    for robot in 0..robots {
+        damages.push(arena.damage(robot));
+    }
+    damages
+}

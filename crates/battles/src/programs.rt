@@ -1,0 +1,82 @@
+//! The programs of a series.
+
+ghost use Rattle.std.specs.Prelude.{◌≡◌, ◌<◌, ◌≤◌, [], ◌∷◌, ◌++◌, List, length, flat_map, slice_get, Some};
+ghost use Rattle.std.specs.Option.{option_to_list};
+ghost use Rattle.battles.specs.Pairing.{paired};
+ghost use Rattle.battles.specs.Programs.{AllSome};
+ghost use Rattle.code.specs.Generation.{Code};
+
+use arrayvec::ArrayVec;
+use code::Program;
+use settings::FILES_MAX;
+use std::marker::Model;
+
+/// The programs of a series, one to four, in the order of their files.
+#[derive(Drop)]
+pub struct Programs {
+    programs: ArrayVec<Option<Program>, FILES_MAX>,
+}
+
+impl Model for Programs {
+    ghost Value = { List Code };
+
+    ghost view = { λ p. flat_map option_to_list p.programs.items };
+
+    ghost invariant = { λ p. AllSome p.programs.items };
+}
+
+impl Programs {
+    /// Makes a series without programs.
+    pub fn new() -> Programs
+        ensures { result ≡ [] }
+    {
+        Programs {
+            programs: ArrayVec::new(),
+        }
+    }
+
+    /// Returns how many programs there are.
+    pub fn len(&self) -> usize
+        ensures programs { result ≡ length self.now }
+        ensures most { result ≤ FILES_MAX }
+    {
+        self.programs.len()
+    }
+
+    /// Adds a program.
+    pub fn push(&mut self, program: Program)
+        requires { length self.old < FILES_MAX }
+        ensures { self.new ≡ self.old ++ program ∷ [] }
+    {
+        self.programs.push(Some(program));
+    }
+
+    /// Returns the program of the file with this index.
+    #[inline(always)]
+    pub fn program(&self, file: usize) -> &Program
+        requires { file < length self.now }
+        ensures { slice_get self.now file ≡ Some result.now }
+    {
+        match &self.programs.as_slice()[file] {
+            Some(program) => program,
+            None => unreachable!(),
+        }
+    }
+
+    /// Returns how many robots fight: one of each program, and two of a single one.
+    pub fn robots(&self) -> usize
+        ensures robots { result ≡ length (paired self.now) }
+        ensures most { result ≤ FILES_MAX }
+    {
+        if self.len() == 1 { 2 } else { self.len() }
+    }
+
+    /// Returns the program of the robot with this index.
+    #[inline(always)]
+    pub fn pilot(&self, robot: usize) -> &Program
+        requires { robot < length (paired self.now) }
+        ensures { slice_get (paired self.now) robot ≡ Some result.now }
+    {
+        self.program(if self.len() == 1 { 0 } else { robot })
+    }
+}

@@ -1,0 +1,263 @@
+-- The steps of a maker: how many instructions each makes, and how many addresses it leaves open.
+use Rattle.std.specs.Prelude.{ℕ, ◌+◌, ◌≡◌, ◌<◌, ◌≤◌, List, [], ◌∷◌, ◌++◌, Bool, true, false, length, pos, nat_lt, if◌then◌else◌}
+use Rattle.std.proofs.Common.{refl, sym, ap, ◌∙◌, arith, length-append, add-zero, zero-add}
+use Rattle.std.proofs.lemmas.Bool.Decides.{nat_tests}
+use Rattle.std.proofs.lemmas.List.{length-set}
+use Rattle.grammar.specs.declared.operators.Op.{Op}
+use Rattle.grammar.specs.declared.operators.Op.TheVariants as op
+use Rattle.grammar.specs.Actions.{Action, Push, Get, Put, Apply, Middle, BeginCall, EndCall, IfTest, ElsePart, EndIf, BeginWhile, WhileTest, EndWhile, GiveBack, Chop, Begin, Finish, instructions, code_length, middle_length, end_length}
+use Rattle.grammar.specs.Profile.{Profile}
+use Rattle.code.specs.declared.instr.Instr.{Instr}
+use Rattle.code.specs.declared.instr.Instr.TheVariants.{Fetch, Store, Const, Binop, Fcall, Retsub, Branch, Truth}
+use Rattle.code.specs.declared.instr.Instr.TheVariants as instr
+use Rattle.code.specs.Making.{Made, made_nothing, with_code, with_function, with_branch, with_turn, with_other, opening, closing, without_open, begun_right, ended_right, first_of, rest_of, making, made_from, made}
+use Rattle.code.specs.Told.{Adds}
+
+-- how many addresses a step leaves open goes by how many were open
+pub record IsStep (f : Made → Made) (n : ℕ) : Type 0 where
+  pub grows : (m : Made) → length (f m).code ≡ length m.code + n
+  pub opens : (m o : Made) → length m.opened ≡ length o.opened → length (f m).opened ≡ length (f o).opened
+  pub keeps : (m : Made) → (f m).profile ≡ m.profile
+
+length-rest : (xs ys : List ℕ) → length xs ≡ length ys → length (rest_of xs) ≡ length (rest_of ys)
+length-rest [] [] e = refl
+length-rest [] (y ∷ ys) e = absurd (omega (arith, e))
+length-rest (x ∷ xs) [] e = absurd (omega (arith, e))
+length-rest (x ∷ xs) (y ∷ ys) e = omega (arith, e)
+
+pub none_step : IsStep (λ m. m) 0
+none_step = record { grows = λ m. sym (add-zero (length m.code)); opens = λ m o e. e; keeps = λ m. refl }
+
+pub one_step : (i : Instr) → IsStep (λ m. with_code m (i ∷ [])) 1
+one_step i = record { grows = λ m. length-append m.code (i ∷ []); opens = λ m o e. e; keeps = λ m. refl }
+
+pub branch_step : IsStep with_branch 1
+branch_step = record { grows = λ m. length-append m.code (Branch 0 ∷ []); opens = λ m o e. omega (arith, e); keeps = λ m. refl }
+
+pub other_step : IsStep with_other 2
+other_step = record {
+  grows = λ m.
+      length-set (m.code ++ Const (pos 0) ∷ Branch 0 ∷ []) (first_of m.opened) (Branch (length m.code + 1 + 1))
+      ∙ length-append m.code (Const (pos 0) ∷ Branch 0 ∷ []);
+  opens = λ m o e. omega (arith, length-rest m.opened o.opened e);
+  keeps = λ m. refl;
+}
+
+pub closing_step : IsStep closing 0
+closing_step = record {
+  grows = λ m. length-set m.code (first_of m.opened) (Branch (length m.code)) ∙ sym (add-zero (length m.code));
+  opens = λ m o e. length-rest m.opened o.opened e;
+  keeps = λ m. refl;
+}
+
+pub opening_step : IsStep opening 0
+opening_step = record { grows = λ m. sym (add-zero (length m.code)); opens = λ m o e. omega (arith, e); keeps = λ m. refl }
+
+pub function_step : (n : ℕ) → IsStep (λ m. with_function m n) 0
+function_step n = record { grows = λ m. sym (add-zero (length m.code)); opens = λ m o e. e; keeps = λ m. refl }
+
+turn_step : IsStep (λ m. without_open (closing (with_turn m))) 2
+turn_step = record {
+  grows = λ m.
+      length-set (with_turn m).code (first_of m.opened) (Branch (length (with_turn m).code))
+      ∙ length-append m.code (Const (pos 0) ∷ Branch (first_of (rest_of m.opened)) ∷ []);
+  opens = λ m o e. length-rest (rest_of m.opened) (rest_of o.opened) (length-rest m.opened o.opened e);
+  keeps = λ m. refl;
+}
+
+pub both_steps : {f g : Made → Made} {n k : ℕ} → IsStep f n → IsStep g k → IsStep (λ m. g (f m)) (n + k)
+both_steps {f} {g} {n} {k} first second = record {
+  grows = λ m. omega (arith, second.grows (f m), first.grows m);
+  opens = λ m o e. second.opens (f m) (f o) (first.opens m o e);
+  keeps = λ m. second.keeps (f m) ∙ first.keeps m;
+}
+
+pub begun_step : (o : Op) → IsStep (begun_right o) (middle_length o)
+begun_step op.And = branch_step
+begun_step op.Or = both_steps (both_steps branch_step (one_step (Const (pos 1)))) other_step
+begun_step o = none_step
+
+pub ended_step : (o : Op) → IsStep (ended_right o) (end_length o)
+ended_step op.And = both_steps (both_steps (both_steps (one_step Truth) other_step) (one_step (Const (pos 0)))) closing_step
+ended_step op.Or = both_steps (one_step Truth) closing_step
+ended_step o = one_step (Binop o)
+
+-- an action of a profile that evaluates both sides, or leaves out the right one
+abbrev making_by : Bool → Made → Action → Made
+making_by short m (Apply o) = if short then ended_right o m else with_code m (Binop o ∷ [])
+making_by short m (Middle o) = if short then begun_right o m else m
+making_by short m a = making m a
+
+abbrev count_by : Bool → Action → ℕ
+count_by short (Apply o) = if short then end_length o else 1
+count_by short (Middle o) = if short then middle_length o else 0
+count_by short (Push value) = 1
+count_by short (Get v) = 1
+count_by short (Put v o) = 1
+count_by short BeginCall = 1
+count_by short (EndCall callee) = 1
+count_by short IfTest = 1
+count_by short ElsePart = 2
+count_by short EndIf = 0
+count_by short BeginWhile = 0
+count_by short WhileTest = 1
+count_by short EndWhile = 2
+count_by short GiveBack = 1
+count_by short Chop = 1
+count_by short (Begin number parameters) = 0
+count_by short (Finish variables) = 0
+
+step_by : (short : Bool) (a : Action) → IsStep (λ m. making_by short m a) (count_by short a)
+step_by true (Apply o) = ended_step o
+step_by false (Apply o) = one_step (Binop o)
+step_by true (Middle o) = begun_step o
+step_by false (Middle o) = none_step
+step_by short (Push value) = one_step (Const value)
+step_by short (Get v) = one_step (Fetch v)
+step_by short (Put v o) = one_step (Store v o)
+step_by short BeginCall = one_step instr.Frame
+step_by short (EndCall callee) = one_step (Fcall callee)
+step_by short IfTest = branch_step
+step_by short ElsePart = other_step
+step_by short EndIf = closing_step
+step_by short BeginWhile = opening_step
+step_by short WhileTest = branch_step
+step_by short EndWhile = turn_step
+step_by short GiveBack = one_step Retsub
+step_by short Chop = one_step instr.Chop
+step_by short (Begin number parameters) = function_step number
+step_by short (Finish variables) = none_step
+
+made_by : (m : Made) (a : Action) → making m a ≡ making_by m.profile.short_circuit m a
+made_by m (Apply o) = refl
+made_by m (Middle o) = refl
+made_by m (Push value) = refl
+made_by m (Get v) = refl
+made_by m (Put v o) = refl
+made_by m BeginCall = refl
+made_by m (EndCall callee) = refl
+made_by m IfTest = refl
+made_by m ElsePart = refl
+made_by m EndIf = refl
+made_by m BeginWhile = refl
+made_by m WhileTest = refl
+made_by m EndWhile = refl
+made_by m GiveBack = refl
+made_by m Chop = refl
+made_by m (Begin number parameters) = refl
+made_by m (Finish variables) = refl
+
+counted_by : (p : Profile) (a : Action) → instructions p a ≡ count_by p.short_circuit a
+counted_by p (Apply o) = refl
+counted_by p (Middle o) = refl
+counted_by p (Push value) = refl
+counted_by p (Get v) = refl
+counted_by p (Put v o) = refl
+counted_by p BeginCall = refl
+counted_by p (EndCall callee) = refl
+counted_by p IfTest = refl
+counted_by p ElsePart = refl
+counted_by p EndIf = refl
+counted_by p BeginWhile = refl
+counted_by p WhileTest = refl
+counted_by p EndWhile = refl
+counted_by p GiveBack = refl
+counted_by p Chop = refl
+counted_by p (Begin number parameters) = refl
+counted_by p (Finish variables) = refl
+
+-- each action makes as many instructions as it is said to
+pub length-making : (m : Made) (a : Action) → length (making m a).code ≡ length m.code + instructions m.profile a
+length-making m a =
+    let short = m.profile.short_circuit in
+    ap (λ (m : Made). length m.code) (made_by m a) ∙ (step_by short a).grows m ∙ ap (λ (n : ℕ). length m.code + n) (sym (counted_by m.profile a))
+
+pub profile_making : (m : Made) (a : Action) → (making m a).profile ≡ m.profile
+profile_making m a = ap (λ (m : Made). m.profile) (made_by m a) ∙ (step_by m.profile.short_circuit a).keeps m
+
+-- how many addresses an action leaves open goes by how many were open
+pub making_opens : (m o : Made) (a : Action) → m.profile ≡ o.profile → length m.opened ≡ length o.opened → length (making m a).opened ≡ length (making o a).opened
+making_opens m o a same e =
+    let short = m.profile.short_circuit in
+    ap (λ (m : Made). length m.opened) (made_by m a)
+    ∙ (step_by short a).opens m o e
+    ∙ ap (λ (p : Profile). length (making_by p.short_circuit o a).opened) same
+    ∙ sym (ap (λ (m : Made). length m.opened) (made_by o a))
+
+pub length-made_from : (m : Made) (acts : List Action) → length (made_from m acts).code ≡ length m.code + code_length m.profile acts
+length-made_from m [] = sym (add-zero (length m.code))
+length-made_from m (a ∷ acts) =
+    let kept = ap (λ (p : Profile). code_length p acts) (profile_making m a) in
+    omega (arith, length-making m a, length-made_from (making m a) acts, kept)
+
+pub profile_made_from : (m : Made) (acts : List Action) → (made_from m acts).profile ≡ m.profile
+profile_made_from m [] = refl
+profile_made_from m (a ∷ acts) = profile_made_from (making m a) acts ∙ profile_making m a
+
+pub length-made : (p : Profile) (acts : List Action) → length (made p acts).code ≡ code_length p acts
+length-made p acts = length-made_from (made_nothing p) acts ∙ zero-add (code_length p acts)
+
+pub profile_made : (p : Profile) (acts : List Action) → (made p acts).profile ≡ p
+profile_made p acts = profile_made_from (made_nothing p) acts
+
+-- an instruction where there is room, as a maker puts it
+pub record Puts (m m' : Made) (i : Instr) : Type 0 where
+  pub room : length m.code < m.profile.instructions → m' ≡ with_code m (i ∷ [])
+  pub full : m.profile.instructions ≤ length m.code → m' ≡ m
+
+pub adds_put : {m m' : Made} {i : Instr} → Puts m m' i → Adds m m' (with_code m (i ∷ [])) 1
+adds_put {m} {m'} {i} puts = by (nat_lt (length m.code) m.profile.instructions) refl
+  where
+    by : (b : Bool) → nat_lt (length m.code) m.profile.instructions ≡ b → Adds m m' (with_code m (i ∷ [])) 1
+    by true t =
+        let same = puts.room (grind (arith, nat_tests, t)) in
+        record {
+          room = λ h. same;
+          full = λ h. omega (arith, h, ap (λ (m : Made). length m.code) same, length-append m.code (i ∷ []));
+          opened = ap (λ (m : Made). length m.opened) same;
+          profile = ap (λ (m : Made). m.profile) same;
+        }
+    by false t =
+        let large : m.profile.instructions ≤ length m.code = grind (arith, nat_tests, t) in
+        let same = puts.full large in
+        record {
+          room = λ h. absurd (omega (arith, h, large));
+          full = λ h. omega (arith, large, ap (λ (m : Made). length m.code) same);
+          opened = ap (λ (m : Made). length m.opened) same;
+          profile = ap (λ (m : Made). m.profile) same;
+        }
+
+-- what is made without an instruction
+pub adds_none : {m m' : Made} {f : Made → Made} → IsStep f 0 → m' ≡ f m → Adds m m' (f m) 0
+adds_none {m} {m'} {f} step same = record {
+  room = λ h. same;
+  full = λ h. omega (arith, h, ap (λ (m : Made). length m.code) same, step.grows m);
+  opened = ap (λ (m : Made). length m.opened) same;
+  profile = ap (λ (m : Made). m.profile) same ∙ step.keeps m;
+}
+
+-- one step, and then another
+pub adds_both : {m m1 m2 : Made} {f g : Made → Made} {n k : ℕ} → IsStep f n → IsStep g k → Adds m m1 (f m) n → Adds m1 m2 (g m1) k → Adds m m2 (g (f m)) (n + k)
+adds_both {m} {m1} {m2} {f} {g} {n} {k} one two first second = record {
+  room = λ h.
+      let same : m1 ≡ f m = first.room (omega (arith, h)) in
+      let size = ap (λ (m : Made). length m.code) same in
+      second.room (omega (arith, h, size, one.grows m, limit)) ∙ ap g same;
+  full = λ h. by_room h (nat_lt (length m.code + n) m.profile.instructions) refl;
+  opened = second.opened ∙ two.opens m1 (f m) first.opened;
+  profile = second.profile ∙ first.profile;
+}
+  where
+    limit : m1.profile.instructions ≡ m.profile.instructions
+    limit = ap (λ (p : Profile). p.instructions) first.profile
+
+    by_room : m.profile.instructions ≤ length m.code + (n + k) → (b : Bool) → nat_lt (length m.code + n) m.profile.instructions ≡ b → m.profile.instructions ≤ length m2.code
+    by_room h true t =
+        let same : m1 ≡ f m = first.room (grind (arith, nat_tests, t)) in
+        let size = ap (λ (m : Made). length m.code) same in
+        let long : m1.profile.instructions ≤ length m1.code + k = omega (arith, h, size, one.grows m, limit) in
+        omega (arith, second.full long, limit)
+    by_room h false t =
+        let over : m.profile.instructions ≤ length m.code + n = grind (arith, nat_tests, t) in
+        let long : m1.profile.instructions ≤ length m1.code + k = omega (arith, first.full over, limit) in
+        omega (arith, second.full long, limit)

@@ -1,0 +1,71 @@
+-- What compiling source files gives and writes.
+use Rattle.std.specs.Prelude.{ℕ, List, [], ◌∷◌, ◌++◌, Option, Some, None, Result, Ok, Err, map, fold, flat_map, option_map}
+use Rattle.grammar.specs.declared.diagnostics.Diagnostic.{Diagnostic}
+use Rattle.grammar.specs.Compiled.{compiled}
+use Rattle.grammar.specs.Profile.{Profile}
+use Rattle.grammar.specs.Texts.{text_of}
+use Rattle.grammar.specs.Tree.{File}
+use Rattle.code.specs.Generation.{Code, code_of}
+use Rattle.code.specs.Listing.{listing_of}
+use Rattle.settings.specs.declared.settings.Mode.{Mode}
+use Rattle.settings.specs.declared.settings.Mode.TheVariants.{Listing, Matches}
+use Rattle.series.specs.declared.endings.Status.{Status}
+use Rattle.series.specs.declared.endings.Status.TheVariants.{Done, Faulty}
+use Rattle.series.specs.Pieces.{Piece, Text, Faults}
+use Rattle.series.specs.Texts.{file_name, diagnostic_line}
+
+-- a source file: the word that names it, and its bytes
+pub record Source : Type 0 where
+  pub word : List ℕ
+  pub bytes : List ℕ
+
+-- the files so far with one more; a faulty one leaves none
+abbrev pub and_file : Option (List File) → Result File Diagnostic → Option (List File)
+and_file (Some files) (Ok file) = Some (files ++ file ∷ [])
+and_file _ _ = None
+
+-- the file of each source in order, if none has a fault
+abbrev pub files_of : Profile → List Source → Option (List File)
+files_of profile sources = fold (λ files source. and_file files (compiled profile source.bytes)) (Some []) sources
+
+-- the code of each file
+abbrev pub codes_of : Profile → List Source → Option (List Code)
+codes_of profile sources = option_map (λ files. map (code_of profile) files) (files_of profile sources)
+
+-- whether a file had a fault
+abbrev pub status_of : Option (List File) → Status
+status_of (Some files) = Done
+status_of None = Faulty
+
+-- the code of a file, or its fault
+abbrev pub code_or_fault : Profile → Result File Diagnostic → Result Code Diagnostic
+code_or_fault profile (Ok file) = Ok (code_of profile file)
+code_or_fault profile (Err d) = Err d
+
+abbrev pub compiled_code : Profile → List ℕ → Result Code Diagnostic
+compiled_code profile bytes = code_or_fault profile (compiled profile bytes)
+
+-- a good file's listing is a text
+abbrev pub listing_piece : List ℕ → Code → Piece
+listing_piece name code = record { channel = Text; bytes = listing_of name code }
+
+-- a faulty file's diagnostic goes to the channel of faults
+abbrev pub diagnostic_piece : List ℕ → Diagnostic → Piece
+diagnostic_piece name d = record { channel = Faults; bytes = diagnostic_line name d.line (text_of d.code) }
+
+-- listings are written only if they are asked for
+abbrev pub listed : Mode → Piece → List Piece
+listed Listing listing = listing ∷ []
+listed Matches listing = []
+
+-- what is written of one file, by its name and what it compiles to
+abbrev pub pieces_of : Mode → List ℕ → Result Code Diagnostic → List Piece
+pieces_of mode name (Ok code) = listed mode (listing_piece name code)
+pieces_of mode name (Err d) = diagnostic_piece name d ∷ []
+
+abbrev pub source_pieces : Mode → Profile → Source → List Piece
+source_pieces mode profile source = pieces_of mode (file_name source.word) (compiled_code profile source.bytes)
+
+-- what is written while the files are compiled, in order
+abbrev pub compiling : Mode → Profile → List Source → List Piece
+compiling mode profile sources = flat_map (source_pieces mode profile) sources
