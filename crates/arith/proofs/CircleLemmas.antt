@@ -1,7 +1,10 @@
 -- The code's table of one round and a quarter holds the sine of each of its degrees.
-use Rattle.std.proofs.Common.{◌≡◌, ℕ, ◌+◌, ◌^◌, ◌<◌, ◌≤◌, ◌%◌, ℤ, pos, get_or, map, unsigned_abs, nat_le, Bool, true, refl, ap, ◌∙◌, arith}
+use Rattle.std.proofs.Common.{◌≡◌, ℕ, zero, suc, ◌+◌, ◌-◌, ◌^◌, ◌<◌, ◌≤◌, ◌%◌, ℤ, pos, List, [], ◌∷◌, get_or, map, take, drop, unsigned_abs, FitsSigned, to_z, of_z, nat_le, Bool, true, refl, ap, ◌∙◌, arith}
 use Rattle.std.specs.List.{range_with_len}
-use Rattle.std.proofs.lemmas.List.FromFn.{get_or-map-range_with_len}
+use Rattle.std.specs.Int.{w32}
+use Rattle.std.proofs.lemmas.Int.{to_z-of_z, fits_signed_from_abs}
+use Rattle.std.proofs.lemmas.List.{drop-map}
+use Rattle.std.proofs.lemmas.List.FromFn.{get_or-map-range_with_len, take-map-range_with_len}
 use Rattle.std.proofs.lemmas.Bool.Decides.{nat_tests}
 pub use Rattle.arith.specs.declared.tables.TheConstants.{ROUND}
 use Rattle.arith.specs.Table.{sines}
@@ -10,7 +13,7 @@ use Rattle.arith.specs.Circle.{sine_at, cosine_at, square_of, IsNearlyOnCircle}
 use Rattle.arith.proofs.Below.{passes_below, passes_at}
 
 -- the sine of the degree that i stands for, once round
-abbrev round_sine : ℕ → ℤ
+abbrev pub round_sine : ℕ → ℤ
 round_sine i = sine_at (i % 360)
 
 -- the code's table, entry by entry
@@ -33,6 +36,28 @@ all_small = refl
 pub sine_bound : (d : ℕ) → d < 360 → unsigned_abs (sine_at d) ≤ 100000
 unfolding is_small
 sine_bound d h = let e = passes_at is_small 360 all_small d h in grind (arith, nat_tests)
+
+pub sine_fits : (i : ℕ) → FitsSigned w32 (round_sine i)
+sine_fits i = let bound = sine_bound (i % 360) (omega arith) in fits_signed_from_abs w32 (round_sine i) (omega arith)
+
+-- numbers that fit are the same after a way through their bits
+pub bits_and_back : (f : ℕ → ℤ) → ((i : ℕ) → FitsSigned w32 (f i)) → (places : List ℕ) → map (to_z w32) (map (of_z w32) (map f places)) ≡ map f places
+bits_and_back f fits [] = refl
+bits_and_back f fits (i ∷ places) = rw (to_z-of_z w32 (f i) (fits i), bits_and_back f fits places)
+
+drop-range : (i a b m n : ℕ) → b ≡ a + i → m ≡ i + n → drop i (range_with_len a m) ≡ range_with_len b n
+drop-range zero a b m n p q = let from : a ≡ b = omega arith in let size : m ≡ n = omega arith in cc
+drop-range (suc i) a b zero n p q = absurd (omega arith)
+drop-range (suc i) a b (suc m) n p q = drop-range i (a + 1) b m n (omega arith) (omega arith)
+
+-- eight entries in their place
+pub eight_are : (i : ℕ) → i + 8 ≤ 450 → map (to_z w32) (map (of_z w32) (take 8 (take (450 - i) (drop i ROUND)))) ≡ map round_sine (range_with_len i 8)
+eight_are i h =
+    let rest = drop-range i 0 i 450 (450 - i) (omega arith) (omega arith) in
+    let table = ap (drop i) table_is ∙ drop-map round_sine i (range_with_len 0 450) ∙ ap (map round_sine) rest in
+    let all = ap (take (450 - i)) table ∙ take-map-range_with_len round_sine i (450 - i) (450 - i) (omega arith) in
+    let eight = ap (take 8) all ∙ take-map-range_with_len round_sine i (450 - i) 8 (omega arith) in
+    ap (λ xs. map (to_z w32) (map (of_z w32) xs)) eight ∙ bits_and_back round_sine sine_fits (range_with_len i 8)
 
 -- the circle, degree by degree
 is_near : ℕ → Bool

@@ -5,3 +5,4 @@ pub mod TableLemmas
 pub mod CircleLemmas
 pub mod RootLemmas
 pub mod BearingLemmas
+pub mod LaneLemmas

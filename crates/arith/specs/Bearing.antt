@@ -2,7 +2,7 @@
 use Rattle.std.specs.Prelude.{ℕ, ◌<◌, List, [], ◌∷◌, map, ℤ, ◌+ℤ◌, ◌*ℤ◌, ◌≤ℤ◌, ◌<ℤ◌, fold}
 use Rattle.std.specs.Int.{int_max}
 use Rattle.std.specs.Ordering.{int_eq}
-use Rattle.std.specs.List.{range_with_len, position_or_len}
+use Rattle.std.specs.List.{All, Contains, range_with_len, position_or_len}
 use Rattle.arith.specs.Circle.{sine_at, cosine_at}
 
 -- how far the point (dx, dy) reaches in the direction of a degree, scaled by 100,000
@@ -19,6 +19,11 @@ pub record IsBearing (dx dy : ℤ) (degree : ℕ) : Type 0 where
 unfoldable pub first_greatest : List ℤ → ℕ
 first_greatest [] = 0
 first_greatest (x ∷ xs) = position_or_len (int_eq (fold int_max x xs)) (x ∷ xs)
+
+-- the greatest of some numbers
+pub record IsGreatest (numbers : List ℤ) (most : ℤ) : Type 0 where
+  pub reached : Contains numbers most
+  pub bound : All (λ number. number ≤ℤ most) numbers
 
 -- the reaches at 0 to 359 degrees
 unfoldable pub reaches : ℤ → ℤ → List ℤ

@@ -1,8 +1,14 @@
 //! The tables of sines and tangents, scaled by 100,000, and one function to read each.
 
-ghost use Rattle.std.specs.Prelude.{◌≡◌, ◌<◌, ◌≤◌, ◌%◌, unsigned_abs, slice_index};
+ghost use Rattle.std.specs.Prelude.{◌≡◌, ◌<◌, ◌≤◌, ◌+◌, ◌%◌, unsigned_abs, slice_index, map};
+ghost use Rattle.std.specs.List.{range_with_len};
 ghost use Rattle.arith.specs.Table.{tangents};
 ghost use Rattle.arith.specs.Circle.{sine_at};
+
+use std::simd::prelude::*;
+
+/// How many entries are read side by side.
+pub(crate) const LANES: u16 = 8;
 
 /// The sines of 0 to 449 degrees, ten a line: one round, and a quarter more, so that a cosine is
 /// read 90 places on.
@@ -74,6 +80,16 @@ pub(crate) fn round_entry(degree: u16) -> i32
     ensures bound { unsigned_abs result ≤ 100000 }
 {
     ROUND[usize::from(degree)]
+}
+
+/// The sines of eight degrees from this one on, up to 449, scaled by 100,000.
+#[inline(always)]
+pub(crate) fn round_entries(degree: u16) -> i32x8
+    requires { degree + LANES ≤ 450 }
+    ensures { result ≡ map (λ d. sine_at (d % 360)) (range_with_len degree LANES) }
+{
+    let entries = &ROUND[usize::from(degree)..];
+    i32x8::from_slice(entries)
 }
 
 /// The tangent of a degree from 0 to 89, scaled by 100,000.

@@ -161,6 +161,44 @@ fn bearings(rt: HostRuntime) {
     }
 }
 
+#[test]
+fn bearings_by_lanes_and_by_a_plain_loop(rt: HostRuntime) {
+    for dx in -40..=40 {
+        for dy in -40..=40 {
+            assert!(rt; in_field(dx) && in_field(dy));
+            assert_eq!(rt;
+                bearing(dx, dy),
+                plain_bearing(dx, dy),
+                "bearing({dx}, {dy})"
+            );
+        }
+    }
+    for (dx, dy) in [(999, 999), (-999, 999), (999, -999), (-999, -999)] {
+        assert!(rt; in_field(dx) && in_field(dy));
+        assert_eq!(rt;
+            bearing(dx, dy),
+            plain_bearing(dx, dy),
+            "bearing({dx}, {dy})"
+        );
+    }
+}
+
+// The bearing by one look at each degree, from the sines and the cosines.
+fn plain_bearing(dx: i32, dy: i32) -> u16 {
+    let mut best = 0;
+    let mut furthest = i32::MIN;
+    for degree in 0..360u16 {
+        let east = dx.wrapping_mul(cos(i32::from(degree)));
+        let north = dy.wrapping_mul(sin(i32::from(degree)));
+        let reach = east.wrapping_add(north);
+        if reach > furthest {
+            best = degree;
+            furthest = reach;
+        }
+    }
+    best
+}
+
 // What `bearing` asks of its caller.
 fn in_field(difference: i32) -> bool
     ensures { IsTrue result ↔ (unsigned_abs difference ≤ 999) }

@@ -1,33 +1,51 @@
--- Each turn adds a degree, and the last leaves the bearing.
-use Rattle.std.proofs.Common.{◌≡◌, ◌∙◌, arith, rules}
+-- Each turn rules a chunk out, or finds the bearing in it.
+use Rattle.std.proofs.Common.{◌*◌, ◌+◌, FitsSigned, rules, arith}
 use Rattle.std.specs.Int.{w32}
-use Rattle.std.proofs.lemmas.Int.{ints, to_z-of_z}
-use Rattle.arith.proofs.BearingLemmas.{kept, raised, bearing_is_first, bearing_of_is_first}
+use Rattle.std.proofs.lemmas.Int.{to_z-of_z}
+use Rattle.arith.specs.Bearing.{reach_of, reaches, IsGreatest}
+use Rattle.arith.proofs.BearingLemmas.{IsFirstGreatest, first_of_chunk, none_in_chunk, some_reaches, bearing_is_first, bearing_of_is_first}
 use Rattle.arith.proofs.bearings.bearing.Goals as goal
-use Rattle.arith.proofs.bearings.bearing.Goals.{then-here-furthest, else-here-furthest}
 
-pub loop-degree-preserved : goal.loop-degree-preserved
-loop-degree-preserved c =
-    let reached = c.loop-degree.invariant.reached in
-    let first = c.loop-degree.invariant.first in
-    let here = to_z-of_z w32 c.reach-here.result (search rules) ∙ c.reach-here.ensures in
-    elim c.if-here-furthest.branch [
-      | then-here-furthest w ↦ record {
-        reached = rw w.best-is (w.furthest-is ∙ here);
-        first = rw w.best-is (raised _ _ _ first (omega (arith, ints)));
-      }
-      | else-here-furthest w ↦ record {
-        reached = rw w.best-is (w.furthest-is ∙ reached);
-        first = rw w.best-is (kept _ _ _ first (omega (arith, ints)));
-      }
-    ]
+-- the numbers that the calls were given are those of the caller
+found : (c : goal.In-Some) → IsFirstGreatest (reach_of c.args.dx c.args.dy) 360 (8 * c.loop-chunk.chunk + c.in-Some.lane)
+found c =
+    let most = c.furthest_reach-furthest.result in
+    let fits : FitsSigned w32 most = search (rules, c.furthest_reach-furthest.type_inv) in
+    let is : IsGreatest (reaches c.args.dx c.args.dy) most = rw (to_z-of_z w32 c.args.dx c.ranges.dx, to_z-of_z w32 c.args.dy c.ranges.dy) at c.furthest_reach-furthest.ensures in
+    let before = rw (to_z-of_z w32 c.args.dx c.ranges.dx, to_z-of_z w32 c.args.dy c.ranges.dy, to_z-of_z w32 most fits) at c.loop-chunk.invariant in
+    let lane = rw (to_z-of_z w32 c.args.dx c.ranges.dx, to_z-of_z w32 c.args.dy c.ranges.dy, to_z-of_z w32 most fits) at c.in-Some.ensures in
+    first_of_chunk c.args.dx c.args.dy most c.loop-chunk.chunk c.in-Some.lane c.loop-chunk-test.true is before lane
+
+pub overflow_add-result : goal.overflow_add-result
+overflow_add-result c = let within = (found c).within in search (rules, within)
+
+pub returns-in-Some-clause-furthest : goal.returns-in-Some-clause-furthest
+returns-in-Some-clause-furthest c = bearing_is_first c.args.dx c.args.dy (8 * c.loop-chunk.chunk + c.in-Some.lane) (found c)
+
+pub returns-in-Some-clause-value : goal.returns-in-Some-clause-value
+returns-in-Some-clause-value c = bearing_of_is_first c.args.dx c.args.dy (8 * c.loop-chunk.chunk + c.in-Some.lane) (found c)
+
+pub loop-chunk-preserved : goal.loop-chunk-preserved
+loop-chunk-preserved c =
+    let most = c.furthest_reach-furthest.result in
+    let fits : FitsSigned w32 most = search (rules, c.furthest_reach-furthest.type_inv) in
+    let is : IsGreatest (reaches c.args.dx c.args.dy) most = rw (to_z-of_z w32 c.args.dx c.ranges.dx, to_z-of_z w32 c.args.dy c.ranges.dy) at c.furthest_reach-furthest.ensures in
+    let before = rw (to_z-of_z w32 c.args.dx c.ranges.dx, to_z-of_z w32 c.args.dy c.ranges.dy, to_z-of_z w32 most fits) at c.loop-chunk.invariant in
+    let none = rw (to_z-of_z w32 c.args.dx c.ranges.dx, to_z-of_z w32 c.args.dy c.ranges.dy, to_z-of_z w32 most fits) at c.in_default.ensures in
+    rw (to_z-of_z w32 c.args.dx c.ranges.dx, to_z-of_z w32 c.args.dy c.ranges.dy, to_z-of_z w32 most fits)
+    (none_in_chunk c.args.dx c.args.dy most c.loop-chunk.chunk c.loop-chunk-test.true is before none)
+
+-- the last chunk ends the round
+past_all : (c : goal.After-loop-chunk) → ⊥
+past_all c =
+    let most = c.furthest_reach-furthest.result in
+    let fits : FitsSigned w32 most = search (rules, c.furthest_reach-furthest.type_inv) in
+    let is : IsGreatest (reaches c.args.dx c.args.dy) most = rw (to_z-of_z w32 c.args.dx c.ranges.dx, to_z-of_z w32 c.args.dy c.ranges.dy) at c.furthest_reach-furthest.ensures in
+    let before = rw (to_z-of_z w32 c.args.dx c.ranges.dx, to_z-of_z w32 c.args.dy c.ranges.dy, to_z-of_z w32 most fits) at c.loop-chunk.invariant in
+    some_reaches c.args.dx c.args.dy most is (λ degree l. before degree (omega arith))
 
 pub returns-clause-furthest : goal.returns-clause-furthest
-returns-clause-furthest c =
-    let end : c.loop-degree.degree ≡ 360 = omega arith in
-    bearing_is_first c.args.dx c.args.dy c.loop-degree.best (rw (← end) (search (rules, c.loop-degree.invariant.first)))
+returns-clause-furthest c = absurd (past_all c)
 
 pub returns-clause-value : goal.returns-clause-value
-returns-clause-value c =
-    let end : c.loop-degree.degree ≡ 360 = omega arith in
-    bearing_of_is_first c.args.dx c.args.dy c.loop-degree.best (rw (← end) (search (rules, c.loop-degree.invariant.first)))
+returns-clause-value c = absurd (past_all c)

@@ -1,11 +1,7 @@
-use Rattle.std.proofs.Common.{◌≡◌}
+use Rattle.std.proofs.Common.{ℕ, ◌<◌, ◌*◌, ◌<ℤ◌}
 use Rattle.arith.specs.Bearing.{reach_of}
-use Rattle.arith.proofs.BearingLemmas.{IsFirstGreatest}
 use Rattle.arith.proofs.bearings.bearing.Given as goal
 
--- the best of the degrees so far
-abbrev pub invariant-loop-degree : goal.invariant-loop-degree
-invariant-loop-degree l = record {
-  reached : l.furthest ≡ reach_of l.dx l.dy l.best;
-  first : IsFirstGreatest (reach_of l.dx l.dy) l.degree l.best;
-}
+-- at no degree so far the point reaches furthest
+abbrev pub invariant-loop-chunk : goal.invariant-loop-chunk
+invariant-loop-chunk l = (degree : ℕ) → degree < 8 * l.chunk → reach_of l.dx l.dy degree <ℤ l.furthest

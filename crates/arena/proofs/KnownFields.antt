@@ -1,0 +1,85 @@
+-- The known fields, each worked out.
+use Rattle.std.proofs.Common.{refl}
+use Rattle.arith.specs.Table.{sines}
+use Rattle.arith.specs.Degree.{degree_of}
+use Rattle.arith.specs.Circle.{sine_at, cosine_at}
+use Rattle.arith.specs.Root.{root_by_quarters, root_of}
+use Rattle.arith.specs.Bearing.{reach_of, first_greatest, reaches, bearing_of}
+use Rattle.arena.specs.Leg.{brought, along, way_east, way_north, candidate_x, candidate_y, place_x, place_y, begun, stopped, steered, approached, sped, grown, is_outside, hits_wall, walled, tried, driven}
+use Rattle.arena.specs.Field.{damage_of, is_alive, no_robot, robot_at, metres_x, metres_y}
+use Rattle.arena.specs.Collisions.{candidate, mover, moves, square, is_close, is_no_further, collides, others, touches}
+use Rattle.arena.specs.Shots.{aimed_x, aimed_y, flight, shot, in_air, due_at, ring, bursts}
+use Rattle.arena.specs.Moved.{put_back, settled, knocks, moved_robot, moved}
+use Rattle.arena.specs.Scan.{apart, east_to, north_to, in_arc, sees, range_of, nearest, scanned}
+use Rattle.arena.specs.Words.{generator, word}
+use Rattle.arena.specs.Start.{standing, quadrant, drawn_place, drawn_robot, start, placed}
+use Rattle.arena.specs.Answer.{argument, fired, wanting, directed, random_limit, random_number, answer}
+use Rattle.arena.specs.KnownFields.{Scans, Starts, Drives, Knocks, Rings, Missiles}
+
+pub scans : Scans
+unfolding answer scanned nearest sees in_arc east_to north_to apart range_of argument degree_of brought robot_at others placed standing is_alive damage_of no_robot metres_x metres_y place_x place_y candidate_x candidate_y way_east way_north along square root_of root_by_quarters bearing_of first_greatest reaches reach_of cosine_at sine_at sines
+scans = record {
+  at_the_edge = refl;
+  past_the_edge = refl;
+  resolution_below_0 = refl;
+  resolution_is_0 = refl;
+  same_metre = refl;
+}
+
+pub starts : Starts
+unfolding start drawn_robot drawn_place quadrant word generator standing answer random_number random_limit argument brought place_x place_y candidate_x candidate_y way_east way_north along cosine_at sine_at sines
+starts = record { words = refl; quadrants = refl; stand = refl; next_word = refl }
+
+pub drives : Drives
+unfolding answer directed wanting argument degree_of brought robot_at placed standing is_alive damage_of no_robot place_x place_y candidate_x candidate_y way_east way_north along begun stopped steered approached sped grown is_outside hits_wall walled tried driven candidate mover moves square is_close is_no_further collides others touches due_at ring bursts put_back settled knocks moved_robot moved cosine_at sine_at sines
+drives = record {
+  six_updates = (refl, refl, refl);
+  brakes = (refl, refl, refl);
+  turns = (refl, refl, refl);
+  at_30 = (refl, refl, refl);
+  at_20 = (refl, refl, refl);
+  at_10 = (refl, refl, refl);
+  stands = (refl, refl, refl);
+}
+
+pub knocks_ : Knocks
+unfolding answer directed wanting argument degree_of brought robot_at placed standing is_alive damage_of no_robot place_x place_y metres_x candidate_x candidate_y way_east way_north along begun stopped steered approached sped grown is_outside hits_wall walled tried driven candidate mover moves square is_close is_no_further collides others touches due_at ring bursts put_back settled knocks moved_robot moved cosine_at sine_at sines
+knocks_ = record {
+  both_hurt = refl;
+  both_back = refl;
+  both_stop = refl;
+  wall_hurts = refl;
+  wall_holds = refl;
+  wall_stops = refl;
+  last_metre = refl;
+  all_three = refl;
+  three_stay = refl;
+}
+
+pub rings : Rings
+unfolding answer fired shot aimed_x aimed_y flight in_air argument degree_of brought robot_at placed standing is_alive damage_of no_robot place_x place_y candidate_x candidate_y way_east way_north along begun stopped steered approached sped grown is_outside hits_wall walled tried driven candidate mover moves square is_close is_no_further collides others touches due_at ring bursts put_back settled knocks moved_robot moved cosine_at sine_at sines
+rings = record {
+  at_5_metres = refl;
+  at_5_metres_aslant = refl;
+  past_5_metres = refl;
+  past_5_metres_aslant = refl;
+  at_20_metres = refl;
+  past_20_metres = refl;
+  at_40_metres = refl;
+  past_40_metres = refl;
+}
+
+pub missiles : Missiles
+unfolding answer fired shot aimed_x aimed_y flight in_air argument degree_of brought robot_at placed standing is_alive damage_of no_robot place_x place_y candidate_x candidate_y way_east way_north along begun stopped steered approached sped grown is_outside hits_wall walled tried driven candidate mover moves square is_close is_no_further collides others touches due_at ring bursts put_back settled knocks moved_robot moved cosine_at sine_at sines
+missiles = record {
+  first = refl;
+  second = refl;
+  third = refl;
+  both_in_air = refl;
+  both_burst = refl;
+  range_has_a_limit = refl;
+  point_is_inside = refl;
+  shooter_is_hurt = refl;
+  shooter_dies = refl;
+  missile_of_the_dead = refl;
+}

@@ -1,0 +1,248 @@
+-- What is kept of a leg, after each step of an update.
+use Rattle.std.proofs.Common.{◌≡◌, ℕ, ◌+◌, ◌≤◌, ◌<◌, ℤ, pos, negsuc, ◌+ℤ◌, ◌*ℤ◌, Bool, true, false, ◌||◌, FitsSigned, to_z, of_z, w32, w64, add-zero, subst, refl, sym, ap, ◌∙◌, arith}
+use Rattle.std.proofs.lemmas.Int.{ints, to_z-of_z}
+use Rattle.std.proofs.lemmas.Bool.Decides.{nat_tests}
+use Rattle.std.proofs.lemmas.Bool.{eq-eqb, ne_eqb, le-leb, lt-leb, or_parts}
+use Rattle.arena.specs.Answer.{wanting}
+use Rattle.arith.specs.Circle.{sine_at, cosine_at}
+use Rattle.arena.specs.Leg.{Leg, last_place, brought, along, way_east, way_north, candidate_x, candidate_y, place_x, place_y, approached, begun, stopped, steered, sped, grown, is_outside, hits_wall, walled}
+use Rattle.arena.specs.Start.{standing}
+use Rattle.arena.specs.Moved.{put_back}
+use Rattle.arena.specs.Ground.{Track, track_of}
+
+-- a way of nothing leads nowhere
+pub along-none : (o : ℕ) → along o (pos 0) ≡ pos o
+unfolding along
+along-none o = omega (arith, ints)
+
+pub way-none : (z : ℤ) → pos 0 *ℤ z ≡ pos 0
+way-none z = omega (arith, ints)
+
+pub brought-inside : (n : ℕ) → n ≤ 9999 → brought last_place (pos n) ≡ n
+unfolding brought
+brought-inside n h = omega arith
+
+pub brought-most : (z : ℤ) → brought last_place z ≤ 9999
+unfolding brought
+brought-most (pos n) = omega arith
+brought-most (negsuc n) = omega arith
+
+rest : (o : ℕ) (z : ℤ) → o ≤ 9999 → brought last_place (along o (pos 0 *ℤ z)) ≡ o
+rest o z h = rw (way-none, along-none) (brought-inside o h)
+
+pub place_x-most : (leg : Leg) → place_x leg ≤ 9999
+unfolding place_x
+place_x-most leg = brought-most (candidate_x leg)
+
+pub place_y-most : (leg : Leg) → place_y leg ≤ 9999
+unfolding place_y
+place_y-most leg = brought-most (candidate_y leg)
+
+-- what is kept of a leg that starts at a place
+from_place : (x y heading speed wanted_heading wanted_speed : ℕ) → x ≤ 9999 → y ≤ 9999 →
+    track_of (record { origin_x = x; origin_y = y; heading = heading; distance = 0; speed = speed; wanted_heading = wanted_heading; wanted_speed = wanted_speed })
+    ≡ record { origin_x = x; origin_y = y; east = pos 0; north = pos 0; x = x; y = y; heading = heading; speed = speed; wanted_heading = wanted_heading; wanted_speed = wanted_speed }
+unfolding track_of place_x place_y candidate_x candidate_y way_east way_north
+from_place x y heading speed wanted_heading wanted_speed h k =
+    simp (way-none, along-none, brought-inside x h, brought-inside y k)
+
+pub standing-track : (x y : ℕ) → x ≤ 9999 → y ≤ 9999 →
+    track_of (standing x y).leg
+    ≡ record { origin_x = x; origin_y = y; east = pos 0; north = pos 0; x = x; y = y; heading = 0; speed = 0; wanted_heading = 0; wanted_speed = 0 }
+unfolding standing
+standing-track x y h k = from_place x y 0 0 0 0 h k
+
+pub begun-track : (leg : Leg) →
+    track_of (begun leg)
+    ≡ record { origin_x = place_x leg; origin_y = place_y leg; east = pos 0; north = pos 0; x = place_x leg; y = place_y leg; heading = leg.heading; speed = leg.speed; wanted_heading = leg.wanted_heading; wanted_speed = leg.wanted_speed }
+unfolding begun
+begun-track leg = from_place _ _ _ _ _ _ (place_x-most leg) (place_y-most leg)
+
+pub stopped-track : (leg : Leg) →
+    track_of (stopped leg)
+    ≡ record { origin_x = place_x leg; origin_y = place_y leg; east = pos 0; north = pos 0; x = place_x leg; y = place_y leg; heading = leg.heading; speed = 0; wanted_heading = leg.wanted_heading; wanted_speed = 0 }
+unfolding begun stopped
+stopped-track leg = from_place _ _ _ _ _ _ (place_x-most leg) (place_y-most leg)
+
+pub put_back-track : (old leg : Leg) →
+    track_of (put_back old leg)
+    ≡ record { origin_x = place_x old; origin_y = place_y old; east = pos 0; north = pos 0; x = place_x old; y = place_y old; heading = leg.heading; speed = 0; wanted_heading = leg.wanted_heading; wanted_speed = 0 }
+unfolding put_back
+put_back-track old leg = from_place _ _ _ _ _ _ (place_x-most old) (place_y-most old)
+
+-- the steps on what is kept
+pub wanting_is : (t : Track) (leg : Leg) (degree speed : ℕ) → t ≡ track_of leg → record t { wanted_heading = degree; wanted_speed = speed } ≡ track_of (wanting leg degree speed)
+unfolding track_of wanting place_x place_y candidate_x candidate_y way_east way_north
+wanting_is t leg degree speed e = ap (λ (t : Track). record t { wanted_heading = degree; wanted_speed = speed }) e
+
+pub begun_is : (t : Track) (leg : Leg) → t ≡ track_of leg → record t { origin_x = t.x; origin_y = t.y; east = pos 0; north = pos 0 } ≡ track_of (begun leg)
+unfolding track_of
+begun_is t leg e =
+    ap (λ (t : Track). record t { origin_x = t.x; origin_y = t.y; east = pos 0; north = pos 0 }) e ∙ sym (begun-track leg)
+
+pub sped_is : (t : Track) (leg : Leg) → t ≡ track_of leg → record t { speed = approached t.speed t.wanted_speed } ≡ track_of (sped leg)
+unfolding track_of sped place_x place_y candidate_x candidate_y way_east way_north
+sped_is t leg e = ap (λ (t : Track). record t { speed = approached t.speed t.wanted_speed }) e
+
+pub put_back_is : (t : Track) (old leg : Leg) (x y : ℕ) → x ≡ place_x old → y ≡ place_y old → t ≡ track_of leg → record t { origin_x = x; origin_y = y; east = pos 0; north = pos 0; x = x; y = y; speed = 0; wanted_speed = 0 } ≡ track_of (put_back old leg)
+unfolding track_of
+put_back_is t old leg x y p q e =
+    rw (p, q) (ap (λ (t : Track). record t { origin_x = place_x old; origin_y = place_y old; east = pos 0; north = pos 0; x = place_x old; y = place_y old; speed = 0; wanted_speed = 0 }) e ∙ sym (put_back-track old leg))
+
+-- a robot that wants to go where it heads keeps its leg; at a low speed it turns, else it brakes
+pub keeps_heading : (t : Track) (leg : Leg) → t ≡ track_of leg → t.wanted_heading ≡ t.heading → t ≡ track_of (steered leg)
+unfolding track_of steered
+keeps_heading t leg e h =
+    let same : leg.wanted_heading ≡ leg.heading = cc in
+    let test = eq-eqb leg.wanted_heading leg.heading same in
+    rw test e
+
+steers : (leg : Leg) → (leg.wanted_heading ≡ leg.heading → ⊥) → leg.speed ≤ 50 → steered leg ≡ record { origin_x = place_x leg; origin_y = place_y leg; heading = leg.wanted_heading; distance = 0; speed = leg.speed; wanted_heading = leg.wanted_heading; wanted_speed = leg.wanted_speed }
+unfolding steered begun
+steers leg h slow = rw (ne_eqb leg.wanted_heading leg.heading h, le-leb leg.speed 50 slow) refl
+
+pub turns_is : (t b : Track) (leg : Leg) (degree : ℕ) → t ≡ track_of leg → b ≡ track_of (begun leg) → (t.wanted_heading ≡ t.heading → ⊥) → t.speed ≤ 50 → degree ≡ t.wanted_heading → record b { heading = degree } ≡ track_of (steered leg)
+unfolding track_of
+turns_is t b leg degree e f h slow d =
+    let differs : leg.wanted_heading ≡ leg.heading → ⊥ = λ s. h cc in
+    let low : leg.speed ≤ 50 = omega (arith, ap (λ (t : Track). t.speed) e) in
+    let same : degree ≡ leg.wanted_heading = d ∙ ap (λ (t : Track). t.wanted_heading) e in
+    rw same
+    (ap (λ (t : Track). record t { heading = leg.wanted_heading }) (f ∙ begun-track leg) ∙
+    sym (ap track_of (steers leg differs low) ∙ from_place _ _ _ _ _ _ (place_x-most leg) (place_y-most leg)))
+
+pub brakes_is : (t : Track) (leg : Leg) → t ≡ track_of leg → (t.wanted_heading ≡ t.heading → ⊥) → 50 < t.speed → record t { wanted_speed = 0 } ≡ track_of (steered leg)
+unfolding track_of steered place_x place_y candidate_x candidate_y way_east way_north
+brakes_is t leg e h fast =
+    let differs : leg.wanted_heading ≡ leg.heading → ⊥ = λ s. h cc in
+    let quick : 50 < leg.speed = omega (arith, ap (λ (t : Track). t.speed) e) in
+    rw (ne_eqb leg.wanted_heading leg.heading differs, lt-leb leg.speed 50 quick)
+    (ap (λ (t : Track). record t { wanted_speed = 0 }) e)
+
+-- a robot at rest stays
+rests : (leg : Leg) → leg.speed ≡ 0 → grown leg ≡ leg
+unfolding grown
+rests leg e = rw (e, add-zero) refl
+
+brought-free : (z : ℤ) → is_outside z ≡ false → pos (brought last_place z) ≡ z
+unfolding brought is_outside
+brought-free (pos n) h = grind (arith, nat_tests)
+brought-free (negsuc n) h = cc
+
+inside_is_free : (n : ℕ) → n ≤ 9999 → is_outside (pos n) ≡ false
+unfolding is_outside
+inside_is_free n h = grind (arith, nat_tests)
+
+-- the way after an update
+way_more : (d s : ℕ) (z : ℤ) → pos (d + s) *ℤ z ≡ pos d *ℤ z +ℤ pos s *ℤ z
+way_more d s z = omega (arith, ints)
+
+goes_x : (leg : Leg) → candidate_x (grown leg) ≡ along leg.origin_x (way_east leg +ℤ pos leg.speed *ℤ cosine_at leg.heading)
+unfolding grown candidate_x way_east
+goes_x leg = ap (along leg.origin_x) (way_more leg.distance leg.speed (cosine_at leg.heading))
+
+goes_y : (leg : Leg) → candidate_y (grown leg) ≡ along leg.origin_y (way_north leg +ℤ pos leg.speed *ℤ sine_at leg.heading)
+unfolding grown candidate_y way_north
+goes_y leg = ap (along leg.origin_y) (way_more leg.distance leg.speed (sine_at leg.heading))
+
+way_grown_east : (leg : Leg) → way_east (grown leg) ≡ way_east leg +ℤ pos leg.speed *ℤ cosine_at leg.heading
+unfolding grown way_east
+way_grown_east leg = way_more leg.distance leg.speed (cosine_at leg.heading)
+
+way_grown_north : (leg : Leg) → way_north (grown leg) ≡ way_north leg +ℤ pos leg.speed *ℤ sine_at leg.heading
+unfolding grown way_north
+way_grown_north leg = way_more leg.distance leg.speed (sine_at leg.heading)
+
+-- what the code works out when a robot drives on: the way, where it leads, the place there, and whether that is beyond a wall
+pub record Forward (t : Track) (east north x y : ℤ) (px py : ℕ) (out : Bool) : Type 0 where
+  pub goes_east : east ≡ t.east +ℤ pos t.speed *ℤ cosine_at t.heading
+  pub goes_north : north ≡ t.north +ℤ pos t.speed *ℤ sine_at t.heading
+  pub leads_x : x ≡ along t.origin_x east
+  pub leads_y : y ≡ along t.origin_y north
+  pub is_x : px ≡ brought last_place x
+  pub is_y : py ≡ brought last_place y
+  pub is_out : out ≡ (is_outside x || is_outside y)
+
+-- the same from what the calls ensure, in which each signed number was cast to its bits and back
+pub forward_from : (t : Track) (cosine sine east north x y : ℤ) (px py : ℕ) (out : Bool) →
+    cosine ≡ cosine_at t.heading → sine ≡ sine_at t.heading →
+    east ≡ to_z w64 (of_z w64 t.east) +ℤ pos t.speed *ℤ to_z w32 (of_z w32 cosine) →
+    north ≡ to_z w64 (of_z w64 t.north) +ℤ pos t.speed *ℤ to_z w32 (of_z w32 sine) →
+    x ≡ along t.origin_x (to_z w64 (of_z w64 east)) → y ≡ along t.origin_y (to_z w64 (of_z w64 north)) →
+    px ≡ brought last_place (to_z w64 (of_z w64 x)) → py ≡ brought last_place (to_z w64 (of_z w64 y)) →
+    out ≡ (is_outside (to_z w64 (of_z w64 x)) || is_outside (to_z w64 (of_z w64 y))) →
+    FitsSigned w64 t.east → FitsSigned w64 t.north → FitsSigned w32 cosine → FitsSigned w32 sine →
+    FitsSigned w64 east → FitsSigned w64 north → FitsSigned w64 x → FitsSigned w64 y →
+    Forward t east north x y px py out
+forward_from t cosine sine east north x y px py out ec es ee en ex ey epx epy eo fte ftn fc fs fe fn fx fy = record {
+  goes_east = (simp to_z-of_z at ee) ∙ ap (λ (z : ℤ). t.east +ℤ pos t.speed *ℤ z) ec;
+  goes_north = (simp to_z-of_z at en) ∙ ap (λ (z : ℤ). t.north +ℤ pos t.speed *ℤ z) es;
+  leads_x = simp to_z-of_z at ex;
+  leads_y = simp to_z-of_z at ey;
+  is_x = simp to_z-of_z at epx;
+  is_y = simp to_z-of_z at epy;
+  is_out = simp to_z-of_z at eo;
+}
+
+-- all of it is what the grown leg says
+record Grown (leg : Leg) (east north x y : ℤ) (px py : ℕ) (out : Bool) : Type 0 where
+  goes_east : east ≡ way_east (grown leg)
+  goes_north : north ≡ way_north (grown leg)
+  is_x : px ≡ place_x (grown leg)
+  is_y : py ≡ place_y (grown leg)
+  is_out : out ≡ hits_wall (grown leg)
+
+grown_is : (t : Track) (leg : Leg) (east north x y : ℤ) (px py : ℕ) (out : Bool) → t ≡ track_of leg → Forward t east north x y px py out → Grown leg east north x y px py out
+unfolding track_of place_x place_y hits_wall
+grown_is t leg east north x y px py out e f =
+    let at : Forward (track_of leg) east north x y px py out = subst (λ (t : Track). Forward t east north x y px py out) e f in
+    let to_x : x ≡ candidate_x (grown leg) = at.leads_x ∙ ap (along leg.origin_x) at.goes_east ∙ sym (goes_x leg) in
+    let to_y : y ≡ candidate_y (grown leg) = at.leads_y ∙ ap (along leg.origin_y) at.goes_north ∙ sym (goes_y leg) in
+    record {
+      goes_east = at.goes_east ∙ sym (way_grown_east leg);
+      goes_north = at.goes_north ∙ sym (way_grown_north leg);
+      is_x = at.is_x ∙ ap (brought last_place) to_x;
+      is_y = at.is_y ∙ ap (brought last_place) to_y;
+      is_out = at.is_out ∙ ap (λ (z : ℤ). is_outside z || is_outside y) to_x ∙ ap (λ (z : ℤ). is_outside (candidate_x (grown leg)) || is_outside z) to_y;
+    }
+
+pub out_is : (t : Track) (leg : Leg) (east north x y : ℤ) (px py : ℕ) (out : Bool) → t ≡ track_of leg → Forward t east north x y px py out → out ≡ hits_wall (grown leg)
+out_is t leg east north x y px py out e f = (grown_is t leg east north x y px py out e f).is_out
+
+pub wall_is : (t : Track) (leg : Leg) (east north x y : ℤ) (px py : ℕ) (out : Bool) → t ≡ track_of leg → Forward t east north x y px py out → out ≡ true →
+    record t { origin_x = px; origin_y = py; east = pos 0; north = pos 0; x = px; y = py; speed = 0; wanted_speed = 0 } ≡ track_of (walled (grown leg))
+unfolding walled track_of grown
+wall_is t leg east north x y px py out e f h =
+    let g = grown_is t leg east north x y px py out e f in
+    rw (sym g.is_out ∙ h, g.is_x, g.is_y)
+    (ap (λ (t : Track). record t { origin_x = place_x (grown leg); origin_y = place_y (grown leg); east = pos 0; north = pos 0; x = place_x (grown leg); y = place_y (grown leg); speed = 0; wanted_speed = 0 }) e ∙ sym (stopped-track (grown leg)))
+
+pub free_is : (t : Track) (leg : Leg) (east north x y : ℤ) (px py : ℕ) (out : Bool) → t ≡ track_of leg → Forward t east north x y px py out → out ≡ false →
+    record t { east = east; north = north; x = px; y = py } ≡ track_of (walled (grown leg))
+unfolding walled track_of grown
+free_is t leg east north x y px py out e f h =
+    let g = grown_is t leg east north x y px py out e f in
+    rw (sym g.is_out ∙ h, g.goes_east, g.goes_north, g.is_x, g.is_y)
+    (ap (λ (t : Track). record t { east = way_east (grown leg); north = way_north (grown leg); x = place_x (grown leg); y = place_y (grown leg) }) e)
+
+-- free places are where the way leads
+pub both_free : (x y : ℤ) → (is_outside x || is_outside y) ≡ false → (pos (brought last_place x) ≡ x) × (pos (brought last_place y) ≡ y)
+both_free x y h =
+    let parts = or_parts (is_outside x) (is_outside y) h in
+    (brought-free x parts.0, brought-free y parts.1)
+
+leg_is_free : (leg : Leg) (x y : ℕ) → pos x ≡ candidate_x leg → pos y ≡ candidate_y leg → x ≤ 9999 → y ≤ 9999 → hits_wall leg ≡ false
+unfolding hits_wall
+leg_is_free leg x y p q x_most y_most =
+    rw (sym p, sym q, inside_is_free x x_most, inside_is_free y y_most) refl
+
+stays : (leg : Leg) → leg.speed ≡ 0 → hits_wall leg ≡ false → (track_of leg ≡ track_of (walled (grown leg))) × (false ≡ hits_wall (grown leg))
+unfolding walled
+stays leg still free = rw (rests leg still, free) (refl, refl)
+
+-- a robot at rest in the field stays and hits no wall
+pub stays_is : (t : Track) (leg : Leg) → t ≡ track_of leg → t.speed ≡ 0 → t.x ≤ 9999 → t.y ≤ 9999 → pos t.x ≡ along t.origin_x t.east → pos t.y ≡ along t.origin_y t.north → (t ≡ track_of (walled (grown leg))) × (false ≡ hits_wall (grown leg))
+unfolding track_of candidate_x candidate_y
+stays_is t leg e rest x_most y_most x y =
+    let P : Track → Type 0 = λ t. t.speed ≡ 0 → t.x ≤ 9999 → t.y ≤ 9999 → pos t.x ≡ along t.origin_x t.east → pos t.y ≡ along t.origin_y t.north → (t ≡ track_of (walled (grown leg))) × (false ≡ hits_wall (grown leg)) in
+    subst P (sym e) (λ still xm ym p q. stays leg still (leg_is_free leg (place_x leg) (place_y leg) p q xm ym)) rest x_most y_most x y

@@ -1,0 +1,45 @@
+-- What an update makes of one robot.
+use Rattle.std.proofs.Common.{◌≡◌, ℕ, ◌+◌, ◌*◌, ◌++◌, [], ◌∷◌, List, replicate, min, Bool, true, false, cond, ◌&&◌, refl, sym, ap, ◌∙◌, arith}
+use Rattle.std.specs.List.{sum}
+use Rattle.std.proofs.lemmas.List.Sums.{sum_by-append}
+use Rattle.std.proofs.lemmas.List.Folds.{sum_by-replicate}
+use Rattle.arena.specs.Leg.{Leg, place_x, place_y, tried, hits_wall}
+use Rattle.arena.specs.Field.{Shot, Robot, damage_of, is_alive}
+use Rattle.arena.specs.Shots.{bursts}
+use Rattle.arena.specs.Moved.{settled, knocks, moved_robot}
+use Rattle.arena.specs.Ground.{Track, track_of, body_of}
+
+-- a dead robot stays as it is
+pub dead_is : (robot : Robot) (update : ℕ) (shots : List Shot) (touched : ℕ) → is_alive robot ≡ false → robot ≡ moved_robot update shots touched robot
+unfolding moved_robot
+dead_is robot update shots touched h = rw h refl
+
+-- the damage counts all that hurts, up to 100
+sum_knocks : (leg : Leg) (touched : ℕ) → sum (knocks leg touched) ≡ cond (hits_wall (tried leg)) 2 0 + 2 * touched
+unfolding knocks
+sum_knocks leg touched = by_wall (hits_wall (tried leg))
+  where
+    by_wall : (w : Bool) → sum (cond w (2 ∷ []) [] ++ replicate touched 2) ≡ cond w 2 0 + 2 * touched
+    by_wall true = omega (arith, sum_by-append (λ (x : ℕ). x) (2 ∷ []) (replicate touched 2), sum_by-replicate (λ (x : ℕ). x) touched 2)
+    by_wall false = omega (arith, sum_by-replicate (λ (x : ℕ). x) touched 2)
+
+worn_is : (hurts : List ℕ) (leg : Leg) (touched : ℕ) (burst : List ℕ) →
+    min (sum (hurts ++ knocks leg touched ++ burst)) 100 ≡ min (min (sum hurts) 100 + cond (hits_wall (tried leg)) 2 0 + 2 * touched + sum burst) 100
+worn_is hurts leg touched burst =
+    omega (arith, sum_by-append (λ (x : ℕ). x) (hurts ++ knocks leg touched) burst, sum_by-append (λ (x : ℕ). x) hurts (knocks leg touched), sum_knocks leg touched)
+
+-- a live robot gets its new motion and its new damage
+pub alive_is : (robot : Robot) (motion : Track) (walled : Bool) (update : ℕ) (shots : List Shot) (touched old burst damage : ℕ) →
+    is_alive robot ≡ true → motion ≡ track_of (settled robot.leg touched) → walled ≡ (is_alive robot && hits_wall (tried robot.leg)) → old ≡ damage_of robot →
+    burst ≡ sum (bursts update shots motion.x motion.y) →
+    damage ≡ min (old + cond walled 2 0 + 2 * touched + burst) 100 →
+    record { track = motion; damage = damage } ≡ body_of (moved_robot update shots touched robot)
+unfolding moved_robot body_of damage_of track_of
+alive_is robot motion walled update shots touched old burst damage live m w o b d =
+    let leg = settled robot.leg touched in
+    let same : walled ≡ hits_wall (tried robot.leg) = rw live at w in
+    let burst_is : burst ≡ sum (bursts update shots (place_x leg) (place_y leg)) = b ∙ ap (λ (t : Track). sum (bursts update shots t.x t.y)) m in
+    let sum_is = worn_is robot.hurts robot.leg touched (bursts update shots (place_x leg) (place_y leg)) in
+    let damage_is : damage ≡ min (sum (robot.hurts ++ knocks robot.leg touched ++ bursts update shots (place_x leg) (place_y leg))) 100 =
+    d ∙ ap (λ (w : Bool). min (old + cond w 2 0 + 2 * touched + burst) 100) same ∙ ap (λ (n : ℕ). min (n + cond (hits_wall (tried robot.leg)) 2 0 + 2 * touched + burst) 100) o ∙ ap (λ (n : ℕ). min (damage_of robot + cond (hits_wall (tried robot.leg)) 2 0 + 2 * touched + n) 100) burst_is ∙ sym sum_is in
+    rw (live, m, damage_is) refl

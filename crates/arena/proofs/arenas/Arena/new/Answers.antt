@@ -1,0 +1,12 @@
+use Rattle.std.proofs.Common.{refl}
+use Rattle.arena.specs.Start.{start}
+use Rattle.arena.proofs.arenas.Arena.new.Goals as goal
+
+pub returns-clause-stands : goal.returns-clause-stands
+unfolding start
+returns-clause-stands c = record {
+  updates = refl;
+  robots = c.drawn_robots-robots.ensures.robots c.args.seed c.args.number c.begun-random.ensures;
+  missiles = c.no_missiles.ensures.none;
+  random = c.drawn_robots-robots.ensures.words c.args.seed c.args.number c.begun-random.ensures;
+}

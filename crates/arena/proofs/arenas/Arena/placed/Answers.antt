@@ -1,0 +1,12 @@
+use Rattle.std.proofs.Common.{refl}
+use Rattle.arena.specs.Start.{placed}
+use Rattle.arena.proofs.arenas.Arena.placed.Goals as goal
+
+pub returns-clause-stands : goal.returns-clause-stands
+unfolding placed
+returns-clause-stands c = record {
+  updates = refl;
+  robots = c.placed_robots.ensures.robots c.args.seed c.args.number;
+  missiles = c.no_missiles.ensures.none;
+  random = c.begun.ensures;
+}

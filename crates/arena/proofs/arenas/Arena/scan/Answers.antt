@@ -1,0 +1,13 @@
+use Rattle.std.proofs.Common.{ap, ◌∙◌, pos, FitsSigned, w32, rules}
+use Rattle.std.proofs.lemmas.Int.{to_z-of_z}
+use Rattle.arena.specs.Ground.{Ground}
+use Rattle.arena.proofs.arenas.Arena.scan.Goals as goal
+
+pub returns : goal.returns
+returns c = λ f s.
+    let robots = c.as_slice.ensures.value ∙ ap (λ (g : Ground). g.robots) c.self.view_is ∙ s.robots in
+    let fd = c.ranges.degree in
+    let fr = c.ranges.resolution in
+    let ff : FitsSigned w32 c.from.result = search rules in
+    let h = simp (c.norm_degree.ensures.value, c.brought-resolution.ensures.value, to_z-of_z) at (c.scan.ensures f robots) in
+    simp to_z-of_z (c.from.ensures ∙ ap pos h)

@@ -1,0 +1,57 @@
+-- What the field answers to a robot that calls an intrinsic function, and what that changes.
+use Rattle.std.specs.Prelude.{ℕ, ◌+◌, ◌%◌, max, nat_lt, if◌then◌else◌, List, [], ◌∷◌, ◌++◌, length, ℤ, pos, slice_index_or, slice_set}
+use Rattle.grammar.specs.declared.names.Intrinsic.{Intrinsic}
+use Rattle.grammar.specs.declared.names.Intrinsic.TheVariants.{Scan, Cannon, Drive, Damage, Speed, LocX, LocY, Rand, Sqrt, Sin, Cos, Tan, Atan}
+use Rattle.arith.specs.Degree.{degree_of}
+use Rattle.arith.specs.Circle.{sine_of, cosine_of}
+use Rattle.arith.specs.Tangent.{tangent_of}
+use Rattle.arith.specs.Arctangent.{arctangent_of}
+use Rattle.arith.specs.Root.{root_of}
+use Rattle.arena.specs.Leg.{Leg, brought}
+use Rattle.arena.specs.Field.{Field, damage_of, robot_at, metres_x, metres_y}
+use Rattle.arena.specs.Shots.{shot, in_air}
+use Rattle.arena.specs.Scan.{scanned}
+use Rattle.arena.specs.Words.{word}
+
+-- an argument by its place; a missing one is 0
+unfoldable pub argument : List ℤ → ℕ → ℤ
+argument arguments k = slice_index_or arguments k (pos 0)
+
+-- a robot fires if fewer than two missiles of its own are in the air
+unfoldable pub fired : Field → ℕ → ℕ → ℕ → ℤ × Field
+fired field i degree range =
+    if nat_lt (length (in_air field.updates i field.shots)) 2 then
+    (pos 1, record field { shots = field.shots ++ shot field.updates i (robot_at field i).leg degree range ∷ [] })
+    else (pos 0, field)
+
+-- it sets what it wants
+unfoldable pub wanting : Leg → ℕ → ℕ → Leg
+wanting leg degree speed = record leg { wanted_heading = degree; wanted_speed = speed }
+
+unfoldable pub directed : Field → ℕ → ℕ → ℕ → Field
+directed field i degree speed =
+    let robot = robot_at field i in
+    record field { robots = slice_set field.robots i (record robot { leg = wanting robot.leg degree speed }) }
+
+-- a random number is below its limit, which lies in 1..32767
+unfoldable pub random_limit : ℤ → ℕ
+random_limit n = max 1 (brought 32767 n)
+
+unfoldable pub random_number : Field → ℤ → ℕ
+random_number field n = word field.seed field.number field.drawn % random_limit n
+
+-- the reply, and the field afterwards
+unfoldable pub answer : Field → ℕ → Intrinsic → List ℤ → ℤ × Field
+answer field i Scan a = (pos (scanned field i (degree_of (argument a 0)) (brought 10 (argument a 1))), field)
+answer field i Cannon a = fired field i (degree_of (argument a 0)) (brought 700 (argument a 1))
+answer field i Drive a = (pos 1, directed field i (degree_of (argument a 0)) (brought 100 (argument a 1)))
+answer field i Damage a = (pos (damage_of (robot_at field i)), field)
+answer field i Speed a = (pos (robot_at field i).leg.speed, field)
+answer field i LocX a = (pos (metres_x (robot_at field i)), field)
+answer field i LocY a = (pos (metres_y (robot_at field i)), field)
+answer field i Rand a = (pos (random_number field (argument a 0)), record field { drawn = field.drawn + 1 })
+answer field i Sqrt a = (root_of (argument a 0), field)
+answer field i Sin a = (sine_of (argument a 0), field)
+answer field i Cos a = (cosine_of (argument a 0), field)
+answer field i Tan a = (tangent_of (argument a 0), field)
+answer field i Atan a = (arctangent_of (argument a 0), field)

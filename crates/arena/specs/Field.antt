@@ -1,0 +1,53 @@
+-- The field: its robots, with every hurt that each of them took, and every shot that was fired.
+use Rattle.std.specs.Prelude.{ℕ, ◌/◌, min, Bool, List, [], ◌∷◌, nat_lt, sum, count_by, slice_index_or}
+use Rattle.arena.specs.Leg.{Leg, place_x, place_y}
+
+-- who fired, the update in which it bursts, and the place of the burst in tenths of a metre
+pub record Shot : Type 0 where
+  pub owner : ℕ
+  pub burst : ℕ
+  pub x : ℕ
+  pub y : ℕ
+
+pub record Robot : Type 0 where
+  pub leg : Leg
+  pub hurts : List ℕ
+
+-- the seed and the match's number choose the generator, of which so many words were drawn
+pub record Field : Type 0 where
+  pub seed : ℕ
+  pub number : ℕ
+  pub drawn : ℕ
+  pub updates : ℕ
+  pub robots : List Robot
+  pub shots : List Shot
+
+-- the damage is in percent; a robot at 100 is dead
+unfoldable pub damage_of : Robot → ℕ
+damage_of robot = min (sum robot.hurts) 100
+
+unfoldable pub is_alive : Robot → Bool
+is_alive robot = nat_lt (damage_of robot) 100
+
+-- what is read past the last robot: a dead one
+unfoldable pub no_robot : Robot
+no_robot = record {
+  leg = record { origin_x = 0; origin_y = 0; heading = 0; distance = 0; speed = 0; wanted_heading = 0; wanted_speed = 0 };
+  hurts = 100 ∷ [];
+}
+
+unfoldable pub robot_at : Field → ℕ → Robot
+robot_at field i = slice_index_or field.robots i no_robot
+
+unfoldable pub is_live : Field → ℕ → Bool
+is_live field i = is_alive (robot_at field i)
+
+unfoldable pub live_count : Field → ℕ
+live_count field = count_by is_alive field.robots
+
+-- a robot's place in whole metres, rounded down
+unfoldable pub metres_x : Robot → ℕ
+metres_x robot = place_x robot.leg / 10
+
+unfoldable pub metres_y : Robot → ℕ
+metres_y robot = place_y robot.leg / 10

@@ -1,0 +1,13 @@
+pub mod Leg
+pub mod Field
+pub mod Collisions
+pub mod Shots
+pub mod Moved
+pub mod Scan
+pub mod Words
+pub mod Start
+pub mod Answer
+pub mod Ground
+pub mod Drive
+pub mod Standing
+pub mod KnownFields

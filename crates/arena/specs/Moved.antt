@@ -1,0 +1,36 @@
+-- One update. Every robot and every pair is judged on the same old field and the same candidates.
+use Rattle.std.specs.Prelude.{ℕ, ◌+◌, nat_lt, if◌then◌else◌, List, [], ◌∷◌, ◌++◌, length, map, replicate}
+use Rattle.std.specs.List.{range_with_len}
+use Rattle.arena.specs.Leg.{Leg, place_x, place_y, driven, tried, hits_wall}
+use Rattle.arena.specs.Field.{Shot, Robot, Field, is_alive, robot_at}
+use Rattle.arena.specs.Collisions.{mover, touches}
+use Rattle.arena.specs.Shots.{bursts}
+
+-- a robot that collides stands again at its old place, at rest, with the heading that it turned to
+unfoldable pub put_back : Leg → Leg → Leg
+put_back old leg = record leg { origin_x = place_x old; origin_y = place_y old; distance = 0; speed = 0; wanted_speed = 0 }
+
+-- the leg after walls and collisions
+unfoldable pub settled : Leg → ℕ → Leg
+settled leg touched = if nat_lt 0 touched then put_back leg (driven leg) else driven leg
+
+-- a wall takes 2, once, and each collision 2
+unfoldable pub knocks : Leg → ℕ → List ℕ
+knocks leg touched = (if hits_wall (tried leg) then 2 ∷ [] else []) ++ replicate touched 2
+
+-- a live robot after the update, given how many others it collides with and the shots; a dead one stays as it is
+unfoldable pub moved_robot : ℕ → List Shot → ℕ → Robot → Robot
+moved_robot update shots touched robot =
+    if is_alive robot then
+    (let leg = settled robot.leg touched in
+    record { leg = leg; hurts = robot.hurts ++ knocks robot.leg touched ++ bursts update shots (place_x leg) (place_y leg) })
+    else robot
+
+-- the field after the update
+unfoldable pub moved : Field → Field
+moved field =
+    let movers = map mover field.robots in
+    record field {
+      updates = field.updates + 1;
+      robots = map (λ i. moved_robot (field.updates + 1) field.shots (touches movers i) (robot_at field i)) (range_with_len 0 (length field.robots));
+    }

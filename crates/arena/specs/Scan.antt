@@ -1,0 +1,46 @@
+-- What a scan sees: the nearest live robot in an arc.
+use Rattle.std.specs.Prelude.{ℕ, ◌-◌, min, max, fold, Bool, ◌&&◌, ◌||◌, ◌==◌, nat_le, if◌then◌else◌, List, [], ◌∷◌, filter, map, ℤ, pos, ◌-ℤ◌, unsigned_abs}
+use Rattle.std.specs.Int.{abs_diff}
+use Rattle.arith.specs.Root.{root_of}
+use Rattle.arith.specs.Bearing.{bearing_of}
+use Rattle.arena.specs.Field.{Robot, Field, is_alive, robot_at, metres_x, metres_y}
+use Rattle.arena.specs.Collisions.{square, others}
+
+-- how far apart two degrees are round the circle
+unfoldable pub apart : ℕ → ℕ → ℕ
+apart a b = min (abs_diff a b) (360 - abs_diff a b)
+
+-- from one robot to another, in whole metres
+unfoldable pub east_to : Robot → Robot → ℤ
+east_to from to = pos (metres_x to) -ℤ pos (metres_x from)
+
+unfoldable pub north_to : Robot → Robot → ℤ
+north_to from to = pos (metres_y to) -ℤ pos (metres_y from)
+
+-- the other robot lies in the arc; one at the same whole metres lies in every arc
+unfoldable pub in_arc : Robot → ℕ → ℕ → Robot → Bool
+in_arc from degree resolution to =
+    ((metres_x to == metres_x from) && (metres_y to == metres_y from)) ||
+    nat_le (apart (bearing_of (east_to from to) (north_to from to)) degree) resolution
+
+unfoldable pub sees : Robot → ℕ → ℕ → Robot → Bool
+sees from degree resolution to = is_alive to && in_arc from degree resolution to
+
+-- how far away it is: whole metres rounded down, and at least 1
+unfoldable pub range_of : Robot → Robot → ℕ
+range_of from to =
+    max 1 (unsigned_abs (root_of (pos (square (metres_x from) (metres_y from) (metres_x to) (metres_y to)))))
+
+-- the lesser of two ranges, of which the first may be 0, for none
+unfoldable pub nearer : ℕ → ℕ → ℕ
+nearer range other = if range == 0 then other else min range other
+
+-- the least of some ranges, or 0
+unfoldable pub nearest : List ℕ → ℕ
+nearest [] = 0
+nearest (range ∷ ranges) = fold min range ranges
+
+unfoldable pub scanned : Field → ℕ → ℕ → ℕ → ℕ
+scanned field i degree resolution =
+    let from = robot_at field i in
+    nearest (map (range_of from) (filter (sees from degree resolution) (others field.robots i)))

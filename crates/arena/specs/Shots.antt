@@ -1,0 +1,47 @@
+-- Shots: where and when they burst, which are in the air, and how much a burst hurts.
+use Rattle.std.specs.Prelude.{ℕ, ◌+◌, ◌*◌, max, ◌&&◌, ◌==◌, nat_lt, nat_le, if◌then◌else◌, List, filter, map, pos, ◌*ℤ◌}
+use Rattle.std.specs.Int.{div_ceil}
+use Rattle.arith.specs.Circle.{sine_at, cosine_at}
+use Rattle.arena.specs.Leg.{Leg, last_place, brought, along, place_x, place_y}
+use Rattle.arena.specs.Field.{Shot}
+use Rattle.arena.specs.Collisions.{square}
+
+-- the place of a burst, at this range in metres and inside the field
+unfoldable pub aimed_x : ℕ → ℕ → ℕ → ℕ
+aimed_x from degree range = brought last_place (along from (pos (10 * range) *ℤ cosine_at degree))
+
+unfoldable pub aimed_y : ℕ → ℕ → ℕ → ℕ
+aimed_y from degree range = brought last_place (along from (pos (10 * range) *ℤ sine_at degree))
+
+-- a missile flies 50 metres in an update, and at least one update
+unfoldable pub flight : ℕ → ℕ
+flight range = max 1 (div_ceil range 50)
+
+-- a shot that a robot on this leg fires after so many updates
+unfoldable pub shot : ℕ → ℕ → Leg → ℕ → ℕ → Shot
+shot updates owner leg degree range = record {
+  owner = owner;
+  burst = updates + flight range;
+  x = aimed_x (place_x leg) degree range;
+  y = aimed_y (place_y leg) degree range;
+}
+
+-- the shots of a robot that are in the air after so many updates
+unfoldable pub in_air : ℕ → ℕ → List Shot → List Shot
+in_air updates owner shots = filter (λ s. (s.owner == owner) && nat_lt updates s.burst) shots
+
+-- the shots that burst in an update
+unfoldable pub due_at : ℕ → List Shot → List Shot
+due_at update shots = filter (λ s. s.burst == update) shots
+
+-- the damage of a burst at this squared distance, by the smallest ring: 5, 20 and 40 metres
+unfoldable pub ring : ℕ → ℕ
+ring square =
+    if nat_le square (50 * 50) then 10
+    else if nat_le square (200 * 200) then 5
+    else if nat_le square (400 * 400) then 3
+    else 0
+
+-- what each burst of an update takes from a robot at a place
+unfoldable pub bursts : ℕ → List Shot → ℕ → ℕ → List ℕ
+bursts update shots x y = map (λ s. ring (square x y s.x s.y)) (due_at update shots)

@@ -1,0 +1,17 @@
+-- Which fields an arena represents.
+use Rattle.std.specs.Prelude.{◌≡◌, ℕ, ◌<◌, List, [], map, length, All, slice_index_or}
+use Rattle.arena.specs.Field.{Shot, Field}
+use Rattle.arena.specs.Shots.{in_air}
+use Rattle.arena.specs.Words.{generator}
+use Rattle.arena.specs.Ground.{Missile, Ground, body_of, shot_of}
+
+-- each robot's missiles are its shots in the air, and every shot is of one of the robots
+pub record HoldsShots (updates : ℕ) (slots : List (List Missile)) (shots : List Shot) : Type 0 where
+  pub owned : All (λ s. s.owner < length slots) shots
+  pub in_air : (i : ℕ) → i < length slots → map (shot_of i) (slice_index_or slots i []) ≡ in_air updates i shots
+
+pub record StandsFor (g : Ground) (field : Field) : Type 0 where
+  pub updates : g.updates ≡ field.updates
+  pub robots : g.robots ≡ map body_of field.robots
+  pub missiles : HoldsShots field.updates g.slots field.shots
+  pub random : g.random ≡ generator field.seed field.number field.drawn

@@ -1,0 +1,53 @@
+-- The field at the start of a match: each robot in a quadrant of its own.
+use Rattle.std.specs.Prelude.{ℕ, ◌+◌, ◌*◌, ◌/◌, ◌%◌, ◌==◌, if◌then◌else◌, List, [], map, ℤ, pos, ◌≤ℤ◌}
+use Rattle.std.specs.List.{range_with_len}
+use Rattle.arena.specs.Leg.{last_place, brought}
+use Rattle.arena.specs.Field.{Robot, Field}
+use Rattle.arena.specs.Words.{word}
+
+-- a robot at rest at a place, unhurt
+unfoldable pub standing : ℕ → ℕ → Robot
+standing x y = record {
+  leg = record { origin_x = x; origin_y = y; heading = 0; distance = 0; speed = 0; wanted_heading = 0; wanted_speed = 0 };
+  hurts = [];
+}
+
+-- the first word chooses the quadrant of robot 0, and the others follow: bit 0 is the east half, bit 1 the north half
+unfoldable pub quadrant : ℕ → ℕ → ℕ → ℕ
+quadrant seed number i = (i + word seed number 0 % 4) % 4
+
+-- a word's place in the low half or in the high half of an axis
+unfoldable pub drawn_place : ℕ → ℕ → ℕ
+drawn_place half w = (if half == 0 then 1000 else 6000) + w % 3000
+
+-- each robot draws x and then y
+unfoldable pub drawn_robot : ℕ → ℕ → ℕ → Robot
+drawn_robot seed number i =
+    let q = quadrant seed number i in
+    standing (drawn_place (q % 2) (word seed number (1 + 2 * i))) (drawn_place (q / 2) (word seed number (2 + 2 * i)))
+
+-- so many robots at drawn places
+unfoldable pub start : ℕ → ℕ → ℕ → Field
+start seed number n = record {
+  seed = seed;
+  number = number;
+  drawn = 1 + 2 * n;
+  updates = 0;
+  robots = map (drawn_robot seed number) (range_with_len 0 n);
+  shots = [];
+}
+
+-- a place inside the field
+abbrev pub IsPlace : ℤ × ℤ → Type 0
+IsPlace place = (pos 0 ≤ℤ place.0) × (place.0 ≤ℤ pos 9999) × (pos 0 ≤ℤ place.1) × (place.1 ≤ℤ pos 9999)
+
+-- robots at given places, with no word drawn
+unfoldable pub placed : ℕ → ℕ → List (ℤ × ℤ) → Field
+placed seed number places = record {
+  seed = seed;
+  number = number;
+  drawn = 0;
+  updates = 0;
+  robots = map (λ place. standing (brought last_place place.0) (brought last_place place.1)) places;
+  shots = [];
+}

@@ -1,0 +1,248 @@
+//! The arena: a field in play, what it answers to robots, and its updates.
+
+ghost use Rattle.std.specs.Prelude.{◌≡◌, ℕ, ◌+◌, ◌*◌, ◌<◌, ◌≤◌, true, nat_lt, ℤ, pos, All, count_by, length, slice_index_or};
+ghost use Rattle.grammar.specs.declared.names.Intrinsic.TheVariants.{Scan, Cannon, Drive, Damage, Speed, LocX, LocY, Rand, Sqrt, Sin, Cos, Tan, Atan};
+ghost use Rattle.arith.specs.Degree.{degree_of};
+ghost use Rattle.arena.specs.Leg.{brought, place_x, place_y};
+ghost use Rattle.arena.specs.Field.{Field, no_robot, damage_of, robot_at, is_live, live_count};
+ghost use Rattle.arena.specs.Moved.{moved};
+ghost use Rattle.arena.specs.Scan.{scanned};
+ghost use Rattle.arena.specs.Start.{start, placed, IsPlace};
+ghost use Rattle.arena.specs.Answer.{answer, fired, directed, random_number};
+ghost use Rattle.arena.specs.Ground.{Body, body_of, lives};
+ghost use Rattle.arena.specs.Standing.{StandsFor};
+
+use crate::limits::MOST_ROBOTS;
+use crate::robots::Robot;
+use crate::scans::scan;
+use crate::slots::{Missile, Slots, fire, land, may_fire, no_missiles};
+use crate::starts::{drawn_robots, placed_robots};
+use crate::updates;
+use crate::words::{begun, random_number};
+use arith::{atan, cos, norm_degree, root, sin, tan};
+use arrayvec::ArrayVec;
+use grammar::Intrinsic;
+use rand_pcg::Pcg32;
+use std::marker::Model;
+
+// The greatest resolution of a scan, in degrees.
+const MOST_RESOLUTION: u16 = 10;
+
+// The greatest range of a cannon, in metres.
+const MOST_RANGE: u16 = 700;
+
+// The greatest speed.
+const MOST_SPEED: u16 = 100;
+
+/// A field in play: two to four robots, numbered from 0, their missiles in the air, and the
+/// generator of the match.
+#[derive(Drop)]
+pub struct Arena {
+    updates: u32,
+    robots: ArrayVec<Robot, MOST_ROBOTS>,
+    slots: ArrayVec<Slots, MOST_ROBOTS>,
+    random: Pcg32,
+}
+
+impl Model for Arena {
+    ghost use Rattle.std.specs.Prelude.{◌≡◌, ◌*◌, ◌≤◌, All, length};
+    ghost use Rattle.arena.specs.Ground.{Body, Ground, IsWithin};
+
+    ghost Value = { Ground };
+
+    ghost view = { λ a. record { updates = a.updates; robots = a.robots.items; slots = a.slots.items; random = a.random } };
+
+    ghost invariant = { λ a. (a.updates ≤ 66666667) × (length a.slots.items ≡ length a.robots.items) × (length a.robots.items ≤ 4) × All (λ (b : Body). IsWithin (10000000 * a.updates) b.track) a.robots.items × All (λ s. length s ≤ 2) a.slots.items };
+}
+
+impl Arena {
+    /// Starts match `number` of a seed: `n` robots at places that the generator draws.
+    pub fn new(seed: u64, number: u64, n: usize) -> Arena
+        requires some { 2 ≤ n }
+        requires most { n ≤ MOST_ROBOTS }
+        ensures stands { StandsFor result (start seed number n) }
+        ensures begun { result.updates ≡ 0 }
+        ensures manned { length result.robots ≡ n }
+    {
+        let mut random = begun(seed, number);
+        let robots = drawn_robots(&mut random, n);
+        Arena {
+            updates: 0,
+            robots,
+            slots: no_missiles(n),
+            random,
+        }
+    }
+
+    /// Places robots, at places in tenths of a metre from 0 to 9,999 on both axes, and draws no word.
+    pub fn placed(seed: u64, number: u64, places: &ArrayVec<(i32, i32), MOST_ROBOTS>) -> Arena
+        requires some { 2 ≤ length places.now.items }
+        requires inside { All IsPlace places.now.items }
+        ensures stands { StandsFor result (placed seed number places.now.items) }
+        ensures begun { result.updates ≡ 0 }
+        ensures manned { length result.robots ≡ length places.now.items }
+    {
+        Arena {
+            updates: 0,
+            robots: placed_robots(places),
+            slots: no_missiles(places.len()),
+            random: begun(seed, number),
+        }
+    }
+
+    /// Answers a live robot that calls an intrinsic function with two arguments, of which those that
+    /// the function has no use for are 0. docs/field.md has each function's reply.
+    pub fn ask(&mut self, robot: usize, intrinsic: Intrinsic, arguments: [i32; 2]) -> i32
+        requires { lives self.old robot ≡ true }
+        ensures reply { (f : Field) → StandsFor self.old f → result ≡ (answer f robot intrinsic arguments).0 }
+        ensures stands { (f : Field) → StandsFor self.old f → StandsFor self.new (answer f robot intrinsic arguments).1 }
+        ensures updates { self.new.updates ≡ self.old.updates }
+        ensures manned { length self.new.robots ≡ length self.old.robots }
+    {
+        let first = arguments[0];
+        let second = arguments[1];
+        match intrinsic {
+            Intrinsic::Scan => self.scan(robot, first, second),
+            Intrinsic::Cannon => self.cannon(robot, first, second),
+            Intrinsic::Drive => self.drive(robot, first, second),
+            Intrinsic::Damage => i32::from(self.robot(robot).damage()),
+            Intrinsic::Speed => i32::from(self.robot(robot).speed()),
+            Intrinsic::LocX => i32::from(self.robot(robot).x() / 10),
+            Intrinsic::LocY => i32::from(self.robot(robot).y() / 10),
+            Intrinsic::Rand => random_number(&mut self.random, first),
+            Intrinsic::Sqrt => root(first),
+            Intrinsic::Sin => sin(first),
+            Intrinsic::Cos => cos(first),
+            Intrinsic::Tan => tan(first),
+            Intrinsic::Atan => atan(first),
+        }
+    }
+
+    /// Does one update: moves all live robots, and lets the missiles burst that are due.
+    pub fn update(&mut self)
+        requires { self.old.updates < 66666667 }
+        ensures stands { (f : Field) → StandsFor self.old f → StandsFor self.new (moved f) }
+        ensures updates { self.new.updates ≡ self.old.updates + 1 }
+        ensures manned { length self.new.robots ≡ length self.old.robots }
+    {
+        let update = self.updates + 1;
+        self.robots = updates::moved(self.robots.as_slice(), self.slots.as_slice(), update);
+        land(self.slots.as_mut_slice(), update);
+        self.updates = update;
+    }
+
+    /// Reports whether a robot lives.
+    pub fn alive(&self, robot: usize) -> bool
+        requires { robot < length self.now.robots }
+        ensures lives { result ≡ lives self.now robot }
+        ensures stands { (f : Field) → StandsFor self.now f → result ≡ is_live f robot }
+    {
+        self.robot(robot).is_alive()
+    }
+
+    /// A robot's damage so far, in percent.
+    pub fn damage(&self, robot: usize) -> u8
+        requires { robot < length self.now.robots }
+        ensures most { result ≤ 100 }
+        ensures stands { (f : Field) → StandsFor self.now f → result ≡ damage_of (robot_at f robot) }
+    {
+        self.robot(robot).damage()
+    }
+
+    /// A robot's place, east and north, in tenths of a metre from 0 to 9,999.
+    pub fn place(&self, robot: usize) -> (u16, u16)
+        requires { robot < length self.now.robots }
+        ensures x { (f : Field) → StandsFor self.now f → result.0 ≡ place_x (robot_at f robot).leg }
+        ensures y { (f : Field) → StandsFor self.now f → result.1 ≡ place_y (robot_at f robot).leg }
+        ensures most_x { result.0 ≤ 9999 }
+        ensures most_y { result.1 ≤ 9999 }
+    {
+        let robot = self.robot(robot);
+        (robot.x(), robot.y())
+    }
+
+    /// How many robots live.
+    pub fn live_count(&self) -> usize
+        ensures { (f : Field) → StandsFor self.now f → result ≡ live_count f }
+    {
+        living(self.robots.as_slice())
+    }
+
+    // No robot has more than two missiles in the air.
+    pub(crate) fn keeps_two(&self)
+        ensures { All (λ s. length s ≤ 2) self.now.slots }
+    {
+        let _ = &self.updates;
+    }
+
+    // The robot of a number.
+    fn robot(&self, robot: usize) -> &Robot
+        requires { robot < length self.now.robots }
+        ensures value { result.now ≡ slice_index_or self.now.robots robot (body_of no_robot) }
+        ensures stands { (f : Field) → StandsFor self.now f → result.now ≡ body_of (robot_at f robot) }
+    {
+        &self.robots[robot]
+    }
+
+    // The range of the nearest robot in an arc, or 0.
+    fn scan(&self, robot: usize, degree: i32, resolution: i32) -> i32
+        requires { robot < length self.now.robots }
+        ensures { (f : Field) → StandsFor self.now f → result ≡ pos (scanned f robot (degree_of degree) (brought 10 resolution)) }
+    {
+        let resolution = brought(resolution, MOST_RESOLUTION);
+        i32::from(scan(
+            self.robots.as_slice(),
+            robot,
+            norm_degree(degree),
+            resolution,
+        ))
+    }
+
+    // Fires a missile, and reports by 1 or 0 whether the robot may.
+    fn cannon(&mut self, robot: usize, degree: i32, range: i32) -> i32
+        requires { robot < length self.old.robots }
+        ensures reply { (f : Field) → StandsFor self.old f → result ≡ (fired f robot (degree_of degree) (brought 700 range)).0 }
+        ensures stands { (f : Field) → StandsFor self.old f → StandsFor self.new (fired f robot (degree_of degree) (brought 700 range)).1 }
+        ensures updates { self.new.updates ≡ self.old.updates }
+        ensures manned { length self.new.robots ≡ length self.old.robots }
+    {
+        if !may_fire(self.slots.as_slice(), robot) {
+            return 0;
+        }
+        let range = brought(range, MOST_RANGE);
+        let (x, y) = self.place(robot);
+        let missile = Missile::new(self.updates, x, y, norm_degree(degree), range);
+        fire(self.slots.as_mut_slice(), robot, missile);
+        1
+    }
+
+    // Sets what a robot wants, and replies 1.
+    fn drive(&mut self, robot: usize, degree: i32, speed: i32) -> i32
+        requires { robot < length self.old.robots }
+        ensures reply { result ≡ pos 1 }
+        ensures stands { (f : Field) → StandsFor self.old f → StandsFor self.new (directed f robot (degree_of degree) (brought 100 speed)) }
+        ensures updates { self.new.updates ≡ self.old.updates }
+        ensures manned { length self.new.robots ≡ length self.old.robots }
+    {
+        let speed = brought(speed, MOST_SPEED) as u8;
+        let wanting = self.robot(robot).wanting(norm_degree(degree), speed);
+        self.robots[robot] = wanting;
+        1
+    }
+}
+
+// How many of some robots live.
+fn living(robots: &[Robot]) -> usize
+    ensures { result ≡ count_by (λ (b : Body). nat_lt b.damage 100) robots.now }
+{
+    robots.iter().filter(|robot| robot.is_alive()).count()
+}
+
+// A number, or the end of 0..=most that it lies beyond.
+#[tactic(auto, unfolding(crate::specs::Leg::brought))]
+fn brought(number: i32, most: u16) -> u16
+    ensures value { result ≡ brought most number }
+    ensures most { result ≤ most }
+{
+    number.clamp(0, i32::from(most)) as u16
+}

@@ -1,0 +1,120 @@
+//! Which robots collide in an update.
+
+ghost use Rattle.std.specs.Prelude.{◌≡◌, ◌<◌, ◌≤◌, count_by, length};
+ghost use Rattle.arena.specs.Collisions.{square, moves, is_close, is_no_further, collides, touches};
+
+use std::marker::Model;
+
+// Robots collide when they are nearer than this on both axes, in tenths of a metre.
+const NEAR: u16 = 10;
+
+/// A robot's place before an update and its candidate for the place after it, in tenths of a metre.
+#[derive(Clone, Copy, Default, Drop)]
+pub struct Mover {
+    live: bool,
+    from_x: u16,
+    from_y: u16,
+    x: u16,
+    y: u16,
+}
+
+impl Model for Mover {
+    ghost use Rattle.std.specs.Prelude.{◌≤◌};
+    ghost use Rattle.arena.specs.Collisions.{Mover};
+
+    ghost Value = { Mover };
+
+    ghost view = { λ m. record { live = m.live; from_x = m.from_x; from_y = m.from_y; x = m.x; y = m.y } };
+
+    ghost inverse = { λ m. record { live = m.live; from_x = m.from_x; from_y = m.from_y; x = m.x; y = m.y } };
+
+    ghost invariant = { λ m. (m.from_x ≤ 9999) × (m.from_y ≤ 9999) × (m.x ≤ 9999) × (m.y ≤ 9999) };
+}
+
+impl Mover {
+    /// A robot at a place, live or not, with a candidate for the next place.
+    pub fn new(live: bool, from_x: u16, from_y: u16, x: u16, y: u16) -> Mover
+        requires from_x { from_x ≤ 9999 }
+        requires from_y { from_y ≤ 9999 }
+        requires x { x ≤ 9999 }
+        requires y { y ≤ 9999 }
+        ensures { result ≡ record { live = live; from_x = from_x; from_y = from_y; x = x; y = y } }
+    {
+        Mover {
+            live,
+            from_x,
+            from_y,
+            x,
+            y,
+        }
+    }
+
+    // Reports whether the robot would leave its place.
+    #[tactic(auto, unfolding(crate::specs::Collisions::moves))]
+    fn moves(&self) -> bool
+        ensures { result ≡ moves self.now }
+    {
+        self.x != self.from_x || self.y != self.from_y
+    }
+
+    // Reports whether the candidates are less than a metre apart on both axes.
+    #[tactic(auto, unfolding(crate::specs::Collisions::is_close))]
+    fn is_close(&self, other: &Mover) -> bool
+        ensures { result ≡ is_close self.now other.now }
+    {
+        self.x.abs_diff(other.x) < NEAR && self.y.abs_diff(other.y) < NEAR
+    }
+
+    // Reports whether two robots don't come further apart.
+    #[tactic(auto, unfolding(crate::specs::Collisions::is_no_further))]
+    fn is_no_further(&self, other: &Mover) -> bool
+        ensures { result ≡ is_no_further self.now other.now }
+    {
+        square(self.x, self.y, other.x, other.y)
+            <= square(self.from_x, self.from_y, other.from_x, other.from_y)
+    }
+
+    // Reports whether two robots collide.
+    #[tactic(auto, unfolding(crate::specs::Collisions::collides))]
+    fn collides(&self, other: &Mover) -> bool
+        ensures { result ≡ collides self.now other.now }
+    {
+        self.live
+            && other.live
+            && self.is_close(other)
+            && (self.moves() || other.moves())
+            && self.is_no_further(other)
+    }
+}
+
+/// The squared distance of two points of the field, in tenths of a metre.
+#[tactic(auto, unfolding(crate::specs::Collisions::square))]
+pub fn square(x: u16, y: u16, to_x: u16, to_y: u16) -> u32
+    requires x { x ≤ 9999 }
+    requires y { y ≤ 9999 }
+    requires to_x { to_x ≤ 9999 }
+    requires to_y { to_y ≤ 9999 }
+    ensures { result ≡ square x y to_x to_y }
+{
+    let dx = u32::from(x.abs_diff(to_x));
+    let dy = u32::from(y.abs_diff(to_y));
+    dx * dx + dy * dy
+}
+
+// How many of some robots a robot collides with.
+fn hits(mover: &Mover, others: &[Mover]) -> usize
+    ensures { result ≡ count_by (collides mover.now) others.now }
+{
+    others.iter().filter(|other| mover.collides(other)).count()
+}
+
+/// How many others a robot collides with.
+#[tactic(auto, unfolding(crate::specs::Collisions::touches, crate::specs::Collisions::others))]
+pub fn touches(movers: &[Mover], robot: usize) -> usize
+    requires { robot < length movers.now }
+    ensures value { result ≡ touches movers.now robot }
+    ensures most { result < length movers.now }
+{
+    let mover = &movers[robot];
+    hits(mover, &movers[..robot]) + hits(mover, &movers[robot + 1..])
+}

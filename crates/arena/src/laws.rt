@@ -1,0 +1,15 @@
+//! Laws of the field: each function does nothing, and what it ensures is the law.
+
+ghost use Rattle.std.specs.Prelude.{ℕ, ◌≤◌, length};
+ghost use Rattle.arena.specs.Field.{Field};
+ghost use Rattle.arena.specs.Shots.{in_air};
+ghost use Rattle.arena.specs.Standing.{StandsFor};
+
+use crate::arenas::Arena;
+
+/// No robot has more than two missiles in the air, in any field that an arena represents.
+pub fn two_missiles(arena: &Arena)
+    ensures { (f : Field) (i : ℕ) → StandsFor arena.now f → length (in_air f.updates i f.shots) ≤ 2 }
+{
+    arena.keeps_two();
+}

@@ -1,0 +1,20 @@
+//! The field of robots: motion, walls, collisions, shots, bursts, the start of a match, and the
+//! intrinsic functions.
+#![tactic(auto)]
+
+mod arenas;
+mod collisions;
+mod known;
+pub mod laws;
+mod limits;
+mod motion;
+mod robots;
+mod scans;
+mod slots;
+mod starts;
+mod updates;
+mod words;
+
+pub use arenas::Arena;
+pub use known::known_fields;
+pub use limits::{LAST_PLACE, MOST_MISSILES, MOST_ROBOTS, MOST_UPDATES};

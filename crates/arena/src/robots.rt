@@ -1,0 +1,201 @@
+//! Robots: how they move and how much they were hurt.
+
+ghost use Rattle.std.specs.Prelude.{◌≡◌, ℕ, ◌+◌, ◌*◌, ◌^◌, ◌<◌, ◌≤◌, true, min, if◌then◌else◌, nat_lt, unsigned_abs};
+ghost use Rattle.arena.specs.Leg.{hits_wall, tried};
+ghost use Rattle.arena.specs.Field.{Robot as FieldRobot, is_alive, metres_x, metres_y};
+ghost use Rattle.arena.specs.Collisions.{candidate, mover};
+ghost use Rattle.arena.specs.Start.{standing};
+ghost use Rattle.arena.specs.Answer.{wanting};
+ghost use Rattle.arena.specs.Ground.{track_of, body_of, IsWithin};
+ghost use Rattle.arena.specs.Moved.{settled};
+ghost use Rattle.arena.specs.Drive.{drive_of};
+
+use crate::collisions::Mover;
+use crate::limits::DEADLY;
+use crate::motion::{Drive, Motion};
+use std::marker::Model;
+
+// How many tenths a metre has.
+const TENTHS: u16 = 10;
+
+// What a wall takes, and each robot that one collides with.
+const WALL: u8 = 2;
+
+const KNOCK: u8 = 2;
+
+/// A robot: its motion, and its damage in percent.
+#[derive(Clone, Copy, Drop)]
+pub struct Robot {
+    motion: Motion,
+    damage: u8,
+}
+
+impl Model for Robot {
+    ghost use Rattle.std.specs.Prelude.{◌≤◌};
+    ghost use Rattle.arena.specs.Ground.{Body};
+
+    ghost Value = { Body };
+
+    ghost view = { λ r. record { track = r.motion; damage = r.damage } };
+
+    ghost inverse = { λ r. record { motion = r.track; damage = r.damage } };
+
+    ghost invariant = { λ r. r.damage ≤ 100 };
+}
+
+impl Default for Robot {
+    fn default() -> Robot {
+        Robot::standing(0, 0)
+    }
+}
+
+impl Robot {
+    /// Stands at a place in tenths of a metre, at rest and unhurt.
+    #[tactic(auto, unfolding(crate::specs::Ground::body_of, crate::specs::Field::damage_of, crate::specs::Start::standing))]
+    pub fn standing(x: u16, y: u16) -> Robot
+        requires x { x ≤ 9999 }
+        requires y { y ≤ 9999 }
+        ensures body { result ≡ body_of (standing x y) }
+        ensures still { IsWithin 0 result.track }
+    {
+        Robot {
+            motion: Motion::standing(x, y),
+            damage: 0,
+        }
+    }
+
+    /// Reports whether the robot lives.
+    pub fn is_alive(&self) -> bool
+        ensures { result ≡ nat_lt self.now.damage 100 }
+    {
+        self.damage < DEADLY
+    }
+
+    /// The damage so far, in percent.
+    pub fn damage(&self) -> u8
+        ensures value { result ≡ self.now.damage }
+        ensures most { result ≤ 100 }
+    {
+        self.damage
+    }
+
+    /// The place on the axis to the east, in whole metres rounded down.
+    #[tactic(auto, unfolding(crate::specs::Field::metres_x, crate::specs::Ground::body_of, crate::specs::Ground::track_of))]
+    pub fn metres_x(&self) -> u16
+        ensures value { (robot : FieldRobot) → self.now ≡ body_of robot → result ≡ metres_x robot }
+        ensures most { result ≤ 999 }
+    {
+        self.x() / TENTHS
+    }
+
+    /// The place on the axis to the north, in whole metres rounded down.
+    #[tactic(auto, unfolding(crate::specs::Field::metres_y, crate::specs::Ground::body_of, crate::specs::Ground::track_of))]
+    pub fn metres_y(&self) -> u16
+        ensures value { (robot : FieldRobot) → self.now ≡ body_of robot → result ≡ metres_y robot }
+        ensures most { result ≤ 999 }
+    {
+        self.y() / TENTHS
+    }
+
+    /// The present speed, in percent.
+    pub fn speed(&self) -> u8
+        ensures value { result ≡ self.now.track.speed }
+        ensures most { result ≤ 100 }
+    {
+        self.motion.speed()
+    }
+
+    /// Sets the heading and the speed that the robot wants.
+    #[tactic(auto, unfolding(crate::specs::Ground::body_of))]
+    pub fn wanting(&self, degree: u16, speed: u8) -> Robot
+        requires degree { degree < 360 }
+        requires speed { speed ≤ 100 }
+        ensures robot { (robot : FieldRobot) → self.now ≡ body_of robot → result ≡ body_of (record robot { leg = wanting robot.leg degree speed }) }
+        ensures way { (result.track.east ≡ self.now.track.east) × (result.track.north ≡ self.now.track.north) }
+    {
+        Robot {
+            motion: self.motion.wanting(degree, speed),
+            damage: self.damage,
+        }
+    }
+
+    /// Moves on for an update, as far as walls let it; a dead robot stays.
+    #[tactic(auto, unfolding(crate::specs::Drive::drive_of, crate::specs::Collisions::candidate, crate::specs::Ground::body_of, crate::specs::Field::is_alive))]
+    pub fn driven(&self) -> Drive
+        requires east { unsigned_abs self.now.track.east < 2 ^ 50 }
+        requires north { unsigned_abs self.now.track.north < 2 ^ 50 }
+        ensures drive { (robot : FieldRobot) → self.now ≡ body_of robot → result ≡ drive_of robot }
+        ensures east { unsigned_abs result.motion.east ≤ unsigned_abs self.now.track.east + 10000000 }
+        ensures north { unsigned_abs result.motion.north ≤ unsigned_abs self.now.track.north + 10000000 }
+    {
+        if self.is_alive() {
+            return self.motion.driven();
+        }
+        Drive {
+            motion: self.motion,
+            walled: false,
+        }
+    }
+
+    /// The robot as collisions see it, with what it would drive on its own.
+    #[tactic(auto, unfolding(crate::specs::Drive::drive_of, crate::specs::Collisions::mover, crate::specs::Ground::body_of, crate::specs::Ground::track_of, crate::specs::Field::is_alive))]
+    pub fn mover(&self, drive: &Drive) -> Mover
+        ensures { (robot : FieldRobot) → self.now ≡ body_of robot → drive.now ≡ drive_of robot → result ≡ mover robot }
+    {
+        Mover::new(
+            self.is_alive(),
+            self.x(),
+            self.y(),
+            drive.motion.x(),
+            drive.motion.y(),
+        )
+    }
+
+    /// The motion of a live robot after walls and collisions, given how many others it collides with.
+    #[tactic(auto, unfolding(crate::specs::Drive::drive_of, crate::specs::Collisions::candidate, crate::specs::Moved::settled, crate::specs::Ground::body_of, crate::specs::Ground::track_of))]
+    pub fn settled(&self, drive: &Drive, touched: usize) -> Motion
+        ensures leg { (robot : FieldRobot) → self.now ≡ body_of robot → drive.now ≡ drive_of robot → is_alive robot ≡ true → result ≡ track_of (settled robot.leg touched) }
+        ensures way { (way : ℕ) → IsWithin way drive.now.motion → IsWithin way result }
+    {
+        if touched > 0 {
+            return drive.motion.put_back(self.x(), self.y());
+        }
+        drive.motion
+    }
+
+    /// A robot with this motion and this damage in percent.
+    pub fn new(motion: Motion, damage: u8) -> Robot
+        requires { damage ≤ 100 }
+        ensures { result ≡ record { track = motion; damage = damage } }
+    {
+        Robot { motion, damage }
+    }
+
+    /// The place on the axis to the east, in tenths of a metre.
+    pub fn x(&self) -> u16
+        ensures value { result ≡ self.now.track.x }
+        ensures most { result ≤ 9999 }
+    {
+        self.motion.x()
+    }
+
+    /// The place on the axis to the north, in tenths of a metre.
+    pub fn y(&self) -> u16
+        ensures value { result ≡ self.now.track.y }
+        ensures most { result ≤ 9999 }
+    {
+        self.motion.y()
+    }
+}
+
+/// The damage in percent after an update, when a wall, so many other robots and bursts hurt a robot.
+pub fn worn(damage: u8, walled: bool, touched: usize, bursts: u8) -> u8
+    requires damage { damage ≤ 100 }
+    requires touched { touched ≤ 4 }
+    requires bursts { bursts ≤ 80 }
+    ensures value { result ≡ min (damage + (if walled then WALL else 0) + KNOCK * touched + bursts) 100 }
+    ensures most { result ≤ 100 }
+{
+    let wall = if walled { WALL } else { 0 };
+    (damage + wall + KNOCK * touched as u8 + bursts).min(DEADLY)
+}

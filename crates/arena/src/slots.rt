@@ -1,0 +1,249 @@
+//! Missiles: where and when they burst, and which of each robot's are in the air.
+
+ghost use Rattle.std.specs.Prelude.{◌≡◌, ℕ, ◌+◌, ◌*◌, ◌<◌, ◌≤◌, ◌++◌, ◌∷◌, [], ℤ, pos, ◌*ℤ◌, unsigned_abs, List, All, filter, map, sum, true, nat_lt, length, slice_index_or};
+ghost use Rattle.arena.specs.Leg.{last_place, brought, along};
+ghost use Rattle.arena.specs.Field.{Shot};
+ghost use Rattle.arena.specs.Shots.{aimed_x, aimed_y, bursts, flight, in_air, ring};
+ghost use Rattle.arena.specs.Ground.{shot_of};
+ghost use Rattle.arena.specs.Standing.{HoldsShots};
+
+use crate::collisions::square;
+use crate::limits::{MOST_MISSILES, MOST_ROBOTS};
+use crate::motion::{along, brought};
+use arith::{cosine_at, sine_at};
+use arrayvec::ArrayVec;
+use std::marker::Model;
+
+// How far a missile flies in an update, in metres.
+const FLIGHT: u16 = 50;
+
+/// A missile in the air: the update in which it bursts, and the place of the burst in tenths of a
+/// metre.
+#[derive(Clone, Copy, Default, Drop)]
+pub struct Missile {
+    burst: u32,
+    x: u16,
+    y: u16,
+}
+
+impl Model for Missile {
+    ghost use Rattle.std.specs.Prelude.{◌≤◌};
+    ghost use Rattle.arena.specs.Ground.{Missile};
+
+    ghost Value = { Missile };
+
+    ghost view = { λ m. record { burst = m.burst; x = m.x; y = m.y } };
+
+    ghost inverse = { λ m. record { burst = m.burst; x = m.x; y = m.y } };
+
+    ghost invariant = { λ m. (m.x ≤ 9999) × (m.y ≤ 9999) };
+}
+
+impl Missile {
+    /// A missile that is fired after so many updates from a place in tenths of a metre, in the
+    /// direction of a degree and at a range in metres.
+    #[tactic(auto, unfolding(crate::specs::Shots::aimed_x, crate::specs::Shots::aimed_y))]
+    pub fn new(updates: u32, x: u16, y: u16, degree: u16, range: u16) -> Missile
+        requires updates { updates ≤ 66666667 }
+        requires x { x ≤ 9999 }
+        requires y { y ≤ 9999 }
+        requires degree { degree < 360 }
+        requires range { range ≤ 700 }
+        ensures { result ≡ record { burst = updates + flight range; x = aimed_x x degree range; y = aimed_y y degree range } }
+    {
+        Missile {
+            burst: updates + flight(range),
+            x: aimed(x, range, cosine_at(degree)),
+            y: aimed(y, range, sine_at(degree)),
+        }
+    }
+
+    // Reports whether the missile is still in the air after this update.
+    fn flies(&self, update: u32) -> bool
+        ensures { result ≡ nat_lt update self.now.burst }
+    {
+        update < self.burst
+    }
+
+    // The damage that the missile does in an update at a place.
+    #[tactic(auto, unfolding(crate::specs::Shots::bursts, crate::specs::Shots::due_at, crate::specs::Ground::shot_of))]
+    fn damage_at(&self, update: u32, x: u16, y: u16) -> u8
+        requires x { x ≤ 9999 }
+        requires y { y ≤ 9999 }
+        ensures most { result ≤ 10 }
+        ensures bursts { (owner : ℕ) → result ≡ sum (bursts update (shot_of owner self.now ∷ []) x y) }
+    {
+        if self.burst == update {
+            ring(square(x, y, self.x, self.y))
+        } else {
+            0
+        }
+    }
+}
+
+// How many updates a missile flies to this range in metres.
+#[tactic(auto, unfolding(crate::specs::Shots::flight))]
+fn flight(range: u16) -> u32
+    requires { range ≤ 700 }
+    ensures value { result ≡ flight range }
+    ensures most { result ≤ 14 }
+{
+    u32::from(range.div_ceil(FLIGHT).max(1))
+}
+
+// Where a missile bursts on an axis, from a place in tenths and at a range in metres, by the part of
+// the range that lies on the axis.
+fn aimed(from: u16, range: u16, part: i32) -> u16
+    requires from { from ≤ 9999 }
+    requires range { range ≤ 700 }
+    requires part { unsigned_abs part ≤ 100000 }
+    ensures value { result ≡ brought last_place (along from (pos (10 * range) *ℤ part)) }
+    ensures most { result ≤ 9999 }
+{
+    let way = i64::from(10 * range) * i64::from(part);
+    brought(along(from, way))
+}
+
+// The damage of a burst at a squared distance in tenths of a metre: by the smallest ring of 5, 20
+// and 40 metres.
+#[tactic(auto, unfolding(crate::specs::Shots::ring))]
+fn ring(square: u32) -> u8
+    ensures value { result ≡ ring square }
+    ensures most { result ≤ 10 }
+{
+    match square {
+        0..=2_500 => 10,
+        2_501..=40_000 => 5,
+        40_001..=160_000 => 3,
+        _ => 0,
+    }
+}
+
+/// The missiles of one robot that are in the air, at most two.
+#[derive(Drop)]
+pub struct Slots {
+    missiles: ArrayVec<Missile, MOST_MISSILES>,
+}
+
+impl Model for Slots {
+    ghost use Rattle.std.specs.Prelude.{◌≤◌, List, length};
+    ghost use Rattle.arena.specs.Ground.{Missile};
+
+    ghost Value = { List Missile };
+
+    ghost view = { λ s. s.missiles.items };
+
+    ghost invariant = { λ s. length s.missiles.items ≤ 2 };
+}
+
+impl Default for Slots {
+    fn default() -> Slots
+        ensures { result ≡ [] }
+    {
+        Slots {
+            missiles: ArrayVec::new(),
+        }
+    }
+}
+
+impl Slots {
+    // Reports whether one more missile may fly.
+    fn has_room(&self) -> bool
+        ensures { result ≡ nat_lt (length self.now) 2 }
+    {
+        self.missiles.len() < MOST_MISSILES
+    }
+
+    // Adds a missile.
+    fn add(&mut self, missile: Missile)
+        requires { length self.old < 2 }
+        ensures { self.new ≡ self.old ++ missile ∷ [] }
+    {
+        self.missiles.push(missile);
+    }
+
+    // The damage that the missiles do in an update at a place.
+    fn damage_at(&self, update: u32, x: u16, y: u16) -> u8
+        requires x { x ≤ 9999 }
+        requires y { y ≤ 9999 }
+        ensures most { result ≤ 20 }
+        ensures bursts { (owner : ℕ) → result ≡ sum (bursts update (map (shot_of owner) self.now) x y) }
+    {
+        let mut damage = 0;
+        for missile in self.missiles.as_slice() {
+            damage += missile.damage_at(update, x, y);
+        }
+        damage
+    }
+
+    // Keeps the missiles that are still in the air after this update.
+    fn land(&mut self, update: u32)
+        ensures { self.new ≡ filter (λ m. nat_lt update m.burst) self.old }
+    {
+        let mut flying = ArrayVec::new();
+        for missile in self.missiles.as_slice() {
+            if missile.flies(update) {
+                flying.push(*missile);
+            }
+        }
+        self.missiles = flying;
+    }
+}
+
+/// No missile in the air, for so many robots.
+pub fn no_missiles(n: usize) -> ArrayVec<Slots, MOST_ROBOTS>
+    requires { n ≤ MOST_ROBOTS }
+    ensures count { length result.items ≡ n }
+    ensures none { HoldsShots 0 result.items [] }
+    ensures two { All (λ s. length s ≤ 2) result.items }
+{
+    let mut slots = ArrayVec::new();
+    for _robot in 0..n {
+        slots.push(Slots::default());
+    }
+    slots
+}
+
+/// Reports whether a robot may fire: it has fewer than two missiles in the air.
+pub fn may_fire(slots: &[Slots], robot: usize) -> bool
+    requires { robot < length slots.now }
+    ensures own { result ≡ nat_lt (length (slice_index_or slots.now robot [])) 2 }
+    ensures shots { (updates : ℕ) (shots : List Shot) → HoldsShots updates slots.now shots → result ≡ nat_lt (length (in_air updates robot shots)) 2 }
+{
+    slots[robot].has_room()
+}
+
+/// Fires a missile of a robot.
+pub fn fire(slots: &mut [Slots], robot: usize, missile: Missile)
+    requires inside { robot < length slots.old }
+    requires free { nat_lt (length (slice_index_or slots.old robot [])) 2 ≡ true }
+    ensures shots { (updates : ℕ) (shots : List Shot) → updates < missile.burst → HoldsShots updates slots.old shots → HoldsShots updates slots.new (shots ++ shot_of robot missile ∷ []) }
+    ensures two { All (λ s. length s ≤ 2) slots.old → All (λ s. length s ≤ 2) slots.new }
+{
+    slots[robot].add(missile);
+}
+
+/// The damage that the bursts of an update do at a place in tenths of a metre.
+pub fn damage_at(slots: &[Slots], update: u32, x: u16, y: u16) -> u8
+    requires robots { length slots.now ≤ MOST_ROBOTS }
+    requires x { x ≤ 9999 }
+    requires y { y ≤ 9999 }
+    ensures most { result ≤ 80 }
+    ensures shots { (updates : ℕ) (shots : List Shot) → update ≡ updates + 1 → HoldsShots updates slots.now shots → result ≡ sum (bursts update shots x y) }
+{
+    let mut damage = 0;
+    for own in slots {
+        damage += own.damage_at(update, x, y);
+    }
+    damage
+}
+
+/// Frees the missiles that burst in an update or before.
+pub fn land(slots: &mut [Slots], update: u32)
+    ensures shots { (updates : ℕ) (shots : List Shot) → update ≡ updates + 1 → HoldsShots updates slots.old shots → HoldsShots update slots.new shots }
+    ensures two { All (λ s. length s ≤ 2) slots.old → All (λ s. length s ≤ 2) slots.new }
+{
+    for own in slots {
+        own.land(update);
+    }
+}

@@ -1,0 +1,88 @@
+//! Where robots stand at the start of a match.
+
+ghost use Rattle.std.specs.Prelude.{◌≡◌, ℕ, ◌+◌, ◌*◌, ◌/◌, ◌%◌, ◌<◌, ◌≤◌, ℤ, pos, ◌≤ℤ◌, map, All, length};
+ghost use Rattle.arena.specs.Leg.{last_place, brought};
+ghost use Rattle.arena.specs.Words.{generator, word};
+ghost use Rattle.arena.specs.Start.{standing, drawn_place, start, placed, IsPlace};
+ghost use Rattle.arena.specs.Ground.{Body, IsWithin, body_of};
+
+use crate::limits::MOST_ROBOTS;
+use crate::robots::Robot;
+use crate::words::draw;
+use arrayvec::ArrayVec;
+use rand_pcg::Pcg32;
+
+// The first place of the low and of the high half of an axis in which robots start, and how many
+// places each has, in tenths of a metre.
+const LOW_HALF: u32 = 1000;
+
+const HIGH_HALF: u32 = 6000;
+
+const PLACES: u32 = 3000;
+
+/// Robots at drawn places: the first word chooses the quadrant of robot 0, the others follow in the
+/// next ones, and each draws x and then y.
+pub(crate) fn drawn_robots(random: &mut Pcg32, n: usize) -> ArrayVec<Robot, MOST_ROBOTS>
+    requires { n ≤ MOST_ROBOTS }
+    ensures robots { (seed number : ℕ) → random.old ≡ generator seed number 0 → result.items ≡ map body_of (start seed number n).robots }
+    ensures words { (seed number : ℕ) → random.old ≡ generator seed number 0 → random.new ≡ generator seed number (1 + 2 * n) }
+    ensures manned { length result.items ≡ n }
+    ensures still { All (λ (b : Body). IsWithin 0 b.track) result.items }
+{
+    let first = draw(random) % 4;
+    let mut robots = ArrayVec::new();
+    for i in 0..n {
+        let quadrant = (i as u32 + first) % 4;
+        robots.push(drawn_robot(random, quadrant));
+    }
+    robots
+}
+
+// A robot at a drawn place of a quadrant, of which bit 0 is the east half and bit 1 the north half.
+fn drawn_robot(random: &mut Pcg32, quadrant: u32) -> Robot
+    requires { quadrant < 4 }
+    ensures robot { (seed number drawn : ℕ) → random.old ≡ generator seed number drawn → result ≡ body_of (standing (drawn_place (quadrant % 2) (word seed number drawn)) (drawn_place (quadrant / 2) (word seed number (drawn + 1)))) }
+    ensures words { (seed number drawn : ℕ) → random.old ≡ generator seed number drawn → random.new ≡ generator seed number (drawn + 2) }
+    ensures still { IsWithin 0 result.track }
+{
+    let x = drawn_place(quadrant % 2, draw(random));
+    let y = drawn_place(quadrant / 2, draw(random));
+    Robot::standing(x, y)
+}
+
+// The place of a word in the low half of an axis, or in the high one.
+#[tactic(auto, unfolding(crate::specs::Start::drawn_place))]
+fn drawn_place(half: u32, word: u32) -> u16
+    ensures value { result ≡ drawn_place half word }
+    ensures most { result ≤ 9999 }
+{
+    let from = if half == 0 { LOW_HALF } else { HIGH_HALF };
+    (from + word % PLACES) as u16
+}
+
+/// Robots at given places, in tenths of a metre.
+pub(crate) fn placed_robots(
+    places: &ArrayVec<(i32, i32), MOST_ROBOTS>,
+) -> ArrayVec<Robot, MOST_ROBOTS>
+    requires { All IsPlace places.now.items }
+    ensures robots { (seed number : ℕ) → result.items ≡ map body_of (placed seed number places.now.items).robots }
+    ensures manned { length result.items ≡ length places.now.items }
+    ensures still { All (λ (b : Body). IsWithin 0 b.track) result.items }
+{
+    let mut robots = ArrayVec::new();
+    for place in places.as_slice() {
+        robots.push(Robot::standing(coordinate(place.0), coordinate(place.1)));
+    }
+    robots
+}
+
+// A given coordinate.
+#[tactic(auto, unfolding(crate::specs::Leg::brought))]
+fn coordinate(z: i32) -> u16
+    requires least { pos 0 ≤ℤ z }
+    requires most { z ≤ℤ pos 9999 }
+    ensures value { result ≡ brought last_place z }
+    ensures most { result ≤ 9999 }
+{
+    z as u16
+}
