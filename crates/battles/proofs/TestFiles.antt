@@ -1,5 +1,5 @@
 -- Files of a main alone, as the tests tell them.
-use Rattle.std.specs.Prelude.{ℕ, suc, zero, pos, ◌≡◌, ◌<◌, [], ◌∷◌, codes, map, Some, slice_get}
+use Rattle.std.specs.Prelude.{ℕ, suc, zero, ◌≡◌, ◌<◌, [], ◌∷◌, codes, map, Some, slice_get}
 use Rattle.std.proofs.Common.{sym, ap, arith, inl, inr}
 use Rattle.grammar.specs.Compiled.{main_name}
 use Rattle.grammar.specs.KnownSources.{file_of_main, main_of, shot_tree}
