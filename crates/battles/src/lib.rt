@@ -9,3 +9,6 @@ mod scheduler;
 pub use battles::battle;
 pub use outcome::Outcome;
 pub use programs::Programs;
+
+#[cfg(test)]
+mod tests;
