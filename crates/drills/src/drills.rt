@@ -1,6 +1,6 @@
 //! The drills: a field whose robots march and shoot, one at rest, scans, bearings.
 
-ghost use Rattle.std.specs.Prelude.{◌≡◌, ◌≤◌, length};
+ghost use Rattle.std.specs.Prelude.{◌≡◌, ◌<◌, length};
 
 use arena::{Arena, MOST_ROBOTS};
 use arith::bearing;
@@ -30,7 +30,7 @@ pub fn marches(updates: u32) -> u8 {
 /// Four robots that stand still, with nothing in the air; answers the damage of the first one.
 pub fn rests(updates: u32) -> u8 {
     let mut arena = far_apart();
-    for _ in 0..updates.min(MOST_UPDATES) {
+    for _update in 0..updates.min(MOST_UPDATES) {
         arena.update();
     }
     arena.damage(0)
