@@ -40,9 +40,9 @@ pub fn rests(updates: u32) -> u8 {
 pub fn scans(times: u32) -> i32 {
     let mut arena = in_a_row();
     let mut range = 0;
-    for _ in 0..times {
+    for n in 0..times {
         if arena.alive(0) {
-            range = arena.ask(0, Intrinsic::Scan, [45, 10]);
+            range = arena.ask(0, Intrinsic::Scan, [40 + (n % 10) as i32, 10]);
         }
     }
     range
