@@ -52,8 +52,8 @@ pub fn scans(times: u32) -> i32 {
 pub fn bearings(times: u32) -> u16 {
     let mut degree = 0;
     for n in 0..times {
-        let dx = (n % 1999) as i32 - 999;
-        let dy = (n / 1999 % 1999) as i32 - 999;
+        let dx = (n % 1999 * 37 % 1999) as i32 - 999;
+        let dy = (n % 1999 * 53 % 1999) as i32 - 999;
         degree = bearing(dx, dy);
     }
     degree
