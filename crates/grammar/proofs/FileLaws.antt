@@ -17,12 +17,11 @@ use Rattle.grammar.specs.Profile.{Profile}
 use Rattle.grammar.specs.Resolved.{IsAmong, AreDistinct}
 use Rattle.grammar.specs.Scope.{Scope, function_number}
 use Rattle.grammar.specs.Tree.{Function, File}
-use Rattle.grammar.proofs.ResolvedLaws.{Sound, compiled_is_resolved}
-use Rattle.grammar.proofs.Soundness.{AllIn}
+use Rattle.grammar.proofs.ResolvedLaws.{Sound, compiled_is_resolved, order_below}
 use Rattle.grammar.proofs.Verdicts.{clean_verdict}
-use Rattle.finishing.specs.Finished.{PassesAll, Finished, Undefined, WithoutMain, known_names}
-use Rattle.finishing.proofs.NamedFunctions.{AreNamed, sound_of_passes, named_of_passes}
-use Rattle.finishing.proofs.Places.{map_of_places}
+use Rattle.grammar.specs.Finished.{PassesAll, Finished, Undefined, WithoutMain, known_names}
+use Rattle.grammar.proofs.NamedFunctions.{AreNamed, sound_of_passes, named_of_passes}
+use Rattle.grammar.proofs.Places.{map_of_places}
 
 -- Functions by number.
 
@@ -128,11 +127,6 @@ named_at functions k f (d ∷ ds) h is = at_test (λ g. named_at functions k f d
 
 -- The end of a derivation.
 
-among_below : (e n k : ℕ) (ds : List Definition) → AllIn e n ds → IsAmong k (order_of ds) → k < n
-among_below e n k [] h i = absurd i
-among_below e n k (d ∷ ds) h (inl same) = subst (λ (x : ℕ). x < n) (sym same) h.0
-among_below e n k (d ∷ ds) h (inr i) = among_below e n k ds h.2 i
-
 abbrev at_end : Scope → List Definition → State
 at_end scope ds = state [] [] [] scope ds
 
@@ -149,7 +143,7 @@ module _ (scope : Scope) (ds : List Definition) (s : Sound (at_end scope ds)) (a
 
   told_at : functions_actions a.functions (order_of ds) ≡ definitions_actions ds
   told_at = actions_there a.functions ds (there a.functions ds (subst (λ (ns : List ℕ). AreDistinct ns) (begun_at_end scope ds s) s.known.begun)
-      (λ k i. each_at k (among_below _ _ k ds s.known.definitions i)))
+      (λ k i. each_at k (order_below _ _ k ds s.known.definitions i)))
 
   names_at : AreNamed scope.functions ds → map names_of_function a.functions ≡ scope.functions
   names_at h = map_of_places names_of_function a.functions scope.functions (a.count ∙ s.known.lines)

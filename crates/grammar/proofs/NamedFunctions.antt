@@ -1,19 +1,20 @@
 -- Along a derivation without a fault, each function that was defined has its names among those known.
-use Rattle.std.proofs.Common.{◌≡◌, ℕ, zero, suc, ◌<◌, List, [], ◌∷◌, ◌++◌, refl, sym, ◌∙◌, subst, inl, inr, Bool, true, false, append-nil, length}
+use Rattle.std.proofs.Common.{◌≡◌, ℕ, zero, suc, ◌<◌, List, [], ◌∷◌, ◌++◌, sym, ◌∙◌, subst, inl, inr, Bool, true, false, append-nil, length}
 use Rattle.std.specs.Prelude.{Option, Some, None, if◌then◌else◌, unwrap_or, slice_get, set}
 use Rattle.tokens.specs.declared.lexemes.Lexeme.{Lexeme}
 use Rattle.grammar.specs.Compiled.{order_of}
 use Rattle.grammar.specs.Derivation.{State, state, start, Value, Definition, definition_of, last_body, next_of, after_of, line_of, name_of_token, constant_value, is_end, matched, name_matched, constant_matched, replaced, step_of, step, stepped, run}
-use Rattle.grammar.specs.Faults.{Fault, faults_at, faults_in}
+use Rattle.grammar.specs.Faults.{faults_at, faults_in}
 use Rattle.grammar.specs.Grammar.{Item, Exactly, AWord, AName, AConstant, AnEnd, Part, Make, Shut, Define, Role, Defined, External, Parameter, Typed, Local, Called, Mentioned, Production, choice, is_fault, is_mark, is_word}
 use Rattle.grammar.specs.Parsing.{Passes}
 use Rattle.grammar.specs.Pools.{FunctionNames, names_of_function}
 use Rattle.grammar.specs.Profile.{Profile}
 use Rattle.grammar.specs.Resolved.{IsAmong, AreDistinct}
 use Rattle.grammar.specs.Scope.{Scope, behind_name, end_definition, is_function_new, only_named, with_function, is_external_new, is_local_new, is_variable_new, with_external, with_parameter, with_variable}
-use Rattle.grammar.proofs.Phases.{Phase, Outside, Before, Inside, Wrong, outside_then, phase_of}
-use Rattle.grammar.proofs.ResolvedLaws.{Sound, Busy, Tied, stepped_sound, run_sound, start_sound}
-use Rattle.finishing.proofs.Places.{get_append, get_set_same, get_set_other}
+use Rattle.grammar.proofs.Phases.{phase_of}
+use Rattle.grammar.proofs.ResolvedLaws.{Sound, Busy, among_last, ended, stepped_sound, run_sound, start_sound}
+use Rattle.grammar.proofs.Runs.{append_empty}
+use Rattle.grammar.proofs.Places.{get_append, get_set_same, get_set_other}
 
 -- a derivation that comes from the start without a fault is sound
 pub sound_of_passes : (profile : Profile) (lexemes : List Lexeme) (s : State) → Passes profile (start lexemes) s → Sound s
@@ -49,14 +50,10 @@ role_named Mentioned name line scope ds h = named_if (is_variable_new name scope
 
 -- The end of a definition.
 
-among_last : (ns : List ℕ) (n : ℕ) → IsAmong n (ns ++ n ∷ [])
-among_last [] n = inl refl
-among_last (x ∷ ns) n = inr (among_last ns n)
-
 -- a last number that stands once isn't among those before
 last_apart : (ns : List ℕ) (n : ℕ) → AreDistinct (ns ++ n ∷ []) → IsAmong n ns → ⊥
 last_apart [] n h i = i
-last_apart (x ∷ ns) n h (inl e) = h.0 (subst (λ (k : ℕ). IsAmong k (ns ++ n ∷ [])) e (among_last ns n))
+last_apart (x ∷ ns) n h (inl e) = h.0 (subst (λ (k : ℕ). IsAmong k (ns ++ n ∷ [])) e (among_last n ns))
 last_apart (x ∷ ns) n h (inr i) = last_apart ns n h.1 i
 
 -- other functions keep their names
@@ -71,18 +68,11 @@ named_append : (functions : List FunctionNames) (ds : List Definition) (d : Defi
 named_append functions [] d h e = (e, tt)
 named_append functions (x ∷ ds) d h e = (h.0, named_append functions ds d h.1 e)
 
--- a function that ends had begun
-ended : (phase : Phase) (values : List Value) (scope : Scope) (ds : List Definition) → Tied (outside_then Inside phase) values scope ds → Busy values scope ds
-ended Outside values scope ds t = t
-ended Inside values scope ds t = absurd t
-ended Before values scope ds t = absurd t
-ended Wrong values scope ds t = absurd t
-
 define_named : (stack : List Item) (rest : List Lexeme) (values : List Value) (scope : Scope) (ds : List Definition) → Sound (state (Make Define ∷ stack) rest values scope ds) →
     AreNamed scope.functions ds → AreNamed (end_definition scope).functions (ds ++ definition_of scope (last_body values) ∷ [])
 define_named stack rest values scope ds s h =
     let b : Busy values scope ds = ended (phase_of stack) values scope ds s.tied in
-    let within : scope.number < length scope.functions = s.known.below scope.number (subst (λ (ns : List ℕ). IsAmong scope.number ns) (sym b.begun) (among_last (order_of ds) scope.number)) in
+    let within : scope.number < length scope.functions = s.known.below scope.number (subst (λ (ns : List ℕ). IsAmong scope.number ns) (sym b.begun) (among_last scope.number (order_of ds))) in
     let new : IsAmong scope.number (order_of ds) → ⊥ = last_apart (order_of ds) scope.number (subst (λ (ns : List ℕ). AreDistinct ns) b.begun s.known.begun) in
     named_append (set scope.functions scope.number scope.current) ds (definition_of scope (last_body values))
     (others_named scope.functions scope.number scope.current ds new h) (get_set_same scope.functions scope.number scope.current within)
@@ -144,20 +134,12 @@ stepped_named s sound h = kept_named s (step s) h
     (guarded_named (is_fault (next_of s.rest)) (step_of s.stack s.rest s.values s.scope s.functions)
     (step_named s.stack s.rest s.values s.scope s.functions (record { known = sound.known; tied = sound.tied }) h))
 
-front_clean : (xs ys : List Fault) → xs ++ ys ≡ [] → xs ≡ []
-front_clean [] ys e = refl
-front_clean (x ∷ xs) ys e = absurd (cc)
-
-back_clean : (xs ys : List Fault) → xs ++ ys ≡ [] → ys ≡ []
-back_clean [] ys e = e
-back_clean (x ∷ xs) ys e = absurd (cc)
-
 run_named : (profile : Profile) (n : ℕ) (s : State) → faults_in profile n s ≡ [] → Sound s → AreNamed s.scope.functions s.functions →
     AreNamed (run n s).scope.functions (run n s).functions
 run_named profile zero s clean sound h = h
 run_named profile (suc n) s clean sound h =
-    run_named profile n (stepped s) (back_clean (faults_at profile s) (faults_in profile n (stepped s)) clean)
-    (stepped_sound profile s (front_clean (faults_at profile s) (faults_in profile n (stepped s)) clean) sound) (stepped_named s sound h)
+    run_named profile n (stepped s) (append_empty (faults_at profile s) (faults_in profile n (stepped s)) clean).1
+    (stepped_sound profile s (append_empty (faults_at profile s) (faults_in profile n (stepped s)) clean).0 sound) (stepped_named s sound h)
 
 -- so it is wherever a derivation leads without a fault
 pub named_of_passes : (profile : Profile) (lexemes : List Lexeme) (s : State) → Passes profile (start lexemes) s → AreNamed s.scope.functions s.functions

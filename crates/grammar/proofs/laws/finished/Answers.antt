@@ -1,5 +1,5 @@
-use Rattle.finishing.proofs.FileLaws.{finished, undefined, without_main}
-use Rattle.finishing.proofs.laws.finished.Goals as goal
+use Rattle.grammar.proofs.FileLaws.{finished, undefined, without_main}
+use Rattle.grammar.proofs.laws.finished.Goals as goal
 
 pub returns-clause-file : goal.returns-clause-file
 returns-clause-file c = finished
