@@ -2,9 +2,9 @@ use Rattle.std.proofs.Common.{[], ◌∷◌, refl}
 use Rattle.std.proofs.lemmas.Result.{err_from_is_err_and}
 use Rattle.tokens.specs.declared.lexemes.Mark.TheVariants as mark
 use Rattle.grammar.specs.Grammar.{Exactly, ParameterTypes, Parameters, Part}
-use Rattle.declarations.proofs.HeadingLaws.{heading_closed, heading_items, heading_listed, heading_named, heading_open}
-use Rattle.declarations.proofs.ListLaws.{item_on, leaves}
-use Rattle.declarations.proofs.headings.heading.Goals as goal
+use Rattle.parsing.proofs.HeadingLaws.{heading_closed, heading_items, heading_listed, heading_named, heading_open}
+use Rattle.parsing.proofs.ListLaws.{item_on, leaves}
+use Rattle.parsing.proofs.headings.heading.Goals as goal
 
 pub returns-in_err-expect-clause-refused : goal.returns-in_err-expect-clause-refused
 returns-in_err-expect-clause-refused g c =

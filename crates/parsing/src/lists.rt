@@ -10,10 +10,12 @@ ghost use Rattle.parsing.specs.Defining.{StaysAt};
 ghost use Rattle.parsing.specs.Position.{place};
 ghost use Rattle.parsing.specs.Roles.{role_of};
 ghost use Rattle.parsing.specs.Stretch.{Counts, Derives, FailsAt, Refused};
-ghost use Rattle.declarations.specs.Declarations.{IsInFunction, declarations_of};
+ghost use Rattle.parsing.specs.Declarations.{IsInFunction, declarations_of};
 
+use crate::parser::Parser;
+use crate::roles::Declared;
+use crate::tests_of_tokens::{is_mark, is_word};
 use grammar::ParseFault;
-use parsing::{Declared, Parser, is_mark, is_word};
 use tokens::{Feed, Mark, Word};
 
 /// `types → type types`

@@ -6,7 +6,7 @@ use Rattle.parsing.specs.Defining.{StaysAt}
 use Rattle.parsing.specs.Position.{place}
 use Rattle.parsing.specs.Roles.{role_of}
 use Rattle.parsing.specs.Stretch.{Derives}
-use Rattle.declarations.proofs.lists.more_names.Given as goal
+use Rattle.parsing.proofs.lists.more_names.Given as goal
 
 abbrev pub invariant-loop-declared : goal.invariant-loop-declared
 invariant-loop-declared g l = record {

@@ -4,9 +4,9 @@ use Rattle.tokens.specs.declared.lexemes.Lexeme.{Lexeme}
 use Rattle.tokens.specs.declared.lexemes.Token.TheVariants as token
 use Rattle.grammar.specs.Grammar.{AName, More, Parameter, Parameters, Part, is_fault}
 use Rattle.parsing.proofs.Names.{stays_body}
-use Rattle.declarations.proofs.HeadingLaws.{no_parameters, parameter_first, parameters_open}
-use Rattle.declarations.proofs.ListLaws.{item_on, leaves}
-use Rattle.declarations.proofs.headings.parameters.Goals as goal
+use Rattle.parsing.proofs.HeadingLaws.{no_parameters, parameter_first, parameters_open}
+use Rattle.parsing.proofs.ListLaws.{item_on, leaves}
+use Rattle.parsing.proofs.headings.parameters.Goals as goal
 
 pub returns-in_err-declare-clause-refused : goal.returns-in_err-declare-clause-refused
 returns-in_err-declare-clause-refused g c =

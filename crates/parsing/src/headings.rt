@@ -10,8 +10,9 @@ ghost use Rattle.parsing.specs.Position.{place};
 ghost use Rattle.parsing.specs.Stretch.{BeginsDefinition, Counts, Derives, FailsAt, Refused};
 
 use crate::lists::{declarations, more_names, names};
+use crate::parser::Parser;
+use crate::roles::Declared;
 use grammar::ParseFault;
-use parsing::{Declared, Parser};
 use tokens::{Feed, Mark, Token};
 
 /// `head → name more ;`

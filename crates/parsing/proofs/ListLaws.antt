@@ -15,7 +15,7 @@ use Rattle.parsing.specs.Roles.{role_of}
 use Rattle.parsing.specs.Stretch.{Derives, DerivesItem, FailsAt, Refused}
 use Rattle.parsing.proofs.Parts.{Chooses, free_of, part_stands}
 use Rattle.parsing.proofs.Stretches.{fails_behind, joined, refused_map, stay}
-use Rattle.declarations.specs.Declarations.{IsInFunction, declarations_of}
+use Rattle.parsing.specs.Declarations.{IsInFunction, declarations_of}
 
 -- the symbol is replaced by these items, whatever stands behind the next token, and no level is opened
 pub record Gives (symbol : Symbol) (next : Token) (items : List Item) : Type 0 where

@@ -5,8 +5,8 @@ use Rattle.grammar.specs.Grammar.{Part}
 use Rattle.parsing.specs.Defining.{StaysAt}
 use Rattle.parsing.specs.Position.{place}
 use Rattle.parsing.specs.Stretch.{Derives}
-use Rattle.declarations.specs.Declarations.{declarations_of}
-use Rattle.declarations.proofs.lists.declarations.Given as goal
+use Rattle.parsing.specs.Declarations.{declarations_of}
+use Rattle.parsing.proofs.lists.declarations.Given as goal
 
 abbrev pub invariant-loop-declared : goal.invariant-loop-declared
 invariant-loop-declared g l = record {

@@ -3,9 +3,9 @@ use Rattle.std.proofs.lemmas.Result.{err_from_is_err_and}
 use Rattle.tokens.specs.declared.lexemes.Word.TheVariants as word
 use Rattle.grammar.specs.Grammar.{Part, is_fault, is_word}
 use Rattle.parsing.proofs.Names.{stays_at_then}
-use Rattle.declarations.specs.Declarations.{declarations_of}
-use Rattle.declarations.proofs.ListLaws.{declaration_items, declarations_end, declarations_more, goes_on, leaves, opens_on}
-use Rattle.declarations.proofs.lists.declarations.Goals as goal
+use Rattle.parsing.specs.Declarations.{declarations_of}
+use Rattle.parsing.proofs.ListLaws.{declaration_items, declarations_end, declarations_more, goes_on, leaves, opens_on}
+use Rattle.parsing.proofs.lists.declarations.Goals as goal
 
 pub loop-declared-preserved : goal.loop-declared-preserved
 loop-declared-preserved g c =

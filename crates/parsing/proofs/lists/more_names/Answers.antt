@@ -6,8 +6,8 @@ use Rattle.grammar.specs.Scope.{Scope}
 use Rattle.parsing.specs.Defining.{StaysAt}
 use Rattle.parsing.specs.Roles.{role_of}
 use Rattle.parsing.proofs.Names.{stays_at_then}
-use Rattle.declarations.proofs.ListLaws.{goes_on, leaves, more_behind, names_end, opens_on, names_more}
-use Rattle.declarations.proofs.lists.more_names.Goals as goal
+use Rattle.parsing.proofs.ListLaws.{goes_on, leaves, more_behind, names_end, opens_on, names_more}
+use Rattle.parsing.proofs.lists.more_names.Goals as goal
 
 pub returns-in_err-expect-clause-refused : goal.returns-in_err-expect-clause-refused
 returns-in_err-expect-clause-refused g c =

@@ -3,8 +3,8 @@ use Rattle.std.proofs.lemmas.Result.{err_from_is_err_and}
 use Rattle.tokens.specs.declared.lexemes.Mark.TheVariants as mark
 use Rattle.grammar.specs.Grammar.{Exactly, More, Part}
 use Rattle.parsing.specs.Roles.{role_of}
-use Rattle.declarations.proofs.ListLaws.{item_on, leaves, name_first, names_items, names_then}
-use Rattle.declarations.proofs.lists.names.Goals as goal
+use Rattle.parsing.proofs.ListLaws.{item_on, leaves, name_first, names_items, names_then}
+use Rattle.parsing.proofs.lists.names.Goals as goal
 
 pub returns-in_err-more_names-clause-refused : goal.returns-in_err-more_names-clause-refused
 returns-in_err-more_names-clause-refused g c =

@@ -6,7 +6,7 @@ use Rattle.tokens.specs.declared.lexemes.Token.TheVariants as token
 use Rattle.grammar.specs.Grammar.{Item, AName, Defined, Exactly, More, Parameter, ParameterTypes, Parameters, Part, is_fault}
 use Rattle.parsing.specs.Position.{Place, next_at}
 use Rattle.parsing.specs.Stretch.{DerivesItem}
-use Rattle.declarations.proofs.ListLaws.{Gives, Goes, item_on, replaces, starts}
+use Rattle.parsing.proofs.ListLaws.{Gives, Goes, item_on, replaces, starts}
 
 pub parameters_more : (bytes : List ℕ) (t : Token) → t ≡ token.Name bytes → Gives Parameters t (AName Parameter ∷ Part (More Parameter) ∷ [])
 parameters_more bytes t is = rw is (record { chosen = λ after. refl; plain = λ after. refl })

@@ -2,8 +2,8 @@ use Rattle.std.proofs.Common.{[], ◌∷◌, refl}
 use Rattle.std.proofs.lemmas.Result.{err_from_is_err_and}
 use Rattle.grammar.specs.Grammar.{Part, Types}
 use Rattle.parsing.specs.Roles.{role_of}
-use Rattle.declarations.proofs.ListLaws.{declaration_items, goes_on, handed_back, handed_on, leaves, names_items, type_first, types_then}
-use Rattle.declarations.proofs.lists.declaration.Goals as goal
+use Rattle.parsing.proofs.ListLaws.{declaration_items, goes_on, handed_back, handed_on, leaves, names_items, type_first, types_then}
+use Rattle.parsing.proofs.lists.declaration.Goals as goal
 
 pub returns-in_err-type_words-clause-refused : goal.returns-in_err-type_words-clause-refused
 returns-in_err-type_words-clause-refused g c =

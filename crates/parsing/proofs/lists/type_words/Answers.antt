@@ -2,8 +2,8 @@ use Rattle.std.proofs.Common.{◌≡◌, [], ◌∷◌, ◌∙◌, refl, true, f
 use Rattle.std.proofs.lemmas.Result.{err_from_is_err_and}
 use Rattle.tokens.specs.declared.lexemes.Word.TheVariants as word
 use Rattle.grammar.specs.Grammar.{AWord, Part, Types, is_fault, is_word}
-use Rattle.declarations.proofs.ListLaws.{goes_on, leaves, opens_on, types_end, types_more}
-use Rattle.declarations.proofs.lists.type_words.Goals as goal
+use Rattle.parsing.proofs.ListLaws.{goes_on, leaves, opens_on, types_end, types_more}
+use Rattle.parsing.proofs.lists.type_words.Goals as goal
 
 pub loop-parser-preserved : goal.loop-parser-preserved
 loop-parser-preserved g c =

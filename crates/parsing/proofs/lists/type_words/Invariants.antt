@@ -4,7 +4,7 @@ use Rattle.tokens.specs.Window.{Takes}
 use Rattle.grammar.specs.Grammar.{Types, Part}
 use Rattle.parsing.specs.Position.{place}
 use Rattle.parsing.specs.Stretch.{Derives}
-use Rattle.declarations.proofs.lists.type_words.Given as goal
+use Rattle.parsing.proofs.lists.type_words.Given as goal
 
 abbrev pub invariant-loop-parser : goal.invariant-loop-parser
 invariant-loop-parser g l = record {
