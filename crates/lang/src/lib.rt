@@ -10,7 +10,7 @@ pub use grammar::{
     Build, BuildFault, Callee, Code, Diagnostic, Function, Intrinsic, MOST_NAMES, Op, ParseFault,
     Pools, Profile, StoreOp, Var,
 };
-pub use spelling::laws;
+pub use round_trip::laws;
 pub use tokens::{DeviceFault, Feed, Name};
 pub use trees::{Expr, Function as FunctionTree, Statement, TreeMaker};
 

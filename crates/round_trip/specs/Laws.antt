@@ -7,9 +7,9 @@ use Rattle.grammar.specs.Derivation.{Definition}
 use Rattle.grammar.specs.Scope.{Scope, no_names, begin_definition, end_definition}
 use Rattle.grammar.specs.Tree as tree
 use Rattle.grammar.specs.Tree.{Body}
-use Rattle.spelling.specs.Written.{Expression, Statement}
-use Rattle.spelling.specs.Spelling.{spell, spell_statement, closed, in_main}
-use Rattle.spelling.specs.Resolving.{tree_of, behind, body_of, behind_statement}
+use Rattle.round_trip.specs.Written.{Expression, Statement}
+use Rattle.round_trip.specs.Spelling.{spell, spell_statement, closed, in_main}
+use Rattle.round_trip.specs.Resolving.{tree_of, behind, body_of, behind_statement}
 
 -- tokens, wherever they stand
 abbrev pub tokens_of : List Lexeme → List Token

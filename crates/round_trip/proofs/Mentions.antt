@@ -2,8 +2,8 @@
 use Rattle.std.proofs.Common.{◌≡◌, ℕ, List, refl, ◌∙◌, Bool, true, false}
 use Rattle.std.specs.Prelude.{if◌then◌else◌}
 use Rattle.grammar.specs.Scope.{Scope, with_new_function, with_variable, is_function_new, is_variable_new}
-use Rattle.spelling.specs.Written.{Expression, Constant, Variable, Binary, Signed, Assign, StepBefore, StepBehind, Call, Arguments, NoMore, Argument, Statement, Nothing, Evaluate, If, IfElse, While, Return, ReturnValue, Block, Statements, Done, Next}
-use Rattle.spelling.specs.Resolving.{behind, behind_arguments, mentioned, called, behind_statement, behind_statements}
+use Rattle.round_trip.specs.Written.{Expression, Constant, Variable, Binary, Signed, Assign, StepBefore, StepBehind, Call, Arguments, NoMore, Argument, Statement, Nothing, Evaluate, If, IfElse, While, Return, ReturnValue, Block, Statements, Done, Next}
+use Rattle.round_trip.specs.Resolving.{behind, behind_arguments, mentioned, called, behind_statement, behind_statements}
 
 pub record Keeps (scope learnt : Scope) : Type 0 where
   pub number : learnt.number ≡ scope.number

@@ -11,11 +11,11 @@ use Rattle.grammar.specs.Derivation.{Value, AnExpr, AVariable, Definition}
 use Rattle.grammar.specs.Grammar as grammar
 use Rattle.grammar.specs.Grammar.{Item, Exactly, AName, Part, Make, Shut, Mentioned, Level, Unary, Primary, Fetch, choice, is_fault}
 use Rattle.grammar.specs.Scope.{Scope, variable_of}
-use Rattle.spelling.specs.Written.{Expression, Constant, Variable}
-use Rattle.spelling.specs.Spelling.{binary_mark, spell, as_part, brackets}
-use Rattle.spelling.specs.Resolving.{tree_of, behind, mentioned}
-use Rattle.spelling.proofs.Leading.{Leads, then, at, first, second, part, make}
-use Rattle.spelling.proofs.Levels.{tails, down, up, Closing, Round, closing_mark}
+use Rattle.round_trip.specs.Written.{Expression, Constant, Variable}
+use Rattle.round_trip.specs.Spelling.{binary_mark, spell, as_part, brackets}
+use Rattle.round_trip.specs.Resolving.{tree_of, behind, mentioned}
+use Rattle.round_trip.proofs.Leading.{Leads, then, at, first, second, part, make}
+use Rattle.round_trip.proofs.Levels.{tails, down, up, Closing, Round, closing_mark}
 
 -- in front of this mark a name is a variable, and begins no assignment
 pub record EndsPart (m : Mark) : Type 0 where

@@ -12,10 +12,10 @@ use Rattle.grammar.specs.declared.operators.StoreOp.TheVariants as store
 use Rattle.grammar.specs.KnownSources.{a, b, f, x, scan, number, return, ro, rc, co, cc, end, comma, equals}
 use Rattle.grammar.specs.Tree as tree
 use Rattle.grammar.specs.Tree.{Expr, Args, Body}
-use Rattle.spelling.specs.Written.{Minus, Up, Expression, Constant, Variable, Binary, Signed, Assign, StepBehind, Call, NoMore, Argument, Statement, Evaluate, IfElse, While, Return, Done, Next}
-use Rattle.spelling.specs.Spelling.{spell, spell_statement, in_main}
-use Rattle.spelling.specs.Resolving.{tree_of, body_of}
-use Rattle.spelling.specs.Laws.{in_body}
+use Rattle.round_trip.specs.Written.{Minus, Up, Expression, Constant, Variable, Binary, Signed, Assign, StepBehind, Call, NoMore, Argument, Statement, Evaluate, IfElse, While, Return, Done, Next}
+use Rattle.round_trip.specs.Spelling.{spell, spell_statement, in_main}
+use Rattle.round_trip.specs.Resolving.{tree_of, body_of}
+use Rattle.round_trip.specs.Laws.{in_body}
 
 abbrev minus : Token
 minus = token.Mark mark.Minus

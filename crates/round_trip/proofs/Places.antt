@@ -7,8 +7,8 @@ use Rattle.tokens.specs.declared.lexemes.Lexeme.{Lexeme}
 use Rattle.grammar.specs.Derivation.{State, state, Value, Definition, step, step_of, stepped, run, next_of, after_of, matched, name_matched, constant_matched, replaced, name_of_token, constant_value, of_name, defined, behind_rule, is_end}
 use Rattle.grammar.specs.Grammar.{Item, Exactly, AWord, AName, AConstant, AnEnd, Part, Make, Shut, Role, Defined, External, Parameter, Typed, Local, Called, Mentioned, Rule, Define, Production, choice, is_mark, is_word, is_fault}
 use Rattle.grammar.specs.Scope.{Scope, behind_name, with_function, with_new_function, with_variable, with_parameter, with_external, is_function_new, is_variable_new, is_local_new, is_external_new}
-use Rattle.spelling.specs.Laws.{tokens_of}
-use Rattle.spelling.proofs.Leading.{lexemes_of}
+use Rattle.round_trip.specs.Laws.{tokens_of}
+use Rattle.round_trip.proofs.Leading.{lexemes_of}
 
 abbrev no_line : ℕ → ℕ
 no_line line = 0

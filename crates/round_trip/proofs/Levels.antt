@@ -11,8 +11,8 @@ use Rattle.grammar.specs.declared.operators.Op.TheVariants as op
 use Rattle.grammar.specs.Derivation.{Value, Definition}
 use Rattle.grammar.specs.Grammar.{Item, Part, Make, Level, Tail, Unary, Operate, is_fault}
 use Rattle.grammar.specs.Scope.{Scope}
-use Rattle.spelling.specs.Spelling.{binary_mark}
-use Rattle.spelling.proofs.Leading.{Leads, then, at, first, part}
+use Rattle.round_trip.specs.Spelling.{binary_mark}
+use Rattle.round_trip.proofs.Leading.{Leads, then, at, first, part}
 
 -- the tails of m levels from level n on, the tightest in front
 abbrev pub tails : ℕ → ℕ → List Item → List Item

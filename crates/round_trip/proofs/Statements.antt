@@ -10,13 +10,13 @@ use Rattle.grammar.specs.Grammar.{Item, Exactly, Part, Make, Shut, Declarations,
 use Rattle.grammar.specs.Scope.{Scope}
 use Rattle.grammar.specs.Tree as tree
 use Rattle.grammar.specs.Tree.{Expr, Body, join}
-use Rattle.spelling.specs.Written.{Expression, Statement, Nothing, Evaluate, If, IfElse, While, Return, ReturnValue, Block, Statements, Done, Next}
-use Rattle.spelling.specs.Spelling.{spell, spell_statement, spell_statements, braces}
-use Rattle.spelling.specs.Resolving.{tree_of, behind, body_of, bodies_of, behind_statement, behind_statements}
-use Rattle.spelling.proofs.Leading.{Leads, then, at, first, second, part, make, shut}
-use Rattle.spelling.proofs.Levels.{Round, Semicolon}
-use Rattle.spelling.proofs.Expressions.{taken}
-use Rattle.spelling.proofs.Beginnings.{BeginsExpression, BeginsStatement, expression_first, statement_first, Follows, follows}
+use Rattle.round_trip.specs.Written.{Expression, Statement, Nothing, Evaluate, If, IfElse, While, Return, ReturnValue, Block, Statements, Done, Next}
+use Rattle.round_trip.specs.Spelling.{spell, spell_statement, spell_statements, braces}
+use Rattle.round_trip.specs.Resolving.{tree_of, behind, body_of, bodies_of, behind_statement, behind_statements}
+use Rattle.round_trip.proofs.Leading.{Leads, then, at, first, second, part, make, shut}
+use Rattle.round_trip.proofs.Levels.{Round, Semicolon}
+use Rattle.round_trip.proofs.Expressions.{taken}
+use Rattle.round_trip.proofs.Beginnings.{BeginsExpression, BeginsStatement, expression_first, statement_first, Follows, follows}
 
 join_done : (b : Body) → join b tree.Done ≡ b
 join_done tree.Done = refl

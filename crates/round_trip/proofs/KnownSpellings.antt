@@ -1,7 +1,7 @@
 -- The known spellings, worked out.
 use Rattle.std.proofs.Common.{refl}
 use Rattle.grammar.specs.Intrinsics.{intrinsic_named, name_of}
-use Rattle.spelling.specs.KnownSpellings.{KnownSpellings}
+use Rattle.round_trip.specs.KnownSpellings.{KnownSpellings}
 
 pub spellings : KnownSpellings
 unfolding intrinsic_named name_of

@@ -14,12 +14,12 @@ use Rattle.grammar.specs.Grammar.{Item, Exactly, AName, Part, Make, Shut, Mentio
 use Rattle.grammar.specs.Scope.{Scope, variable_of, callee_of}
 use Rattle.grammar.specs.Tree as tree
 use Rattle.grammar.specs.Tree.{Expr, Args, add_argument}
-use Rattle.spelling.specs.Written.{Sign, Minus, Not, Tilde, Step, Up, Down, Expression, Constant, Variable, Binary, Signed, Assign, StepBefore, StepBehind, Call, Arguments, NoMore, Argument}
-use Rattle.spelling.specs.Spelling.{binary_mark, store_mark, sign_mark, step_mark, spell_more}
-use Rattle.spelling.specs.Resolving.{tree_of, trees_of, behind, behind_arguments, mentioned, called, signed, step_op}
-use Rattle.spelling.proofs.Leading.{Leads, then, at, first, second, part, make}
-use Rattle.spelling.proofs.Levels.{tails, down, up, Closing, Round, Comma, closing_mark, Operates, operates}
-use Rattle.spelling.proofs.Parts.{IsTaken, IsOperand, operand, a_constant, a_name, operator_ends, closing_ends, spell_part, part_sound, part_begins, part_at_level, part_alone}
+use Rattle.round_trip.specs.Written.{Sign, Minus, Not, Tilde, Step, Up, Down, Expression, Constant, Variable, Binary, Signed, Assign, StepBefore, StepBehind, Call, Arguments, NoMore, Argument}
+use Rattle.round_trip.specs.Spelling.{binary_mark, store_mark, sign_mark, step_mark, spell_more}
+use Rattle.round_trip.specs.Resolving.{tree_of, trees_of, behind, behind_arguments, mentioned, called, signed, step_op}
+use Rattle.round_trip.proofs.Leading.{Leads, then, at, first, second, part, make}
+use Rattle.round_trip.proofs.Levels.{tails, down, up, Closing, Round, Comma, closing_mark, Operates, operates}
+use Rattle.round_trip.proofs.Parts.{IsTaken, IsOperand, operand, a_constant, a_name, operator_ends, closing_ends, spell_part, part_sound, part_begins, part_at_level, part_alone}
 
 -- a binary operator
 

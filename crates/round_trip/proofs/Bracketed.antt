@@ -7,13 +7,13 @@ use Rattle.grammar.specs.Derivation.{State, start, step, stepped, run}
 use Rattle.grammar.specs.Laws.{EachDerivationEnds}
 use Rattle.grammar.specs.Scope.{Scope, end_definition}
 use Rattle.grammar.specs.Tree.{Body}
-use Rattle.spelling.specs.Written.{Evaluate}
-use Rattle.spelling.specs.Spelling.{spell_statement, in_main}
-use Rattle.spelling.specs.Resolving.{body_of, behind_statement}
-use Rattle.spelling.specs.Laws.{in_body, main_of, without_lines, GivesBackStatements, GivesBackExpressions}
-use Rattle.spelling.proofs.Leading.{Leads, run-add, lexemes_of}
-use Rattle.spelling.proofs.Places.{bare, bare_rest, bare_run}
-use Rattle.spelling.proofs.Mains.{over, derives_main}
+use Rattle.round_trip.specs.Written.{Evaluate}
+use Rattle.round_trip.specs.Spelling.{spell_statement, in_main}
+use Rattle.round_trip.specs.Resolving.{body_of, behind_statement}
+use Rattle.round_trip.specs.Laws.{in_body, main_of, without_lines, GivesBackStatements, GivesBackExpressions}
+use Rattle.round_trip.proofs.Leading.{Leads, run-add, lexemes_of}
+use Rattle.round_trip.proofs.Places.{bare, bare_rest, bare_run}
+use Rattle.round_trip.proofs.Mains.{over, derives_main}
 
 stays : (n : ℕ) (s : State) → step s ≡ None → run n s ≡ s
 stays zero s ended = refl

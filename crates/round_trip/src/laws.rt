@@ -1,7 +1,7 @@
 //! The law on the grammar.
 
-ghost use Rattle.spelling.specs.KnownSpellings.{KnownSpellings};
-ghost use Rattle.spelling.specs.Laws.{GivesBackExpressions, GivesBackStatements};
+ghost use Rattle.round_trip.specs.KnownSpellings.{KnownSpellings};
+ghost use Rattle.round_trip.specs.Laws.{GivesBackExpressions, GivesBackStatements};
 
 use grammar::laws::derivations;
 

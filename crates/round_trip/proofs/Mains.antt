@@ -9,14 +9,14 @@ use Rattle.grammar.specs.Grammar.{Item, Exactly, Part, Make, Shut, Declarations,
 use Rattle.grammar.specs.Scope.{Scope, end_definition}
 use Rattle.grammar.specs.Tree as tree
 use Rattle.grammar.specs.Tree.{Body}
-use Rattle.spelling.specs.Written.{Statement}
-use Rattle.spelling.specs.Spelling.{spell_statement, in_main}
-use Rattle.spelling.specs.Resolving.{body_of, behind_statement}
-use Rattle.spelling.specs.Laws.{in_body, main_of}
-use Rattle.spelling.proofs.Leading.{Leads, then, at, lexemes_of, first, second, part, make}
-use Rattle.spelling.proofs.Beginnings.{BeginsStatement, statement_first}
-use Rattle.spelling.proofs.Mentions.{Keeps, statement_keeps}
-use Rattle.spelling.proofs.Statements.{added}
+use Rattle.round_trip.specs.Written.{Statement}
+use Rattle.round_trip.specs.Spelling.{spell_statement, in_main}
+use Rattle.round_trip.specs.Resolving.{body_of, behind_statement}
+use Rattle.round_trip.specs.Laws.{in_body, main_of}
+use Rattle.round_trip.proofs.Leading.{Leads, then, at, lexemes_of, first, second, part, make}
+use Rattle.round_trip.proofs.Beginnings.{BeginsStatement, statement_first}
+use Rattle.round_trip.proofs.Mentions.{Keeps, statement_keeps}
+use Rattle.round_trip.proofs.Statements.{added}
 
 -- the last state of a derivation of this function
 abbrev pub over : Body → Scope → State

@@ -6,10 +6,10 @@ use Rattle.tokens.specs.declared.lexemes.Token.{Token}
 use Rattle.tokens.specs.declared.lexemes.Token.TheVariants as token
 use Rattle.grammar.specs.Grammar as grammar
 use Rattle.grammar.specs.Grammar.{Exactly, Part, Make, Declarations, ElsePart, Back, Decide, choice, is_fault}
-use Rattle.spelling.specs.Written.{Sign, Minus, Step, Up, Expression, Constant, Variable, Binary, Signed, Assign, StepBefore, StepBehind, Call, NoMore, Argument, Statement, Evaluate, Statements, Done, Next}
-use Rattle.spelling.specs.Spelling.{binary_mark, sign_mark, step_mark, spell, spell_statement, spell_statements}
-use Rattle.spelling.proofs.Leading.{first, second}
-use Rattle.spelling.proofs.Parts.{spell_part}
+use Rattle.round_trip.specs.Written.{Sign, Minus, Step, Up, Expression, Constant, Variable, Binary, Signed, Assign, StepBefore, StepBehind, Call, NoMore, Argument, Statement, Evaluate, Statements, Done, Next}
+use Rattle.round_trip.specs.Spelling.{binary_mark, sign_mark, step_mark, spell, spell_statement, spell_statements}
+use Rattle.round_trip.proofs.Leading.{first, second}
+use Rattle.round_trip.proofs.Parts.{spell_part}
 
 -- a statement begins with this token
 pub record BeginsStatement (t : Token) : Type 0 where

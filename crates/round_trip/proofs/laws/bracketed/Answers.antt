@@ -1,6 +1,6 @@
-use Rattle.spelling.proofs.Bracketed.{expressions, statements}
-use Rattle.spelling.proofs.KnownSpellings.{spellings}
-use Rattle.spelling.proofs.laws.bracketed.Goals as goal
+use Rattle.round_trip.proofs.Bracketed.{expressions, statements}
+use Rattle.round_trip.proofs.KnownSpellings.{spellings}
+use Rattle.round_trip.proofs.laws.bracketed.Goals as goal
 
 pub returns-clause-expressions : goal.returns-clause-expressions
 returns-clause-expressions c = expressions c.derivations.ensures.ends
