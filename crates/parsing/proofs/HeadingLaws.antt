@@ -30,6 +30,7 @@ parameter_first at there bytes sound is b =
 pub no_parameters : (at : Place) → is_fault (next_at at).token ≡ false → ((bytes : List ℕ) → (next_at at).token ≡ token.Name bytes → ⊥) → Goes (Part Parameters ∷ []) [] at at
 no_parameters at sound other depth = replaces at depth Parameters [] sound (parameters_end (next_at at).token other)
 
+-- what stands in front of a function's block
 abbrev pub heading_items : List Item
 heading_items = AName Defined ∷ Exactly mark.OpenRound ∷ Part Parameters ∷ Exactly mark.CloseRound ∷ Part ParameterTypes ∷ []
 
