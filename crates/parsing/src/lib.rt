@@ -1,4 +1,4 @@
-//! Parses names and declarations: the parser's state, the calls that consume one token, and the lists and headings that are made of names alone.
+//! Keeps the state of a parser, consumes tokens one by one, and parses lists of names, declarations and the headings of functions.
 #![tactic(auto)]
 
 mod headings;

@@ -1,4 +1,4 @@
-//! The law on the grammar.
+//! The round-trip law.
 
 ghost use Rattle.round_trip.specs.KnownSpellings.{KnownSpellings};
 ghost use Rattle.round_trip.specs.Laws.{GivesBackExpressions, GivesBackStatements};

@@ -1,4 +1,4 @@
-//! How robot programs are spelled, and the law that the grammar gives back what was spelled.
+//! States and proves the round-trip law: what is written with brackets and braces is parsed to the tree that was written.
 #![tactic(auto)]
 
 pub mod laws;
