@@ -3,11 +3,12 @@ use Rattle.std.specs.Prelude.{ℕ, suc, zero, pos, ◌≡◌, ◌<◌, [], ◌�
 use Rattle.std.proofs.Common.{sym, ap, arith, inl, inr}
 use Rattle.grammar.specs.declared.names.Callee.TheVariants as callee
 use Rattle.grammar.specs.declared.names.Intrinsic.TheVariants as intrinsic
+use Rattle.grammar.specs.declared.operators.Op.TheVariants as op
 use Rattle.grammar.specs.Compiled.{main_name}
 use Rattle.grammar.specs.Pools.{Names, FunctionNames}
 use Rattle.grammar.specs.Resolved.{InBody, InFile, IsResolved}
 use Rattle.grammar.specs.Scope.{number_of_name}
-use Rattle.grammar.specs.Tree.{Constant, Call, NoMore, Body, Done, Alone, Choose, While, Function, File}
+use Rattle.grammar.specs.Tree.{Constant, Binary, Call, NoMore, Body, Done, Alone, Choose, While, Function, File}
 
 abbrev main_of : Body → Function
 main_of body = record { name = codes "main"; parameters = 0; variables = []; body = body }
@@ -52,3 +53,13 @@ turning_file = file_of turning_body
 
 pub turning_resolved : IsResolved turning_file
 turning_resolved = file_resolved turning_body (tt, (tt, (tt, tt), (tt, tt), tt), tt)
+
+-- main(){0 && 3;}
+abbrev deciding_body : Body
+deciding_body = Alone (Binary op.And (Constant (pos 0)) (Constant (pos 3))) Done
+
+abbrev pub deciding_file : File
+deciding_file = file_of deciding_body
+
+pub deciding_resolved : IsResolved deciding_file
+deciding_resolved = file_resolved deciding_body ((tt, tt), tt)

@@ -3,7 +3,7 @@
 ghost use Rattle.std.specs.Prelude.{◌≡◌, ◌≤◌, [], ◌∷◌, codes, length};
 
 use super::*;
-use grammar::{Build, BuildFault, Callee, Function, Intrinsic, Name, Pools, Profile};
+use grammar::{Build, BuildFault, Callee, Function, Intrinsic, Name, Op, Pools, Profile};
 
 // A name of these bytes.
 fn name_of(bytes: &[u8]) -> Name
@@ -61,6 +61,21 @@ fn turning_main() -> Result<Program, BuildFault> {
     Ok(maker.finish(main_alone()))
 }
 
+// `main(){0 && 3;}`, by the second profile
+fn deciding_main() -> Result<Program, BuildFault> {
+    let mut maker = Maker::new(Profile::second());
+    maker.begin_function(0, 0)?;
+    maker.constant(0)?;
+    maker.logic_middle(Op::And)?;
+    maker.constant(3)?;
+    maker.binop(Op::And)?;
+    maker.chop()?;
+    maker.constant(0)?;
+    maker.give_back()?;
+    maker.end_function(0)?;
+    Ok(maker.finish(main_alone()))
+}
+
 // Whether the listing has these lines behind the line that names the file.
 fn lists(program: &Program, lines: &[&str]) -> bool {
     let mut line = Line::new();
@@ -109,6 +124,36 @@ fn branches_have_their_targets(rt: HostRuntime) {
     );
 }
 
+#[test]
+fn a_decided_and_leaves_out_its_right_side(rt: HostRuntime) {
+    let Ok(program) = deciding_main() else {
+        assert!(rt; false, "full");
+        return;
+    };
+    assert!(rt;
+        lists(
+            &program,
+            &[
+                "Externals 0",
+                "Function 0 main vars 0 at 0",
+                "Code 11",
+                "    0 CONST 0",
+                "    1 BRANCH 6",
+                "    2 CONST 3",
+                "    3 TRUTH",
+                "    4 CONST 0",
+                "    5 BRANCH 7",
+                "    6 CONST 0",
+                "    7 CHOP",
+                "    8 CONST 0",
+                "    9 RETSUB",
+                "   10 NOP",
+            ]
+        )
+    );
+    assert_eq!(rt; first_restart(&program), Some(6));
+}
+
 // The first cycle whose instruction doesn't fit, where every reply is 0; no cycle, where that is past 200.
 fn first_restart(program: &Program) -> Option<u32> {
     let mut machine = Machine::new(program);
@@ -149,8 +194,8 @@ fn asks_in_its_cycle(rt: HostRuntime) {
 }
 
 // A main function with this many statements `1;`.
-fn ends(statements: u32) -> Result<(), BuildFault> {
-    let mut maker = Maker::new(Profile::first());
+fn ends(profile: Profile, statements: u32) -> Result<(), BuildFault> {
+    let mut maker = Maker::new(profile);
     maker.begin_function(0, 0)?;
     for _ in 0..statements {
         maker.constant(1)?;
@@ -163,7 +208,9 @@ fn ends(statements: u32) -> Result<(), BuildFault> {
 }
 
 #[test]
-fn is_full_past_two_thousand_instructions(rt: HostRuntime) {
-    assert_eq!(rt; ends(998), Ok(()));
-    assert_eq!(rt; ends(999), Err(BuildFault::Full));
+fn is_full_past_the_instructions_of_its_profile(rt: HostRuntime) {
+    assert_eq!(rt; ends(Profile::first(), 998), Ok(()));
+    assert_eq!(rt; ends(Profile::first(), 999), Err(BuildFault::Full));
+    assert_eq!(rt; ends(Profile::second(), 1998), Ok(()));
+    assert_eq!(rt; ends(Profile::second(), 1999), Err(BuildFault::Full));
 }

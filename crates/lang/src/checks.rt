@@ -35,11 +35,18 @@ impl Outcome {
     }
 }
 
-/// Parses what a device gives into a new builder.
-pub fn parsed(alloc: Global, mut feed: Pieces) -> Outcome
+/// Parses what a device gives into a new builder of the first profile.
+pub fn parsed(alloc: Global, feed: Pieces) -> Outcome
     requires { feed.failures < 2 ^ 64 - 1 }
 {
-    let mut trees = TreeMaker::new(alloc, Profile::first());
+    parsed_by(alloc, Profile::first(), feed)
+}
+
+/// Parses what a device gives into a new builder of this profile.
+pub fn parsed_by(alloc: Global, profile: Profile, mut feed: Pieces) -> Outcome
+    requires { feed.failures < 2 ^ 64 - 1 }
+{
+    let mut trees = TreeMaker::new(alloc, profile);
     let answer = parse(&mut feed, &mut trees);
     Outcome {
         answer,
@@ -54,16 +61,26 @@ pub fn source_fault(line: u32, code: Code) -> ParseFault {
     ParseFault::Source(Diagnostic { line, code })
 }
 
-/// Compares what is wrong with a source, for pieces of each size.
+/// Compares what is wrong with a source by the first profile, for pieces of each size.
 pub fn check_fault(
     rt: &(impl Abort + AllocGlobal),
+    source: &[u8],
+    wanted: Option<(u32, Code)>,
+) -> Result<(), Fail> {
+    check_fault_by(rt, Profile::first(), source, wanted)
+}
+
+/// Compares what is wrong with a source by this profile, for pieces of each size.
+pub fn check_fault_by(
+    rt: &(impl Abort + AllocGlobal),
+    profile: Profile,
     source: &[u8],
     wanted: Option<(u32, Code)>,
 ) -> Result<(), Fail> {
     let wanted = wanted.map(|(line, code)| source_fault(line, code));
     let front = String::from_utf8_lossy(rt.alloc(), &source[..source.len().min(70)])?;
     for most in SIZES {
-        let outcome = parsed(rt.alloc(), Pieces::new(source, most));
+        let outcome = parsed_by(rt.alloc(), profile, Pieces::new(source, most));
         assert_eq!(rt; outcome.fault(), wanted, "{most} bytes at once of {front}");
     }
     Ok(())

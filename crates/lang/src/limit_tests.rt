@@ -1,9 +1,9 @@
 //! Sources at each limit, and one past it.
 
-use crate::Code;
-use crate::checks::check_fault;
+use crate::checks::{check_fault, check_fault_by};
 use crate::sources::Part::{self, Numbered, Once, Times};
 use crate::sources::source_of;
+use crate::{Code, Profile};
 use std::process::Abort;
 use std::test::Fail;
 
@@ -133,6 +133,40 @@ const CODE: &[Row] = &[
 #[test]
 fn code_has_a_limit(rt: HostRuntime) -> Result<(), Fail> {
     check_rows(&rt, CODE)
+}
+
+// Where `&&` and `||` leave out their right side, each of them makes five instructions.
+const LONGER_CODE: &[Row] = &[
+    (&[Once(b"main(){"), Times(b"1;", 1_998), Once(b"}")], None),
+    (
+        &[Once(b"main(){"), Times(b"1;", 1_999), Once(b"\n}")],
+        Some((2, Code::TooMuchCode)),
+    ),
+    (
+        &[Once(b"main(){"), Times(b"1&&1;", 499), Once(b"a++;}")],
+        None,
+    ),
+    (
+        &[Once(b"main(){"), Times(b"1||1;", 499), Once(b"a++;}")],
+        None,
+    ),
+    (
+        &[Once(b"main(){"), Times(b"1&&1;", 499), Once(b"a++;1;}")],
+        Some((1, Code::TooMuchCode)),
+    ),
+    (
+        &[Once(b"main(){"), Times(b"1||1;", 500), Once(b"}")],
+        Some((1, Code::TooMuchCode)),
+    ),
+];
+
+#[test]
+fn code_of_the_second_profile_has_a_limit(rt: HostRuntime) -> Result<(), Fail> {
+    for (parts, wanted) in LONGER_CODE {
+        let source = source_of(rt.alloc(), parts)?;
+        check_fault_by(&rt, Profile::second(), &source, *wanted)?;
+    }
+    Ok(())
 }
 
 const LENGTHS: &[Row] = &[
