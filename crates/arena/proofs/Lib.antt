@@ -6,3 +6,4 @@ pub mod Loops
 pub mod Represents
 pub mod Beginnings
 pub mod SlotLaws
+pub mod Nearest

@@ -1,14 +1,14 @@
 -- Steps of the loops over the robots.
-use Rattle.std.proofs.Common.{◌≡◌, ℕ, ◌+◌, ◌<◌, ◌≤◌, List, [], ◌∷◌, ◌++◌, length, take, map, get_or, ℤ, unsigned_abs, refl, sym, ap, subst, ◌∙◌, arith}
+use Rattle.std.proofs.Common.{◌≡◌, ℕ, ◌+◌, ◌<◌, List, [], ◌∷◌, ◌++◌, length, take, map, get_or, refl, sym, ap, subst, ◌∙◌, arith}
 use Rattle.std.specs.List.{All, range_with_len}
-use Rattle.std.proofs.lemmas.List.{map_more, get_or-map, length-map, get_or_read}
+use Rattle.std.proofs.lemmas.List.{map_more, get_or-map, length-map}
 use Rattle.std.proofs.lemmas.Simd.{map-map}
 use Rattle.std.proofs.lemmas.List.FromFn.{map-range_with_len_more}
-use Rattle.std.proofs.lemmas.List.Elements.{All-get_or, All-push}
-use Rattle.arena.specs.Field.{Robot, Field, no_robot, robot_at}
+use Rattle.std.proofs.lemmas.List.Elements.{All-get_or}
+use Rattle.arena.specs.Field.{Field, no_robot, robot_at}
 use Rattle.arena.specs.Collisions.{mover, touches}
 use Rattle.arena.specs.Moved.{moved_robot, moved}
-use Rattle.arena.specs.Ground.{Track, Body, body_of, IsWithin}
+use Rattle.arena.specs.Ground.{Body, body_of}
 
 -- an element of a list is what its place says of it
 pub item_is : {X : Type 0} (P : X → Type 0) (xs : List X) (i : ℕ) (x : X) → i < length xs → x ≡ get_or xs i x → All P xs → P x

@@ -1,17 +1,14 @@
 -- What an arena represents, after each call.
-use Rattle.std.proofs.Common.{◌≡◌, ◌⊎◌, ℕ, ◌+◌, ◌*◌, ◌<◌, ◌≤◌, Bool, true, false, List, [], ◌∷◌, ◌++◌, length, take, drop, map, get_or, set, nat_lt, ℤ, pos, cond, refl, sym, ap, subst, inl, inr, ◌∙◌, arith}
-use Rattle.std.specs.List.{All, count_by, fold, refill}
+use Rattle.std.proofs.Common.{◌≡◌, ◌⊎◌, ℕ, ◌+◌, ◌<◌, ◌≤◌, true, false, List, [], ◌∷◌, ◌++◌, length, drop, map, get_or, set, nat_lt, pos, cond, refl, sym, ap, subst, inl, inr, ◌∙◌, arith}
+use Rattle.std.specs.List.{count_by, fold, refill}
 use Rattle.std.proofs.lemmas.List.{length-map, get_or-map, get_or_past, map-set, take_at, length-set}
 use Rattle.std.proofs.lemmas.Bool.{cases_lt, ltb-true}
-use Rattle.rand_pcg.specs.Lcg.{Lcg}
-use Rattle.arena.specs.Leg.{Leg, place_x, place_y}
-use Rattle.arena.specs.Field.{Shot, Robot, Field, damage_of, is_alive, no_robot, robot_at, is_live, live_count}
+use Rattle.arena.specs.Leg.{place_x, place_y}
+use Rattle.arena.specs.Field.{Shot, Robot, Field, damage_of, is_alive, no_robot, robot_at}
 use Rattle.arena.specs.Shots.{aimed_x, aimed_y, flight, shot, in_air}
 use Rattle.arena.specs.Moved.{moved}
-use Rattle.arena.specs.Words.{generator}
-use Rattle.arena.specs.Start.{start, placed}
-use Rattle.arena.specs.Answer.{fired, wanting, directed, random_number}
-use Rattle.arena.specs.Ground.{Track, Body, Missile, Ground, track_of, body_of, shot_of, lives}
+use Rattle.arena.specs.Answer.{fired, wanting, directed}
+use Rattle.arena.specs.Ground.{Body, Missile, Ground, body_of, shot_of, lives}
 use Rattle.arena.specs.Standing.{HoldsShots, StandsFor}
 
 -- a list that was lent and written in place

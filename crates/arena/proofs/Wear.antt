@@ -3,12 +3,11 @@ use Rattle.std.proofs.Common.{◌≡◌, ℕ, ◌+◌, ◌*◌, ◌++◌, [], �
 use Rattle.std.specs.List.{sum}
 use Rattle.std.proofs.lemmas.List.Sums.{sum_by-append}
 use Rattle.std.proofs.lemmas.List.Folds.{sum_by-replicate}
-use Rattle.std.proofs.lemmas.Bool.Decides.{nat_tests}
 use Rattle.arena.specs.Leg.{Leg, place_x, place_y, tried, hits_wall}
 use Rattle.arena.specs.Field.{Shot, Robot, damage_of, is_alive}
 use Rattle.arena.specs.Shots.{bursts}
 use Rattle.arena.specs.Moved.{settled, knocks, moved_robot}
-use Rattle.arena.specs.Ground.{Track, Body, track_of, body_of}
+use Rattle.arena.specs.Ground.{Track, track_of, body_of}
 
 -- a dead robot stays as it is
 pub dead_is : (robot : Robot) (update : ℕ) (shots : List Shot) (touched : ℕ) → is_alive robot ≡ false → robot ≡ moved_robot update shots touched robot

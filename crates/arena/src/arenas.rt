@@ -66,7 +66,12 @@ impl Arena {
     {
         let mut random = begun(seed, number);
         let robots = drawn_robots(&mut random, n);
-        Arena { updates: 0, robots, slots: no_missiles(n), random }
+        Arena {
+            updates: 0,
+            robots,
+            slots: no_missiles(n),
+            random,
+        }
     }
 
     /// Places robots, at places in tenths of a metre from 0 to 9,999 on both axes, and draws no word.
@@ -185,7 +190,12 @@ impl Arena {
         ensures { (f : Field) → StandsFor self.now f → result ≡ pos (scanned f robot (degree_of degree) (brought 10 resolution)) }
     {
         let resolution = brought(resolution, MOST_RESOLUTION);
-        i32::from(scan(self.robots.as_slice(), robot, norm_degree(degree), resolution))
+        i32::from(scan(
+            self.robots.as_slice(),
+            robot,
+            norm_degree(degree),
+            resolution,
+        ))
     }
 
     // Fires a missile, and reports by 1 or 0 whether the robot may.

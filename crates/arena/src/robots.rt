@@ -2,7 +2,7 @@
 
 ghost use Rattle.std.specs.Prelude.{◌≡◌, ℕ, ◌+◌, ◌*◌, ◌^◌, ◌<◌, ◌≤◌, true, min, if◌then◌else◌, nat_lt, unsigned_abs};
 ghost use Rattle.arena.specs.Leg.{hits_wall, tried};
-ghost use Rattle.arena.specs.Field.{Robot as FieldRobot, is_alive};
+ghost use Rattle.arena.specs.Field.{Robot as FieldRobot, is_alive, metres_x, metres_y};
 ghost use Rattle.arena.specs.Collisions.{candidate, mover};
 ghost use Rattle.arena.specs.Start.{standing};
 ghost use Rattle.arena.specs.Answer.{wanting};
@@ -14,6 +14,9 @@ use crate::collisions::Mover;
 use crate::limits::DEADLY;
 use crate::motion::{Drive, Motion};
 use std::marker::Model;
+
+// How many tenths a metre has.
+const TENTHS: u16 = 10;
 
 // What a wall takes, and each robot that one collides with.
 const WALL: u8 = 2;
@@ -74,6 +77,24 @@ impl Robot {
         ensures most { result ≤ 100 }
     {
         self.damage
+    }
+
+    /// The place on the axis to the east, in whole metres rounded down.
+    #[tactic(auto, unfolding(crate::specs::Field::metres_x, crate::specs::Ground::body_of, crate::specs::Ground::track_of))]
+    pub fn metres_x(&self) -> u16
+        ensures value { (robot : FieldRobot) → self.now ≡ body_of robot → result ≡ metres_x robot }
+        ensures most { result ≤ 999 }
+    {
+        self.x() / TENTHS
+    }
+
+    /// The place on the axis to the north, in whole metres rounded down.
+    #[tactic(auto, unfolding(crate::specs::Field::metres_y, crate::specs::Ground::body_of, crate::specs::Ground::track_of))]
+    pub fn metres_y(&self) -> u16
+        ensures value { (robot : FieldRobot) → self.now ≡ body_of robot → result ≡ metres_y robot }
+        ensures most { result ≤ 999 }
+    {
+        self.y() / TENTHS
     }
 
     /// The present speed, in percent.

@@ -15,7 +15,9 @@ use rand_pcg::Pcg32;
 // The first place of the low and of the high half of an axis in which robots start, and how many
 // places each has, in tenths of a metre.
 const LOW_HALF: u32 = 1000;
+
 const HIGH_HALF: u32 = 6000;
+
 const PLACES: u32 = 3000;
 
 /// Robots at drawn places: the first word chooses the quadrant of robot 0, the others follow in the
@@ -59,7 +61,9 @@ fn drawn_place(half: u32, word: u32) -> u16
 }
 
 /// Robots at given places, in tenths of a metre.
-pub(crate) fn placed_robots(places: &ArrayVec<(i32, i32), MOST_ROBOTS>) -> ArrayVec<Robot, MOST_ROBOTS>
+pub(crate) fn placed_robots(
+    places: &ArrayVec<(i32, i32), MOST_ROBOTS>,
+) -> ArrayVec<Robot, MOST_ROBOTS>
     requires { All IsPlace places.now.items }
     ensures robots { (seed number : ℕ) → result.items ≡ map body_of (placed seed number places.now.items).robots }
     ensures manned { length result.items ≡ length places.now.items }

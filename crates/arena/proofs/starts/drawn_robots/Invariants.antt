@@ -1,6 +1,6 @@
-use Rattle.std.proofs.Common.{◌≡◌, ℕ, ◌+◌, ◌*◌, ◌%◌, ◌<◌, length, map}
+use Rattle.std.proofs.Common.{◌≡◌, ℕ, ◌+◌, ◌*◌, length, map}
 use Rattle.std.specs.List.{All, range_with_len}
-use Rattle.arena.specs.Words.{generator, word}
+use Rattle.arena.specs.Words.{generator}
 use Rattle.arena.specs.Start.{drawn_robot}
 use Rattle.arena.specs.Ground.{Body, body_of, IsWithin}
 use Rattle.arena.proofs.starts.drawn_robots.Given as goal

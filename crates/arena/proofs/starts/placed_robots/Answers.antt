@@ -1,4 +1,4 @@
-use Rattle.std.proofs.Common.{◌≡◌, ℕ, ◌++◌, [], ◌∷◌, List, length, ap, ◌∙◌, get_or, map, take, sym, ℤ, pos, FitsSigned, w32, rules, arith}
+use Rattle.std.proofs.Common.{◌++◌, [], ◌∷◌, List, ap, ◌∙◌, get_or, map, take, sym, ℤ, pos, FitsSigned, w32, rules, arith}
 use Rattle.std.proofs.lemmas.Int.{to_z-of_z}
 use Rattle.std.proofs.lemmas.List.{take_all, map_more}
 use Rattle.std.proofs.lemmas.List.Elements.{All-push}
@@ -17,15 +17,15 @@ pub loop-place-preserved : goal.loop-place-preserved
 loop-place-preserved c = record {
   count = omega arith;
   robots =
-    let items = c.as_slice-place-items.result.now in
-    let x_fits : FitsSigned w32 (get_or items c.loop-place.place-index (pos 0, pos 0)).0 = search rules in
-    let y_fits : FitsSigned w32 (get_or items c.loop-place.place-index (pos 0, pos 0)).1 = search rules in
-    let x = simp to_z-of_z at c.coordinate.ensures.value in
-    let y = simp to_z-of_z at c.coordinate-in-loop-place.ensures.value in
-    let body = rw (x, y) at c.standing.ensures.body in
-    c.push.ensures.items ∙ ap (λ (l : List Body). l ++ c.standing.result ∷ []) c.loop-place.invariant.robots ∙
-    ap (λ (b : Body). map (λ place. body_of (robot_at_place place)) (take c.loop-place.place-index items) ++ b ∷ []) body ∙
-    sym (map_more (λ place. body_of (robot_at_place place)) items c.loop-place.place-index (pos 0, pos 0) c.loop-place-test.true);
+      let items = c.as_slice-place-items.result.now in
+      let x_fits : FitsSigned w32 (get_or items c.loop-place.place-index (pos 0, pos 0)).0 = search rules in
+      let y_fits : FitsSigned w32 (get_or items c.loop-place.place-index (pos 0, pos 0)).1 = search rules in
+      let x = simp to_z-of_z at c.coordinate.ensures.value in
+      let y = simp to_z-of_z at c.coordinate-in-loop-place.ensures.value in
+      let body = rw (x, y) at c.standing.ensures.body in
+      c.push.ensures.items ∙ ap (λ (l : List Body). l ++ c.standing.result ∷ []) c.loop-place.invariant.robots ∙
+      ap (λ (b : Body). map (λ place. body_of (robot_at_place place)) (take c.loop-place.place-index items) ++ b ∷ []) body ∙
+      sym (map_more (λ place. body_of (robot_at_place place)) items c.loop-place.place-index (pos 0, pos 0) c.loop-place-test.true);
   still = rw c.push.ensures.items (All-push (λ (b : Body). IsWithin 0 b.track) _ _ c.loop-place.invariant.still c.standing.ensures.still);
 }
 

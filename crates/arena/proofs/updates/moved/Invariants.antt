@@ -1,10 +1,9 @@
-use Rattle.std.proofs.Common.{◌≡◌, ℕ, ◌+◌, List, length, take, map}
+use Rattle.std.proofs.Common.{◌≡◌, ℕ, ◌+◌, length, map}
 use Rattle.std.specs.List.{All, range_with_len}
-use Rattle.arena.specs.Field.{Shot, Robot, Field, robot_at}
+use Rattle.arena.specs.Field.{Field, robot_at}
 use Rattle.arena.specs.Collisions.{mover, touches}
 use Rattle.arena.specs.Moved.{moved_robot}
 use Rattle.arena.specs.Ground.{Body, body_of, IsWithin}
-use Rattle.arena.specs.Drive.{drive_of}
 use Rattle.arena.specs.Standing.{HoldsShots}
 use Rattle.arena.proofs.updates.moved.Given as goal
 

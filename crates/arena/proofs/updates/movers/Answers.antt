@@ -1,4 +1,4 @@
-use Rattle.std.proofs.Common.{◌≡◌, arith}
+use Rattle.std.proofs.Common.{arith}
 use Rattle.arena.specs.Field.{no_robot}
 use Rattle.arena.specs.Collisions.{mover}
 use Rattle.arena.specs.Ground.{body_of}

@@ -1,10 +1,9 @@
-use Rattle.std.proofs.Common.{◌≡◌, sym, ap, subst, ◌∙◌, false, true, nat_lt, length}
+use Rattle.std.proofs.Common.{sym, ap, subst, ◌∙◌, length}
 use Rattle.std.proofs.lemmas.Int.{to_z-of_z}
 use Rattle.arena.specs.Field.{Field}
 use Rattle.arena.specs.contracts.arenas.Arena.{the_view}
-use Rattle.arena.specs.Shots.{in_air}
 use Rattle.arena.specs.Ground.{Ground}
-use Rattle.arena.specs.Standing.{HoldsShots, StandsFor}
+use Rattle.arena.specs.Standing.{StandsFor}
 use Rattle.arena.proofs.Represents.{refill_is, keeps_fire, fires_reply, fires}
 use Rattle.arena.proofs.arenas.Arena.cannon.Goals as goal
 

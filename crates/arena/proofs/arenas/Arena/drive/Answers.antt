@@ -1,4 +1,4 @@
-use Rattle.std.proofs.Common.{◌≡◌, ◌*◌, ◌<◌, get_or, sym, ap, subst, ◌∙◌, length, arith}
+use Rattle.std.proofs.Common.{◌*◌, ◌<◌, get_or, sym, ap, subst, ◌∙◌, length, arith}
 use Rattle.std.proofs.lemmas.List.{length-set}
 use Rattle.std.proofs.lemmas.List.Elements.{All-get_or, All-set}
 use Rattle.std.proofs.lemmas.Int.{to_z-of_z}

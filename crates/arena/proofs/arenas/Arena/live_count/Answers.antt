@@ -1,7 +1,7 @@
-use Rattle.std.proofs.Common.{◌≡◌, ap, ◌∙◌, nat_lt, map, sym}
+use Rattle.std.proofs.Common.{ap, ◌∙◌, nat_lt}
 use Rattle.std.specs.List.{count_by}
 use Rattle.arena.specs.Field.{live_count}
-use Rattle.arena.specs.Ground.{Ground, Body, body_of}
+use Rattle.arena.specs.Ground.{Ground, Body}
 use Rattle.arena.proofs.Represents.{living}
 use Rattle.arena.proofs.arenas.Arena.live_count.Goals as goal
 

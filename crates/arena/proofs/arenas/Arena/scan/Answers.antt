@@ -1,7 +1,5 @@
-use Rattle.std.proofs.Common.{◌≡◌, ap, ◌∙◌, pos, FitsSigned, w32, rules}
+use Rattle.std.proofs.Common.{ap, ◌∙◌, pos, FitsSigned, w32, rules}
 use Rattle.std.proofs.lemmas.Int.{to_z-of_z}
-use Rattle.arena.specs.Leg.{brought}
-use Rattle.arena.specs.Scan.{scanned}
 use Rattle.arena.specs.Ground.{Ground}
 use Rattle.arena.proofs.arenas.Arena.scan.Goals as goal
 

@@ -1,6 +1,5 @@
 use Rattle.std.proofs.Common.{◌≡◌, ◌+◌, ◌*◌, sym, ap, subst, ◌∙◌, refl, length, arith}
-use Rattle.std.specs.List.{All}
-use Rattle.arena.specs.Ground.{Ground, Body, IsWithin}
+use Rattle.arena.specs.Ground.{Ground}
 use Rattle.arena.specs.Standing.{HoldsShots, StandsFor}
 use Rattle.arena.specs.contracts.arenas.Arena.{the_view}
 use Rattle.arena.proofs.Represents.{refill_is, updates}

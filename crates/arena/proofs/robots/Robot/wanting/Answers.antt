@@ -1,6 +1,6 @@
-use Rattle.std.proofs.Common.{◌≡◌, refl, ap, ◌∙◌}
-use Rattle.arena.specs.Field.{Robot, damage_of}
-use Rattle.arena.specs.Ground.{Track, Body, body_of}
+use Rattle.std.proofs.Common.{refl, ap, ◌∙◌}
+use Rattle.arena.specs.Field.{damage_of}
+use Rattle.arena.specs.Ground.{Body, body_of}
 use Rattle.arena.proofs.robots.Robot.wanting.Goals as goal
 
 pub returns-clause-robot : goal.returns-clause-robot
