@@ -35,7 +35,8 @@ pub(crate) fn parsed<'a>(alloc: Global, words: &'a [&'a str]) -> Result<ArgMatch
 /// Whether `clap` refused the words, or was refused memory.
 fn fault_by(error: &Error) -> UseFault
     ensures memory { kind_of error.now ≡ ErrorKind.OutOfMemory → result ≡ UseFault.Memory }
-    ensures usage { (result ≡ UseFault.Memory) ⊎ ((result ≡ UseFault.Usage) × (kind_of error.now ≢ ErrorKind.OutOfMemory)) }
+    ensures usage { kind_of error.now ≢ ErrorKind.OutOfMemory → result ≡ UseFault.Usage }
+    ensures either { (result ≡ UseFault.Memory) ⊎ ((result ≡ UseFault.Usage) × (kind_of error.now ≢ ErrorKind.OutOfMemory)) }
 {
     match error.kind() {
         ErrorKind::OutOfMemory => UseFault::Memory,

@@ -58,15 +58,15 @@ pub first_begins : (robots : List Robot) (s : Stage) (limit : ℕ)
 unfolding last_cycle
 first_begins robots s limit = let e : limit - 0 ≡ limit = omega arith in rw e refl
 
-first_here : (passes : ℕ → Bool) (n count : ℕ) → passes (n + 1) ≡ true → first_above passes n (suc count) ≡ n + 1
+pub first_here : (passes : ℕ → Bool) (n count : ℕ) → passes (n + 1) ≡ true → first_above passes n (suc count) ≡ n + 1
 unfolding first_above
 first_here passes n count here = rw here refl
 
-first_later : (passes : ℕ → Bool) (n count : ℕ) → passes (n + 1) ≡ false → first_above passes n (suc count) ≡ first_above passes (n + 1) count
+pub first_later : (passes : ℕ → Bool) (n count : ℕ) → passes (n + 1) ≡ false → first_above passes n (suc count) ≡ first_above passes (n + 1) count
 unfolding first_above
 first_later passes n count here = rw here refl
 
-first_none : (passes : ℕ → Bool) (n : ℕ) → first_above passes n 0 ≡ n
+pub first_none : (passes : ℕ → Bool) (n : ℕ) → first_above passes n 0 ≡ n
 unfolding first_above
 first_none passes n = refl
 

@@ -8,16 +8,16 @@ use Rattle.arena.specs.Start.{start}
 use Rattle.code.specs.declared.want.Want.{Want}
 use Rattle.code.specs.declared.want.Want.TheVariants.{Quiet, Ask, Restart}
 
--- What a robot wants next, by its trace: the replies that it got since it began.
+-- A robot is what it wants next, given its trace: the replies that it got since it began.
 abbrev pub Robot : Type 0
 Robot = List ℤ → Want
 
--- the field, and the trace of each robot
+-- a stage of a battle: the field, and the trace of each robot
 pub record Stage : Type 0 where
   pub field : Field
   pub traces : List (List ℤ)
 
--- what a want of the robot with this index makes of the field and of its trace
+-- What a want of the robot with this index makes of the field and of its trace. Where nothing is asked, the reply is 0.
 unfoldable pub granted : Want → ℕ → Field → List ℤ → Field × List ℤ
 granted Quiet i field trace = (field, trace ++ pos 0 ∷ [])
 granted (Ask intrinsic arguments) i field trace =
@@ -28,21 +28,21 @@ granted Restart i field trace = (field, [])
 unfoldable pub step : Robot → ℕ → Field → List ℤ → Field × List ℤ
 step robot i field trace = if is_live field i then granted (robot trace) i field trace else (field, trace)
 
--- past the last robot there is one that wants nothing
+-- past the last robot there is one that asks nothing
 unfoldable pub robot_of : List Robot → ℕ → Robot
 robot_of robots i = slice_index_or robots i (λ trace. Quiet)
 
+-- the turn of one robot, and the turns of the first n robots in their order
 unfoldable pub turn : List Robot → ℕ → Stage → Stage
 turn robots i stage =
     let stepped = step (robot_of robots i) i stage.field (slice_index_or stage.traces i []) in
     record { field = stepped.0; traces = slice_set stage.traces i stepped.1 }
 
--- the turns of the first n robots, in their order
 unfoldable pub turns : List Robot → ℕ → Stage → Stage
 turns robots zero stage = stage
 turns robots (suc n) stage = turn robots n (turns robots n stage)
 
--- an update follows every 15th cycle
+-- an update of the field follows every 15th cycle
 unfoldable pub is_due : ℕ → Bool
 is_due number = number % 15 == 0
 
@@ -54,16 +54,16 @@ updated number stage =
 unfoldable pub cycle : List Robot → ℕ → Stage → Stage
 cycle robots number stage = updated number (turns robots (length robots) stage)
 
--- a battle is over after an update that leaves at most one robot alive
-unfoldable pub is_over : ℕ → Stage → Bool
-is_over number stage = is_due number && nat_le (live_count stage.field) 1
-
 -- the stage after so many cycles
 unfoldable pub stage_after : List Robot → Stage → ℕ → Stage
 stage_after robots opening zero = opening
 stage_after robots opening (suc n) = cycle robots (suc n) (stage_after robots opening n)
 
--- the least of so many numbers above n that passes, or the last of them
+-- a battle is over after an update that leaves at most one robot alive
+unfoldable pub is_over : ℕ → Stage → Bool
+is_over number stage = is_due number && nat_le (live_count stage.field) 1
+
+-- the least of the next so many numbers after n that passes, or the last of them
 unfoldable pub first_above : (ℕ → Bool) → ℕ → ℕ → ℕ
 first_above passes n zero = n
 first_above passes n (suc count) = if passes (n + 1) then n + 1 else first_above passes (n + 1) count
@@ -76,16 +76,16 @@ last_cycle robots opening limit = first_above (λ number. is_over number (stage_
 unfoldable pub opening : ℕ → ℕ → ℕ → Stage
 opening n seed number = record { field = start seed number n; traces = replicate n [] }
 
--- the damages of so many robots
+-- the damage of each of so many robots, in percent
 unfoldable pub damages_of : ℕ → Field → List ℕ
 damages_of n field = map (λ i. damage_of (robot_at field i)) (range_with_len 0 n)
 
--- how a battle ends: after how many cycles, and with which damage of each robot, in percent
+-- how a battle ends: after how many cycles, and with which damages
 pub record Outcome : Type 0 where
   pub cycles : ℕ
   pub damages : List ℕ
 
--- the battle of these robots with this seed, in the match of this number, with this limit of cycles
+-- the battle of these robots in the match of this number, with this seed and limit of cycles
 unfoldable pub battle : List Robot → (seed number limit : ℕ) → Outcome
 battle robots seed number limit =
     let begun = opening (length robots) seed number in

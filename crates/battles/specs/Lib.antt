@@ -2,3 +2,4 @@ pub mod Programs
 pub mod Battle
 pub mod Pairing
 pub mod Carrying
+pub mod KnownBattles

@@ -2,10 +2,15 @@
 #![tactic(auto)]
 
 mod battles;
+mod known;
 mod outcome;
 mod programs;
 mod scheduler;
 
 pub use battles::battle;
+pub use known::known_battles;
 pub use outcome::Outcome;
 pub use programs::Programs;
+
+#[cfg(test)]
+mod tests;

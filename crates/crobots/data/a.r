@@ -1,1 +1,1 @@
-d(x,y) int x,y; {return(x*x+y*y);} main(){d(3);}
+main(){while(1)cannon(0,0);}

@@ -15,7 +15,7 @@ status_of CannotWrite = 4
 status_of OutOfMemory = 5
 
 unfoldable pub usage_line : List ℕ
-usage_line = codes "usage: crobots (-c | -mMATCHES) [-lCYCLES] [-sSEED] FILE..." ++ 10 ∷ []
+usage_line = codes "usage: crobots (-c | -mMATCHES) [-lCYCLES] [-sSEED] [-pPROFILE] [-fFIRST] FILE..." ++ 10 ∷ []
 
 -- the line that the program puts on the channel of faults; a run that came to its end puts none
 abbrev pub line_of : Ending → List ℕ
@@ -32,14 +32,8 @@ abbrev pub PutsLine : Portions → ℕ → Portions → ℕ → List ℕ → Typ
 PutsLine before n after m line =
     (Takes before after line × (m ≡ n)) ⊎ (TakesFront before after line × (m ≡ n + 1))
 
--- how often the two sinks failed in a run that ended so: only where writing failed one of them did, once
+-- how often the two sinks failed in a run that ended so: only if writing failed one of them did, once
 abbrev pub Accounts : Ending → ℕ → ℕ → ℕ → ℕ → Type 0
 Accounts CannotWrite text faults later_text later_faults =
     ((later_text ≡ text + 1) × (later_faults ≡ faults)) ⊎ ((later_text ≡ text) × (later_faults ≡ faults + 1))
 Accounts _ text faults later_text later_faults = (later_text ≡ text) × (later_faults ≡ faults)
-
--- a file was not opened, or memory was refused before any run
-abbrev pub IsNoRun : Ending → Type 0
-IsNoRun (CannotOpen word) = Unit {0}
-IsNoRun OutOfMemory = Unit {0}
-IsNoRun _ = ⊥

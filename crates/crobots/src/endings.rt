@@ -8,7 +8,8 @@ use series::{Pen, Sink, put_all};
 use tokens::DeviceFault;
 
 /// The line of wrong usage.
-const USAGE: &str = "usage: crobots (-c | -mMATCHES) [-lCYCLES] [-sSEED] FILE...\n";
+const USAGE: &str =
+    "usage: crobots (-c | -mMATCHES) [-lCYCLES] [-sSEED] [-pPROFILE] [-fFIRST] FILE...\n";
 
 /// How the program ends.
 #[derive(Clone, Copy, Debug, PartialEq, Eq)]

@@ -1,14 +1,14 @@
-//! The program: it lists the code of robots, or names their faults.
+//! The program: it lists the code of robots or plays matches of them, and names their faults.
 #![tactic(auto)]
 
 ghost use Rattle.std.specs.Prelude.{◌≡◌, map, string_bytes, IfOk};
 
 mod devices;
 mod endings;
+mod openers;
 mod programs;
 #[cfg(test)]
 mod tests;
-mod words;
 
 use crate::devices::StreamSink;
 use crate::endings::Ending;
@@ -32,7 +32,7 @@ fn main(rt: HostRuntime) -> ExitCode {
     ExitCode::from(status)
 }
 
-/// The words of the command line behind the program's name. Words that are no text are an error.
+/// The words of the command line after the program's name. Words that are no text are an error.
 fn arguments(rt: &HostRuntime) -> io::Result<Vec<String>> {
     let mut words = env::args(rt)?;
     let _ = words.next();

@@ -27,7 +27,7 @@ returns-in-Ok-try_get_matches_from_mut-clause-files c =
 pub returns-clause-refused : goal.returns-clause-refused
 returns-clause-refused c =
     let kinds = c.in-Err.ensures.kinds (ap is_simple_and_free c.in-Ok.ensures ∙ free) in
-    elim c.fault_by.ensures.usage [
+    elim c.fault_by.ensures.either [
       | inl memory ↦ inl memory
       | inr usage ↦ inr (usage.0, λ none. some_kind _ c.in-Err.error kinds usage.1 (ap₂ fault_of c.in-Ok.ensures refl ∙ none))
     ]

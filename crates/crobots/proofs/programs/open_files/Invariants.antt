@@ -1,7 +1,9 @@
-use Rattle.std.proofs.Common.{◌≡◌, length}
+use Rattle.std.proofs.Common.{◌≡◌, map, take}
 use Rattle.std.specs.Prelude.{All}
 use Rattle.crobots.proofs.programs.open_files.Given as goal
 
--- a feed for each word so far, and none has failed
+-- a file for each word so far, of which nothing is read and which has not failed
 abbrev pub invariant-loop-word : goal.invariant-loop-word
-invariant-loop-word g l = (length l.feeds.items ≡ l.word-index) × All (λ feed. feed.failures ≡ 0) l.feeds.items
+invariant-loop-word g l =
+    (map g.D.File.Feed.to_come l.feeds.items ≡ map (λ word. g.D.Opener.holds l.disk word.now) (take l.word-index l.words))
+    × All (λ feed. g.D.File.Feed.failures feed ≡ 0) l.feeds.items
