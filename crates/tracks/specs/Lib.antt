@@ -1,0 +1,5 @@
+pub mod Path
+pub mod Pilot
+pub mod Shots
+pub mod Spot
+pub mod Wish

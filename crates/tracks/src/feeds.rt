@@ -1,0 +1,38 @@
+//! Real files as the devices of a parse.
+
+ghost use Rattle.std.specs.Prelude.{◌≡◌, None};
+
+use std::io::Read;
+use tokens::{DeviceFault, Feed};
+
+/// A file that is read. Each error of a read is a failure, an interrupted call too.
+#[derive(Drop)]
+pub struct FileFeed<F> {
+    file: F,
+    failures: u64,
+}
+
+impl<F> FileFeed<F> {
+    /// Makes the feed of a file that has not failed.
+    pub fn new(file: F) -> FileFeed<F>
+        ensures { result.failures ≡ 0 }
+    {
+        FileFeed { file, failures: 0 }
+    }
+}
+
+impl<F: Read> Feed for FileFeed<F> {
+    ghost failures = { λ feed. feed.failures };
+
+    ghost to_come = { λ _. None };
+
+    fn fill(&mut self, buf: &mut [u8]) -> Result<usize, DeviceFault> {
+        match self.file.read(buf) {
+            Ok(n) => Ok(n),
+            Err(_) => {
+                self.failures += 1;
+                Err(DeviceFault)
+            }
+        }
+    }
+}

@@ -1,0 +1,168 @@
+//! Shots: from where they were fired to where they burst.
+
+ghost use Rattle.std.specs.Prelude.{◌≡◌, ◌+◌, ◌*◌, ◌%◌, ◌^◌, ◌≤◌, ◌<◌, ◌++◌, ◌∷◌, [], length, slice_set, ℤ, pos, ◌*ℤ◌, unsigned_abs};
+ghost use Rattle.arith.specs.Degree.{degree_of};
+ghost use Rattle.arena.specs.Leg.{along, brought, last_place};
+ghost use Rattle.arena.specs.Shots.{aimed_x, aimed_y, flight};
+
+use crate::places::Place;
+use arena::LAST_PLACE;
+use arith::{cosine_at, norm_degree, sine_at};
+use arrayvec::ArrayVec;
+use std::marker::Model;
+
+/// The most shots that are kept: the last ones.
+pub const MOST_SHOTS: usize = 2000;
+
+/// How far a missile flies in an update, in metres.
+const FLIGHT: u16 = 50;
+
+/// The greatest range of a shot, in metres.
+const MOST_RANGE: i32 = 700;
+
+/// What a coordinate's sine and cosine are scaled by.
+const SCALE: i64 = 100_000;
+
+/// A shot: who fired it, after how many updates and where, and the update and the place of its burst.
+#[derive(Clone, Copy, Default, Drop)]
+pub struct Shot {
+    /// The robot's number, from 0.
+    pub robot: usize,
+    /// The updates before it was fired.
+    pub fired: u32,
+    /// Where it was fired.
+    pub from: Place,
+    /// The update in which it bursts.
+    pub burst: u32,
+    /// Where it bursts.
+    pub to: Place,
+}
+
+impl Shot {
+    /// Makes the shot of a robot that calls `cannon` with these arguments after so many updates.
+    #[tactic(auto, unfolding(arena::specs::Shots::aimed_x, arena::specs::Shots::aimed_y))]
+    pub fn new(robot: usize, updates: u32, from: Place, arguments: [i32; 2]) -> Shot
+        requires { updates ≤ 66666667 }
+        ensures robot { result.robot ≡ robot }
+        ensures fired { result.fired ≡ updates }
+        ensures from { result.from ≡ from }
+        ensures burst { (d r : ℤ) → arguments ≡ d ∷ r ∷ [] → result.burst ≡ updates + flight (brought 700 r) }
+        ensures x { (d r : ℤ) → arguments ≡ d ∷ r ∷ [] → result.to.x ≡ aimed_x from.x (degree_of d) (brought 700 r) }
+        ensures y { (d r : ℤ) → arguments ≡ d ∷ r ∷ [] → result.to.y ≡ aimed_y from.y (degree_of d) (brought 700 r) }
+    {
+        let degree = norm_degree(arguments[0]);
+        let range = range(arguments[1]);
+        let x = aimed(from.x(), range, cosine_at(degree));
+        let y = aimed(from.y(), range, sine_at(degree));
+        Shot {
+            robot,
+            fired: updates,
+            from,
+            burst: updates + flight(range),
+            to: Place::new(x, y),
+        }
+    }
+}
+
+/// Returns the range of a shot in metres that is asked for.
+#[tactic(auto, unfolding(arena::specs::Leg::brought))]
+fn range(asked: i32) -> u16
+    ensures value { result ≡ brought 700 asked }
+    ensures most { result ≤ 700 }
+{
+    asked.clamp(0, MOST_RANGE) as u16
+}
+
+/// Returns how many updates a missile flies to this range in metres.
+#[tactic(auto, unfolding(arena::specs::Shots::flight))]
+fn flight(range: u16) -> u32
+    requires { range ≤ 700 }
+    ensures value { result ≡ flight range }
+    ensures most { result ≤ 14 }
+{
+    u32::from(range.div_ceil(FLIGHT).max(1))
+}
+
+/// Returns where a missile bursts on an axis, from a place in tenths of a metre and at a range in metres, by the part of the
+/// range that lies on the axis.
+fn aimed(from: u16, range: u16, part: i32) -> u16
+    requires from { from ≤ LAST_PLACE }
+    requires range { range ≤ 700 }
+    requires part { unsigned_abs part ≤ 100000 }
+    ensures value { result ≡ brought last_place (along from (pos (10 * range) *ℤ part)) }
+    ensures most { result ≤ LAST_PLACE }
+{
+    let way = i64::from(10 * range) * i64::from(part);
+    brought(along(from, way))
+}
+
+/// Returns the coordinate to which a way leads, perhaps beyond a wall.
+#[tactic(auto, unfolding(arena::specs::Leg::along))]
+fn along(from: u16, way: i64) -> i64
+    requires { unsigned_abs way < 2 ^ 51 }
+    ensures { result ≡ along from way }
+{
+    i64::from(from) + way / SCALE
+}
+
+/// Returns the nearest coordinate of the field.
+#[tactic(auto, unfolding(arena::specs::Leg::brought))]
+fn brought(z: i64) -> u16
+    ensures value { result ≡ brought last_place z }
+    ensures most { result ≤ LAST_PLACE }
+{
+    z.clamp(0, i64::from(LAST_PLACE)) as u16
+}
+
+/// The last shots of a match, at most 2,000: when they are full, a new one replaces the oldest.
+#[derive(Drop)]
+pub struct Shots {
+    shots: ArrayVec<Shot, MOST_SHOTS>,
+    oldest: usize,
+}
+
+impl Model for Shots {
+    ghost use Rattle.std.specs.Prelude.{◌<◌, length};
+    ghost use Rattle.tracks.specs.Shots.{Kept};
+
+    ghost Value = { Kept };
+
+    ghost view = { λ s. record { shots = s.shots.items; oldest = s.oldest } };
+
+    ghost invariant = { λ s. s.oldest < 2000 };
+}
+
+impl Shots {
+    /// Makes no shots.
+    pub fn new() -> Shots
+        ensures { result ≡ record { shots = []; oldest = 0 } }
+    {
+        Shots {
+            shots: ArrayVec::new(),
+            oldest: 0,
+        }
+    }
+
+    /// Keeps a shot, in place of the oldest one if they are full.
+    pub fn add(&mut self, shot: Shot)
+        ensures room { length self.old.shots < MOST_SHOTS → self.new ≡ record { shots = self.old.shots ++ shot ∷ []; oldest = self.old.oldest } }
+        ensures full { length self.old.shots ≡ MOST_SHOTS → self.new ≡ record {
+          shots = slice_set self.old.shots self.old.oldest shot;
+          oldest = (self.old.oldest + 1) % MOST_SHOTS;
+        } }
+    {
+        if self.shots.is_full() {
+            self.shots[self.oldest] = shot;
+            self.oldest = (self.oldest + 1) % MOST_SHOTS;
+        } else {
+            self.shots.push(shot);
+        }
+    }
+
+    /// Returns the shots, in no order.
+    pub fn as_slice(&self) -> &[Shot]
+        ensures { result.now ≡ self.now.shots }
+    {
+        self.shots.as_slice()
+    }
+}
