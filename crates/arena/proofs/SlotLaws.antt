@@ -231,3 +231,18 @@ two_landed update slots landed size each two k d l =
     let fewer = length-filter_both (λ (m : Missile). nat_lt update m.burst) (λ m. not (nat_lt update m.burst)) (λ m. refl) (get_or slots k []) in
     let most = two k [] inside in
     rw (inside_is landed k d [] l, each k inside) (omega arith)
+
+-- a missile that bursts in another update takes nothing
+pub not_due : (owner update x y : ℕ) (m : Missile) → (m.burst ≡ update → ⊥) → sum (bursts update (shot_of owner m ∷ []) x y) ≡ 0
+unfolding bursts due_at shot_of
+not_due owner update x y m h = rw (ne_eqb m.burst update h) refl
+
+-- one robot more
+pub robot_more : (f : List Missile → ℕ) (slots : List (List Missile)) (i : ℕ) (ms : List Missile) → i < length slots → ms ≡ get_or slots i ms → sum (map f (take (i + 1) slots)) ≡ sum (map f (take i slots)) + f ms
+robot_more f slots i ms h e = rw (take_more slots i ms h, ← e, map-append) (omega (arith, sum_by-append (λ x. x) (map f (take i slots)) (f ms ∷ [])))
+
+-- one missile more that still flies
+pub flies_more : (update : ℕ) (ms : List Missile) (i : ℕ) (m : Missile) → i < length ms → m ≡ get_or ms i m → nat_lt update m.burst ≡ true → filter (λ m. nat_lt update m.burst) (take i ms) ≡ take i ms → filter (λ m. nat_lt update m.burst) (take (i + 1) ms) ≡ take (i + 1) ms
+flies_more update ms i m h e flies before =
+    rw (take_more ms i m h, ← e, filter-append (λ m. nat_lt update m.burst) (take i ms) (m ∷ []), before)
+    (ap (λ b. take i ms ++ cond b (m ∷ []) []) flies)

@@ -1,6 +1,6 @@
 //! Missiles: where and when they burst, and which of each robot's are in the air.
 
-ghost use Rattle.std.specs.Prelude.{◌≡◌, ℕ, ◌+◌, ◌*◌, ◌<◌, ◌≤◌, ◌++◌, ◌∷◌, [], ℤ, pos, ◌*ℤ◌, unsigned_abs, List, All, filter, map, sum, true, nat_lt, length, slice_index_or};
+ghost use Rattle.std.specs.Prelude.{◌≡◌, ℕ, ◌+◌, ◌*◌, ◌<◌, ◌≤◌, ◌++◌, ◌∷◌, [], ℤ, pos, ◌*ℤ◌, unsigned_abs, List, All, filter, map, sum, true, false, nat_lt, length, slice_index_or};
 ghost use Rattle.arena.specs.Leg.{last_place, brought, along};
 ghost use Rattle.arena.specs.Field.{Shot};
 ghost use Rattle.arena.specs.Shots.{aimed_x, aimed_y, bursts, flight, in_air, ring};
@@ -176,10 +176,37 @@ impl Slots {
         damage
     }
 
+    // Reports whether one of the missiles bursts in an update.
+    fn is_due(&self, update: u32) -> bool
+        ensures { result ≡ false → (x y : ℕ) → sum (bursts update (map (shot_of 0) self.now) x y) ≡ 0 }
+    {
+        for missile in self.missiles.as_slice() {
+            if missile.burst == update {
+                return true;
+            }
+        }
+        false
+    }
+
+    // Reports whether all missiles are still in the air after this update.
+    fn all_fly(&self, update: u32) -> bool
+        ensures { result ≡ true → filter (λ m. nat_lt update m.burst) self.now ≡ self.now }
+    {
+        for missile in self.missiles.as_slice() {
+            if !missile.flies(update) {
+                return false;
+            }
+        }
+        true
+    }
+
     // Keeps the missiles that are still in the air after this update.
     fn land(&mut self, update: u32)
         ensures { self.new ≡ filter (λ m. nat_lt update m.burst) self.old }
     {
+        if self.all_fly(update) {
+            return;
+        }
         let mut flying = ArrayVec::new();
         for missile in self.missiles.as_slice() {
             if missile.flies(update) {
@@ -221,6 +248,18 @@ pub fn fire(slots: &mut [Slots], robot: usize, missile: Missile)
     ensures two { All (λ s. length s ≤ 2) slots.old → All (λ s. length s ≤ 2) slots.new }
 {
     slots[robot].add(missile);
+}
+
+/// Reports whether a missile bursts in an update: if none does, nothing is hurt anywhere.
+pub fn any_due(slots: &[Slots], update: u32) -> bool
+    ensures { result ≡ false → (updates : ℕ) (shots : List Shot) (x y : ℕ) → update ≡ updates + 1 → HoldsShots updates slots.now shots → sum (bursts update shots x y) ≡ 0 }
+{
+    for own in slots {
+        if own.is_due(update) {
+            return true;
+        }
+    }
+    false
 }
 
 /// The damage that the bursts of an update do at a place in tenths of a metre.

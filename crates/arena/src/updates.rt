@@ -1,8 +1,9 @@
 //! The robots after an update.
 
-ghost use Rattle.std.specs.Prelude.{◌≡◌, ℕ, ◌+◌, ◌-◌, ◌^◌, ◌<◌, ◌≤◌, List, All, map, length};
+ghost use Rattle.std.specs.Prelude.{◌≡◌, ℕ, ◌+◌, ◌-◌, ◌^◌, ◌<◌, ◌≤◌, List, All, map, sum, false, length};
 ghost use Rattle.arena.specs.Field.{Shot, Robot as FieldRobot, Field};
 ghost use Rattle.arena.specs.Collisions.{mover, touches};
+ghost use Rattle.arena.specs.Shots.{bursts};
 ghost use Rattle.arena.specs.Moved.{moved_robot, moved};
 ghost use Rattle.arena.specs.Ground.{Body, body_of, IsWithin};
 ghost use Rattle.arena.specs.Drive.{drive_of};
@@ -12,7 +13,7 @@ use crate::collisions::{Mover, touches};
 use crate::limits::MOST_ROBOTS;
 use crate::motion::Drive;
 use crate::robots::{Robot, worn};
-use crate::slots::{Slots, damage_at};
+use crate::slots::{Slots, any_due, damage_at};
 use arrayvec::ArrayVec;
 
 // What each robot would drive on its own.
@@ -45,9 +46,17 @@ fn movers(robots: &[Robot], drives: &[Drive]) -> ArrayVec<Mover, MOST_ROBOTS>
 }
 
 // One robot after the update, given how many others it collides with.
-fn moved_robot(robot: &Robot, drive: &Drive, touched: usize, slots: &[Slots], update: u32) -> Robot
+fn moved_robot(
+    robot: &Robot,
+    drive: &Drive,
+    touched: usize,
+    slots: &[Slots],
+    update: u32,
+    due: bool,
+) -> Robot
     requires touched { touched ≤ 4 }
     requires slots { length slots.now ≤ MOST_ROBOTS }
+    requires quiet { due ≡ false → (updates : ℕ) (shots : List Shot) (x y : ℕ) → update ≡ updates + 1 → HoldsShots updates slots.now shots → sum (bursts update shots x y) ≡ 0 }
     ensures robot { (r : FieldRobot) (updates : ℕ) (shots : List Shot) → update ≡ updates + 1 → HoldsShots updates slots.now shots → robot.now ≡ body_of r → drive.now ≡ drive_of r → result ≡ body_of (moved_robot update shots touched r) }
     ensures way { (way : ℕ) → IsWithin way robot.now.track → IsWithin way drive.now.motion → IsWithin way result.track }
 {
@@ -55,8 +64,23 @@ fn moved_robot(robot: &Robot, drive: &Drive, touched: usize, slots: &[Slots], up
         return *robot;
     }
     let motion = robot.settled(drive, touched);
-    let bursts = damage_at(slots, update, motion.x(), motion.y());
+    let bursts = bursts_at(slots, update, due, motion.x(), motion.y());
     Robot::new(motion, worn(robot.damage(), drive.walled, touched, bursts))
+}
+
+// The damage of an update's bursts at a place, of which none may be due.
+fn bursts_at(slots: &[Slots], update: u32, due: bool, x: u16, y: u16) -> u8
+    requires slots { length slots.now ≤ MOST_ROBOTS }
+    requires x { x ≤ 9999 }
+    requires y { y ≤ 9999 }
+    requires quiet { due ≡ false → (updates : ℕ) (shots : List Shot) (x y : ℕ) → update ≡ updates + 1 → HoldsShots updates slots.now shots → sum (bursts update shots x y) ≡ 0 }
+    ensures most { result ≤ 80 }
+    ensures shots { (updates : ℕ) (shots : List Shot) → update ≡ updates + 1 → HoldsShots updates slots.now shots → result ≡ sum (bursts update shots x y) }
+{
+    if !due {
+        return 0;
+    }
+    damage_at(slots, update, x, y)
 }
 
 /// The robots after an update, of which this is the number.
@@ -70,10 +94,11 @@ pub fn moved(robots: &[Robot], slots: &[Slots], update: u32) -> ArrayVec<Robot, 
 {
     let drives = drives(robots);
     let movers = movers(robots, drives.as_slice());
+    let due = any_due(slots, update);
     let mut after = ArrayVec::new();
     for (i, robot) in robots.iter().enumerate() {
         let touched = touches(movers.as_slice(), i);
-        after.push(moved_robot(robot, &drives[i], touched, slots, update));
+        after.push(moved_robot(robot, &drives[i], touched, slots, update, due));
     }
     after
 }

@@ -17,6 +17,6 @@ unfolding is_alive body_of drive_of
 returns-clause-robot c = λ r updates shots u holds e d.
     let live : is_alive r ≡ true = sym (c.is_alive.ensures ∙ ap (λ (b : Body). nat_lt b.damage 100) e) ∙ c.if-not-is_alive.false in
     let leg = c.settled-motion.ensures.leg r e d live in
-    let burst = rw (c.x.ensures.value, c.y.ensures.value) at (c.damage_at-bursts.ensures.shots updates shots u holds) in
-    c.new.ensures ∙ alive_is r c.settled-motion.result c.args.drive.now.walled c.args.update shots c.args.touched c.damage.result c.damage_at-bursts.result c.worn.result
+    let burst = rw (c.x.ensures.value, c.y.ensures.value) at (c.bursts_at-bursts.ensures.shots updates shots u holds) in
+    c.new.ensures ∙ alive_is r c.settled-motion.result c.args.drive.now.walled c.args.update shots c.args.touched c.damage.result c.bursts_at-bursts.result c.worn.result
     live leg (ap (λ (x : Drive). x.walled) d) (c.damage.ensures.value ∙ ap (λ (b : Body). b.damage) e) burst c.worn.ensures.value
