@@ -24,15 +24,15 @@ const ACCELERATION: u8 = 10;
 /// to, heading, speed, and what the robot wants. Places are in tenths of a metre.
 #[derive(Clone, Copy, Drop)]
 pub struct Motion {
-    origin_x: u16,
-    origin_y: u16,
     east: i64,
     north: i64,
+    origin_x: u16,
+    origin_y: u16,
     x: u16,
     y: u16,
     heading: u16,
-    speed: u8,
     wanted_heading: u16,
+    speed: u8,
     wanted_speed: u8,
 }
 
