@@ -12,6 +12,8 @@ mod robots;
 mod scans;
 mod slots;
 mod starts;
+#[cfg(test)]
+mod tests;
 mod updates;
 mod words;
 

@@ -123,6 +123,17 @@ const ACCEPTED: &[Accepted] = &[
         second: false,
         files: &["a.r"],
     },
+    // after `--` every word is a file
+    Accepted {
+        words: &["-c", "--", "-m"],
+        listing: true,
+        matches: 1,
+        limit: 500_000,
+        seed: 1,
+        first: 1,
+        second: false,
+        files: &["-m"],
+    },
     // listings are asked for, beside matches too
     Accepted {
         words: &["-m3", "d", "-", "-c", "", "b"],
@@ -286,22 +297,26 @@ fn not_read(rt: HostRuntime) -> Result<(), Fail> {
     Ok(fs::remove_file(&rt, "before.r")?)
 }
 
+/// Runs the program on these words while its texts have room for ten bytes, and compares what they take.
+fn check_full<'a, R: Abort + Files + AllocGlobal>(
+    rt: &R,
+    words: &'a [&'a str],
+    text: &[u8],
+) -> Result<(), Fail> {
+    let mut out = Recorder::new(rt.alloc()).with_room(10);
+    let mut err = Recorder::new(rt.alloc());
+    assert_eq!(rt; program(rt, words, &mut out, &mut err), 4, "{words:?}");
+    assert_eq!(rt; taken(rt, &out)?.as_slice(), text, "{words:?}");
+    let line = b"crobots: cannot write\n".as_slice();
+    assert_eq!(rt; taken(rt, &err)?.as_slice(), line, "{words:?}");
+    Ok(())
+}
+
 #[test]
 fn not_written(rt: HostRuntime) -> Result<(), Fail> {
     fs::write(&rt, "written.r", "main(){}")?;
-    for (words, text) in [
-        (["-c", "-l15", "written.r"], b"File writt"),
-        (["-m2", "-l15", "written.r"], b"Match 1: c"),
-    ] {
-        let mut out = Recorder::new(rt.alloc()).with_room(10);
-        let mut err = Recorder::new(rt.alloc());
-        assert_eq!(rt; program(&rt, &words, &mut out, &mut err), 4);
-        assert_eq!(rt; taken(&rt, &out)?.as_slice(), text.as_slice());
-        assert_eq!(rt;
-            taken(&rt, &err)?.as_slice(),
-            b"crobots: cannot write\n".as_slice()
-        );
-    }
+    check_full(&rt, &["-c", "written.r"], b"File writt")?;
+    check_full(&rt, &["-m2", "-l15", "written.r"], b"Match 1: c")?;
     Ok(fs::remove_file(&rt, "written.r")?)
 }
 

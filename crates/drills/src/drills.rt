@@ -1,6 +1,6 @@
 //! The drills: a field whose robots march and shoot, one at rest, scans, bearings.
 
-ghost use Rattle.std.specs.Prelude.{◌≡◌, ◌≤◌, length};
+ghost use Rattle.std.specs.Prelude.{◌≡◌, ◌<◌, length};
 
 use arena::{Arena, MOST_ROBOTS};
 use arith::bearing;
@@ -30,7 +30,7 @@ pub fn marches(updates: u32) -> u8 {
 /// Four robots that stand still, with nothing in the air; answers the damage of the first one.
 pub fn rests(updates: u32) -> u8 {
     let mut arena = far_apart();
-    for _ in 0..updates.min(MOST_UPDATES) {
+    for _update in 0..updates.min(MOST_UPDATES) {
         arena.update();
     }
     arena.damage(0)
@@ -40,9 +40,9 @@ pub fn rests(updates: u32) -> u8 {
 pub fn scans(times: u32) -> i32 {
     let mut arena = in_a_row();
     let mut range = 0;
-    for _ in 0..times {
+    for n in 0..times {
         if arena.alive(0) {
-            range = arena.ask(0, Intrinsic::Scan, [45, 10]);
+            range = arena.ask(0, Intrinsic::Scan, [40 + (n % 10) as i32, 10]);
         }
     }
     range
@@ -52,8 +52,8 @@ pub fn scans(times: u32) -> i32 {
 pub fn bearings(times: u32) -> u16 {
     let mut degree = 0;
     for n in 0..times {
-        let dx = (n % 1999) as i32 - 999;
-        let dy = (n / 1999 % 1999) as i32 - 999;
+        let dx = (n % 1999 * 37 % 1999) as i32 - 999;
+        let dy = (n % 1999 * 53 % 1999) as i32 - 999;
         degree = bearing(dx, dy);
     }
     degree

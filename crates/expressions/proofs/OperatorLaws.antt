@@ -12,14 +12,14 @@ use Rattle.grammar.specs.declared.operators.Op.TheVariants as op
 use Rattle.grammar.specs.Actions.{Apply, Middle, expr_actions, middle}
 use Rattle.grammar.specs.Building.{Meaning, AppendsAll, MayFollow}
 use Rattle.grammar.specs.Derivation.{AnExpr}
-use Rattle.grammar.specs.Following.{Open, AValue, BeforeRight, Computed, Opened, Origin, open_count, same_op}
+use Rattle.grammar.specs.Following.{Open, AValue, BeforeRight, Computed, Opened, Origin, open_count}
 use Rattle.grammar.specs.Grammar.{Exactly, Item, Level, Make, Operate, Part, Tail, Unary, choice, is_fault, is_mark}
 use Rattle.grammar.specs.Nesting.{nesting, right_side}
 use Rattle.grammar.specs.Operators.{if_at, is_logic, operator_at}
 use Rattle.grammar.specs.declared.operators.Binary.{Binary as AnOperator}
 use Rattle.grammar.specs.Resolved.{InExpr}
 use Rattle.grammar.specs.Tree.{Binary, Expr}
-use Rattle.grammar.proofs.FollowingLaws.{Leads, act, chain, expr_leads, origin_of}
+use Rattle.grammar.proofs.FollowingLaws.{Leads, act, chain, expr_leads, logic_itself, origin_of}
 use Rattle.grammar.proofs.StandingLaws.{stands_then}
 use Rattle.parsing.specs.Position.{Place, next_at}
 use Rattle.parsing.specs.Room.{HasLeft, HasRoom, room}
@@ -244,11 +244,6 @@ right_room depth n o t is = by_logic (is_logic o) refl
     by_logic : (logic : Bool) → is_logic o ≡ logic → right_side o + room depth (n + 1) ≤ room depth n
     by_logic true e = let side : right_side o ≡ 1 = rw e refl in let low : n ≤ 2 = logic_level n o t is e in omega arith
     by_logic false e = let side : right_side o ≡ 0 = rw e refl in omega arith
-
-logic_itself : (o : Op) → is_logic o ≡ true → same_op o o ≡ true
-logic_itself op.Or e = refl
-logic_itself op.And e = refl
-logic_itself o e = absurd (cc)
 
 -- what is open where the right side begins
 abbrev right_open : (o : Op) (logic : Bool) (origin : Origin) → Open

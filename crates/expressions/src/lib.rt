@@ -1,4 +1,4 @@
-//! Expressions: from the tokens to a builder, in the order of the grammar.
+//! Parses expressions, and reports them to a builder in the order of the tokens.
 #![tactic(auto)]
 
 mod expressions;

@@ -86,7 +86,8 @@ pushed_count : (args : Args) (o : Opened) → open_count (pushed args o) ≡ ope
 pushed_count NoMore o = refl
 pushed_count (Argument e rest) o = omega (arith, pushed_count rest (AValue (origin_of e) ∷ o))
 
-logic_itself : (o : Op) → is_logic o ≡ true → same_op o o ≡ true
+-- && and || are tested to be themselves
+pub logic_itself : (o : Op) → is_logic o ≡ true → same_op o o ≡ true
 logic_itself op.Or e = refl
 logic_itself op.And e = refl
 logic_itself o e = absurd (cc)

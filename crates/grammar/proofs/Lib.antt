@@ -18,3 +18,6 @@ pub mod ScopeLaws
 pub mod LastTokens
 pub mod Bottoms
 pub mod Reach
+pub mod Places
+pub mod NamedFunctions
+pub mod FileLaws

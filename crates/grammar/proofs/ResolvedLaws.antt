@@ -15,6 +15,7 @@ use Rattle.grammar.specs.Resolved.{InFile, IsAmong, AreDistinct, IsResolved}
 use Rattle.grammar.specs.Scope.{Scope, behind_name, end_definition, function_number, number_for}
 use Rattle.grammar.specs.Tree.{Function, File}
 use Rattle.grammar.proofs.Phases.{Phase, Outside, Before, Inside, Wrong, Stays, inside, outside_then, begun, by_role, phase_of, part_stays}
+use Rattle.grammar.proofs.Runs.{append_empty}
 use Rattle.grammar.proofs.Soundness.{ValuesIn, values_wider, made_in, last_body_in, Known, Grows, Clean, AllIn, all_append, BeginsWell, definition_begins, role_grows, callee_in, variable_in, distinct_front, function_below}
 
 -- The names and trees, by the phase.
@@ -132,7 +133,7 @@ name_sound Mentioned name stack rest line left values scope ds k clean t =
 order-append : (ds : List Definition) (d : Definition) → order_of (ds ++ d ∷ []) ≡ order_of ds ++ d.number ∷ []
 order-append ds d = map-append (λ (x : Definition). x.number) ds (d ∷ [])
 
-among_last : (n : ℕ) (ns : List ℕ) → IsAmong n (ns ++ n ∷ [])
+pub among_last : (n : ℕ) (ns : List ℕ) → IsAmong n (ns ++ n ∷ [])
 among_last n [] = inl refl
 among_last n (x ∷ ns) = inr (among_last n ns)
 
@@ -154,7 +155,8 @@ define_known values scope ds k b =
       below = λ j i. let low : j < length scope.functions = k.below j i in omega (arith, same);
     }
 
-ended : (phase : Phase) (values : List Value) (scope : Scope) (ds : List Definition) → Tied (outside_then Inside phase) values scope ds → Busy values scope ds
+-- a function that ends had begun
+pub ended : (phase : Phase) (values : List Value) (scope : Scope) (ds : List Definition) → Tied (outside_then Inside phase) values scope ds → Busy values scope ds
 ended Outside values scope ds t = t
 ended Inside values scope ds t = absurd t
 ended Before values scope ds t = absurd t
@@ -235,17 +237,9 @@ sound_of profile (Make Zero ∷ stack) rest values scope ds clean s = make_sound
 sound_of profile (Make GiveBack ∷ stack) rest values scope ds clean s = make_sound GiveBack stack rest values scope ds s.known s.tied
 sound_of profile (Shut ∷ stack) rest values scope ds clean s = record { known = s.known; tied = s.tied }
 
-front_clean : (xs ys : List Fault) → xs ++ ys ≡ [] → xs ≡ []
-front_clean [] ys e = refl
-front_clean (x ∷ xs) ys e = absurd (cc)
-
-back_clean : (xs ys : List Fault) → xs ++ ys ≡ [] → ys ≡ []
-back_clean [] ys e = e
-back_clean (x ∷ xs) ys e = absurd (cc)
-
 guarded_sound : (b : Bool) (rest : List Lexeme) (xs ys : List Fault) (o : Option State) → (if b then misfit rest else xs ++ ys) ≡ [] → (xs ≡ [] → IfSound o) → IfSound (if b then None else o)
 guarded_sound true rest xs ys o e h = tt
-guarded_sound false rest xs ys o e h = h (front_clean xs ys e)
+guarded_sound false rest xs ys o e h = h (append_empty xs ys e).0
 
 kept_sound : (s : State) (o : Option State) → Sound s → IfSound o → Sound (unwrap_or o s)
 kept_sound s None h k = h
@@ -260,8 +254,8 @@ stepped_sound profile s clean h = kept_sound s (step s) h
 pub run_sound : (profile : Profile) (n : ℕ) (s : State) → faults_in profile n s ≡ [] → Sound s → Sound (run n s)
 run_sound profile zero s clean h = h
 run_sound profile (suc n) s clean h =
-    run_sound profile n (stepped s) (back_clean (faults_at profile s) (faults_in profile n (stepped s)) clean)
-    (stepped_sound profile s (front_clean (faults_at profile s) (faults_in profile n (stepped s)) clean) h)
+    run_sound profile n (stepped s) (append_empty (faults_at profile s) (faults_in profile n (stepped s)) clean).1
+    (stepped_sound profile s (append_empty (faults_at profile s) (faults_in profile n (stepped s)) clean).0 h)
 
 pub start_sound : (lexemes : List Lexeme) → Sound (start lexemes)
 start_sound lexemes = record {
@@ -299,7 +293,7 @@ defined_among k f (d ∷ ds) is = at_test (λ g. defined_among k f ds g) (d.numb
     at_test again true e g = inl (same_number d.number k e)
     at_test again false e g = inr (again g)
 
-order_below : (e n k : ℕ) (ds : List Definition) → AllIn e n ds → IsAmong k (order_of ds) → k < n
+pub order_below : (e n k : ℕ) (ds : List Definition) → AllIn e n ds → IsAmong k (order_of ds) → k < n
 order_below e n k [] h i = absurd i
 order_below e n k (d ∷ ds) h (inl same) = subst (λ (x : ℕ). x < n) (sym same) h.0
 order_below e n k (d ∷ ds) h (inr i) = order_below e n k ds h.2 i

@@ -32,7 +32,8 @@ then profile s t u a b = record {
       ∙ both_empty _ _ a.clean (ap (λ v. faults_in profile b.steps v) a.leads ∙ b.clean);
 }
 
-append_empty : (xs ys : List Fault) → xs ++ ys ≡ [] → (xs ≡ []) × (ys ≡ [])
+-- no faults in a list of two parts, so none in either
+pub append_empty : (xs ys : List Fault) → xs ++ ys ≡ [] → (xs ≡ []) × (ys ≡ [])
 append_empty [] ys e = (refl, e)
 append_empty (x ∷ xs) ys e = absurd (cc)
 

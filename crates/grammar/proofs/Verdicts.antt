@@ -14,7 +14,7 @@ use Rattle.grammar.specs.Weight.{weight}
 use Rattle.grammar.proofs.Endings.{IsFinal, ends, stays_final, final_stays}
 use Rattle.grammar.proofs.Firsts.{at_rest}
 use Rattle.grammar.proofs.Order.{first_in, first_least, same_place}
-use Rattle.grammar.proofs.Runs.{run-add, faults_in-add}
+use Rattle.grammar.proofs.Runs.{append_empty, run-add, faults_in-add}
 
 -- A derivation without a fault.
 
@@ -23,10 +23,6 @@ final_clean profile zero s final clean = refl
 final_clean profile (suc n) s final clean =
     let rest : faults_in profile n (stepped s) ≡ [] = rw (final_stays s final) (final_clean profile n s final clean) in
     rw (clean, rest) refl
-
-front_empty : (xs ys : List Fault) → xs ++ ys ≡ [] → xs ≡ []
-front_empty [] ys e = refl
-front_empty (x ∷ xs) ys e = absurd (cc)
 
 -- Two counts of steps are one behind the other.
 record Apart (m n : ℕ) : Type 0 where
@@ -54,7 +50,7 @@ reached profile n m s t final leads clean ended quiet (inl a) = record {
   there = subst (λ (k : ℕ). run k s ≡ t) a.sum (run-add m a.more s ∙ rw leads (stays_final a.more t ended));
 }
 reached profile n m s t final leads clean ended quiet (inr a) = record {
-  clean = front_empty (faults_in profile n s) _ (sym (faults_in-add profile n a.more s) ∙ subst (λ (k : ℕ). faults_in profile k s ≡ []) (sym a.sum) clean);
+  clean = (append_empty (faults_in profile n s) _ (sym (faults_in-add profile n a.more s) ∙ subst (λ (k : ℕ). faults_in profile k s ≡ []) (sym a.sum) clean)).0;
   there = sym (stays_final a.more (run n s) final) ∙ sym (run-add n a.more s) ∙ subst (λ (k : ℕ). run k s ≡ t) (sym a.sum) leads;
 }
 

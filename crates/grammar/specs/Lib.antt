@@ -21,3 +21,4 @@ pub mod Texts
 pub mod KnownSources
 pub mod Naming
 pub mod KnownTexts
+pub mod Finished

@@ -1,5 +1,6 @@
 //! Laws on the definitions of the language.
 
+ghost use Rattle.grammar.specs.Finished.{Finished, Undefined, WithoutMain};
 ghost use Rattle.grammar.specs.Laws.{BlocksKeepTheFunction, CompiledIsResolved, EachDerivationEnds, EachFileFollows, FaultlessIsResolved, FirstFaultDecides, LevelsAreShut, MayBeTold, WhatWasReadIsNeeded};
 
 use crate::build::Build;
@@ -9,6 +10,13 @@ pub fn derivations()
     ensures ends { EachDerivationEnds }
     ensures faultless { FaultlessIsResolved }
     ensures first_fault { FirstFaultDecides }
+{}
+
+/// A source whose derivation ends without a fault is a file, or a function that it mentions isn't defined, or it has no function main.
+pub fn finished()
+    ensures file { Finished }
+    ensures undefined { Undefined }
+    ensures without_main { WithoutMain }
 {}
 
 /// The grammar's productions shut each level that they open.

@@ -1,4 +1,4 @@
-//! The language of robot programs: its grammar and derivations, diagnostics, the pools of names, and the trait of what a parse builds.
+//! Defines the language of robot programs: its grammar, its names, its diagnostics, and the trait by which a parser reports to a builder.
 #![tactic(auto)]
 
 mod build;

@@ -25,13 +25,10 @@ use Rattle.parsing.specs.Position.{GoesOn, Place, next_at, scope_at, tokens_at}
 use Rattle.parsing.specs.Stopping.{Stop, Stops, stop_with}
 use Rattle.grammar.specs.Compiled.{diagnostic}
 use Rattle.parsing.specs.Stretch.{Derives, DerivesItem, FailsAt, FailsItem, Refused, Takes, IsNearTo}
+use Rattle.parsing.proofs.HeadingLaws.{heading_items}
 use Rattle.parsing.proofs.Stretches.{Begins, fails_then, goes_begins, joined, refused_map, stay, told_begins, told_goes, near_told, stops_back, stops_here}
 use Rattle.lang.specs.Progress.{AddsBlock, Advances, ClosesFunction, IsTooMuch, StopsReading, at_brace, at_definition, at_source}
 use Rattle.lang.proofs.Advancing.{definitions_actions-append}
-
--- what stands in front of a function's block
-abbrev pub heading_items : List Item
-heading_items = AName Defined ∷ Exactly mark.OpenRound ∷ Part Parameters ∷ Exactly mark.CloseRound ∷ Part ParameterTypes ∷ []
 
 abbrev pub definition_items : List Item
 definition_items = AName Defined ∷ Exactly mark.OpenRound ∷ Part Parameters ∷ Exactly mark.CloseRound ∷ Part ParameterTypes ∷ Part FunctionBlock ∷ []

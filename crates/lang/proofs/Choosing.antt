@@ -6,7 +6,6 @@ use Rattle.tokens.specs.declared.lexemes.Lexeme.{Lexeme}
 use Rattle.tokens.specs.declared.lexemes.Mark.TheVariants as mark
 use Rattle.tokens.specs.declared.lexemes.Token.{Token}
 use Rattle.tokens.specs.declared.lexemes.Token.TheVariants as token
-use Rattle.tokens.specs.declared.lexemes.Word.{Word}
 use Rattle.tokens.specs.declared.lexemes.Word.TheVariants as word
 use Rattle.grammar.specs.declared.diagnostics.ParseFault.{ParseFault}
 use Rattle.grammar.specs.Building.{Meaning}
@@ -19,6 +18,7 @@ use Rattle.grammar.proofs.Steps.{part}
 use Rattle.parsing.specs.Position.{Place, after_at, next_at, scope_at}
 use Rattle.parsing.specs.Stopping.{stop_with}
 use Rattle.parsing.specs.Stretch.{Derives, DerivesItem, FailsAt, FailsItem, Refused, IsNearTo}
+use Rattle.parsing.proofs.Parts.{word_is}
 use Rattle.parsing.proofs.Stretches.{IsBehind, Leads, refused_map, stand}
 use Rattle.lang.specs.Progress.{Advances, StopsReading, at_definition, at_source}
 use Rattle.lang.proofs.Advancing.{advances_then, leave, stops_then, stretch_advances, stretch_stops, reading_fails_at_next}
@@ -29,15 +29,6 @@ symbol_leads : (symbol : Symbol) (items : List Item) (lexeme : Lexeme) (tail : L
 symbol_leads symbol items lexeme tail at sound chosen flat = record {
   passes = λ profile stack values functions depths. part profile symbol items stack (lexeme ∷ tail) values (scope_at at) functions sound chosen (rw flat refl);
 }
-
-word_is : (w : Word) (t : Token) → is_word word.Type t ≡ true → t ≡ token.Word word.Type
-word_is w (token.Word word.Type) is = refl
-word_is w (token.Word other) is = absurd (cc)
-word_is w (token.Mark m) is = absurd (cc)
-word_is w (token.Name name) is = absurd (cc)
-word_is w (token.Constant value) is = absurd (cc)
-word_is w token.End is = absurd (cc)
-word_is w (token.Fault flaw) is = absurd (cc)
 
 abbrev pub typed_items : List Item
 typed_items = AWord word.Type ∷ Part Types ∷ Part Head ∷ at_source

@@ -25,21 +25,13 @@ use Rattle.grammar.proofs.Steps.{make, mark as mark_step, part}
 use Rattle.parsing.specs.Position.{GoesOn, Place, next_at, place, scope_at}
 use Rattle.parsing.specs.Stopping.{Stop, stop_with}
 use Rattle.parsing.specs.Stretch.{IsNearTo, Derives, FailsAt, GoesPast, StopsAt}
+use Rattle.parsing.proofs.Parts.{mark_is}
 use Rattle.parsing.proofs.Stretches.{Leads, joined, past, stand, stops, fails_at_next}
 use Rattle.lang.specs.Progress.{AddsBlock, at_brace}
 use Rattle.statements.specs.Statements.{AddsBody}
 
 abbrev pub inside_items : List Item
 inside_items = Part Declarations ∷ Part Statements ∷ at_brace
-
-pub mark_is : (t : Token) → is_mark mark.OpenCurly t ≡ true → t ≡ token.Mark mark.OpenCurly
-mark_is (token.Mark mark.OpenCurly) is = refl
-mark_is (token.Mark m) is = absurd (cc)
-mark_is (token.Name name) is = absurd (cc)
-mark_is (token.Word word) is = absurd (cc)
-mark_is (token.Constant value) is = absurd (cc)
-mark_is token.End is = absurd (cc)
-mark_is (token.Fault flaw) is = absurd (cc)
 
 not_open : (t after : Token) → is_mark mark.OpenCurly t ≡ false → choice FunctionBlock t after ≡ None
 not_open (token.Mark mark.OpenCurly) after other = absurd (cc)
@@ -59,7 +51,7 @@ brace_leads : (lexeme : Lexeme) → is_mark mark.OpenCurly lexeme.token ≡ true
     Leads 0 (Part FunctionBlock ∷ []) (Make Empty ∷ inside_items) [] [] known known (lexeme ∷ rest) rest
 brace_leads lexeme is known rest = record {
   passes = λ profile stack values functions depths.
-      let at : lexeme.token ≡ token.Mark mark.OpenCurly = mark_is lexeme.token is in
+      let at : lexeme.token ≡ token.Mark mark.OpenCurly = mark_is mark.OpenCurly lexeme.token is in
       then profile _ _ _
       (part profile FunctionBlock (Exactly mark.OpenCurly ∷ Make Empty ∷ inside_items) stack (lexeme ∷ rest) values known functions (rw at refl) (rw at refl) (first_level _ (levels stack) (lexeme ∷ rest) depths))
       (mark_step profile mark.OpenCurly (Make Empty ∷ (inside_items ++ stack)) (lexeme ∷ rest) values known functions (rw at refl) is);

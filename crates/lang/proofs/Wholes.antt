@@ -30,8 +30,8 @@ use Rattle.grammar.proofs.Reach.{what_was_read_is_needed}
 use Rattle.grammar.proofs.Runs.{then}
 use Rattle.grammar.proofs.Steps.{last, part}
 use Rattle.grammar.proofs.Verdicts.{clean_verdict, fault_verdict}
-use Rattle.finishing.specs.Finished.{IsFinished, PassesAll}
-use Rattle.finishing.proofs.FileLaws.{finished, undefined, without_main}
+use Rattle.grammar.specs.Finished.{IsFinished, PassesAll}
+use Rattle.grammar.proofs.FileLaws.{finished, undefined, without_main}
 use Rattle.parsing.specs.Position.{GoesOn, Place, next_at, scope_at, tokens_at}
 use Rattle.parsing.specs.Stopping.{NoneBefore, Stops, slack as slack_of, stop_with}
 use Rattle.parsing.specs.Stretch.{IsNearTo, Refused, StopsFirst, StopsOpening, Takes}

@@ -16,9 +16,8 @@ ghost use Rattle.lang.specs.Files.{FailsBytes, IsFile, IsNew, Says, StopsTaking,
 ghost use Rattle.lang.specs.Progress.{Advances, Lacks, Lists, StopsReading, at_source};
 
 use crate::functions::function;
-use declarations::{externals, type_words};
 use grammar::{Build, Code, Diagnostic, ParseFault, Pools};
-use parsing::{Parser, is_mark, is_word};
+use parsing::{Parser, externals, is_mark, is_word, type_words};
 use tokens::{Feed, Mark, Token, Word};
 
 /// Reads a source from the device in one pass, tells the builder its actions, and gives its names.

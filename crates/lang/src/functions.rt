@@ -12,9 +12,8 @@ ghost use Rattle.parsing.specs.Room.{HasPlace};
 ghost use Rattle.parsing.specs.Stretch.{Counts, FailsAt, Refused};
 ghost use Rattle.lang.specs.Progress.{AddsBlock, Advances, ClosesFunction, IsTooMuch, MayEnd, StopsReading, at_definition, at_source};
 
-use declarations::{declarations, heading};
 use grammar::{Build, BuildFault, Code, ParseFault};
-use parsing::{Declared, Parser, is_mark};
+use parsing::{Declared, Parser, declarations, heading, is_mark};
 use statements::statements;
 use tokens::{Feed, Mark};
 

@@ -1,5 +1,5 @@
-//! The language of robot programs: one pass from a device's bytes to a builder, the diagnostics, and the names of a file.
-//! It hands on the trees of programs with the builder that makes them, and the laws on how programs are spelled.
+//! Parses a robot program in one pass: it reads the bytes of a device, reports to a builder, and returns the names of the file or the first diagnostic.
+//! It hands on the trees of programs with their builder, and the round-trip law.
 #![tactic(auto)]
 
 mod files;
@@ -10,7 +10,7 @@ pub use grammar::{
     Build, BuildFault, Callee, Code, Diagnostic, Function, Intrinsic, MOST_NAMES, Op, ParseFault,
     Pools, Profile, StoreOp, Var,
 };
-pub use spelling::laws;
+pub use round_trip::laws;
 pub use tokens::{DeviceFault, Feed, Name};
 pub use trees::{Expr, Function as FunctionTree, Statement, TreeMaker};
 

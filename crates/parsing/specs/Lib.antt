@@ -4,3 +4,4 @@ pub mod Roles
 pub mod Stopping
 pub mod Stretch
 pub mod Room
+pub mod Declarations

@@ -11,7 +11,10 @@ use Rattle.grammar.specs.Profile.{first_profile}
 use Rattle.grammar.specs.Texts.{text_of}
 use Rattle.code.specs.Listing.{in_five_columns, name_line, instr_line, function_line}
 use Rattle.code.specs.Spelling.{operator_text, instr_text}
-use Rattle.series.specs.KnownOutputs.{KnownOutputs, KnownTexts}
+use Rattle.battles.specs.Battle.{alive}
+use Rattle.series.specs.Reports.{report}
+use Rattle.series.specs.Totals.{totals}
+use Rattle.series.specs.KnownOutputs.{KnownOutputs, KnownReports, KnownTexts}
 
 pub texts : KnownTexts
 unfolding digits
@@ -24,6 +27,10 @@ texts = record {
   past_the_column = refl;
   diagnostic = refl;
 }
+
+pub reports : KnownReports
+unfolding digits report totals alive
+reports = record { single_file = refl; dead_and_alive = refl; scores = refl }
 
 pub outputs : KnownOutputs
 unfolding digits tokens lexemes mark_of word_of first_profile most_levels most_names intrinsic_named name_of compiled text_of operator_text instr_text in_five_columns name_line instr_line function_line

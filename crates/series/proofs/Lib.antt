@@ -4,6 +4,7 @@ pub mod CompilingLemmas
 pub mod CoursesLemmas
 pub mod OutputLemmas
 pub mod PlayingLemmas
+pub mod SameReport
 pub mod PiecesLemmas
 pub mod TextsLemmas
 pub mod SeriesTextsLemmas

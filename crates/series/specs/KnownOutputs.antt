@@ -1,5 +1,6 @@
 -- Known outputs: from the bytes of files to what a run writes.
 use Rattle.std.specs.Prelude.{◌≡◌, ℕ, List, [], ◌∷◌, codes, map}
+use Rattle.battles.specs.Battle.{Outcome}
 use Rattle.grammar.specs.Profile.{first_profile}
 use Rattle.series.specs.declared.endings.Status.TheVariants.{Done, Faulty}
 use Rattle.series.specs.Compiling.{Source}
@@ -7,8 +8,11 @@ use Rattle.series.specs.Output.{Output, output}
 use Rattle.settings.specs.Setup.{Setup}
 use Rattle.settings.specs.declared.settings.Mode.{Mode}
 use Rattle.settings.specs.declared.settings.Mode.TheVariants.{Listing}
+use Rattle.series.specs.Names.{robot_names}
 use Rattle.series.specs.Pieces.{Text, Faults}
+use Rattle.series.specs.Reports.{report}
 use Rattle.series.specs.Texts.{file_name, column, diagnostic_line}
+use Rattle.series.specs.Totals.{score_of, totals}
 
 pub record KnownTexts : Type 0 where
   pub name_in_folders : file_name (codes "k/robots/b.r") ≡ codes "b.r"
@@ -34,6 +38,23 @@ asked mode matches limit sources = record {
 -- what a run writes that lists these files
 abbrev listing_output : List Source → Output
 listing_output sources = output (asked Listing 1 500000 sources) sources
+
+-- two matches of two robots: the second robot survived the first alone, and both survived the second
+abbrev sole_survivor : Outcome
+sole_survivor = record { cycles = 90; damages = 100 ∷ 7 ∷ [] }
+
+abbrev two_survivors : Outcome
+two_survivors = record { cycles = 500; damages = 99 ∷ 0 ∷ [] }
+
+abbrev two_names : List (List ℕ)
+two_names = robot_names (codes "k/a.r" ∷ codes "b.r" ∷ [])
+
+pub record KnownReports : Type 0 where
+  pub single_file : robot_names (codes "k/a.r" ∷ []) ≡ codes "a.r" ∷ codes "a.r" ∷ []
+  pub dead_and_alive : report 12 two_names sole_survivor
+      ≡ codes "Match 12: cycles = 90\n  1) dead  damage 100% a.r\n  2) alive damage   7% b.r\n"
+  pub scores : totals 2 two_names (score_of (sole_survivor ∷ two_survivors ∷ []))
+      ≡ codes "Totals: 2 matches\n  1) won 0 tied 1 lost 1 a.r\n  2) won 1 tied 1 lost 0 b.r\n"
 
 pub record KnownOutputs : Type 0 where
   pub listed : listing_output (record { word = codes "k/a.r"; bytes = codes "main(){1+2;}" } ∷ [])

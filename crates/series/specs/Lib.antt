@@ -12,4 +12,5 @@ pub mod Output
 pub mod Runs
 pub mod Failures
 pub mod Courses
+pub mod SameReport
 pub mod KnownOutputs

@@ -1,10 +1,11 @@
 //! Runs over files and sinks in memory, for tests.
 
-ghost use Rattle.std.specs.Prelude.{◌≡◌, ◌<◌, length};
+ghost use Rattle.std.specs.Prelude.{◌≡◌, ◌<◌, ◌≤◌, length};
 
 use crate::runs::compile;
 use crate::{
-    CYCLES_DEFAULT, FILES_MAX, Mode, Recorder, RunFault, SEED_DEFAULT, Settings, Status, run,
+    CYCLES_DEFAULT, CYCLES_MAX, FILES_MAX, FIRST_MAX, MATCHES_MAX, Mode, Recorder, RunFault,
+    SEED_DEFAULT, Settings, Status, run,
 };
 use arrayvec::ArrayVec;
 use code::Program;
@@ -181,5 +182,131 @@ pub fn check_fault(
             "{diagnostic}"
         );
     }
+    Ok(())
+}
+
+/// What a run of matches is asked for.
+#[derive(Clone, Copy)]
+pub struct Game {
+    /// How many matches it plays.
+    pub matches: u32,
+    /// The most cycles of each.
+    pub limit: u32,
+    /// Whether its files are of the second profile.
+    pub short_circuit: bool,
+    /// The number of the first match.
+    pub first: u32,
+}
+
+/// One match of as many cycles as are played if none are asked for.
+pub const ONE_MATCH: Game = Game {
+    matches: 1,
+    limit: CYCLES_DEFAULT,
+    short_circuit: false,
+    first: 1,
+};
+
+/// The settings of a game of these files, whose numbers are brought within their limits.
+pub fn game_of<'a>(game: Game, words: ArrayVec<&'a str, FILES_MAX>) -> Settings<'a>
+    requires some { 0 < length words.items }
+    ensures words { length result.words ≡ length words.entry.items }
+{
+    let profile = if game.short_circuit {
+        Profile::second()
+    } else {
+        Profile::first()
+    };
+    Settings::new(
+        Mode::Matches,
+        game.matches.max(1).min(MATCHES_MAX),
+        game.limit.max(1).min(CYCLES_MAX),
+        SEED_DEFAULT,
+        profile,
+        game.first.max(1).min(FIRST_MAX),
+        words,
+    )
+}
+
+/// The settings of a game of one file.
+pub fn game_of_one<'a>(game: Game, word: &'a str) -> Settings<'a>
+    ensures words { length result.words ≡ 1 }
+{
+    let mut words = ArrayVec::new();
+    words.push(word);
+    game_of(game, words)
+}
+
+/// The settings of a game of two files, one of them in a folder.
+pub fn game_of_two(game: Game) -> Settings<'static>
+    ensures words { length result.words ≡ 2 }
+{
+    let mut words = ArrayVec::new();
+    words.push("a.r");
+    words.push("k/b.r");
+    game_of(game, words)
+}
+
+/// Runs what the settings ask for, over one file that is read whole.
+pub fn play_one(alloc: Global, settings: &Settings, source: &[u8]) -> Result<Ended, AllocError>
+    requires { length settings.now.words ≡ 1 }
+{
+    let mut out = Recorder::new(alloc);
+    let mut err = Recorder::new(alloc);
+    let mut feeds = [Pieces::new(source, 4096)];
+    let answer = run(settings, &mut feeds, &mut out, &mut err);
+    Ok(Ended {
+        answer,
+        text: taken(alloc, &out)?,
+        faults: taken(alloc, &err)?,
+    })
+}
+
+/// Runs what the settings ask for, over two files that are read whole.
+pub fn play_two(
+    alloc: Global,
+    settings: &Settings,
+    source: &[u8],
+    other: &[u8],
+) -> Result<Ended, AllocError>
+    requires { length settings.now.words ≡ 2 }
+{
+    let mut out = Recorder::new(alloc);
+    let mut err = Recorder::new(alloc);
+    let mut feeds = [Pieces::new(source, 4096), Pieces::new(other, 4096)];
+    let answer = run(settings, &mut feeds, &mut out, &mut err);
+    Ok(Ended {
+        answer,
+        text: taken(alloc, &out)?,
+        faults: taken(alloc, &err)?,
+    })
+}
+
+/// Compares the whole text of a run, and that it is done.
+pub fn check_done(
+    rt: &(impl Abort + AllocGlobal),
+    ended: &Ended,
+    lines: &[&str],
+) -> Result<(), Fail> {
+    assert_eq!(rt; ended.answer, Ok(Status::Done));
+    assert_eq!(rt;
+        ended.text.as_slice(),
+        text_of(rt.alloc(), lines)?.as_slice()
+    );
+    assert!(rt; ended.faults.is_empty());
+    Ok(())
+}
+
+/// Compares the faults of a run, and that it wrote no text.
+pub fn check_faulty(
+    rt: &(impl Abort + AllocGlobal),
+    ended: &Ended,
+    diagnostics: &[&str],
+) -> Result<(), Fail> {
+    assert_eq!(rt; ended.answer, Ok(Status::Faulty));
+    assert!(rt; ended.text.is_empty());
+    assert_eq!(rt;
+        ended.faults.as_slice(),
+        text_of(rt.alloc(), diagnostics)?.as_slice()
+    );
     Ok(())
 }

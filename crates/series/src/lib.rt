@@ -4,6 +4,7 @@
 mod courses;
 mod endings;
 mod known;
+pub mod laws;
 mod listing;
 mod names;
 mod pen;
@@ -33,9 +34,13 @@ pub use tokens::{DeviceFault, Feed};
 #[cfg(test)]
 mod checks;
 #[cfg(test)]
+mod course_tests;
+#[cfg(test)]
 mod listing_tests;
 #[cfg(test)]
 mod machine_tests;
+#[cfg(test)]
+mod match_tests;
 #[cfg(test)]
 mod replay_tests;
 #[cfg(test)]

@@ -1,6 +1,6 @@
 //! Runs: files are compiled, and listed or sent to matches.
 
-ghost use Rattle.std.specs.Prelude.{◌≡◌, ℕ, ◌+◌, ◌-◌, ◌^◌, ◌<◌, ◌≤◌, List, [], ◌∷◌, Option, Some, length, map, All, Result, MatchResult, OnOk, IfOk, OnErr};
+ghost use Rattle.std.specs.Prelude.{◌≡◌, ℕ, ◌+◌, ◌-◌, ◌^◌, ◌<◌, ◌≤◌, List, [], ◌∷◌, Option, Some, length, map, All, Result, MatchResult, OnOk, IfOk, IfSome, OnErr};
 ghost use Rattle.tokens.specs.Feed.{Counts};
 ghost use Rattle.code.specs.Codes.{AreCodesOf};
 ghost use Rattle.grammar.specs.Tree.{File};
@@ -102,6 +102,7 @@ pub fn compile_files<F: Feed, O: Sink, E: Sink>(
     requires faults { E.failures err.old < 2 ^ 64 - 1 }
     ensures output { (sources : List Source) → AreSources sources settings.now.words (map F.to_come feeds.old)
         → Compiles settings.now sources result (taken (O.portions out.old) (E.portions err.old)) (taken (O.portions out.new) (E.portions err.new)) }
+    ensures manned { IfOk result (λ programs. IfSome programs (λ programs. length programs ≡ length settings.now.words)) }
     ensures failures { Accounts result
         (failures (map F.failures feeds.old) (O.failures out.old) (E.failures err.old))
         (failures (map F.failures feeds.new) (O.failures out.new) (E.failures err.new)) }
@@ -117,7 +118,7 @@ pub fn compile_files<F: Feed, O: Sink, E: Sink>(
 /// Compiles each file and lists it, or puts its diagnostic. Where no file has a fault, it keeps the programs of all.
 ///
 /// Programs are large: they are kept in place, since moving them takes stack.
-fn compile_into<F: Feed, O: Sink, E: Sink>(
+pub(crate) fn compile_into<F: Feed, O: Sink, E: Sink>(
     programs: &mut Programs,
     settings: &Settings,
     feeds: &mut [F],

@@ -15,10 +15,9 @@ ghost use Rattle.expressions.specs.Expressions.{AddsExpr};
 ghost use Rattle.statements.specs.Forms.{in_brackets, opens_statement};
 ghost use Rattle.statements.specs.Statements.{AddsBody, FailsBody};
 
-use declarations::declarations;
 use expressions::expression;
 use grammar::{Build, Code, ParseFault};
-use parsing::{Declared, MOST_LEVELS, Parser, is_mark, is_word};
+use parsing::{Declared, MOST_LEVELS, Parser, declarations, is_mark, is_word};
 use tokens::{Feed, Mark, Token, Word};
 
 /// `stmts → stmt stmts`, up to the closing brace

@@ -1,4 +1,4 @@
-//! Statements: from the tokens to a builder, in the order of the grammar.
+//! Parses statements and blocks, and reports them to a builder in the order of the tokens.
 #![tactic(auto)]
 
 mod bodies;

@@ -1,5 +1,4 @@
-//! The lower half of the language front end: devices that give bytes, the tokens of a source, and a
-//! cursor that reads them through a window of fixed size.
+//! Reads the bytes of a source from a device and gives its tokens one by one, through a window of fixed size.
 #![tactic(auto)]
 
 mod characters;

@@ -1,4 +1,4 @@
-//! The trees of robot programs: a builder that makes them, and tells them to another builder.
+//! Makes the trees of robot programs from what a parser reports, and reports trees to another builder.
 #![tactic(auto)]
 
 mod maker;

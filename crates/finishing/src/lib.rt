@@ -1,4 +1,0 @@
-//! What a source is where its derivation matched all tokens without a fault.
-#![tactic(auto)]
-
-pub mod laws;

@@ -1,0 +1,45 @@
+-- The law on the grammar: what is spelled in brackets and braces, the derivation gives back.
+use Rattle.std.specs.Prelude.{◌≡◌, ℕ, List, [], ◌∷◌, map}
+use Rattle.tokens.specs.declared.lexemes.Lexeme.{Lexeme}
+use Rattle.tokens.specs.declared.lexemes.Token.{Token}
+use Rattle.grammar.specs.Compiled.{last_state, main_name}
+use Rattle.grammar.specs.Derivation.{Definition}
+use Rattle.grammar.specs.Scope.{Scope, no_names, begin_definition, end_definition}
+use Rattle.grammar.specs.Tree as tree
+use Rattle.grammar.specs.Tree.{Body}
+use Rattle.round_trip.specs.Written.{Expression, Statement}
+use Rattle.round_trip.specs.Spelling.{spell, spell_statement, closed, in_main}
+use Rattle.round_trip.specs.Resolving.{tree_of, behind, body_of, behind_statement}
+
+-- tokens, wherever they stand
+abbrev pub tokens_of : List Lexeme → List Token
+tokens_of lexemes = map (λ (l : Lexeme). l.token) lexemes
+
+-- the names known, but for the lines on which they were first mentioned
+abbrev pub without_lines : Scope → Scope
+without_lines scope = record scope { lines = [] }
+
+-- what is known where the body of main begins
+abbrev pub in_body : Scope
+in_body = begin_definition main_name 0 no_names
+
+-- the function main, of number 0, without parameters
+abbrev pub main_of : List (List ℕ) → Body → Definition
+main_of variables body = record { number = 0; function = record { name = main_name; parameters = 0; variables = variables; body = body } }
+
+-- The derivation ends with all tokens matched. Its one function is main, which has this body, and knows these names at its end.
+pub record DerivesMain (lexemes : List Lexeme) (body : Body) (learnt : Scope) : Type 0 where
+  pub nothing_open : (last_state lexemes).stack ≡ []
+  pub all_matched : (last_state lexemes).rest ≡ []
+  pub functions : (last_state lexemes).functions ≡ main_of learnt.current.variables body ∷ []
+  pub names : without_lines (last_state lexemes).scope ≡ without_lines (end_definition learnt)
+
+-- each statement
+abbrev pub GivesBackStatements : Type 0
+GivesBackStatements = (s : Statement) (lexemes : List Lexeme) → tokens_of lexemes ≡ in_main (spell_statement s) →
+    DerivesMain lexemes (body_of s in_body) (behind_statement s in_body)
+
+-- each expression, with ; behind it
+abbrev pub GivesBackExpressions : Type 0
+GivesBackExpressions = (e : Expression) (lexemes : List Lexeme) → tokens_of lexemes ≡ in_main (closed (spell e)) →
+    DerivesMain lexemes (tree.Alone (tree_of e in_body) tree.Done) (behind e in_body)

@@ -1,0 +1,87 @@
+-- The report of a match is the same in each series that contains it.
+use Rattle.std.proofs.Common.{◌≡◌, ℕ, ◌+◌, ◌-◌, ◌<◌, zero, suc, List, [], ◌∷◌, ◌++◌, length, map, Option, Some, None, Result, Ok, Err, refl, sym, ap, ◌∙◌, arith}
+use Rattle.std.specs.Prelude.{slice_get}
+use Rattle.std.specs.List.{fold, range_with_len}
+use Rattle.std.proofs.lemmas.List.FromFn.{length-map-range_with_len}
+use Rattle.grammar.specs.Compiled.{compiled}
+use Rattle.grammar.specs.declared.diagnostics.Diagnostic.{Diagnostic}
+use Rattle.grammar.specs.Profile.{Profile}
+use Rattle.grammar.specs.Tree.{File}
+use Rattle.settings.specs.declared.settings.Mode.TheVariants.{Matches}
+use Rattle.settings.specs.Setup.{Setup}
+use Rattle.series.specs.declared.endings.Status.TheVariants.{Done}
+use Rattle.series.specs.Compiling.{Source, and_file, code_or_fault, compiling, files_of, pieces_of, status_of}
+use Rattle.series.specs.Output.{output, played}
+use Rattle.series.specs.Pieces.{Piece}
+use Rattle.series.specs.Playing.{outcome_of, playing, report_text, reports, text_piece, totals_text}
+use Rattle.series.specs.SameReport.{Contains, report_in, SameReport, with_matches}
+use Rattle.series.specs.Texts.{file_name}
+
+-- a faulty file leaves none
+none_later : (profile : Profile) (sources : List Source)
+    → fold (λ files source. and_file files (compiled profile source.bytes)) None sources ≡ None
+none_later profile [] = refl
+none_later profile (s ∷ sources) = none_later profile sources
+
+-- if all files are good, compiling them for matches writes nothing
+nothing_listed : (profile : Profile) (sources : List Source) (so_far files : List File)
+    → fold (λ files source. and_file files (compiled profile source.bytes)) (Some so_far) sources ≡ Some files → compiling Matches profile sources ≡ []
+nothing_listed profile [] so_far files is = refl
+nothing_listed profile (source ∷ sources) so_far files is =
+    by_verdict (compiled profile source.bytes) is (λ file. nothing_listed profile sources (so_far ++ file ∷ []) files)
+  where
+    by_verdict : (verdict : Result File Diagnostic)
+        → fold (λ files source. and_file files (compiled profile source.bytes)) (and_file (Some so_far) verdict) sources ≡ Some files
+        → ((file : File) → fold (λ files source. and_file files (compiled profile source.bytes)) (Some (so_far ++ file ∷ [])) sources ≡ Some files
+        → compiling Matches profile sources ≡ [])
+        → pieces_of Matches (file_name source.word) (code_or_fault profile verdict) ++ compiling Matches profile sources ≡ []
+    by_verdict (Ok file) rest more = more file rest
+    by_verdict (Err d) rest more = let none = none_later profile sources in cc
+
+-- the files of a run that is done
+done_files : (files : Option (List File)) → status_of files ≡ Done → (good : List File) × (files ≡ Some good)
+done_files (Some files) done = (files, refl)
+done_files None done = cc
+
+-- an item of the front
+in_front : {A : Type 0} (xs ys : List A) (i : ℕ) → i < length xs → slice_get (xs ++ ys) i ≡ slice_get xs i
+in_front [] ys i below = absurd (omega arith)
+in_front (x ∷ xs) ys zero below = refl
+in_front (x ∷ xs) ys (suc i) below = in_front xs ys i (omega arith)
+
+-- the report at a place
+report_at : (f : ℕ → Piece) (a n i : ℕ) → i < n → slice_get (map f (range_with_len a n)) i ≡ Some (f (a + i))
+report_at f a zero i below = absurd (omega arith)
+report_at f a (suc n) zero below = ap (λ k. Some (f k)) (omega arith)
+report_at f a (suc n) (suc i) below =
+    report_at f (a + 1) n i (omega arith) ∙ ap (λ k. Some (f k)) (omega arith)
+
+-- the report of a match that the series contains
+report_is : (setup : Setup) (sources : List Source) (files : List File) (k : ℕ) → setup.mode ≡ Matches → files_of setup.profile sources ≡ Some files
+    → Contains setup k → report_in setup sources k ≡ Some (text_piece (report_text setup files k))
+unfolding playing
+report_is setup sources files k matches good contains =
+    let Report : ℕ → Piece = λ k. text_piece (report_text setup files k) in
+    let none : compiling setup.mode setup.profile sources ≡ [] = rw matches (nothing_listed setup.profile sources [] files good) in
+    let all : played setup setup.mode (files_of setup.profile sources) ≡ playing setup files = rw (matches, good) refl in
+    let whole : (output setup sources).pieces ≡ playing setup files =
+    ap (λ l. l ++ played setup setup.mode (files_of setup.profile sources)) none ∙ all in
+    let place : k - setup.first < setup.matches = omega (arith, contains.least, contains.most) in
+    let number : setup.first + (k - setup.first) ≡ k = omega (arith, contains.least) in
+    ap (λ l. slice_get l (k - setup.first)) whole
+    ∙ in_front (reports setup files setup.matches) (text_piece (totals_text setup files) ∷ []) (k - setup.first)
+    (omega (arith, length-map-range_with_len Report setup.first setup.matches))
+    ∙ report_at Report setup.first setup.matches (k - setup.first) place
+    ∙ ap (λ n. Some (Report n)) number
+
+-- whatever the other matches are
+same_text : (setup : Setup) (files : List File) (first matches k : ℕ) → report_text setup files k ≡ report_text (with_matches setup first matches) files k
+unfolding outcome_of
+same_text setup files first matches k = refl
+
+pub same_report : SameReport
+same_report setup sources first matches k is done here there =
+    let found = done_files (files_of setup.profile sources) done in
+    report_is setup sources found.0 k is found.1 here
+    ∙ ap (λ text. Some (text_piece text)) (same_text setup found.0 first matches k)
+    ∙ sym (report_is (with_matches setup first matches) sources found.0 k is found.1 there)

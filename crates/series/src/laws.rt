@@ -1,0 +1,8 @@
+//! Laws on the output of runs.
+
+ghost use Rattle.series.specs.SameReport.{SameReport};
+
+/// The report of a match is the same text in each series that contains it, whatever the series' first number and count.
+pub fn same_report()
+    ensures { SameReport }
+{}
