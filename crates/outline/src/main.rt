@@ -1,0 +1,56 @@
+//! An example of the library: prints the outline of a robot's source, by the parser alone. For each function it
+//! lists the parameters, the other variables, and how deep its statements are nested.
+#![tactic(auto)]
+
+mod depths;
+
+use crate::depths::Depths;
+use lang::{Diagnostic, Name, ParseFault, Profile, TreeMaker, parse};
+use std::io::ErrorKind;
+use std::{env, fs, io, str};
+use tokens::Pieces;
+
+fn main(rt: HostRuntime) -> io::Result<()> {
+    let Some(word) = env::args(&rt)?.nth(1) else {
+        return Err(ErrorKind::InvalidInput.into());
+    };
+    let source = fs::read(&rt, word.as_str())?;
+    outline(&rt, source.as_slice())
+}
+
+/// Prints the outline of a source, or its first fault.
+fn outline(rt: &HostRuntime, source: &[u8]) -> io::Result<()> {
+    let mut depths = Depths::around(TreeMaker::new(rt.alloc(), Profile::first()));
+    let pools = match parse(&mut Pieces::new(source, 4096), &mut depths) {
+        Ok(pools) => pools,
+        Err(ParseFault::Source(Diagnostic { line, code })) => {
+            return println!(rt; "line {line}: {}", code.text());
+        }
+        Err(_) => return Err(ErrorKind::OutOfMemory.into()),
+    };
+    print_names(rt, "externals", pools.externals())?;
+    for (number, function) in pools.functions().iter().enumerate() {
+        println!(rt; "function {}", text_of(function.name()))?;
+        let (parameters, others) = function
+            .variables()
+            .split_at(usize::from(function.parameters()));
+        print_names(rt, "  parameters", parameters)?;
+        print_names(rt, "  variables", others)?;
+        println!(rt; "  nesting {}", depths.deepest(number as u8))?;
+    }
+    Ok(())
+}
+
+/// Prints names on one line.
+fn print_names(rt: &HostRuntime, what: &str, names: &[Name]) -> io::Result<()> {
+    print!(rt; "{what}:")?;
+    for name in names {
+        print!(rt; " {}", text_of(name))?;
+    }
+    println!(rt; "")
+}
+
+/// Returns a name as text. Names are ASCII.
+fn text_of(name: &Name) -> &str {
+    str::from_utf8(name.as_bytes()).unwrap_or("?")
+}
