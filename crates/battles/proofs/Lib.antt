@@ -2,6 +2,8 @@ pub mod ProgramsLemmas
 pub mod Stages
 pub mod Cycles
 pub mod Limits
+pub mod Commuting
+pub mod Slots
 pub mod Beginnings
 pub mod TestFiles
 pub mod KnownBattles
