@@ -1,7 +1,7 @@
 -- Between updates, a turn that doesn't change the field commutes with the turns of the other robots.
 use Rattle.std.proofs.Common.{◌≡◌, ◌≢◌, ℕ, ◌+◌, zero, suc, Bool, true, false, ℤ, List, [], ◌∷◌, ◌++◌, map, take, drop, length, set, get_or, inl, inr, refl, sym, ap, ◌∙◌, arith}
 use Rattle.std.specs.Prelude.{filter, flat_map, nat_lt, nat_le, if◌then◌else◌, pos}
-use Rattle.std.proofs.lemmas.Bool.{cases_Bool}
+use Rattle.std.proofs.lemmas.Bool.{cases_Bool, false≢true}
 use Rattle.std.proofs.lemmas.List.{get_or-set_other, take-map, drop-map, map-append}
 use Rattle.grammar.specs.declared.names.Intrinsic.{Intrinsic}
 use Rattle.grammar.specs.declared.names.Intrinsic.TheVariants.{Scan, Cannon, Drive, Damage, Speed, LocX, LocY, Rand, Sqrt, Sin, Cos, Tan, Atan}
@@ -15,7 +15,7 @@ use Rattle.arena.specs.Scan.{apart, east_to, north_to, in_arc, sees, range_of, n
 use Rattle.code.specs.declared.want.Want.{Want}
 use Rattle.code.specs.declared.want.Want.TheVariants.{Quiet, Ask, Restart}
 use Rattle.battles.specs.Battle.{Robot, Stage, granted, step, robot_of, turn}
-use Rattle.battles.specs.Windows.{IsAlone}
+use Rattle.battles.specs.Windows.{IsAlone, changes_field}
 
 robots_of_fired : (f : Field) (i degree range : ℕ) → (fired f i degree range).1.robots ≡ f.robots
 unfolding fired
@@ -81,20 +81,20 @@ scans_same f i j _ a degree resolution distinct = refl
 
 -- What a robot does alone leaves the field as it is,
 alone_field : (want : Want) (i : ℕ) (f : Field) (trace : List ℤ) → IsAlone want → (granted want i f trace).0 ≡ f
-unfolding granted answer
-alone_field (Ask Cannon a) i f trace is = absurd is
-alone_field (Ask Drive a) i f trace is = absurd is
-alone_field (Ask Rand a) i f trace is = absurd is
+unfolding granted answer changes_field
+alone_field (Ask Cannon a) i f trace is = absurd (false≢true (sym is))
+alone_field (Ask Drive a) i f trace is = absurd (false≢true (sym is))
+alone_field (Ask Rand a) i f trace is = absurd (false≢true (sym is))
 alone_field (Ask _ a) i f trace is = refl
 alone_field _ i f trace is = refl
 
 -- and doesn't depend on what others do.
 reply_same : (intrinsic other : Intrinsic) (a b : List ℤ) (i j : ℕ) (f : Field) → IsAlone (Ask intrinsic a) → i ≢ j
     → (answer (answer f j other b).1 i intrinsic a).0 ≡ (answer f i intrinsic a).0
-unfolding answer
-reply_same Cannon other a b i j f is distinct = absurd is
-reply_same Drive other a b i j f is distinct = absurd is
-reply_same Rand other a b i j f is distinct = absurd is
+unfolding answer changes_field
+reply_same Cannon other a b i j f is distinct = absurd (false≢true (sym is))
+reply_same Drive other a b i j f is distinct = absurd (false≢true (sym is))
+reply_same Rand other a b i j f is distinct = absurd (false≢true (sym is))
 reply_same Scan other a b i j f is distinct = ap pos (scans_same f i j other b (degree_of (argument a 0)) (brought 10 (argument a 1)) distinct)
 reply_same Damage other a b i j f is distinct = ap (λ r. pos (damage_of r)) (others_stay f i j other b distinct)
 reply_same Speed other a b i j f is distinct = ap (λ (r : Body). pos r.leg.speed) (others_stay f i j other b distinct)
@@ -175,10 +175,10 @@ set_swap (z ∷ l) zero (suc j) x y distinct = refl
 set_swap (z ∷ l) (suc i) zero x y distinct = refl
 set_swap (z ∷ l) (suc i) (suc j) x y distinct = ap (λ rest. z ∷ rest) (set_swap l i j x y (λ same. distinct (ap suc same)))
 
-stage_of : Field → List (List ℤ) → Stage
+pub stage_of : Field → List (List ℤ) → Stage
 stage_of field traces = record { field = field; traces = traces }
 
-turn_alone : (robots : List Robot) (i : ℕ) (s : Stage) → TurnsAlone robots i s
+pub turn_alone : (robots : List Robot) (i : ℕ) (s : Stage) → TurnsAlone robots i s
     → turn robots i s ≡ stage_of s.field (set s.traces i (step (robot_of robots i) i s.field (get_or s.traces i [])).1)
 unfolding turn stage_of TurnsAlone
 turn_alone robots i s alone =
