@@ -165,7 +165,7 @@ step_trace robot other i j f trace others steps distinct =
     ]
 
 -- The same of whole stages: the next turn of a robot is one that it does alone.
-pub TurnsAlone : List Robot → ℕ → Stage → Type 0
+unfoldable pub TurnsAlone : List Robot → ℕ → Stage → Type 0
 TurnsAlone robots i s = StepsAlone (robot_of robots i) i s.field (get_or s.traces i [])
 
 set_swap : {A : Type 0} (l : List A) (i j : ℕ) (x y : A) → i ≢ j → set (set l i x) j y ≡ set (set l j y) i x
@@ -175,7 +175,7 @@ set_swap (z ∷ l) zero (suc j) x y distinct = refl
 set_swap (z ∷ l) (suc i) zero x y distinct = refl
 set_swap (z ∷ l) (suc i) (suc j) x y distinct = ap (λ rest. z ∷ rest) (set_swap l i j x y (λ same. distinct (ap suc same)))
 
-pub stage_of : Field → List (List ℤ) → Stage
+unfoldable pub stage_of : Field → List (List ℤ) → Stage
 stage_of field traces = record { field = field; traces = traces }
 
 pub turn_alone : (robots : List Robot) (i : ℕ) (s : Stage) → TurnsAlone robots i s

@@ -4,6 +4,7 @@ pub mod Cycles
 pub mod Limits
 pub mod Commuting
 pub mod Slots
+pub mod Windows
 pub mod Beginnings
 pub mod TestFiles
 pub mod KnownBattles

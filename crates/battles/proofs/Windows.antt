@@ -1,0 +1,114 @@
+-- How far the robots of a window have come.
+use Rattle.std.proofs.Common.{◌≡◌, ◌≢◌, ℕ, ◌+◌, ◌*◌, ◌%◌, ◌<◌, ◌≤◌, zero, suc, Bool, true, false, ℤ, List, [], ◌∷◌, length, set, get_or, Some, ◌⊎◌, inl, inr, refl, sym, ap, ◌∙◌, arith, add-one}
+use Rattle.std.specs.Prelude.{slice_get}
+use Rattle.std.proofs.lemmas.List.{get_or-set_same, get_or-set_other, set-set, set-get_or, length-set}
+use Rattle.arena.specs.Field.{Field, is_live}
+use Rattle.arena.specs.Ground.{Ground}
+use Rattle.arena.specs.Standing.{StandsFor as IsGroundOf}
+use Rattle.code.specs.declared.want.Want.TheVariants.{Quiet}
+use Rattle.code.specs.Generation.{Code}
+use Rattle.code.specs.Machine.{State}
+use Rattle.code.specs.Standing.{StandsFor}
+use Rattle.battles.specs.Battle.{Robot, Stage, step, turn, robot_of}
+use Rattle.battles.specs.Carrying.{AreRobotsOf, EachStandsFor, HasReached, IsRobotOf}
+use Rattle.battles.specs.Windows.{AreSlots, alone, RunsAlone, GoesOn, rounds}
+use Rattle.battles.proofs.Commuting.{TurnsAlone, stage_of, turn_alone}
+use Rattle.battles.proofs.Slots.{rest, is_left, slots_set, next_taken}
+use Rattle.battles.proofs.Stages.{robot_at, stands_at, stands_set}
+
+-- a robot has run alone for so many cycles
+unfoldable pub ran : List Robot → ℕ → Stage → ℕ → Stage
+ran robots i s n = stage_of s.field (set s.traces i (alone (robot_of robots i) i s.field (get_or s.traces i []) n))
+
+ran_none : (robots : List Robot) (i : ℕ) (s : Stage) → ran robots i s 0 ≡ s
+unfolding ran alone stage_of
+ran_none robots i s = ap (stage_of s.field) (set-get_or s.traces i [])
+
+ran_more : (robots : List Robot) (i : ℕ) (s : Stage) (n : ℕ) → i < length s.traces → TurnsAlone robots i (ran robots i s n)
+    → turn robots i (ran robots i s n) ≡ ran robots i s (suc n)
+unfolding ran alone stage_of
+ran_more robots i s n inside turns =
+    let robot = robot_of robots i in
+    let trace = alone robot i s.field (get_or s.traces i []) n in
+    turn_alone robots i (stage_of s.field (set s.traces i trace)) turns
+    ∙ ap (λ t. stage_of s.field (set (set s.traces i trace) i (step robot i s.field t).1)) (get_or-set_same s.traces i trace [] inside)
+    ∙ ap (stage_of s.field) (set-set s.traces i trace (step robot i s.field trace).1)
+
+ran_alone : (robots : List Robot) (i : ℕ) (s : Stage) (n k : ℕ) → i < length s.traces
+    → RunsAlone (robot_of robots i) i s.field (get_or s.traces i []) n → k < n → TurnsAlone robots i (ran robots i s k)
+unfolding ran stage_of TurnsAlone
+ran_alone robots i s n k inside runs within = λ live.
+    let robot = robot_of robots i in
+    rw (get_or-set_same s.traces i (alone robot i s.field (get_or s.traces i []) k) [] inside) (runs k within live)
+
+-- its turns are no longer left
+pub run_taken : (robots : List Robot) (next : List ℕ) (i end n : ℕ) (s : Stage) → AreSlots next → i < 4 → i < length s.traces
+    → get_or next i 0 + 4 * n < end + 4 → RunsAlone (robot_of robots i) i s.field (get_or s.traces i []) n
+    → rest robots (is_left next) 0 end s ≡ rest robots (is_left (set next i (get_or next i 0 + 4 * n))) 0 end (ran robots i s n)
+run_taken robots next i end zero s are small inside within runs =
+    let same : get_or next i 0 + 4 * 0 ≡ get_or next i 0 = omega arith in
+    rw (ran_none robots i s, same, set-get_or next i 0) refl
+run_taken robots next i end (suc n) s are small inside within runs =
+    let four = are.four in
+    let d = get_or next i 0 in
+    let before = set next i (d + 4 * n) in
+    let slot : get_or before i 0 ≡ d + 4 * n = get_or-set_same next i (d + 4 * n) 0 (omega arith) in
+    let turns = ran_alone robots i s (suc n) n inside runs (omega arith) in
+    let later : set before i (get_or before i 0 + 4) ≡ set next i (d + 4 * suc n) =
+        ap (λ k. set before i (k + 4)) slot ∙ set-set next i (d + 4 * n) (d + 4 * n + 4) ∙ ap (set next i) (omega arith) in
+    run_taken robots next i end n s are small inside (omega arith) (λ k low. runs k (omega arith))
+    ∙ next_taken robots before i end (ran robots i s n) (slots_set next i n are small) small (omega (arith, slot)) (inl turns)
+    ∙ ap (λ slots. rest robots (is_left slots) 0 end (turn robots i (ran robots i s n))) later
+    ∙ ap (rest robots (is_left (set next i (d + 4 * suc n))) 0 end) (ran_more robots i s n inside turns)
+
+-- The machines and the arena are at a stage from which the turns that are left lead to the end of the window.
+pub record HasCome (robots : List Robot) (codes : List Code) (next : List ℕ) (w : ℕ) (machines : List State) (arena : Ground) (opened : Stage) : Type 0 where
+  pub stage : Stage
+  pub reached : HasReached machines codes arena stage
+  pub ends : rest robots (is_left next) 0 (4 * w) stage ≡ rounds robots w opened
+
+-- What a robot makes of its machine and of the arena when it goes on, whatever its trace and the field are.
+pub record HasGoneOn (i : ℕ) (code : Code) (n : ℕ) (machine after : State) (arena grown : Ground) : Type 0 where
+  pub on : (r : Robot) (f : Field) (trace : List ℤ) → IsRobotOf code r → IsGroundOf arena f → StandsFor machine code trace
+      → (field : Field) × (longer : List ℤ) × GoesOn r i f trace n field longer × IsGroundOf grown field × StandsFor after code longer
+
+traces_length : (machines : List State) (codes : List Code) (traces : List (List ℤ)) → EachStandsFor machines codes traces → length traces ≡ length codes
+traces_length [] [] [] stands = refl
+traces_length (machine ∷ machines) (code ∷ codes) (trace ∷ traces) stands = ap suc (traces_length machines codes traces stands.1)
+traces_length _ _ _ stands = absurd stands
+
+pub come_on : (robots : List Robot) (codes : List Code) (next : List ℕ) (w n i : ℕ) (machines : List State) (arena grown : Ground) (opened : Stage)
+    (code : Code) (none after : State)
+    → AreRobotsOf codes robots → AreSlots next → i < 4 → i < length codes → get_or next i 0 + 4 * n < 4 * w + 4 → 0 < n
+    → ((j : ℕ) → j < 4 → get_or next i 0 ≤ get_or next j 0)
+    → HasCome robots codes next w machines arena opened → slice_get codes i ≡ Some code
+    → HasGoneOn i code n (get_or machines i none) after arena grown
+    → HasCome robots codes (set next i (get_or next i 0 + 4 * n)) w (set machines i after) grown opened
+unfolding turn robot_of ran stage_of
+come_on robots codes next w n i machines arena grown opened code none after are slots small inside within some first come here gone =
+    let s = come.stage in
+    let robot = robot_at codes robots i code (λ trace. Quiet) are here in
+    let stands = stands_at machines codes s.traces i code none come.reached.traces here in
+    let lengths = traces_length machines codes s.traces come.reached.traces in
+    let on = gone.on (robot_of robots i) s.field (get_or s.traces i []) robot come.reached.field stands in
+    elim on.2 as (λ on. HasCome robots codes (set next i (get_or next i 0 + 4 * n)) w (set machines i after) grown opened) [
+      | inl alone ↦ record {
+        stage = ran robots i s n;
+        reached = record {
+          field = rw alone.1 at on.3;
+          traces = stands_set machines codes s.traces i after code _ come.reached.traces here (rw alone.2 at on.4);
+        };
+        ends = sym (run_taken robots next i (4 * w) n s slots small (omega (arith, lengths, inside)) within alone.0) ∙ come.ends;
+      }
+      | inr one ↦
+          let once : get_or next i 0 + 4 ≡ get_or next i 0 + 4 * n = omega (arith, one.0) in
+          record {
+            stage = turn robots i s;
+            reached = record {
+              field = rw one.1 at on.3;
+              traces = stands_set machines codes s.traces i after code _ come.reached.traces here (rw one.2 at on.4);
+            };
+            ends = ap (λ d. rest robots (is_left (set next i d)) 0 (4 * w) (turn robots i s)) (sym once)
+                ∙ sym (next_taken robots next i (4 * w) s slots small (omega (arith, within, some)) (inr first)) ∙ come.ends;
+          }
+    ]
