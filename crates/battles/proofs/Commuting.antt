@@ -15,7 +15,7 @@ use Rattle.arena.specs.Scan.{apart, east_to, north_to, in_arc, sees, range_of, n
 use Rattle.code.specs.declared.want.Want.{Want}
 use Rattle.code.specs.declared.want.Want.TheVariants.{Quiet, Ask, Restart}
 use Rattle.battles.specs.Battle.{Robot, Stage, granted, step, robot_of, turn}
-use Rattle.battles.specs.Windows.{IsAlone, changes_field}
+use Rattle.battles.specs.Windows.{IsAlone, StepsAlone, changes_field}
 
 robots_of_fired : (f : Field) (i degree range : ℕ) → (fired f i degree range).1.robots ≡ f.robots
 unfolding fired
@@ -115,10 +115,6 @@ granted_stays : (want : Want) (i j : ℕ) (f : Field) (trace : List ℤ) → i �
 unfolding granted
 granted_stays (Ask intrinsic a) i j f trace distinct = others_stay f i j intrinsic a distinct
 granted_stays _ i j f trace distinct = refl
-
--- the next step of a robot is one that it does alone, or the robot is dead
-abbrev pub StepsAlone : Robot → ℕ → Field → List ℤ → Type 0
-StepsAlone robot i f trace = is_live f i ≡ true → IsAlone (robot trace)
 
 step_stays : (robot : Robot) (i j : ℕ) (f : Field) (trace : List ℤ) → i ≢ j
     → robot_at (step robot j f trace).0 i ≡ robot_at f i

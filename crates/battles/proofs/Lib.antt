@@ -3,8 +3,10 @@ pub mod Stages
 pub mod Cycles
 pub mod Limits
 pub mod Commuting
-pub mod Slots
-pub mod Windows
+pub mod Turns
+pub mod Ahead
+pub mod Spans
+pub mod Alone
 pub mod Beginnings
 pub mod TestFiles
 pub mod KnownBattles

@@ -1,5 +1,5 @@
 -- How far the robots of a window have come.
-use Rattle.std.proofs.Common.{◌≡◌, ◌≢◌, ℕ, ◌+◌, ◌*◌, ◌%◌, ◌<◌, ◌≤◌, zero, suc, Bool, true, false, ℤ, List, [], ◌∷◌, length, set, get_or, Some, ◌⊎◌, inl, inr, refl, sym, ap, ◌∙◌, arith, add-one}
+use Rattle.std.proofs.Common.{◌≡◌, ◌≢◌, ℕ, ◌+◌, ◌*◌, ◌-◌, ◌%◌, ◌<◌, ◌≤◌, zero, suc, Bool, true, false, ℤ, List, [], ◌∷◌, length, set, get_or, Some, ◌⊎◌, inl, inr, refl, sym, ap, ◌∙◌, arith, add-one}
 use Rattle.std.specs.Prelude.{slice_get}
 use Rattle.std.proofs.lemmas.List.{get_or-set_same, get_or-set_other, set-set, set-get_or, length-set}
 use Rattle.arena.specs.Field.{Field, is_live}
@@ -13,8 +13,8 @@ use Rattle.battles.specs.Battle.{Robot, Stage, step, turn, robot_of}
 use Rattle.battles.specs.Carrying.{AreRobotsOf, EachStandsFor, HasReached, IsRobotOf}
 use Rattle.battles.specs.Windows.{AreSlots, alone, RunsAlone, GoesOn, rounds}
 use Rattle.battles.proofs.Commuting.{TurnsAlone, stage_of, turn_alone}
-use Rattle.battles.proofs.Slots.{rest, is_left, slots_set, next_taken}
-use Rattle.battles.proofs.Stages.{robot_at, stands_at, stands_set}
+use Rattle.battles.proofs.Turns.{rest, rest_all, rest_none, is_left, left_not, slots_set, next_taken}
+use Rattle.battles.proofs.Stages.{robot_at, robots_length, stands_at, stands_set}
 
 -- a robot has run alone for so many cycles
 unfoldable pub ran : List Robot → ℕ → Stage → ℕ → Stage
@@ -112,3 +112,39 @@ come_on robots codes next w n i machines arena grown opened code none after are 
                 ∙ sym (next_taken robots next i (4 * w) s slots small (omega (arith, within, some)) (inr first)) ∙ come.ends;
           }
     ]
+
+-- how many slots the robots have left
+pub left_until : ℕ → List ℕ → ℕ
+left_until end next = (end - get_or next 0 0) + (end - get_or next 1 0) + (end - get_or next 2 0) + (end - get_or next 3 0)
+
+pub left_less : (end : ℕ) (next : List ℕ) (i n : ℕ) → length next ≡ 4 → i < 4 → get_or next i 0 < end → 0 < n
+    → left_until end (set next i (get_or next i 0 + 4 * n)) < left_until end next
+unfolding left_until
+left_less end (a ∷ b ∷ c ∷ d ∷ []) zero n four small within some = omega arith
+left_less end (a ∷ b ∷ c ∷ d ∷ []) (suc zero) n four small within some = omega arith
+left_less end (a ∷ b ∷ c ∷ d ∷ []) (suc (suc zero)) n four small within some = omega arith
+left_less end (a ∷ b ∷ c ∷ d ∷ []) (suc (suc (suc zero))) n four small within some = omega arith
+left_less end (a ∷ b ∷ c ∷ d ∷ []) (suc (suc (suc (suc i)))) n four small within some = absurd (omega arith)
+left_less end (a ∷ b ∷ c ∷ d ∷ e ∷ next) i n four small within some = absurd (omega arith)
+left_less end (a ∷ b ∷ c ∷ []) i n four small within some = absurd (omega arith)
+left_less end (a ∷ b ∷ []) i n four small within some = absurd (omega arith)
+left_less end (a ∷ []) i n four small within some = absurd (omega arith)
+left_less end [] i n four small within some = absurd (omega arith)
+
+-- the window begins
+pub opens : (robots : List Robot) (codes : List Code) (next : List ℕ) (w : ℕ) (machines : List State) (arena : Ground) (s : Stage)
+    → AreRobotsOf codes robots → AreSlots next → length codes ≤ 4
+    → ((i : ℕ) → i < length codes → i < 4 → get_or next i 0 ≡ i) → ((i : ℕ) → length codes ≤ i → i < 4 → 4 * w ≤ get_or next i 0)
+    → HasReached machines codes arena s → HasCome robots codes next w machines arena s
+opens robots codes next w machines arena s are slots most first past reached =
+    let all = robots_length codes robots are in
+    record { stage = s; reached = reached; ends = rest_all robots next (length codes) w s slots (sym all) most (λ i low. first i low (omega arith)) past }
+
+-- and ends
+pub closes : (robots : List Robot) (codes : List Code) (next : List ℕ) (w : ℕ) (machines : List State) (arena : Ground) (s : Stage)
+    → ((i : ℕ) → i < 4 → 4 * w ≤ get_or next i 0)
+    → HasCome robots codes next w machines arena s → HasReached machines codes arena (rounds robots w s)
+closes robots codes next w machines arena s past come =
+    let done : rest robots (is_left next) 0 (4 * w) come.stage ≡ come.stage =
+        rest_none robots (is_left next) 0 (4 * w) come.stage (λ t from to. left_not next t (omega (arith, past (t % 4) (omega arith), to))) in
+    rw (sym come.ends, done) come.reached

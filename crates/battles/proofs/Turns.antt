@@ -82,6 +82,10 @@ le_no a b later = grind (arith, nat_tests)
 le_yes : (a b : ℕ) → a ≤ b → nat_le a b ≡ true
 le_yes a b past = grind (arith, nat_tests)
 
+pub left_not : (next : List ℕ) (t : ℕ) → t < get_or next (t % 4) 0 → is_left next t ≡ false
+unfolding is_left
+left_not next t later = le_no (get_or next (t % 4) 0) t later
+
 le_four : (d k : ℕ) → k % 4 ≡ d % 4 → k ≢ d → nat_le d k ≡ nat_le (d + 4) k
 le_four d k own other = elim (cases_lt k d) [
   | inl before ↦ le_no d k before ∙ sym (le_no (d + 4) k (omega arith))
@@ -192,3 +196,30 @@ rest_all robots next n w s are all most first past =
       | inr outside ↦ le_no (get_or next (t % 4) 0) t (omega (arith, past (t % 4) outside (omega arith))) ∙ sym (grind (arith, nat_tests))
     ])
     ∙ rw all (rows robots 0 w s (omega arith) (omega (arith, all, most)))
+
+-- the four slots before a window
+pub four_slots : (a b c d : ℕ) → a % 4 ≡ 0 → b % 4 ≡ 1 → c % 4 ≡ 2 → d % 4 ≡ 3 → AreSlots (a ∷ b ∷ c ∷ d ∷ [])
+four_slots a b c d first second third fourth = record { four = omega arith; own = each }
+  where
+    each : (i : ℕ) → i < 4 → get_or (a ∷ b ∷ c ∷ d ∷ []) i 0 % 4 ≡ i
+    each zero small = first
+    each (suc zero) small = second
+    each (suc (suc zero)) small = third
+    each (suc (suc (suc zero))) small = fourth
+    each (suc (suc (suc (suc i)))) small = absurd (omega arith)
+
+pub four_first : (a b c d n : ℕ) → (0 < n → a ≡ 0) → (1 < n → b ≡ 1) → (2 < n → c ≡ 2) → (3 < n → d ≡ 3)
+    → (i : ℕ) → i < n → i < 4 → get_or (a ∷ b ∷ c ∷ d ∷ []) i 0 ≡ i
+four_first a b c d n first second third fourth zero low small = first low
+four_first a b c d n first second third fourth (suc zero) low small = second low
+four_first a b c d n first second third fourth (suc (suc zero)) low small = third low
+four_first a b c d n first second third fourth (suc (suc (suc zero))) low small = fourth low
+four_first a b c d n first second third fourth (suc (suc (suc (suc i)))) low small = absurd (omega arith)
+
+pub four_past : (a b c d n end : ℕ) → (n ≤ 0 → end ≤ a) → (n ≤ 1 → end ≤ b) → (n ≤ 2 → end ≤ c) → (n ≤ 3 → end ≤ d)
+    → (i : ℕ) → n ≤ i → i < 4 → end ≤ get_or (a ∷ b ∷ c ∷ d ∷ []) i 0
+four_past a b c d n end first second third fourth zero high small = first high
+four_past a b c d n end first second third fourth (suc zero) high small = second high
+four_past a b c d n end first second third fourth (suc (suc zero)) high small = third high
+four_past a b c d n end first second third fourth (suc (suc (suc zero))) high small = fourth high
+four_past a b c d n end first second third fourth (suc (suc (suc (suc i)))) high small = absurd (omega arith)
