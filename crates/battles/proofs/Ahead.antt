@@ -2,6 +2,7 @@
 use Rattle.std.proofs.Common.{◌≡◌, ◌≢◌, ℕ, ◌+◌, ◌*◌, ◌-◌, ◌%◌, ◌<◌, ◌≤◌, zero, suc, Bool, true, false, ℤ, List, [], ◌∷◌, length, set, get_or, Some, ◌⊎◌, inl, inr, refl, sym, ap, ◌∙◌, arith, add-one}
 use Rattle.std.specs.Prelude.{slice_get}
 use Rattle.std.proofs.lemmas.List.{get_or-set_same, get_or-set_other, set-set, set-get_or, length-set}
+use Rattle.std.proofs.lemmas.Bool.{cases_lt}
 use Rattle.arena.specs.Field.{Field, is_live}
 use Rattle.arena.specs.Ground.{Ground}
 use Rattle.arena.specs.Standing.{StandsFor as IsGroundOf}
@@ -148,3 +149,17 @@ closes robots codes next w machines arena s past come =
     let done : rest robots (is_left next) 0 (4 * w) come.stage ≡ come.stage =
         rest_none robots (is_left next) 0 (4 * w) come.stage (λ t from to. left_not next t (omega (arith, past (t % 4) (omega arith), to))) in
     rw (sym come.ends, done) come.reached
+
+-- the slot that is next is that of a robot
+pub is_robot : (next : List ℕ) (slot end n : ℕ) → get_or next (slot % 4) 0 ≡ slot → slot < end
+    → ((i : ℕ) → n ≤ i → i < 4 → end ≤ get_or next i 0) → slot % 4 < n
+is_robot next slot end n own within past = elim (cases_lt (slot % 4) n) [
+  | inl inside ↦ inside
+  | inr outside ↦ absurd (omega (arith, own, within, past (slot % 4) outside (omega arith)))
+]
+
+pub past_set : (next : List ℕ) (r x end n : ℕ) → r < n → ((i : ℕ) → n ≤ i → i < 4 → end ≤ get_or next i 0)
+    → (i : ℕ) → n ≤ i → i < 4 → end ≤ get_or (set next r x) i 0
+past_set next r x end n inside past i high small =
+    let other : i ≢ r = omega arith in
+    rw (get_or-set_other next r i x 0 other) (past i high small)

@@ -5,9 +5,6 @@ use Rattle.std.proofs.lemmas.List.{replicate_more, append-nil}
 use Rattle.arena.specs.Field.{Field, is_live}
 use Rattle.code.specs.declared.want.Want.{Want}
 use Rattle.code.specs.declared.want.Want.TheVariants.{Quiet, Ask, Restart}
-use Rattle.arena.specs.Answer.{answer}
-use Rattle.grammar.specs.declared.names.Intrinsic.{Intrinsic}
-use Rattle.grammar.specs.declared.names.Intrinsic.TheVariants.{Cannon, Drive, Rand}
 use Rattle.grammar.specs.Profile.{Profile}
 use Rattle.grammar.specs.Resolved.{IsResolved}
 use Rattle.grammar.specs.Tree.{File}
@@ -17,7 +14,7 @@ use Rattle.code.specs.Meaning.{want}
 use Rattle.code.specs.Standing.{StandsFor}
 use Rattle.battles.specs.Carrying.{IsRobotOf}
 use Rattle.battles.specs.Battle.{Robot, granted, step}
-use Rattle.battles.specs.Windows.{changes_field, IsAlone, StepsAlone, RunsAlone, alone}
+use Rattle.battles.specs.Windows.{IsAlone, StepsAlone, RunsAlone, alone}
 
 -- no step yet, and one more
 pub alone_none : (r : Robot) (i : ℕ) (f : Field) (trace : List ℤ) → alone r i f trace 0 ≡ trace
@@ -113,20 +110,5 @@ coasted r i f trace n k code machine after is live runs stands source grows =
     (runs_plus r i f trace n k runs (quiet_runs r i f (alone r i f trace n) k live quiet),
     rw (alone_quiet r i f trace n k live quiet) (grows (alone r i f trace n) stands))
 
--- a live robot asks what doesn't change the field
-pub ask_alone : (r : Robot) (trace : List ℤ) (intrinsic : Intrinsic) (a : List ℤ) → r trace ≡ Ask intrinsic a
-    → changes_field intrinsic ≡ false → IsAlone (r trace)
-ask_alone r trace intrinsic a asks same = rw asks same
-
-pub answer_field : (f : Field) (i : ℕ) (intrinsic : Intrinsic) (a : List ℤ) → changes_field intrinsic ≡ false
-    → (answer f i intrinsic a).1 ≡ f
-unfolding answer changes_field
-answer_field f i Cannon a same = absurd (false≢true (sym same))
-answer_field f i Drive a same = absurd (false≢true (sym same))
-answer_field f i Rand a same = absurd (false≢true (sym same))
-answer_field f i _ a same = refl
-
-pub ask_step : (r : Robot) (i : ℕ) (f : Field) (trace : List ℤ) (intrinsic : Intrinsic) (a : List ℤ) → is_live f i ≡ true
-    → r trace ≡ Ask intrinsic a → (step r i f trace).1 ≡ trace ++ (answer f i intrinsic a).0 ∷ []
-unfolding step granted
-ask_step r i f trace intrinsic a live asks = rw (live, asks) refl
+pub want_alone : (want other : Want) → want ≡ other → IsAlone other → IsAlone want
+want_alone want other same is = rw same is
