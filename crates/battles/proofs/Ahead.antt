@@ -1,9 +1,9 @@
 -- How far the robots of a window have come.
-use Rattle.std.proofs.Common.{◌≡◌, ◌≢◌, ℕ, ◌+◌, ◌*◌, ◌-◌, ◌%◌, ◌<◌, ◌≤◌, zero, suc, Bool, true, false, ℤ, List, [], ◌∷◌, length, set, get_or, Some, ◌⊎◌, inl, inr, refl, sym, ap, ◌∙◌, arith, add-one}
+use Rattle.std.proofs.Common.{◌≡◌, ◌≢◌, ℕ, ◌+◌, ◌*◌, ◌-◌, ◌%◌, ◌<◌, ◌≤◌, zero, suc, ℤ, List, [], ◌∷◌, length, set, get_or, Some, inl, inr, refl, sym, ap, ◌∙◌, arith}
 use Rattle.std.specs.Prelude.{slice_get}
-use Rattle.std.proofs.lemmas.List.{get_or-set_same, get_or-set_other, set-set, set-get_or, length-set}
+use Rattle.std.proofs.lemmas.List.{get_or-set_same, get_or-set_other, set-set, set-get_or}
 use Rattle.std.proofs.lemmas.Bool.{cases_lt}
-use Rattle.arena.specs.Field.{Field, is_live}
+use Rattle.arena.specs.Field.{Field}
 use Rattle.arena.specs.Ground.{Ground}
 use Rattle.arena.specs.Standing.{StandsFor as IsGroundOf}
 use Rattle.code.specs.declared.want.Want.TheVariants.{Quiet}
@@ -56,7 +56,7 @@ run_taken robots next i end (suc n) s are small inside within runs =
     let slot : get_or before i 0 ≡ d + 4 * n = get_or-set_same next i (d + 4 * n) 0 (omega arith) in
     let turns = ran_alone robots i s (suc n) n inside runs (omega arith) in
     let later : set before i (get_or before i 0 + 4) ≡ set next i (d + 4 * suc n) =
-        ap (λ k. set before i (k + 4)) slot ∙ set-set next i (d + 4 * n) (d + 4 * n + 4) ∙ ap (set next i) (omega arith) in
+    ap (λ k. set before i (k + 4)) slot ∙ set-set next i (d + 4 * n) (d + 4 * n + 4) ∙ ap (set next i) (omega arith) in
     run_taken robots next i end n s are small inside (omega arith) (λ k low. runs k (omega arith))
     ∙ next_taken robots before i end (ran robots i s n) (slots_set next i n are small) small (omega (arith, slot)) (inl turns)
     ∙ ap (λ slots. rest robots (is_left slots) 0 end (turn robots i (ran robots i s n))) later
@@ -147,7 +147,7 @@ pub closes : (robots : List Robot) (codes : List Code) (next : List ℕ) (w : �
     → HasCome robots codes next w machines arena s → HasReached machines codes arena (rounds robots w s)
 closes robots codes next w machines arena s past come =
     let done : rest robots (is_left next) 0 (4 * w) come.stage ≡ come.stage =
-        rest_none robots (is_left next) 0 (4 * w) come.stage (λ t from to. left_not next t (omega (arith, past (t % 4) (omega arith), to))) in
+    rest_none robots (is_left next) 0 (4 * w) come.stage (λ t from to. left_not next t (omega (arith, past (t % 4) (omega arith), to))) in
     rw (sym come.ends, done) come.reached
 
 -- the slot that is next is that of a robot

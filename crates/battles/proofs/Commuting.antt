@@ -1,19 +1,19 @@
 -- Between updates, a turn that doesn't change the field commutes with the turns of the other robots.
-use Rattle.std.proofs.Common.{◌≡◌, ◌≢◌, ℕ, ◌+◌, zero, suc, Bool, true, false, ℤ, List, [], ◌∷◌, ◌++◌, map, take, drop, length, set, get_or, inl, inr, refl, sym, ap, ◌∙◌, arith}
-use Rattle.std.specs.Prelude.{filter, flat_map, nat_lt, nat_le, if◌then◌else◌, pos}
+use Rattle.std.proofs.Common.{◌≡◌, ◌≢◌, ℕ, ◌+◌, zero, suc, Bool, true, false, ℤ, List, [], ◌∷◌, ◌++◌, map, take, drop, length, set, get_or, inl, inr, refl, sym, ap, ◌∙◌}
+use Rattle.std.specs.Prelude.{filter, flat_map, nat_lt, if◌then◌else◌, pos}
 use Rattle.std.proofs.lemmas.Bool.{cases_Bool, false≢true}
 use Rattle.std.proofs.lemmas.List.{get_or-set_other, take-map, drop-map, map-append}
 use Rattle.grammar.specs.declared.names.Intrinsic.{Intrinsic}
-use Rattle.grammar.specs.declared.names.Intrinsic.TheVariants.{Scan, Cannon, Drive, Damage, Speed, LocX, LocY, Rand, Sqrt, Sin, Cos, Tan, Atan}
+use Rattle.grammar.specs.declared.names.Intrinsic.TheVariants.{Scan, Cannon, Drive, Damage, Speed, LocX, LocY, Rand}
 use Rattle.arena.specs.Answer.{answer, argument, fired, directed, wanting}
 use Rattle.arena.specs.Collisions.{others}
 use Rattle.arena.specs.Field.{Field, Robot as Body, no_robot, robot_at, is_live, is_alive, damage_of, metres_x, metres_y}
-use Rattle.arena.specs.Leg.{brought, along, way_east, way_north, candidate_x, candidate_y, place_x, place_y}
+use Rattle.arena.specs.Leg.{brought, way_east, way_north, candidate_x, candidate_y, place_x, place_y}
 use Rattle.arith.specs.Degree.{degree_of}
 use Rattle.arena.specs.Shots.{in_air}
-use Rattle.arena.specs.Scan.{apart, east_to, north_to, in_arc, sees, range_of, nearest, scanned}
+use Rattle.arena.specs.Scan.{east_to, north_to, in_arc, sees, range_of, nearest, scanned}
 use Rattle.code.specs.declared.want.Want.{Want}
-use Rattle.code.specs.declared.want.Want.TheVariants.{Quiet, Ask, Restart}
+use Rattle.code.specs.declared.want.Want.TheVariants.{Ask}
 use Rattle.battles.specs.Battle.{Robot, Stage, granted, step, robot_of, turn}
 use Rattle.battles.specs.Windows.{IsAlone, StepsAlone, changes_field}
 
@@ -195,13 +195,13 @@ commutes robots i j s alone distinct =
     let mine = step (robot_of robots i) i s.field (get_or s.traces i []) in
     let theirs = step (robot_of robots j) j s.field (get_or s.traces j []) in
     let first : turn robots j (turn robots i s) ≡ stage_of theirs.0 (set (set s.traces i mine.1) j theirs.1) =
-        ap (turn robots j) (turn_alone robots i s alone)
-        ∙ ap (λ t. stage_of (step (robot_of robots j) j s.field t).0 (set (set s.traces i mine.1) j (step (robot_of robots j) j s.field t).1))
-        (get_or-set_other s.traces i j mine.1 [] (λ same. distinct (sym same))) in
+    ap (turn robots j) (turn_alone robots i s alone)
+    ∙ ap (λ t. stage_of (step (robot_of robots j) j s.field t).0 (set (set s.traces i mine.1) j (step (robot_of robots j) j s.field t).1))
+    (get_or-set_other s.traces i j mine.1 [] (λ same. distinct (sym same))) in
     let second : turn robots i (turn robots j s) ≡ stage_of theirs.0 (set (set s.traces j theirs.1) i mine.1) =
-        turn_alone robots i (turn robots j s) (alone_stays robots i j s alone distinct)
-        ∙ ap (λ t. stage_of theirs.0 (set (set s.traces j theirs.1) i (step (robot_of robots i) i theirs.0 t).1))
-        (get_or-set_other s.traces j i theirs.1 [] distinct)
-        ∙ ap (λ t. stage_of theirs.0 (set (set s.traces j theirs.1) i t))
-        (step_trace (robot_of robots i) (robot_of robots j) i j s.field (get_or s.traces i []) (get_or s.traces j []) alone distinct) in
+    turn_alone robots i (turn robots j s) (alone_stays robots i j s alone distinct)
+    ∙ ap (λ t. stage_of theirs.0 (set (set s.traces j theirs.1) i (step (robot_of robots i) i theirs.0 t).1))
+    (get_or-set_other s.traces j i theirs.1 [] distinct)
+    ∙ ap (λ t. stage_of theirs.0 (set (set s.traces j theirs.1) i t))
+    (step_trace (robot_of robots i) (robot_of robots j) i j s.field (get_or s.traces i []) (get_or s.traces j []) alone distinct) in
     first ∙ ap (stage_of theirs.0) (set_swap s.traces i j mine.1 theirs.1 distinct) ∙ sym second
