@@ -1,6 +1,8 @@
 //! Paths of robots, thinned so that their memory is bounded.
 
-ghost use Rattle.std.specs.Prelude.{◌≡◌, ℕ, ◌*◌, ◌/◌, ◌≤◌, ◌<◌, [], length, slice_get};
+ghost use Rattle.std.specs.Prelude.{◌≡◌, ℕ, ◌*◌, ◌/◌, ◌≤◌, ◌<◌, List, [], ◌∷◌, ◌++◌, length, slice_get};
+ghost use Rattle.tracks.specs.Path.{Keeps};
+ghost use Rattle.tracks.specs.Spot.{Spot};
 
 use crate::places::Place;
 use arrayvec::ArrayVec;
@@ -41,7 +43,8 @@ impl Default for Path {
 impl Path {
     /// Makes a path without places.
     pub fn new() -> Path
-        ensures { result ≡ record { places = []; stride = 1; skip = 0 } }
+        ensures value { result ≡ record { places = []; stride = 1; skip = 0 } }
+        ensures keeps { Keeps result [] }
     {
         Path {
             places: ArrayVec::new(),
@@ -51,7 +54,9 @@ impl Path {
     }
 
     /// Adds the robot's next place, and keeps it if it is due.
-    pub fn add(&mut self, place: Place) {
+    pub fn add(&mut self, place: Place)
+        ensures { (places : List Spot) → self.old.stride ≤ MOST_STRIDE / 2 → Keeps self.old places → Keeps self.new (places ++ place ∷ []) }
+    {
         if self.skip > 0 {
             self.skip -= 1;
             return;

@@ -121,6 +121,7 @@ impl<'a> Given<'a> {
     /// Takes a word. Returns the letter of an option whose value is the next word, if it is one.
     fn take(&mut self, word: &'a str) -> Option<Option<u8>> {
         match word.as_bytes() {
+            [b'-'] => None,
             [b'-', letter] => Some(Some(*letter)),
             [b'-', letter, ..] => {
                 self.set(*letter, word.get(2..)?)?;
