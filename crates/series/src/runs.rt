@@ -13,9 +13,9 @@ ghost use Rattle.series.specs.Portions.{Portions};
 ghost use Rattle.series.specs.Runs.{AreSources, Compiles, PutsPieces, programs_by};
 ghost use Rattle.series.specs.Texts.{file_name};
 
-use crate::courses::Course;
 use crate::endings::{RunFault, SeriesFault, Status};
 use crate::listing::put_listing;
+use crate::series::Series;
 use crate::sink::Sink;
 use crate::texts::{name_of, put_diagnostic};
 use battles::Programs;
@@ -77,13 +77,13 @@ fn play_all<O: Sink>(
     ensures answer { MatchResult result (λ status. status ≡ Status.Done) (λ fault. fault ≡ RunFault.Write) }
     ensures count { CountsSink result (O.failures out.old) (O.failures out.new) }
 {
-    let mut course = Course::new(settings);
+    let mut series = Series::new(programs, settings);
     for _ in 0..settings.matches() {
-        if let Err(SeriesFault::Write) = course.next(programs, out) {
+        if let Err(SeriesFault::Write) = series.next(out) {
             return Err(RunFault::Write);
         }
     }
-    match course.finish(out) {
+    match series.finish(out) {
         Ok(()) => Ok(Status::Done),
         Err(SeriesFault::Write) => Err(RunFault::Write),
     }
