@@ -14,7 +14,7 @@ use Rattle.grammar.specs.Derivation.{State, state, Value, Definition, step, step
 use Rattle.grammar.specs.Grammar.{Symbol, Source, Types, Head, More, Parameters, ParameterTypes, FunctionBlock, Block, Declarations, Statements, Statement, ElsePart, Back, Expression, Level, Tail, Unary, Primary, Arguments, MoreArguments, Role, Item, Exactly, AWord, AName, AConstant, AnEnd, Part, Make, Shut, Production, choice, assignment_or, tail_production, is_fault}
 use Rattle.grammar.specs.Operators.{operator_at, store_of}
 use Rattle.grammar.specs.Scope.{Scope}
-use Rattle.grammar.specs.Weight.{cost, costs, credit_of, credit, weight}
+use Rattle.grammar.proofs.Weight.{cost, costs, credit_of, credit, weight}
 
 abbrev load : List Item → ℕ
 load stack = costs stack + credit stack

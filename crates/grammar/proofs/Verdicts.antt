@@ -1,5 +1,5 @@
 -- What the derivation of a source leads to is what the source is.
-use Rattle.std.proofs.Common.{◌≡◌, ℕ, zero, suc, ◌+◌, ◌⊎◌, List, [], ◌∷◌, ◌++◌, refl, sym, ap, ◌∙◌, subst, inl, inr, Bool, true, false, arith, length, drop, append_assoc, length-append, le-add_right, le_refl, add-one, ⊎_elim, ap₂}
+use Rattle.std.proofs.Common.{◌≡◌, ◌≤◌, ℕ, zero, suc, ◌+◌, ◌⊎◌, List, [], ◌∷◌, ◌++◌, refl, sym, ap, ◌∙◌, subst, inl, inr, Bool, true, false, arith, length, drop, append_assoc, length-append, le-add_right, le_refl, add-one, ⊎_elim, ap₂}
 use Rattle.std.specs.Prelude.{Option, Some, None, Err, unwrap_or, if◌then◌else◌}
 use Rattle.tokens.specs.declared.lexemes.Lexeme.{Lexeme}
 use Rattle.grammar.specs.declared.diagnostics.Diagnostic.{Diagnostic}
@@ -10,7 +10,7 @@ use Rattle.grammar.specs.Grammar.{Item, Exactly, AWord, AName, AConstant, AnEnd,
 use Rattle.grammar.specs.Parsing.{IsIn, IsFault, IsFirstFault, Fails, Passes}
 use Rattle.grammar.specs.Profile.{Profile}
 use Rattle.grammar.specs.Scope.{Scope}
-use Rattle.grammar.specs.Weight.{weight}
+use Rattle.grammar.proofs.Weight.{weight}
 use Rattle.grammar.proofs.Endings.{IsFinal, ends, stays_final, final_stays}
 use Rattle.grammar.proofs.Firsts.{at_rest}
 use Rattle.grammar.proofs.Order.{first_in, first_least, same_place}
@@ -54,8 +54,12 @@ reached profile n m s t final leads clean ended quiet (inr a) = record {
   there = sym (stays_final a.more (run n s) final) ∙ sym (run-add n a.more s) ∙ subst (λ (k : ℕ). run k s ≡ t) (sym a.sum) leads;
 }
 
+weighs : (lexemes : List Lexeme) → weight (start lexemes) + 1 ≡ enough lexemes
+weighs lexemes = omega arith
+
 pub enough_ends : (lexemes : List Lexeme) → IsFinal (run (enough lexemes) (start lexemes))
-enough_ends lexemes = ends (enough lexemes) (start lexemes) (le-add_right (weight (start lexemes)) 1)
+enough_ends lexemes = ends (enough lexemes) (start lexemes)
+    (subst (λ (n : ℕ). weight (start lexemes) ≤ n) (weighs lexemes) (le-add_right (weight (start lexemes)) 1))
 
 pub clean_verdict : (profile : Profile) (lexemes : List Lexeme) (t : State) → Passes profile (start lexemes) t → IsFinal t → faults_at profile t ≡ [] →
     compiled_tokens profile lexemes ≡ resolved lexemes t.scope t.functions
@@ -194,7 +198,7 @@ pub fault_verdict : (profile : Profile) (lexemes : List Lexeme) (d : Diagnostic)
 fault_verdict profile lexemes d h =
     let n : ℕ = weight (start lexemes) in
     let here : IsIn h.fault (faults_in profile (suc n) (start lexemes)) = all_gathered profile n (start lexemes) h.first.comes.steps h.fault (ends n (start lexemes) (le_refl n)) h.first.comes.here in
-    let there : IsIn h.fault (faults_in profile (enough lexemes) (start lexemes)) = subst (λ (k : ℕ). IsIn h.fault (faults_in profile k (start lexemes))) (sym (add-one n)) here in
+    let there : IsIn h.fault (faults_in profile (enough lexemes) (start lexemes)) = subst (λ (k : ℕ). IsIn h.fault (faults_in profile k (start lexemes))) (sym (add-one n) ∙ weighs lexemes) here in
     verdict_at profile lexemes (start lexemes) h.fault (faults_in profile (enough lexemes) (start lexemes)) _ _ h.first (gathered profile (enough lexemes) (start lexemes)) there
     ∙ ap Err (same_diagnostic d (diagnostic (line_of h.fault.rest) h.fault.code) h.line h.code)
   where

@@ -1,5 +1,5 @@
 -- What a source is: a file, or its first fault.
-use Rattle.std.specs.Prelude.{ℕ, ◌+◌, List, [], ◌∷◌, Option, Some, None, Result, Ok, Err, codes, map, if◌then◌else◌, ◌==◌}
+use Rattle.std.specs.Prelude.{ℕ, ◌+◌, ◌*◌, List, [], ◌∷◌, length, Option, Some, None, Result, Ok, Err, codes, map, if◌then◌else◌, ◌==◌}
 use Rattle.tokens.specs.Tokens.{tokens}
 use Rattle.tokens.specs.declared.lexemes.Lexeme.{Lexeme}
 use Rattle.grammar.specs.declared.diagnostics.Code.{Code}
@@ -10,7 +10,6 @@ use Rattle.grammar.specs.Faults.{Fault, faults_in, first_of}
 use Rattle.grammar.specs.Profile.{Profile}
 use Rattle.grammar.specs.Scope.{Scope, function_number}
 use Rattle.grammar.specs.Tree.{Function, File}
-use Rattle.grammar.specs.Weight.{weight}
 
 abbrev pub diagnostic : ℕ → Code → Diagnostic
 diagnostic line c = record { line = line; code = c }
@@ -59,9 +58,9 @@ verdict lexemes [] scope definitions = resolved lexemes scope definitions
 verdict lexemes (f ∷ faults) scope definitions =
     let first = first_of f faults in Err (diagnostic (line_of first.rest) first.code)
 
--- as many steps as lead to the end of the derivation
+-- A derivation of so many tokens has ended after this many steps: at most 40 a token, and 71 for the whole.
 abbrev pub enough : List Lexeme → ℕ
-enough lexemes = weight (start lexemes) + 1
+enough lexemes = 40 * length lexemes + 71
 
 -- the last state of a derivation
 abbrev pub last_state : List Lexeme → State

@@ -125,11 +125,12 @@ pub trait Build {
 
     /// The function ends, with so many variables, parameters among them.
     ///
-    /// `Full` comes exactly where the code so far and the final NOP pass the most instructions of a file, memory aside.
+    /// Answers `Full` exactly if the code so far and the final NOP pass the most instructions of a file.
     fn end_function(&mut self, variables: u8) -> Result<(), BuildFault>
         requires follows { MayFollow (stands self.old) (Finish variables) }
         ensures ok { OnOk result (Appends (stands self.old) (stands self.new) (Finish variables)) }
         ensures fits { OnOk result (FitsWithin (stands self.old)) }
         ensures full { IsErrOf result BuildFault.Full → IsOver (stands self.old) }
-        ensures memory { IsErrOf result BuildFault.Memory → IsTrue allocates };
+        ensures memory { IsErrOf result BuildFault.Memory → IsTrue allocates }
+        ensures within { IsErrOf result BuildFault.Memory → FitsWithin (stands self.old) };
 }

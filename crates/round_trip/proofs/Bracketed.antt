@@ -11,7 +11,8 @@ use Rattle.round_trip.specs.Written.{Evaluate}
 use Rattle.round_trip.specs.Spelling.{spell_statement, in_main}
 use Rattle.round_trip.specs.Resolving.{body_of, behind_statement}
 use Rattle.round_trip.specs.Laws.{in_body, main_of, without_lines, GivesBackStatements, GivesBackExpressions}
-use Rattle.round_trip.proofs.Leading.{Leads, run-add, lexemes_of}
+use Rattle.grammar.proofs.Runs.{run-add}
+use Rattle.round_trip.proofs.Leading.{Leads, lexemes_of}
 use Rattle.round_trip.proofs.Places.{bare, bare_rest, bare_run}
 use Rattle.round_trip.proofs.Mains.{over, derives_main}
 

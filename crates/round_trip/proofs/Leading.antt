@@ -1,21 +1,18 @@
 -- Stretches of a derivation one behind another.
-use Rattle.std.proofs.Common.{◌≡◌, ℕ, zero, suc, ◌+◌, List, ◌∷◌, ◌++◌, refl, ap, ◌∙◌, [], zero-add, suc-add, false, map}
+use Rattle.std.proofs.Common.{◌≡◌, ℕ, ◌+◌, List, ◌∷◌, ◌++◌, refl, ap, ◌∙◌, [], false, map}
 use Rattle.std.proofs.lemmas.List.{append-nil}
 use Rattle.std.specs.Prelude.{Some}
 use Rattle.tokens.specs.declared.lexemes.Lexeme.{Lexeme}
 use Rattle.tokens.specs.declared.lexemes.Token.{Token}
-use Rattle.grammar.specs.Derivation.{State, state, Value, Definition, stepped, run, next_of, after_of, made, defined, behind_rule}
+use Rattle.grammar.specs.Derivation.{State, state, Value, Definition, run, next_of, after_of, made, defined, behind_rule}
 use Rattle.grammar.specs.Grammar.{Item, Part, Make, Shut, Symbol, Rule, choice, is_fault}
 use Rattle.grammar.specs.Scope.{Scope}
+use Rattle.grammar.proofs.Runs.{run-add}
 
 -- some steps of the derivation lead from s to t
 pub record Leads (s t : State) : Type 0 where
   pub steps : ℕ
   pub leads : run steps s ≡ t
-
-pub run-add : (m n : ℕ) (s : State) → run (m + n) s ≡ run n (run m s)
-run-add zero n s = ap (λ k. run k s) (zero-add n)
-run-add (suc m) n s = ap (λ k. run k s) (suc-add m n) ∙ run-add m n (stepped s)
 
 pub then : (s t u : State) → Leads s t → Leads t u → Leads s u
 then s t u a b = record {

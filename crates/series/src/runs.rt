@@ -10,12 +10,13 @@ ghost use Rattle.series.specs.Output.{Runs};
 ghost use Rattle.series.specs.Pieces.{taken, Writes, Begins};
 ghost use Rattle.series.specs.Playing.{playing};
 ghost use Rattle.series.specs.Portions.{Portions};
+ghost use Rattle.series.specs.Reading.{Reads, TakesOf};
 ghost use Rattle.series.specs.Runs.{AreSources, Compiles, PutsPieces, programs_by};
 ghost use Rattle.series.specs.Texts.{file_name};
 
-use crate::courses::Course;
 use crate::endings::{RunFault, SeriesFault, Status};
 use crate::listing::put_listing;
+use crate::series::Series;
 use crate::sink::Sink;
 use crate::texts::{name_of, put_diagnostic};
 use battles::Programs;
@@ -46,6 +47,7 @@ pub fn run<F: Feed, O: Sink, E: Sink>(
     requires faults { E.failures err.old < 2 ^ 64 - 1 }
     ensures output { (sources : List Source) → AreSources sources settings.now.words (map F.to_come feeds.old)
         → Runs settings.now sources result (taken (O.portions out.old) (E.portions err.old)) (taken (O.portions out.new) (E.portions err.new)) }
+    ensures read { Reads settings.now.profile result (map F.to_come feeds.old) (map F.to_come feeds.new) }
     ensures failures { Accounts result
         (failures (map F.failures feeds.old) (O.failures out.old) (E.failures err.old))
         (failures (map F.failures feeds.new) (O.failures out.new) (E.failures err.new)) }
@@ -77,13 +79,13 @@ fn play_all<O: Sink>(
     ensures answer { MatchResult result (λ status. status ≡ Status.Done) (λ fault. fault ≡ RunFault.Write) }
     ensures count { CountsSink result (O.failures out.old) (O.failures out.new) }
 {
-    let mut course = Course::new(settings);
+    let mut series = Series::new(programs, settings);
     for _ in 0..settings.matches() {
-        if let Err(SeriesFault::Write) = course.next(programs, out) {
+        if let Err(SeriesFault::Write) = series.next(out) {
             return Err(RunFault::Write);
         }
     }
-    match course.finish(out) {
+    match series.finish(out) {
         Ok(()) => Ok(Status::Done),
         Err(SeriesFault::Write) => Err(RunFault::Write),
     }
@@ -103,6 +105,7 @@ pub fn compile_files<F: Feed, O: Sink, E: Sink>(
     ensures output { (sources : List Source) → AreSources sources settings.now.words (map F.to_come feeds.old)
         → Compiles settings.now sources result (taken (O.portions out.old) (E.portions err.old)) (taken (O.portions out.new) (E.portions err.new)) }
     ensures manned { IfOk result (λ programs. IfSome programs (λ programs. length programs ≡ length settings.now.words)) }
+    ensures read { Reads settings.now.profile result (map F.to_come feeds.old) (map F.to_come feeds.new) }
     ensures failures { Accounts result
         (failures (map F.failures feeds.old) (O.failures out.old) (E.failures err.old))
         (failures (map F.failures feeds.new) (O.failures out.new) (E.failures err.new)) }
@@ -133,6 +136,7 @@ pub(crate) fn compile_into<F: Feed, O: Sink, E: Sink>(
     ensures output { (sources : List Source) → AreSources sources settings.now.words (map F.to_come feeds.old)
         → Compiles settings.now sources (programs_by result programs.new) (taken (O.portions out.old) (E.portions err.old)) (taken (O.portions out.new) (E.portions err.new)) }
     ensures manned { IfOk result (λ status. status ≡ Status.Done → length programs.new ≡ length settings.now.words) }
+    ensures read { Reads settings.now.profile result (map F.to_come feeds.old) (map F.to_come feeds.new) }
     ensures failures { Accounts result
         (failures (map F.failures feeds.old) (O.failures out.old) (E.failures err.old))
         (failures (map F.failures feeds.new) (O.failures out.new) (E.failures err.new)) }
@@ -192,6 +196,8 @@ pub(crate) fn compile<F: Feed>(
 ) -> Result<Result<Program, Diagnostic>, DeviceFault>
     requires { F.failures feed.old < 2 ^ 64 - 1 }
     ensures file { IfOk result (λ compiled. (bytes : List ℕ) → F.to_come feed.old ≡ Some bytes → compiled ≡ compiled_code profile bytes) }
+    ensures taken { OnOk result (TakesOf profile (F.to_come feed.old) (F.to_come feed.new) 4096) }
+    ensures stopped { OnErr result (TakesOf profile (F.to_come feed.old) (F.to_come feed.new) 0) }
     ensures count { Counts result (F.failures feed.old) (F.failures feed.new) }
 {
     let mut maker = Maker::new(profile);

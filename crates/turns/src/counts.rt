@@ -1,6 +1,7 @@
 //! What a machine wants over many cycles.
 
-ghost use Rattle.std.specs.Prelude.{◌+◌, ◌≤◌};
+ghost use Rattle.std.specs.Prelude.{◌+◌, ◌-◌, ◌^◌, ◌<◌, ◌≤◌};
+ghost use Rattle.code.specs.Standing.{FitsProgram};
 
 use code::{Machine, Program, Want};
 
@@ -22,18 +23,33 @@ pub fn counted(program: &Program, cycles: u32) -> Counts
         asks: 0,
         restarts: 0,
     };
-    for _ in 0..cycles {
-        match machine.next(program) {
-            Want::Restart => {
-                machine.restart(program);
-                counts.restarts += 1;
-            }
-            Want::Ask(..) => {
-                machine.advance(program, 0);
-                counts.asks += 1;
-            }
-            Want::Quiet => machine.advance(program, 0),
+    let mut left = cycles;
+    while left > 0 {
+        left -= machine.coast(program, left);
+        if left > 0 {
+            count(&mut machine, program, &mut counts);
+            left -= 1;
         }
     }
     counts
+}
+
+// Runs one cycle, and counts it if it asked or restarted.
+fn count(machine: &mut Machine, program: &Program, counts: &mut Counts)
+    requires fits { FitsProgram machine.old program.now }
+    requires room { counts.old.asks + counts.old.restarts < 2 ^ 32 - 1 }
+    ensures fits { FitsProgram machine.new program.now }
+    ensures one { counts.new.asks + counts.new.restarts ≤ counts.old.asks + counts.old.restarts + 1 }
+{
+    match machine.next(program) {
+        Want::Restart => {
+            machine.restart(program);
+            counts.restarts += 1;
+        }
+        Want::Ask(..) => {
+            machine.advance(program, 0);
+            counts.asks += 1;
+        }
+        Want::Quiet => machine.advance(program, 0),
+    }
 }

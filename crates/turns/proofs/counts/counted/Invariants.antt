@@ -3,5 +3,8 @@ use Rattle.code.specs.Standing.{FitsProgram}
 use Rattle.turns.proofs.counts.counted.Given as goal
 
 -- the machine fits its program, and each cycle counts once at most
-abbrev pub invariant-loop : goal.invariant-loop
-invariant-loop l = FitsProgram l.machine l.program × (l.counts.asks + l.counts.restarts ≤ l.counter)
+abbrev pub invariant-loop-left : goal.invariant-loop-left
+invariant-loop-left l = FitsProgram l.machine l.program × (l.counts.asks + l.counts.restarts + l.left ≤ l.cycles)
+
+abbrev pub decreases-loop-left : goal.decreases-loop-left
+decreases-loop-left l = l.left

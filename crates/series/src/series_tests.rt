@@ -1,11 +1,10 @@
-//! The course of a series, match by match, and what it answers after a write has failed.
+//! A series, match by match, and what it answers after a write has failed.
 
 ghost use Rattle.std.specs.Prelude.{◌≡◌, [], IfOk, length};
 
 use crate::checks::{Game, game_of_one, taken};
-use crate::courses::Course;
 use crate::runs::compile_into;
-use crate::{Programs, Recorder, SeriesFault, Settings, Status, Step};
+use crate::{Programs, Recorder, Series, SeriesFault, Settings, Status, Step};
 use std::alloc::Global;
 use std::test::Fail;
 use tokens::Pieces;
@@ -38,29 +37,29 @@ fn matches_are_played_one_by_one(rt: HostRuntime) -> Result<(), Fail> {
     let settings = game_of_one(TWO_MATCHES, "a.r");
     let mut programs = Programs::new();
     compile_still(rt.alloc(), &settings, &mut programs)?;
-    let mut course = Course::new(&settings);
+    let mut series = Series::new(&programs, &settings);
     let mut out = Recorder::new(rt.alloc());
-    assert_eq!(rt; course.next(&programs, &mut out), Ok(Step::Played(1)));
+    assert_eq!(rt; series.next(&mut out), Ok(Step::Played(1)));
     assert_eq!(rt; out.portions().len(), 1);
-    assert!(rt; !course.is_over());
-    assert_eq!(rt; course.next(&programs, &mut out), Ok(Step::Played(2)));
+    assert!(rt; !series.is_over());
+    assert_eq!(rt; series.next(&mut out), Ok(Step::Played(2)));
     assert_eq!(rt; out.portions().len(), 2);
-    assert_eq!(rt; course.next(&programs, &mut out), Ok(Step::Over));
+    assert_eq!(rt; series.next(&mut out), Ok(Step::Over));
     assert_eq!(rt; out.portions().len(), 2);
     Ok(())
 }
 
 #[test]
-fn a_course_stops_at_a_failed_report(rt: HostRuntime) -> Result<(), Fail> {
+fn a_series_stops_at_a_failed_report(rt: HostRuntime) -> Result<(), Fail> {
     let settings = game_of_one(TWO_MATCHES, "a.r");
     let mut programs = Programs::new();
     compile_still(rt.alloc(), &settings, &mut programs)?;
-    let mut course = Course::new(&settings);
+    let mut series = Series::new(&programs, &settings);
     let mut out = Recorder::new(rt.alloc()).with_room(10);
-    assert_eq!(rt; course.next(&programs, &mut out), Err(SeriesFault::Write));
-    assert!(rt; course.has_failed());
-    assert!(rt; !course.is_over());
-    assert_eq!(rt; course.next(&programs, &mut out), Err(SeriesFault::Write));
+    assert_eq!(rt; series.next(&mut out), Err(SeriesFault::Write));
+    assert!(rt; series.has_failed());
+    assert!(rt; !series.is_over());
+    assert_eq!(rt; series.next(&mut out), Err(SeriesFault::Write));
     assert_eq!(rt;
         taken(rt.alloc(), &out)?.as_slice(),
         b"Match 1: c".as_slice()
@@ -70,7 +69,7 @@ fn a_course_stops_at_a_failed_report(rt: HostRuntime) -> Result<(), Fail> {
 }
 
 #[test]
-fn a_course_stops_at_failed_totals(rt: HostRuntime) -> Result<(), Fail> {
+fn a_series_stops_at_failed_totals(rt: HostRuntime) -> Result<(), Fail> {
     let game = Game {
         matches: 1,
         ..TWO_MATCHES
@@ -78,16 +77,16 @@ fn a_course_stops_at_failed_totals(rt: HostRuntime) -> Result<(), Fail> {
     let settings = game_of_one(game, "a.r");
     let mut programs = Programs::new();
     compile_still(rt.alloc(), &settings, &mut programs)?;
-    let mut course = Course::new(&settings);
+    let mut series = Series::new(&programs, &settings);
     let mut out = Recorder::new(rt.alloc()).failing_after(1);
-    assert_eq!(rt; course.next(&programs, &mut out), Ok(Step::Played(1)));
-    if !course.is_over() {
+    assert_eq!(rt; series.next(&mut out), Ok(Step::Played(1)));
+    if !series.is_over() {
         return Err("a match is left".into());
     }
-    assert_eq!(rt; course.finish(&mut out), Err(SeriesFault::Write));
-    assert!(rt; course.has_failed());
-    assert_eq!(rt; course.next(&programs, &mut out), Err(SeriesFault::Write));
-    assert_eq!(rt; course.finish(&mut out), Err(SeriesFault::Write));
+    assert_eq!(rt; series.finish(&mut out), Err(SeriesFault::Write));
+    assert!(rt; series.has_failed());
+    assert_eq!(rt; series.next(&mut out), Err(SeriesFault::Write));
+    assert_eq!(rt; series.finish(&mut out), Err(SeriesFault::Write));
     assert_eq!(rt; out.portions().len(), 1);
     assert_eq!(rt; out.failures(), 1);
     Ok(())
