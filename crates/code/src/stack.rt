@@ -72,8 +72,21 @@ impl Stack {
         requires { length self.old < MOST_WORDS }
         ensures { self.new ≡ self.old ++ word ∷ [] }
     {
-        self.words[self.depth] = word;
-        self.depth += 1;
+        let depth = self.depth;
+        self.words[depth] = word;
+        self.depth = depth + 1;
+    }
+
+    /// Puts a word in the place of the n topmost ones.
+    #[inline(always)]
+    pub fn replace(&mut self, n: usize, word: i32)
+        requires some { 0 < n }
+        requires there { n ≤ length self.old }
+        ensures { self.new ≡ take (length self.old - n) self.old ++ word ∷ [] }
+    {
+        let bottom = self.depth - n;
+        self.words[bottom] = word;
+        self.depth = bottom + 1;
     }
 
     /// Leaves so many words, those at the bottom, of as many or more.
