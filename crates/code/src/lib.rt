@@ -11,6 +11,7 @@ mod machine;
 mod maker;
 mod operators;
 mod program;
+mod stack;
 #[cfg(test)]
 mod tests;
 mod text;
