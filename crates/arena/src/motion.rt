@@ -1,11 +1,12 @@
 //! How a robot moves: its leg, with the sums of the way in place of the distance.
 
-ghost use Rattle.std.specs.Prelude.{◌≡◌, ◌+◌, ◌^◌, ◌<◌, ◌≤◌, ℤ, pos, ◌+ℤ◌, ◌*ℤ◌, unsigned_abs, ◌||◌};
+ghost use Rattle.std.specs.Prelude.{◌≡◌, true, ◌+◌, ◌^◌, ◌<◌, ◌≤◌, ℤ, pos, ◌+ℤ◌, ◌*ℤ◌, unsigned_abs, ◌||◌};
 ghost use Rattle.arena.specs.Leg.{Leg, last_place, brought, along, place_x, place_y, approached, begun, steered, sped, grown, walled, is_outside, hits_wall, tried, driven};
 ghost use Rattle.arena.specs.Start.{standing};
 ghost use Rattle.arena.specs.Moved.{put_back};
 ghost use Rattle.arena.specs.Answer.{wanting};
 ghost use Rattle.arena.specs.Ground.{Track, track_of};
+ghost use Rattle.arena.specs.Rest.{Rests};
 
 use crate::limits::LAST_PLACE;
 use arith::{cosine_at, sine_at};
@@ -107,6 +108,13 @@ impl Motion {
         ensures most { result ≤ 100 }
     {
         self.speed
+    }
+
+    /// Reports whether the robot stands still and wants nothing else, so that an update leaves its leg as it is.
+    pub fn rests(&self) -> bool
+        ensures { result ≡ true → (leg : Leg) → self.now ≡ track_of leg → Rests leg }
+    {
+        self.speed == 0 && self.wanted_speed == 0 && self.wanted_heading == self.heading
     }
 
     /// Sets the heading and the speed that the robot wants.

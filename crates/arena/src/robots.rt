@@ -9,6 +9,7 @@ ghost use Rattle.arena.specs.Answer.{wanting};
 ghost use Rattle.arena.specs.Ground.{track_of, body_of, IsWithin};
 ghost use Rattle.arena.specs.Moved.{settled};
 ghost use Rattle.arena.specs.Drive.{drive_of};
+ghost use Rattle.arena.specs.Rest.{Stays};
 
 use crate::collisions::Mover;
 use crate::limits::DEADLY;
@@ -69,6 +70,13 @@ impl Robot {
         ensures { result ≡ nat_lt self.now.damage 100 }
     {
         self.damage < DEADLY
+    }
+
+    /// Reports whether an update leaves the robot as it is, if none bursts near it: it is dead, or at rest.
+    pub fn stays(&self) -> bool
+        ensures { result ≡ true → Stays self.now }
+    {
+        !self.is_alive() || self.motion.rests()
     }
 
     /// The damage so far, in percent.

@@ -154,6 +154,13 @@ impl Slots {
         self.missiles.len() < MOST_MISSILES
     }
 
+    // Reports whether no missile is in the air.
+    fn is_empty(&self) -> bool
+        ensures { result ≡ true → self.now ≡ [] }
+    {
+        self.missiles.is_empty()
+    }
+
     // Adds a missile.
     fn add(&mut self, missile: Missile)
         requires { length self.old < 2 }
@@ -229,6 +236,18 @@ pub fn no_missiles(n: usize) -> ArrayVec<Slots, MOST_ROBOTS>
         slots.push(Slots::default());
     }
     slots
+}
+
+/// Reports whether no missile of any robot is in the air.
+pub fn none_flies(slots: &[Slots]) -> bool
+    ensures { result ≡ true → All (λ s. s ≡ []) slots.now }
+{
+    for own in slots {
+        if !own.is_empty() {
+            return false;
+        }
+    }
+    true
 }
 
 /// Reports whether a robot may fire: it has fewer than two missiles in the air.

@@ -1,20 +1,41 @@
 //! The robots after an update.
 
-ghost use Rattle.std.specs.Prelude.{◌≡◌, ℕ, ◌+◌, ◌-◌, ◌^◌, ◌<◌, ◌≤◌, List, All, map, sum, false, length};
+ghost use Rattle.std.specs.Prelude.{◌≡◌, ℕ, ◌+◌, ◌-◌, ◌^◌, ◌<◌, ◌≤◌, List, All, map, sum, true, false, length};
 ghost use Rattle.arena.specs.Field.{Shot, Robot as FieldRobot, Field};
 ghost use Rattle.arena.specs.Collisions.{mover, touches};
 ghost use Rattle.arena.specs.Shots.{bursts};
 ghost use Rattle.arena.specs.Moved.{moved_robot, moved};
 ghost use Rattle.arena.specs.Ground.{Body, body_of, IsWithin};
 ghost use Rattle.arena.specs.Drive.{drive_of};
+ghost use Rattle.arena.specs.Rest.{Stays, IsStill};
 ghost use Rattle.arena.specs.Standing.{HoldsShots};
 
 use crate::collisions::{Mover, touches};
 use crate::limits::MOST_ROBOTS;
 use crate::motion::Drive;
 use crate::robots::{Robot, worn};
-use crate::slots::{Slots, any_due, damage_at};
+use crate::slots::{Slots, any_due, damage_at, none_flies};
 use arrayvec::ArrayVec;
+
+/// Reports whether an update changes nothing but the number of updates: each robot is dead or at rest, and no missile is
+/// in the air.
+pub fn is_still(robots: &[Robot], slots: &[Slots]) -> bool
+    ensures { result ≡ true → IsStill robots.now slots.now }
+{
+    all_stay(robots) && none_flies(slots)
+}
+
+// Reports whether each robot is dead or at rest.
+fn all_stay(robots: &[Robot]) -> bool
+    ensures { result ≡ true → All Stays robots.now }
+{
+    for robot in robots {
+        if !robot.stays() {
+            return false;
+        }
+    }
+    true
+}
 
 // What each robot would drive on its own.
 fn drives(robots: &[Robot]) -> ArrayVec<Drive, MOST_ROBOTS>
