@@ -6,6 +6,7 @@ use Rattle.std.proofs.lemmas.Map.Steps.{length-le_from_distinct_below}
 use Rattle.std.proofs.lemmas.Bool.Decides.{nat_tests}
 use Rattle.std.proofs.lemmas.List.{drop_more, length-map, length-append}
 use Rattle.std.proofs.lemmas.List.Sums.{position_or_len_is}
+use Rattle.std.proofs.Math.Seq.{take-set-lt}
 use Rattle.std.specs.List.{AllByRecursion, IsDistinct, list_any, position, position_or_len}
 use Rattle.std.specs.Str.{bytes_eq}
 use Rattle.std.specs.Prelude.{nat_le, nat_lt, slice_index_or, ◌==◌}
@@ -128,6 +129,9 @@ room_begun functions lines begun n kept within new =
     let more = kept_begun functions lines begun n kept within new in
     let most = length-le_from_distinct_below (begun ++ n ∷ []) (length functions) more.once more.known in
     omega (arith, most, kept.few, length-append begun (n ∷ []))
+
+-- a function of the pools changes in its place
+pub ruleset in_place = (take-set-lt)
 
 pub ruleset beginnings = (kept_begun, room_begun)
 

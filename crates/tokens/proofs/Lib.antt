@@ -1,6 +1,6 @@
 pub mod KnownTokens
 pub mod SourceLemmas
-pub mod BlockLemmas
+pub mod RunLemmas
 pub mod WindowLemmas
 pub mod TakenLemmas
 pub mod ToRead

@@ -1,5 +1,5 @@
 -- Blanks, comments, names, constants and marks, a byte at a time.
-use Rattle.std.proofs.Common.{◌≡◌, ℕ, suc, ◌+◌, ◌-◌, ◌*◌, ◌<◌, ◌≤◌, Bool, true, false, cond, eqb, leb, Option, Some, None, List, [], ◌∷◌, ◌++◌, length, take, fold, min, ◌⊎◌, inl, inr, refl, sym, ap, ◌∙◌, subst, arith, append_assoc, length-append}
+use Rattle.std.proofs.Common.{◌≡◌, ℕ, zero, suc, ◌+◌, ◌-◌, ◌*◌, ◌<◌, ◌≤◌, Bool, true, false, cond, eqb, leb, Option, Some, None, List, [], ◌∷◌, ◌++◌, length, take, fold, min, ◌⊎◌, inl, inr, refl, sym, ap, ◌∙◌, subst, arith, append_assoc, length-append}
 use Rattle.std.specs.Prelude.{slice_get}
 use Rattle.std.specs.List.{prefix_len}
 use Rattle.std.specs.Option.{option_and_then}
@@ -8,14 +8,16 @@ use Rattle.tokens.specs.Characters.{is_blank, is_digit, is_name_byte}
 use Rattle.tokens.specs.Marks.{spelling, mark_of}
 use Rattle.tokens.specs.Front.{front, name_token}
 use Rattle.tokens.specs.Tokens.{Ahead, behind_byte, line_behind, passed, placed, last_lexeme, followed_by, cut_front, lexemes}
-use Rattle.tokens.specs.Window.{Held, ahead, behind_first, IsAtHandOrEnd}
+use Rattle.tokens.specs.Window.{Held, ahead, behind, behind_first, behind_blanks, IsAtHandOrEnd}
 use Rattle.tokens.specs.Lexing.{to_read, followed, ending, in_run, in_name, name_going_on, in_constant, constant_going_on, value_token, in_mark, grown}
 use Rattle.tokens.specs.declared.lexemes.Mark.{Mark}
 use Rattle.tokens.specs.declared.lexemes.Flaw.TheVariants.{NameTooLong}
 use Rattle.tokens.specs.declared.lexemes.Token.{Token}
 use Rattle.tokens.specs.declared.lexemes.Token.TheVariants as variant
 use Rattle.tokens.specs.declared.lexemes.Lexeme.{Lexeme}
+use Rattle.tokens.specs.declared.windows.Beyond.{Beyond}
 use Rattle.tokens.proofs.LexemesLemmas.{lexemes-front}
+use Rattle.tokens.proofs.WindowLemmas.{held}
 use Rattle.tokens.proofs.ToRead.{to_read-here, to_read-pass, first-ahead, none-ahead}
 
 abbrev here : ℕ → ℕ → List ℕ → Bool → Ahead
@@ -33,6 +35,21 @@ other false x y e = refl
 pub blank-skipped : (b : ℕ) → is_blank b ≡ true → (a : Ahead) (rest : List ℕ) → a.bytes ≡ b ∷ rest → lexemes (behind_byte a) ≡ lexemes a
 blank-skipped b blank a rest e =
     sym (lexemes-front a ∙ ap (λ f. cut_front f a lexemes) (ap front e ∙ chosen (is_blank b) _ _ blank))
+
+blanks-here : (told : Option (List ℕ)) (n line place taken : ℕ) (xs : List ℕ) (beyond : Beyond) → n ≤ prefix_len is_blank xs → to_read lexemes (behind n (held line place xs taken beyond)) told ≡ to_read lexemes (held line place xs taken beyond) told
+blanks-here told zero line place taken xs beyond h = refl
+blanks-here told (suc n) line place taken [] beyond h = absurd (omega (arith, h))
+blanks-here told (suc n) line place taken (b ∷ xs) beyond h =
+    let next = behind_first (held line place (b ∷ xs) taken beyond) in
+    by (is_blank b) refl h (blanks-here told n next.line next.place next.taken xs beyond)
+  where
+    by : (s : Bool) → is_blank b ≡ s → suc n ≤ cond s (1 + prefix_len is_blank xs) 0 → (n ≤ prefix_len is_blank xs → to_read lexemes (behind n (behind_first (held line place (b ∷ xs) taken beyond))) told ≡ to_read lexemes (behind_first (held line place (b ∷ xs) taken beyond)) told) → to_read lexemes (behind (suc n) (held line place (b ∷ xs) taken beyond)) told ≡ to_read lexemes (held line place (b ∷ xs) taken beyond) told
+    by true e h f = f (omega (arith, h)) ∙ to_read-pass lexemes lexemes (behind_first (held line place (b ∷ xs) taken beyond)) (held line place (b ∷ xs) taken beyond) told (Some b) b refl refl refl (blank-skipped b e)
+    by false e h f = absurd (omega (arith, h))
+
+-- the blanks at hand are skipped
+pub blanks-pass : (new here : Held) (told : Option (List ℕ)) → new ≡ behind_blanks here → to_read lexemes new told ≡ to_read lexemes here told
+blanks-pass new here told n = ap (λ h. to_read lexemes h told) n ∙ blanks-here told (prefix_len is_blank here.at_hand) here.line here.place here.taken here.at_hand here.beyond (omega arith)
 
 -- nothing is left
 pub nothing-left : (a : Ahead) → a.bytes ≡ [] → followed (last_lexeme variant.End a.line a) a ≡ lexemes a

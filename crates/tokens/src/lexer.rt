@@ -61,7 +61,10 @@ impl Window {
     {
         loop {
             match self.peek(feed)? {
-                Some(b) if is_blank(b) => self.pass(),
+                Some(b) if is_blank(b) => {
+                    self.pass();
+                    self.pass_blanks();
+                }
                 first => return Ok(first),
             }
         }

@@ -11,6 +11,7 @@ mod limits;
 mod marks;
 mod memory;
 mod names;
+mod runs;
 mod windows;
 mod words;
 
