@@ -3,6 +3,7 @@ use Rattle.std.specs.Prelude.{ℕ, ◌+◌, ◌≡◌, ◌<◌, ◌≤◌, List,
 use Rattle.std.specs.Option.{option_map}
 use Rattle.tokens.specs.Reading.{reach, reach_of}
 use Rattle.tokens.specs.Tokens.{is_last, tokens}
+use Rattle.tokens.specs.declared.limits.TheConstants.{WINDOW}
 use Rattle.tokens.specs.declared.lexemes.Lexeme.{Lexeme}
 use Rattle.grammar.specs.declared.diagnostics.Diagnostic.{Diagnostic}
 use Rattle.grammar.specs.declared.diagnostics.ParseFault.{ParseFault}
@@ -72,7 +73,7 @@ pub record StopsFirst (told : Option (List Lexeme)) (stop : Stop) : Type 0 where
 
 -- no more bytes were taken than a window behind the two tokens that are held
 abbrev pub IsNearTo : Place → ℕ → Type 0
-IsNearTo here taken = taken ≤ reach here.position.reading + 4096
+IsNearTo here taken = taken ≤ reach here.position.reading + WINDOW
 
 -- the token is no name, and is refused for that
 pub record IsNoName (next : Lexeme) (fault : ParseFault) : Type 0 where
