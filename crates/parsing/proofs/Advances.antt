@@ -1,12 +1,11 @@
 -- One call after another: what they keep.
 use Rattle.std.proofs.Common.{◌≡◌, ℕ, ◌+◌, ◌<◌, ◌≤◌, refl, ◌∙◌, ap, arith, le_refl, List}
-use Rattle.std.specs.Prelude.{Option}
+use Rattle.std.specs.Prelude.{Option, Result, Ok, Err}
 use Rattle.tokens.specs.Window.{Takes}
 use Rattle.grammar.specs.declared.diagnostics.ParseFault.{ParseFault}
-use Rattle.grammar.specs.declared.diagnostics.ParseFault.TheVariants as refusal
 use Rattle.parsing.specs.Position.{Standing}
 use Rattle.parsing.specs.Stretch.{counted}
-use Rattle.parsing.specs.Advancing.{IsReady, StayedOrWentOn, Stopped, WentOn}
+use Rattle.parsing.specs.Advancing.{Advances, IsReady, StayedOrWentOn, Stopped, WentOn}
 
 takes_then : (a b c : ℕ) (x y z : Option (List ℕ)) → Takes a b x y → Takes b c y z → Takes a c x z
 takes_then a b c x y z h i = record { rest = λ total e. i.rest total (h.rest total e) }
@@ -37,6 +36,15 @@ on_then a b c h i = record {
   ready = i.ready;
 }
 
+pub kept_on : (a b c : Standing) → StayedOrWentOn a b → WentOn b c → WentOn a c
+kept_on a b c h i = record {
+  device = i.device ∙ h.device;
+  failures = i.failures ∙ h.failures;
+  took = takes_then _ _ _ _ _ _ h.took i.took;
+  falls = omega (arith, h.falls, i.falls);
+  ready = i.ready;
+}
+
 -- a refusal after calls that went on
 pub stopped_then : (f : ParseFault) (a b c : Standing) → StayedOrWentOn a b → Stopped f b c → Stopped f a c
 stopped_then f a b c h i = record {
@@ -44,3 +52,8 @@ stopped_then f a b c h i = record {
   failures = i.failures ∙ ap (λ (n : ℕ). counted n f) h.failures;
   took = takes_then _ _ _ _ _ _ h.took i.took;
 }
+
+-- the last call's answer
+pub handed_kept : {A : Type 0} (r : Result A ParseFault) (a b c : Standing) → StayedOrWentOn a b → Advances r b c → Advances r a c
+handed_kept (Ok x) a b c h i = kept_on a b c h i
+handed_kept (Err f) a b c h i = stopped_then f a b c h i

@@ -109,8 +109,9 @@ item_on front item below at now there level a b depth = goes_on depth front (ite
 
 -- The last call's answer, after a stretch that left the items that it matches.
 pub handed_on : {A : Type 0} (r : Result A ParseFault) (front mid : List Item) (at now there : Standing) → Goes front (mid ++ []) at.place now.place → Matches r mid (λ x. []) now there → Matches r front (λ x. []) at there
-handed_on (Ok x) front mid at now there a b depth = goes_on depth front mid [] [] at.place now.place there.place (λ stack. refl) (a depth) (b depth)
-handed_on (Err e) front mid at now there a h = leaves _ front mid [] at.place now.place e (λ stack. refl) a h
+handed_on (Ok x) front mid at now there a b =
+    λ depth. goes_on depth front mid [] [] at.place now.place there.place (λ stack. refl) (a depth) (b depth)
+handed_on (Err e) front mid at now there a b = leaves _ front mid [] at.place now.place e (λ stack. refl) a b
 
 -- Lists of names, and declarations.
 

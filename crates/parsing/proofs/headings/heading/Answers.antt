@@ -4,6 +4,7 @@ use Rattle.tokens.specs.declared.lexemes.Mark.TheVariants as mark
 use Rattle.grammar.specs.Grammar.{Exactly, ParameterTypes, Parameters, Part}
 use Rattle.parsing.specs.Declarations.{heading_items}
 use Rattle.parsing.proofs.HeadingLaws.{heading_closed, heading_listed, heading_named, heading_open}
+use Rattle.parsing.proofs.Advances.{kept_then, on, on_then}
 use Rattle.parsing.proofs.ListLaws.{item_on, leaves}
 use Rattle.parsing.proofs.headings.heading.Goals as goal
 
@@ -35,3 +36,9 @@ pub returns-clause-matches : goal.returns-clause-matches
 returns-clause-matches g c =
     item_on heading_items (Part ParameterTypes) [] _ _ _ (λ stack. refl)
     (heading_closed _ _ _ _ _ c.in_ok-number.ensures.matches c.in_ok-expect.ensures.matches c.in_ok-parameters.ensures.matches c.in_ok-expect-2.ensures.matches) c.in_ok-declarations.ensures.matches
+
+pub returns-clause-kept : goal.returns-clause-kept
+returns-clause-kept g c =
+    on_then _ _ _ c.in_ok-number.ensures.kept
+    (kept_then _ _ _ (on _ _ c.in_ok-expect.ensures.kept)
+    (kept_then _ _ _ c.in_ok-parameters.ensures.kept (kept_then _ _ _ (on _ _ c.in_ok-expect-2.ensures.kept) c.in_ok-declarations.ensures.kept)))

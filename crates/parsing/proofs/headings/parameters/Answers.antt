@@ -4,7 +4,7 @@ use Rattle.tokens.specs.declared.lexemes.Lexeme.{Lexeme}
 use Rattle.tokens.specs.declared.lexemes.Token.TheVariants as token
 use Rattle.grammar.specs.Grammar.{AName, More, Parameter, Parameters, Part, is_fault}
 use Rattle.parsing.specs.Position.{scope_of}
-use Rattle.parsing.proofs.Advances.{stays_ready}
+use Rattle.parsing.proofs.Advances.{kept_then, on, stays_ready}
 use Rattle.parsing.proofs.Names.{stays_body}
 use Rattle.parsing.proofs.HeadingLaws.{no_parameters, parameter_first, parameters_open}
 use Rattle.parsing.proofs.ListLaws.{item_on, leaves}
@@ -41,3 +41,6 @@ returns-in_default g c =
       stays = (stays_body (scope_of c.args.parser.now)).function;
       kept = stays_ready c.args.parser.now c.requires.ready;
     }
+
+pub returns-in_ok-more_names-clause-kept : goal.returns-in_ok-more_names-clause-kept
+returns-in_ok-more_names-clause-kept g c = kept_then _ _ _ (on _ _ c.in_ok-declare.ensures.kept) c.in_ok-more_names.ensures.kept

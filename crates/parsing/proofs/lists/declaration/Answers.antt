@@ -3,6 +3,7 @@ use Rattle.std.proofs.lemmas.Result.{err_from_is_err_and}
 use Rattle.grammar.specs.Grammar.{Part, Types}
 use Rattle.parsing.specs.Roles.{role_of}
 use Rattle.parsing.specs.Declarations.{declaration_items, names_items}
+use Rattle.parsing.proofs.Advances.{handed_kept, kept_then, on}
 use Rattle.parsing.proofs.ListLaws.{handed_on, leaves, type_first, types_then}
 use Rattle.parsing.proofs.lists.declaration.Goals as goal
 
@@ -16,3 +17,7 @@ pub returns-clause-matches : goal.returns-clause-matches
 returns-clause-matches g c =
     handed_on c.names.result (declaration_items c.args.declared) (names_items c.args.declared) _ _ _
     (types_then c.args.declared _ _ _ c.in_ok-expect_word.ensures.matches c.in_ok-type_words.ensures.matches) c.names.ensures.matches
+
+pub returns-clause-kept : goal.returns-clause-kept
+returns-clause-kept g c =
+    handed_kept c.names.result _ _ _ (kept_then _ _ _ (on _ _ c.in_ok-expect_word.ensures.kept) c.in_ok-type_words.ensures.kept) c.names.ensures.kept

@@ -4,6 +4,7 @@ use Rattle.tokens.specs.declared.lexemes.Mark.TheVariants as mark
 use Rattle.grammar.specs.Grammar.{Exactly, More, Part}
 use Rattle.parsing.specs.Roles.{role_of}
 use Rattle.parsing.specs.Declarations.{names_items}
+use Rattle.parsing.proofs.Advances.{kept_then, on, on_then}
 use Rattle.parsing.proofs.ListLaws.{item_on, leaves, name_first, names_then}
 use Rattle.parsing.proofs.lists.names.Goals as goal
 
@@ -23,3 +24,7 @@ pub returns-clause-matches : goal.returns-clause-matches
 returns-clause-matches g c =
     item_on (names_items c.args.declared) (Exactly mark.Semicolon) [] _ _ _ (λ stack. refl)
     (names_then c.args.declared _ _ _ c.in_ok-declare.ensures.matches c.in_ok-more_names.ensures.matches) c.in_ok-expect.ensures.matches
+
+pub returns-clause-kept : goal.returns-clause-kept
+returns-clause-kept g c =
+    on_then _ _ _ c.in_ok-declare.ensures.kept (kept_then _ _ _ c.in_ok-more_names.ensures.kept (on _ _ c.in_ok-expect.ensures.kept))

@@ -22,7 +22,7 @@ pub returns-in-Err-clause-matches : goal.returns-in-Err-clause-matches
 returns-in-Err-clause-matches g c =
     let near : IsNear c.self.inside.cursor = subst (λ (p : Standing). IsNear p.place.position.reading) (sym c.self.view_is) c.requires.ready.near in
     let found : c.self.inside.cursor.next.token ≡ token.Name c.in_ok-name.name = ap (λ (p : Standing). p.place.position.reading.next.token) c.self.view_is ∙ c.in_ok-name.ensures.found in
-    rw (c.refusal.ensures, sym c.self.view_is) (name_refused _ Called _ c.in-Err.code near found c.in-Err.ensures.matches)
+    rw (c.refusal.ensures, sym c.self.view_is) (name_refused _ Called _ c.in-Err.code near found c.in-Err.ensures.refused)
 
 pub returns-in_err-advance-clause-matches : goal.returns-in_err-advance-clause-matches
 returns-in_err-advance-clause-matches g c =
