@@ -8,6 +8,7 @@ use Rattle.tokens.specs.declared.lexemes.Lexeme.{Lexeme}
 use Rattle.grammar.specs.declared.diagnostics.Diagnostic.{Diagnostic}
 use Rattle.grammar.specs.declared.diagnostics.ParseFault.{ParseFault}
 use Rattle.grammar.specs.declared.diagnostics.ParseFault.TheVariants as refusal
+use Rattle.grammar.specs.declared.pools.TheConstants.{MOST_NAMES}
 use Rattle.grammar.specs.Compiled.{diagnostic}
 use Rattle.grammar.specs.Derivation.{state, Value, Definition, line_of, name_of_token, next_of}
 use Rattle.grammar.specs.Faults.{levels, misfit_code}
@@ -84,7 +85,7 @@ pub record IsNoName (next : Lexeme) (fault : ParseFault) : Type 0 where
 -- the definition of the function of this number began
 pub record BeginsDefinition (number : ℕ) (old new : Position) : Type 0 where
   pub is : new.scope.number ≡ number
-  pub few : number < 64
+  pub few : number < MOST_NAMES
   pub mentioned : number < length new.scope.functions
   pub within : IsWithin old.scope → IsWithin new.scope
 
