@@ -1,4 +1,4 @@
-use Rattle.std.proofs.Common.{◌≡◌, ◌+◌, ◌-◌, ◌*◌, ◌≤◌, [], ◌∷◌}
+use Rattle.std.proofs.Common.{◌+◌, ◌-◌, ◌*◌, [], ◌∷◌}
 use Rattle.grammar.specs.Grammar.{Part, Statements}
 use Rattle.parsing.specs.declared.parser.TheConstants.{MOST_LEVELS}
 use Rattle.parsing.specs.Advancing.{StayedOrWentOn}
