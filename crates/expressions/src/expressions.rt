@@ -8,7 +8,7 @@ ghost use Rattle.grammar.specs.Actions.{middle};
 ghost use Rattle.grammar.specs.Building.{AppendsAll, MayFollow, Refuses};
 ghost use Rattle.grammar.specs.Derivation.{name_of_token};
 ghost use Rattle.grammar.specs.Grammar.{Arguments, Expression, Level, Part, Primary, Unary, is_fault, is_mark};
-ghost use Rattle.grammar.specs.Operators.{operator_at, store_operator};
+ghost use Rattle.grammar.specs.Operators.{operator_from, operator_of, store_operator};
 ghost use Rattle.parsing.specs.Position.{place};
 ghost use Rattle.parsing.specs.Room.{HasLeft, HasRoom, room};
 ghost use Rattle.parsing.specs.Stretch.{Counts, FailsAt, Refused};
@@ -19,7 +19,7 @@ ghost use Rattle.expressions.specs.Telling.{MayFollowAll};
 use crate::signs::{Sign, sign_of, step_of};
 use crate::variables::{constant, step_before, variable};
 use grammar::{
-    Build, BuildFault, Code, LAST_LEVEL, Op, ParseFault, StoreOp, operator_at, store_operator,
+    Binary, Build, BuildFault, Code, Op, ParseFault, StoreOp, operator_from, store_operator,
 };
 use parsing::{MOST_LEVELS, Parser, is_mark};
 use tokens::{Feed, Mark, Token};
@@ -85,7 +85,7 @@ fn assignment<F: Feed, B: Build>(
     Ok(())
 }
 
-/// `levelN → level(N+1) tailN`, and behind the last level `level11`
+/// `levelN → level(N+1) tailN` and `level11 → ..`: an operand, and the operators from this level on, by precedence climbing
 #[cycle(expressions)]
 fn levels<F: Feed, B: Build>(
     parser: &mut Parser,
@@ -94,13 +94,13 @@ fn levels<F: Feed, B: Build>(
     level: u8,
     depth: u8,
 ) -> Result<(), ParseFault>
-    requires level { level ≤ 11 }
     requires deep { depth ≤ 64 }
     requires open { HasRoom (B.stands build.old) (room depth level) }
     requires sound { is_fault parser.old.reading.next.token ≡ false }
     requires near { IsNear parser.old.reading }
     requires count { F.failures feed.old < 2 ^ 64 - 1 }
     ensures parsed { OnOk result (AddsExpr (B.stands build.old) (B.stands build.new) depth level (Part (Level level) ∷ []) [] (place parser.old (F.to_come feed.old)) (place parser.new (F.to_come feed.new))) }
+    ensures none { OnOk result (operator_from level parser.new.reading.next.token ≡ None) }
     ensures sound { OnOk result (is_fault parser.new.reading.next.token ≡ false) }
     ensures falls { OnOk result (remaining parser.new.reading < remaining parser.old.reading) }
     ensures refused { IfErr result (λ fault. Refused (FailsAt depth (Part (Level level) ∷ []) [] (place parser.old (F.to_come feed.old))) B.allocates (taken parser.new.reading) fault) }
@@ -108,13 +108,9 @@ fn levels<F: Feed, B: Build>(
     ensures near { OnOk result (IsNear parser.new.reading) }
     ensures took { Takes (taken parser.old.reading) (taken parser.new.reading) (F.to_come feed.old) (F.to_come feed.new) }
 {
-    if level > LAST_LEVEL {
-        unary(parser, feed, build, depth)?;
-        return Ok(());
-    }
-    levels(parser, feed, build, level + 1, depth)?;
-    while let Some(op) = operator_at(&parser.next().token, level) {
-        operand(parser, feed, build, op, level, depth)?;
+    unary(parser, feed, build, depth)?;
+    while let Some(binary) = operator_from(&parser.next().token, level) {
+        operand(parser, feed, build, binary, depth)?;
     }
     Ok(())
 }
@@ -125,28 +121,27 @@ fn operand<F: Feed, B: Build>(
     parser: &mut Parser,
     feed: &mut F,
     build: &mut B,
-    op: Op,
-    level: u8,
+    binary: Binary,
     depth: u8,
 ) -> Result<(), ParseFault>
-    requires level { level ≤ 10 }
     requires deep { depth ≤ 64 }
-    requires open { HasLeft (B.stands build.old) (room depth level) }
-    requires is { operator_at level parser.old.reading.next.token ≡ Some op }
+    requires open { HasLeft (B.stands build.old) (room depth binary.level) }
+    requires is { operator_of parser.old.reading.next.token ≡ Some binary }
     requires near { IsNear parser.old.reading }
     requires count { F.failures feed.old < 2 ^ 64 - 1 }
-    ensures parsed { OnOk result (AddsOperand (B.stands build.old) (B.stands build.new) depth level op (place parser.old (F.to_come feed.old)) (place parser.new (F.to_come feed.new))) }
+    ensures parsed { OnOk result (AddsOperand (B.stands build.old) (B.stands build.new) depth binary.level binary.op (place parser.old (F.to_come feed.old)) (place parser.new (F.to_come feed.new))) }
+    ensures none { OnOk result (operator_from (binary.level + 1) parser.new.reading.next.token ≡ None) }
     ensures sound { OnOk result (is_fault parser.new.reading.next.token ≡ false) }
     ensures falls { OnOk result (remaining parser.new.reading < remaining parser.old.reading) }
-    ensures refused { IfErr result (λ fault. Refused (FailsOperand depth level (place parser.old (F.to_come feed.old))) B.allocates (taken parser.new.reading) fault) }
+    ensures refused { IfErr result (λ fault. Refused (FailsOperand depth binary.level (place parser.old (F.to_come feed.old))) B.allocates (taken parser.new.reading) fault) }
     ensures counted { Counts result (F.failures feed.old) (F.failures feed.new) }
     ensures near { OnOk result (IsNear parser.new.reading) }
     ensures took { Takes (taken parser.old.reading) (taken parser.new.reading) (F.to_come feed.old) (F.to_come feed.new) }
 {
     parser.advance(feed)?;
-    tell_middle(build, op)?;
-    levels(parser, feed, build, level + 1, depth)?;
-    build.binop(op)?;
+    tell_middle(build, binary.op)?;
+    levels(parser, feed, build, binary.level + 1, depth)?;
+    build.binop(binary.op)?;
     Ok(())
 }
 

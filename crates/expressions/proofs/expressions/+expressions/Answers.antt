@@ -1,17 +1,18 @@
 -- What each exit _ leaves _ to show: the fault goes back to the start, or the stretches join.
 use Rattle.std.proofs.Common.{rules, ◌≡◌, ◌+◌, ◌<◌, ◌≤◌, ◌∙◌, ap, refl, true, false, arith}
-use Rattle.std.specs.Prelude.{None}
+use Rattle.std.specs.Prelude.{None, Some}
 use Rattle.std.proofs.lemmas.Result.{err_from_is_err_and}
 use Rattle.tokens.specs.declared.lexemes.Lexeme.{Lexeme}
 use Rattle.tokens.specs.declared.lexemes.Mark.TheVariants as mark
 use Rattle.grammar.specs.Grammar.{is_fault, is_mark}
-use Rattle.grammar.specs.Operators.{operator_at}
+use Rattle.grammar.specs.Operators.{operator_from, operator_of}
 use Rattle.parsing.specs.Position.{place}
 use Rattle.parsing.specs.Room.{HasLeft, HasRoom, room}
 use Rattle.expressions.proofs.AssignmentLaws.{IsAssignment, assignment_adds, plain_adds, plain_refused, sign_goes_on, sign_refused, store_follows, store_too_deep, target_refused, value_refused}
 use Rattle.expressions.proofs.CallLaws.{IsCall, argument_adds, argument_refused, arguments_end, arguments_refused, arguments_room, begin_follows, call_adds, call_close_refused, call_open_refused, call_too_deep, callee_refused, comma_refused, end_follows, first_adds, first_refused, next_argument_room, no_arguments}
 use Rattle.expressions.proofs.NestedLaws.{NoOperator, NoPrimary, bracket_adds, bracket_too_deep, close_refused, inside_refused, open_ends, primary_adds, primary_misfits, primary_refused}
-use Rattle.expressions.proofs.OperatorLaws.{apply_follows, last_adds, last_refused, left_open, level_adds, level_ends, level_refused, middle_follows, operand_adds, operator_ends, right_has_room, right_refused, tail_adds, tail_refused}
+use Rattle.expressions.proofs.ClimbingLaws.{at_its_own, climb_refused, climbs_end, climbs_first, climbs_on, first_stops, found, left_open, ten_levels}
+use Rattle.expressions.proofs.OperatorLaws.{apply_follows, middle_follows, operand_adds, operator_ends, right_has_room, right_refused}
 use Rattle.expressions.proofs.SignLaws.{before_follows, behind_follows, operand_refused, operand_room, sign_adds, sign_ends, sign_too_deep}
 use Rattle.expressions.proofs.VariableLaws.{is_named}
 use Rattle.expressions.proofs.expressions.+expressions.Goals as goal
@@ -75,73 +76,65 @@ signed-returns-clause-parsed g t c =
 
 pub levels-returns-in_err-unary-clause-refused : goal.levels-returns-in_err-unary-clause-refused
 levels-returns-in_err-unary-clause-refused g t c =
-    let last : 10 < c.args.level = omega arith in
     let p = err_from_is_err_and c.from_residual.result c.from_residual.ensures.1 in
-    rw (p.1, p.2) (last_refused _ (place c.args.parser.now (g.F.Feed.to_come c.args.feed.now)) c.args.depth c.args.level _ c.in_err-unary.field-0.0 last c.requires.sound c.in_err-unary.ensures.refused)
+    rw (p.1, p.2) (first_stops _ (place c.args.parser.now (g.F.Feed.to_come c.args.feed.now)) c.args.depth c.args.level _ c.in_err-unary.field-0.0 c.requires.sound c.in_err-unary.ensures.refused)
 
-pub levels-returns-then-level-gt-LAST_LEVEL-clause-parsed : goal.levels-returns-then-level-gt-LAST_LEVEL-clause-parsed
-levels-returns-then-level-gt-LAST_LEVEL-clause-parsed g t c =
-    last_adds _ _ (place c.args.parser.now (g.F.Feed.to_come c.args.feed.now)) _ c.args.depth c.args.level (omega arith) c.requires.level c.requires.sound c.in_ok-unary.ensures.parsed
-
-pub levels-returns-in_err-levels-clause-refused : goal.levels-returns-in_err-levels-clause-refused
-levels-returns-in_err-levels-clause-refused g t c =
-    let small : c.args.level ≤ 10 = omega arith in
-    let p = err_from_is_err_and c.from_residual-in_err-levels.result c.from_residual-in_err-levels.ensures.1 in
-    rw (p.1, p.2) (level_refused _ (place c.args.parser.now (g.F.Feed.to_come c.args.feed.now)) c.args.depth c.args.level _ c.in_err-levels.field-0.0 small c.requires.sound c.in_err-levels.ensures.refused)
-
-pub levels-loop-op-init : goal.levels-loop-op-init
-levels-loop-op-init g t c =
+pub levels-loop-binary-init : goal.levels-loop-binary-init
+levels-loop-binary-init g t c =
     record {
-      parsed = level_adds _ _ (place c.args.parser.now (g.F.Feed.to_come c.args.feed.now)) _ c.args.depth c.args.level (omega arith) c.requires.sound c.in_ok-levels.ensures.parsed;
-      sound = c.in_ok-levels.ensures.sound;
-      falls = c.in_ok-levels.ensures.falls;
-      counted = c.in_ok-levels.ensures.counted;
-      near = c.in_ok-levels.ensures.near;
-      took = record { rest = λ total h. c.in_ok-levels.ensures.took.rest total h };
+      climbs = climbs_first _ _ (place c.args.parser.now (g.F.Feed.to_come c.args.feed.now)) _ c.args.depth c.args.level c.requires.sound c.in_ok-unary.ensures.parsed;
+      sound = c.in_ok-unary.ensures.sound;
+      falls = c.in_ok-unary.ensures.falls;
+      counted = c.in_ok-unary.ensures.counted;
+      near = c.in_ok-unary.ensures.near;
+      took = record { rest = λ total h. c.in_ok-unary.ensures.took.rest total h };
     }
 
-pub levels-loop-op-preserved : goal.levels-loop-op-preserved
-levels-loop-op-preserved g t c =
+pub levels-loop-binary-preserved : goal.levels-loop-binary-preserved
+levels-loop-binary-preserved g t c =
+    let here : operator_from c.args.level c.loop-binary.parser.reading.next.token ≡ Some c.in-Some.binary = cc in
     record {
-      parsed = tail_adds _ _ _ (place c.args.parser.now (g.F.Feed.to_come c.args.feed.now)) _ _ c.args.depth c.args.level c.in-Some.op c.loop-op.invariant.parsed c.in_ok-operand.ensures.parsed;
+      climbs = climbs_on _ _ _ (place c.args.parser.now (g.F.Feed.to_come c.args.feed.now)) _ _ c.args.depth c.args.level c.in-Some.binary c.loop-binary.invariant.climbs here
+          c.in_ok-operand.ensures.parsed c.in_ok-operand.ensures.none;
       sound = c.in_ok-operand.ensures.sound;
       falls = omega (arith, c.in_ok-operand.ensures.falls);
-      counted = c.in_ok-operand.ensures.counted ∙ c.loop-op.invariant.counted;
+      counted = c.in_ok-operand.ensures.counted ∙ c.loop-binary.invariant.counted;
       near = c.in_ok-operand.ensures.near;
-      took = record { rest = λ total h. c.in_ok-operand.ensures.took.rest total (c.loop-op.invariant.took.rest total h) };
+      took = record { rest = λ total h. c.in_ok-operand.ensures.took.rest total (c.loop-binary.invariant.took.rest total h) };
     }
 
 pub levels-returns-in_err-operand-clause-refused : goal.levels-returns-in_err-operand-clause-refused
 levels-returns-in_err-operand-clause-refused g t c =
+    let here : operator_from c.args.level c.loop-binary.parser.reading.next.token ≡ Some c.in-Some.binary = cc in
     let p = err_from_is_err_and c.from_residual-in_err-operand.result c.from_residual-in_err-operand.ensures.1 in
-    rw (p.1, p.2) (tail_refused _ _ _ (place c.args.parser.now (g.F.Feed.to_come c.args.feed.now)) _ c.args.depth c.args.level _ c.in_err-operand.field-0.0 c.loop-op.invariant.parsed c.in_err-operand.ensures.refused)
+    rw (p.1, p.2) (climb_refused _ _ _ (place c.args.parser.now (g.F.Feed.to_come c.args.feed.now)) _ c.args.depth c.args.level c.in-Some.binary _ c.in_err-operand.field-0.0 c.loop-binary.invariant.climbs here c.in_err-operand.ensures.refused)
 
 pub levels-returns-clause-parsed : goal.levels-returns-clause-parsed
 levels-returns-clause-parsed g t c =
-    let none : operator_at c.args.level c.loop-op.parser.reading.next.token ≡ None = cc in
-    level_ends _ _ (place c.args.parser.now (g.F.Feed.to_come c.args.feed.now)) _ c.args.depth c.args.level none c.loop-op.invariant.sound c.loop-op.invariant.parsed
+    let none : operator_from c.args.level c.loop-binary.parser.reading.next.token ≡ None = cc in
+    climbs_end _ _ (place c.args.parser.now (g.F.Feed.to_come c.args.feed.now)) _ c.args.depth c.args.level none c.loop-binary.invariant.sound c.loop-binary.invariant.climbs
 
 pub operand-returns-in_err-advance-clause-refused : goal.operand-returns-in_err-advance-clause-refused
 operand-returns-in_err-advance-clause-refused g t c =
     let p = err_from_is_err_and c.from_residual.result c.from_residual.ensures.1 in
-    rw (p.1, p.2) (operator_ends _ (place c.args.parser.now (g.F.Feed.to_come c.args.feed.now)) c.args.depth c.args.level c.args.op _ c.in_err-advance.field-0.0 c.requires.is c.in_err-advance.ensures.refused)
+    rw (p.1, p.2) (operator_ends _ (place c.args.parser.now (g.F.Feed.to_come c.args.feed.now)) c.args.depth c.args.binary.level c.args.binary.op _ c.in_err-advance.field-0.0 (at_its_own _ c.args.binary c.requires.is) c.in_err-advance.ensures.refused)
 
 pub operand-tell_middle-requires : goal.operand-tell_middle-requires
 operand-tell_middle-requires g t c =
-    record { follow = middle_follows _ c.args.depth c.args.level c.args.op _ c.requires.is c.requires.open }
+    record { follow = middle_follows _ c.args.depth c.args.binary.level c.args.binary.op _ (at_its_own _ c.args.binary c.requires.is) c.requires.open }
 
 pub operand-returns-in_err-levels-clause-refused : goal.operand-returns-in_err-levels-clause-refused
 operand-returns-in_err-levels-clause-refused g t c =
     let p = err_from_is_err_and c.from_residual-in_err-levels.result c.from_residual-in_err-levels.ensures.1 in
-    rw (p.1, p.2) (right_refused _ (place c.args.parser.now (g.F.Feed.to_come c.args.feed.now)) _ c.args.depth c.args.level c.args.op _ c.in_err-levels.field-0.0 c.requires.is c.in_ok-advance.ensures.passed c.in_err-levels.ensures.refused)
+    rw (p.1, p.2) (right_refused _ (place c.args.parser.now (g.F.Feed.to_come c.args.feed.now)) _ c.args.depth c.args.binary.level c.args.binary.op _ c.in_err-levels.field-0.0 (at_its_own _ c.args.binary c.requires.is) c.in_ok-advance.ensures.passed c.in_err-levels.ensures.refused)
 
 pub operand-binop-requires : goal.operand-binop-requires
 operand-binop-requires g t c =
-    record { follows = apply_follows _ _ _ c.args.depth c.args.level c.args.op _ c.in_ok-levels.ensures.parsed.tree c.requires.is c.requires.open c.in_ok-tell_middle.ensures.told c.in_ok-levels.ensures.parsed.numbered c.in_ok-levels.ensures.parsed.narrow c.in_ok-levels.ensures.parsed.added }
+    record { follows = apply_follows _ _ _ c.args.depth c.args.binary.level c.args.binary.op _ c.in_ok-levels.ensures.parsed.tree (at_its_own _ c.args.binary c.requires.is) c.requires.open c.in_ok-tell_middle.ensures.told c.in_ok-levels.ensures.parsed.numbered c.in_ok-levels.ensures.parsed.narrow c.in_ok-levels.ensures.parsed.added }
 
 pub operand-returns-clause-parsed : goal.operand-returns-clause-parsed
 operand-returns-clause-parsed g t c =
-    operand_adds _ _ _ _ (place c.args.parser.now (g.F.Feed.to_come c.args.feed.now)) _ _ c.args.depth c.args.level c.args.op c.requires.is c.in_ok-advance.ensures.passed c.in_ok-tell_middle.ensures.told c.in_ok-levels.ensures.parsed c.in_ok-binop.ensures.ok c.in_ok-levels.ensures.sound
+    operand_adds _ _ _ _ (place c.args.parser.now (g.F.Feed.to_come c.args.feed.now)) _ _ c.args.depth c.args.binary.level c.args.binary.op (at_its_own _ c.args.binary c.requires.is) c.in_ok-advance.ensures.passed c.in_ok-tell_middle.ensures.told c.in_ok-levels.ensures.parsed c.in_ok-binop.ensures.ok c.in_ok-levels.ensures.sound
 
 pub call-returns-then-depth-ge-MOST_LEVELS-clause-refused : goal.call-returns-then-depth-ge-MOST_LEVELS-clause-refused
 call-returns-then-depth-ge-MOST_LEVELS-clause-refused g t c =
@@ -308,13 +301,19 @@ call-arguments-requires g t c κs within =
 
 pub levels-operand-requires : goal.levels-operand-requires
 levels-operand-requires g t c κs within =
-    let opened : HasLeft (g.B.Build.stands c.loop-op.build) (room c.args.depth c.args.level) = left_open _ _ (place c.args.parser.now (g.F.Feed.to_come c.args.feed.now)) _ c.args.depth c.args.level _ _ c.requires.open c.loop-op.invariant.parsed in
-    search (rules, opened)
+    let here : operator_from c.args.level c.loop-binary.parser.reading.next.token ≡ Some c.in-Some.binary = cc in
+    let opened : HasLeft (g.B.Build.stands c.loop-binary.build) (room c.args.depth c.in-Some.binary.level) =
+    left_open _ _ (place c.args.parser.now (g.F.Feed.to_come c.args.feed.now)) _ c.args.depth c.args.level c.in-Some.binary c.requires.open c.loop-binary.invariant.climbs here in
+    let is : operator_of c.loop-binary.parser.reading.next.token ≡ Some c.in-Some.binary = (found _ _ _ here).0 in
+    let tighter : c.args.level ≤ c.in-Some.binary.level = (found _ _ _ here).1 in
+    search (rules, opened, is, tighter)
 
 pub operand-levels-requires : goal.operand-levels-requires
 operand-levels-requires g t c κs within =
-    let opened : HasRoom (g.B.Build.stands c.tell_middle.new.build) (room c.args.depth (c.args.level + 1)) = right_has_room (g.B.Build.stands c.args.build.now) (g.B.Build.stands c.tell_middle.new.build) c.args.depth c.args.level c.args.op _ c.requires.is c.requires.open c.in_ok-tell_middle.ensures.told in
-    search (rules, opened)
+    let opened : HasRoom (g.B.Build.stands c.tell_middle.new.build) (room c.args.depth (c.args.binary.level + 1)) =
+    right_has_room (g.B.Build.stands c.args.build.now) (g.B.Build.stands c.tell_middle.new.build) c.args.depth c.args.binary.level c.args.binary.op _ (at_its_own _ c.args.binary c.requires.is) c.requires.open c.in_ok-tell_middle.ensures.told in
+    let most : c.args.binary.level ≤ 10 = ten_levels _ c.args.binary c.requires.is in
+    search (rules, opened, most)
 
 pub signed-unary-requires : goal.signed-unary-requires
 signed-unary-requires g t c κs within =
