@@ -1,6 +1,7 @@
 -- Where a derivation stops: at its first fault, or where the device failed.
 use Rattle.std.specs.Prelude.{ℕ, ◌+◌, ◌≡◌, ◌≤◌, List, ◌++◌, Option, Some, None, IfSome, length}
 use Rattle.tokens.specs.Reading.{reach_of}
+use Rattle.tokens.specs.declared.limits.TheConstants.{WINDOW}
 use Rattle.tokens.specs.declared.lexemes.Lexeme.{Lexeme}
 use Rattle.grammar.specs.declared.diagnostics.Diagnostic.{Diagnostic}
 use Rattle.grammar.specs.Derivation.{State}
@@ -18,7 +19,7 @@ stop_with fault taken = record { fault = fault; taken = taken }
 
 -- how many bytes may have been taken past what decides: a window where a fault is told, none where the device failed
 abbrev pub slack : Option Diagnostic → ℕ
-slack (Some d) = 4096
+slack (Some d) = WINDOW
 slack None = 0
 
 -- no fault of the derivation stands before these last tokens of the source

@@ -3,10 +3,12 @@ use Rattle.std.specs.Prelude.{ℕ, ◌+◌, ◌≡◌, ◌<◌, ◌≤◌, List,
 use Rattle.std.specs.Option.{option_map}
 use Rattle.tokens.specs.Reading.{reach, reach_of}
 use Rattle.tokens.specs.Tokens.{is_last, tokens}
+use Rattle.tokens.specs.declared.limits.TheConstants.{WINDOW}
 use Rattle.tokens.specs.declared.lexemes.Lexeme.{Lexeme}
 use Rattle.grammar.specs.declared.diagnostics.Diagnostic.{Diagnostic}
 use Rattle.grammar.specs.declared.diagnostics.ParseFault.{ParseFault}
 use Rattle.grammar.specs.declared.diagnostics.ParseFault.TheVariants as refusal
+use Rattle.grammar.specs.declared.pools.TheConstants.{MOST_NAMES}
 use Rattle.grammar.specs.Compiled.{diagnostic}
 use Rattle.grammar.specs.Derivation.{state, Value, Definition, line_of, name_of_token, next_of}
 use Rattle.grammar.specs.Faults.{levels, misfit_code}
@@ -72,7 +74,7 @@ pub record StopsFirst (told : Option (List Lexeme)) (stop : Stop) : Type 0 where
 
 -- no more bytes were taken than a window behind the two tokens that are held
 abbrev pub IsNearTo : Place → ℕ → Type 0
-IsNearTo here taken = taken ≤ reach here.position.reading + 4096
+IsNearTo here taken = taken ≤ reach here.position.reading + WINDOW
 
 -- the token is no name, and is refused for that
 pub record IsNoName (next : Lexeme) (fault : ParseFault) : Type 0 where
@@ -83,7 +85,7 @@ pub record IsNoName (next : Lexeme) (fault : ParseFault) : Type 0 where
 -- the definition of the function of this number began
 pub record BeginsDefinition (number : ℕ) (old new : Position) : Type 0 where
   pub is : new.scope.number ≡ number
-  pub few : number < 64
+  pub few : number < MOST_NAMES
   pub mentioned : number < length new.scope.functions
   pub within : IsWithin old.scope → IsWithin new.scope
 

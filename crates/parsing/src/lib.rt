@@ -9,6 +9,6 @@ mod tests_of_tokens;
 
 pub use headings::{externals, heading};
 pub use lists::{declarations, type_words};
-pub use parser::{MOST_LEVELS, Parser};
+pub use parser::{MOST_LEVELS, Parser, first};
 pub use roles::Declared;
 pub use tests_of_tokens::{is_mark, is_word};
