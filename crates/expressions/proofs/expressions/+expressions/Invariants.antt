@@ -1,8 +1,7 @@
-use Rattle.std.proofs.Common.{◌≡◌, ◌+◌, ◌-◌, ◌*◌, ◌<◌, ◌≤◌, [], ◌∷◌, false}
-use Rattle.tokens.specs.Reading.{IsNear, remaining, taken}
-use Rattle.tokens.specs.Window.{Takes}
-use Rattle.grammar.specs.Grammar.{Arguments, MoreArguments, Part, is_fault}
-use Rattle.parsing.specs.Position.{place}
+use Rattle.std.proofs.Common.{◌+◌, ◌-◌, ◌*◌, [], ◌∷◌}
+use Rattle.grammar.specs.Grammar.{Arguments, MoreArguments, Part}
+use Rattle.parsing.specs.Advancing.{StayedOrWentOn, WentOn}
+use Rattle.parsing.specs.Position.{to_go}
 use Rattle.expressions.specs.Expressions.{AddsArgs}
 use Rattle.expressions.proofs.ClimbingLaws.{Climbs}
 use Rattle.expressions.proofs.expressions.+expressions.Given as goal
@@ -39,25 +38,18 @@ decreases-arguments g l = (64 - l.depth) * 64 + 61
 
 abbrev pub invariant-levels-loop-binary : goal.invariant-levels-loop-binary
 invariant-levels-loop-binary g l = record {
-  climbs : Climbs (g.B.Build.stands l.fn.build) (g.B.Build.stands l.build) l.depth l.level (place l.fn.parser (g.F.Feed.to_come l.fn.feed)) (place l.parser (g.F.Feed.to_come l.feed));
-  sound : is_fault l.parser.reading.next.token ≡ false;
-  falls : remaining l.parser.reading < remaining l.fn.parser.reading;
-  counted : g.F.Feed.failures l.feed ≡ g.F.Feed.failures l.fn.feed;
-  near : IsNear l.parser.reading;
-  took : Takes (taken l.fn.parser.reading) (taken l.parser.reading) (g.F.Feed.to_come l.fn.feed) (g.F.Feed.to_come l.feed);
+  climbs : Climbs (g.B.Build.stands l.fn.build) (g.B.Build.stands l.build) l.depth l.level l.fn.parser.place l.parser.place;
+  kept : WentOn l.fn.parser l.parser;
 }
 
 abbrev pub decreases-levels-loop-binary : goal.decreases-levels-loop-binary
-decreases-levels-loop-binary g l = remaining l.parser.reading
+decreases-levels-loop-binary g l = to_go l.parser
 
 abbrev pub invariant-arguments-loop-parser : goal.invariant-arguments-loop-parser
 invariant-arguments-loop-parser g l = record {
-  parsed : AddsArgs (g.B.Build.stands l.fn.build) (g.B.Build.stands l.build) l.depth (Part Arguments ∷ []) (Part MoreArguments ∷ []) (place l.fn.parser (g.F.Feed.to_come l.fn.feed)) (place l.parser (g.F.Feed.to_come l.feed));
-  falls : remaining l.parser.reading ≤ remaining l.fn.parser.reading;
-  counted : g.F.Feed.failures l.feed ≡ g.F.Feed.failures l.fn.feed;
-  near : IsNear l.parser.reading;
-  took : Takes (taken l.fn.parser.reading) (taken l.parser.reading) (g.F.Feed.to_come l.fn.feed) (g.F.Feed.to_come l.feed);
+  parsed : AddsArgs (g.B.Build.stands l.fn.build) (g.B.Build.stands l.build) l.depth (Part Arguments ∷ []) (Part MoreArguments ∷ []) l.fn.parser.place l.parser.place;
+  kept : StayedOrWentOn l.fn.parser l.parser;
 }
 
 abbrev pub decreases-arguments-loop-parser : goal.decreases-arguments-loop-parser
-decreases-arguments-loop-parser g l = remaining l.parser.reading
+decreases-arguments-loop-parser g l = to_go l.parser
