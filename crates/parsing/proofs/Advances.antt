@@ -1,5 +1,5 @@
 -- One call after another: what they keep.
-use Rattle.std.proofs.Common.{◌≡◌, ℕ, ◌+◌, ◌<◌, ◌≤◌, refl, ◌∙◌, ap, arith, le_refl, List}
+use Rattle.std.proofs.Common.{ℕ, refl, ◌∙◌, ap, arith, le_refl, List}
 use Rattle.std.specs.Prelude.{Option, Result, Ok, Err}
 use Rattle.tokens.specs.Window.{Takes}
 use Rattle.grammar.specs.declared.diagnostics.ParseFault.{ParseFault}

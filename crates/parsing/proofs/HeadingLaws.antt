@@ -3,7 +3,7 @@ use Rattle.std.proofs.Common.{◌≡◌, ℕ, List, [], ◌∷◌, refl, false}
 use Rattle.tokens.specs.declared.lexemes.Mark.TheVariants as mark
 use Rattle.tokens.specs.declared.lexemes.Token.{Token}
 use Rattle.tokens.specs.declared.lexemes.Token.TheVariants as token
-use Rattle.grammar.specs.Grammar.{Item, AName, Defined, Exactly, More, Parameter, ParameterTypes, Parameters, Part, is_fault}
+use Rattle.grammar.specs.Grammar.{AName, Defined, Exactly, More, Parameter, ParameterTypes, Parameters, Part, is_fault}
 use Rattle.parsing.specs.Declarations.{heading_items}
 use Rattle.parsing.specs.Position.{Place, next_at}
 use Rattle.parsing.specs.Stretch.{DerivesItem}

@@ -2,7 +2,8 @@
 use Rattle.std.specs.Prelude.{List, [], ◌∷◌}
 use Rattle.tokens.specs.declared.lexemes.Mark.TheVariants as mark
 use Rattle.tokens.specs.declared.lexemes.Word.TheVariants as word
-use Rattle.grammar.specs.Grammar.{AName, AWord, Declarations, Defined, Exactly, Item, More, ParameterTypes, Parameters, Part, Symbol, Types}
+use Rattle.grammar.specs.Grammar.{Item, AName, AWord, Exactly, Part}
+use Rattle.grammar.specs.Grammar.{Symbol, Declarations, Defined, More, ParameterTypes, Parameters, Types}
 use Rattle.parsing.specs.Roles.{role_of}
 use Rattle.parsing.specs.declared.roles.Declared.{Declared}
 use Rattle.parsing.specs.declared.roles.Declared.TheVariants as kind
@@ -27,4 +28,5 @@ declaration_items declared = AWord word.Type ∷ Part Types ∷ names_items decl
 
 -- name ( params ) pdecls
 abbrev pub heading_items : List Item
-heading_items = AName Defined ∷ Exactly mark.OpenRound ∷ Part Parameters ∷ Exactly mark.CloseRound ∷ Part ParameterTypes ∷ []
+heading_items =
+    AName Defined ∷ Exactly mark.OpenRound ∷ Part Parameters ∷ Exactly mark.CloseRound ∷ Part ParameterTypes ∷ []

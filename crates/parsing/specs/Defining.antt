@@ -5,7 +5,8 @@ use Rattle.grammar.specs.Scope.{Scope}
 use Rattle.parsing.specs.declared.roles.Declared.{Declared}
 use Rattle.parsing.specs.declared.roles.Declared.TheVariants as kind
 
--- the functions mentioned and the variables of the function are within their limits, and its parameters are among its variables
+-- the functions mentioned and the variables of the function are within their limits, and its parameters are among its
+-- variables
 pub record IsWithin (scope : Scope) : Type 0 where
   pub functions : length scope.functions ≤ MOST_NAMES
   pub parameters : scope.current.parameters ≤ length scope.current.variables

@@ -11,7 +11,8 @@ abbrev pub Consumes : {A : Type 0} → Result A ParseFault → Standing → Stan
 Consumes (Ok x) old new = GoesPast old.place new.place
 Consumes (Err fault) old new = Refused (StopsAt old.place) false (taken_at new.place) fault
 
--- These items were matched, which made these trees. Or the derivation stops within them, as the refusal says. No memory is asked for.
+-- These items were matched, which made these trees. Or the derivation stops within them, as the refusal says.
+-- No memory is asked for.
 abbrev pub Matches : {A : Type 0} → Result A ParseFault → List Item → (A → List Value) → Standing → Standing → Type 0
 Matches (Ok x) items trees old new = (depth : ℕ) → Derives depth items [] [] (trees x) old.place new.place
 Matches (Err fault) items trees old new =

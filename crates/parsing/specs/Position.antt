@@ -56,7 +56,8 @@ scope_of at = scope_at at.place
 
 -- the same with these names known
 abbrev pub with_scope : Scope → Standing → Standing
-with_scope scope at = record at { place = place (record { reading = at.place.position.reading; scope = scope }) at.place.to_come }
+with_scope scope at =
+    record at { place = place (record { reading = at.place.position.reading; scope = scope }) at.place.to_come }
 
 -- how many more tokens can come at most
 abbrev pub to_go : Standing → ℕ

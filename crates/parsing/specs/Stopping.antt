@@ -26,7 +26,8 @@ slack None = 0
 pub record NoneBefore (profile : Profile) (s : State) (rest : List Lexeme) : Type 0 where
   pub each : (f : Fault) → IsFault profile s f → length f.rest ≤ length rest
 
--- The derivation from s stops at these of its tokens. The fault that is told is its first, and no more bytes were taken than decide that.
+-- The derivation from s stops at these of its tokens. The fault that is told is its first, and no more bytes were taken
+-- than decide that.
 pub record Stops (profile : Profile) (s : State) (stop : Stop) : Type 0 where
   pub passed : List Lexeme
   pub rest : List Lexeme

@@ -1,4 +1,5 @@
-//! Keeps the state of a parser, consumes tokens one by one, and parses lists of names, declarations and the headings of functions.
+//! Keeps the state of a parser, consumes tokens one by one, and parses lists of names, declarations and the headings of
+//! functions.
 #![tactic(auto)]
 
 mod headings;

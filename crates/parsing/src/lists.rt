@@ -43,7 +43,10 @@ pub fn more_names<F: Feed>(parser: &mut Parser<'_, F>, declared: Declared) -> Re
 }
 
 /// `decls → type types name more ; decls` with locals, and `pdecls` likewise with parameters
-pub fn declarations<F: Feed>(parser: &mut Parser<'_, F>, declared: Declared) -> Result<(), ParseFault>
+pub fn declarations<F: Feed>(
+    parser: &mut Parser<'_, F>,
+    declared: Declared,
+) -> Result<(), ParseFault>
     requires blocks { IsInFunction declared }
     requires ready { IsReady parser.old }
     ensures matches { Matches result (Part (declarations_of declared) ∷ []) (λ _. []) parser.old parser.new }

@@ -1,6 +1,6 @@
 //! A parser's state: a cursor over the tokens of a device and the names known, with the calls that consume one token.
 
-ghost use Rattle.std.specs.Prelude.{◌≡◌, ◌-◌, drop, ◌<◌, ◌≤◌, ◌^◌, ◌∷◌, [], ℕ, length, is_some, false, true, OnOk, IfOk, IfErr};
+ghost use Rattle.std.specs.Prelude.{ℕ, ◌≡◌, ◌<◌, ◌≤◌, [], ◌∷◌, drop, length, false, true, is_some, OnOk, IfOk, IfErr};
 ghost use Rattle.std.specs.Option.{option_map};
 ghost use Rattle.tokens.specs.Reading.{shown, taken};
 ghost use Rattle.tokens.specs.Tokens.{FitsToken, is_last, tokens};
@@ -27,7 +27,8 @@ use tokens::{Cursor, Feed, Lexeme, Mark, Name, Token, Word};
 /// The most levels that may be open at once.
 pub const MOST_LEVELS: u8 = 64;
 
-/// The next tokens of a device's bytes, none of which that was consumed or is next is a lexical error, and the names known there.
+/// The next tokens of a device's bytes, and the names known there. Neither the next token nor one that was consumed is
+/// a lexical error.
 ///
 /// After an `Err` a parser is of no more use.
 #[derive(Drop)]
@@ -45,9 +46,9 @@ impl<'a, F: Feed> Model for Parser<'a, F> {
     ghost Value = { Standing };
 
     ghost view = { λ p. record {
-        place = place (record { reading = p.cursor; scope = p.scope }) (F.to_come p.feed.now);
-        failures = F.failures p.feed.now;
-        device = p.feed.ghost_name;
+      place = place (record { reading = p.cursor; scope = p.scope }) (F.to_come p.feed.now);
+      failures = F.failures p.feed.now;
+      device = p.feed.ghost_name;
     } };
 
     ghost invariant = { λ p. is_fault p.cursor.next.token ≡ false };
@@ -59,7 +60,8 @@ impl<'a, F: Feed> Model for Parser<'a, F> {
 /// `Source` if the first token is a lexical error, `Device` if the device failed.
 pub fn first<F: Feed>(feed: &mut F) -> Result<Cursor, ParseFault>
     requires count { F.failures feed.old < most_failures }
-    ensures tokens { IfOk result (λ cursor. shown cursor (F.to_come feed.new) ≡ option_map tokens (F.to_come feed.old)) }
+    ensures tokens { IfOk result (λ cursor.
+        shown cursor (F.to_come feed.new) ≡ option_map tokens (F.to_come feed.old)) }
     ensures ready { IfOk result IsReadable }
     ensures refused { IfErr result (StopsOpening (F.to_come feed.old) (F.to_come feed.new)) }
     ensures took { IfOk result (λ cursor.

@@ -1,4 +1,4 @@
-use Rattle.std.proofs.Common.{◌≡◌, [], ◌∷◌, ◌∙◌, ap, refl, false, le_refl}
+use Rattle.std.proofs.Common.{◌≡◌, [], ◌∷◌, ◌∙◌, ap, refl, false}
 use Rattle.std.proofs.lemmas.Result.{err_from_is_err_and}
 use Rattle.tokens.specs.declared.lexemes.Lexeme.{Lexeme}
 use Rattle.tokens.specs.declared.lexemes.Token.TheVariants as token

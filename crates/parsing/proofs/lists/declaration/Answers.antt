@@ -1,7 +1,6 @@
 use Rattle.std.proofs.Common.{[], ◌∷◌, refl}
 use Rattle.std.proofs.lemmas.Result.{err_from_is_err_and}
 use Rattle.grammar.specs.Grammar.{Part, Types}
-use Rattle.parsing.specs.Roles.{role_of}
 use Rattle.parsing.specs.Declarations.{declaration_items, names_items}
 use Rattle.parsing.proofs.Advances.{handed_kept, kept_then, on}
 use Rattle.parsing.proofs.ListLaws.{handed_on, leaves, type_first, types_then}

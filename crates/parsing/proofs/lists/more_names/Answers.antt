@@ -1,4 +1,4 @@
-use Rattle.std.proofs.Common.{◌≡◌, [], ◌∷◌, ◌∙◌, refl, subst, true, false, arith}
+use Rattle.std.proofs.Common.{◌≡◌, [], ◌∷◌, refl, subst, true, false}
 use Rattle.std.proofs.lemmas.Result.{err_from_is_err_and}
 use Rattle.tokens.specs.declared.lexemes.Mark.TheVariants as mark
 use Rattle.grammar.specs.Grammar.{AName, Exactly, More, Part, is_fault, is_mark}

@@ -1,4 +1,4 @@
-use Rattle.std.proofs.Common.{◌≡◌, [], ◌∷◌, ℕ}
+use Rattle.std.proofs.Common.{[], ◌∷◌, ℕ}
 use Rattle.grammar.specs.Grammar.{More, Part}
 use Rattle.parsing.specs.Defining.{StaysAt}
 use Rattle.parsing.specs.Advancing.{StayedOrWentOn}
