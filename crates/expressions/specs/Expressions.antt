@@ -1,4 +1,5 @@
--- What the parse of an expression did: the builder was told the actions of a tree, and the derivation made the same tree.
+-- What the parse of an expression did: the builder was told the actions of a tree, and the derivation made the same
+-- tree.
 use Rattle.std.specs.Prelude.{ℕ, ◌+◌, ◌≤◌, List, [], ◌∷◌, ◌++◌, Bool, Result, Ok, Err}
 use Rattle.grammar.specs.declared.diagnostics.ParseFault.{ParseFault}
 use Rattle.grammar.specs.declared.names.Callee.{Callee}
@@ -33,7 +34,8 @@ pub record AddsOperand (before after : Meaning) (depth level : ℕ) (op : Op) (h
   pub narrow : right_side op + nesting right ≤ room depth level
   pub added : AppendsAll before after (middle op ++ (expr_actions right ++ Apply op ∷ []))
   pub derives : (left : Expr) →
-      Derives depth (Part (Tail level) ∷ []) (Part (Tail level) ∷ []) (AnExpr left ∷ []) (AnExpr (Binary op left right) ∷ []) here there
+      Derives depth (Part (Tail level) ∷ []) (Part (Tail level) ∷ []) (AnExpr left ∷ [])
+      (AnExpr (Binary op left right) ∷ []) here there
 
 -- The first fault from there on, whatever the left side is.
 abbrev pub FailsOperand : ℕ → ℕ → Place → Stop → Type 0
@@ -53,7 +55,8 @@ FailsArgs depth here d = (callee : Callee) → FailsAt depth (Part Arguments ∷
 
 -- What a parse of an expression says, by its result.
 
--- An expression was read by this symbol, at a level of the operators. Or the derivation stops within it, as the refusal says.
+-- An expression was read by this symbol, at a level of the operators. Or the derivation stops within it, as the refusal
+-- says.
 abbrev pub Parses : {A : Type 0} → Result A ParseFault → (allocates : Bool) (before after : Meaning) (depth level : ℕ) →
     Symbol → (old new : Standing) → Type 0
 Parses (Ok x) allocates before after depth level symbol old new =
@@ -70,8 +73,8 @@ ParsesOperandAlone (Err fault) allocates before after symbol old new =
     Refused (FailsItem (Part symbol) old.place) allocates (taken_at new.place) fault
 
 -- the same of an operator and its right side
-abbrev pub ParsesOperand : {A : Type 0} → Result A ParseFault → (allocates : Bool) (before after : Meaning) (depth : ℕ) →
-    AnOperator → (old new : Standing) → Type 0
+abbrev pub ParsesOperand : {A : Type 0} → Result A ParseFault → (allocates : Bool) (before after : Meaning)
+    (depth : ℕ) → AnOperator → (old new : Standing) → Type 0
 ParsesOperand (Ok x) allocates before after depth b old new =
     AddsOperand before after depth b.level b.op old.place new.place
 ParsesOperand (Err fault) allocates before after depth b old new =
