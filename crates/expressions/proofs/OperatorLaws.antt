@@ -1,7 +1,7 @@
 -- The ten levels of binary operators.
-use Rattle.std.proofs.Common.{◌≡◌, ℕ, ◌+◌, ◌<◌, ◌≤◌, List, [], ◌∷◌, ◌++◌, refl, subst, Bool, true, false, arith}
+use Rattle.std.proofs.Common.{◌≡◌, ℕ, ◌+◌, ◌≤◌, [], ◌∷◌, ◌++◌, refl, subst, Bool, true, false, arith}
 use Rattle.std.proofs.lemmas.Bool.Decides.{nat_tests}
-use Rattle.std.specs.Prelude.{Some, None, nat_lt, ◌==◌, if◌then◌else◌}
+use Rattle.std.specs.Prelude.{Some, None, ◌==◌, if◌then◌else◌}
 use Rattle.tokens.specs.declared.lexemes.Mark.{Mark}
 use Rattle.tokens.specs.declared.lexemes.Mark.TheVariants as mark
 use Rattle.tokens.specs.declared.lexemes.Token.{Token}
@@ -13,125 +13,22 @@ use Rattle.grammar.specs.Actions.{Apply, Middle, expr_actions, middle}
 use Rattle.grammar.specs.Building.{Meaning, AppendsAll, MayFollow}
 use Rattle.grammar.specs.Derivation.{AnExpr}
 use Rattle.grammar.specs.Following.{Open, AValue, BeforeRight, Computed, Opened, Origin, open_count}
-use Rattle.grammar.specs.Grammar.{Exactly, Item, Level, Make, Operate, Part, Tail, Unary, choice, is_fault, is_mark}
+use Rattle.grammar.specs.Grammar.{Exactly, Level, Make, Operate, Part, Tail, choice, is_fault, is_mark}
 use Rattle.grammar.specs.Nesting.{nesting, right_side}
 use Rattle.grammar.specs.Operators.{if_at, is_logic, operator_at}
 use Rattle.grammar.specs.declared.operators.Binary.{Binary as AnOperator}
 use Rattle.grammar.specs.Resolved.{InExpr}
 use Rattle.grammar.specs.Tree.{Binary, Expr}
 use Rattle.grammar.proofs.FollowingLaws.{Leads, act, chain, expr_leads, logic_itself, origin_of}
-use Rattle.grammar.proofs.StandingLaws.{stands_then}
 use Rattle.parsing.specs.Position.{Place, next_at}
 use Rattle.parsing.specs.Room.{HasLeft, HasRoom, room}
 use Rattle.parsing.specs.Stretch.{Derives, FailsAt, FailsItem, GoesPast, Refused, StopsAt}
-use Rattle.parsing.proofs.Stretches.{exit, fails_behind, fails_then, joined, refused_map}
+use Rattle.parsing.proofs.Stretches.{fails_behind, joined, refused_map}
 use Rattle.expressions.specs.Expressions.{AddsExpr, AddsOperand, FailsOperand}
 use Rattle.expressions.specs.Telling.{MayFollowAll}
 use Rattle.parsing.proofs.Parts.{MakesOnly, make_stands}
 use Rattle.expressions.proofs.Productions.{chosen, item_done, mark_ends, mark_past, mark_sound, same_self}
 use Rattle.expressions.proofs.TellingLaws.{all_follow, appends_then, first_follows, others_follow, room_behind}
-
--- Levels.
-
-level_choice : (n : ℕ) (t after : Token) → n ≤ 10 → choice (Level n) t after ≡ Some (Part (Level (n + 1)) ∷ Part (Tail n) ∷ [])
-level_choice n t after small = let test : nat_lt n 11 ≡ true = below n small in rw test refl
-  where
-    below : (n : ℕ) → n ≤ 10 → nat_lt n 11 ≡ true
-    below n small = grind (arith, nat_tests)
-
-last_choice : (n : ℕ) (t after : Token) → 10 < n → choice (Level n) t after ≡ Some (Part Unary ∷ [])
-last_choice n t after last = let test : nat_lt n 11 ≡ false = above n last in rw test refl
-  where
-    above : (n : ℕ) → 10 < n → nat_lt n 11 ≡ false
-    above n last = grind (arith, nat_tests)
-
-level_stands : (at : Place) (depth n : ℕ) → n ≤ 10 → is_fault (next_at at).token ≡ false → Derives depth (Part (Level n) ∷ []) (Part (Level (n + 1)) ∷ Part (Tail n) ∷ []) [] [] at at
-level_stands at depth n small sound =
-    chosen at depth (Level n) (Part (Level (n + 1)) ∷ Part (Tail n) ∷ []) [] (record { sound = sound; is = λ after more. level_choice n (next_at at).token after small }) (λ after more. refl)
-
-last_stands : (at : Place) (depth n : ℕ) → 10 < n → is_fault (next_at at).token ≡ false → Derives depth (Part (Level n) ∷ []) (Part Unary ∷ []) [] [] at at
-last_stands at depth n last sound =
-    chosen at depth (Level n) (Part Unary ∷ []) [] (record { sound = sound; is = λ after more. last_choice n (next_at at).token after last }) (λ after more. refl)
-
-pub last_refused : (used : ℕ) (at : Place) (depth n : ℕ) (allocates : Bool) (f : ParseFault) → 10 < n → is_fault (next_at at).token ≡ false →
-    Refused (FailsAt depth (Part Unary ∷ []) [] at) allocates used f → Refused (FailsAt depth (Part (Level n) ∷ []) [] at) allocates used f
-last_refused used at depth n allocates f last sound =
-    exit used depth depth (Part (Level n) ∷ []) (Part Unary ∷ []) [] [] [] [] at at allocates allocates f (last_stands at depth n last sound) (λ stack same. same) (λ same. same)
-
-pub last_adds : (before after : Meaning) (at there : Place) (depth n : ℕ) → 10 < n → n ≤ 11 → is_fault (next_at at).token ≡ false →
-    AddsExpr before after depth 11 (Part Unary ∷ []) [] at there → AddsExpr before after depth n (Part (Level n) ∷ []) [] at there
-last_adds before after at there depth n last most sound h = record {
-  tree = h.tree;
-  numbered = h.numbered;
-  narrow = let small : nesting h.tree ≤ room depth 11 = h.narrow in omega arith;
-  added = h.added;
-  derives = joined depth depth (Part (Level n) ∷ []) (Part Unary ∷ []) [] [] [] [] (AnExpr h.tree ∷ []) [] at at there (last_stands at depth n last sound) h.derives (λ stack same. same);
-}
-
-pub level_refused : (used : ℕ) (at : Place) (depth n : ℕ) (allocates : Bool) (f : ParseFault) → n ≤ 10 → is_fault (next_at at).token ≡ false →
-    Refused (FailsAt depth (Part (Level (n + 1)) ∷ []) [] at) allocates used f → Refused (FailsAt depth (Part (Level n) ∷ []) [] at) allocates used f
-level_refused used at depth n allocates f small sound =
-    exit used depth depth (Part (Level n) ∷ []) (Part (Level (n + 1)) ∷ []) (Part (Tail n) ∷ []) [] [] [] at at allocates allocates f (level_stands at depth n small sound) (λ stack same. same) (λ same. same)
-
-pub level_adds : (before after : Meaning) (at there : Place) (depth n : ℕ) → n ≤ 10 → is_fault (next_at at).token ≡ false →
-    AddsExpr before after depth (n + 1) (Part (Level (n + 1)) ∷ []) [] at there → AddsExpr before after depth n (Part (Level n) ∷ []) (Part (Tail n) ∷ []) at there
-level_adds before after at there depth n small sound h = record {
-  tree = h.tree;
-  numbered = h.numbered;
-  narrow = let less : nesting h.tree ≤ room depth (n + 1) = h.narrow in omega arith;
-  added = h.added;
-  derives = joined depth depth (Part (Level n) ∷ []) (Part (Level (n + 1)) ∷ []) [] (Part (Tail n) ∷ []) [] [] (AnExpr h.tree ∷ []) [] at at there (level_stands at depth n small sound) h.derives (λ stack same. same);
-}
-
--- a further operator at the tail
-pub tail_adds : (before mid after : Meaning) (at now there : Place) (depth n : ℕ) (o : Op) →
-    AddsExpr before mid depth n (Part (Level n) ∷ []) (Part (Tail n) ∷ []) at now → AddsOperand mid after depth n o now there →
-    AddsExpr before after depth n (Part (Level n) ∷ []) (Part (Tail n) ∷ []) at there
-tail_adds before mid after at now there depth n o h r = record {
-  tree = Binary o h.tree r.right;
-  numbered = (h.numbered, r.numbered);
-  narrow = let left : nesting h.tree ≤ room depth n = h.narrow in let right : right_side o + nesting r.right ≤ room depth n = r.narrow in omega arith;
-  added = appends_then before mid after (expr_actions h.tree) (middle o ++ (expr_actions r.right ++ Apply o ∷ [])) h.added r.added;
-  derives = joined depth depth (Part (Level n) ∷ []) (Part (Tail n) ∷ []) (Part (Tail n) ∷ []) [] [] (AnExpr h.tree ∷ []) (AnExpr (Binary o h.tree r.right) ∷ []) [] at now there
-      h.derives (r.derives h.tree) (λ stack same. same);
-}
-
-pub tail_refused : (used : ℕ) (before mid : Meaning) (at now : Place) (depth n : ℕ) (allocates : Bool) (f : ParseFault) →
-    AddsExpr before mid depth n (Part (Level n) ∷ []) (Part (Tail n) ∷ []) at now → Refused (FailsOperand depth n now) allocates used f → Refused (FailsAt depth (Part (Level n) ∷ []) [] at) allocates used f
-tail_refused used before mid at now depth n allocates f h =
-    refused_map used (FailsOperand depth n now) (FailsAt depth (Part (Level n) ∷ []) [] at) allocates allocates f
-    (λ d fails. fails_then depth (Part (Level n) ∷ []) (Part (Tail n) ∷ []) [] (AnExpr h.tree ∷ []) at now d h.derives (fails h.tree)) (λ same. same)
-
-no_operator : (n : ℕ) (t after : Token) → operator_at n t ≡ None → choice (Tail n) t after ≡ Some []
-no_operator n (token.Mark m) after none = rw none refl
-no_operator n (token.Name name) after none = refl
-no_operator n (token.Word word) after none = refl
-no_operator n (token.Constant value) after none = refl
-no_operator n token.End after none = refl
-no_operator n (token.Fault flaw) after none = refl
-
--- no further operator
-pub level_ends : (before after : Meaning) (at there : Place) (depth n : ℕ) → operator_at n (next_at there).token ≡ None → is_fault (next_at there).token ≡ false →
-    AddsExpr before after depth n (Part (Level n) ∷ []) (Part (Tail n) ∷ []) at there → AddsExpr before after depth n (Part (Level n) ∷ []) [] at there
-level_ends before after at there depth n none sound h = record {
-  tree = h.tree;
-  numbered = h.numbered;
-  narrow = h.narrow;
-  added = h.added;
-  derives = joined depth depth (Part (Level n) ∷ []) (Part (Tail n) ∷ []) [] [] [] (AnExpr h.tree ∷ []) (AnExpr h.tree ∷ []) [] at there there h.derives
-      (chosen there depth (Tail n) [] (AnExpr h.tree ∷ []) (record { sound = sound; is = λ behind more. no_operator n (next_at there).token behind none }) (λ behind more. refl)) (λ stack same. same);
-}
-
--- the left side of a further operator
-pub left_open : (before now : Meaning) (at there : Place) (depth n : ℕ) (front pending : List Item) → HasRoom before (room depth n) → AddsExpr before now depth n front pending at there → HasLeft now (room depth n)
-left_open before now at there depth n front pending h e = record {
-  origin = origin_of e.tree;
-  outer = h.outer;
-  opened = h.opened;
-  stands = stands_then before now (expr_actions e.tree) (h.outer ∷ h.opened) (AValue (origin_of e.tree) ∷ h.outer ∷ h.opened) e.added h.stands
-      (expr_leads e.tree h.outer h.opened e.numbered (let few : open_count (h.outer ∷ h.opened) + room depth n ≤ 200 = h.few in let small : nesting e.tree ≤ room depth n = e.narrow in omega arith)).is;
-  few = h.few;
-}
 
 -- An operator and its right side.
 

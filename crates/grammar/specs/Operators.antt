@@ -1,5 +1,5 @@
 -- The marks that spell the binary operators, by the grammar's ten levels, and those of assignments.
-use Rattle.std.specs.Prelude.{ℕ, Bool, true, false, Option, Some, None, ◌==◌, if◌then◌else◌}
+use Rattle.std.specs.Prelude.{ℕ, Bool, true, false, Option, Some, None, ◌==◌, nat_le, if◌then◌else◌}
 use Rattle.tokens.specs.declared.lexemes.Mark.{Mark}
 use Rattle.tokens.specs.declared.lexemes.Mark.TheVariants as mark
 use Rattle.tokens.specs.declared.lexemes.Token.{Token}
@@ -43,6 +43,19 @@ if_at n (Some b) = if b.level == n then Some b.op else None
 abbrev pub operator_at : ℕ → Token → Option Op
 operator_at n (token.Mark m) = if_at n (binary_of m)
 operator_at n _ = None
+
+-- the operator that a token spells, with its level
+abbrev pub operator_of : Token → Option Binary
+operator_of (token.Mark m) = binary_of m
+operator_of _ = None
+
+abbrev pub if_from : ℕ → Option Binary → Option Binary
+if_from n None = None
+if_from n (Some b) = if nat_le n b.level then Some b else None
+
+-- the same, if it is of level n or of a tighter one
+abbrev pub operator_from : ℕ → Token → Option Binary
+operator_from n t = if_from n (operator_of t)
 
 -- the two operators whose sides a builder is told apart
 abbrev pub is_logic : Op → Bool

@@ -1,7 +1,7 @@
 //! The eighteen binary operators and the eleven of assignments, with the marks that spell them.
 
 ghost use Rattle.std.specs.Prelude.{◌≡◌};
-ghost use Rattle.grammar.specs.Operators.{binary_of, is_logic, operator_at, store_of, store_operator};
+ghost use Rattle.grammar.specs.Operators.{binary_of, is_logic, operator_from, store_of, store_operator};
 
 use tokens::{Mark, Token};
 
@@ -83,9 +83,6 @@ pub struct Binary {
     pub op: Op,
 }
 
-/// The tightest level of the binary operators.
-pub const LAST_LEVEL: u8 = 10;
-
 impl Op {
     /// Whether a builder is told of the middle between the operator's sides: those of `&&` and `||`.
     pub fn is_logic(self) -> bool
@@ -95,15 +92,15 @@ impl Op {
     }
 }
 
-/// The operator of this level that the token spells.
-pub fn operator_at(token: &Token, level: u8) -> Option<Op>
-    ensures { result ≡ operator_at level token.now }
+/// Returns the operator that a token spells, with its level, if that is this level or a tighter one.
+pub fn operator_from(token: &Token, level: u8) -> Option<Binary>
+    ensures { result ≡ operator_from level token.now }
 {
     let Token::Mark(mark) = *token else {
         return None;
     };
     match binary_of(mark) {
-        Some(binary) if binary.level == level => Some(binary.op),
+        Some(binary) if binary.level >= level => Some(binary),
         _ => None,
     }
 }

@@ -16,7 +16,7 @@ use Rattle.std.specs.Prelude.{Some}
 use Rattle.grammar.specs.Profile.{Profile}
 use Rattle.parsing.specs.Stretch.{Derives, FailsAt, Refused, Takes, IsNearTo}
 use Rattle.parsing.proofs.Stretches.{refused_map, told_goes, Begins, near_told, stops_back, stops_here, told_begins}
-use Rattle.lang.specs.Progress.{Advances, StopsReading}
+use Rattle.lang.specs.Progress.{ReadsOn, StopsReading}
 
 pub definitions_actions-append : (ds es : List Definition) → definitions_actions (ds ++ es) ≡ definitions_actions ds ++ definitions_actions es
 definitions_actions-append [] es = refl
@@ -25,7 +25,7 @@ definitions_actions-append (d ∷ ds) es =
     ∙ sym (append_assoc (function_actions d.number d.function) (definitions_actions ds) (definitions_actions es))
 
 -- nothing is read
-pub advances_stay : (before : Meaning) (front : List Item) (at : Place) → Advances before before front front at at
+pub advances_stay : (before : Meaning) (front : List Item) (at : Place) → ReadsOn before before front front at at
 advances_stay before front at = record {
   consumed = [];
   more = [];
@@ -37,7 +37,7 @@ advances_stay before front at = record {
 
 -- two readings one behind another
 pub advances_then : (before mid after : Meaning) (front between pending : List Item) (at now there : Place) →
-    Advances before mid front between at now → Advances mid after between pending now there → Advances before after front pending at there
+    ReadsOn before mid front between at now → ReadsOn mid after between pending now there → ReadsOn before after front pending at there
 advances_then before mid after front between pending at now there a b = record {
   consumed = a.consumed ++ b.consumed;
   more = a.more ++ b.more;
@@ -57,7 +57,7 @@ advances_then before mid after front between pending at now there a b = record {
 
 -- a fault behind a reading
 pub stops_then : (before mid : Meaning) (front between : List Item) (at now : Place) (d : Stop) →
-    Advances before mid front between at now → StopsReading mid between now d → StopsReading before front at d
+    ReadsOn before mid front between at now → StopsReading mid between now d → StopsReading before front at d
 stops_then before mid front between at now d a stops lexemes is profile functions h =
     let t : Takes a.consumed lexemes now = a.told lexemes is in
     let told : mid profile (definitions_actions (functions ++ a.more)) = subst (λ (xs : List Action). mid profile xs) (sym (definitions_actions-append functions a.more)) (a.added profile _ h) in
@@ -65,7 +65,7 @@ stops_then before mid front between at now d a stops lexemes is profile function
 
 -- a stretch between functions
 pub stretch_advances : (before : Meaning) (front pending stack : List Item) (at there : Place) → levels stack ≡ 0 → Derives 0 front pending [] [] at there →
-    Advances before before (front ++ stack) (pending ++ stack) at there
+    ReadsOn before before (front ++ stack) (pending ++ stack) at there
 stretch_advances before front pending stack at there depths a = record {
   consumed = a.consumed;
   more = [];
@@ -82,7 +82,7 @@ pub stretch_stops : (before : Meaning) (front stack : List Item) (at : Place) (d
 stretch_stops before front stack at d depths fails lexemes is profile functions h = fails lexemes is profile stack [] functions depths
 
 -- a refusal behind a reading
-pub leave : (used : ℕ) (before mid : Meaning) (front between : List Item) (at now : Place) (allocates more : Bool) (f : ParseFault) → Advances before mid front between at now →
+pub leave : (used : ℕ) (before mid : Meaning) (front between : List Item) (at now : Place) (allocates more : Bool) (f : ParseFault) → ReadsOn before mid front between at now →
     ((allocates ≡ true) → more ≡ true) → Refused (StopsReading mid between now) allocates used f → Refused (StopsReading before front at) more used f
 leave used before mid front between at now allocates more f a memory = refused_map used _ _ allocates more f (λ d. stops_then before mid front between at now d a) memory
 

@@ -1,5 +1,5 @@
 -- What the reading of a function derives.
-use Rattle.std.proofs.Common.{◌≡◌, ℕ, ◌+◌, ◌<◌, ◌≤◌, List, [], ◌∷◌, ◌++◌, refl, sym, ap, ◌∙◌, subst, Bool, true, false, arith, append_assoc, append-nil}
+use Rattle.std.proofs.Common.{◌≡◌, ℕ, ◌+◌, ◌<◌, ◌≤◌, List, [], ◌∷◌, ◌++◌, refl, sym, ap, ◌∙◌, subst, Bool, true, false, arith, append_assoc, append-nil, le_refl}
 use Rattle.std.proofs.lemmas.Bool.Decides.{nat_tests}
 use Rattle.std.specs.Prelude.{length, nat_lt, Some, None}
 use Rattle.tokens.specs.declared.lexemes.Lexeme.{Lexeme}
@@ -21,13 +21,14 @@ use Rattle.grammar.specs.Tree.{Body}
 use Rattle.grammar.proofs.Firsts.{too_long}
 use Rattle.grammar.proofs.Runs.{then}
 use Rattle.grammar.proofs.Steps.{make, shut}
-use Rattle.parsing.specs.Position.{GoesOn, Place, next_at, scope_at, tokens_at}
+use Rattle.parsing.specs.Advancing.{IsReady, StayedOrWentOn, Stopped}
+use Rattle.parsing.specs.Position.{GoesOn, Place, Standing, next_at, scope_at, scope_of, tokens_at, with_scope}
 use Rattle.parsing.specs.Stopping.{Stop, Stops, stop_with}
 use Rattle.grammar.specs.Compiled.{diagnostic}
 use Rattle.parsing.specs.Stretch.{Derives, DerivesItem, FailsAt, FailsItem, Refused, Takes, IsNearTo}
-use Rattle.parsing.proofs.HeadingLaws.{heading_items}
+use Rattle.parsing.specs.Declarations.{heading_items}
 use Rattle.parsing.proofs.Stretches.{Begins, fails_then, goes_begins, joined, refused_map, stay, told_begins, told_goes, near_told, stops_back, stops_here}
-use Rattle.lang.specs.Progress.{AddsBlock, Advances, ClosesFunction, IsTooMuch, StopsReading, at_brace, at_definition, at_source}
+use Rattle.lang.specs.Progress.{AddsBlock, ReadsOn, ClosesFunction, IsTooMuch, StopsReading, at_brace, at_definition, at_source}
 use Rattle.lang.proofs.Advancing.{definitions_actions-append}
 
 abbrev pub definition_items : List Item
@@ -106,6 +107,25 @@ pub record IsEnded (brace ended : Place) : Type 0 where
   pub to_come : ended.to_come ≡ brace.to_come
   pub scope : scope_at ended ≡ end_definition (scope_at brace)
 
+-- a function's end changes the names alone
+pub ended : (at new : Standing) → new ≡ with_scope (end_definition (scope_of at)) at → IsEnded at.place new.place
+ended at new is = rw is (record { reading = refl; to_come = refl; scope = refl })
+
+pub renamed : (at new : Standing) → IsReady at → new ≡ with_scope (end_definition (scope_of at)) at → StayedOrWentOn at new
+renamed at new ready is = rw is (record {
+  device = refl;
+  failures = refl;
+  took = record { rest = λ total h. h };
+  falls = le_refl _;
+  ready = record { sound = ready.sound; near = ready.near; count = ready.count };
+})
+
+-- a refusal that is not the device's, at a parser that did nothing
+pub short : (f : ParseFault) (at : Standing) → (refusal.Device ≡ f → ⊥) → Stopped f at at
+short (refusal.Source d) at other = record { device = refl; failures = refl; took = record { rest = λ total h. h } }
+short refusal.Device at other = absurd (other refl)
+short refusal.Memory at other = record { device = refl; failures = refl; took = record { rest = λ total h. h } }
+
 goes_ended : (brace ended : Place) (rest : List Lexeme) → IsEnded brace ended → GoesOn ended rest → GoesOn brace rest
 goes_ended brace ended rest s g = record { behind = g.behind; is = g.is ∙ rw s.reading refl }
 
@@ -117,7 +137,7 @@ pub function_advances : (first second third fourth : Meaning) (at now brace ende
     Derives 0 heading_items [] [] [] at now → (b : AddsBlock second third now brace) → IsSame number parameters variables (scope_at brace) → IsEnded brace ended →
     AppendsAll first second (Begin number parameters ∷ []) → ClosesFunction third fourth variables →
     DerivesItem (Exactly mark.CloseCurly) [] [] ended there → is_fault (next_at brace).token ≡ false → is_fault (next_at there).token ≡ false →
-    Advances first fourth at_definition at_source at there
+    ReadsOn first fourth at_definition at_source at there
 function_advances first second third fourth at now brace ended there number parameters variables h b same s told c e sound_brace sound =
     let d : Derives 0 definition_items at_brace [] (ABody b.tree ∷ []) at brace = braced second third at now brace h b in
     let f : Definition = definition_of (scope_at brace) b.tree in

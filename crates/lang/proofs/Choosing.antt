@@ -20,7 +20,7 @@ use Rattle.parsing.specs.Stopping.{stop_with}
 use Rattle.parsing.specs.Stretch.{Derives, DerivesItem, FailsAt, FailsItem, Refused, IsNearTo}
 use Rattle.parsing.proofs.Parts.{word_is}
 use Rattle.parsing.proofs.Stretches.{IsBehind, Leads, refused_map, stand}
-use Rattle.lang.specs.Progress.{Advances, StopsReading, at_definition, at_source}
+use Rattle.lang.specs.Progress.{ReadsOn, StopsReading, at_definition, at_source}
 use Rattle.lang.proofs.Advancing.{advances_then, leave, stops_then, stretch_advances, stretch_stops, reading_fails_at_next}
 
 -- a symbol that opens no level was replaced
@@ -34,14 +34,14 @@ abbrev pub typed_items : List Item
 typed_items = AWord word.Type ∷ Part Types ∷ Part Head ∷ at_source
 
 -- a type word begins a file's part
-pub source_typed : (before : Meaning) (at : Place) → is_word word.Type (next_at at).token ≡ true → Advances before before at_source typed_items at at
+pub source_typed : (before : Meaning) (at : Place) → is_word word.Type (next_at at).token ≡ true → ReadsOn before before at_source typed_items at at
 source_typed before at is =
     let same : (next_at at).token ≡ token.Word word.Type = word_is word.Type (next_at at).token is in
     stretch_advances before (Part Source ∷ []) typed_items [] at at refl
     (stand at 0 (Part Source ∷ []) typed_items [] [] (λ tail b. symbol_leads Source typed_items (next_at at) tail at (rw same refl) (rw same refl) refl))
 
 -- so does a function's name
-pub source_named : (before : Meaning) (at : Place) (name : List ℕ) → (next_at at).token ≡ token.Name name → Advances before before at_source at_definition at at
+pub source_named : (before : Meaning) (at : Place) (name : List ℕ) → (next_at at).token ≡ token.Name name → ReadsOn before before at_source at_definition at at
 source_named before at name same =
     stretch_advances before (Part Source ∷ []) at_definition [] at at refl
     (stand at 0 (Part Source ∷ []) at_definition [] [] (λ tail b. symbol_leads Source at_definition (next_at at) tail at (rw same refl) (rw same refl) refl))
@@ -66,15 +66,15 @@ source_misfits before at used near sound end type name =
 abbrev pub at_head : List Item
 at_head = Part Head ∷ at_source
 
-pub type_word : (before : Meaning) (at now : Place) → DerivesItem (AWord word.Type) [] [] at now → Advances before before typed_items (Part Types ∷ at_head) at now
+pub type_word : (before : Meaning) (at now : Place) → DerivesItem (AWord word.Type) [] [] at now → ReadsOn before before typed_items (Part Types ∷ at_head) at now
 type_word before at now d = stretch_advances before (AWord word.Type ∷ []) [] (Part Types ∷ at_head) at now refl (d 0)
 
-pub more_types : (before : Meaning) (at now : Place) → Derives 0 (Part Types ∷ []) [] [] [] at now → Advances before before (Part Types ∷ at_head) at_head at now
+pub more_types : (before : Meaning) (at now : Place) → Derives 0 (Part Types ∷ []) [] [] [] at now → ReadsOn before before (Part Types ∷ at_head) at_head at now
 more_types before at now d = stretch_advances before (Part Types ∷ []) [] at_head at now refl d
 
 -- up to the head
 pub typed_head : (before : Meaning) (at now behind : Place) → is_word word.Type (next_at at).token ≡ true → DerivesItem (AWord word.Type) [] [] at now → Derives 0 (Part Types ∷ []) [] [] [] now behind →
-    Advances before before at_source at_head at behind
+    ReadsOn before before at_source at_head at behind
 typed_head before at now behind is d e =
     advances_then before before before at_source (Part Types ∷ at_head) at_head at now behind
     (advances_then before before before at_source typed_items (Part Types ∷ at_head) at at now (source_typed before at is) (type_word before at now d)) (more_types before now behind e)
@@ -112,7 +112,7 @@ definition_head =
     AName Defined ∷ Exactly mark.OpenRound ∷ Part Parameters ∷ Exactly mark.CloseRound ∷ Part ParameterTypes ∷ Part FunctionBlock ∷ []
 
 -- a name and a bracket begin a function
-pub head_defined : (before : Meaning) (at : Place) (name : List ℕ) → (next_at at).token ≡ token.Name name → is_mark mark.OpenRound (after_at at) ≡ true → Advances before before at_head at_definition at at
+pub head_defined : (before : Meaning) (at : Place) (name : List ℕ) → (next_at at).token ≡ token.Name name → is_mark mark.OpenRound (after_at at) ≡ true → ReadsOn before before at_head at_definition at at
 head_defined before at name same is =
     stretch_advances before (Part Head ∷ []) definition_head at_source at at refl
     (stand at 0 (Part Head ∷ []) definition_head [] [] (λ tail b.
@@ -129,7 +129,7 @@ choose_external name token.End other = refl
 choose_external name (token.Fault flaw) other = refl
 
 -- any other name an external
-pub head_external : (before : Meaning) (at : Place) (name : List ℕ) → (next_at at).token ≡ token.Name name → is_mark mark.OpenRound (after_at at) ≡ false → Advances before before at_head (external_items ++ at_source) at at
+pub head_external : (before : Meaning) (at : Place) (name : List ℕ) → (next_at at).token ≡ token.Name name → is_mark mark.OpenRound (after_at at) ≡ false → ReadsOn before before at_head (external_items ++ at_source) at at
 head_external before at name same other =
     stretch_advances before (Part Head ∷ []) external_items at_source at at refl
     (stand at 0 (Part Head ∷ []) external_items [] [] (λ tail b.
@@ -150,7 +150,7 @@ head_misfits before at used near sound name =
     reading_fails_at_next before at_head at _ used near (λ tail profile functions. no_part profile Head at_source (next_at at ∷ tail) [] (scope_at at) functions sound (head_none (next_at at).token _ name) refl)
 
 -- externals were declared
-pub externals_read : (before : Meaning) (at now : Place) (name : List ℕ) → (next_at at).token ≡ token.Name name → is_mark mark.OpenRound (after_at at) ≡ false → Derives 0 external_items [] [] [] at now → Advances before before at_head at_source at now
+pub externals_read : (before : Meaning) (at now : Place) (name : List ℕ) → (next_at at).token ≡ token.Name name → is_mark mark.OpenRound (after_at at) ≡ false → Derives 0 external_items [] [] [] at now → ReadsOn before before at_head at_source at now
 externals_read before at now name same other d =
     advances_then before before before at_head (external_items ++ at_source) at_source at at now (head_external before at name same other) (stretch_advances before external_items [] at_source at now refl d)
 
@@ -160,8 +160,8 @@ externals_refused used before at name f more same other = refused_map used (λ d
     (λ d fails. stops_then before before at_head (external_items ++ at_source) at at d (head_external before at name same other) (stretch_stops before external_items at_source at d refl (fails 0))) (λ never. absurd (cc))
 
 -- a function was read behind what leads to it
-pub function_read : (before after : Meaning) (front : List Item) (at there : Place) → Advances before before front at_definition at at → Advances before after at_definition at_source at there → Advances before after front at_source at there
+pub function_read : (before after : Meaning) (front : List Item) (at there : Place) → ReadsOn before before front at_definition at at → ReadsOn before after at_definition at_source at there → ReadsOn before after front at_source at there
 function_read before after front at there a b = advances_then before before after front at_definition at_source at at there a b
 
-pub function_refused : (used : ℕ) (before : Meaning) (front : List Item) (at : Place) (f : ParseFault) (allocates : Bool) → Advances before before front at_definition at at → Refused (StopsReading before at_definition at) allocates used f → Refused (StopsReading before front at) allocates used f
+pub function_refused : (used : ℕ) (before : Meaning) (front : List Item) (at : Place) (f : ParseFault) (allocates : Bool) → ReadsOn before before front at_definition at at → Refused (StopsReading before at_definition at) allocates used f → Refused (StopsReading before front at) allocates used f
 function_refused used before front at f allocates a = leave used before before front at_definition at at allocates allocates f a (λ same. same)

@@ -9,7 +9,7 @@ use Rattle.grammar.specs.Resolved.{InBody}
 use Rattle.grammar.specs.Tree.{Body}
 use Rattle.grammar.proofs.FollowingLaws.{KeepsFunction, body_leads, definition_leads, follow_one, function_begins, function_finishes, keeps_function, leads_to}
 use Rattle.grammar.proofs.StandingLaws.{may_follow, stands_then}
-use Rattle.parsing.specs.Room.{HasPlace}
+use Rattle.parsing.specs.Room.{HasPlace, room}
 use Rattle.lang.specs.Progress.{ClosesFunction, MayEnd}
 
 -- A function begins.
@@ -23,7 +23,7 @@ begun before behind number parameters s known few told =
     stands_then before behind (Begin number parameters ∷ []) [] (InFunction parameters false ∷ []) told s
     (follow_one (Begin number parameters) [] (InFunction parameters false ∷ []) (function_begins number parameters known few) (omega arith))
 
-pub has_place : (before : Meaning) (parameters : ℕ) → StandsOpen before (InFunction parameters false ∷ []) → HasPlace before 191
+pub has_place : (before : Meaning) (parameters : ℕ) → StandsOpen before (InFunction parameters false ∷ []) → HasPlace before (room 1 1)
 has_place before parameters s = record { opened = InFunction parameters false ∷ []; place = refl; stands = s; few = omega arith }
 
 -- Its statements leave it open.

@@ -37,7 +37,7 @@ use Rattle.parsing.specs.Stopping.{NoneBefore, Stops, slack as slack_of, stop_wi
 use Rattle.parsing.specs.Stretch.{IsNearTo, Refused, StopsFirst, StopsOpening, Takes}
 use Rattle.parsing.proofs.Stretches.{near_told, none_back, none_before, told_goes}
 use Rattle.lang.specs.Files.{FailsBytes, IsFile, IsNew, Says, StopsTaking, TakesNoMore, TakesUpTo}
-use Rattle.lang.specs.Progress.{ADefinition, AMain, Advances, Lacks, Lists, StopsReading, at_source}
+use Rattle.lang.specs.Progress.{ADefinition, AMain, IsComplete, Lacks, ReadsOn, StopsReading, at_source}
 
 end_is : (t : Token) → is_end t ≡ true → t ≡ token.End
 end_is token.End is = refl
@@ -71,7 +71,7 @@ last_line_is (lexeme ∷ other ∷ consumed) next = last_line_is (other ∷ cons
 
 -- A reading from the start of a file to its end.
 pub record IsWhole (before after : Meaning) (told : Option (List ℕ)) (at there : Place) : Type 0 where
-  pub reads : Advances before after at_source at_source at there
+  pub reads : ReadsOn before after at_source at_source at there
   pub nothing : scope_at at ≡ no_names
   pub tells : tokens_at at ≡ option_map tokens told
   pub ends : is_end (next_at there).token ≡ true
@@ -103,15 +103,16 @@ unfolding compiled
 compiled_as profile bytes lexemes verdict same is = rw same is
 
 -- all functions are defined, and main is among them
-pub whole_file : (before after : Meaning) (told : Option (List ℕ)) (at there : Place) (names : Names) → IsNew before → IsWhole before after told at there → Lists (scope_at there) names → IsFile before after told names
-whole_file before after told at there names new w lists =
+pub whole_file : (before after : Meaning) (told : Option (List ℕ)) (at there : Place) (names : Names) → IsNew before →
+    IsWhole before after told at there → IsComplete (scope_at there) → names ≡ record { externals = (scope_at there).externals; functions = (scope_at there).functions } → IsFile before after told names
+whole_file before after told at there names new w complete same =
     let f : IsFinished new.profile (all_of before after told at there w) (scope_at there) w.reads.more =
-    finished new.profile (all_of before after told at there w) (scope_at there) w.reads.more (passes_all before after told at there w new.profile new.stands) lists.defined lists.main in
+    finished new.profile (all_of before after told at there w) (scope_at there) w.reads.more (passes_all before after told at there w new.profile new.stands) complete.defined complete.main in
     record {
       file = f.file;
       resolved = f.resolved;
-      named = lists.is ∙ f.named;
-      main = rw lists.is f.main;
+      named = same ∙ f.named;
+      main = rw same f.main;
       built = λ profile h. subst (λ (acts : List Action). after profile acts) (sym f.told) (w.reads.added profile [] h);
       is = λ bytes shows profile h. compiled_as profile bytes (all_of before after told at there w) (Ok f.file) (tokens_all before after told at there w bytes shows)
           (resolved_all before after told at there w profile h ∙ sym (resolved_all before after told at there w new.profile new.stands) ∙ f.compiled);
@@ -172,8 +173,9 @@ takes_up_to profile bytes to_come used more passed rest is none took taken =
 abbrev pub HasTaken : ℕ → (told to_come : Option (List ℕ)) → Type 0
 HasTaken used told to_come = (bytes : List ℕ) → told ≡ Some bytes → to_come ≡ Some (drop used bytes)
 
-pub has_taken : (first used : ℕ) (told between to_come : Option (List ℕ)) → between ≡ option_map (drop first) told → TakesBytes first used between to_come → HasTaken used told to_come
-has_taken first used told between to_come opened took bytes is = took.rest told opened ∙ rw is refl
+pub has_taken : (first used : ℕ) (told between there to_come : Option (List ℕ)) → between ≡ option_map (drop first) told → TakesBytes first used between there → to_come ≡ there →
+    HasTaken used told to_come
+has_taken first used told between there to_come opened took same bytes is = same ∙ (took.rest told opened ∙ rw is refl)
 
 reading_takes : (used slack : ℕ) (before : Meaning) (told to_come : Option (List ℕ)) (at : Place) (o : Option Diagnostic) → slack ≡ slack_of o → scope_at at ≡ no_names → tokens_at at ≡ option_map tokens told →
     HasTaken used told to_come → StopsReading before at_source at (stop_with o used) → TakesNoMore before told to_come slack

@@ -3,7 +3,8 @@ use Rattle.std.proofs.Common.{◌≡◌, ℕ, List, [], ◌∷◌, refl, false}
 use Rattle.tokens.specs.declared.lexemes.Mark.TheVariants as mark
 use Rattle.tokens.specs.declared.lexemes.Token.{Token}
 use Rattle.tokens.specs.declared.lexemes.Token.TheVariants as token
-use Rattle.grammar.specs.Grammar.{Item, AName, Defined, Exactly, More, Parameter, ParameterTypes, Parameters, Part, is_fault}
+use Rattle.grammar.specs.Grammar.{AName, Defined, Exactly, More, Parameter, ParameterTypes, Parameters, Part, is_fault}
+use Rattle.parsing.specs.Declarations.{heading_items}
 use Rattle.parsing.specs.Position.{Place, next_at}
 use Rattle.parsing.specs.Stretch.{DerivesItem}
 use Rattle.parsing.proofs.ListLaws.{Gives, Goes, item_on, replaces, starts}
@@ -29,10 +30,6 @@ parameter_first at there bytes sound is b =
 -- and where none is
 pub no_parameters : (at : Place) → is_fault (next_at at).token ≡ false → ((bytes : List ℕ) → (next_at at).token ≡ token.Name bytes → ⊥) → Goes (Part Parameters ∷ []) [] at at
 no_parameters at sound other depth = replaces at depth Parameters [] sound (parameters_end (next_at at).token other)
-
--- what stands in front of a function's block
-abbrev pub heading_items : List Item
-heading_items = AName Defined ∷ Exactly mark.OpenRound ∷ Part Parameters ∷ Exactly mark.CloseRound ∷ Part ParameterTypes ∷ []
 
 pub heading_named : (at there : Place) → DerivesItem (AName Defined) [] [] at there →
     Goes heading_items (Exactly mark.OpenRound ∷ Part Parameters ∷ Exactly mark.CloseRound ∷ Part ParameterTypes ∷ []) at there

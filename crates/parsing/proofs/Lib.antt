@@ -1,3 +1,4 @@
+pub mod Advances
 pub mod Stretches
 pub mod Items
 pub mod Names

@@ -1,6 +1,6 @@
 -- What lists of type words, names and declarations derive, by the next token.
 use Rattle.std.proofs.Common.{◌≡◌, ℕ, List, [], ◌∷◌, ◌++◌, refl, ◌∙◌, true, false}
-use Rattle.std.specs.Prelude.{Result, Ok, Err, OnOk, IfErr}
+use Rattle.std.specs.Prelude.{Result, Ok, Err}
 use Rattle.tokens.specs.declared.lexemes.Mark.TheVariants as mark
 use Rattle.tokens.specs.declared.lexemes.Token.{Token}
 use Rattle.tokens.specs.declared.lexemes.Token.TheVariants as token
@@ -10,12 +10,13 @@ use Rattle.grammar.specs.Faults.{levels}
 use Rattle.grammar.specs.Grammar.{Item, AName, AWord, Exactly, More, Part, Role, Symbol, Types, is_fault, is_mark, is_word, opens}
 use Rattle.parsing.specs.declared.roles.Declared.{Declared}
 use Rattle.parsing.specs.declared.roles.Declared.TheVariants as kind
-use Rattle.parsing.specs.Position.{Place, next_at}
+use Rattle.parsing.specs.Matching.{Matches}
+use Rattle.parsing.specs.Position.{Place, Standing, next_at}
 use Rattle.parsing.specs.Roles.{role_of}
 use Rattle.parsing.specs.Stretch.{Derives, DerivesItem, FailsAt, Refused}
 use Rattle.parsing.proofs.Parts.{Chooses, free_of, part_stands}
 use Rattle.parsing.proofs.Stretches.{fails_behind, joined, refused_map, stay}
-use Rattle.parsing.specs.Declarations.{IsInFunction, declarations_of}
+use Rattle.parsing.specs.Declarations.{IsInFunction, declaration_items, declarations_of, names_items}
 
 -- the symbol is replaced by these items, whatever stands behind the next token, and no level is opened
 pub record Gives (symbol : Symbol) (next : Token) (items : List Item) : Type 0 where
@@ -43,10 +44,6 @@ names_more role t is = absurd (cc)
 pub names_end : (role : Role) (t : Token) → is_mark mark.Comma t ≡ false → Gives (More role) t []
 names_end role (token.Mark mark.Comma) other = absurd (cc)
 names_end role t other = record { chosen = λ after. refl; plain = λ after. refl }
-
--- the items of a declaration
-abbrev pub declaration_items : Declared → List Item
-declaration_items declared = AWord word.Type ∷ Part Types ∷ AName (role_of declared) ∷ Part (More (role_of declared)) ∷ Exactly mark.Semicolon ∷ []
 
 pub declarations_more : (declared : Declared) (t : Token) → IsInFunction declared → is_word word.Type t ≡ true →
     Gives (declarations_of declared) t (declaration_items declared ++ Part (declarations_of declared) ∷ [])
@@ -110,32 +107,30 @@ pub item_on : (front : List Item) (item : Item) (below : List Item) (at now ther
     Goes front below at there
 item_on front item below at now there level a b depth = goes_on depth front (item ∷ []) [] below at now there level (a depth) (b depth)
 
--- What the last call gave is handed on.
+-- The last call's answer, after a stretch that left the items that it matches.
+pub handed_on : {A : Type 0} (r : Result A ParseFault) (front mid : List Item) (at now there : Standing) → Goes front (mid ++ []) at.place now.place → Matches r mid (λ x. []) now there → Matches r front (λ x. []) at there
+handed_on (Ok x) front mid at now there a b =
+    λ depth. goes_on depth front mid [] [] at.place now.place there.place (λ stack. refl) (a depth) (b depth)
+handed_on (Err e) front mid at now there a b = leaves _ front mid [] at.place now.place e (λ stack. refl) a b
 
-pub handed_on : {A : Type 0} (r : Result A ParseFault) (P Q : Type 0) → (P → Q) → OnOk r P → OnOk r Q
-handed_on (Ok x) P Q f h = f h
-handed_on (Err e) P Q f h = tt
+-- Lists of names, and declarations.
 
-pub handed_back : {A : Type 0} (r : Result A ParseFault) (P Q : ParseFault → Type 0) → ((e : ParseFault) → P e → Q e) → IfErr r P → IfErr r Q
-handed_back (Ok x) P Q f h = tt
-handed_back (Err e) P Q f h = f e h
+pub name_first : (declared : Declared) (at there : Place) → DerivesItem (AName (role_of declared)) [] [] at there →
+    Goes (names_items declared) (Part (More (role_of declared)) ∷ Exactly mark.Semicolon ∷ []) at there
+name_first declared at there b =
+    starts (AName (role_of declared)) (Part (More (role_of declared)) ∷ Exactly mark.Semicolon ∷ []) at there (λ stack. refl) b
 
--- The items of a list of names, and of a declaration.
+pub names_then : (declared : Declared) (at now there : Place) → DerivesItem (AName (role_of declared)) [] [] at now →
+    DerivesItem (Part (More (role_of declared))) [] [] now there → Goes (names_items declared) (Exactly mark.Semicolon ∷ []) at there
+names_then declared at now there a b =
+    item_on (names_items declared) (Part (More (role_of declared))) (Exactly mark.Semicolon ∷ []) at now there (λ stack. refl)
+    (name_first declared at now a) b
 
-abbrev pub names_items : Role → List Item
-names_items role = AName role ∷ Part (More role) ∷ Exactly mark.Semicolon ∷ []
+pub type_first : (declared : Declared) (at there : Place) → DerivesItem (AWord word.Type) [] [] at there →
+    Goes (declaration_items declared) (Part Types ∷ names_items declared) at there
+type_first declared at there b = starts (AWord word.Type) (Part Types ∷ names_items declared) at there (λ stack. refl) b
 
-pub name_first : (role : Role) (at there : Place) → DerivesItem (AName role) [] [] at there → Goes (names_items role) (Part (More role) ∷ Exactly mark.Semicolon ∷ []) at there
-name_first role at there b = starts (AName role) (Part (More role) ∷ Exactly mark.Semicolon ∷ []) at there (λ stack. refl) b
-
-pub names_then : (role : Role) (at now there : Place) → DerivesItem (AName role) [] [] at now → DerivesItem (Part (More role)) [] [] now there → Goes (names_items role) (Exactly mark.Semicolon ∷ []) at there
-names_then role at now there a b =
-    item_on (names_items role) (Part (More role)) (Exactly mark.Semicolon ∷ []) at now there (λ stack. refl) (name_first role at now a) b
-
-pub type_first : (declared : Declared) (at there : Place) → DerivesItem (AWord word.Type) [] [] at there → Goes (declaration_items declared) (Part Types ∷ names_items (role_of declared)) at there
-type_first declared at there b = starts (AWord word.Type) (Part Types ∷ names_items (role_of declared)) at there (λ stack. refl) b
-
-pub types_then : (declared : Declared) (at now there : Place) → DerivesItem (AWord word.Type) [] [] at now → DerivesItem (Part Types) [] [] now there →
-    Goes (declaration_items declared) (names_items (role_of declared)) at there
+pub types_then : (declared : Declared) (at now there : Place) → DerivesItem (AWord word.Type) [] [] at now →
+    DerivesItem (Part Types) [] [] now there → Goes (declaration_items declared) (names_items declared) at there
 types_then declared at now there a b =
-    item_on (declaration_items declared) (Part Types) (names_items (role_of declared)) at now there (λ stack. refl) (type_first declared at now a) b
+    item_on (declaration_items declared) (Part Types) (names_items declared) at now there (λ stack. refl) (type_first declared at now a) b

@@ -4,4 +4,6 @@ pub mod Roles
 pub mod Stopping
 pub mod Stretch
 pub mod Room
+pub mod Advancing
+pub mod Matching
 pub mod Declarations

@@ -1,12 +1,15 @@
 -- What a part of the parser did: a stretch of the derivation without a fault, or one that stops.
-use Rattle.std.specs.Prelude.{ℕ, ◌+◌, ◌≡◌, ◌<◌, ◌≤◌, List, [], ◌∷◌, ◌++◌, Bool, true, false, Option, Some, None, IfSome, IsTrue, Result, Ok, Err, drop, length}
+use Rattle.std.specs.Prelude.{ℕ, ◌+◌, ◌≡◌, ◌<◌, ◌≤◌, List, [], ◌∷◌, ◌++◌, drop, length, Bool, true, false, IsTrue}
+use Rattle.std.specs.Prelude.{Option, Some, None, IfSome, Result, Ok, Err}
 use Rattle.std.specs.Option.{option_map}
 use Rattle.tokens.specs.Reading.{reach, reach_of}
 use Rattle.tokens.specs.Tokens.{is_last, tokens}
+use Rattle.tokens.specs.declared.limits.TheConstants.{WINDOW}
 use Rattle.tokens.specs.declared.lexemes.Lexeme.{Lexeme}
 use Rattle.grammar.specs.declared.diagnostics.Diagnostic.{Diagnostic}
 use Rattle.grammar.specs.declared.diagnostics.ParseFault.{ParseFault}
 use Rattle.grammar.specs.declared.diagnostics.ParseFault.TheVariants as refusal
+use Rattle.grammar.specs.declared.pools.TheConstants.{MOST_NAMES}
 use Rattle.grammar.specs.Compiled.{diagnostic}
 use Rattle.grammar.specs.Derivation.{state, Value, Definition, line_of, name_of_token, next_of}
 use Rattle.grammar.specs.Faults.{levels, misfit_code}
@@ -23,21 +26,24 @@ pub record Takes (consumed lexemes : List Lexeme) (there : Place) : Type 0 where
   pub is : lexemes ≡ consumed ++ rest
   pub shows : tokens_at there ≡ Some rest
 
--- From one place to another the derivation goes from these items in front to those, with so many levels open below them,
--- and leaves these trees in the place of those. It takes the same tokens whether the device tells them or not.
+-- From one place to another the derivation goes from these items in front to those, with so many levels open below
+-- them, and leaves these trees in the place of those. It takes the same tokens whether the device tells them or not.
 pub record Derives (depth : ℕ) (front pending : List Item) (taken left : List Value) (here there : Place) : Type 0 where
   pub consumed : List Lexeme
   pub told : (lexemes : List Lexeme) → tokens_at here ≡ Some lexemes → Takes consumed lexemes there
   pub follows : (rest : List Lexeme) → GoesOn there rest → GoesOn here (consumed ++ rest)
-  pub passes : (rest : List Lexeme) → GoesOn there rest → (profile : Profile) (stack : List Item) (values : List Value) (functions : List Definition) →
+  pub passes : (rest : List Lexeme) → GoesOn there rest →
+      (profile : Profile) (stack : List Item) (values : List Value) (functions : List Definition) →
       levels stack ≡ depth →
-      Passes profile (state (front ++ stack) (consumed ++ rest) (taken ++ values) (scope_at here) functions) (state (pending ++ stack) rest (left ++ values) (scope_at there) functions)
+      Passes profile (state (front ++ stack) (consumed ++ rest) (taken ++ values) (scope_at here) functions)
+      (state (pending ++ stack) rest (left ++ values) (scope_at there) functions)
 
 -- where the tokens are told, the derivation from these items on stops so, with so many levels open
 abbrev pub FailsAt : ℕ → List Item → List Value → Place → Stop → Type 0
 FailsAt depth front taken here stop =
-    (lexemes : List Lexeme) → tokens_at here ≡ Some lexemes → (profile : Profile) (stack : List Item) (values : List Value) (functions : List Definition) →
-    levels stack ≡ depth → Stops profile (state (front ++ stack) lexemes (taken ++ values) (scope_at here) functions) stop
+    (lexemes : List Lexeme) → tokens_at here ≡ Some lexemes →
+    (profile : Profile) (stack : List Item) (values : List Value) (functions : List Definition) → levels stack ≡ depth →
+    Stops profile (state (front ++ stack) lexemes (taken ++ values) (scope_at here) functions) stop
 
 -- one item was matched or replaced, however many levels are open
 abbrev pub DerivesItem : Item → List Item → List Value → Place → Place → Type 0
@@ -62,7 +68,8 @@ pub record HasFlaw (here : Place) (d : Diagnostic) : Type 0 where
 pub record StopsAt (here : Place) (stop : Stop) : Type 0 where
   pub more : is_last (next_at here).token ≡ false
   pub flaw : IfSome stop.fault (HasFlaw here)
-  pub taken : (next : Lexeme) (others : List Lexeme) → tokens_at here ≡ Some (next ∷ others) → stop.taken ≤ reach_of others + slack stop.fault
+  pub taken : (next : Lexeme) (others : List Lexeme) → tokens_at here ≡ Some (next ∷ others) →
+      stop.taken ≤ reach_of others + slack stop.fault
 
 -- the first token is a fault, or the device failed
 pub record StopsFirst (told : Option (List Lexeme)) (stop : Stop) : Type 0 where
@@ -72,7 +79,7 @@ pub record StopsFirst (told : Option (List Lexeme)) (stop : Stop) : Type 0 where
 
 -- no more bytes were taken than a window behind the two tokens that are held
 abbrev pub IsNearTo : Place → ℕ → Type 0
-IsNearTo here taken = taken ≤ reach here.position.reading + 4096
+IsNearTo here taken = taken ≤ reach here.position.reading + WINDOW
 
 -- the token is no name, and is refused for that
 pub record IsNoName (next : Lexeme) (fault : ParseFault) : Type 0 where
@@ -83,12 +90,12 @@ pub record IsNoName (next : Lexeme) (fault : ParseFault) : Type 0 where
 -- the definition of the function of this number began
 pub record BeginsDefinition (number : ℕ) (old new : Position) : Type 0 where
   pub is : new.scope.number ≡ number
-  pub few : number < 64
+  pub few : number < MOST_NAMES
   pub mentioned : number < length new.scope.functions
   pub within : IsWithin old.scope → IsWithin new.scope
 
--- what a refusal says, with so many bytes taken: of a source its fault, of the device how far it had to be read, of memory that the builder
--- asks for it
+-- what a refusal says, with so many bytes taken: of a source its fault, of the device how far it had to be read, of
+-- memory that the builder asks for it
 abbrev pub Refused : (Stop → Type 0) → Bool → ℕ → ParseFault → Type 0
 Refused stops allocates taken (refusal.Source d) = stops (stop_with (Some d) taken)
 Refused stops allocates taken refusal.Device = stops (stop_with None taken)

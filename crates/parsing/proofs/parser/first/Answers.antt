@@ -2,7 +2,7 @@ use Rattle.std.proofs.Common.{◌≡◌, refl, sym, true}
 use Rattle.std.proofs.lemmas.Result.{err_from_is_err_and}
 use Rattle.grammar.specs.Grammar.{is_fault}
 use Rattle.parsing.proofs.Stretches.{no_opening, opens_at_flaw}
-use Rattle.parsing.proofs.parser.Parser.open.Goals as goal
+use Rattle.parsing.proofs.parser.first.Goals as goal
 
 pub returns-in_err-cursor-clause-refused : goal.returns-in_err-cursor-clause-refused
 returns-in_err-cursor-clause-refused g c =
