@@ -2,6 +2,11 @@ pub mod ProgramsLemmas
 pub mod Stages
 pub mod Cycles
 pub mod Limits
+pub mod Commuting
+pub mod Turns
+pub mod Ahead
+pub mod Spans
+pub mod Alone
 pub mod Beginnings
 pub mod TestFiles
 pub mod KnownBattles

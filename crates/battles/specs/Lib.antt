@@ -1,5 +1,6 @@
 pub mod Programs
 pub mod Battle
+pub mod Windows
 pub mod Pairing
 pub mod Carrying
 pub mod KnownBattles

@@ -6,6 +6,8 @@ mod known;
 mod outcome;
 mod programs;
 mod scheduler;
+mod slots;
+mod windows;
 
 pub use battles::battle;
 pub use known::known_battles;

@@ -1,85 +1,34 @@
-//! The scheduler: each live robot runs one instruction in each cycle.
+//! The scheduler: windows of cycles, and the updates between them.
 
-ghost use Rattle.std.specs.Prelude.{◌≡◌, ◌+◌, ◌-◌, ◌/◌, ◌<◌, ◌≤◌, ℤ, List, length};
-ghost use Rattle.arena.specs.Field.{Field};
-ghost use Rattle.arena.specs.Standing.{StandsFor as IsGroundOf};
-ghost use Rattle.code.specs.Standing.{StandsFor, FitsProgram};
-ghost use Rattle.battles.specs.Battle.{Robot, Stage, step, turns, cycle, is_over, stage_after, last_cycle};
-ghost use Rattle.battles.specs.Carrying.{IsRobotOf, AreRobotsOf, EachFits, HasReached};
+ghost use Rattle.std.specs.Prelude.{◌≡◌, ◌<◌, ◌≤◌, ◌+◌, List, length, nat_le};
+ghost use Rattle.arena.specs.Field.{live_count};
+ghost use Rattle.battles.specs.Battle.{Robot, Stage, stage_after, last_cycle};
+ghost use Rattle.battles.specs.Carrying.{AreRobotsOf, EachFits, HasReached};
 ghost use Rattle.battles.specs.Pairing.{paired};
+ghost use Rattle.battles.specs.Windows.{stretch};
 
 use crate::programs::Programs;
+use crate::windows::{UPDATE_CYCLES, window};
 use arena::Arena;
-use code::{Machine, Program, Want};
+use code::Machine;
 use settings::CYCLES_MAX;
 
-/// An update follows each cycle whose number is a multiple of this.
-const UPDATE_CYCLES: u32 = 15;
-
-// Runs one cycle of a robot. A dead one does nothing.
-#[inline(always)]
-#[tactic(auto, unfolding(crate::specs::Battle::step, crate::specs::Battle::granted))]
-fn turn(machine: &mut Machine, program: &Program, arena: &mut Arena, robot: usize)
-    requires inside { robot < length arena.old.robots }
-    requires fits { FitsProgram machine.old program.now }
-    ensures field { (r : Robot) (f : Field) (trace : List ℤ) → IsRobotOf program.now r → IsGroundOf arena.old f
-        → StandsFor machine.old program.now trace → IsGroundOf arena.new (step r robot f trace).0 }
-    ensures trace { (r : Robot) (f : Field) (trace : List ℤ) → IsRobotOf program.now r → IsGroundOf arena.old f
-        → StandsFor machine.old program.now trace → StandsFor machine.new program.now (step r robot f trace).1 }
-    ensures fits { FitsProgram machine.new program.now }
-    ensures manned { length arena.new.robots ≡ length arena.old.robots }
-    ensures updates { arena.new.updates ≡ arena.old.updates }
-{
-    if !arena.alive(robot) {
-        return;
-    }
-    match machine.next(program) {
-        Want::Quiet => machine.advance(program, 0),
-        Want::Ask(intrinsic, arguments) => {
-            let reply = arena.ask(robot, intrinsic, arguments);
-            machine.advance(program, reply);
-        }
-        Want::Restart => machine.restart(program),
-    }
-}
-
-// Runs the turns of one cycle, in the order of the robots.
-fn turns(machines: &mut [Machine], programs: &Programs, arena: &mut Arena)
+// Runs the cycles up to the next update, and the update. Reports whether that decided the battle.
+fn stretch(machines: &mut [Machine], programs: &Programs, arena: &mut Arena) -> bool
     requires manned { length arena.old.robots ≡ length (paired programs.now) }
     requires fits { EachFits machines.old (paired programs.now) }
+    requires updates { arena.old.updates < 66666667 }
     ensures stage { (robots : List Robot) (s : Stage) → AreRobotsOf (paired programs.now) robots
         → HasReached machines.old (paired programs.now) arena.old s
-        → HasReached machines.new (paired programs.now) arena.new (turns robots (length robots) s) }
-    ensures fits { EachFits machines.new (paired programs.now) }
-    ensures manned { length arena.new.robots ≡ length (paired programs.now) }
-    ensures updates { arena.new.updates ≡ arena.old.updates }
-{
-    for robot in 0..machines.len() {
-        turn(&mut machines[robot], programs.pilot(robot), arena, robot);
-    }
-}
-
-// Runs the cycle of this number, and the update that follows it if one is due. Reports whether that decided the battle.
-fn cycle(machines: &mut [Machine], programs: &Programs, arena: &mut Arena, number: u32) -> bool
-    requires manned { length arena.old.robots ≡ length (paired programs.now) }
-    requires fits { EachFits machines.old (paired programs.now) }
-    requires updates { arena.old.updates ≡ (number - 1) / UPDATE_CYCLES }
-    requires within { number ≤ CYCLES_MAX }
-    requires some { 0 < number }
-    ensures stage { (robots : List Robot) (s : Stage) → AreRobotsOf (paired programs.now) robots
-        → HasReached machines.old (paired programs.now) arena.old s
-        → HasReached machines.new (paired programs.now) arena.new (cycle robots number s) }
+        → HasReached machines.new (paired programs.now) arena.new (stretch robots s) }
     ensures decided { (robots : List Robot) (s : Stage) → AreRobotsOf (paired programs.now) robots
         → HasReached machines.old (paired programs.now) arena.old s
-        → result ≡ is_over number (cycle robots number s) }
+        → result ≡ nat_le (live_count (stretch robots s).field) 1 }
     ensures fits { EachFits machines.new (paired programs.now) }
     ensures manned { length arena.new.robots ≡ length (paired programs.now) }
-    ensures updates { arena.new.updates ≡ number / UPDATE_CYCLES }
+    ensures updates { arena.new.updates ≡ arena.old.updates + 1 }
 {
-    turns(machines, programs, arena);
-    if number % UPDATE_CYCLES != 0 {
-        return false;
-    }
+    window(machines, programs, arena, UPDATE_CYCLES);
     arena.update();
     arena.live_count() <= 1
 }
@@ -102,10 +51,11 @@ pub(crate) fn play(
         → HasReached machines.old (paired programs.now) arena.old s → result ≡ last_cycle robots s limit }
     ensures manned { length arena.new.robots ≡ length (paired programs.now) }
 {
-    for number in 0..limit {
-        if cycle(machines, programs, arena, number + 1) {
-            return number + 1;
+    for number in 0..limit / UPDATE_CYCLES {
+        if stretch(machines, programs, arena) {
+            return UPDATE_CYCLES * (number + 1);
         }
     }
+    window(machines, programs, arena, limit % UPDATE_CYCLES);
     limit
 }

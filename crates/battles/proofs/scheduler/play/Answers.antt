@@ -1,6 +1,7 @@
-use Rattle.std.proofs.Common.{sym, arith}
+use Rattle.std.proofs.Common.{◌≡◌, ◌≤◌, ◌<◌, ◌/◌, ◌*◌, sym, ap, ◌∙◌, add-one, arith}
 use Rattle.battles.specs.Battle.{stage_after, is_over}
-use Rattle.battles.proofs.Cycles.{stage_none, stage_more, first_begins, first_more, first_is, first_ends}
+use Rattle.battles.proofs.Cycles.{stage_none, first_begins}
+use Rattle.battles.proofs.Spans.{stage_stretch, stage_rest, first_decided, first_undecided, first_limit}
 use Rattle.battles.proofs.scheduler.play.Goals as goal
 
 pub loop-number-init : goal.loop-number-init
@@ -12,32 +13,42 @@ loop-number-init c = record {
   cycles = λ robots s are reached. first_begins robots s c.args.limit;
 }
 
-pub returns-then-cycle-clause-stage : goal.returns-then-cycle-clause-stage
-returns-then-cycle-clause-stage c = λ robots s are reached.
-    rw stage_more (c.cycle.ensures.stage robots _ are (c.loop-number.invariant.stage robots s are reached))
+pub returns-then-stretch-clause-stage : goal.returns-then-stretch-clause-stage
+returns-then-stretch-clause-stage c = λ robots s are reached.
+    rw (stage_stretch robots s c.loop-number.number)
+    (c.stretch.ensures.stage robots _ are (c.loop-number.invariant.stage robots s are reached))
 
-pub returns-then-cycle-clause-cycles : goal.returns-then-cycle-clause-cycles
-returns-then-cycle-clause-cycles c = λ robots s are reached.
+pub returns-then-stretch-clause-cycles : goal.returns-then-stretch-clause-cycles
+returns-then-stretch-clause-cycles c = λ robots s are reached.
+    let within : c.loop-number.number < c.args.limit / 15 = c.loop-number-test.true in
     let now = c.loop-number.invariant.stage robots s are reached in
-    first_is (λ n. is_over n (stage_after robots s n)) c.loop-number.number c.args.limit _ c.loop-number-test.true
-    (c.loop-number.invariant.cycles robots s are reached)
-    (rw stage_more (sym (c.if-cycle.ensures.decided robots _ are now)))
+    first_decided robots s c.loop-number.number c.args.limit _ (omega arith)
+    (c.loop-number.invariant.cycles robots s are reached) (sym (c.if-stretch.ensures.decided robots _ are now))
 
 pub loop-number-preserved : goal.loop-number-preserved
-loop-number-preserved c = record {
-  manned = c.cycle.ensures.manned;
-  updates = c.cycle.ensures.updates;
-  fits = c.cycle.ensures.fits;
-  stage = λ robots s are reached.
-      rw stage_more (c.cycle.ensures.stage robots _ are (c.loop-number.invariant.stage robots s are reached));
-  cycles = λ robots s are reached.
-      let now = c.loop-number.invariant.stage robots s are reached in
-      first_more (λ n. is_over n (stage_after robots s n)) c.loop-number.number c.args.limit _ c.loop-number-test.true
-      (c.loop-number.invariant.cycles robots s are reached)
-      (rw stage_more (sym (c.if-cycle.ensures.decided robots _ are now)));
-}
+loop-number-preserved c =
+    let within : c.loop-number.number < c.args.limit / 15 = c.loop-number-test.true in
+    record {
+      manned = c.stretch.ensures.manned;
+      updates = omega (arith, c.stretch.ensures.updates, c.loop-number.invariant.updates);
+      fits = c.stretch.ensures.fits;
+      stage = λ robots s are reached.
+          rw (stage_stretch robots s c.loop-number.number)
+          (c.stretch.ensures.stage robots _ are (c.loop-number.invariant.stage robots s are reached));
+      cycles = λ robots s are reached.
+          let now = c.loop-number.invariant.stage robots s are reached in
+          first_undecided robots s c.loop-number.number c.args.limit _ (omega arith)
+          (c.loop-number.invariant.cycles robots s are reached) (sym (c.if-stretch.ensures.decided robots _ are now));
+    }
+
+pub returns-clause-stage : goal.returns-clause-stage
+returns-clause-stage c = λ robots s are reached.
+    let all : c.loop-number.number ≡ c.args.limit / 15 = omega arith in
+    rw (stage_rest robots s c.loop-number.number c.args.limit all)
+    (c.window.ensures.stage robots _ are (c.loop-number.invariant.stage robots s are reached))
 
 pub returns-clause-cycles : goal.returns-clause-cycles
 returns-clause-cycles c = λ robots s are reached.
-    first_ends (λ n. is_over n (stage_after robots s n)) c.loop-number.number c.args.limit _ (omega arith)
+    let all : c.loop-number.number ≡ c.args.limit / 15 = omega arith in
+    first_limit robots s (15 * c.loop-number.number) c.args.limit _ (omega arith) (omega arith) (omega arith)
     (c.loop-number.invariant.cycles robots s are reached)

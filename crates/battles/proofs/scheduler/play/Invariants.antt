@@ -1,4 +1,4 @@
-use Rattle.std.proofs.Common.{◌≡◌, ◌-◌, ◌/◌, List, length}
+use Rattle.std.proofs.Common.{◌≡◌, ◌-◌, ◌*◌, List, length}
 use Rattle.battles.specs.Battle.{Robot, Stage, stage_after, is_over, first_above, last_cycle}
 use Rattle.battles.specs.Carrying.{AreRobotsOf, EachFits, HasReached}
 use Rattle.battles.specs.Pairing.{paired}
@@ -7,12 +7,12 @@ use Rattle.battles.proofs.scheduler.play.Given as goal
 abbrev pub invariant-loop-number : goal.invariant-loop-number
 invariant-loop-number l = record {
   manned : length l.arena.robots ≡ length (paired l.programs);
-  updates : l.arena.updates ≡ l.number / 15;
+  updates : l.arena.updates ≡ l.number;
   fits : EachFits l.machines (paired l.programs);
   stage : (robots : List Robot) (s : Stage) → AreRobotsOf (paired l.programs) robots
       → HasReached l.initial.machines (paired l.programs) l.initial.arena s
-      → HasReached l.machines (paired l.programs) l.arena (stage_after robots s l.number);
+      → HasReached l.machines (paired l.programs) l.arena (stage_after robots s (15 * l.number));
   cycles : (robots : List Robot) (s : Stage) → AreRobotsOf (paired l.programs) robots
       → HasReached l.initial.machines (paired l.programs) l.initial.arena s
-      → first_above (λ n. is_over n (stage_after robots s n)) l.number (l.limit - l.number) ≡ last_cycle robots s l.limit;
+      → first_above (λ n. is_over n (stage_after robots s n)) (15 * l.number) (l.limit - 15 * l.number) ≡ last_cycle robots s l.limit;
 }

@@ -1,0 +1,165 @@
+-- How far the robots of a window have come.
+use Rattle.std.proofs.Common.{◌≡◌, ◌≢◌, ℕ, ◌+◌, ◌*◌, ◌-◌, ◌%◌, ◌<◌, ◌≤◌, zero, suc, Bool, true, false, ℤ, List, [], ◌∷◌, length, set, get_or, Some, ◌⊎◌, inl, inr, refl, sym, ap, ◌∙◌, arith, add-one}
+use Rattle.std.specs.Prelude.{slice_get}
+use Rattle.std.proofs.lemmas.List.{get_or-set_same, get_or-set_other, set-set, set-get_or, length-set}
+use Rattle.std.proofs.lemmas.Bool.{cases_lt}
+use Rattle.arena.specs.Field.{Field, is_live}
+use Rattle.arena.specs.Ground.{Ground}
+use Rattle.arena.specs.Standing.{StandsFor as IsGroundOf}
+use Rattle.code.specs.declared.want.Want.TheVariants.{Quiet}
+use Rattle.code.specs.Generation.{Code}
+use Rattle.code.specs.Machine.{State}
+use Rattle.code.specs.Standing.{StandsFor}
+use Rattle.battles.specs.Battle.{Robot, Stage, step, turn, robot_of}
+use Rattle.battles.specs.Carrying.{AreRobotsOf, EachStandsFor, HasReached, IsRobotOf}
+use Rattle.battles.specs.Windows.{AreSlots, alone, RunsAlone, GoesOn, rounds}
+use Rattle.battles.proofs.Commuting.{TurnsAlone, stage_of, turn_alone}
+use Rattle.battles.proofs.Turns.{rest, rest_all, rest_none, is_left, left_not, slots_set, next_taken}
+use Rattle.battles.proofs.Stages.{robot_at, robots_length, stands_at, stands_set}
+
+-- a robot has run alone for so many cycles
+unfoldable pub ran : List Robot → ℕ → Stage → ℕ → Stage
+ran robots i s n = stage_of s.field (set s.traces i (alone (robot_of robots i) i s.field (get_or s.traces i []) n))
+
+ran_none : (robots : List Robot) (i : ℕ) (s : Stage) → ran robots i s 0 ≡ s
+unfolding ran alone stage_of
+ran_none robots i s = ap (stage_of s.field) (set-get_or s.traces i [])
+
+ran_more : (robots : List Robot) (i : ℕ) (s : Stage) (n : ℕ) → i < length s.traces → TurnsAlone robots i (ran robots i s n)
+    → turn robots i (ran robots i s n) ≡ ran robots i s (suc n)
+unfolding ran alone stage_of
+ran_more robots i s n inside turns =
+    let robot = robot_of robots i in
+    let trace = alone robot i s.field (get_or s.traces i []) n in
+    turn_alone robots i (stage_of s.field (set s.traces i trace)) turns
+    ∙ ap (λ t. stage_of s.field (set (set s.traces i trace) i (step robot i s.field t).1)) (get_or-set_same s.traces i trace [] inside)
+    ∙ ap (stage_of s.field) (set-set s.traces i trace (step robot i s.field trace).1)
+
+ran_alone : (robots : List Robot) (i : ℕ) (s : Stage) (n k : ℕ) → i < length s.traces
+    → RunsAlone (robot_of robots i) i s.field (get_or s.traces i []) n → k < n → TurnsAlone robots i (ran robots i s k)
+unfolding ran stage_of TurnsAlone
+ran_alone robots i s n k inside runs within = λ live.
+    let robot = robot_of robots i in
+    rw (get_or-set_same s.traces i (alone robot i s.field (get_or s.traces i []) k) [] inside) (runs k within live)
+
+-- its turns are no longer left
+pub run_taken : (robots : List Robot) (next : List ℕ) (i end n : ℕ) (s : Stage) → AreSlots next → i < 4 → i < length s.traces
+    → get_or next i 0 + 4 * n < end + 4 → RunsAlone (robot_of robots i) i s.field (get_or s.traces i []) n
+    → rest robots (is_left next) 0 end s ≡ rest robots (is_left (set next i (get_or next i 0 + 4 * n))) 0 end (ran robots i s n)
+run_taken robots next i end zero s are small inside within runs =
+    let same : get_or next i 0 + 4 * 0 ≡ get_or next i 0 = omega arith in
+    rw (ran_none robots i s, same, set-get_or next i 0) refl
+run_taken robots next i end (suc n) s are small inside within runs =
+    let four = are.four in
+    let d = get_or next i 0 in
+    let before = set next i (d + 4 * n) in
+    let slot : get_or before i 0 ≡ d + 4 * n = get_or-set_same next i (d + 4 * n) 0 (omega arith) in
+    let turns = ran_alone robots i s (suc n) n inside runs (omega arith) in
+    let later : set before i (get_or before i 0 + 4) ≡ set next i (d + 4 * suc n) =
+        ap (λ k. set before i (k + 4)) slot ∙ set-set next i (d + 4 * n) (d + 4 * n + 4) ∙ ap (set next i) (omega arith) in
+    run_taken robots next i end n s are small inside (omega arith) (λ k low. runs k (omega arith))
+    ∙ next_taken robots before i end (ran robots i s n) (slots_set next i n are small) small (omega (arith, slot)) (inl turns)
+    ∙ ap (λ slots. rest robots (is_left slots) 0 end (turn robots i (ran robots i s n))) later
+    ∙ ap (rest robots (is_left (set next i (d + 4 * suc n))) 0 end) (ran_more robots i s n inside turns)
+
+-- The machines and the arena are at a stage from which the turns that are left lead to the end of the window.
+pub record HasCome (robots : List Robot) (codes : List Code) (next : List ℕ) (w : ℕ) (machines : List State) (arena : Ground) (opened : Stage) : Type 0 where
+  pub stage : Stage
+  pub reached : HasReached machines codes arena stage
+  pub ends : rest robots (is_left next) 0 (4 * w) stage ≡ rounds robots w opened
+
+-- What a robot makes of its machine and of the arena when it goes on, whatever its trace and the field are.
+pub record HasGoneOn (i : ℕ) (code : Code) (n : ℕ) (machine after : State) (arena grown : Ground) : Type 0 where
+  pub on : (r : Robot) (f : Field) (trace : List ℤ) → IsRobotOf code r → IsGroundOf arena f → StandsFor machine code trace
+      → (field : Field) × (longer : List ℤ) × GoesOn r i f trace n field longer × IsGroundOf grown field × StandsFor after code longer
+
+traces_length : (machines : List State) (codes : List Code) (traces : List (List ℤ)) → EachStandsFor machines codes traces → length traces ≡ length codes
+traces_length [] [] [] stands = refl
+traces_length (machine ∷ machines) (code ∷ codes) (trace ∷ traces) stands = ap suc (traces_length machines codes traces stands.1)
+traces_length _ _ _ stands = absurd stands
+
+pub come_on : (robots : List Robot) (codes : List Code) (next : List ℕ) (w n i : ℕ) (machines : List State) (arena grown : Ground) (opened : Stage)
+    (code : Code) (none after : State)
+    → AreRobotsOf codes robots → AreSlots next → i < 4 → i < length codes → get_or next i 0 + 4 * n < 4 * w + 4 → 0 < n
+    → ((j : ℕ) → j < 4 → get_or next i 0 ≤ get_or next j 0)
+    → HasCome robots codes next w machines arena opened → slice_get codes i ≡ Some code
+    → HasGoneOn i code n (get_or machines i none) after arena grown
+    → HasCome robots codes (set next i (get_or next i 0 + 4 * n)) w (set machines i after) grown opened
+unfolding turn robot_of ran stage_of
+come_on robots codes next w n i machines arena grown opened code none after are slots small inside within some first come here gone =
+    let s = come.stage in
+    let robot = robot_at codes robots i code (λ trace. Quiet) are here in
+    let stands = stands_at machines codes s.traces i code none come.reached.traces here in
+    let lengths = traces_length machines codes s.traces come.reached.traces in
+    let on = gone.on (robot_of robots i) s.field (get_or s.traces i []) robot come.reached.field stands in
+    elim on.2 as (λ on. HasCome robots codes (set next i (get_or next i 0 + 4 * n)) w (set machines i after) grown opened) [
+      | inl alone ↦ record {
+        stage = ran robots i s n;
+        reached = record {
+          field = rw alone.1 at on.3;
+          traces = stands_set machines codes s.traces i after code _ come.reached.traces here (rw alone.2 at on.4);
+        };
+        ends = sym (run_taken robots next i (4 * w) n s slots small (omega (arith, lengths, inside)) within alone.0) ∙ come.ends;
+      }
+      | inr one ↦
+          let once : get_or next i 0 + 4 ≡ get_or next i 0 + 4 * n = omega (arith, one.0) in
+          record {
+            stage = turn robots i s;
+            reached = record {
+              field = rw one.1 at on.3;
+              traces = stands_set machines codes s.traces i after code _ come.reached.traces here (rw one.2 at on.4);
+            };
+            ends = ap (λ d. rest robots (is_left (set next i d)) 0 (4 * w) (turn robots i s)) (sym once)
+                ∙ sym (next_taken robots next i (4 * w) s slots small (omega (arith, within, some)) (inr first)) ∙ come.ends;
+          }
+    ]
+
+-- how many slots the robots have left
+pub left_until : ℕ → List ℕ → ℕ
+left_until end next = (end - get_or next 0 0) + (end - get_or next 1 0) + (end - get_or next 2 0) + (end - get_or next 3 0)
+
+pub left_less : (end : ℕ) (next : List ℕ) (i n : ℕ) → length next ≡ 4 → i < 4 → get_or next i 0 < end → 0 < n
+    → left_until end (set next i (get_or next i 0 + 4 * n)) < left_until end next
+unfolding left_until
+left_less end (a ∷ b ∷ c ∷ d ∷ []) zero n four small within some = omega arith
+left_less end (a ∷ b ∷ c ∷ d ∷ []) (suc zero) n four small within some = omega arith
+left_less end (a ∷ b ∷ c ∷ d ∷ []) (suc (suc zero)) n four small within some = omega arith
+left_less end (a ∷ b ∷ c ∷ d ∷ []) (suc (suc (suc zero))) n four small within some = omega arith
+left_less end (a ∷ b ∷ c ∷ d ∷ []) (suc (suc (suc (suc i)))) n four small within some = absurd (omega arith)
+left_less end (a ∷ b ∷ c ∷ d ∷ e ∷ next) i n four small within some = absurd (omega arith)
+left_less end (a ∷ b ∷ c ∷ []) i n four small within some = absurd (omega arith)
+left_less end (a ∷ b ∷ []) i n four small within some = absurd (omega arith)
+left_less end (a ∷ []) i n four small within some = absurd (omega arith)
+left_less end [] i n four small within some = absurd (omega arith)
+
+-- the window begins
+pub opens : (robots : List Robot) (codes : List Code) (next : List ℕ) (w : ℕ) (machines : List State) (arena : Ground) (s : Stage)
+    → AreRobotsOf codes robots → AreSlots next → length codes ≤ 4
+    → ((i : ℕ) → i < length codes → i < 4 → get_or next i 0 ≡ i) → ((i : ℕ) → length codes ≤ i → i < 4 → 4 * w ≤ get_or next i 0)
+    → HasReached machines codes arena s → HasCome robots codes next w machines arena s
+opens robots codes next w machines arena s are slots most first past reached =
+    let all = robots_length codes robots are in
+    record { stage = s; reached = reached; ends = rest_all robots next (length codes) w s slots (sym all) most (λ i low. first i low (omega arith)) past }
+
+-- and ends
+pub closes : (robots : List Robot) (codes : List Code) (next : List ℕ) (w : ℕ) (machines : List State) (arena : Ground) (s : Stage)
+    → ((i : ℕ) → i < 4 → 4 * w ≤ get_or next i 0)
+    → HasCome robots codes next w machines arena s → HasReached machines codes arena (rounds robots w s)
+closes robots codes next w machines arena s past come =
+    let done : rest robots (is_left next) 0 (4 * w) come.stage ≡ come.stage =
+        rest_none robots (is_left next) 0 (4 * w) come.stage (λ t from to. left_not next t (omega (arith, past (t % 4) (omega arith), to))) in
+    rw (sym come.ends, done) come.reached
+
+-- the slot that is next is that of a robot
+pub is_robot : (next : List ℕ) (slot end n : ℕ) → get_or next (slot % 4) 0 ≡ slot → slot < end
+    → ((i : ℕ) → n ≤ i → i < 4 → end ≤ get_or next i 0) → slot % 4 < n
+is_robot next slot end n own within past = elim (cases_lt (slot % 4) n) [
+  | inl inside ↦ inside
+  | inr outside ↦ absurd (omega (arith, own, within, past (slot % 4) outside (omega arith)))
+]
+
+pub past_set : (next : List ℕ) (r x end n : ℕ) → r < n → ((i : ℕ) → n ≤ i → i < 4 → end ≤ get_or next i 0)
+    → (i : ℕ) → n ≤ i → i < 4 → end ≤ get_or (set next r x) i 0
+past_set next r x end n inside past i high small =
+    let other : i ≢ r = omega arith in
+    rw (get_or-set_other next r i x 0 other) (past i high small)

@@ -1,0 +1,116 @@
+-- Cycles from one update to the next.
+use Rattle.std.proofs.Common.{◌≡◌, ◌≢◌, ℕ, ◌+◌, ◌*◌, ◌-◌, ◌%◌, ◌/◌, ◌<◌, ◌≤◌, zero, suc, Bool, true, false, List, length, refl, sym, ap, ◌∙◌, arith, add-one}
+use Rattle.std.specs.Prelude.{nat_le}
+use Rattle.arena.specs.Field.{live_count}
+use Rattle.arena.specs.Moved.{moved}
+use Rattle.battles.specs.Battle.{Robot, Stage, turns, is_over, stage_after, first_above, last_cycle}
+use Rattle.battles.specs.Windows.{rounds, stretch}
+use Rattle.battles.proofs.Cycles.{cycle_alone, cycle_updates, goes_on, stage_more, over_if_few, first_later, first_none, first_is, first_more}
+
+-- no update falls within a window
+pub stage_within : (robots : List Robot) (s : Stage) (n w : ℕ) → n % 15 ≡ 0 → w < 15
+    → stage_after robots s (n + w) ≡ rounds robots w (stage_after robots s n)
+unfolding rounds
+stage_within robots s n zero begins small = ap (stage_after robots s) (omega arith)
+stage_within robots s n (suc w) begins small =
+    let next : n + suc w ≡ n + w + 1 = omega arith in
+    ap (stage_after robots s) next
+    ∙ stage_more robots s (n + w)
+    ∙ cycle_alone robots (n + w + 1) (stage_after robots s (n + w)) (omega arith)
+    ∙ ap (turns robots (length robots)) (stage_within robots s n w begins (omega arith))
+
+-- an update falls at its end
+updated_stage : Stage → Stage
+updated_stage s = record { field = moved s.field; traces = s.traces }
+
+stage_updated : (robots : List Robot) (s : Stage) (n : ℕ) → n % 15 ≡ 0
+    → stage_after robots s (n + 15) ≡ stretch robots (stage_after robots s n)
+unfolding rounds stretch updated_stage
+stage_updated robots s n begins =
+    let last : n + 15 ≡ n + 14 + 1 = omega arith in
+    ap (stage_after robots s) last
+    ∙ stage_more robots s (n + 14)
+    ∙ cycle_updates robots (n + 14 + 1) (stage_after robots s (n + 14)) (omega arith)
+    ∙ ap (λ before. updated_stage (turns robots (length robots) before)) (stage_within robots s n 14 begins (omega arith))
+
+pub stage_stretch : (robots : List Robot) (s : Stage) (n : ℕ)
+    → stage_after robots s (15 * (n + 1)) ≡ stretch robots (stage_after robots s (15 * n))
+stage_stretch robots s n =
+    let next : 15 * (n + 1) ≡ 15 * n + 15 = omega arith in
+    ap (stage_after robots s) next ∙ stage_updated robots s (15 * n) (omega arith)
+
+pub stage_rest : (robots : List Robot) (s : Stage) (n limit : ℕ) → n ≡ limit / 15
+    → stage_after robots s limit ≡ rounds robots (limit % 15) (stage_after robots s (15 * n))
+stage_rest robots s n limit all =
+    let sum : limit ≡ 15 * n + limit % 15 = omega arith in
+    ap (stage_after robots s) sum ∙ stage_within robots s (15 * n) (limit % 15) (omega arith) (omega arith)
+
+-- the search for the last cycle passes over cycles that aren't
+first_skips : (passes : ℕ → Bool) (n k count : ℕ) → ((j : ℕ) → n < j → j ≤ n + k → passes j ≡ false)
+    → first_above passes n (k + count) ≡ first_above passes (n + k) count
+first_skips passes n zero count none =
+    let same : n + 0 ≡ n = omega arith in
+    let all : 0 + count ≡ count = omega arith in
+    rw (same, all) refl
+first_skips passes n (suc k) count none =
+    let more : suc k + count ≡ suc (k + count) = omega arith in
+    let next : n + suc k ≡ n + 1 + k = omega arith in
+    ap (first_above passes n) more
+    ∙ first_later passes n (k + count) (none (n + 1) (omega arith) (omega arith))
+    ∙ first_skips passes (n + 1) k count (λ j above most. none j (omega arith) (omega arith))
+    ∙ ap (λ m. first_above passes m count) (sym next)
+
+over : (robots : List Robot) (s : Stage) → ℕ → Bool
+over robots s n = is_over n (stage_after robots s n)
+
+not_over : (robots : List Robot) (s : Stage) (n j : ℕ) → n % 15 ≡ 0 → n < j → j < n + 15 → over robots s j ≡ false
+unfolding over
+not_over robots s n j begins above below = goes_on j (stage_after robots s j) (omega arith)
+
+-- the next update is where the search goes on
+first_update : (robots : List Robot) (s : Stage) (n limit last : ℕ) → n % 15 ≡ 0 → n + 15 ≤ limit
+    → first_above (λ k. is_over k (stage_after robots s k)) n (limit - n) ≡ last
+    → first_above (λ k. is_over k (stage_after robots s k)) (n + 14) (limit - (n + 14)) ≡ last
+unfolding over
+first_update robots s n limit last begins within so =
+    let count : limit - n ≡ 14 + (limit - (n + 14)) = omega arith in
+    sym (first_skips (over robots s) n 14 (limit - (n + 14)) (λ j above most. not_over robots s n j begins above (omega arith)))
+    ∙ rw count at so
+
+few_after : (robots : List Robot) (s : Stage) (n : ℕ)
+    → over robots s (15 * n + 14 + 1) ≡ nat_le (live_count (stretch robots (stage_after robots s (15 * n))).field) 1
+unfolding over
+few_after robots s n =
+    let next : 15 * n + 14 + 1 ≡ 15 * n + 15 = omega arith in
+    over_if_few (15 * n + 14 + 1) (stage_after robots s (15 * n + 14 + 1)) (omega arith)
+    ∙ ap (λ (t : Stage). nat_le (live_count t.field) 1) (ap (stage_after robots s) next ∙ stage_updated robots s (15 * n) (omega arith))
+
+pub first_decided : (robots : List Robot) (s : Stage) (n limit last : ℕ) → 15 * n + 15 ≤ limit
+    → first_above (λ k. is_over k (stage_after robots s k)) (15 * n) (limit - 15 * n) ≡ last
+    → nat_le (live_count (stretch robots (stage_after robots s (15 * n))).field) 1 ≡ true → 15 * (n + 1) ≡ last
+unfolding over
+first_decided robots s n limit last within so decided =
+    let next : 15 * (n + 1) ≡ 15 * n + 14 + 1 = omega arith in
+    next ∙ first_is (over robots s) (15 * n + 14) limit last (omega arith)
+    (first_update robots s (15 * n) limit last (omega arith) within so) (few_after robots s n ∙ decided)
+
+pub first_undecided : (robots : List Robot) (s : Stage) (n limit last : ℕ) → 15 * n + 15 ≤ limit
+    → first_above (λ k. is_over k (stage_after robots s k)) (15 * n) (limit - 15 * n) ≡ last
+    → nat_le (live_count (stretch robots (stage_after robots s (15 * n))).field) 1 ≡ false
+    → first_above (λ k. is_over k (stage_after robots s k)) (15 * (n + 1)) (limit - 15 * (n + 1)) ≡ last
+unfolding over
+first_undecided robots s n limit last within so undecided =
+    let next : 15 * (n + 1) ≡ 15 * n + 14 + 1 = omega arith in
+    rw next (first_more (over robots s) (15 * n + 14) limit last (omega arith)
+    (first_update robots s (15 * n) limit last (omega arith) within so) (few_after robots s n ∙ undecided))
+
+-- no update comes before the limit
+pub first_limit : (robots : List Robot) (s : Stage) (n limit last : ℕ) → n % 15 ≡ 0 → n ≤ limit → limit < n + 15
+    → first_above (λ k. is_over k (stage_after robots s k)) n (limit - n) ≡ last → limit ≡ last
+unfolding over
+first_limit robots s n limit last begins within short so =
+    let count : limit - n ≡ limit - n + 0 = omega arith in
+    let end : n + (limit - n) ≡ limit = omega arith in
+    sym (ap (λ m. first_above (over robots s) m 0) end ∙ first_none (over robots s) limit)
+    ∙ sym (first_skips (over robots s) n (limit - n) 0 (λ j above most. not_over robots s n j begins above (omega arith)))
+    ∙ rw count at so

@@ -1,0 +1,225 @@
+-- The slots of a window: robot i has its turn of cycle c, counted from 0, in slot 4 * c + i.
+use Rattle.std.proofs.Common.{◌≡◌, ◌≢◌, ℕ, ◌+◌, ◌*◌, ◌%◌, ◌<◌, ◌≤◌, zero, suc, Bool, true, false, ℤ, List, [], ◌∷◌, length, set, get_or, ◌⊎◌, inl, inr, refl, sym, ap, ◌∙◌, arith, add-one}
+use Rattle.std.specs.Prelude.{nat_lt, nat_le, min, if◌then◌else◌}
+use Rattle.std.proofs.lemmas.Bool.{cases_Bool, cases_eq, cases_lt, false≢true}
+use Rattle.std.proofs.lemmas.List.{get_or-set_same, get_or-set_other, length-set}
+use Rattle.std.proofs.lemmas.Bool.Decides.{nat_tests}
+use Rattle.battles.specs.Battle.{Robot, Stage, turn, turns, robot_of}
+use Rattle.battles.specs.Windows.{rounds, AreSlots, alone, RunsAlone}
+use Rattle.battles.proofs.Commuting.{TurnsAlone, stage_of, turn_alone, alone_stays, commutes}
+
+-- the turns that are left in so many slots from this one on
+pub rest : List Robot → (ℕ → Bool) → (slot count : ℕ) → Stage → Stage
+rest robots left t zero s = s
+rest robots left t (suc n) s = rest robots left (t + 1) n (if left t then turn robots (t % 4) s else s)
+
+rest_more : (robots : List Robot) (left : ℕ → Bool) (t n : ℕ) (s : Stage) → left t ≡ true
+    → rest robots left t (suc n) s ≡ rest robots left (t + 1) n (turn robots (t % 4) s)
+unfolding rest
+rest_more robots left t n s here = rw here refl
+
+rest_less : (robots : List Robot) (left : ℕ → Bool) (t n : ℕ) (s : Stage) → left t ≡ false
+    → rest robots left t (suc n) s ≡ rest robots left (t + 1) n s
+unfolding rest
+rest_less robots left t n s gone = rw gone refl
+
+-- the same turns are left
+rest_same : (robots : List Robot) (left other : ℕ → Bool) (t n : ℕ) (s : Stage)
+    → ((k : ℕ) → t ≤ k → k < t + n → left k ≡ other k) → rest robots left t n s ≡ rest robots other t n s
+unfolding rest
+rest_same robots left other t zero s same = refl
+rest_same robots left other t (suc n) s same =
+    rw (same t (omega arith) (omega arith)) (rest_same robots left other (t + 1) n _ (λ k from to. same k (omega arith) (omega arith)))
+
+-- none is left
+pub rest_none : (robots : List Robot) (left : ℕ → Bool) (t n : ℕ) (s : Stage)
+    → ((k : ℕ) → t ≤ k → k < t + n → left k ≡ false) → rest robots left t n s ≡ s
+unfolding rest
+rest_none robots left t zero s none = refl
+rest_none robots left t (suc n) s none =
+    rw (none t (omega arith) (omega arith)) (rest_none robots left (t + 1) n s (λ k from to. none k (omega arith) (omega arith)))
+
+-- A robot's next turn can be taken at once if the robot does it alone, or if no turn is left before it.
+takes : (robots : List Robot) (left other : ℕ → Bool) (i d t n : ℕ) (s : Stage) → d % 4 ≡ i → left d ≡ true → other d ≡ false
+    → ((k : ℕ) → k ≢ d → left k ≡ other k) → ((k : ℕ) → k < d → k % 4 ≡ i → left k ≡ false) → t ≤ d → d < t + n
+    → TurnsAlone robots i s ⊎ ((k : ℕ) → t ≤ k → k < d → left k ≡ false)
+    → rest robots left t n s ≡ rest robots other t n (turn robots i s)
+takes robots left other i d t zero s own here gone same later from to ready = absurd (omega arith)
+takes robots left other i d t (suc n) s own here gone same later from to ready = elim (cases_eq t d) [
+  | inl now ↦
+      let still : (k : ℕ) → t + 1 ≤ k → k < t + 1 + n → left k ≡ other k = λ k from to. same k (omega (arith, from, now)) in
+      rest_more robots left t n s (rw now here)
+      ∙ rw (now, own) (rest_same robots left other (d + 1) n (turn robots i s) (rw now at still))
+      ∙ sym (rest_less robots other t n (turn robots i s) (rw now gone))
+  | inr before ↦ elim (cases_Bool (left t)) [
+    | inl held ↦
+        let distinct : i ≢ t % 4 = λ same. false≢true (sym (later t (omega arith) (sym same)) ∙ held) in
+        let alone : TurnsAlone robots i s = elim ready as (λ r. TurnsAlone robots i s) [
+          | inl alone ↦ alone
+          | inr none ↦ absurd (false≢true (sym (none t (omega arith) (omega arith)) ∙ held))
+        ] in
+        rest_more robots left t n s held
+        ∙ takes robots left other i d (t + 1) n (turn robots (t % 4) s) own here gone same later (omega arith) (omega arith) (inl (alone_stays robots i (t % 4) s alone distinct))
+        ∙ ap (rest robots other (t + 1) n) (sym (commutes robots i (t % 4) s alone distinct))
+        ∙ sym (rest_more robots other t n (turn robots i s) (sym (same t before) ∙ held))
+    | inr free ↦
+        rest_less robots left t n s free
+        ∙ takes robots left other i d (t + 1) n s own here gone same later (omega arith) (omega arith) (elim ready as (λ r. TurnsAlone robots i s ⊎ ((k : ℕ) → t + 1 ≤ k → k < d → left k ≡ false)) [
+          | inl alone ↦ inl alone
+          | inr none ↦ inr (λ k from to. none k (omega arith) to)
+        ])
+        ∙ sym (rest_less robots other t n (turn robots i s) (sym (same t before) ∙ free))
+  ]
+]
+
+-- Each robot has the slot of its next turn; the turn of a slot is left if that is not a later one.
+pub is_left : List ℕ → ℕ → Bool
+is_left next t = nat_le (get_or next (t % 4) 0) t
+
+le_no : (a b : ℕ) → b < a → nat_le a b ≡ false
+le_no a b later = grind (arith, nat_tests)
+
+le_yes : (a b : ℕ) → a ≤ b → nat_le a b ≡ true
+le_yes a b past = grind (arith, nat_tests)
+
+pub left_not : (next : List ℕ) (t : ℕ) → t < get_or next (t % 4) 0 → is_left next t ≡ false
+unfolding is_left
+left_not next t later = le_no (get_or next (t % 4) 0) t later
+
+le_four : (d k : ℕ) → k % 4 ≡ d % 4 → k ≢ d → nat_le d k ≡ nat_le (d + 4) k
+le_four d k own other = elim (cases_lt k d) [
+  | inl before ↦ le_no d k before ∙ sym (le_no (d + 4) k (omega arith))
+  | inr past ↦ le_yes d k past ∙ sym (le_yes (d + 4) k (omega arith))
+]
+
+-- a robot that has taken its turn has the next one four slots later
+left_same : (next : List ℕ) (i k : ℕ) → AreSlots next → i < 4 → k ≢ get_or next i 0
+    → is_left next k ≡ is_left (set next i (get_or next i 0 + 4)) k
+unfolding is_left
+left_same next i k are inside other = elim (cases_eq (k % 4) i) [
+  | inl mine ↦
+      let four = are.four in
+      rw (mine, get_or-set_same next i (get_or next i 0 + 4) 0 (omega arith))
+      (le_four (get_or next i 0) k (mine ∙ sym (are.own i inside)) other)
+  | inr theirs ↦ ap (λ d. nat_le d k) (sym (get_or-set_other next i (k % 4) (get_or next i 0 + 4) 0 theirs))
+]
+
+pub slots_set : (next : List ℕ) (i n : ℕ) → AreSlots next → i < 4 → AreSlots (set next i (get_or next i 0 + 4 * n))
+slots_set next i n are inside = record {
+  four = length-set next i _ ∙ are.four;
+  own = λ k within. elim (cases_eq k i) [
+    | inl mine ↦
+        let four = are.four in
+        let slot = are.own i inside in
+        rw (mine, get_or-set_same next i (get_or next i 0 + 4 * n) 0 (omega arith)) (omega arith)
+    | inr theirs ↦ rw (get_or-set_other next i k (get_or next i 0 + 4 * n) 0 theirs) (are.own k within)
+  ];
+}
+
+pub next_taken : (robots : List Robot) (next : List ℕ) (i end : ℕ) (s : Stage) → AreSlots next → i < 4 → get_or next i 0 < end
+    → TurnsAlone robots i s ⊎ ((j : ℕ) → j < 4 → get_or next i 0 ≤ get_or next j 0)
+    → rest robots (is_left next) 0 end s ≡ rest robots (is_left (set next i (get_or next i 0 + 4))) 0 end (turn robots i s)
+unfolding is_left
+next_taken robots next i end s are inside within ready =
+    let four = are.four in
+    let slot = are.own i inside in
+    let here : get_or next (get_or next i 0 % 4) 0 ≡ get_or next i 0 = ap (λ k. get_or next k 0) slot in
+    let gone : get_or (set next i (get_or next i 0 + 4)) (get_or next i 0 % 4) 0 ≡ get_or next i 0 + 4 =
+        ap (λ k. get_or (set next i (get_or next i 0 + 4)) k 0) slot ∙ get_or-set_same next i (get_or next i 0 + 4) 0 (omega arith) in
+    takes robots (is_left next) (is_left (set next i (get_or next i 0 + 4))) i (get_or next i 0) 0 end s slot
+    (le_yes (get_or next (get_or next i 0 % 4) 0) (get_or next i 0) (omega (arith, here)))
+    (le_no (get_or (set next i (get_or next i 0 + 4)) (get_or next i 0 % 4) 0) (get_or next i 0) (omega (arith, gone)))
+    (λ k other. left_same next i k are inside other)
+    (λ k before mine. le_no (get_or next (k % 4) 0) k (omega (arith, before, ap (λ j. get_or next j 0) mine)))
+    (omega arith) (omega arith)
+    (elim ready as (λ r. TurnsAlone robots i s ⊎ ((k : ℕ) → 0 ≤ k → k < get_or next i 0 → nat_le (get_or next (k % 4) 0) k ≡ false)) [
+      | inl alone ↦ inl alone
+      | inr first ↦ inr (λ k from before. le_no (get_or next (k % 4) 0) k (omega (arith, before, first (k % 4) (omega arith))))
+    ])
+
+-- As long as none was taken, the turns that are left are those of whole cycles.
+in_row : ℕ → ℕ → Bool
+in_row n t = nat_lt (t % 4) n
+
+row_step : (robots : List Robot) (n j t m : ℕ) (s : Stage) → t % 4 ≡ j
+    → rest robots (in_row n) t (suc m) (turns robots (min j n) s) ≡ rest robots (in_row n) (t + 1) m (turns robots (min (j + 1) n) s)
+unfolding in_row turns
+row_step robots n j t m s place = elim (cases_lt j n) [
+  | inl inside ↦
+      let this : min j n ≡ j = omega arith in
+      let next : min (j + 1) n ≡ suc j = omega arith in
+      let yes : nat_lt (t % 4) n ≡ true = grind (arith, nat_tests) in
+      rest_more robots (in_row n) t m (turns robots (min j n) s) yes ∙ rw (this, next, place) refl
+  | inr outside ↦
+      let same : min j n ≡ min (j + 1) n = omega arith in
+      let no : nat_lt (t % 4) n ≡ false = grind (arith, nat_tests) in
+      rest_less robots (in_row n) t m (turns robots (min j n) s) no ∙ ap (λ k. rest robots (in_row n) (t + 1) m (turns robots k s)) same
+]
+
+row : (robots : List Robot) (n t m : ℕ) (s : Stage) → t % 4 ≡ 0 → n ≤ 4
+    → rest robots (in_row n) t (suc (suc (suc (suc m)))) s ≡ rest robots (in_row n) (t + 1 + 1 + 1 + 1) m (turns robots n s)
+unfolding turns
+row robots n t m s begins most =
+    let first : min 0 n ≡ 0 = omega arith in
+    let last : min (3 + 1) n ≡ n = omega arith in
+    ap (λ k. rest robots (in_row n) t (suc (suc (suc (suc m)))) (turns robots k s)) (sym first)
+    ∙ row_step robots n 0 t (suc (suc (suc m))) s begins
+    ∙ row_step robots n 1 (t + 1) (suc (suc m)) s (omega arith)
+    ∙ row_step robots n 2 (t + 1 + 1) (suc m) s (omega arith)
+    ∙ row_step robots n 3 (t + 1 + 1 + 1) m s (omega arith)
+    ∙ ap (λ k. rest robots (in_row n) (t + 1 + 1 + 1 + 1) m (turns robots k s)) last
+
+rounds_first : (robots : List Robot) (w : ℕ) (s : Stage)
+    → rounds robots w (turns robots (length robots) s) ≡ rounds robots (suc w) s
+unfolding rounds
+rounds_first robots zero s = refl
+rounds_first robots (suc w) s = ap (turns robots (length robots)) (rounds_first robots w s)
+
+rows : (robots : List Robot) (t w : ℕ) (s : Stage) → t % 4 ≡ 0 → length robots ≤ 4
+    → rest robots (in_row (length robots)) t (4 * w) s ≡ rounds robots w s
+unfolding rounds rest
+rows robots t zero s begins most = refl
+rows robots t (suc w) s begins most =
+    let more : 4 * suc w ≡ suc (suc (suc (suc (4 * w)))) = omega arith in
+    rw more (row robots (length robots) t (4 * w) s begins most)
+    ∙ rows robots (t + 1 + 1 + 1 + 1) w (turns robots (length robots) s) (omega arith) most
+    ∙ rounds_first robots w s
+
+-- a window begins
+pub rest_all : (robots : List Robot) (next : List ℕ) (n w : ℕ) (s : Stage) → AreSlots next → n ≡ length robots → n ≤ 4
+    → ((i : ℕ) → i < n → get_or next i 0 ≡ i) → ((i : ℕ) → n ≤ i → i < 4 → 4 * w ≤ get_or next i 0)
+    → rest robots (is_left next) 0 (4 * w) s ≡ rounds robots w s
+unfolding is_left in_row
+rest_all robots next n w s are all most first past =
+    rest_same robots (is_left next) (in_row n) 0 (4 * w) s (λ t from to. elim (cases_lt (t % 4) n) [
+      | inl inside ↦ le_yes (get_or next (t % 4) 0) t (omega (arith, first (t % 4) inside)) ∙ sym (grind (arith, nat_tests))
+      | inr outside ↦ le_no (get_or next (t % 4) 0) t (omega (arith, past (t % 4) outside (omega arith))) ∙ sym (grind (arith, nat_tests))
+    ])
+    ∙ rw all (rows robots 0 w s (omega arith) (omega (arith, all, most)))
+
+-- the four slots before a window
+pub four_slots : (a b c d : ℕ) → a % 4 ≡ 0 → b % 4 ≡ 1 → c % 4 ≡ 2 → d % 4 ≡ 3 → AreSlots (a ∷ b ∷ c ∷ d ∷ [])
+four_slots a b c d first second third fourth = record { four = omega arith; own = each }
+  where
+    each : (i : ℕ) → i < 4 → get_or (a ∷ b ∷ c ∷ d ∷ []) i 0 % 4 ≡ i
+    each zero small = first
+    each (suc zero) small = second
+    each (suc (suc zero)) small = third
+    each (suc (suc (suc zero))) small = fourth
+    each (suc (suc (suc (suc i)))) small = absurd (omega arith)
+
+pub four_first : (a b c d n : ℕ) → (0 < n → a ≡ 0) → (1 < n → b ≡ 1) → (2 < n → c ≡ 2) → (3 < n → d ≡ 3)
+    → (i : ℕ) → i < n → i < 4 → get_or (a ∷ b ∷ c ∷ d ∷ []) i 0 ≡ i
+four_first a b c d n first second third fourth zero low small = first low
+four_first a b c d n first second third fourth (suc zero) low small = second low
+four_first a b c d n first second third fourth (suc (suc zero)) low small = third low
+four_first a b c d n first second third fourth (suc (suc (suc zero))) low small = fourth low
+four_first a b c d n first second third fourth (suc (suc (suc (suc i)))) low small = absurd (omega arith)
+
+pub four_past : (a b c d n end : ℕ) → (n ≤ 0 → end ≤ a) → (n ≤ 1 → end ≤ b) → (n ≤ 2 → end ≤ c) → (n ≤ 3 → end ≤ d)
+    → (i : ℕ) → n ≤ i → i < 4 → end ≤ get_or (a ∷ b ∷ c ∷ d ∷ []) i 0
+four_past a b c d n end first second third fourth zero high small = first high
+four_past a b c d n end first second third fourth (suc zero) high small = second high
+four_past a b c d n end first second third fourth (suc (suc zero)) high small = third high
+four_past a b c d n end first second third fourth (suc (suc (suc zero))) high small = fourth high
+four_past a b c d n end first second third fourth (suc (suc (suc (suc i)))) high small = absurd (omega arith)
