@@ -304,7 +304,9 @@ impl Scope {
     fn has_begun(&self, name: &Name) -> bool
         ensures { result ≡ has_begun name.now self.now }
     {
-        let number = self.function_number(name).unwrap_or(self.pools.functions().len());
+        let number = self
+            .function_number(name)
+            .unwrap_or(self.pools.functions().len());
         is_among(self.begun.as_slice(), number)
     }
 

@@ -15,14 +15,24 @@ impl Word {
         match name.first()? {
             b'a' => Word::Type.when(is(name, b"auto")),
             b'b' => Word::Refused.when(is(name, b"break")),
-            b'c' => Word::Refused.when(is(name, b"case") || is(name, b"char") || is(name, b"continue")),
-            b'd' => Word::Refused.when(is(name, b"do") || is(name, b"double") || is(name, b"default")),
-            b'e' => Word::Else.when(is(name, b"else")).or(Word::Refused.when(is(name, b"extern"))),
+            b'c' => Word::Refused.when(
+                is(name, b"case") || is(name, b"char") || is(name, b"continue"),
+            ),
+            b'd' => Word::Refused.when(
+                is(name, b"do") || is(name, b"double") || is(name, b"default"),
+            ),
+            b'e' => Word::Else
+                .when(is(name, b"else"))
+                .or(Word::Refused.when(is(name, b"extern"))),
             b'f' => Word::Refused.when(is(name, b"for") || is(name, b"float")),
             b'g' => Word::Refused.when(is(name, b"goto")),
-            b'i' => Word::If.when(is(name, b"if")).or(Word::Type.when(is(name, b"int"))),
+            b'i' => Word::If
+                .when(is(name, b"if"))
+                .or(Word::Type.when(is(name, b"int"))),
             b'l' => Word::Type.when(is(name, b"long")),
-            b'r' => Word::Return.when(is(name, b"return")).or(Word::Type.when(is(name, b"register"))),
+            b'r' => Word::Return
+                .when(is(name, b"return"))
+                .or(Word::Type.when(is(name, b"register"))),
             b's' => Word::Refused.when(is_refused_with_s(name)),
             b't' => Word::Refused.when(is(name, b"typedef")),
             b'u' => Word::Refused.when(is(name, b"union") || is(name, b"unsigned")),

@@ -22,7 +22,7 @@ returns-clause-count g c =
 pub returns-clause-lines : goal.returns-clause-lines
 returns-clause-lines g c =
     let count = ap (count_trailing_zeros 64) c.bits-stops.ensures
-        ∙ trailing_mask_l g.S.Stop.stops 64 c.args.block (omega (arith, c.fits-block.0)) (omega (arith, c.bits-stops.ensures, c.if-stops-eq0.false)) in
+    ∙ trailing_mask_l g.S.Stop.stops 64 c.args.block (omega (arith, c.fits-block.0)) (omega (arith, c.bits-stops.ensures, c.if-stops-eq0.false)) in
     ones_below (λ b. eqb b 10) c.args.block (count_trailing_zeros 64 c.bits-stops.result) c.fits-block.0
     (omega (arith, count, c.fits-block.0, prefix_len-le-length (λ b. not (g.S.Stop.stops b)) c.args.block))
     (bitmask_splat w8 eqb c.args.block 16 10 c.fits-block.0 (omega arith))
@@ -30,5 +30,5 @@ returns-clause-lines g c =
 pub returns-clause-within : goal.returns-clause-within
 returns-clause-within g c =
     let count = ap (count_trailing_zeros 64) c.bits-stops.ensures
-        ∙ trailing_mask_l g.S.Stop.stops 64 c.args.block (omega (arith, c.fits-block.0)) (omega (arith, c.bits-stops.ensures, c.if-stops-eq0.false)) in
+    ∙ trailing_mask_l g.S.Stop.stops 64 c.args.block (omega (arith, c.fits-block.0)) (omega (arith, c.bits-stops.ensures, c.if-stops-eq0.false)) in
     omega (arith, count, c.fits-block.0, prefix_len-le-length (λ b. not (g.S.Stop.stops b)) c.args.block)
