@@ -18,7 +18,7 @@ use tokens::Name;
 pub fn number_of(names: &[Name], name: &Name) -> Option<usize>
     ensures { result ≡ number_of_name name.now names.now }
 {
-    names.iter().position(|other| name.is(other.as_bytes()))
+    names.iter().position(|other| name.same(other))
 }
 
 const INTRINSICS: [Intrinsic; 13] = [

@@ -1,4 +1,5 @@
 pub mod KnownTokens
+pub mod NameLemmas
 pub mod SourceLemmas
 pub mod RunLemmas
 pub mod WindowLemmas

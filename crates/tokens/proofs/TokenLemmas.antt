@@ -193,3 +193,12 @@ mark-stops old lexeme here told first ready f stops x =
 pub mark-passes : (old longer : Mark) (new here : Held) (told : Option (List ℕ)) (first : Option ℕ) → new ≡ behind_first here → first ≡ slice_get here.at_hand 0 → option_and_then (λ b. mark_of (spelling old ++ b ∷ [])) first ≡ Some longer → to_read (in_mark longer) new told ≡ to_read (in_mark old) here told
 mark-passes old longer new here told None n f h = absurd cc
 mark-passes old longer new here told (Some b) n f h = to_read-pass (in_mark longer) (in_mark old) new here told (Some b) b n f refl (mark-grows old longer b h)
+
+-- a mark with which no longer one begins
+pub mark-whole : (old : Mark) (lexeme : Lexeme) (here : Held) (told : Option (List ℕ)) → ((b : ℕ) → mark_of (spelling old ++ b ∷ []) ≡ None) → ((to_come : List ℕ) → lexeme ≡ ending (variant.Mark old) (ahead here to_come)) → to_read (followed lexeme) here told ≡ to_read (in_mark old) here told
+mark-whole old lexeme here told whole x =
+    to_read-here (followed lexeme) (in_mark old) here told (λ to_come. ap (λ l. followed l (ahead here to_come)) (x to_come) ∙ by (ahead here to_come) (ahead here to_come).bytes refl)
+  where
+    by : (a : Ahead) (bytes : List ℕ) → a.bytes ≡ bytes → followed (ending (variant.Mark old) a) a ≡ in_mark old a
+    by a [] e = mark-ends-none old a e
+    by a (b ∷ rest) e = mark-ends-at old a b rest e (whole b)

@@ -154,6 +154,9 @@ impl Window {
         } else if is_digit(first) {
             self.constant(first, feed)
         } else if let Some(mark) = Mark::of_byte(first) {
+            if mark.is_whole() {
+                return Ok(self.ending(Token::Mark(mark)));
+            }
             self.mark(mark, feed)
         } else {
             Ok(self.ending(Token::Fault(Flaw::BadCharacter)))
@@ -161,6 +164,7 @@ impl Window {
     }
 
     /// The name of which the first byte was passed.
+    #[inline(never)]
     fn name<F: Feed>(&mut self, first: u8, feed: &mut F) -> Result<Lexeme, DeviceFault>
         requires { F.failures feed.old < 2 ^ 64 - 1 }
         ensures tokens { IfOk result (λ lexeme. to_read (followed lexeme) self.new (F.to_come feed.new)
@@ -194,6 +198,7 @@ impl Window {
     }
 
     /// The constant of which the first digit was passed.
+    #[inline(never)]
     fn constant<F: Feed>(&mut self, first: u8, feed: &mut F) -> Result<Lexeme, DeviceFault>
         requires countable { F.failures feed.old < 2 ^ 64 - 1 }
         requires digit { is_digit first ≡ true }

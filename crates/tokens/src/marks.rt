@@ -1,6 +1,6 @@
 //! The marks by their bytes.
 
-ghost use Rattle.std.specs.Prelude.{◌≡◌, [], ◌∷◌, ◌++◌};
+ghost use Rattle.std.specs.Prelude.{◌≡◌, ℕ, [], ◌∷◌, ◌++◌, None, true};
 ghost use Rattle.std.specs.Option.{option_and_then};
 ghost use Rattle.tokens.specs.Marks.{mark_of, spelling};
 
@@ -34,6 +34,23 @@ impl Mark {
             b';' => Mark::Semicolon,
             _ => return None,
         })
+    }
+
+    /// Whether no longer mark begins with this one, so that the next byte is of no account.
+    #[inline(always)]
+    #[tactic(auto, unfolding(crate::specs::Marks::mark_of))]
+    pub(crate) fn is_whole(self) -> bool
+        ensures { result ≡ true → (b : ℕ) → mark_of (spelling self ++ b ∷ []) ≡ None }
+    {
+        matches!(
+            self,
+            Mark::OpenRound
+                | Mark::CloseRound
+                | Mark::OpenCurly
+                | Mark::CloseCurly
+                | Mark::Comma
+                | Mark::Semicolon
+        )
     }
 
     /// The mark that is spelled as this one and the next byte, if there is one.
