@@ -52,9 +52,16 @@ impl Model for Arena {
 
     ghost Value = { Ground };
 
-    ghost view = { λ a. record { updates = a.updates; robots = a.robots.items; slots = a.slots.items; random = a.random } };
+    ghost view = { λ a. record {
+      updates = a.updates;
+      robots = a.robots.items;
+      slots = a.slots.items;
+      random = a.random;
+    } };
 
-    ghost invariant = { λ a. (a.updates ≤ 66666667) × (length a.slots.items ≡ length a.robots.items) × (length a.robots.items ≤ 4) × All (λ (b : Body). IsWithin (10000000 * a.updates) b.track) a.robots.items × All (λ s. length s ≤ 2) a.slots.items × (a.is_still ≡ true → IsStill a.robots.items a.slots.items) };
+    ghost invariant = { λ a. (a.updates ≤ 66666667) × (length a.slots.items ≡ length a.robots.items)
+        × (length a.robots.items ≤ 4) × All (λ (b : Body). IsWithin (10000000 * a.updates) b.track) a.robots.items
+        × All (λ s. length s ≤ 2) a.slots.items × (a.is_still ≡ true → IsStill a.robots.items a.slots.items) };
 }
 
 impl Arena {
@@ -99,7 +106,8 @@ impl Arena {
     pub fn ask(&mut self, robot: usize, intrinsic: Intrinsic, arguments: [i32; 2]) -> i32
         requires { lives self.old robot ≡ true }
         ensures reply { (f : Field) → StandsFor self.old f → result ≡ (answer f robot intrinsic arguments).0 }
-        ensures stands { (f : Field) → StandsFor self.old f → StandsFor self.new (answer f robot intrinsic arguments).1 }
+        ensures stands { (f : Field) → StandsFor self.old f
+            → StandsFor self.new (answer f robot intrinsic arguments).1 }
         ensures updates { self.new.updates ≡ self.old.updates }
         ensures manned { length self.new.robots ≡ length self.old.robots }
     {
@@ -196,7 +204,8 @@ impl Arena {
     // The range of the nearest robot in an arc, or 0.
     fn scan(&self, robot: usize, degree: i32, resolution: i32) -> i32
         requires { robot < length self.now.robots }
-        ensures { (f : Field) → StandsFor self.now f → result ≡ pos (scanned f robot (degree_of degree) (brought 10 resolution)) }
+        ensures { (f : Field) → StandsFor self.now f
+            → result ≡ pos (scanned f robot (degree_of degree) (brought 10 resolution)) }
     {
         let resolution = brought(resolution, MOST_RESOLUTION);
         i32::from(scan(
@@ -210,8 +219,10 @@ impl Arena {
     // Fires a missile, and reports by 1 or 0 whether the robot may.
     fn cannon(&mut self, robot: usize, degree: i32, range: i32) -> i32
         requires { robot < length self.old.robots }
-        ensures reply { (f : Field) → StandsFor self.old f → result ≡ (fired f robot (degree_of degree) (brought 700 range)).0 }
-        ensures stands { (f : Field) → StandsFor self.old f → StandsFor self.new (fired f robot (degree_of degree) (brought 700 range)).1 }
+        ensures reply { (f : Field) → StandsFor self.old f
+            → result ≡ (fired f robot (degree_of degree) (brought 700 range)).0 }
+        ensures stands { (f : Field) → StandsFor self.old f
+            → StandsFor self.new (fired f robot (degree_of degree) (brought 700 range)).1 }
         ensures updates { self.new.updates ≡ self.old.updates }
         ensures manned { length self.new.robots ≡ length self.old.robots }
     {
@@ -230,7 +241,8 @@ impl Arena {
     fn drive(&mut self, robot: usize, degree: i32, speed: i32) -> i32
         requires { robot < length self.old.robots }
         ensures reply { result ≡ pos 1 }
-        ensures stands { (f : Field) → StandsFor self.old f → StandsFor self.new (directed f robot (degree_of degree) (brought 100 speed)) }
+        ensures stands { (f : Field) → StandsFor self.old f
+            → StandsFor self.new (directed f robot (degree_of degree) (brought 100 speed)) }
         ensures updates { self.new.updates ≡ self.old.updates }
         ensures manned { length self.new.robots ≡ length self.old.robots }
     {

@@ -30,7 +30,8 @@ pub(crate) fn scan(robots: &[Robot], robot: usize, degree: u16, resolution: u16)
 fn nearest(from: &Robot, others: &[Robot], degree: u16, resolution: u16, so_far: u16) -> u16
     requires degree { degree < 360 }
     requires resolution { resolution ≤ 10 }
-    ensures { (a : FieldRobot) (rs : List FieldRobot) → from.now ≡ body_of a → others.now ≡ map body_of rs → result ≡ fold nearer so_far (map (range_of a) (filter (sees a degree resolution) rs)) }
+    ensures { (a : FieldRobot) (rs : List FieldRobot) → from.now ≡ body_of a → others.now ≡ map body_of rs
+        → result ≡ fold nearer so_far (map (range_of a) (filter (sees a degree resolution) rs)) }
 {
     let mut nearest = so_far;
     for other in others {
@@ -79,7 +80,8 @@ fn in_arc(x: u16, y: u16, to_x: u16, to_y: u16, degree: u16, resolution: u16) ->
     requires to_y { to_y ≤ 999 }
     requires degree { degree < 360 }
     requires resolution { resolution ≤ 10 }
-    ensures { result ≡ (((to_x == x) && (to_y == y)) || nat_le (apart (bearing_of (pos to_x -ℤ pos x) (pos to_y -ℤ pos y)) degree) resolution) }
+    ensures { result ≡ (((to_x == x) && (to_y == y)) || nat_le
+        (apart (bearing_of (pos to_x -ℤ pos x) (pos to_y -ℤ pos y)) degree) resolution) }
 {
     if to_x == x && to_y == y {
         return true;

@@ -49,7 +49,11 @@ impl Missile {
         requires y { y ≤ 9999 }
         requires degree { degree < 360 }
         requires range { range ≤ 700 }
-        ensures { result ≡ record { burst = updates + flight range; x = aimed_x x degree range; y = aimed_y y degree range } }
+        ensures { result ≡ record {
+          burst = updates + flight range;
+          x = aimed_x x degree range;
+          y = aimed_y y degree range;
+        } }
     {
         Missile {
             burst: updates + flight(range),
@@ -254,7 +258,8 @@ pub fn none_flies(slots: &[Slots]) -> bool
 pub fn may_fire(slots: &[Slots], robot: usize) -> bool
     requires { robot < length slots.now }
     ensures own { result ≡ nat_lt (length (slice_index_or slots.now robot [])) 2 }
-    ensures shots { (updates : ℕ) (shots : List Shot) → HoldsShots updates slots.now shots → result ≡ nat_lt (length (in_air updates robot shots)) 2 }
+    ensures shots { (updates : ℕ) (shots : List Shot) → HoldsShots updates slots.now shots
+        → result ≡ nat_lt (length (in_air updates robot shots)) 2 }
 {
     slots[robot].has_room()
 }
@@ -263,7 +268,8 @@ pub fn may_fire(slots: &[Slots], robot: usize) -> bool
 pub fn fire(slots: &mut [Slots], robot: usize, missile: Missile)
     requires inside { robot < length slots.old }
     requires free { nat_lt (length (slice_index_or slots.old robot [])) 2 ≡ true }
-    ensures shots { (updates : ℕ) (shots : List Shot) → updates < missile.burst → HoldsShots updates slots.old shots → HoldsShots updates slots.new (shots ++ shot_of robot missile ∷ []) }
+    ensures shots { (updates : ℕ) (shots : List Shot) → updates < missile.burst → HoldsShots updates slots.old shots
+        → HoldsShots updates slots.new (shots ++ shot_of robot missile ∷ []) }
     ensures two { All (λ s. length s ≤ 2) slots.old → All (λ s. length s ≤ 2) slots.new }
 {
     slots[robot].add(missile);
@@ -271,7 +277,8 @@ pub fn fire(slots: &mut [Slots], robot: usize, missile: Missile)
 
 /// Reports whether a missile bursts in an update: if none does, nothing is hurt anywhere.
 pub fn any_due(slots: &[Slots], update: u32) -> bool
-    ensures { result ≡ false → (updates : ℕ) (shots : List Shot) (x y : ℕ) → update ≡ updates + 1 → HoldsShots updates slots.now shots → sum (bursts update shots x y) ≡ 0 }
+    ensures { result ≡ false → (updates : ℕ) (shots : List Shot) (x y : ℕ) → update ≡ updates + 1
+        → HoldsShots updates slots.now shots → sum (bursts update shots x y) ≡ 0 }
 {
     for own in slots {
         if own.is_due(update) {
@@ -287,7 +294,8 @@ pub fn damage_at(slots: &[Slots], update: u32, x: u16, y: u16) -> u8
     requires x { x ≤ 9999 }
     requires y { y ≤ 9999 }
     ensures most { result ≤ 80 }
-    ensures shots { (updates : ℕ) (shots : List Shot) → update ≡ updates + 1 → HoldsShots updates slots.now shots → result ≡ sum (bursts update shots x y) }
+    ensures shots { (updates : ℕ) (shots : List Shot) → update ≡ updates + 1 → HoldsShots updates slots.now shots
+        → result ≡ sum (bursts update shots x y) }
 {
     let mut damage = 0;
     for own in slots {
@@ -298,7 +306,8 @@ pub fn damage_at(slots: &[Slots], update: u32, x: u16, y: u16) -> u8
 
 /// Frees the missiles that burst in an update or before.
 pub fn land(slots: &mut [Slots], update: u32)
-    ensures shots { (updates : ℕ) (shots : List Shot) → update ≡ updates + 1 → HoldsShots updates slots.old shots → HoldsShots update slots.new shots }
+    ensures shots { (updates : ℕ) (shots : List Shot) → update ≡ updates + 1 → HoldsShots updates slots.old shots
+        → HoldsShots update slots.new shots }
     ensures two { All (λ s. length s ≤ 2) slots.old → All (λ s. length s ≤ 2) slots.new }
 {
     for own in slots {

@@ -17,7 +17,8 @@ use crate::robots::{Robot, worn};
 use crate::slots::{Slots, any_due, damage_at, none_flies};
 use arrayvec::ArrayVec;
 
-/// Reports whether an update changes nothing but the number of updates: each robot is dead or at rest, and no missile is
+/// Reports whether an update changes nothing but the number of updates: each robot is dead or at rest, and no missile
+/// is
 /// in the air.
 pub fn is_still(robots: &[Robot], slots: &[Slots]) -> bool
     ensures { result ≡ true → IsStill robots.now slots.now }
@@ -43,7 +44,8 @@ fn drives(robots: &[Robot]) -> ArrayVec<Drive, MOST_ROBOTS>
     requires way { All (λ (b : Body). IsWithin (2 ^ 50 - 1) b.track) robots.now }
     ensures count { length result.items ≡ length robots.now }
     ensures drives { (rs : List FieldRobot) → robots.now ≡ map body_of rs → result.items ≡ map drive_of rs }
-    ensures way { (way : ℕ) → All (λ (b : Body). IsWithin way b.track) robots.now → All (λ d. IsWithin (way + 10000000) d.motion) result.items }
+    ensures way { (way : ℕ) → All (λ (b : Body). IsWithin way b.track) robots.now
+        → All (λ d. IsWithin (way + 10000000) d.motion) result.items }
 {
     let mut drives = ArrayVec::new();
     for robot in robots {
@@ -57,7 +59,8 @@ fn movers(robots: &[Robot], drives: &[Drive]) -> ArrayVec<Mover, MOST_ROBOTS>
     requires most { length robots.now ≤ MOST_ROBOTS }
     requires count { length drives.now ≡ length robots.now }
     ensures count { length result.items ≡ length robots.now }
-    ensures movers { (rs : List FieldRobot) → robots.now ≡ map body_of rs → drives.now ≡ map drive_of rs → result.items ≡ map mover rs }
+    ensures movers { (rs : List FieldRobot) → robots.now ≡ map body_of rs → drives.now ≡ map drive_of rs
+        → result.items ≡ map mover rs }
 {
     let mut movers = ArrayVec::new();
     for (i, robot) in robots.iter().enumerate() {
@@ -77,8 +80,11 @@ fn moved_robot(
 ) -> Robot
     requires touched { touched ≤ 4 }
     requires slots { length slots.now ≤ MOST_ROBOTS }
-    requires quiet { due ≡ false → (updates : ℕ) (shots : List Shot) (x y : ℕ) → update ≡ updates + 1 → HoldsShots updates slots.now shots → sum (bursts update shots x y) ≡ 0 }
-    ensures robot { (r : FieldRobot) (updates : ℕ) (shots : List Shot) → update ≡ updates + 1 → HoldsShots updates slots.now shots → robot.now ≡ body_of r → drive.now ≡ drive_of r → result ≡ body_of (moved_robot update shots touched r) }
+    requires quiet { due ≡ false → (updates : ℕ) (shots : List Shot) (x y : ℕ) → update ≡ updates + 1
+        → HoldsShots updates slots.now shots → sum (bursts update shots x y) ≡ 0 }
+    ensures robot { (r : FieldRobot) (updates : ℕ) (shots : List Shot) → update ≡ updates + 1
+        → HoldsShots updates slots.now shots → robot.now ≡ body_of r → drive.now ≡ drive_of r
+        → result ≡ body_of (moved_robot update shots touched r) }
     ensures way { (way : ℕ) → IsWithin way robot.now.track → IsWithin way drive.now.motion → IsWithin way result.track }
 {
     if !robot.is_alive() {
@@ -94,9 +100,11 @@ fn bursts_at(slots: &[Slots], update: u32, due: bool, x: u16, y: u16) -> u8
     requires slots { length slots.now ≤ MOST_ROBOTS }
     requires x { x ≤ 9999 }
     requires y { y ≤ 9999 }
-    requires quiet { due ≡ false → (updates : ℕ) (shots : List Shot) (x y : ℕ) → update ≡ updates + 1 → HoldsShots updates slots.now shots → sum (bursts update shots x y) ≡ 0 }
+    requires quiet { due ≡ false → (updates : ℕ) (shots : List Shot) (x y : ℕ) → update ≡ updates + 1
+        → HoldsShots updates slots.now shots → sum (bursts update shots x y) ≡ 0 }
     ensures most { result ≤ 80 }
-    ensures shots { (updates : ℕ) (shots : List Shot) → update ≡ updates + 1 → HoldsShots updates slots.now shots → result ≡ sum (bursts update shots x y) }
+    ensures shots { (updates : ℕ) (shots : List Shot) → update ≡ updates + 1 → HoldsShots updates slots.now shots
+        → result ≡ sum (bursts update shots x y) }
 {
     if !due {
         return 0;
@@ -110,8 +118,10 @@ pub fn moved(robots: &[Robot], slots: &[Slots], update: u32) -> ArrayVec<Robot, 
     requires slots { length slots.now ≤ MOST_ROBOTS }
     requires way { All (λ (b : Body). IsWithin (2 ^ 50 - 1) b.track) robots.now }
     ensures count { length result.items ≡ length robots.now }
-    ensures robots { (f : Field) → update ≡ f.updates + 1 → robots.now ≡ map body_of f.robots → HoldsShots f.updates slots.now f.shots → result.items ≡ map body_of (moved f).robots }
-    ensures way { (way : ℕ) → All (λ (b : Body). IsWithin way b.track) robots.now → All (λ (b : Body). IsWithin (way + 10000000) b.track) result.items }
+    ensures robots { (f : Field) → update ≡ f.updates + 1 → robots.now ≡ map body_of f.robots
+        → HoldsShots f.updates slots.now f.shots → result.items ≡ map body_of (moved f).robots }
+    ensures way { (way : ℕ) → All (λ (b : Body). IsWithin way b.track) robots.now
+        → All (λ (b : Body). IsWithin (way + 10000000) b.track) result.items }
 {
     let drives = drives(robots);
     let movers = movers(robots, drives.as_slice());

@@ -8,7 +8,7 @@ use Rattle.code.specs.declared.want.Want.TheVariants.{Quiet, Ask, Restart}
 use Rattle.grammar.specs.Profile.{Profile}
 use Rattle.grammar.specs.Resolved.{IsResolved}
 use Rattle.grammar.specs.Tree.{File}
-use Rattle.code.specs.Generation.{Code, IsProgramOf}
+use Rattle.code.specs.Generation.{ObjectCode, IsProgramOf}
 use Rattle.code.specs.Machine.{State}
 use Rattle.code.specs.Meaning.{want}
 use Rattle.code.specs.Standing.{StandsFor}
@@ -97,18 +97,19 @@ pub dead_runs : (r : Robot) (i : ℕ) (f : Field) (trace : List ℤ) (n : ℕ) �
 dead_runs r i f trace n dead k within live = absurd (false≢true (sym dead ∙ live))
 
 -- a machine has coasted for so many cycles
-pub coasted : (r : Robot) (i : ℕ) (f : Field) (trace : List ℤ) (n k : ℕ) (code : Code) (machine after : State)
+pub coasted : (r : Robot) (i : ℕ) (f : Field) (trace : List ℤ) (n k : ℕ) (code : ObjectCode) (machine after : State)
     → IsRobotOf code r → is_live f i ≡ true → RunsAlone r i f trace n → StandsFor machine code (alone r i f trace n)
     → ((p : Profile) (file : File) (replies : List ℤ) (cycle : ℕ) → IsResolved file → IsProgramOf code p file
-        → StandsFor machine code replies → cycle < k → want p file (replies ++ replicate cycle (pos 0)) ≡ Quiet)
+    → StandsFor machine code replies → cycle < k → want p file (replies ++ replicate cycle (pos 0)) ≡ Quiet)
     → ((replies : List ℤ) → StandsFor machine code replies → StandsFor after code (replies ++ replicate k (pos 0)))
     → RunsAlone r i f trace (n + k) × StandsFor after code (alone r i f trace (n + k))
 coasted r i f trace n k code machine after is live runs stands source grows =
     let quiet = λ (j : ℕ) (low : j < k).
-        ap (λ (q : Robot). q (alone r i f trace n ++ replicate j (pos 0))) is.wants
-        ∙ source is.profile is.file (alone r i f trace n) j is.resolved is.program stands low in
-    (runs_plus r i f trace n k runs (quiet_runs r i f (alone r i f trace n) k live quiet),
-    rw (alone_quiet r i f trace n k live quiet) (grows (alone r i f trace n) stands))
+    ap (λ (q : Robot). q (alone r i f trace n ++ replicate j (pos 0))) is.wants
+    ∙ source is.profile is.file (alone r i f trace n) j is.resolved is.program stands low in (
+      runs_plus r i f trace n k runs (quiet_runs r i f (alone r i f trace n) k live quiet),
+      rw (alone_quiet r i f trace n k live quiet) (grows (alone r i f trace n) stands),
+    )
 
 pub want_alone : (want other : Want) → want ≡ other → IsAlone other → IsAlone want
 want_alone want other same is = rw same is

@@ -195,13 +195,13 @@ commutes robots i j s alone distinct =
     let mine = step (robot_of robots i) i s.field (get_or s.traces i []) in
     let theirs = step (robot_of robots j) j s.field (get_or s.traces j []) in
     let first : turn robots j (turn robots i s) ≡ stage_of theirs.0 (set (set s.traces i mine.1) j theirs.1) =
-        ap (turn robots j) (turn_alone robots i s alone)
-        ∙ ap (λ t. stage_of (step (robot_of robots j) j s.field t).0 (set (set s.traces i mine.1) j (step (robot_of robots j) j s.field t).1))
-        (get_or-set_other s.traces i j mine.1 [] (λ same. distinct (sym same))) in
+    ap (turn robots j) (turn_alone robots i s alone)
+    ∙ ap (λ t. stage_of (step (robot_of robots j) j s.field t).0 (set (set s.traces i mine.1) j (step (robot_of robots j) j s.field t).1))
+    (get_or-set_other s.traces i j mine.1 [] (λ same. distinct (sym same))) in
     let second : turn robots i (turn robots j s) ≡ stage_of theirs.0 (set (set s.traces j theirs.1) i mine.1) =
-        turn_alone robots i (turn robots j s) (alone_stays robots i j s alone distinct)
-        ∙ ap (λ t. stage_of theirs.0 (set (set s.traces j theirs.1) i (step (robot_of robots i) i theirs.0 t).1))
-        (get_or-set_other s.traces j i theirs.1 [] distinct)
-        ∙ ap (λ t. stage_of theirs.0 (set (set s.traces j theirs.1) i t))
-        (step_trace (robot_of robots i) (robot_of robots j) i j s.field (get_or s.traces i []) (get_or s.traces j []) alone distinct) in
+    turn_alone robots i (turn robots j s) (alone_stays robots i j s alone distinct)
+    ∙ ap (λ t. stage_of theirs.0 (set (set s.traces j theirs.1) i (step (robot_of robots i) i theirs.0 t).1))
+    (get_or-set_other s.traces j i theirs.1 [] distinct)
+    ∙ ap (λ t. stage_of theirs.0 (set (set s.traces j theirs.1) i t))
+    (step_trace (robot_of robots i) (robot_of robots j) i j s.field (get_or s.traces i []) (get_or s.traces j []) alone distinct) in
     first ∙ ap (stage_of theirs.0) (set_swap s.traces i j mine.1 theirs.1 distinct) ∙ sym second

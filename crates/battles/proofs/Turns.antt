@@ -125,7 +125,7 @@ next_taken robots next i end s are inside within ready =
     let slot = are.own i inside in
     let here : get_or next (get_or next i 0 % 4) 0 ≡ get_or next i 0 = ap (λ k. get_or next k 0) slot in
     let gone : get_or (set next i (get_or next i 0 + 4)) (get_or next i 0 % 4) 0 ≡ get_or next i 0 + 4 =
-        ap (λ k. get_or (set next i (get_or next i 0 + 4)) k 0) slot ∙ get_or-set_same next i (get_or next i 0 + 4) 0 (omega arith) in
+    ap (λ k. get_or (set next i (get_or next i 0 + 4)) k 0) slot ∙ get_or-set_same next i (get_or next i 0 + 4) 0 (omega arith) in
     takes robots (is_left next) (is_left (set next i (get_or next i 0 + 4))) i (get_or next i 0) 0 end s slot
     (le_yes (get_or next (get_or next i 0 % 4) 0) (get_or next i 0) (omega (arith, here)))
     (le_no (get_or (set next i (get_or next i 0 + 4)) (get_or next i 0 % 4) 0) (get_or next i 0) (omega (arith, gone)))

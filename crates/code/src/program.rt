@@ -26,16 +26,29 @@ pub struct Program {
 
 impl Model for Program {
     ghost use Rattle.std.specs.Prelude.{◌≡◌, length};
-    ghost use Rattle.code.specs.Generation.{Code};
+    ghost use Rattle.code.specs.Generation.{ObjectCode};
     ghost use Rattle.code.specs.Listing.{functions_lines};
     ghost use Rattle.code.specs.Finishing.{IsOfSomeFile};
     ghost use Rattle.grammar.specs.Profile.{IsProfile};
 
-    ghost Value = { Code };
+    ghost Value = { ObjectCode };
 
-    ghost view = { λ p. record { profile = p.profile; instructions = p.code.items; addresses = p.addresses.items; names = p.names; main = p.main } };
+    ghost view = { λ p. record {
+      profile = p.profile;
+      instructions = p.code.items;
+      addresses = p.addresses.items;
+      names = p.names;
+      main = p.main;
+    } };
 
-    ghost invariant = { λ p. IsProfile p.profile × IsOfSomeFile (record { profile = p.profile; instructions = p.code.items; addresses = p.addresses.items; names = p.names; main = p.main })
+    ghost invariant = { λ p. IsProfile p.profile
+        × IsOfSomeFile (record {
+          profile = p.profile;
+          instructions = p.code.items;
+          addresses = p.addresses.items;
+          names = p.names;
+          main = p.main;
+        })
         × (p.function_lines ≡ length (functions_lines p.addresses.items 0 p.names.functions)) };
 }
 

@@ -2,15 +2,15 @@
 use Rattle.std.proofs.Common.{◌≡◌, ℕ, zero, suc, ◌+◌, ◌-◌, ◌<◌, ◌≤◌, List, [], ◌∷◌, ◌++◌, refl, subst, append-nil, Bool, true, false, arith}
 use Rattle.std.proofs.lemmas.Bool.Decides.{nat_tests}
 use Rattle.std.specs.Prelude.{Option, Some, None, max, nat_le, nat_lt, ◌==◌, if◌then◌else◌}
-use Rattle.tokens.specs.declared.lexemes.Mark.{Mark}
-use Rattle.tokens.specs.declared.lexemes.Mark.TheVariants as mark
-use Rattle.tokens.specs.declared.lexemes.Token.{Token}
-use Rattle.tokens.specs.declared.lexemes.Token.TheVariants as token
+use Rattle.tokens.specs.declared.located_tokens.Punctuator.{Punctuator}
+use Rattle.tokens.specs.declared.located_tokens.Punctuator.TheVariants as punctuator
+use Rattle.tokens.specs.declared.located_tokens.Token.{Token}
+use Rattle.tokens.specs.declared.located_tokens.Token.TheVariants as token
 use Rattle.grammar.specs.declared.diagnostics.ParseFault.{ParseFault}
 use Rattle.grammar.specs.declared.operators.Binary.{Binary as AnOperator}
 use Rattle.grammar.specs.declared.operators.Op.{Op}
 use Rattle.grammar.specs.declared.operators.Op.TheVariants as op
-use Rattle.grammar.specs.Actions.{Apply, expr_actions, middle}
+use Rattle.grammar.specs.Actions.{ApplyBinop, expr_actions, middle}
 use Rattle.grammar.specs.Building.{Meaning}
 use Rattle.grammar.specs.Derivation.{AnExpr, Value}
 use Rattle.grammar.specs.Faults.{levels}
@@ -23,8 +23,8 @@ use Rattle.grammar.proofs.FollowingLaws.{expr_leads, origin_of}
 use Rattle.grammar.proofs.StandingLaws.{stands_then}
 use Rattle.parsing.specs.Position.{Place, next_at}
 use Rattle.parsing.specs.Room.{HasLeft, HasRoom, room}
-use Rattle.parsing.specs.Stretch.{Derives, FailsAt, Refused}
-use Rattle.parsing.proofs.Stretches.{exit, fails_behind, joined, refused_map, stay}
+use Rattle.parsing.specs.Segment.{Derives, FailsAt, Refused}
+use Rattle.parsing.proofs.Segments.{exit, fails_behind, joined, refused_map, stay}
 use Rattle.expressions.specs.Expressions.{AddsExpr, AddsOperand, FailsOperand}
 use Rattle.expressions.proofs.Productions.{chosen}
 use Rattle.expressions.proofs.TellingLaws.{appends_then}
@@ -36,33 +36,33 @@ at_most l o b small is = let same : b ≡ record { level = l; op = o } = cc in r
 
 -- there are ten
 pub ten_levels : (t : Token) (b : AnOperator) → operator_of t ≡ Some b → b.level ≤ 10
-ten_levels (token.Mark m) b is = by_mark m is
+ten_levels (token.Punctuator m) b is = by_punctuator m is
   where
-    by_mark : (m : Mark) → operator_of (token.Mark m) ≡ Some b → b.level ≤ 10
-    by_mark mark.OrOr is = at_most 1 op.Or b (omega arith) is
-    by_mark mark.AndAnd is = at_most 2 op.And b (omega arith) is
-    by_mark mark.Or is = at_most 3 op.BitOr b (omega arith) is
-    by_mark mark.Xor is = at_most 4 op.BitXor b (omega arith) is
-    by_mark mark.And is = at_most 5 op.BitAnd b (omega arith) is
-    by_mark mark.EqualsEquals is = at_most 6 op.Equal b (omega arith) is
-    by_mark mark.NotEquals is = at_most 6 op.NotEqual b (omega arith) is
-    by_mark mark.Less is = at_most 7 op.Less b (omega arith) is
-    by_mark mark.Greater is = at_most 7 op.Greater b (omega arith) is
-    by_mark mark.LessEquals is = at_most 7 op.LessOrEqual b (omega arith) is
-    by_mark mark.GreaterEquals is = at_most 7 op.GreaterOrEqual b (omega arith) is
-    by_mark mark.ShiftLeft is = at_most 8 op.ShiftLeft b (omega arith) is
-    by_mark mark.ShiftRight is = at_most 8 op.ShiftRight b (omega arith) is
-    by_mark mark.Plus is = at_most 9 op.Add b (omega arith) is
-    by_mark mark.Minus is = at_most 9 op.Subtract b (omega arith) is
-    by_mark mark.Star is = at_most 10 op.Multiply b (omega arith) is
-    by_mark mark.Slash is = at_most 10 op.Divide b (omega arith) is
-    by_mark mark.Percent is = at_most 10 op.Remainder b (omega arith) is
-    by_mark m is = absurd (cc)
+    by_punctuator : (m : Punctuator) → operator_of (token.Punctuator m) ≡ Some b → b.level ≤ 10
+    by_punctuator punctuator.OrOr is = at_most 1 op.Or b (omega arith) is
+    by_punctuator punctuator.AndAnd is = at_most 2 op.And b (omega arith) is
+    by_punctuator punctuator.Or is = at_most 3 op.BitOr b (omega arith) is
+    by_punctuator punctuator.Xor is = at_most 4 op.BitXor b (omega arith) is
+    by_punctuator punctuator.And is = at_most 5 op.BitAnd b (omega arith) is
+    by_punctuator punctuator.EqualsEquals is = at_most 6 op.Equal b (omega arith) is
+    by_punctuator punctuator.NotEquals is = at_most 6 op.NotEqual b (omega arith) is
+    by_punctuator punctuator.Less is = at_most 7 op.Less b (omega arith) is
+    by_punctuator punctuator.Greater is = at_most 7 op.Greater b (omega arith) is
+    by_punctuator punctuator.LessEquals is = at_most 7 op.LessOrEqual b (omega arith) is
+    by_punctuator punctuator.GreaterEquals is = at_most 7 op.GreaterOrEqual b (omega arith) is
+    by_punctuator punctuator.ShiftLeft is = at_most 8 op.ShiftLeft b (omega arith) is
+    by_punctuator punctuator.ShiftRight is = at_most 8 op.ShiftRight b (omega arith) is
+    by_punctuator punctuator.Plus is = at_most 9 op.Add b (omega arith) is
+    by_punctuator punctuator.Minus is = at_most 9 op.Subtract b (omega arith) is
+    by_punctuator punctuator.Star is = at_most 10 op.Multiply b (omega arith) is
+    by_punctuator punctuator.Slash is = at_most 10 op.Divide b (omega arith) is
+    by_punctuator punctuator.Percent is = at_most 10 op.Remainder b (omega arith) is
+    by_punctuator m is = absurd (cc)
 ten_levels (token.Name name) b is = absurd (cc)
 ten_levels (token.Word word) b is = absurd (cc)
 ten_levels (token.Constant value) b is = absurd (cc)
 ten_levels token.End b is = absurd (cc)
-ten_levels (token.Fault flaw) b is = absurd (cc)
+ten_levels (token.Fault lexical_error) b is = absurd (cc)
 
 same_level : (n : ℕ) → (n == n) ≡ true
 same_level n = grind (arith, nat_tests)
@@ -81,12 +81,12 @@ is_below n k e = grind (arith, nat_tests)
 
 -- an operator is one of its own level
 pub at_its_own : (t : Token) (b : AnOperator) → operator_of t ≡ Some b → operator_at b.level t ≡ Some b.op
-at_its_own (token.Mark m) b is = let spelled : binary_of m ≡ Some b = is in rw spelled (rw (same_level b.level) refl)
+at_its_own (token.Punctuator m) b is = let spelled : binary_of m ≡ Some b = is in rw spelled (rw (same_level b.level) refl)
 at_its_own (token.Name name) b is = absurd (cc)
 at_its_own (token.Word word) b is = absurd (cc)
 at_its_own (token.Constant value) b is = absurd (cc)
 at_its_own token.End b is = absurd (cc)
-at_its_own (token.Fault flaw) b is = absurd (cc)
+at_its_own (token.Fault lexical_error) b is = absurd (cc)
 
 -- the operator found from a level on is the token's, and of that level or a tighter one
 pub found : (n : ℕ) (t : Token) (b : AnOperator) → operator_from n t ≡ Some b → (operator_of t ≡ Some b) × (n ≤ b.level)
@@ -122,7 +122,7 @@ none_past n t past = by (operator_of t) (ten_levels t)
 
 -- where none is found from a level on, there is none of any tighter level
 none_at : (n l : ℕ) (t : Token) → operator_from n t ≡ None → n ≤ l → operator_at l t ≡ None
-none_at n l (token.Mark m) none tighter = by (binary_of m) (λ b is. all_looser n (token.Mark m) b none is)
+none_at n l (token.Punctuator m) none tighter = by (binary_of m) (λ b is. all_looser n (token.Punctuator m) b none is)
   where
     by : (o : Option AnOperator) → ((b : AnOperator) → o ≡ Some b → b.level < n) → if_at l o ≡ None
     by None looser_ = refl
@@ -131,11 +131,11 @@ none_at n l (token.Name name) none tighter = refl
 none_at n l (token.Word word) none tighter = refl
 none_at n l (token.Constant value) none tighter = refl
 none_at n l token.End none tighter = refl
-none_at n l (token.Fault flaw) none tighter = refl
+none_at n l (token.Fault lexical_error) none tighter = refl
 
 -- Going down to the operand.
 
--- one stretch after another
+-- one segment after another
 one_then : (depth : ℕ) (front mid pending : List Item) (taken between left : List Value) (at now there : Place) →
     Derives depth front mid taken between at now → Derives depth mid pending between left now there → Derives depth front pending taken left at there
 one_then depth front mid pending taken between left at now there a b =
@@ -207,12 +207,12 @@ reaches at depth n sound = by (nat_le n 11) refl
 -- Shutting levels.
 
 no_operator : (n : ℕ) (t after : Token) → operator_at n t ≡ None → choice (Tail n) t after ≡ Some []
-no_operator n (token.Mark m) after none = rw none refl
+no_operator n (token.Punctuator m) after none = rw none refl
 no_operator n (token.Name name) after none = refl
 no_operator n (token.Word word) after none = refl
 no_operator n (token.Constant value) after none = refl
 no_operator n token.End after none = refl
-no_operator n (token.Fault flaw) after none = refl
+no_operator n (token.Fault lexical_error) after none = refl
 
 tail_ends : (at : Place) (depth n : ℕ) (trees : List Value) → operator_at n (next_at at).token ≡ None → is_fault (next_at at).token ≡ false →
     Derives depth (Part (Tail n) ∷ []) [] trees trees at at
@@ -271,12 +271,12 @@ first_stops used at depth n allocates f sound =
     (reaches at depth n sound) (λ stack same. tails_open (11 - n) n stack depth same) (λ same. same)
 
 operator_sound : (t : Token) (b : AnOperator) → operator_of t ≡ Some b → is_fault t ≡ false
-operator_sound (token.Mark m) b is = refl
+operator_sound (token.Punctuator m) b is = refl
 operator_sound (token.Name name) b is = refl
 operator_sound (token.Word word) b is = refl
 operator_sound (token.Constant value) b is = refl
 operator_sound token.End b is = refl
-operator_sound (token.Fault flaw) b is = absurd (cc)
+operator_sound (token.Fault lexical_error) b is = absurd (cc)
 
 -- the tails of the levels tighter than an operator that follows end
 drops_to : (at : Place) (depth n count : ℕ) (b : AnOperator) (trees : List Value) → operator_of (next_at at).token ≡ Some b → n ≤ b.level → operator_from (n + count) (next_at at).token ≡ None →
@@ -313,7 +313,7 @@ climbs_on before mid after at now there depth n b h is r none = record {
     narrow =
         let f : (operator_of (next_at now).token ≡ Some b) × (n ≤ b.level) = found n (next_at now).token b is in
         wide_enough n b.level (nesting h.adds.tree) (right_side b.op + nesting r.right) f.1 h.adds.narrow r.narrow;
-    added = appends_then before mid after (expr_actions h.adds.tree) (middle b.op ++ (expr_actions r.right ++ Apply b.op ∷ [])) h.adds.added r.added;
+    added = appends_then before mid after (expr_actions h.adds.tree) (middle b.op ++ (expr_actions r.right ++ ApplyBinop b.op ∷ [])) h.adds.added r.added;
     derives =
         let f : (operator_of (next_at now).token ≡ Some b) × (n ≤ b.level) = found n (next_at now).token b is in
         let same : b.level ≡ n + (b.level - n) = own_level n b.level f.1 in

@@ -6,7 +6,7 @@ use Rattle.grammar.specs.declared.names.Callee.{Callee}
 use Rattle.grammar.specs.declared.operators.Binary.{Binary as AnOperator}
 use Rattle.grammar.specs.declared.operators.Op.{Op}
 use Rattle.grammar.specs.declared.pools.TheConstants.{MOST_NAMES}
-use Rattle.grammar.specs.Actions.{Apply, args_actions, expr_actions, middle}
+use Rattle.grammar.specs.Actions.{ApplyBinop, args_actions, expr_actions, middle}
 use Rattle.grammar.specs.Building.{Meaning, AppendsAll}
 use Rattle.grammar.specs.Derivation.{ACall, AnExpr}
 use Rattle.grammar.specs.Grammar.{Item, Arguments, Part, Symbol, Tail}
@@ -16,7 +16,7 @@ use Rattle.grammar.specs.Tree.{Args, Binary, Expr, NoMore}
 use Rattle.parsing.specs.Position.{Place, Standing, taken_at}
 use Rattle.parsing.specs.Room.{room}
 use Rattle.parsing.specs.Stopping.{Stop}
-use Rattle.parsing.specs.Stretch.{Derives, FailsAt, FailsItem, Refused}
+use Rattle.parsing.specs.Segment.{Derives, FailsAt, FailsItem, Refused}
 
 -- An expression was read, by the items in front, of operators from a level on, with so many levels of nesting open.
 pub record AddsExpr (before after : Meaning) (depth level : ℕ) (front pending : List Item) (here there : Place)
@@ -32,7 +32,7 @@ pub record AddsOperand (before after : Meaning) (depth level : ℕ) (op : Op) (h
   pub right : Expr
   pub numbered : InExpr MOST_NAMES MOST_NAMES MOST_NAMES right
   pub narrow : right_side op + nesting right ≤ room depth level
-  pub added : AppendsAll before after (middle op ++ (expr_actions right ++ Apply op ∷ []))
+  pub added : AppendsAll before after (middle op ++ (expr_actions right ++ ApplyBinop op ∷ []))
   pub derives : (left : Expr) →
       Derives depth (Part (Tail level) ∷ []) (Part (Tail level) ∷ []) (AnExpr left ∷ [])
       (AnExpr (Binary op left right) ∷ []) here there

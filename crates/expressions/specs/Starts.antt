@@ -1,13 +1,13 @@
 -- With which two tokens a form of an expression starts.
 use Rattle.std.specs.Prelude.{◌≡◌, Some, None, is_some, true, false}
-use Rattle.tokens.specs.declared.lexemes.Mark.TheVariants as mark
+use Rattle.tokens.specs.declared.located_tokens.Punctuator.TheVariants as punctuator
 use Rattle.grammar.specs.declared.operators.StoreOp.{StoreOp}
 use Rattle.grammar.specs.Derivation.{name_of_token}
-use Rattle.grammar.specs.Grammar.{is_mark}
+use Rattle.grammar.specs.Grammar.{is_punctuator}
 use Rattle.grammar.specs.Operators.{store_operator}
 use Rattle.parsing.specs.Position.{Standing, token_after, token_of}
 use Rattle.expressions.specs.declared.signs.Step.{Step}
-use Rattle.expressions.specs.Signs.{step_mark}
+use Rattle.expressions.specs.Signs.{step_punctuator}
 
 -- a name
 abbrev pub StartsName : Standing → Type 0
@@ -25,14 +25,14 @@ StartsNoAssignment at = StartsName at → store_operator (token_after at) ≡ No
 -- a name and `(`
 pub record StartsCall (at : Standing) : Type 0 where
   pub named : StartsName at
-  pub is : is_mark mark.OpenRound (token_after at) ≡ true
+  pub is : is_punctuator punctuator.OpenRound (token_after at) ≡ true
 
 -- a name without `(`
 pub record StartsVariable (at : Standing) : Type 0 where
   pub named : StartsName at
-  pub plain : is_mark mark.OpenRound (token_after at) ≡ false
+  pub plain : is_punctuator punctuator.OpenRound (token_after at) ≡ false
 
 -- a name and `++` or `--`
 pub record StartsStep (step : Step) (at : Standing) : Type 0 where
   pub named : StartsName at
-  pub is : is_mark (step_mark step) (token_after at) ≡ true
+  pub is : is_punctuator (step_punctuator step) (token_after at) ≡ true

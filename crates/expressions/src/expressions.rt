@@ -1,16 +1,16 @@
 //! Assignments, the ten levels of binary operators, signs, brackets and calls.
 
 ghost use Rattle.std.specs.Prelude.{◌≡◌, ◌+◌, Some, None, IfNone, IfSome, OnOk, true};
-ghost use Rattle.tokens.specs.declared.lexemes.Mark.TheVariants as mark;
+ghost use Rattle.tokens.specs.declared.located_tokens.Punctuator.TheVariants as punctuator;
 ghost use Rattle.grammar.specs.Actions.{middle};
 ghost use Rattle.grammar.specs.Building.{AppendsAll, MayFollow, Refuses};
-ghost use Rattle.grammar.specs.Grammar.{Expression, Level, Primary, Unary, is_mark};
+ghost use Rattle.grammar.specs.Grammar.{Expression, Level, Primary, Unary, is_punctuator};
 ghost use Rattle.grammar.specs.Operators.{operator_from, operator_of};
 ghost use Rattle.parsing.specs.Advancing.{Advances, IsReady, Keeps};
 ghost use Rattle.parsing.specs.Position.{token_of};
 ghost use Rattle.parsing.specs.Room.{HasLeft, HasRoom, room};
 ghost use Rattle.expressions.specs.Expressions.{Parses, ParsesArgs, ParsesOperand};
-ghost use Rattle.expressions.specs.Signs.{sign_mark};
+ghost use Rattle.expressions.specs.Signs.{sign_punctuator};
 ghost use Rattle.expressions.specs.Starts.{StartsAssignment, StartsCall, StartsNoAssignment};
 ghost use Rattle.expressions.specs.Telling.{MayFollowAll};
 
@@ -19,8 +19,8 @@ use crate::variables::{constant, step_before, variable};
 use grammar::{
     Binary, Build, BuildFault, Code, Op, ParseFault, StoreOp, operator_from, store_operator,
 };
-use parsing::{MOST_LEVELS, Parser, is_mark};
-use tokens::{Feed, Mark, Token};
+use parsing::{MOST_LEVELS, Parser, is_punctuator};
+use tokens::{Feed, Punctuator, Token};
 
 /// `expr → name asg expr` and `expr → level1`
 #[cycle(expressions)]
@@ -146,7 +146,7 @@ fn signed<F: Feed, B: Build>(
     depth: u8,
 ) -> Result<(), ParseFault>
     requires open { HasRoom (B.stands build.old) (room depth 11) }
-    requires is { is_mark (sign_mark sign) (token_of parser.old) ≡ true }
+    requires is { is_punctuator (sign_punctuator sign) (token_of parser.old) ≡ true }
     requires ready { IsReady parser.old }
     ensures parses { Parses result B.allocates (B.stands build.old) (B.stands build.new)
         depth 11 Unary parser.old parser.new }
@@ -177,11 +177,11 @@ fn primary<F: Feed, B: Build>(
 {
     match parser.next().token {
         Token::Constant(value) => constant(parser, build, value)?,
-        Token::Name(_) if is_mark(parser.after(), Mark::OpenRound) => {
+        Token::Name(_) if is_punctuator(parser.after(), Punctuator::OpenRound) => {
             call(parser, build, depth)?;
         }
         Token::Name(_) => variable(parser, build)?,
-        _ if is_mark(&parser.next().token, Mark::OpenRound) => {
+        _ if is_punctuator(&parser.next().token, Punctuator::OpenRound) => {
             bracketed(parser, build, depth)?;
         }
         _ => return Err(parser.misfit()),
@@ -208,9 +208,9 @@ fn call<F: Feed, B: Build>(
     }
     let callee = parser.callee()?;
     build.begin_call()?;
-    parser.expect(Mark::OpenRound)?;
+    parser.expect(Punctuator::OpenRound)?;
     arguments(parser, build, depth + 1)?;
-    parser.expect(Mark::CloseRound)?;
+    parser.expect(Punctuator::CloseRound)?;
     build.end_call(callee)?;
     Ok(())
 }
@@ -228,12 +228,12 @@ fn arguments<F: Feed, B: Build>(
         depth parser.old parser.new }
     ensures kept { Keeps result parser.old parser.new }
 {
-    if is_mark(&parser.next().token, Mark::CloseRound) {
+    if is_punctuator(&parser.next().token, Punctuator::CloseRound) {
         return Ok(());
     }
     expression(parser, build, depth)?;
-    while is_mark(&parser.next().token, Mark::Comma) {
-        parser.expect(Mark::Comma)?;
+    while is_punctuator(&parser.next().token, Punctuator::Comma) {
+        parser.expect(Punctuator::Comma)?;
         expression(parser, build, depth)?;
     }
     Ok(())
@@ -247,7 +247,7 @@ fn bracketed<F: Feed, B: Build>(
     depth: u8,
 ) -> Result<(), ParseFault>
     requires open { HasRoom (B.stands build.old) (room depth 11) }
-    requires is { is_mark mark.OpenRound (token_of parser.old) ≡ true }
+    requires is { is_punctuator punctuator.OpenRound (token_of parser.old) ≡ true }
     requires ready { IsReady parser.old }
     ensures parses { Parses result B.allocates (B.stands build.old) (B.stands build.new)
         depth 11 Primary parser.old parser.new }
@@ -258,7 +258,7 @@ fn bracketed<F: Feed, B: Build>(
     }
     parser.advance()?;
     expression(parser, build, depth + 1)?;
-    parser.expect(Mark::CloseRound)?;
+    parser.expect(Punctuator::CloseRound)?;
     Ok(())
 }
 

@@ -2,13 +2,13 @@
 
 ghost use Rattle.std.specs.Prelude.{◌≡◌, [], ◌∷◌, true};
 ghost use Rattle.tokens.specs.Tokens.{FitsToken};
-ghost use Rattle.tokens.specs.declared.lexemes.Token.TheVariants as token;
-ghost use Rattle.grammar.specs.Grammar.{Primary, Unary, is_mark};
+ghost use Rattle.tokens.specs.declared.located_tokens.Token.TheVariants as token;
+ghost use Rattle.grammar.specs.Grammar.{Primary, Unary, is_punctuator};
 ghost use Rattle.parsing.specs.Advancing.{Advances, IsReady};
 ghost use Rattle.parsing.specs.Position.{token_of};
 ghost use Rattle.parsing.specs.Room.{HasRoom};
 ghost use Rattle.expressions.specs.Expressions.{ParsesOperandAlone};
-ghost use Rattle.expressions.specs.Signs.{step_mark};
+ghost use Rattle.expressions.specs.Signs.{step_punctuator};
 ghost use Rattle.expressions.specs.Starts.{StartsStep, StartsVariable};
 
 use crate::signs::{Step, step_of};
@@ -74,7 +74,7 @@ fn step_behind<F: Feed, B: Build>(
     build.constant(1)?;
     build.store(var, step.store())?;
     build.chop()?;
-    parser.expect(step.mark())?;
+    parser.expect(step.punctuator())?;
     Ok(())
 }
 
@@ -85,7 +85,7 @@ pub fn step_before<F: Feed, B: Build>(
     step: Step,
 ) -> Result<(), ParseFault>
     requires open { HasRoom (B.stands build.old) 0 }
-    requires is { is_mark (step_mark step) (token_of parser.old) ≡ true }
+    requires is { is_punctuator (step_punctuator step) (token_of parser.old) ≡ true }
     requires ready { IsReady parser.old }
     ensures parses { ParsesOperandAlone result B.allocates (B.stands build.old) (B.stands build.new)
         Unary parser.old parser.new }

@@ -1,7 +1,7 @@
 -- How many more steps a derivation can make at most.
 use Rattle.std.specs.Prelude.{ℕ, ◌+◌, ◌-◌, ◌*◌, List, [], ◌∷◌, length}
 use Rattle.grammar.specs.Derivation.{State}
-use Rattle.grammar.specs.Grammar.{Item, AnEnd, Part, Make, Shut, Symbol, Source, Types, Head, More, Parameters, ParameterTypes, FunctionBlock, Block, Declarations, Statements, Statement, ElsePart, Back, Expression, Level, Tail, Unary, Primary, Arguments, MoreArguments}
+use Rattle.grammar.specs.Grammar.{Item, AnEnd, Part, Make, Close, Symbol, Source, Types, Head, More, Parameters, ParameterTypes, FunctionBlock, Block, Declarations, Statements, Statement, ElsePart, Back, Expression, Level, Tail, Unary, Primary, Arguments, MoreArguments}
 
 -- each item costs a step; the end's makes up for what follows it, and of two symbols for the rule that is all they push
 abbrev pub cost : Item → ℕ
@@ -42,7 +42,7 @@ abbrev pub credit : List Item → ℕ
 credit [] = 0
 credit (Part symbol ∷ stack) = credit_of symbol
 credit (Make rule ∷ stack) = 40
-credit (Shut ∷ stack) = 40
+credit (Close ∷ stack) = 40
 credit (item ∷ stack) = 0
 
 abbrev pub weight : State → ℕ

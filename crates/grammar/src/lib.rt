@@ -1,4 +1,5 @@
-//! Defines the language of robot programs: its grammar, its names, its diagnostics, and the trait by which a parser reports to a builder.
+//! Defines the language of robot programs: its grammar, its names, its diagnostics, and the trait by which a parser
+//! reports to a builder.
 #![tactic(auto)]
 
 mod build;

@@ -105,7 +105,10 @@ impl Function {
     /// Adds a parameter, with the next number.
     pub(crate) fn add_parameter(&mut self, name: Name)
         requires { length self.old.variables < MOST_NAMES }
-        ensures { self.new ≡ record self.old { parameters = self.old.parameters + 1; variables = self.old.variables ++ name ∷ [] } }
+        ensures { self.new ≡ record self.old {
+          parameters = self.old.parameters + 1;
+          variables = self.old.variables ++ name ∷ [];
+        } }
     {
         self.variables.push(name);
         self.parameters += 1;
@@ -166,7 +169,10 @@ impl Pools {
     /// Adds a function, with the next number.
     pub fn define(&mut self, function: Function)
         requires { length self.old.functions < MOST_NAMES }
-        ensures { self.new ≡ record { externals = self.old.externals; functions = self.old.functions ++ function ∷ [] } }
+        ensures { self.new ≡ record {
+          externals = self.old.externals;
+          functions = self.old.functions ++ function ∷ [];
+        } }
     {
         self.functions[self.count as usize] = function;
         self.count += 1;

@@ -64,7 +64,14 @@ impl Model for Scope {
 
     ghost Value = { Known };
 
-    ghost view = { λ s. record { externals = s.pools.externals; functions = s.pools.functions; lines = s.lines.items; begun = s.begun.items; number = s.number; current = s.current } };
+    ghost view = { λ s. record {
+      externals = s.pools.externals;
+      functions = s.pools.functions;
+      lines = s.lines.items;
+      begun = s.begun.items;
+      number = s.number;
+      current = s.current;
+    } };
 
     ghost invariant = { λ s. IsKept s.pools.functions s.lines.items s.begun.items };
 }
@@ -94,7 +101,8 @@ impl Scope {
     /// The variable of a name that is mentioned. A name that stands for none becomes the function's next local.
     #[tactic(auto, using(crate::proofs::ScopeLaws::names))]
     pub fn mention(&mut self, name: Name) -> Result<Var, Code>
-        ensures known { IfOk result (λ v. (v ≡ variable_of name self.old) × ((line : ℕ) → Knows Mentioned name line self.old self.new)) }
+        ensures known { IfOk result (λ v. (v ≡ variable_of name self.old)
+            × ((line : ℕ) → Knows Mentioned name line self.old self.new)) }
         ensures within { IfOk result (IsVariable 64 64) }
         ensures refused { IfErr result (λ c. RefusesName Mentioned name self.old c) }
     {
@@ -169,10 +177,12 @@ impl Scope {
         Ok(())
     }
 
-    /// What a name that is called calls. A function of the file that is new is known from here on, by the line of this name.
+    /// What a name that is called calls. A function of the file that is new is known from here on, by the line of this
+    /// name.
     #[tactic(auto, using(crate::proofs::ScopeLaws::names))]
     pub fn call(&mut self, name: Name, line: u32) -> Result<Callee, Code>
-        ensures known { IfOk result (λ callee. (callee ≡ callee_of name self.old) × Knows Called name line self.old self.new) }
+        ensures known { IfOk result (λ callee. (callee ≡ callee_of name self.old)
+            × Knows Called name line self.old self.new) }
         ensures within { IfOk result (IsCallable 64) }
         ensures refused { IfErr result (λ c. RefusesName Called name self.old c) }
     {

@@ -1,8 +1,8 @@
 -- How far a file was read: the functions defined, the builder's actions, and the derivation from the file's start.
 use Rattle.std.specs.Prelude.{ℕ, ◌+◌, ◌<◌, ◌≤◌, ◌≡◌, List, [], ◌∷◌, ◌++◌, Bool, true, false, Some, None, is_some}
 use Rattle.std.specs.Prelude.{Result, Ok, Err}
-use Rattle.tokens.specs.declared.lexemes.Lexeme.{Lexeme}
-use Rattle.tokens.specs.declared.lexemes.Mark.TheVariants as mark
+use Rattle.tokens.specs.declared.located_tokens.LocatedToken.{LocatedToken}
+use Rattle.tokens.specs.declared.located_tokens.Punctuator.TheVariants as punctuator
 use Rattle.grammar.specs.declared.diagnostics.Code.TheVariants as code
 use Rattle.grammar.specs.Actions.{Action, Finish, body_actions, code_length, last_return}
 use Rattle.grammar.specs.Building.{Meaning, AppendsAll, StandsOpen}
@@ -14,7 +14,7 @@ use Rattle.grammar.specs.Derivation.{ABody, Definition, state}
 use Rattle.grammar.specs.Faults.{definitions_actions}
 use Rattle.grammar.specs.Following.{InFunction}
 use Rattle.grammar.specs.Grammar.{Item, AName, Define, Defined, Exactly, FunctionBlock, Make, ParameterTypes}
-use Rattle.grammar.specs.Grammar.{Parameters, Part, Shut, Source}
+use Rattle.grammar.specs.Grammar.{Parameters, Part, Close, Source}
 use Rattle.grammar.specs.Laws.{KeepsFunction}
 use Rattle.grammar.specs.Naming.{line_of_undefined}
 use Rattle.grammar.specs.Nesting.{body_nesting}
@@ -26,17 +26,18 @@ use Rattle.grammar.specs.Tree.{Body}
 use Rattle.parsing.specs.Position.{GoesOn, Place, Position, Standing, scope_at, taken_at, tokens_at}
 use Rattle.parsing.specs.Room.{open_limit}
 use Rattle.parsing.specs.Stopping.{Stop, Stops}
-use Rattle.parsing.specs.Stretch.{Derives, FailsAt, Refused, Takes}
+use Rattle.parsing.specs.Segment.{Derives, FailsAt, Refused, Takes}
 
 -- From one place between functions to another the builder was told further functions, and the derivation, which goes
 -- from these items to those, defines them. It takes the same tokens whether the device tells them or not.
 pub record ReadsOn (before after : Meaning) (front pending : List Item) (here there : Place) : Type 0 where
-  pub consumed : List Lexeme
+  pub consumed : List LocatedToken
   pub more : List Definition
-  pub told : (lexemes : List Lexeme) → tokens_at here ≡ Some lexemes → Takes consumed lexemes there
-  pub follows : (rest : List Lexeme) → GoesOn there rest → GoesOn here (consumed ++ rest)
+  pub told : (located_tokens : List LocatedToken) → tokens_at here ≡ Some located_tokens
+      → Takes consumed located_tokens there
+  pub follows : (rest : List LocatedToken) → GoesOn there rest → GoesOn here (consumed ++ rest)
   pub added : AppendsAll before after (definitions_actions more)
-  pub passes : (rest : List Lexeme) → GoesOn there rest → (profile : Profile) (functions : List Definition) →
+  pub passes : (rest : List LocatedToken) → GoesOn there rest → (profile : Profile) (functions : List Definition) →
       before profile (definitions_actions functions) →
       Passes profile (state front (consumed ++ rest) [] (scope_at here) functions)
       (state pending rest [] (scope_at there) (functions ++ more))
@@ -44,9 +45,10 @@ pub record ReadsOn (before after : Meaning) (front pending : List Item) (here th
 -- where the tokens are told, the derivation from these items on stops so
 abbrev pub StopsReading : Meaning → List Item → Place → Stop → Type 0
 StopsReading before front here stop =
-    (lexemes : List Lexeme) → tokens_at here ≡ Some lexemes → (profile : Profile) (functions : List Definition) →
+    (located_tokens : List LocatedToken) → tokens_at here ≡ Some located_tokens
+    → (profile : Profile) (functions : List Definition) →
     before profile (definitions_actions functions) →
-    Stops profile (state front lexemes [] (scope_at here) functions) stop
+    Stops profile (state front located_tokens [] (scope_at here) functions) stop
 
 -- between the parts of a file
 abbrev pub at_source : List Item
@@ -55,12 +57,13 @@ at_source = Part Source ∷ []
 -- where a function's definition begins
 abbrev pub at_definition : List Item
 at_definition =
-    AName Defined ∷ Exactly mark.OpenRound ∷ Part Parameters ∷ Exactly mark.CloseRound ∷ Part ParameterTypes ∷
+    AName Defined ∷ Exactly punctuator.OpenRound ∷ Part Parameters ∷ Exactly punctuator.CloseRound
+    ∷ Part ParameterTypes ∷
     Part FunctionBlock ∷ at_source
 
 -- what a function's block is up to its closing brace
 abbrev pub at_brace : List Item
-at_brace = Make Define ∷ Exactly mark.CloseCurly ∷ Shut ∷ []
+at_brace = Make Define ∷ Exactly punctuator.CloseCurly ∷ Close ∷ []
 
 -- A function's block was read up to its closing brace: the builder was told its statements, and the function stayed the
 -- same.

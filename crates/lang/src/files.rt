@@ -1,21 +1,21 @@
 //! Files: one pass from a device's bytes to a builder, and the names of the file.
 
 ghost use Rattle.std.specs.Prelude.{◌≡◌, ◌-◌, ◌<◌, ◌^◌, ◌∷◌, [], IfErr, IfOk, OnOk, true};
-ghost use Rattle.tokens.specs.declared.lexemes.Token.TheVariants as token;
-ghost use Rattle.tokens.specs.declared.lexemes.Word.TheVariants as word;
+ghost use Rattle.tokens.specs.declared.located_tokens.Token.TheVariants as token;
+ghost use Rattle.tokens.specs.declared.located_tokens.Word.TheVariants as word;
 ghost use Rattle.grammar.specs.Building.{StandsOpen};
 ghost use Rattle.grammar.specs.Derivation.{is_end};
 ghost use Rattle.grammar.specs.Grammar.{Head, Part, is_word};
 ghost use Rattle.parsing.specs.Advancing.{Advances, IsReady, Keeps};
 ghost use Rattle.parsing.specs.Position.{scope_of, token_of};
-ghost use Rattle.parsing.specs.Stretch.{Counts};
+ghost use Rattle.parsing.specs.Segment.{Counts};
 ghost use Rattle.lang.specs.Files.{FailsBytes, IsFile, IsNew, Says, StopsTaking, TakesNoMore};
 ghost use Rattle.lang.specs.Progress.{IsComplete, Lacks, ReadsParts, at_source};
 
 use crate::functions::function;
 use grammar::{Build, Code, Diagnostic, ParseFault, Pools};
-use parsing::{Parser, externals, first, is_mark, is_word, type_words};
-use tokens::{Feed, Mark, Token, Word};
+use parsing::{Parser, externals, first, is_punctuator, is_word, type_words};
+use tokens::{Feed, Punctuator, Token, Word};
 
 /// Reads a source from the device in one pass, tells the builder its actions, and returns its names.
 ///
@@ -113,7 +113,7 @@ fn head<F: Feed, B: Build>(parser: &mut Parser<'_, F>, build: &mut B) -> Result<
     ensures kept { Advances result parser.old parser.new }
 {
     match parser.next().token {
-        Token::Name(_) if is_mark(parser.after(), Mark::OpenRound) => {
+        Token::Name(_) if is_punctuator(parser.after(), Punctuator::OpenRound) => {
             function(parser, build)?;
         }
         Token::Name(_) => externals(parser)?,

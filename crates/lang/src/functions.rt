@@ -1,19 +1,19 @@
 //! Functions: their headings, blocks and ends.
 
 ghost use Rattle.std.specs.Prelude.{◌≡◌, [], OnOk, IfErr, true};
-ghost use Rattle.tokens.specs.declared.lexemes.Mark.TheVariants as mark;
+ghost use Rattle.tokens.specs.declared.located_tokens.Punctuator.TheVariants as punctuator;
 ghost use Rattle.grammar.specs.Building.{StandsOpen};
-ghost use Rattle.grammar.specs.Grammar.{is_mark};
+ghost use Rattle.grammar.specs.Grammar.{is_punctuator};
 ghost use Rattle.parsing.specs.Advancing.{Advances, IsReady};
 ghost use Rattle.parsing.specs.Position.{next_at, taken_at, token_of};
 ghost use Rattle.parsing.specs.Room.{HasPlace, room};
-ghost use Rattle.parsing.specs.Stretch.{Refused};
+ghost use Rattle.parsing.specs.Segment.{Refused};
 ghost use Rattle.lang.specs.Progress.{ClosesFunction, IsTooMuch, MayEnd, ParsesBlock, ReadsParts, at_definition};
 
 use grammar::{Build, BuildFault, Code, ParseFault};
-use parsing::{Declared, Parser, declarations, heading, is_mark};
+use parsing::{Declared, Parser, declarations, heading, is_punctuator};
 use statements::statements;
-use tokens::{Feed, Mark};
+use tokens::{Feed, Punctuator};
 
 /// `name ( params ) pdecls block`
 pub fn function<F: Feed, B: Build>(
@@ -32,7 +32,7 @@ pub fn function<F: Feed, B: Build>(
     block(parser, build)?;
     close(parser, build, parser.variables())?;
     parser.end_definition();
-    parser.expect(Mark::CloseCurly)?;
+    parser.expect(Punctuator::CloseCurly)?;
     Ok(())
 }
 
@@ -41,10 +41,10 @@ fn block<F: Feed, B: Build>(parser: &mut Parser<'_, F>, build: &mut B) -> Result
     requires open { HasPlace (B.stands build.old) (room 1 1) }
     requires ready { IsReady parser.old }
     ensures parses { ParsesBlock result B.allocates (B.stands build.old) (B.stands build.new) parser.old parser.new }
-    ensures closed { OnOk result (is_mark mark.CloseCurly (token_of parser.new) ≡ true) }
+    ensures closed { OnOk result (is_punctuator punctuator.CloseCurly (token_of parser.new) ≡ true) }
     ensures kept { Advances result parser.old parser.new }
 {
-    if !is_mark(&parser.next().token, Mark::OpenCurly) {
+    if !is_punctuator(&parser.next().token, Punctuator::OpenCurly) {
         return Err(parser.misfit());
     }
     parser.advance()?;

@@ -4,7 +4,7 @@ use Rattle.std.specs.Prelude.{Option, Result, Ok, Err}
 use Rattle.tokens.specs.Window.{Takes}
 use Rattle.grammar.specs.declared.diagnostics.ParseFault.{ParseFault}
 use Rattle.parsing.specs.Position.{Standing}
-use Rattle.parsing.specs.Stretch.{counted}
+use Rattle.parsing.specs.Segment.{counted}
 use Rattle.parsing.specs.Advancing.{Advances, IsReady, StayedOrWentOn, Stopped, WentOn}
 
 takes_then : (a b c : ℕ) (x y z : Option (List ℕ)) → Takes a b x y → Takes b c y z → Takes a c x z

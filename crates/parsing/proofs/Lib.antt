@@ -1,5 +1,5 @@
 pub mod Advances
-pub mod Stretches
+pub mod Segments
 pub mod Items
 pub mod Names
 pub mod Parts

@@ -5,7 +5,7 @@ use Rattle.tokens.specs.Window.{Takes}
 use Rattle.grammar.specs.declared.diagnostics.ParseFault.{ParseFault}
 use Rattle.grammar.specs.Grammar.{is_fault}
 use Rattle.parsing.specs.Position.{Standing, taken_at, to_go, token_of}
-use Rattle.parsing.specs.Stretch.{counted}
+use Rattle.parsing.specs.Segment.{counted}
 
 -- how many failures of a device can be counted
 abbrev pub most_failures : ℕ

@@ -1,7 +1,7 @@
 -- The items of lists of names, of declarations and of a function's heading, by what the names are declared as.
 use Rattle.std.specs.Prelude.{List, [], ◌∷◌}
-use Rattle.tokens.specs.declared.lexemes.Mark.TheVariants as mark
-use Rattle.tokens.specs.declared.lexemes.Word.TheVariants as word
+use Rattle.tokens.specs.declared.located_tokens.Punctuator.TheVariants as punctuator
+use Rattle.tokens.specs.declared.located_tokens.Word.TheVariants as word
 use Rattle.grammar.specs.Grammar.{Item, AName, AWord, Exactly, Part}
 use Rattle.grammar.specs.Grammar.{Symbol, Declarations, Defined, More, ParameterTypes, Parameters, Types}
 use Rattle.parsing.specs.Roles.{role_of}
@@ -20,7 +20,7 @@ declarations_of declared = Declarations
 
 -- name more ;
 abbrev pub names_items : Declared → List Item
-names_items declared = AName (role_of declared) ∷ Part (More (role_of declared)) ∷ Exactly mark.Semicolon ∷ []
+names_items declared = AName (role_of declared) ∷ Part (More (role_of declared)) ∷ Exactly punctuator.Semicolon ∷ []
 
 -- type types name more ;
 abbrev pub declaration_items : Declared → List Item
@@ -29,4 +29,5 @@ declaration_items declared = AWord word.Type ∷ Part Types ∷ names_items decl
 -- name ( params ) pdecls
 abbrev pub heading_items : List Item
 heading_items =
-    AName Defined ∷ Exactly mark.OpenRound ∷ Part Parameters ∷ Exactly mark.CloseRound ∷ Part ParameterTypes ∷ []
+    AName Defined ∷ Exactly punctuator.OpenRound ∷ Part Parameters ∷ Exactly punctuator.CloseRound
+    ∷ Part ParameterTypes ∷ []

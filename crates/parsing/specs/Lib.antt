@@ -2,7 +2,7 @@ pub mod Position
 pub mod Defining
 pub mod Roles
 pub mod Stopping
-pub mod Stretch
+pub mod Segment
 pub mod Room
 pub mod Advancing
 pub mod Matching

@@ -4,7 +4,7 @@ use Rattle.grammar.specs.declared.diagnostics.ParseFault.{ParseFault}
 use Rattle.grammar.specs.Derivation.{Value}
 use Rattle.grammar.specs.Grammar.{Item}
 use Rattle.parsing.specs.Position.{Standing, taken_at}
-use Rattle.parsing.specs.Stretch.{Derives, FailsAt, GoesPast, Refused, StopsAt}
+use Rattle.parsing.specs.Segment.{Derives, FailsAt, GoesPast, Refused, StopsAt}
 
 -- One token was consumed. Or the token after it is a lexical error, or the device failed.
 abbrev pub Consumes : {A : Type 0} → Result A ParseFault → Standing → Standing → Type 0

@@ -2,8 +2,8 @@
 use Rattle.std.specs.Prelude.{ℕ, ◌≡◌, List, Option}
 use Rattle.tokens.specs.Reading.{Reading, remaining, shown, taken}
 use Rattle.tokens.specs.Tokens.{followed_by}
-use Rattle.tokens.specs.declared.lexemes.Lexeme.{Lexeme}
-use Rattle.tokens.specs.declared.lexemes.Token.{Token}
+use Rattle.tokens.specs.declared.located_tokens.LocatedToken.{LocatedToken}
+use Rattle.tokens.specs.declared.located_tokens.Token.{Token}
 use Rattle.grammar.specs.Scope.{Scope}
 
 pub record Position : Type 0 where
@@ -23,7 +23,7 @@ abbrev pub taken_at : Place → ℕ
 taken_at here = taken here.position.reading
 
 -- the next token
-abbrev pub next_at : Place → Lexeme
+abbrev pub next_at : Place → LocatedToken
 next_at here = here.position.reading.next
 
 -- the token behind it, where the next isn't the last
@@ -34,7 +34,7 @@ abbrev pub scope_at : Place → Scope
 scope_at here = here.position.scope
 
 -- the tokens from there on, where the device tells them
-abbrev pub tokens_at : Place → Option (List Lexeme)
+abbrev pub tokens_at : Place → Option (List LocatedToken)
 tokens_at here = shown here.position.reading here.to_come
 
 -- What a contract sees of a parser: its place, how often its device has failed, and which device that is.
@@ -64,6 +64,6 @@ abbrev pub to_go : Standing → ℕ
 to_go at = remaining at.place.position.reading
 
 -- the tokens that a silent device may have from there on: the two that were read, and any behind them
-pub record GoesOn (here : Place) (rest : List Lexeme) : Type 0 where
-  pub behind : List Lexeme
+pub record GoesOn (here : Place) (rest : List LocatedToken) : Type 0 where
+  pub behind : List LocatedToken
   pub is : rest ≡ followed_by here.position.reading.next (followed_by here.position.reading.after behind)

@@ -2,7 +2,7 @@
 use Rattle.std.specs.Prelude.{ℕ, ◌+◌, ◌≡◌, ◌≤◌, List, ◌++◌, Option, Some, None, IfSome, length}
 use Rattle.tokens.specs.Reading.{reach_of}
 use Rattle.tokens.specs.declared.limits.TheConstants.{WINDOW}
-use Rattle.tokens.specs.declared.lexemes.Lexeme.{Lexeme}
+use Rattle.tokens.specs.declared.located_tokens.LocatedToken.{LocatedToken}
 use Rattle.grammar.specs.declared.diagnostics.Diagnostic.{Diagnostic}
 use Rattle.grammar.specs.Derivation.{State}
 use Rattle.grammar.specs.Faults.{Fault}
@@ -23,14 +23,14 @@ slack (Some d) = WINDOW
 slack None = 0
 
 -- no fault of the derivation stands before these last tokens of the source
-pub record NoneBefore (profile : Profile) (s : State) (rest : List Lexeme) : Type 0 where
+pub record NoneBefore (profile : Profile) (s : State) (rest : List LocatedToken) : Type 0 where
   pub each : (f : Fault) → IsFault profile s f → length f.rest ≤ length rest
 
 -- The derivation from s stops at these of its tokens. The fault that is told is its first, and no more bytes were taken
 -- than decide that.
 pub record Stops (profile : Profile) (s : State) (stop : Stop) : Type 0 where
-  pub passed : List Lexeme
-  pub rest : List Lexeme
+  pub passed : List LocatedToken
+  pub rest : List LocatedToken
   pub is : s.rest ≡ passed ++ rest
   pub none_before : NoneBefore profile s rest
   pub fails : IfSome stop.fault (Fails profile s)

@@ -7,13 +7,13 @@ ghost use Rattle.parsing.specs.Defining.{StaysIn, StaysInBody};
 ghost use Rattle.parsing.specs.Advancing.{Advances, IsReady, Keeps};
 ghost use Rattle.parsing.specs.Matching.{Matches};
 ghost use Rattle.parsing.specs.Position.{scope_of};
-ghost use Rattle.parsing.specs.Stretch.{BeginsDefinition};
+ghost use Rattle.parsing.specs.Segment.{BeginsDefinition};
 
 use crate::lists::{declarations, more_names, names};
 use crate::parser::Parser;
 use crate::roles::Declared;
 use grammar::ParseFault;
-use tokens::{Feed, Mark, Token};
+use tokens::{Feed, Punctuator, Token};
 
 /// `head → name more ;`
 pub fn externals<F: Feed>(parser: &mut Parser<'_, F>) -> Result<(), ParseFault>
@@ -36,9 +36,9 @@ pub fn heading<F: Feed>(parser: &mut Parser<'_, F>) -> Result<u8, ParseFault>
     ensures kept { Advances result parser.old parser.new }
 {
     let number = parser.define()?;
-    parser.expect(Mark::OpenRound)?;
+    parser.expect(Punctuator::OpenRound)?;
     parameters(parser)?;
-    parser.expect(Mark::CloseRound)?;
+    parser.expect(Punctuator::CloseRound)?;
     declarations(parser, Declared::TypedParameters)?;
     Ok(number)
 }

@@ -6,10 +6,10 @@ mod headings;
 mod lists;
 mod parser;
 mod roles;
-mod tests_of_tokens;
+mod token_predicates;
 
 pub use headings::{externals, heading};
 pub use lists::{declarations, type_words};
 pub use parser::{MOST_LEVELS, Parser, first};
 pub use roles::Declared;
-pub use tests_of_tokens::{is_mark, is_word};
+pub use token_predicates::{is_punctuator, is_word};

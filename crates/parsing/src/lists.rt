@@ -11,9 +11,9 @@ ghost use Rattle.parsing.specs.Declarations.{IsInFunction, declaration_items, de
 
 use crate::parser::Parser;
 use crate::roles::Declared;
-use crate::tests_of_tokens::{is_mark, is_word};
+use crate::token_predicates::{is_punctuator, is_word};
 use grammar::ParseFault;
-use tokens::{Feed, Mark, Word};
+use tokens::{Feed, Punctuator, Word};
 
 /// `types → type types`
 pub fn type_words<F: Feed>(parser: &mut Parser<'_, F>) -> Result<(), ParseFault>
@@ -35,8 +35,8 @@ pub fn more_names<F: Feed>(parser: &mut Parser<'_, F>, declared: Declared) -> Re
     ensures stays { OnOk result (StaysAt declared (scope_of parser.old) (scope_of parser.new)) }
     ensures kept { Keeps result parser.old parser.new }
 {
-    while is_mark(&parser.next().token, Mark::Comma) {
-        parser.expect(Mark::Comma)?;
+    while is_punctuator(&parser.next().token, Punctuator::Comma) {
+        parser.expect(Punctuator::Comma)?;
         parser.declare(declared)?;
     }
     Ok(())
@@ -80,6 +80,6 @@ pub fn names<F: Feed>(parser: &mut Parser<'_, F>, declared: Declared) -> Result<
 {
     parser.declare(declared)?;
     more_names(parser, declared)?;
-    parser.expect(Mark::Semicolon)?;
+    parser.expect(Punctuator::Semicolon)?;
     Ok(())
 }

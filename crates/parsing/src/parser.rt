@@ -4,7 +4,7 @@ ghost use Rattle.std.specs.Prelude.{ℕ, ◌≡◌, ◌<◌, ◌≤◌, [], ◌�
 ghost use Rattle.std.specs.Option.{option_map};
 ghost use Rattle.tokens.specs.Reading.{shown, taken};
 ghost use Rattle.tokens.specs.Tokens.{FitsToken, is_last, tokens};
-ghost use Rattle.tokens.specs.declared.lexemes.Token.TheVariants as token;
+ghost use Rattle.tokens.specs.declared.located_tokens.Token.TheVariants as token;
 ghost use Rattle.grammar.specs.Compiled.{diagnostic, main_name};
 ghost use Rattle.grammar.specs.Derivation.{ACall, AVariable, name_of_token};
 ghost use Rattle.grammar.specs.Faults.{misfit_code};
@@ -16,13 +16,13 @@ ghost use Rattle.grammar.specs.Tree.{NoMore};
 ghost use Rattle.parsing.specs.Advancing.{IsReadable, most_failures};
 ghost use Rattle.parsing.specs.Position.{with_scope};
 ghost use Rattle.parsing.specs.Roles.{role_of};
-ghost use Rattle.parsing.specs.Stretch.{Counts, StopsOpening};
+ghost use Rattle.parsing.specs.Segment.{Counts, StopsOpening};
 
 use crate::roles::Declared;
-use crate::tests_of_tokens::{is_mark, is_word};
+use crate::token_predicates::{is_punctuator, is_word};
 use grammar::{Callee, Code, Diagnostic, MOST_NAMES, ParseFault, Pools, Scope, Var, code_of};
 use std::marker::Model;
-use tokens::{Cursor, Feed, Lexeme, Mark, Name, Token, Word};
+use tokens::{Cursor, Feed, LocatedToken, Name, Punctuator, Token, Word};
 
 /// The most levels that may be open at once.
 pub const MOST_LEVELS: u8 = 64;
@@ -80,7 +80,7 @@ impl<'a, F: Feed> Parser<'a, F> {
     ghost use Rattle.parsing.specs.Defining.{StaysAt, StaysInBody};
     ghost use Rattle.parsing.specs.Matching.{Consumes, Matches};
     ghost use Rattle.parsing.specs.Position.{Position, Standing, next_at, place, scope_of, token_after, token_of};
-    ghost use Rattle.parsing.specs.Stretch.{BeginsDefinition, IsNoName};
+    ghost use Rattle.parsing.specs.Segment.{BeginsDefinition, IsNoName};
 
     /// Makes a parser at the first token of a device, which knows no names.
     ///
@@ -99,7 +99,7 @@ impl<'a, F: Feed> Parser<'a, F> {
     }
 
     /// Returns the next token.
-    pub fn next(&self) -> &Lexeme
+    pub fn next(&self) -> &LocatedToken
         ensures value { result.now ≡ next_at self.now.place }
         ensures fits { FitsToken result.now.token }
         ensures sound { is_fault result.now.token ≡ false }
@@ -149,14 +149,14 @@ impl<'a, F: Feed> Parser<'a, F> {
         Ok(())
     }
 
-    /// Consumes this mark, which has to be the next token.
-    pub fn expect(&mut self, mark: Mark) -> Result<(), ParseFault>
+    /// Consumes this punctuator, which has to be the next token.
+    pub fn expect(&mut self, punctuator: Punctuator) -> Result<(), ParseFault>
         requires ready { IsReady self.old }
-        ensures matches { Matches result (Exactly mark ∷ []) (λ _. []) self.old self.new }
+        ensures matches { Matches result (Exactly punctuator ∷ []) (λ _. []) self.old self.new }
         ensures scope { OnOk result (scope_of self.new ≡ scope_of self.old) }
         ensures kept { Advances result self.old self.new }
     {
-        if !is_mark(&self.next().token, mark) {
+        if !is_punctuator(&self.next().token, punctuator) {
             return Err(self.misfit());
         }
         self.advance()?;
@@ -322,16 +322,16 @@ fn declare(scope: &mut Scope, name: Name, declared: Declared) -> Result<(), Code
 }
 
 // The refusal of a token that doesn't fit.
-fn misfit(lexeme: &Lexeme) -> ParseFault
-    ensures { result ≡ ParseFault.Source (diagnostic lexeme.now.line (misfit_code lexeme.now.token)) }
+fn misfit(located_token: &LocatedToken) -> ParseFault
+    ensures { result ≡ ParseFault.Source (diagnostic located_token.now.line (misfit_code located_token.now.token)) }
 {
-    let code = match lexeme.token {
-        Token::Fault(flaw) => code_of(flaw),
+    let code = match located_token.token {
+        Token::Fault(lexical_error) => code_of(lexical_error),
         Token::Word(Word::Refused) => Code::ReservedWord,
         _ => Code::SyntaxError,
     };
     ParseFault::Source(Diagnostic {
-        line: lexeme.line,
+        line: located_token.line,
         code,
     })
 }

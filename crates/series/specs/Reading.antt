@@ -11,7 +11,8 @@ TakesOf profile told later more = (bytes : List ℕ) → told ≡ Some bytes →
 
 -- of each of the first files a window of 4,096 bytes at most was taken past what decides it
 abbrev pub TakesOfFirst : Profile → (told later : List (Option (List ℕ))) → ℕ → Type 0
-TakesOfFirst profile told later count = (file : ℕ) → file < count → TakesOf profile (get_or told file None) (get_or later file None) 4096
+TakesOfFirst profile told later count = (file : ℕ) → file < count
+    → TakesOf profile (get_or told file None) (get_or later file None) 4096
 
 -- so many files were read, and the others not
 pub record ReadsFirst (profile : Profile) (told later : List (Option (List ℕ))) (count : ℕ) : Type 0 where
@@ -32,4 +33,5 @@ StopsReading profile fault.Memory told later = ⊥
 
 -- what was read by the end
 abbrev pub Reads : {T : Type 0} → Profile → Result T RunFault → (told later : List (Option (List ℕ))) → Type 0
-Reads profile result told later = MatchResult result (λ _. ReadsFirst profile told later (length told)) (λ fault. StopsReading profile fault told later)
+Reads profile result told later = MatchResult result (λ _. ReadsFirst profile told later (length told))
+    (λ fault. StopsReading profile fault told later)

@@ -2,7 +2,7 @@
 
 ghost use Rattle.std.specs.Prelude.{◌≡◌, ℕ, ◌+◌, ◌-◌, ◌^◌, ◌<◌, ◌≤◌, List, length, is_err, nat_eq, false, true, IfOk};
 ghost use Rattle.code.specs.Codes.{AreCodesOf};
-ghost use Rattle.code.specs.Generation.{Code};
+ghost use Rattle.code.specs.Generation.{ObjectCode};
 ghost use Rattle.grammar.specs.Tree.{File};
 ghost use Rattle.series.specs.Courses.{IsTallyOf, next_text, played_after, step_of};
 ghost use Rattle.series.specs.Failures.{CountsSink};
@@ -16,10 +16,11 @@ use battles::Programs;
 use settings::Settings;
 use std::marker::Model;
 
-/// What a series plays with: programs of its own, or borrowed ones. Programs are large, so whoever has little stack lends them.
+/// What a series plays with: programs of its own, or borrowed ones. Programs are large, so whoever has little stack
+/// lends them.
 pub trait HoldsPrograms {
     /// The code of each program.
-    ghost codes: { Self → List Code };
+    ghost codes: { Self → List ObjectCode };
 
     /// Returns the programs.
     fn programs(&self) -> &Programs
@@ -88,13 +89,16 @@ impl<'a, P: HoldsPrograms> Series<'a, P> {
     ///
     /// # Errors
     ///
-    /// `Write` if the sink fails, which leaves a beginning of the report: the match doesn't count as played. From then on
+    /// `Write` if the sink fails, which leaves a beginning of the report: the match doesn't count as played. From then
+    /// on
     /// each call answers `Write` and writes nothing.
     pub fn next<S: Sink>(&mut self, out: &mut S) -> Result<Step, SeriesFault>
         requires { S.failures out.old < 2 ^ 64 - 1 }
         ensures step { IfOk result (λ step. step ≡ step_of self.old.setup self.old.played) }
-        ensures after { self.new ≡ record self.old { played = played_after result self.old.played; failed = is_err result } }
-        ensures text { self.old.failed ≡ false → (files : List File) → AreCodesOf self.old.codes self.old.setup.profile files
+        ensures after { self.new ≡ record self.old
+            { played = played_after result self.old.played; failed = is_err result } }
+        ensures text { self.old.failed ≡ false → (files : List File)
+            → AreCodesOf self.old.codes self.old.setup.profile files
             → Puts result (S.portions out.old) (S.failures out.old) (S.portions out.new) (S.failures out.new)
             (next_text self.old.setup files self.old.played) }
         ensures count { self.old.failed ≡ false → CountsSink result (S.failures out.old) (S.failures out.new) }
@@ -114,8 +118,10 @@ impl<'a, P: HoldsPrograms> Series<'a, P> {
         requires over { self.old.played ≡ self.old.setup.matches }
         requires countable { S.failures out.old < 2 ^ 64 - 1 }
         ensures after { self.new ≡ record self.old { failed = is_err result } }
-        ensures text { self.old.failed ≡ false → (files : List File) → AreCodesOf self.old.codes self.old.setup.profile files
-            → Puts result (S.portions out.old) (S.failures out.old) (S.portions out.new) (S.failures out.new) (totals_text self.old.setup files) }
+        ensures text { self.old.failed ≡ false → (files : List File)
+            → AreCodesOf self.old.codes self.old.setup.profile files
+            → Puts result (S.portions out.old) (S.failures out.old) (S.portions out.new) (S.failures out.new)
+            (totals_text self.old.setup files) }
         ensures count { self.old.failed ≡ false → CountsSink result (S.failures out.old) (S.failures out.new) }
         ensures stopped { self.old.failed ≡ true → is_err result ≡ true
             × (S.portions out.new ≡ S.portions out.old) × (S.failures out.new ≡ S.failures out.old) }

@@ -10,10 +10,10 @@ use Rattle.grammar.specs.Following.{Open, Opened, is_place, open_count}
 use Rattle.grammar.specs.Grammar.{ElsePart, Part}
 use Rattle.grammar.specs.Nesting.{body_nesting}
 use Rattle.grammar.specs.Resolved.{InBody}
-use Rattle.grammar.specs.Tree.{Body, Choose, Done, Expr, When, join}
+use Rattle.grammar.specs.Tree.{Body, IfElseStatement, Done, Expr, IfStatement, join}
 use Rattle.parsing.specs.Position.{Place, Standing, taken_at}
 use Rattle.parsing.specs.Room.{open_limit, room}
-use Rattle.parsing.specs.Stretch.{Derives, FailsAt, Refused}
+use Rattle.parsing.specs.Segment.{Derives, FailsAt, Refused}
 
 -- the actions of a second branch, where there is one
 abbrev pub else_actions : Option Body → List Action
@@ -22,8 +22,8 @@ else_actions (Some t) = BetweenBranches ∷ body_actions t
 
 -- an `if` with this condition, first branch and second one
 abbrev pub decided : Expr → Body → Option Body → Body
-decided c s None = When c s Done
-decided c s (Some t) = Choose c s t Done
+decided c s None = IfStatement c s Done
+decided c s (Some t) = IfElseStatement c s t Done
 
 abbrev pub IsElseNumbered : Option Body → Type 0
 IsElseNumbered None = Unit {0}

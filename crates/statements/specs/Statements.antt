@@ -13,7 +13,7 @@ use Rattle.grammar.specs.Resolved.{InBody}
 use Rattle.grammar.specs.Tree.{Body, join}
 use Rattle.parsing.specs.Position.{Place, Standing, taken_at}
 use Rattle.parsing.specs.Room.{room}
-use Rattle.parsing.specs.Stretch.{Derives, FailsAt, Refused}
+use Rattle.parsing.specs.Segment.{Derives, FailsAt, Refused}
 
 -- Statements were read, by the items in front, with so many levels of nesting open, whatever the body is so far.
 pub record AddsBody (before after : Meaning) (depth : ℕ) (front pending : List Item) (here there : Place) : Type 0 where

@@ -1,10 +1,10 @@
 //! Blocks, branches, loops, returns and expressions for their effect.
 
 ghost use Rattle.std.specs.Prelude.{◌≡◌, OnOk, false, true};
-ghost use Rattle.tokens.specs.declared.lexemes.Mark.TheVariants as mark;
-ghost use Rattle.tokens.specs.declared.lexemes.Word.TheVariants as word;
+ghost use Rattle.tokens.specs.declared.located_tokens.Punctuator.TheVariants as punctuator;
+ghost use Rattle.tokens.specs.declared.located_tokens.Word.TheVariants as word;
 ghost use Rattle.grammar.specs.Following.{InBranch};
-ghost use Rattle.grammar.specs.Grammar.{Back, Statement, Statements, is_mark, is_word};
+ghost use Rattle.grammar.specs.Grammar.{Back, Statement, Statements, is_punctuator, is_word};
 ghost use Rattle.parsing.specs.Advancing.{Advances, IsReady, Keeps};
 ghost use Rattle.parsing.specs.Position.{token_of};
 ghost use Rattle.parsing.specs.Room.{HasPlace, HasRoom, room};
@@ -15,8 +15,8 @@ ghost use Rattle.statements.specs.Statements.{ParsesBody};
 
 use expressions::expression;
 use grammar::{Build, Code, ParseFault};
-use parsing::{Declared, MOST_LEVELS, Parser, declarations, is_mark, is_word};
-use tokens::{Feed, Mark, Token, Word};
+use parsing::{Declared, MOST_LEVELS, Parser, declarations, is_punctuator, is_word};
+use tokens::{Feed, Punctuator, Token, Word};
 
 /// `stmts → stmt stmts`, up to the closing brace
 #[cycle(statements)]
@@ -29,10 +29,10 @@ pub fn statements<F: Feed, B: Build>(
     requires ready { IsReady parser.old }
     ensures parses { ParsesBody result B.allocates (B.stands build.old) (B.stands build.new) depth Statements
         parser.old parser.new }
-    ensures closed { OnOk result (is_mark mark.CloseCurly (token_of parser.new) ≡ true) }
+    ensures closed { OnOk result (is_punctuator punctuator.CloseCurly (token_of parser.new) ≡ true) }
     ensures kept { Keeps result parser.old parser.new }
 {
-    while !is_mark(&parser.next().token, Mark::CloseCurly) {
+    while !is_punctuator(&parser.next().token, Punctuator::CloseCurly) {
         statement(parser, build, depth)?;
     }
     Ok(())
@@ -52,8 +52,8 @@ fn statement<F: Feed, B: Build>(
     ensures kept { Advances result parser.old parser.new }
 {
     match parser.next().token {
-        Token::Mark(Mark::Semicolon) => parser.expect(Mark::Semicolon)?,
-        Token::Mark(Mark::OpenCurly) => block(parser, build, depth)?,
+        Token::Punctuator(Punctuator::Semicolon) => parser.expect(Punctuator::Semicolon)?,
+        Token::Punctuator(Punctuator::OpenCurly) => block(parser, build, depth)?,
         Token::Word(Word::If) => branch(parser, build, depth)?,
         Token::Word(Word::While) => repetition(parser, build, depth)?,
         Token::Word(Word::Return) => give_back(parser, build, depth)?,
@@ -70,7 +70,7 @@ fn block<F: Feed, B: Build>(
     depth: u8,
 ) -> Result<(), ParseFault>
     requires open { HasPlace (B.stands build.old) (room depth 1) }
-    requires is { is_mark mark.OpenCurly (token_of parser.old) ≡ true }
+    requires is { is_punctuator punctuator.OpenCurly (token_of parser.old) ≡ true }
     requires ready { IsReady parser.old }
     ensures parses { ParsesBody result B.allocates (B.stands build.old) (B.stands build.new) depth Statement
         parser.old parser.new }
@@ -82,7 +82,7 @@ fn block<F: Feed, B: Build>(
     parser.advance()?;
     declarations(parser, Declared::Locals)?;
     statements(parser, build, depth + 1)?;
-    parser.expect(Mark::CloseCurly)?;
+    parser.expect(Punctuator::CloseCurly)?;
     Ok(())
 }
 
@@ -171,9 +171,9 @@ fn condition<F: Feed, B: Build>(
         parser.old parser.new }
     ensures kept { Advances result parser.old parser.new }
 {
-    parser.expect(Mark::OpenRound)?;
+    parser.expect(Punctuator::OpenRound)?;
     expression(parser, build, depth)?;
-    parser.expect(Mark::CloseRound)?;
+    parser.expect(Punctuator::CloseRound)?;
     Ok(())
 }
 
@@ -192,7 +192,7 @@ fn give_back<F: Feed, B: Build>(
 {
     parser.advance()?;
     back(parser, build, depth)?;
-    parser.expect(Mark::Semicolon)?;
+    parser.expect(Punctuator::Semicolon)?;
     build.give_back()?;
     Ok(())
 }
@@ -209,7 +209,7 @@ fn back<F: Feed, B: Build>(
         parser.old parser.new }
     ensures kept { Keeps result parser.old parser.new }
 {
-    if is_mark(&parser.next().token, Mark::Semicolon) {
+    if is_punctuator(&parser.next().token, Punctuator::Semicolon) {
         build.constant(0)?;
         return Ok(());
     }
@@ -231,7 +231,7 @@ fn evaluation<F: Feed, B: Build>(
     ensures kept { Advances result parser.old parser.new }
 {
     expression(parser, build, depth)?;
-    parser.expect(Mark::Semicolon)?;
+    parser.expect(Punctuator::Semicolon)?;
     build.chop()?;
     Ok(())
 }

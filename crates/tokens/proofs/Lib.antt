@@ -5,8 +5,8 @@ pub mod RunLemmas
 pub mod WindowLemmas
 pub mod TakenLemmas
 pub mod ToRead
-pub mod LexemesLemmas
-pub mod MarkLemmas
+pub mod LocatedTokensLemmas
+pub mod PunctuatorLemmas
 pub mod TokenLemmas
 pub mod CommentLemmas
 pub mod BeginLemmas

@@ -69,7 +69,7 @@ block_stops q xs i r room e short =
     ap (prefix_len q) (chunk-drop i 16 xs) ∙ prefix_len-append q (chunk i 16 xs) (drop (i + 16) xs)
     ∙ cond-false _ _ _ (ne_eqb (prefix_len q (chunk i 16 xs)) (length (chunk i 16 xs)) (λ same. omega (arith, same, long, e, short))) ∙ sym e
 
--- the bytes of two stretches, one behind the other
+-- the bytes of two segments, one behind the other
 pub counts_more : (test : ℕ → Bool) (xs : List ℕ) (n m : ℕ) → n ≤ length xs → count_by test (take (n + m) xs) ≡ count_by test (take n xs) + count_by test (take m (drop n xs))
 counts_more test xs n m h =
     let d = take-append-drop n xs in

@@ -69,9 +69,11 @@ behind_blanks held = behind (prefix_len is_blank held.at_hand) held
 
 -- how many of these bytes belong to a source for which there is so much room, and what follows them
 abbrev pub Cuts : List ℕ → ℕ → ℕ → Beyond → Type 0
-Cuts bytes room kept Unread = (source bytes ≡ bytes) × (kept ≡ length bytes) × (0 < length bytes) × (length bytes ≤ room)
+Cuts bytes room kept Unread = (source bytes ≡ bytes) × (kept ≡ length bytes) × (0 < length bytes)
+    × (length bytes ≤ room)
 Cuts bytes room kept TooMuch = (source bytes ≡ bytes) × (kept ≡ room) × (room < length bytes)
-Cuts bytes room kept Nothing = (kept ≡ length (source bytes)) × (length (source bytes) ≤ room) × (0 < length bytes → length (source bytes) < length bytes)
+Cuts bytes room kept Nothing = (kept ≡ length (source bytes)) × (length (source bytes) ≤ room)
+    × (0 < length bytes → length (source bytes) < length bytes)
 
 -- the same line and place
 pub record IsAtSamePlace (old new : Held) : Type 0 where

@@ -39,7 +39,13 @@ impl Model for Window {
 
     ghost Value = { Held };
 
-    ghost view = { λ w. record { line = w.line; place = w.start + w.next; at_hand = slice_range w.bytes w.next w.filled; taken = w.taken; beyond = w.beyond } };
+    ghost view = { λ w. record {
+      line = w.line;
+      place = w.start + w.next;
+      at_hand = slice_range w.bytes w.next w.filled;
+      taken = w.taken;
+      beyond = w.beyond;
+    } };
 
     ghost invariant = { λ w. IsWindow w.next w.filled w.start w.taken w.line w.beyond };
 }

@@ -4,7 +4,7 @@ ghost use Rattle.std.specs.Prelude.{◌≡◌, ◌||◌, codes, Some, None, if�
 ghost use Rattle.std.specs.Str.{bytes_eq};
 ghost use Rattle.tokens.specs.Words.{word_of};
 
-use crate::lexemes::Word;
+use crate::located_tokens::Word;
 
 impl Word {
     /// The word that a name is, if it is one. Its first byte leaves few to compare it with.

@@ -1,4 +1,5 @@
-//! Plays one match, and writes a picture of it as SVG on standard output: the robots' paths, their shots, and how it ended.
+//! Plays one match, and writes a picture of it as SVG on standard output: the robots' paths, their shots, and how it
+//! ended.
 #![tactic(auto)]
 
 mod feeds;
@@ -55,7 +56,8 @@ fn main(rt: HostRuntime) -> ExitCode {
     ExitCode::from(status)
 }
 
-/// Reads the words, plays the match, and writes its picture at once when it is whole. The lines about sources are written.
+/// Reads the words, plays the match, and writes its picture at once when it is whole. The lines about sources are
+/// written.
 fn run(rt: &HostRuntime) -> Result<(), Fault> {
     let words = arguments(rt).map_err(|fault| match fault.kind() {
         ErrorKind::OutOfMemory => Fault::Memory,

@@ -67,7 +67,8 @@ impl<'a> Pilot<'a> {
 pub fn pilots(alloc: Global, programs: &[Program]) -> Result<Vec<Pilot<'_>>, AllocError>
     requires some { 0 < length programs.now }
     requires most { length programs.now ≤ 4 }
-    ensures { IfOk result (λ pilots. length pilots.items ≡ (if length programs.now == 1 then 2 else length programs.now)) }
+    ensures { IfOk result (λ pilots. length pilots.items
+        ≡ (if length programs.now == 1 then 2 else length programs.now)) }
 {
     let mut pilots = Vec::new(alloc);
     for program in programs {

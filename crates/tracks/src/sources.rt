@@ -22,7 +22,8 @@ pub enum SourceFault {
     Memory,
 }
 
-/// Compiles the files of a wish, and writes the diagnostic of each faulty one, or a line about the first that can't be opened or read.
+/// Compiles the files of a wish, and writes the diagnostic of each faulty one, or a line about the first that can't be
+/// opened or read.
 pub fn programs(rt: &HostRuntime, wish: &Wish<'_>) -> Result<Vec<Program>, SourceFault>
     ensures each { IfOk result (λ programs. length programs.items ≡ length wish.now.files) }
     ensures some { IfOk result (λ programs. 0 < length programs.items) }

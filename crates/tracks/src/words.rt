@@ -75,7 +75,8 @@ impl<'a> Wish<'a> {
     }
 }
 
-/// Reads the words after the program's name: options, each with its value attached or as the next word, and one to four files, in any order.
+/// Reads the words after the program's name: options, each with its value attached or as the next word, and one to
+/// four files, in any order.
 /// Returns `None` if the words are wrong.
 pub fn read_words<'a>(words: &[&'a str]) -> Option<Wish<'a>> {
     let mut given = Given::default();

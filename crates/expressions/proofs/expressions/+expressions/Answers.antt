@@ -1,10 +1,10 @@
--- What each exit _ leaves _ to show: the fault goes back to the start, or the stretches join.
+-- What each exit _ leaves _ to show: the fault goes back to the start, or the segments join.
 use Rattle.std.proofs.Common.{rules, ◌≡◌, ◌+◌, ◌<◌, ◌≤◌, ◌∙◌, ap, refl, true, false, arith}
 use Rattle.std.specs.Prelude.{None, Some}
 use Rattle.std.proofs.lemmas.Result.{err_from_is_err_and}
-use Rattle.tokens.specs.declared.lexemes.Lexeme.{Lexeme}
-use Rattle.tokens.specs.declared.lexemes.Mark.TheVariants as mark
-use Rattle.grammar.specs.Grammar.{is_fault, is_mark}
+use Rattle.tokens.specs.declared.located_tokens.LocatedToken.{LocatedToken}
+use Rattle.tokens.specs.declared.located_tokens.Punctuator.TheVariants as punctuator
+use Rattle.grammar.specs.Grammar.{is_fault, is_punctuator}
 use Rattle.grammar.specs.Operators.{operator_from, operator_of}
 use Rattle.parsing.specs.Room.{HasLeft, HasRoom, room}
 use Rattle.parsing.proofs.Advances.{kept_then, on, on_then}
@@ -176,22 +176,22 @@ call-returns-clause-parses g t c =
     let is : IsCall c.args.parser.now.place c.args.depth = record { named = is_named _ c.requires.is.named; fits = c.requires.is.is; shallow = shallow } in
     call_adds _ _ _ _ c.args.parser.now.place _ _ _ _ c.args.depth c.in_ok-callee.callee is c.in_ok-callee.ensures.matches c.in_ok-expect.ensures.matches c.in_ok-arguments.ensures.parses c.in_ok-expect-2.ensures.matches c.in_ok-callee.ensures.within c.in_ok-expect-2.ensures.kept.ready.sound c.in_ok-begin_call.ensures.ok c.in_ok-end_call.ensures.ok
 
-pub arguments-returns-then-is_mark-clause-parses : goal.arguments-returns-then-is_mark-clause-parses
-arguments-returns-then-is_mark-clause-parses g t c =
-    let fits : is_mark mark.CloseRound c.args.parser.now.place.position.reading.next.token ≡ true = cc in
+pub arguments-returns-then-is_punctuator-clause-parses : goal.arguments-returns-then-is_punctuator-clause-parses
+arguments-returns-then-is_punctuator-clause-parses g t c =
+    let fits : is_punctuator punctuator.CloseRound c.args.parser.now.place.position.reading.next.token ≡ true = cc in
     no_arguments _ c.args.parser.now.place c.args.depth fits
 
 pub arguments-returns-in_err-expression-clause-parses : goal.arguments-returns-in_err-expression-clause-parses
 arguments-returns-in_err-expression-clause-parses g t c =
     let sound : is_fault c.args.parser.now.place.position.reading.next.token ≡ false = cc in
-    let other : is_mark mark.CloseRound c.args.parser.now.place.position.reading.next.token ≡ false = cc in
+    let other : is_punctuator punctuator.CloseRound c.args.parser.now.place.position.reading.next.token ≡ false = cc in
     let p = err_from_is_err_and c.from_residual.result c.from_residual.ensures.1 in
     rw (p.1, p.2) (first_refused _ c.args.parser.now.place c.args.depth _ c.in_err-expression.field-0.0 sound other c.in_err-expression.ensures.parses)
 
 pub arguments-loop-parser-init : goal.arguments-loop-parser-init
 arguments-loop-parser-init g t c =
     let sound : is_fault c.args.parser.now.place.position.reading.next.token ≡ false = cc in
-    let other : is_mark mark.CloseRound c.args.parser.now.place.position.reading.next.token ≡ false = cc in
+    let other : is_punctuator punctuator.CloseRound c.args.parser.now.place.position.reading.next.token ≡ false = cc in
     record {
       parsed = first_adds _ _ c.args.parser.now.place _ c.args.depth sound other c.in_ok-expression.ensures.parses c.in_ok-expression.ensures.kept.ready.sound;
       kept = on _ _ c.in_ok-expression.ensures.kept;
@@ -199,13 +199,13 @@ arguments-loop-parser-init g t c =
 
 pub arguments-returns-in_err-expect-clause-parses : goal.arguments-returns-in_err-expect-clause-parses
 arguments-returns-in_err-expect-clause-parses g t c =
-    let fits : is_mark mark.Comma c.loop-parser.parser.place.position.reading.next.token ≡ true = cc in
+    let fits : is_punctuator punctuator.Comma c.loop-parser.parser.place.position.reading.next.token ≡ true = cc in
     let p = err_from_is_err_and c.from_residual-in_err-expect.result c.from_residual-in_err-expect.ensures.1 in
     rw (p.1, p.2) (comma_refused _ _ _ c.args.parser.now.place _ c.args.depth _ c.in_err-expect.field-0.0 c.loop-parser.invariant.parsed fits c.in_err-expect.ensures.matches)
 
 pub arguments-loop-parser-preserved : goal.arguments-loop-parser-preserved
 arguments-loop-parser-preserved g t c =
-    let fits : is_mark mark.Comma c.loop-parser.parser.place.position.reading.next.token ≡ true = cc in
+    let fits : is_punctuator punctuator.Comma c.loop-parser.parser.place.position.reading.next.token ≡ true = cc in
     record {
       parsed = argument_adds _ _ _ c.args.parser.now.place _ _ _ c.args.depth c.loop-parser.invariant.parsed fits c.in_ok-expect.ensures.matches c.in_ok-expression-2.ensures.parses c.in_ok-expression-2.ensures.kept.ready.sound;
       kept = kept_then _ _ _ (kept_then _ _ _ c.loop-parser.invariant.kept (on _ _ c.in_ok-expect.ensures.kept)) (on _ _ c.in_ok-expression-2.ensures.kept);
@@ -213,14 +213,14 @@ arguments-loop-parser-preserved g t c =
 
 pub arguments-returns-in_err-expression-2-clause-parses : goal.arguments-returns-in_err-expression-2-clause-parses
 arguments-returns-in_err-expression-2-clause-parses g t c =
-    let fits : is_mark mark.Comma c.loop-parser.parser.place.position.reading.next.token ≡ true = cc in
+    let fits : is_punctuator punctuator.Comma c.loop-parser.parser.place.position.reading.next.token ≡ true = cc in
     let p = err_from_is_err_and c.from_residual-in_err-expression-2.result c.from_residual-in_err-expression-2.ensures.1 in
     rw (p.1, p.2) (argument_refused _ _ _ c.args.parser.now.place _ _ c.args.depth _ c.in_err-expression-2.field-0.0 c.loop-parser.invariant.parsed fits c.in_ok-expect.ensures.matches c.in_err-expression-2.ensures.parses)
 
 pub arguments-returns-clause-parses : goal.arguments-returns-clause-parses
 arguments-returns-clause-parses g t c =
     let sound : is_fault c.loop-parser.parser.place.position.reading.next.token ≡ false = cc in
-    let other : is_mark mark.Comma c.loop-parser.parser.place.position.reading.next.token ≡ false = cc in
+    let other : is_punctuator punctuator.Comma c.loop-parser.parser.place.position.reading.next.token ≡ false = cc in
     arguments_end _ _ c.args.parser.now.place _ c.args.depth c.loop-parser.invariant.parsed sound other
 
 pub assignment-returns-then-depth-ge-MOST_LEVELS-clause-parses : goal.assignment-returns-then-depth-ge-MOST_LEVELS-clause-parses
@@ -309,10 +309,10 @@ signed-unary-requires g t c κs within =
 
 pub primary-returns-in_default-2 : goal.primary-returns-in_default-2
 primary-returns-in_default-2 g t c =
-    let misses : is_mark mark.OpenRound c.args.parser.now.place.position.reading.next.token ≡ false = cc in
+    let misses : is_punctuator punctuator.OpenRound c.args.parser.now.place.position.reading.next.token ≡ false = cc in
     let none : NoPrimary c.args.parser.now.place.position.reading.next.token = record {
-      constant = λ value same. c.in_default.not-Constant value (ap (λ (l : Lexeme). l.token) c.next.ensures.value ∙ same);
-      name = λ name same. c.in_default.not-Name name (ap (λ (l : Lexeme). l.token) c.next.ensures.value ∙ same);
+      constant = λ value same. c.in_default.not-Constant value (ap (λ (l : LocatedToken). l.token) c.next.ensures.value ∙ same);
+      name = λ name same. c.in_default.not-Name name (ap (λ (l : LocatedToken). l.token) c.next.ensures.value ∙ same);
       bracket = misses;
     } in
     record {

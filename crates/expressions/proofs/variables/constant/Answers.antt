@@ -1,7 +1,7 @@
 use Rattle.std.proofs.Common.{[], ◌∷◌, ◌++◌, subst, ℤ, arith, to_z, w32}
 use Rattle.std.proofs.lemmas.Int.{to_z_pos}
 use Rattle.std.proofs.lemmas.Result.{err_from_is_err_and}
-use Rattle.grammar.specs.Actions.{Push}
+use Rattle.grammar.specs.Actions.{PushConstant}
 use Rattle.expressions.proofs.VariableLaws.{constant_adds, constant_ends, constant_follows}
 use Rattle.expressions.proofs.variables.constant.Goals as goal
 
@@ -15,4 +15,4 @@ returns-in_err-advance-clause-parses g c =
 
 pub returns-clause-parses : goal.returns-clause-parses
 returns-clause-parses g c = constant_adds _ _ c.args.parser.now.place _ c.args.value c.requires.is c.in_ok-advance.ensures.consumes
-    (λ profile acts start. subst (λ (v : ℤ). g.B.Build.stands c.constant.new.self profile (acts ++ Push v ∷ [])) (to_z_pos w32 c.args.value (omega arith)) (c.in_ok-constant.ensures.ok profile acts start))
+    (λ profile acts start. subst (λ (v : ℤ). g.B.Build.stands c.constant.new.self profile (acts ++ PushConstant v ∷ [])) (to_z_pos w32 c.args.value (omega arith)) (c.in_ok-constant.ensures.ok profile acts start))

@@ -1,17 +1,17 @@
 use Rattle.std.proofs.Common.{pos, [], ◌∷◌, arith}
 use Rattle.std.proofs.lemmas.Result.{err_from_is_err_and}
-use Rattle.grammar.specs.Actions.{Push, Put}
+use Rattle.grammar.specs.Actions.{PushConstant, StoreVariable}
 use Rattle.grammar.specs.Tree.{Assign, Constant}
 use Rattle.parsing.proofs.Advances.{on, on_then}
 use Rattle.expressions.specs.Signs.{step_store}
 use Rattle.expressions.proofs.TellingLaws.{next_follows}
-use Rattle.expressions.proofs.VariableLaws.{before_adds, before_mark_ends, before_name_ends, constant_follows, tree_follows}
+use Rattle.expressions.proofs.VariableLaws.{before_adds, before_punctuator_ends, before_name_ends, constant_follows, tree_follows}
 use Rattle.expressions.proofs.variables.step_before.Goals as goal
 
 pub returns-in_err-advance-clause-parses : goal.returns-in_err-advance-clause-parses
 returns-in_err-advance-clause-parses g c =
     let p = err_from_is_err_and c.from_residual.result c.from_residual.ensures.1 in
-    rw (p.1, p.2) (before_mark_ends _ c.args.parser.now.place c.args.step _ c.in_err-advance.field-0.0 c.requires.is c.in_err-advance.ensures.consumes)
+    rw (p.1, p.2) (before_punctuator_ends _ c.args.parser.now.place c.args.step _ c.in_err-advance.field-0.0 c.requires.is c.in_err-advance.ensures.consumes)
 
 pub returns-in_err-var-clause-parses : goal.returns-in_err-var-clause-parses
 returns-in_err-var-clause-parses g c =
@@ -24,7 +24,7 @@ constant-requires g c = record { follows = constant_follows _ 0 (pos 1) c.requir
 pub store-requires-2 : goal.store-requires-2
 store-requires-2 g c = record {
   follows = rw c.store.ensures
-      (next_follows _ _ (Push (pos 1) ∷ []) (Put c.in_ok-var.var (step_store c.args.step)) []
+      (next_follows _ _ (PushConstant (pos 1) ∷ []) (StoreVariable c.in_ok-var.var (step_store c.args.step)) []
       (tree_follows _ 0 (Assign (step_store c.args.step) c.in_ok-var.var (Constant (pos 1))) c.requires.open (c.in_ok-var.ensures.within, tt) (omega arith)) c.in_ok-constant.ensures.ok);
 }
 

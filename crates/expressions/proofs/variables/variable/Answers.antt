@@ -1,6 +1,6 @@
 use Rattle.std.proofs.Common.{[], arith}
 use Rattle.std.proofs.lemmas.Result.{err_from_is_err_and}
-use Rattle.grammar.specs.Actions.{Get}
+use Rattle.grammar.specs.Actions.{FetchVariable}
 use Rattle.grammar.specs.Tree.{Variable}
 use Rattle.expressions.proofs.TellingLaws.{first_follows}
 use Rattle.expressions.proofs.VariableLaws.{NoStep, fetch_adds, fetch_ends, is_named, tree_follows}
@@ -13,7 +13,7 @@ returns-in_err-var-clause-parses g c =
     rw (p.1, p.2) (fetch_ends _ c.args.parser.now.place _ c.in_err-var.field-0.0 (is_named _ c.requires.is.named) c.requires.is.plain none c.in_err-var.ensures.matches)
 
 pub fetch-requires : goal.fetch-requires
-fetch-requires g c = record { follows = first_follows _ (Get c.in_ok-var.var) [] (tree_follows _ 0 (Variable c.in_ok-var.var) c.requires.open c.in_ok-var.ensures.within (omega arith)) }
+fetch-requires g c = record { follows = first_follows _ (FetchVariable c.in_ok-var.var) [] (tree_follows _ 0 (Variable c.in_ok-var.var) c.requires.open c.in_ok-var.ensures.within (omega arith)) }
 
 pub returns-clause-parses : goal.returns-clause-parses
 returns-clause-parses g c =

@@ -1,32 +1,32 @@
 use Rattle.std.proofs.Common.{◌≡◌, ℕ, ◌+◌, [], ◌∷◌, true, false, ap}
 use Rattle.std.proofs.lemmas.Result.{err_from_is_err_and}
-use Rattle.tokens.specs.declared.lexemes.Mark.TheVariants as mark
+use Rattle.tokens.specs.declared.located_tokens.Punctuator.TheVariants as punctuator
 use Rattle.grammar.specs.Derivation.{ABody}
-use Rattle.grammar.specs.Grammar.{Declarations, FunctionBlock, Part, Statements, is_fault, is_mark}
+use Rattle.grammar.specs.Grammar.{Declarations, FunctionBlock, Part, Statements, is_fault, is_punctuator}
 use Rattle.grammar.specs.Tree.{Done}
-use Rattle.parsing.specs.Stretch.{FailsAt}
+use Rattle.parsing.specs.Segment.{FailsAt}
 use Rattle.statements.specs.Statements.{FailsBody}
 use Rattle.parsing.proofs.Advances.{kept_then, on, on_then}
-use Rattle.parsing.proofs.Stretches.{exit, refused_map}
+use Rattle.parsing.proofs.Segments.{exit, refused_map}
 use Rattle.lang.specs.Progress.{at_brace}
 use Rattle.lang.proofs.Inside.{block_adds, block_declared, block_opened, brace_misfits, brace_stops}
 use Rattle.lang.proofs.functions.block.Goals as goal
 
-pub returns-then-not-is_mark-clause-parses : goal.returns-then-not-is_mark-clause-parses
-returns-then-not-is_mark-clause-parses g c =
+pub returns-then-not-is_punctuator-clause-parses : goal.returns-then-not-is_punctuator-clause-parses
+returns-then-not-is_punctuator-clause-parses g c =
     let sound : is_fault c.args.parser.now.place.position.reading.next.token ≡ false = cc in
-    let misses : is_mark mark.OpenCurly c.args.parser.now.place.position.reading.next.token ≡ false = cc in
+    let misses : is_punctuator punctuator.OpenCurly c.args.parser.now.place.position.reading.next.token ≡ false = cc in
     rw c.misfit.ensures (brace_misfits _ _ c.requires.ready.near sound misses)
 
 pub returns-in_err-advance-clause-parses : goal.returns-in_err-advance-clause-parses
 returns-in_err-advance-clause-parses g c =
-    let is : is_mark mark.OpenCurly c.args.parser.now.place.position.reading.next.token ≡ true = cc in
+    let is : is_punctuator punctuator.OpenCurly c.args.parser.now.place.position.reading.next.token ≡ true = cc in
     let p = err_from_is_err_and c.from_residual.result c.from_residual.ensures.1 in
     rw (p.1, p.2) (refused_map _ _ _ false _ c.in_err-advance.field-0.0 (brace_stops c.args.parser.now.place.position.reading c.args.parser.now.place.position.scope _ is) (λ never. absurd (cc)) c.in_err-advance.ensures.consumes)
 
 pub returns-in_err-declarations-clause-parses : goal.returns-in_err-declarations-clause-parses
 returns-in_err-declarations-clause-parses g c =
-    let is : is_mark mark.OpenCurly c.args.parser.now.place.position.reading.next.token ≡ true = cc in
+    let is : is_punctuator punctuator.OpenCurly c.args.parser.now.place.position.reading.next.token ≡ true = cc in
     let p = err_from_is_err_and c.from_residual-in_err-declarations.result c.from_residual-in_err-declarations.ensures.1 in
     let opened = block_opened c.args.parser.now.place.position.reading c.args.parser.now.place.position.scope _ _ is c.in_ok-advance.ensures.kept.ready.sound c.in_ok-advance.ensures.consumes in
     rw (p.1, p.2) (exit _ 0 1 (Part FunctionBlock ∷ []) (Part Declarations ∷ []) (Part Statements ∷ at_brace) [] [] (ABody Done ∷ []) _ _ false _ c.in_err-declarations.field-0.0 opened (λ stack same. ap (λ n. n + 1) same) (λ never. absurd (cc))
@@ -34,7 +34,7 @@ returns-in_err-declarations-clause-parses g c =
 
 pub returns-in_err-statements-clause-parses : goal.returns-in_err-statements-clause-parses
 returns-in_err-statements-clause-parses g c =
-    let is : is_mark mark.OpenCurly c.args.parser.now.place.position.reading.next.token ≡ true = cc in
+    let is : is_punctuator punctuator.OpenCurly c.args.parser.now.place.position.reading.next.token ≡ true = cc in
     let p = err_from_is_err_and c.from_residual-in_err-statements.result c.from_residual-in_err-statements.ensures.1 in
     let opened = block_opened c.args.parser.now.place.position.reading c.args.parser.now.place.position.scope _ _ is c.in_ok-advance.ensures.kept.ready.sound c.in_ok-advance.ensures.consumes in
     rw (p.1, p.2) (exit _ 0 1 (Part FunctionBlock ∷ []) (Part Statements ∷ []) at_brace [] (ABody Done ∷ []) [] _ _ _ _ c.in_err-statements.field-0.0 (block_declared _ _ _ opened (c.in_ok-declarations.ensures.matches 1)) (λ stack same. ap (λ n. n + 1) same) (λ same. same)
@@ -42,7 +42,7 @@ returns-in_err-statements-clause-parses g c =
 
 pub returns-clause-parses : goal.returns-clause-parses
 returns-clause-parses g c =
-    let is : is_mark mark.OpenCurly c.args.parser.now.place.position.reading.next.token ≡ true = cc in
+    let is : is_punctuator punctuator.OpenCurly c.args.parser.now.place.position.reading.next.token ≡ true = cc in
     let opened = block_opened c.args.parser.now.place.position.reading c.args.parser.now.place.position.scope _ _ is c.in_ok-advance.ensures.kept.ready.sound c.in_ok-advance.ensures.consumes in
     block_adds _ _ _ _ _ _ c.in_ok-advance.ensures.consumes.scope opened (c.in_ok-declarations.ensures.matches 1) c.in_ok-statements.ensures.parses
 

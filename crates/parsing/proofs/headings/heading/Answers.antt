@@ -1,6 +1,6 @@
 use Rattle.std.proofs.Common.{[], ◌∷◌, refl}
 use Rattle.std.proofs.lemmas.Result.{err_from_is_err_and}
-use Rattle.tokens.specs.declared.lexemes.Mark.TheVariants as mark
+use Rattle.tokens.specs.declared.located_tokens.Punctuator.TheVariants as punctuator
 use Rattle.grammar.specs.Grammar.{Exactly, ParameterTypes, Parameters, Part}
 use Rattle.parsing.specs.Declarations.{heading_items}
 use Rattle.parsing.proofs.HeadingLaws.{heading_closed, heading_listed, heading_named, heading_open}
@@ -11,19 +11,19 @@ use Rattle.parsing.proofs.headings.heading.Goals as goal
 pub returns-in_err-expect-clause-matches : goal.returns-in_err-expect-clause-matches
 returns-in_err-expect-clause-matches g c =
     let p = err_from_is_err_and c.from_residual-in_err-expect.result c.from_residual-in_err-expect.ensures.1 in
-    rw (p.1, p.2) (leaves _ heading_items (Exactly mark.OpenRound ∷ []) (Part Parameters ∷ Exactly mark.CloseRound ∷ Part ParameterTypes ∷ []) _ _ c.in_err-expect.field-0.0 (λ stack. refl)
+    rw (p.1, p.2) (leaves _ heading_items (Exactly punctuator.OpenRound ∷ []) (Part Parameters ∷ Exactly punctuator.CloseRound ∷ Part ParameterTypes ∷ []) _ _ c.in_err-expect.field-0.0 (λ stack. refl)
     (heading_named _ _ c.in_ok-number.ensures.matches) c.in_err-expect.ensures.matches)
 
 pub returns-in_err-parameters-clause-matches : goal.returns-in_err-parameters-clause-matches
 returns-in_err-parameters-clause-matches g c =
     let p = err_from_is_err_and c.from_residual-in_err-parameters.result c.from_residual-in_err-parameters.ensures.1 in
-    rw (p.1, p.2) (leaves _ heading_items (Part Parameters ∷ []) (Exactly mark.CloseRound ∷ Part ParameterTypes ∷ []) _ _ c.in_err-parameters.field-0.0 (λ stack. refl)
+    rw (p.1, p.2) (leaves _ heading_items (Part Parameters ∷ []) (Exactly punctuator.CloseRound ∷ Part ParameterTypes ∷ []) _ _ c.in_err-parameters.field-0.0 (λ stack. refl)
     (heading_open _ _ _ c.in_ok-number.ensures.matches c.in_ok-expect.ensures.matches) c.in_err-parameters.ensures.matches)
 
 pub returns-in_err-expect-2-clause-matches : goal.returns-in_err-expect-2-clause-matches
 returns-in_err-expect-2-clause-matches g c =
     let p = err_from_is_err_and c.from_residual-in_err-expect-2.result c.from_residual-in_err-expect-2.ensures.1 in
-    rw (p.1, p.2) (leaves _ heading_items (Exactly mark.CloseRound ∷ []) (Part ParameterTypes ∷ []) _ _ c.in_err-expect-2.field-0.0 (λ stack. refl)
+    rw (p.1, p.2) (leaves _ heading_items (Exactly punctuator.CloseRound ∷ []) (Part ParameterTypes ∷ []) _ _ c.in_err-expect-2.field-0.0 (λ stack. refl)
     (heading_listed _ _ _ _ c.in_ok-number.ensures.matches c.in_ok-expect.ensures.matches c.in_ok-parameters.ensures.matches) c.in_err-expect-2.ensures.matches)
 
 pub returns-in_err-declarations-clause-matches : goal.returns-in_err-declarations-clause-matches

@@ -1,7 +1,7 @@
 use Rattle.std.proofs.Common.{◌≡◌, [], ◌∷◌, ◌∙◌, ap, refl, false}
 use Rattle.std.proofs.lemmas.Result.{err_from_is_err_and}
-use Rattle.tokens.specs.declared.lexemes.Lexeme.{Lexeme}
-use Rattle.tokens.specs.declared.lexemes.Token.TheVariants as token
+use Rattle.tokens.specs.declared.located_tokens.LocatedToken.{LocatedToken}
+use Rattle.tokens.specs.declared.located_tokens.Token.TheVariants as token
 use Rattle.grammar.specs.Grammar.{AName, More, Parameter, Parameters, Part, is_fault}
 use Rattle.parsing.specs.Position.{scope_of}
 use Rattle.parsing.proofs.Advances.{kept_then, on, stays_ready}
@@ -37,7 +37,7 @@ pub returns-in_default : goal.returns-in_default
 returns-in_default g c =
     let sound : is_fault c.args.parser.now.place.position.reading.next.token ≡ false = cc in
     record {
-      matches = no_parameters _ sound (λ bytes is. c.in_default.not-Name bytes (ap (λ (l : Lexeme). l.token) c.next.ensures.value ∙ is));
+      matches = no_parameters _ sound (λ bytes is. c.in_default.not-Name bytes (ap (λ (l : LocatedToken). l.token) c.next.ensures.value ∙ is));
       stays = (stays_body (scope_of c.args.parser.now)).function;
       kept = stays_ready c.args.parser.now c.requires.ready;
     }

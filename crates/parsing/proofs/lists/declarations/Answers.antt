@@ -1,6 +1,6 @@
 use Rattle.std.proofs.Common.{◌≡◌, [], ◌∷◌, ◌++◌, refl, true, false}
 use Rattle.std.proofs.lemmas.Result.{err_from_is_err_and}
-use Rattle.tokens.specs.declared.lexemes.Word.TheVariants as word
+use Rattle.tokens.specs.declared.located_tokens.Word.TheVariants as word
 use Rattle.grammar.specs.Grammar.{Part, is_fault, is_word}
 use Rattle.parsing.proofs.Names.{stays_at_then}
 use Rattle.parsing.specs.Declarations.{declaration_items, declarations_of}

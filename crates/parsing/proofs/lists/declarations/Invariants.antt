@@ -3,7 +3,7 @@ use Rattle.grammar.specs.Grammar.{Part}
 use Rattle.parsing.specs.Defining.{StaysAt}
 use Rattle.parsing.specs.Advancing.{StayedOrWentOn}
 use Rattle.parsing.specs.Position.{scope_of, to_go}
-use Rattle.parsing.specs.Stretch.{Derives}
+use Rattle.parsing.specs.Segment.{Derives}
 use Rattle.parsing.specs.Declarations.{declarations_of}
 use Rattle.parsing.proofs.lists.declarations.Given as goal
 

@@ -4,7 +4,7 @@ use Rattle.parsing.specs.Defining.{StaysAt}
 use Rattle.parsing.specs.Advancing.{StayedOrWentOn}
 use Rattle.parsing.specs.Position.{scope_of, to_go}
 use Rattle.parsing.specs.Roles.{role_of}
-use Rattle.parsing.specs.Stretch.{Derives}
+use Rattle.parsing.specs.Segment.{Derives}
 use Rattle.parsing.proofs.lists.more_names.Given as goal
 
 abbrev pub invariant-loop-declared : goal.invariant-loop-declared

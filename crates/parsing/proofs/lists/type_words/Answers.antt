@@ -1,6 +1,6 @@
 use Rattle.std.proofs.Common.{◌≡◌, [], ◌∷◌, ◌∙◌, refl, true, false}
 use Rattle.std.proofs.lemmas.Result.{err_from_is_err_and}
-use Rattle.tokens.specs.declared.lexemes.Word.TheVariants as word
+use Rattle.tokens.specs.declared.located_tokens.Word.TheVariants as word
 use Rattle.grammar.specs.Grammar.{AWord, Part, Types, is_fault, is_word}
 use Rattle.parsing.proofs.Advances.{kept_then, on}
 use Rattle.parsing.proofs.ListLaws.{goes_on, leaves, opens_on, types_end, types_more}

@@ -2,7 +2,7 @@ use Rattle.std.proofs.Common.{◌≡◌, [], ◌∷◌, ℕ}
 use Rattle.grammar.specs.Grammar.{Types, Part}
 use Rattle.parsing.specs.Advancing.{StayedOrWentOn}
 use Rattle.parsing.specs.Position.{scope_of, to_go}
-use Rattle.parsing.specs.Stretch.{Derives}
+use Rattle.parsing.specs.Segment.{Derives}
 use Rattle.parsing.proofs.lists.type_words.Given as goal
 
 abbrev pub invariant-loop-parser : goal.invariant-loop-parser

@@ -1,14 +1,14 @@
--- What each exit _ leaves _ to show: the fault goes back to the start, or the stretches join; and what a builder may be told.
+-- What each exit _ leaves _ to show: the fault goes back to the start, or the segments join; and what a builder may be told.
 use Rattle.std.proofs.Common.{◌≡◌, ◌+◌, ◌<◌, [], ◌∷◌, refl, true, false, arith, rules}
 use Rattle.std.proofs.lemmas.Result.{err_from_is_err_and}
-use Rattle.tokens.specs.declared.lexemes.Mark.TheVariants as mark
-use Rattle.tokens.specs.declared.lexemes.Token.TheVariants as token
-use Rattle.tokens.specs.declared.lexemes.Word.TheVariants as word
-use Rattle.grammar.specs.Grammar.{ElsePart, Make, Part, Repeat, Shut, is_fault, is_mark, is_word}
+use Rattle.tokens.specs.declared.located_tokens.Punctuator.TheVariants as punctuator
+use Rattle.tokens.specs.declared.located_tokens.Token.TheVariants as token
+use Rattle.tokens.specs.declared.located_tokens.Word.TheVariants as word
+use Rattle.grammar.specs.Grammar.{ElsePart, Make, Part, Repeat, Close, is_fault, is_punctuator, is_word}
 use Rattle.parsing.specs.Room.{HasPlace, room}
 use Rattle.parsing.proofs.Advances.{kept_then, on, on_then, stays_ready}
-use Rattle.parsing.proofs.Stretches.{refused_map}
-use Rattle.statements.proofs.NestedLaws.{block_adds, block_too_deep, brace_fails, brace_stops, branch_adds, declarations_fail, else_adds, else_fails, else_stops, first_fails, if_past, if_shuts, if_stops, if_too_deep, no_else_adds, repetition_adds, second_fails, statements_begin, statements_end, statements_fail, statements_more, test_fails, while_past, while_shuts, while_stops, while_too_deep, within_fails}
+use Rattle.parsing.proofs.Segments.{refused_map}
+use Rattle.statements.proofs.NestedLaws.{block_adds, block_too_deep, brace_fails, brace_stops, branch_adds, declarations_fail, else_adds, else_fails, else_stops, first_fails, if_past, if_closes, if_stops, if_too_deep, no_else_adds, repetition_adds, second_fails, statements_begin, statements_end, statements_fail, statements_more, test_fails, while_past, while_closes, while_stops, while_too_deep, within_fails}
 use Rattle.statements.proofs.SimpleLaws.{empty_adds, empty_fails}
 use Rattle.statements.proofs.Tellings.{branch_kept, branch_open, branch_place, else_place, loop_open, loop_room, may_begin_loop, may_end_branch, may_end_loop, may_tell_else, may_test_if, may_test_loop, place_deeper, place_kept, room_in_brackets, turn_open, turn_place}
 use Rattle.statements.proofs.bodies.+statements.Goals as goal
@@ -63,14 +63,14 @@ branch-returns-in_err-condition-clause-parses g t c =
     let shallow : c.args.depth < 64 = omega arith in
     let begun = if_past _ _ c.args.depth c.requires.ready.sound c.requires.is shallow c.in_ok-advance.ensures.consumes in
     let p = err_from_is_err_and c.from_residual-in_err-condition.result c.from_residual-in_err-condition.ensures.1 in
-    rw (p.1, p.2) (refused_map _ _ _ _ _ c.in_err-condition.field-0.0 (test_fails _ _ c.args.depth (Part ElsePart ∷ Shut ∷ []) if_shuts begun) (λ same. same) c.in_err-condition.ensures.parses)
+    rw (p.1, p.2) (refused_map _ _ _ _ _ c.in_err-condition.field-0.0 (test_fails _ _ c.args.depth (Part ElsePart ∷ Close ∷ []) if_closes begun) (λ same. same) c.in_err-condition.ensures.parses)
 
 pub branch-returns-in_err-statement-clause-parses : goal.branch-returns-in_err-statement-clause-parses
 branch-returns-in_err-statement-clause-parses g t c =
     let shallow : c.args.depth < 64 = omega arith in
     let begun = if_past _ _ c.args.depth c.requires.ready.sound c.requires.is shallow c.in_ok-advance.ensures.consumes in
     let p = err_from_is_err_and c.from_residual-in_err-statement.result c.from_residual-in_err-statement.ensures.1 in
-    rw (p.1, p.2) (refused_map _ _ _ _ _ c.in_err-statement.field-0.0 (first_fails _ _ _ _ _ c.args.depth (Part ElsePart ∷ Shut ∷ []) if_shuts begun c.in_ok-condition.ensures.parses c.in_ok-condition.ensures.kept.ready.sound) (λ same. same) c.in_err-statement.ensures.parses)
+    rw (p.1, p.2) (refused_map _ _ _ _ _ c.in_err-statement.field-0.0 (first_fails _ _ _ _ _ c.args.depth (Part ElsePart ∷ Close ∷ []) if_closes begun c.in_ok-condition.ensures.parses c.in_ok-condition.ensures.kept.ready.sound) (λ same. same) c.in_err-statement.ensures.parses)
 
 pub branch-returns-in_err-else_part-clause-parses : goal.branch-returns-in_err-else_part-clause-parses
 branch-returns-in_err-else_part-clause-parses g t c =
@@ -102,14 +102,14 @@ repetition-returns-in_err-condition-clause-parses g t c =
     let shallow : c.args.depth < 64 = omega arith in
     let begun = while_past _ _ c.args.depth c.requires.ready.sound c.requires.is shallow c.in_ok-advance.ensures.consumes in
     let p = err_from_is_err_and c.from_residual-in_err-condition.result c.from_residual-in_err-condition.ensures.1 in
-    rw (p.1, p.2) (refused_map _ _ _ _ _ c.in_err-condition.field-0.0 (test_fails _ _ c.args.depth (Make Repeat ∷ Shut ∷ []) while_shuts begun) (λ same. same) c.in_err-condition.ensures.parses)
+    rw (p.1, p.2) (refused_map _ _ _ _ _ c.in_err-condition.field-0.0 (test_fails _ _ c.args.depth (Make Repeat ∷ Close ∷ []) while_closes begun) (λ same. same) c.in_err-condition.ensures.parses)
 
 pub repetition-returns-in_err-statement-clause-parses : goal.repetition-returns-in_err-statement-clause-parses
 repetition-returns-in_err-statement-clause-parses g t c =
     let shallow : c.args.depth < 64 = omega arith in
     let begun = while_past _ _ c.args.depth c.requires.ready.sound c.requires.is shallow c.in_ok-advance.ensures.consumes in
     let p = err_from_is_err_and c.from_residual-in_err-statement.result c.from_residual-in_err-statement.ensures.1 in
-    rw (p.1, p.2) (refused_map _ _ _ _ _ c.in_err-statement.field-0.0 (first_fails _ _ _ _ _ c.args.depth (Make Repeat ∷ Shut ∷ []) while_shuts begun c.in_ok-condition.ensures.parses c.in_ok-condition.ensures.kept.ready.sound) (λ same. same) c.in_err-statement.ensures.parses)
+    rw (p.1, p.2) (refused_map _ _ _ _ _ c.in_err-statement.field-0.0 (first_fails _ _ _ _ _ c.args.depth (Make Repeat ∷ Close ∷ []) while_closes begun c.in_ok-condition.ensures.parses c.in_ok-condition.ensures.kept.ready.sound) (λ same. same) c.in_err-statement.ensures.parses)
 
 pub repetition-returns-clause-parses : goal.repetition-returns-clause-parses
 repetition-returns-clause-parses g t c =
@@ -207,7 +207,7 @@ statements-loop-parser-init g t c = record {
 pub statements-loop-parser-preserved : goal.statements-loop-parser-preserved
 statements-loop-parser-preserved g t c =
     let sound : is_fault c.loop-parser.parser.place.position.reading.next.token ≡ false = cc in
-    let other : is_mark mark.CloseCurly c.loop-parser.parser.place.position.reading.next.token ≡ false = cc in
+    let other : is_punctuator punctuator.CloseCurly c.loop-parser.parser.place.position.reading.next.token ≡ false = cc in
     record {
       parses = statements_more _ _ _ _ _ _ c.args.depth sound other c.loop-parser.invariant.parses c.in_ok-statement.ensures.parses;
       kept = kept_then _ _ _ c.loop-parser.invariant.kept (on _ _ c.in_ok-statement.ensures.kept);
@@ -216,14 +216,14 @@ statements-loop-parser-preserved g t c =
 pub statements-returns-in_err-statement-clause-parses : goal.statements-returns-in_err-statement-clause-parses
 statements-returns-in_err-statement-clause-parses g t c =
     let sound : is_fault c.loop-parser.parser.place.position.reading.next.token ≡ false = cc in
-    let other : is_mark mark.CloseCurly c.loop-parser.parser.place.position.reading.next.token ≡ false = cc in
+    let other : is_punctuator punctuator.CloseCurly c.loop-parser.parser.place.position.reading.next.token ≡ false = cc in
     let p = err_from_is_err_and c.from_residual.result c.from_residual.ensures.1 in
     rw (p.1, p.2) (refused_map _ _ _ _ _ c.in_err-statement.field-0.0 (statements_fail _ _ _ _ c.args.depth sound other c.loop-parser.invariant.parses) (λ same. same) c.in_err-statement.ensures.parses)
 
 pub statements-returns-clause-parses : goal.statements-returns-clause-parses
 statements-returns-clause-parses g t c =
     let sound : is_fault c.loop-parser.parser.place.position.reading.next.token ≡ false = cc in
-    let is : is_mark mark.CloseCurly c.loop-parser.parser.place.position.reading.next.token ≡ true = cc in
+    let is : is_punctuator punctuator.CloseCurly c.loop-parser.parser.place.position.reading.next.token ≡ true = cc in
     statements_end _ _ _ _ c.args.depth sound is c.loop-parser.invariant.parses
 
 -- Second branches.
@@ -256,20 +256,20 @@ else_part-returns-else-is_word-clause-parses g t c =
 
 -- Empty statements.
 
-pub statement-returns-in_err-expect-in-Mark-Semicolon-clause-parses : goal.statement-returns-in_err-expect-in-Mark-Semicolon-clause-parses
-statement-returns-in_err-expect-in-Mark-Semicolon-clause-parses g t c =
+pub statement-returns-in_err-expect-in-Punctuator-Semicolon-clause-parses : goal.statement-returns-in_err-expect-in-Punctuator-Semicolon-clause-parses
+statement-returns-in_err-expect-in-Punctuator-Semicolon-clause-parses g t c =
     let sound : is_fault c.args.parser.now.place.position.reading.next.token ≡ false = cc in
-    let at : c.args.parser.now.place.position.reading.next.token ≡ token.Mark mark.Semicolon = search rules in
-    let is : is_mark mark.Semicolon c.args.parser.now.place.position.reading.next.token ≡ true = rw at refl in
+    let at : c.args.parser.now.place.position.reading.next.token ≡ token.Punctuator punctuator.Semicolon = search rules in
+    let is : is_punctuator punctuator.Semicolon c.args.parser.now.place.position.reading.next.token ≡ true = rw at refl in
     let p = err_from_is_err_and c.from_residual.result c.from_residual.ensures.1 in
-    rw (p.1, p.2) (refused_map _ _ _ false _ c.in_err-expect-in-Mark-Semicolon.field-0.0 (empty_fails _ c.args.depth sound is) (λ never. absurd (cc)) c.in_err-expect-in-Mark-Semicolon.ensures.matches)
+    rw (p.1, p.2) (refused_map _ _ _ false _ c.in_err-expect-in-Punctuator-Semicolon.field-0.0 (empty_fails _ c.args.depth sound is) (λ never. absurd (cc)) c.in_err-expect-in-Punctuator-Semicolon.ensures.matches)
 
-pub statement-returns-in_ok-expect-in-Mark-Semicolon-clause-parses : goal.statement-returns-in_ok-expect-in-Mark-Semicolon-clause-parses
-statement-returns-in_ok-expect-in-Mark-Semicolon-clause-parses g t c =
+pub statement-returns-in_ok-expect-in-Punctuator-Semicolon-clause-parses : goal.statement-returns-in_ok-expect-in-Punctuator-Semicolon-clause-parses
+statement-returns-in_ok-expect-in-Punctuator-Semicolon-clause-parses g t c =
     let sound : is_fault c.args.parser.now.place.position.reading.next.token ≡ false = cc in
-    let at : c.args.parser.now.place.position.reading.next.token ≡ token.Mark mark.Semicolon = search rules in
-    let is : is_mark mark.Semicolon c.args.parser.now.place.position.reading.next.token ≡ true = rw at refl in
-    empty_adds _ _ _ c.args.depth sound is c.in_ok-expect-in-Mark-Semicolon.ensures.matches
+    let at : c.args.parser.now.place.position.reading.next.token ≡ token.Punctuator punctuator.Semicolon = search rules in
+    let is : is_punctuator punctuator.Semicolon c.args.parser.now.place.position.reading.next.token ≡ true = rw at refl in
+    empty_adds _ _ _ c.args.depth sound is c.in_ok-expect-in-Punctuator-Semicolon.ensures.matches
 
 -- What the parser keeps.
 

@@ -1,7 +1,7 @@
 use Rattle.std.proofs.Common.{false}
 use Rattle.std.proofs.lemmas.Result.{err_from_is_err_and}
 use Rattle.parsing.proofs.Advances.{kept_then, on, on_then}
-use Rattle.parsing.proofs.Stretches.{refused_map}
+use Rattle.parsing.proofs.Segments.{refused_map}
 use Rattle.statements.proofs.SimpleLaws.{bracket_fails, condition_adds, condition_fails, condition_unended}
 use Rattle.statements.proofs.bodies.condition.Goals as goal
 

@@ -1,7 +1,7 @@
 use Rattle.std.proofs.Common.{false}
 use Rattle.std.proofs.lemmas.Result.{err_from_is_err_and}
 use Rattle.parsing.proofs.Advances.{on, on_then}
-use Rattle.parsing.proofs.Stretches.{refused_map}
+use Rattle.parsing.proofs.Segments.{refused_map}
 use Rattle.parsing.specs.Room.{room}
 use Rattle.statements.proofs.Openings.{may_chop, value_inside}
 use Rattle.statements.proofs.SimpleLaws.{evaluation_adds, semicolon_fails, value_fails}

@@ -4,7 +4,7 @@ use Rattle.grammar.specs.Actions.{GiveBack}
 use Rattle.grammar.specs.Following.{AValue, is_number}
 use Rattle.grammar.proofs.FollowingLaws.{origin_of}
 use Rattle.parsing.proofs.Advances.{kept_then, on, on_then}
-use Rattle.parsing.proofs.Stretches.{refused_map}
+use Rattle.parsing.proofs.Segments.{refused_map}
 use Rattle.parsing.specs.Room.{room}
 use Rattle.statements.proofs.Openings.{may_end, value_inside}
 use Rattle.statements.proofs.SimpleLaws.{given_fails, return_adds, return_stops, return_unended}

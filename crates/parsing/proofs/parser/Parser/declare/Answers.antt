@@ -1,12 +1,12 @@
 use Rattle.std.proofs.Common.{◌≡◌, subst, sym, ap, ◌∙◌, false}
 use Rattle.std.proofs.lemmas.Result.{err_from_is_err_and}
 use Rattle.tokens.specs.Reading.{IsNear}
-use Rattle.tokens.specs.declared.lexemes.Token.TheVariants as token
+use Rattle.tokens.specs.declared.located_tokens.Token.TheVariants as token
 use Rattle.parsing.specs.Roles.{role_of}
 use Rattle.parsing.specs.Position.{Standing}
 use Rattle.parsing.proofs.Items.{name_derives, name_misfits, name_refused, name_stops, no_tree}
 use Rattle.parsing.proofs.Names.{declared_stays}
-use Rattle.parsing.proofs.Stretches.{refused_map}
+use Rattle.parsing.proofs.Segments.{refused_map}
 use Rattle.parsing.proofs.parser.Parser.declare.Goals as goal
 
 pub returns-in_err-name-clause-matches : goal.returns-in_err-name-clause-matches

@@ -1,15 +1,15 @@
 use Rattle.std.proofs.Common.{◌≡◌, ℕ, subst, refl, sym, ap, ◌∙◌, false}
 use Rattle.std.proofs.lemmas.Result.{err_from_is_err_and}
-use Rattle.tokens.specs.declared.lexemes.Lexeme.{Lexeme}
+use Rattle.tokens.specs.declared.located_tokens.LocatedToken.{LocatedToken}
 use Rattle.tokens.specs.Reading.{IsNear}
-use Rattle.tokens.specs.declared.lexemes.Token.TheVariants as token
+use Rattle.tokens.specs.declared.located_tokens.Token.TheVariants as token
 use Rattle.grammar.specs.Grammar.{Defined}
 use Rattle.grammar.specs.Naming.{Knows}
 use Rattle.grammar.specs.Scope.{number_for}
 use Rattle.parsing.specs.Position.{Standing, scope_of}
 use Rattle.parsing.proofs.Items.{name_derives, name_misfits, name_refused, name_stops}
 use Rattle.parsing.proofs.Names.{begins}
-use Rattle.parsing.proofs.Stretches.{refused_map}
+use Rattle.parsing.proofs.Segments.{refused_map}
 use Rattle.parsing.proofs.parser.Parser.define.Goals as goal
 
 pub returns-in_err-name-clause-matches : goal.returns-in_err-name-clause-matches
@@ -26,14 +26,14 @@ returns-in-Err-clause-matches g c =
 pub returns-in_err-advance-clause-matches : goal.returns-in_err-advance-clause-matches
 returns-in_err-advance-clause-matches g c =
     let found : c.self.inside.cursor.next.token ≡ token.Name c.in_ok-name.name = ap (λ (p : Standing). p.place.position.reading.next.token) c.self.view_is ∙ c.in_ok-name.ensures.found in
-    let line : c.next.result.now.line ≡ c.self.inside.cursor.next.line = ap (λ (l : Lexeme). l.line) c.next.ensures.value ∙ ap (λ (p : Standing). p.place.position.reading.next.line) (sym c.self.view_is) in
+    let line : c.next.result.now.line ≡ c.self.inside.cursor.next.line = ap (λ (l : LocatedToken). l.line) c.next.ensures.value ∙ ap (λ (p : Standing). p.place.position.reading.next.line) (sym c.self.view_is) in
     let p = err_from_is_err_and c.from_residual-in_err-advance.result c.from_residual-in_err-advance.ensures.1 in
     rw (p.1, p.2, sym c.self.view_is) (refused_map _ _ _ false false c.in_err-advance.field-0.0 (name_stops c.self.inside.cursor c.self.inside.scope _ _ Defined c.in_ok-name.name found (subst (λ (n : ℕ). Knows Defined c.in_ok-name.name n c.self.inside.scope c.define.new.self) line c.in-Ok.ensures.known)) (λ same. same) c.in_err-advance.ensures.consumes)
 
 pub returns-clause-matches : goal.returns-clause-matches
 returns-clause-matches g c =
     let found : c.self.inside.cursor.next.token ≡ token.Name c.in_ok-name.name = ap (λ (p : Standing). p.place.position.reading.next.token) c.self.view_is ∙ c.in_ok-name.ensures.found in
-    let line : c.next.result.now.line ≡ c.self.inside.cursor.next.line = ap (λ (l : Lexeme). l.line) c.next.ensures.value ∙ ap (λ (p : Standing). p.place.position.reading.next.line) (sym c.self.view_is) in
+    let line : c.next.result.now.line ≡ c.self.inside.cursor.next.line = ap (λ (l : LocatedToken). l.line) c.next.ensures.value ∙ ap (λ (p : Standing). p.place.position.reading.next.line) (sym c.self.view_is) in
     rw (sym c.self.view_is) (name_derives c.self.inside.cursor c.self.inside.scope _ _ _ Defined c.in_ok-name.name _ found (subst (λ (n : ℕ). Knows Defined c.in_ok-name.name n c.self.inside.scope c.define.new.self) line c.in-Ok.ensures.known) (refl) c.in_ok-advance.ensures.consumes)
 
 pub returns-clause-begun : goal.returns-clause-begun

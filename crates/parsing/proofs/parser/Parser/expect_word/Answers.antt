@@ -2,7 +2,7 @@ use Rattle.std.proofs.Common.{◌≡◌, true, false}
 use Rattle.std.proofs.lemmas.Result.{err_from_is_err_and}
 use Rattle.grammar.specs.Grammar.{is_fault, is_word}
 use Rattle.parsing.proofs.Items.{word_misfits, word_stops, word_derives}
-use Rattle.parsing.proofs.Stretches.{refused_map}
+use Rattle.parsing.proofs.Segments.{refused_map}
 use Rattle.parsing.proofs.parser.Parser.expect_word.Goals as goal
 
 pub returns-then-not-is_word-clause-matches : goal.returns-then-not-is_word-clause-matches

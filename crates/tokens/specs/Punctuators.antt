@@ -1,11 +1,11 @@
--- Operators and punctuation marks.
+-- Operators and punctuation punctuators.
 use Rattle.std.specs.Prelude.{ℕ, List, [], ◌∷◌, map, Option, Some, None, codes, take, if◌then◌else◌}
 use Rattle.std.specs.Option.{option_or}
 use Rattle.std.specs.Str.{bytes_eq}
-use Rattle.tokens.specs.declared.lexemes.Mark.{Mark}
-use Rattle.tokens.specs.declared.lexemes.Mark.TheVariants.{Plus, Minus, Star, Slash, Percent, And, Or, Xor, Tilde, Not, Less, Greater, Equals, ShiftLeft, ShiftRight, LessEquals, GreaterEquals, EqualsEquals, NotEquals, AndAnd, OrOr, PlusPlus, MinusMinus, PlusEquals, MinusEquals, StarEquals, SlashEquals, PercentEquals, ShiftLeftEquals, ShiftRightEquals, AndEquals, XorEquals, OrEquals, OpenRound, CloseRound, OpenCurly, CloseCurly, Comma, Semicolon}
+use Rattle.tokens.specs.declared.located_tokens.Punctuator.{Punctuator}
+use Rattle.tokens.specs.declared.located_tokens.Punctuator.TheVariants.{Plus, Minus, Star, Slash, Percent, And, Or, Xor, Tilde, Not, Less, Greater, Equals, ShiftLeft, ShiftRight, LessEquals, GreaterEquals, EqualsEquals, NotEquals, AndAnd, OrOr, PlusPlus, MinusMinus, PlusEquals, MinusEquals, StarEquals, SlashEquals, PercentEquals, ShiftLeftEquals, ShiftRightEquals, AndEquals, XorEquals, OrEquals, OpenRound, CloseRound, OpenCurly, CloseCurly, Comma, Semicolon}
 
-abbrev pub spelling : Mark → List ℕ
+abbrev pub spelling : Punctuator → List ℕ
 spelling Plus = codes "+"
 spelling Minus = codes "-"
 spelling Star = codes "*"
@@ -51,22 +51,24 @@ abbrev pub entry : {T : Type 0} → List ℕ → List (List ℕ × T) → Option
 entry bytes [] = None
 entry bytes (row ∷ table) = if bytes_eq bytes row.0 then Some row.1 else entry bytes table
 
--- a mark under its spelling
-abbrev pub row : Mark → List ℕ × Mark
-row mark = (spelling mark, mark)
+-- a punctuator under its spelling
+abbrev pub row : Punctuator → List ℕ × Punctuator
+row punctuator = (spelling punctuator, punctuator)
 
--- each mark
-abbrev pub all_marks : List Mark
-all_marks =
+-- each punctuator
+abbrev pub all_punctuators : List Punctuator
+all_punctuators =
     Plus ∷ Minus ∷ Star ∷ Slash ∷ Percent ∷ And ∷ Or ∷ Xor ∷ Tilde ∷ Not ∷ Less ∷ Greater ∷ Equals
-    ∷ ShiftLeft ∷ ShiftRight ∷ LessEquals ∷ GreaterEquals ∷ EqualsEquals ∷ NotEquals ∷ AndAnd ∷ OrOr ∷ PlusPlus ∷ MinusMinus
+    ∷ ShiftLeft ∷ ShiftRight ∷ LessEquals ∷ GreaterEquals ∷ EqualsEquals ∷ NotEquals ∷ AndAnd ∷ OrOr ∷ PlusPlus
+    ∷ MinusMinus
     ∷ PlusEquals ∷ MinusEquals ∷ StarEquals ∷ SlashEquals ∷ PercentEquals ∷ ShiftLeftEquals ∷ ShiftRightEquals
     ∷ AndEquals ∷ XorEquals ∷ OrEquals ∷ OpenRound ∷ CloseRound ∷ OpenCurly ∷ CloseCurly ∷ Comma ∷ Semicolon ∷ []
 
--- the mark that is spelled so, if there is one
-unfoldable pub mark_of : List ℕ → Option Mark
-mark_of bytes = entry bytes (map row all_marks)
+-- the punctuator that is spelled so, if there is one
+unfoldable pub punctuator_of : List ℕ → Option Punctuator
+punctuator_of bytes = entry bytes (map row all_punctuators)
 
--- the mark that these bytes begin with: the longest, and none is longer than three bytes
-abbrev pub longest_mark : List ℕ → Option Mark
-longest_mark bytes = option_or (mark_of (take 3 bytes)) (option_or (mark_of (take 2 bytes)) (mark_of (take 1 bytes)))
+-- the punctuator that these bytes begin with: the longest, and none is longer than three bytes
+abbrev pub longest_punctuator : List ℕ → Option Punctuator
+longest_punctuator bytes = option_or (punctuator_of (take 3 bytes))
+    (option_or (punctuator_of (take 2 bytes)) (punctuator_of (take 1 bytes)))

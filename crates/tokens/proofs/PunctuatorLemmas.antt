@@ -1,27 +1,27 @@
--- The marks by their spellings: a mark's beginnings are marks.
+-- The punctuators by their spellings: a punctuator's beginnings are punctuators.
 use Rattle.std.proofs.Common.{◌≡◌, ◌∙◌, ℕ, ◌+◌, ◌<◌, ◌≤◌, Bool, true, false, cond, Option, Some, None, List, [], ◌∷◌, map, ◌++◌, length, refl, sym, ap, subst, arith, lit<, lit≤}
 use Rattle.std.specs.Str.{bytes_eq}
 use Rattle.std.proofs.lemmas.Slice.Eq.{bytes_eq-Decides}
-use Rattle.tokens.specs.Marks.{spelling, row, entry, all_marks, mark_of}
+use Rattle.tokens.specs.Punctuators.{spelling, row, entry, all_punctuators, punctuator_of}
 use Rattle.tokens.specs.Tokens.{Ahead, placed, passed}
 use Rattle.tokens.specs.Lexing.{ending}
-use Rattle.tokens.specs.declared.lexemes.Token.TheVariants as variant
-use Rattle.tokens.specs.declared.lexemes.Mark.{Mark}
-use Rattle.tokens.specs.declared.lexemes.Mark.TheVariants.{Plus, Minus, Star, Slash, Percent, And, Or, Xor, Tilde, Not, Less, Greater, Equals, ShiftLeft, ShiftRight, LessEquals, GreaterEquals, EqualsEquals, NotEquals, AndAnd, OrOr, PlusPlus, MinusMinus, PlusEquals, MinusEquals, StarEquals, SlashEquals, PercentEquals, ShiftLeftEquals, ShiftRightEquals, AndEquals, XorEquals, OrEquals, OpenRound, CloseRound, OpenCurly, CloseCurly, Comma, Semicolon}
+use Rattle.tokens.specs.declared.located_tokens.Token.TheVariants as variant
+use Rattle.tokens.specs.declared.located_tokens.Punctuator.{Punctuator}
+use Rattle.tokens.specs.declared.located_tokens.Punctuator.TheVariants.{Plus, Minus, Star, Slash, Percent, And, Or, Xor, Tilde, Not, Less, Greater, Equals, ShiftLeft, ShiftRight, LessEquals, GreaterEquals, EqualsEquals, NotEquals, AndAnd, OrOr, PlusPlus, MinusMinus, PlusEquals, MinusEquals, StarEquals, SlashEquals, PercentEquals, ShiftLeftEquals, ShiftRightEquals, AndEquals, XorEquals, OrEquals, OpenRound, CloseRound, OpenCurly, CloseCurly, Comma, Semicolon}
 
-entry-spelled : (bytes : List ℕ) (mark : Mark) (marks : List Mark) → entry bytes (map row marks) ≡ Some mark → bytes ≡ spelling mark
-entry-spelled bytes mark [] e = absurd cc
-entry-spelled bytes mark (m ∷ marks) e = by (bytes_eq bytes (spelling m)) refl (entry-spelled bytes mark marks) e
+entry-spelled : (bytes : List ℕ) (punctuator : Punctuator) (punctuators : List Punctuator) → entry bytes (map row punctuators) ≡ Some punctuator → bytes ≡ spelling punctuator
+entry-spelled bytes punctuator [] e = absurd cc
+entry-spelled bytes punctuator (m ∷ punctuators) e = by (bytes_eq bytes (spelling m)) refl (entry-spelled bytes punctuator punctuators) e
   where
-    by : (t : Bool) → bytes_eq bytes (spelling m) ≡ t → (entry bytes (map row marks) ≡ Some mark → bytes ≡ spelling mark) → cond t (Some m) (entry bytes (map row marks)) ≡ Some mark → bytes ≡ spelling mark
-    by true q f e = let d : m ≡ mark = cc in (bytes_eq-Decides bytes (spelling m)).0 q ∙ ap spelling d
+    by : (t : Bool) → bytes_eq bytes (spelling m) ≡ t → (entry bytes (map row punctuators) ≡ Some punctuator → bytes ≡ spelling punctuator) → cond t (Some m) (entry bytes (map row punctuators)) ≡ Some punctuator → bytes ≡ spelling punctuator
+    by true q f e = let d : m ≡ punctuator = cc in (bytes_eq-Decides bytes (spelling m)).0 q ∙ ap spelling d
     by false q f e = f e
 
-pub mark_of-spelled : (bytes : List ℕ) (mark : Mark) → mark_of bytes ≡ Some mark → bytes ≡ spelling mark
-unfolding mark_of
-mark_of-spelled bytes mark e = entry-spelled bytes mark all_marks e
+pub punctuator_of-spelled : (bytes : List ℕ) (punctuator : Punctuator) → punctuator_of bytes ≡ Some punctuator → bytes ≡ spelling punctuator
+unfolding punctuator_of
+punctuator_of-spelled bytes punctuator e = entry-spelled bytes punctuator all_punctuators e
 
-pub spelling-nonempty : (m : Mark) → 0 < length (spelling m)
+pub spelling-nonempty : (m : Punctuator) → 0 < length (spelling m)
 spelling-nonempty Plus = lit< tt
 spelling-nonempty Minus = lit< tt
 spelling-nonempty Star = lit< tt
@@ -62,7 +62,7 @@ spelling-nonempty CloseCurly = lit< tt
 spelling-nonempty Comma = lit< tt
 spelling-nonempty Semicolon = lit< tt
 
-pub spelling-short : (m : Mark) → length (spelling m) ≤ 3
+pub spelling-short : (m : Punctuator) → length (spelling m) ≤ 3
 spelling-short Plus = lit≤ tt
 spelling-short Minus = lit≤ tt
 spelling-short Star = lit≤ tt
@@ -103,12 +103,12 @@ spelling-short CloseCurly = lit≤ tt
 spelling-short Comma = lit≤ tt
 spelling-short Semicolon = lit≤ tt
 
-some-none : (m : Mark) → Some m ≡ None → ⊥
+some-none : (m : Punctuator) → Some m ≡ None → ⊥
 some-none m e = absurd cc
 
--- the first byte of a mark of two bytes is a mark
-first-of-two : (m : Mark) (b c : ℕ) → b ∷ c ∷ [] ≡ spelling m → mark_of (b ∷ []) ≡ None → ⊥
-unfolding mark_of
+-- the first byte of a punctuator of two bytes is a punctuator
+first-of-two : (m : Punctuator) (b c : ℕ) → b ∷ c ∷ [] ≡ spelling m → punctuator_of (b ∷ []) ≡ None → ⊥
+unfolding punctuator_of
 first-of-two Plus b c e h = absurd (omega (arith, ap length e))
 first-of-two Minus b c e h = absurd (omega (arith, ap length e))
 first-of-two Star b c e h = absurd (omega (arith, ap length e))
@@ -149,9 +149,9 @@ first-of-two CloseCurly b c e h = absurd (omega (arith, ap length e))
 first-of-two Comma b c e h = absurd (omega (arith, ap length e))
 first-of-two Semicolon b c e h = absurd (omega (arith, ap length e))
 
--- the first two bytes of a mark of three are a mark
-two-of-three : (m : Mark) (b c d : ℕ) → b ∷ c ∷ d ∷ [] ≡ spelling m → mark_of (b ∷ c ∷ []) ≡ None → ⊥
-unfolding mark_of
+-- the first two bytes of a punctuator of three are a punctuator
+two-of-three : (m : Punctuator) (b c d : ℕ) → b ∷ c ∷ d ∷ [] ≡ spelling m → punctuator_of (b ∷ c ∷ []) ≡ None → ⊥
+unfolding punctuator_of
 two-of-three Plus b c d e h = absurd (omega (arith, ap length e))
 two-of-three Minus b c d e h = absurd (omega (arith, ap length e))
 two-of-three Star b c d e h = absurd (omega (arith, ap length e))
@@ -192,26 +192,26 @@ two-of-three CloseCurly b c d e h = absurd (omega (arith, ap length e))
 two-of-three Comma b c d e h = absurd (omega (arith, ap length e))
 two-of-three Semicolon b c d e h = absurd (omega (arith, ap length e))
 
-pub none-of-two : (b c : ℕ) → mark_of (b ∷ []) ≡ None → mark_of (b ∷ c ∷ []) ≡ None
-none-of-two b c h = by (mark_of (b ∷ c ∷ [])) refl
+pub none-of-two : (b c : ℕ) → punctuator_of (b ∷ []) ≡ None → punctuator_of (b ∷ c ∷ []) ≡ None
+none-of-two b c h = by (punctuator_of (b ∷ c ∷ [])) refl
   where
-    by : (o : Option Mark) → mark_of (b ∷ c ∷ []) ≡ o → mark_of (b ∷ c ∷ []) ≡ None
+    by : (o : Option Punctuator) → punctuator_of (b ∷ c ∷ []) ≡ o → punctuator_of (b ∷ c ∷ []) ≡ None
     by None e = e
-    by (Some m) e = absurd (first-of-two m b c (mark_of-spelled _ m e) h)
+    by (Some m) e = absurd (first-of-two m b c (punctuator_of-spelled _ m e) h)
 
-pub none-of-three : (b c d : ℕ) → mark_of (b ∷ c ∷ []) ≡ None → mark_of (b ∷ c ∷ d ∷ []) ≡ None
-none-of-three b c d h = by (mark_of (b ∷ c ∷ d ∷ [])) refl
+pub none-of-three : (b c d : ℕ) → punctuator_of (b ∷ c ∷ []) ≡ None → punctuator_of (b ∷ c ∷ d ∷ []) ≡ None
+none-of-three b c d h = by (punctuator_of (b ∷ c ∷ d ∷ [])) refl
   where
-    by : (o : Option Mark) → mark_of (b ∷ c ∷ d ∷ []) ≡ o → mark_of (b ∷ c ∷ d ∷ []) ≡ None
+    by : (o : Option Punctuator) → punctuator_of (b ∷ c ∷ d ∷ []) ≡ o → punctuator_of (b ∷ c ∷ d ∷ []) ≡ None
     by None e = e
-    by (Some m) e = absurd (two-of-three m b c d (mark_of-spelled _ m e) h)
+    by (Some m) e = absurd (two-of-three m b c d (punctuator_of-spelled _ m e) h)
 
-pub none-of-four : (b c d x : ℕ) → mark_of (b ∷ c ∷ d ∷ x ∷ []) ≡ None
-none-of-four b c d x = by (mark_of (b ∷ c ∷ d ∷ x ∷ [])) refl
+pub none-of-four : (b c d x : ℕ) → punctuator_of (b ∷ c ∷ d ∷ x ∷ []) ≡ None
+none-of-four b c d x = by (punctuator_of (b ∷ c ∷ d ∷ x ∷ [])) refl
   where
-    by : (o : Option Mark) → mark_of (b ∷ c ∷ d ∷ x ∷ []) ≡ o → mark_of (b ∷ c ∷ d ∷ x ∷ []) ≡ None
+    by : (o : Option Punctuator) → punctuator_of (b ∷ c ∷ d ∷ x ∷ []) ≡ o → punctuator_of (b ∷ c ∷ d ∷ x ∷ []) ≡ None
     by None e = e
-    by (Some m) e = absurd (omega (arith, ap length (mark_of-spelled _ m e), spelling-short m))
+    by (Some m) e = absurd (omega (arith, ap length (punctuator_of-spelled _ m e), spelling-short m))
 
 further2 : (place : ℕ) → place + 2 ≡ place + 1 + 1
 further2 place = omega arith
@@ -219,49 +219,49 @@ further2 place = omega arith
 further3 : (place : ℕ) → place + 3 ≡ place + 1 + 1 + 1
 further3 place = omega arith
 
--- no mark has the byte that ends a line
-lexeme-here : (m : Mark) (line place : ℕ) (rest : List ℕ) (too_long : Bool) → let a : Ahead = record { line = line; place = place; bytes = spelling m ++ rest; too_long = too_long } in placed (variant.Mark m) (length (spelling m)) a ≡ ending (variant.Mark m) (passed (length (spelling m)) a)
-lexeme-here Plus line place rest t = refl
-lexeme-here Minus line place rest t = refl
-lexeme-here Star line place rest t = refl
-lexeme-here Slash line place rest t = refl
-lexeme-here Percent line place rest t = refl
-lexeme-here And line place rest t = refl
-lexeme-here Or line place rest t = refl
-lexeme-here Xor line place rest t = refl
-lexeme-here Tilde line place rest t = refl
-lexeme-here Not line place rest t = refl
-lexeme-here Less line place rest t = refl
-lexeme-here Greater line place rest t = refl
-lexeme-here Equals line place rest t = refl
-lexeme-here ShiftLeft line place rest t = ap (λ p. record { token = variant.Mark ShiftLeft; line = line; end = p }) (further2 place)
-lexeme-here ShiftRight line place rest t = ap (λ p. record { token = variant.Mark ShiftRight; line = line; end = p }) (further2 place)
-lexeme-here LessEquals line place rest t = ap (λ p. record { token = variant.Mark LessEquals; line = line; end = p }) (further2 place)
-lexeme-here GreaterEquals line place rest t = ap (λ p. record { token = variant.Mark GreaterEquals; line = line; end = p }) (further2 place)
-lexeme-here EqualsEquals line place rest t = ap (λ p. record { token = variant.Mark EqualsEquals; line = line; end = p }) (further2 place)
-lexeme-here NotEquals line place rest t = ap (λ p. record { token = variant.Mark NotEquals; line = line; end = p }) (further2 place)
-lexeme-here AndAnd line place rest t = ap (λ p. record { token = variant.Mark AndAnd; line = line; end = p }) (further2 place)
-lexeme-here OrOr line place rest t = ap (λ p. record { token = variant.Mark OrOr; line = line; end = p }) (further2 place)
-lexeme-here PlusPlus line place rest t = ap (λ p. record { token = variant.Mark PlusPlus; line = line; end = p }) (further2 place)
-lexeme-here MinusMinus line place rest t = ap (λ p. record { token = variant.Mark MinusMinus; line = line; end = p }) (further2 place)
-lexeme-here PlusEquals line place rest t = ap (λ p. record { token = variant.Mark PlusEquals; line = line; end = p }) (further2 place)
-lexeme-here MinusEquals line place rest t = ap (λ p. record { token = variant.Mark MinusEquals; line = line; end = p }) (further2 place)
-lexeme-here StarEquals line place rest t = ap (λ p. record { token = variant.Mark StarEquals; line = line; end = p }) (further2 place)
-lexeme-here SlashEquals line place rest t = ap (λ p. record { token = variant.Mark SlashEquals; line = line; end = p }) (further2 place)
-lexeme-here PercentEquals line place rest t = ap (λ p. record { token = variant.Mark PercentEquals; line = line; end = p }) (further2 place)
-lexeme-here ShiftLeftEquals line place rest t = ap (λ p. record { token = variant.Mark ShiftLeftEquals; line = line; end = p }) (further3 place)
-lexeme-here ShiftRightEquals line place rest t = ap (λ p. record { token = variant.Mark ShiftRightEquals; line = line; end = p }) (further3 place)
-lexeme-here AndEquals line place rest t = ap (λ p. record { token = variant.Mark AndEquals; line = line; end = p }) (further2 place)
-lexeme-here XorEquals line place rest t = ap (λ p. record { token = variant.Mark XorEquals; line = line; end = p }) (further2 place)
-lexeme-here OrEquals line place rest t = ap (λ p. record { token = variant.Mark OrEquals; line = line; end = p }) (further2 place)
-lexeme-here OpenRound line place rest t = refl
-lexeme-here CloseRound line place rest t = refl
-lexeme-here OpenCurly line place rest t = refl
-lexeme-here CloseCurly line place rest t = refl
-lexeme-here Comma line place rest t = refl
-lexeme-here Semicolon line place rest t = refl
+-- no punctuator has the byte that ends a line
+located_token-here : (m : Punctuator) (line place : ℕ) (rest : List ℕ) (too_long : Bool) → let a : Ahead = record { line = line; place = place; bytes = spelling m ++ rest; too_long = too_long } in placed (variant.Punctuator m) (length (spelling m)) a ≡ ending (variant.Punctuator m) (passed (length (spelling m)) a)
+located_token-here Plus line place rest t = refl
+located_token-here Minus line place rest t = refl
+located_token-here Star line place rest t = refl
+located_token-here Slash line place rest t = refl
+located_token-here Percent line place rest t = refl
+located_token-here And line place rest t = refl
+located_token-here Or line place rest t = refl
+located_token-here Xor line place rest t = refl
+located_token-here Tilde line place rest t = refl
+located_token-here Not line place rest t = refl
+located_token-here Less line place rest t = refl
+located_token-here Greater line place rest t = refl
+located_token-here Equals line place rest t = refl
+located_token-here ShiftLeft line place rest t = ap (λ p. record { token = variant.Punctuator ShiftLeft; line = line; end = p }) (further2 place)
+located_token-here ShiftRight line place rest t = ap (λ p. record { token = variant.Punctuator ShiftRight; line = line; end = p }) (further2 place)
+located_token-here LessEquals line place rest t = ap (λ p. record { token = variant.Punctuator LessEquals; line = line; end = p }) (further2 place)
+located_token-here GreaterEquals line place rest t = ap (λ p. record { token = variant.Punctuator GreaterEquals; line = line; end = p }) (further2 place)
+located_token-here EqualsEquals line place rest t = ap (λ p. record { token = variant.Punctuator EqualsEquals; line = line; end = p }) (further2 place)
+located_token-here NotEquals line place rest t = ap (λ p. record { token = variant.Punctuator NotEquals; line = line; end = p }) (further2 place)
+located_token-here AndAnd line place rest t = ap (λ p. record { token = variant.Punctuator AndAnd; line = line; end = p }) (further2 place)
+located_token-here OrOr line place rest t = ap (λ p. record { token = variant.Punctuator OrOr; line = line; end = p }) (further2 place)
+located_token-here PlusPlus line place rest t = ap (λ p. record { token = variant.Punctuator PlusPlus; line = line; end = p }) (further2 place)
+located_token-here MinusMinus line place rest t = ap (λ p. record { token = variant.Punctuator MinusMinus; line = line; end = p }) (further2 place)
+located_token-here PlusEquals line place rest t = ap (λ p. record { token = variant.Punctuator PlusEquals; line = line; end = p }) (further2 place)
+located_token-here MinusEquals line place rest t = ap (λ p. record { token = variant.Punctuator MinusEquals; line = line; end = p }) (further2 place)
+located_token-here StarEquals line place rest t = ap (λ p. record { token = variant.Punctuator StarEquals; line = line; end = p }) (further2 place)
+located_token-here SlashEquals line place rest t = ap (λ p. record { token = variant.Punctuator SlashEquals; line = line; end = p }) (further2 place)
+located_token-here PercentEquals line place rest t = ap (λ p. record { token = variant.Punctuator PercentEquals; line = line; end = p }) (further2 place)
+located_token-here ShiftLeftEquals line place rest t = ap (λ p. record { token = variant.Punctuator ShiftLeftEquals; line = line; end = p }) (further3 place)
+located_token-here ShiftRightEquals line place rest t = ap (λ p. record { token = variant.Punctuator ShiftRightEquals; line = line; end = p }) (further3 place)
+located_token-here AndEquals line place rest t = ap (λ p. record { token = variant.Punctuator AndEquals; line = line; end = p }) (further2 place)
+located_token-here XorEquals line place rest t = ap (λ p. record { token = variant.Punctuator XorEquals; line = line; end = p }) (further2 place)
+located_token-here OrEquals line place rest t = ap (λ p. record { token = variant.Punctuator OrEquals; line = line; end = p }) (further2 place)
+located_token-here OpenRound line place rest t = refl
+located_token-here CloseRound line place rest t = refl
+located_token-here OpenCurly line place rest t = refl
+located_token-here CloseCurly line place rest t = refl
+located_token-here Comma line place rest t = refl
+located_token-here Semicolon line place rest t = refl
 
-pub mark-lexeme : (m : Mark) (a : Ahead) (rest : List ℕ) → a.bytes ≡ spelling m ++ rest → placed (variant.Mark m) (length (spelling m)) a ≡ ending (variant.Mark m) (passed (length (spelling m)) a)
-mark-lexeme m a rest e =
-    subst (λ (xs : List ℕ). let b : Ahead = record { line = a.line; place = a.place; bytes = xs; too_long = a.too_long } in placed (variant.Mark m) (length (spelling m)) b ≡ ending (variant.Mark m) (passed (length (spelling m)) b)) (sym e)
-    (lexeme-here m a.line a.place rest a.too_long)
+pub punctuator-located_token : (m : Punctuator) (a : Ahead) (rest : List ℕ) → a.bytes ≡ spelling m ++ rest → placed (variant.Punctuator m) (length (spelling m)) a ≡ ending (variant.Punctuator m) (passed (length (spelling m)) a)
+punctuator-located_token m a rest e =
+    subst (λ (xs : List ℕ). let b : Ahead = record { line = a.line; place = a.place; bytes = xs; too_long = a.too_long } in placed (variant.Punctuator m) (length (spelling m)) b ≡ ending (variant.Punctuator m) (passed (length (spelling m)) b)) (sym e)
+    (located_token-here m a.line a.place rest a.too_long)

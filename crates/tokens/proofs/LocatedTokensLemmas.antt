@@ -3,13 +3,13 @@ use Rattle.std.proofs.Common.{◌≡◌, ℕ, zero, suc, ◌+◌, ◌-◌, ◌<�
 use Rattle.std.specs.Prelude.{◌||◌}
 use Rattle.std.specs.List.{prefix_len}
 use Rattle.tokens.specs.Characters.{is_blank, is_letter, is_digit, is_name_byte}
-use Rattle.tokens.specs.Marks.{longest_mark}
-use Rattle.tokens.specs.Front.{Front, Nothing, Space, Unclosed, Sign, front, run, comment, mark, up_to_close, name_token, constant_token}
-use Rattle.tokens.specs.Tokens.{Ahead, behind_byte, passed, placed, followed_by, cut, cut_front, lexemes}
-use Rattle.tokens.specs.declared.lexemes.Mark.{Mark}
-use Rattle.tokens.specs.declared.lexemes.Token.{Token}
-use Rattle.tokens.specs.declared.lexemes.Lexeme.{Lexeme}
-use Rattle.tokens.proofs.MarkLemmas.{spelling-nonempty}
+use Rattle.tokens.specs.Punctuators.{longest_punctuator}
+use Rattle.tokens.specs.Front.{Front, Nothing, Space, Unclosed, Sign, front, run, comment, punctuator, up_to_close, name_token, constant_token}
+use Rattle.tokens.specs.Tokens.{Ahead, behind_byte, passed, placed, followed_by, cut, cut_front, located_tokens}
+use Rattle.tokens.specs.declared.located_tokens.Punctuator.{Punctuator}
+use Rattle.tokens.specs.declared.located_tokens.Token.{Token}
+use Rattle.tokens.specs.declared.located_tokens.LocatedToken.{LocatedToken}
+use Rattle.tokens.proofs.PunctuatorLemmas.{spelling-nonempty}
 
 abbrev here : ℕ → ℕ → List ℕ → Bool → Ahead
 here line place bytes too_long = record { line = line; place = place; bytes = bytes; too_long = too_long }
@@ -21,9 +21,9 @@ IsPiece Unclosed = Unit {0}
 IsPiece (Space count) = 0 < count
 IsPiece (Sign sign count) = 0 < count
 
-mark-is_piece : (m : Option Mark) → IsPiece (mark m)
-mark-is_piece None = lit< tt
-mark-is_piece (Some m) = spelling-nonempty m
+punctuator-is_piece : (m : Option Punctuator) → IsPiece (punctuator m)
+punctuator-is_piece None = lit< tt
+punctuator-is_piece (Some m) = spelling-nonempty m
 
 comment-is_piece : (n : Option ℕ) → IsPiece (comment n)
 comment-is_piece None = tt
@@ -53,7 +53,7 @@ front-is_piece (b ∷ rest) =
     either-is_piece (is_blank b) _ _ (λ e. lit< tt) (λ n.
     either-is_piece (is_letter b) _ _ (λ e. run-is_piece is_name_byte name_token b rest (letter-is_name_byte b e)) (λ n.
     either-is_piece (is_digit b) _ _ (λ e. run-is_piece is_digit constant_token b rest e) (λ n.
-    either-is_piece _ _ _ (λ e. comment-is_piece (up_to_close (drop 1 rest))) (λ n. mark-is_piece (longest_mark (b ∷ rest))))))
+    either-is_piece _ _ _ (λ e. comment-is_piece (up_to_close (drop 1 rest))) (λ n. punctuator-is_piece (longest_punctuator (b ∷ rest))))))
 
 length-behind_byte : (a : Ahead) → length (behind_byte a).bytes ≡ length a.bytes - 1
 length-behind_byte a = by a.line a.place a.bytes a.too_long
@@ -66,7 +66,7 @@ pub length-passed : (n : ℕ) (a : Ahead) → length (passed n a).bytes ≡ leng
 length-passed zero a = omega arith
 length-passed (suc n) a = omega (arith, length-passed n (behind_byte a), length-behind_byte a)
 
-cut_front-same : (f : Front) (a : Ahead) (others others' : Ahead → List Lexeme) → IsPiece f → ((count : ℕ) → 0 < count → others (passed count a) ≡ others' (passed count a)) → cut_front f a others ≡ cut_front f a others'
+cut_front-same : (f : Front) (a : Ahead) (others others' : Ahead → List LocatedToken) → IsPiece f → ((count : ℕ) → 0 < count → others (passed count a) ≡ others' (passed count a)) → cut_front f a others ≡ cut_front f a others'
 cut_front-same Nothing a others others' p h = refl
 cut_front-same Unclosed a others others' p h = refl
 cut_front-same (Space count) a others others' p h = h count p
@@ -83,15 +83,15 @@ cut-enough (suc m) (suc n) line place (b ∷ xs) t h k =
     let e = length-passed count (here line place (b ∷ xs) t) in
     cut-enough m n p.line p.place p.bytes p.too_long (omega (arith, e, h, c)) (omega (arith, e, k, c)))
 
-lexemes-here : (line place : ℕ) (bytes : List ℕ) (too_long : Bool) → lexemes (here line place bytes too_long) ≡ cut_front (front bytes) (here line place bytes too_long) lexemes
-unfolding lexemes
-lexemes-here line place [] t = refl
-lexemes-here line place (b ∷ xs) t =
-    cut_front-same (front (b ∷ xs)) (here line place (b ∷ xs) t) (cut (length (b ∷ xs))) lexemes (front-is_piece (b ∷ xs)) (λ count c.
+located_tokens-here : (line place : ℕ) (bytes : List ℕ) (too_long : Bool) → located_tokens (here line place bytes too_long) ≡ cut_front (front bytes) (here line place bytes too_long) located_tokens
+unfolding located_tokens
+located_tokens-here line place [] t = refl
+located_tokens-here line place (b ∷ xs) t =
+    cut_front-same (front (b ∷ xs)) (here line place (b ∷ xs) t) (cut (length (b ∷ xs))) located_tokens (front-is_piece (b ∷ xs)) (λ count c.
     let p = passed count (here line place (b ∷ xs) t) in
     let e = length-passed count (here line place (b ∷ xs) t) in
     cut-enough (length (b ∷ xs)) (suc (length p.bytes)) p.line p.place p.bytes p.too_long (omega (arith, e, c)) (omega arith))
 
 -- the law of which all others are cases
-pub lexemes-front : (a : Ahead) → lexemes a ≡ cut_front (front a.bytes) a lexemes
-lexemes-front a = lexemes-here a.line a.place a.bytes a.too_long
+pub located_tokens-front : (a : Ahead) → located_tokens a ≡ cut_front (front a.bytes) a located_tokens
+located_tokens-front a = located_tokens-here a.line a.place a.bytes a.too_long

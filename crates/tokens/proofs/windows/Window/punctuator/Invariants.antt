@@ -1,11 +1,11 @@
 use Rattle.std.proofs.Common.{◌≡◌, ◌-◌, ◌≤◌}
 use Rattle.tokens.specs.Window.{Takes}
-use Rattle.tokens.specs.Lexing.{to_read, in_mark}
-use Rattle.tokens.proofs.windows.Window.mark.Given as goal
+use Rattle.tokens.specs.Lexing.{to_read, in_punctuator}
+use Rattle.tokens.proofs.windows.Window.punctuator.Given as goal
 
 abbrev pub invariant-loop-next : goal.invariant-loop-next
 invariant-loop-next g l = record {
-  tokens : to_read (in_mark l.mark) l.self (g.F.Feed.to_come l.feed) ≡ to_read (in_mark l.initial.mark) l.initial.self (g.F.Feed.to_come l.initial.feed);
+  tokens : to_read (in_punctuator l.punctuator) l.self (g.F.Feed.to_come l.feed) ≡ to_read (in_punctuator l.initial.punctuator) l.initial.self (g.F.Feed.to_come l.initial.feed);
   took : Takes l.initial.self.taken l.self.taken (g.F.Feed.to_come l.initial.feed) (g.F.Feed.to_come l.feed);
   forward : l.initial.self.place ≤ l.self.place;
   count : g.F.Feed.failures l.feed ≡ g.F.Feed.failures l.initial.feed;

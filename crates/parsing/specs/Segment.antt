@@ -1,11 +1,11 @@
--- What a part of the parser did: a stretch of the derivation without a fault, or one that stops.
+-- What a part of the parser did: a segment of the derivation without a fault, or one that stops.
 use Rattle.std.specs.Prelude.{ℕ, ◌+◌, ◌≡◌, ◌<◌, ◌≤◌, List, [], ◌∷◌, ◌++◌, drop, length, Bool, true, false, IsTrue}
 use Rattle.std.specs.Prelude.{Option, Some, None, IfSome, Result, Ok, Err}
 use Rattle.std.specs.Option.{option_map}
 use Rattle.tokens.specs.Reading.{reach, reach_of}
 use Rattle.tokens.specs.Tokens.{is_last, tokens}
 use Rattle.tokens.specs.declared.limits.TheConstants.{WINDOW}
-use Rattle.tokens.specs.declared.lexemes.Lexeme.{Lexeme}
+use Rattle.tokens.specs.declared.located_tokens.LocatedToken.{LocatedToken}
 use Rattle.grammar.specs.declared.diagnostics.Diagnostic.{Diagnostic}
 use Rattle.grammar.specs.declared.diagnostics.ParseFault.{ParseFault}
 use Rattle.grammar.specs.declared.diagnostics.ParseFault.TheVariants as refusal
@@ -20,19 +20,20 @@ use Rattle.parsing.specs.Defining.{IsWithin}
 use Rattle.parsing.specs.Position.{Place, Position, GoesOn, tokens_at, next_at, scope_at}
 use Rattle.parsing.specs.Stopping.{Stop, Stops, slack, stop_with}
 
--- the tokens told at a place are those that a stretch took, and then those told behind it
-pub record Takes (consumed lexemes : List Lexeme) (there : Place) : Type 0 where
-  pub rest : List Lexeme
-  pub is : lexemes ≡ consumed ++ rest
+-- the tokens told at a place are those that a segment took, and then those told behind it
+pub record Takes (consumed located_tokens : List LocatedToken) (there : Place) : Type 0 where
+  pub rest : List LocatedToken
+  pub is : located_tokens ≡ consumed ++ rest
   pub shows : tokens_at there ≡ Some rest
 
 -- From one place to another the derivation goes from these items in front to those, with so many levels open below
 -- them, and leaves these trees in the place of those. It takes the same tokens whether the device tells them or not.
 pub record Derives (depth : ℕ) (front pending : List Item) (taken left : List Value) (here there : Place) : Type 0 where
-  pub consumed : List Lexeme
-  pub told : (lexemes : List Lexeme) → tokens_at here ≡ Some lexemes → Takes consumed lexemes there
-  pub follows : (rest : List Lexeme) → GoesOn there rest → GoesOn here (consumed ++ rest)
-  pub passes : (rest : List Lexeme) → GoesOn there rest →
+  pub consumed : List LocatedToken
+  pub told : (located_tokens : List LocatedToken) → tokens_at here ≡ Some located_tokens
+      → Takes consumed located_tokens there
+  pub follows : (rest : List LocatedToken) → GoesOn there rest → GoesOn here (consumed ++ rest)
+  pub passes : (rest : List LocatedToken) → GoesOn there rest →
       (profile : Profile) (stack : List Item) (values : List Value) (functions : List Definition) →
       levels stack ≡ depth →
       Passes profile (state (front ++ stack) (consumed ++ rest) (taken ++ values) (scope_at here) functions)
@@ -41,9 +42,9 @@ pub record Derives (depth : ℕ) (front pending : List Item) (taken left : List 
 -- where the tokens are told, the derivation from these items on stops so, with so many levels open
 abbrev pub FailsAt : ℕ → List Item → List Value → Place → Stop → Type 0
 FailsAt depth front taken here stop =
-    (lexemes : List Lexeme) → tokens_at here ≡ Some lexemes →
+    (located_tokens : List LocatedToken) → tokens_at here ≡ Some located_tokens →
     (profile : Profile) (stack : List Item) (values : List Value) (functions : List Definition) → levels stack ≡ depth →
-    Stops profile (state (front ++ stack) lexemes (taken ++ values) (scope_at here) functions) stop
+    Stops profile (state (front ++ stack) located_tokens (taken ++ values) (scope_at here) functions) stop
 
 -- one item was matched or replaced, however many levels are open
 abbrev pub DerivesItem : Item → List Item → List Value → Place → Place → Type 0
@@ -56,33 +57,36 @@ FailsItem item here stop = (depth : ℕ) → FailsAt depth (item ∷ []) [] here
 pub record GoesPast (here there : Place) : Type 0 where
   pub more : is_last (next_at here).token ≡ false
   pub next : next_at there ≡ here.position.reading.after
-  pub told : (first : Lexeme) (rest : List Lexeme) → tokens_at here ≡ Some (first ∷ rest) → tokens_at there ≡ Some rest
+  pub told : (first : LocatedToken) (rest : List LocatedToken) → tokens_at here ≡ Some (first ∷ rest)
+      → tokens_at there ≡ Some rest
   pub scope : scope_at there ≡ scope_at here
 
 -- the token behind the next is a fault, which stops any derivation
-pub record HasFlaw (here : Place) (d : Diagnostic) : Type 0 where
-  pub flaw : is_fault here.position.reading.after.token ≡ true
+pub record HasLexicalError (here : Place) (d : Diagnostic) : Type 0 where
+  pub lexical_error : is_fault here.position.reading.after.token ≡ true
   pub is : d ≡ diagnostic here.position.reading.after.line (misfit_code here.position.reading.after.token)
 
 -- the next token fits, and behind it a fault is the next, or the device failed
 pub record StopsAt (here : Place) (stop : Stop) : Type 0 where
   pub more : is_last (next_at here).token ≡ false
-  pub flaw : IfSome stop.fault (HasFlaw here)
-  pub taken : (next : Lexeme) (others : List Lexeme) → tokens_at here ≡ Some (next ∷ others) →
+  pub lexical_error : IfSome stop.fault (HasLexicalError here)
+  pub taken : (next : LocatedToken) (others : List LocatedToken) → tokens_at here ≡ Some (next ∷ others) →
       stop.taken ≤ reach_of others + slack stop.fault
 
 -- the first token is a fault, or the device failed
-pub record StopsFirst (told : Option (List Lexeme)) (stop : Stop) : Type 0 where
-  pub flaw : (lexemes : List Lexeme) → told ≡ Some lexemes → IfSome stop.fault (λ d.
-      (is_fault (next_of lexemes) ≡ true) × (d ≡ diagnostic (line_of lexemes) (misfit_code (next_of lexemes))))
-  pub taken : (lexemes : List Lexeme) → told ≡ Some lexemes → stop.taken ≤ reach_of lexemes + slack stop.fault
+pub record StopsFirst (told : Option (List LocatedToken)) (stop : Stop) : Type 0 where
+  pub lexical_error : (located_tokens : List LocatedToken) → told ≡ Some located_tokens → IfSome stop.fault (λ d.
+      (is_fault (next_of located_tokens) ≡ true)
+      × (d ≡ diagnostic (line_of located_tokens) (misfit_code (next_of located_tokens))))
+  pub taken : (located_tokens : List LocatedToken) → told ≡ Some located_tokens
+      → stop.taken ≤ reach_of located_tokens + slack stop.fault
 
 -- no more bytes were taken than a window behind the two tokens that are held
 abbrev pub IsNearTo : Place → ℕ → Type 0
 IsNearTo here taken = taken ≤ reach here.position.reading + WINDOW
 
 -- the token is no name, and is refused for that
-pub record IsNoName (next : Lexeme) (fault : ParseFault) : Type 0 where
+pub record IsNoName (next : LocatedToken) (fault : ParseFault) : Type 0 where
   pub sound : is_fault next.token ≡ false
   pub other : name_of_token next.token ≡ None
   pub is : fault ≡ refusal.Source (diagnostic next.line (misfit_code next.token))

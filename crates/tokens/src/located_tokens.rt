@@ -4,9 +4,9 @@ ghost use Rattle.std.specs.Prelude.{◌≡◌};
 
 use crate::names::Name;
 
-/// An operator or a punctuation mark.
+/// An operator or a punctuation punctuator.
 #[derive(Clone, Copy, Debug, PartialEq, Eq)]
-pub enum Mark {
+pub enum Punctuator {
     /// `+`
     Plus,
     /// `-`
@@ -106,7 +106,7 @@ pub enum Word {
 
 /// What is wrong with a source that can't be cut into tokens to its end.
 #[derive(Clone, Copy, Debug, PartialEq, Eq)]
-pub enum Flaw {
+pub enum LexicalError {
     /// A byte that no token begins with.
     BadCharacter,
     /// A `/*` with no `*/` behind it.
@@ -128,17 +128,17 @@ pub enum Token {
     Word(Word),
     /// A constant, at most `CONSTANT_MAX`.
     Constant(u32),
-    /// An operator or a punctuation mark.
-    Mark(Mark),
+    /// An operator or a punctuation punctuator.
+    Punctuator(Punctuator),
     /// The end of the source, the last token.
     End,
     /// A lexical fault, the last token.
-    Fault(Flaw),
+    Fault(LexicalError),
 }
 
 /// A token with its place.
 #[derive(Clone, Copy, Debug, PartialEq, Eq)]
-pub struct Lexeme {
+pub struct LocatedToken {
     /// What it is.
     pub token: Token,
     /// The line that it begins on, from 1.
