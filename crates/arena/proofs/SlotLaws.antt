@@ -246,3 +246,21 @@ pub flies_more : (update : ℕ) (ms : List Missile) (i : ℕ) (m : Missile) → 
 flies_more update ms i m h e flies before =
     rw (take_more ms i m h, ← e, filter-append (λ m. nat_lt update m.burst) (take i ms) (m ∷ []), before)
     (ap (λ b. take i ms ++ cond b (m ∷ []) []) flies)
+
+-- with nothing in the air nothing is hurt, and nothing is in the air after the update
+sum_none : (f : List Missile → ℕ) (slots : List (List Missile)) → f [] ≡ 0 → All (λ s. s ≡ []) slots → sum (map f slots) ≡ 0
+sum_none f [] e none = refl
+sum_none f (s ∷ slots) e none =
+    let here : f s ≡ 0 = ap f (none 0 s (omega arith)) ∙ e in
+    let rest = sum_none f slots e (λ k d l. none (suc k) d (omega arith)) in
+    let both = sum-cons (f s) (map f slots) in
+    omega arith
+
+pub none_hurt : (updates update x y : ℕ) (slots : List (List Missile)) (shots : List Shot) → update ≡ updates + 1 → HoldsShots updates slots shots → All (λ s. s ≡ []) slots → sum (bursts update shots x y) ≡ 0
+unfolding bursts due_at
+none_hurt updates update x y slots shots e holds none =
+    sym (all_hurts updates update x y slots shots e holds) ∙ sum_none (hurt_by update x y) slots refl none
+
+pub holds_still : (updates update : ℕ) (slots : List (List Missile)) (shots : List Shot) → update ≡ updates + 1 → HoldsShots updates slots shots → All (λ s. s ≡ []) slots → HoldsShots update slots shots
+holds_still updates update slots shots e holds none =
+    holds_landed updates update slots slots shots e refl (λ i l. rw (none i [] l) refl) holds

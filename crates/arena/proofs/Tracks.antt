@@ -5,10 +5,11 @@ use Rattle.std.proofs.lemmas.Bool.Decides.{nat_tests}
 use Rattle.std.proofs.lemmas.Bool.{eq-eqb, ne_eqb, le-leb, lt-leb, or_parts}
 use Rattle.arena.specs.Answer.{wanting}
 use Rattle.arith.specs.Circle.{sine_at, cosine_at}
-use Rattle.arena.specs.Leg.{Leg, last_place, brought, along, way_east, way_north, candidate_x, candidate_y, place_x, place_y, approached, begun, stopped, steered, sped, grown, is_outside, hits_wall, walled}
+use Rattle.arena.specs.Leg.{Leg, last_place, brought, along, way_east, way_north, candidate_x, candidate_y, place_x, place_y, approached, begun, stopped, steered, sped, grown, is_outside, hits_wall, walled, tried}
 use Rattle.arena.specs.Start.{standing}
 use Rattle.arena.specs.Moved.{put_back}
 use Rattle.arena.specs.Ground.{Track, track_of}
+use Rattle.arena.specs.Rest.{Rests}
 
 -- a way of nothing leads nowhere
 pub along-none : (o : ℕ) → along o (pos 0) ≡ pos o
@@ -246,3 +247,27 @@ unfolding track_of candidate_x candidate_y
 stays_is t leg e rest x_most y_most x y =
     let P : Track → Type 0 = λ t. t.speed ≡ 0 → t.x ≤ 9999 → t.y ≤ 9999 → pos t.x ≡ along t.origin_x t.east → pos t.y ≡ along t.origin_y t.north → (t ≡ track_of (walled (grown leg))) × (false ≡ hits_wall (grown leg)) in
     subst P (sym e) (λ still xm ym p q. stays leg still (leg_is_free leg (place_x leg) (place_y leg) p q xm ym)) rest x_most y_most x y
+
+-- a robot at rest that wants nothing else tries to drive the leg that it has
+keeps_way : (leg : Leg) → leg.wanted_heading ≡ leg.heading → steered leg ≡ leg
+unfolding steered
+keeps_way leg e = rw (eq-eqb leg.wanted_heading leg.heading e) refl
+
+keeps_speed : (leg : Leg) → leg.speed ≡ 0 → leg.wanted_speed ≡ 0 → sped leg ≡ leg
+unfolding sped approached
+keeps_speed leg s w =
+    let none : approached leg.speed leg.wanted_speed ≡ leg.speed = rw (s, w) refl in
+    ap (λ n. record leg { speed = n }) none
+
+at_rest : (leg : Leg) → leg.speed ≡ 0 → leg.wanted_speed ≡ 0 → leg.wanted_heading ≡ leg.heading → hits_wall leg ≡ false → Rests leg
+unfolding tried
+at_rest leg s w h free = record {
+  stands = ap (λ l. grown (sped l)) (keeps_way leg h) ∙ ap grown (keeps_speed leg s w) ∙ rests leg s;
+  free = free;
+}
+
+pub rests_is : (t : Track) (leg : Leg) → t ≡ track_of leg → t.speed ≡ 0 → t.wanted_speed ≡ 0 → t.wanted_heading ≡ t.heading → t.x ≤ 9999 → t.y ≤ 9999 → pos t.x ≡ along t.origin_x t.east → pos t.y ≡ along t.origin_y t.north → Rests leg
+unfolding track_of candidate_x candidate_y
+rests_is t leg e rest wants heads x_most y_most x y =
+    let P : Track → Type 0 = λ t. t.speed ≡ 0 → t.wanted_speed ≡ 0 → t.wanted_heading ≡ t.heading → t.x ≤ 9999 → t.y ≤ 9999 → pos t.x ≡ along t.origin_x t.east → pos t.y ≡ along t.origin_y t.north → Rests leg in
+    subst P (sym e) (λ s w h xm ym p q. at_rest leg s w h (leg_is_free leg (place_x leg) (place_y leg) p q xm ym)) rest wants heads x_most y_most x y

@@ -32,7 +32,15 @@ is_alive robot = nat_lt (damage_of robot) 100
 -- what is read past the last robot: a dead one
 unfoldable pub no_robot : Robot
 no_robot = record {
-  leg = record { origin_x = 0; origin_y = 0; heading = 0; distance = 0; speed = 0; wanted_heading = 0; wanted_speed = 0 };
+  leg = record {
+    origin_x = 0;
+    origin_y = 0;
+    heading = 0;
+    distance = 0;
+    speed = 0;
+    wanted_heading = 0;
+    wanted_speed = 0;
+  };
   hurts = 100 ∷ [];
 }
 

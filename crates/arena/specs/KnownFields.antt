@@ -46,7 +46,8 @@ abbrev pub match_54 : Field
 match_54 = start 42 54 2
 
 pub record Starts : Type 0 where
-  pub words : map (word 42 54) (0 ∷ 1 ∷ 2 ∷ 3 ∷ 4 ∷ 5 ∷ []) ≡ 0xa15c02b7 ∷ 0x7b47f409 ∷ 0xba1d3330 ∷ 0x83d2f293 ∷ 0xbfa4784b ∷ 0xcbed606e ∷ []
+  pub words : map (word 42 54) (0 ∷ 1 ∷ 2 ∷ 3 ∷ 4 ∷ 5 ∷ [])
+      ≡ 0xa15c02b7 ∷ 0x7b47f409 ∷ 0xba1d3330 ∷ 0x83d2f293 ∷ 0xbfa4784b ∷ 0xcbed606e ∷ []
   pub quadrants : map (quadrant 42 54) (0 ∷ 1 ∷ []) ≡ 3 ∷ 0 ∷ []
   pub stand : places match_54 ≡ (8097, 6824) ∷ (1955, 1955) ∷ []
   pub next_word : reply match_54 0 Rand (pos 100) (pos 0) ≡ pos 66
@@ -81,7 +82,8 @@ abbrev pub at_the_wall : Field
 at_the_wall = after 1 (asked (two 9995 5000 1000 1000) 0 Drive (pos 0) (pos 100))
 
 abbrev pub row_of_three : Field
-row_of_three = after 1 (asked (placed 1 1 ((pos 5000, pos 5000) ∷ (pos 5015, pos 5000) ∷ (pos 5018, pos 5000) ∷ [])) 0 Drive (pos 0) (pos 100))
+row_of_three = after 1 (asked (placed 1 1 ((pos 5000, pos 5000) ∷ (pos 5015, pos 5000) ∷ (pos 5018, pos 5000) ∷ [])) 0
+    Drive (pos 0) (pos 100))
 
 pub record Knocks : Type 0 where
   pub both_hurt : damages pushed ≡ 2 ∷ 2 ∷ []

@@ -1,4 +1,5 @@
--- A leg is a straight way: a robot drives from its origin with one heading. What an update makes of it: heading, speed, distance, walls.
+-- A leg is a straight way: a robot drives from its origin with one heading. What an update makes of it: heading,
+-- speed, distance, walls.
 use Rattle.std.specs.Prelude.{ℕ, ◌+◌, ◌-◌, min, max, Bool, ◌||◌, ◌==◌, nat_lt, nat_le, if◌then◌else◌, ℤ, pos, negsuc, ◌+ℤ◌, ◌*ℤ◌, int_lt, int_div}
 use Rattle.arith.specs.Circle.{sine_at, cosine_at}
 

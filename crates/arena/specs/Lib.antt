@@ -8,6 +8,7 @@ pub mod Words
 pub mod Start
 pub mod Answer
 pub mod Ground
+pub mod Rest
 pub mod Drive
 pub mod Standing
 pub mod KnownFields

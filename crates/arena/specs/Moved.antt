@@ -8,7 +8,13 @@ use Rattle.arena.specs.Shots.{bursts}
 
 -- a robot that collides stands again at its old place, at rest, with the heading that it turned to
 unfoldable pub put_back : Leg → Leg → Leg
-put_back old leg = record leg { origin_x = place_x old; origin_y = place_y old; distance = 0; speed = 0; wanted_speed = 0 }
+put_back old leg = record leg {
+  origin_x = place_x old;
+  origin_y = place_y old;
+  distance = 0;
+  speed = 0;
+  wanted_speed = 0;
+}
 
 -- the leg after walls and collisions
 unfoldable pub settled : Leg → ℕ → Leg
@@ -23,7 +29,11 @@ unfoldable pub moved_robot : ℕ → List Shot → ℕ → Robot → Robot
 moved_robot update shots touched robot =
     if is_alive robot then
     (let leg = settled robot.leg touched in
-    record { leg = leg; hurts = robot.hurts ++ knocks robot.leg touched ++ bursts update shots (place_x leg) (place_y leg) })
+    record {
+      leg = leg;
+      hurts = robot.hurts ++ knocks robot.leg touched
+          ++ bursts update shots (place_x leg) (place_y leg);
+    })
     else robot
 
 -- the field after the update
@@ -32,5 +42,6 @@ moved field =
     let movers = map mover field.robots in
     record field {
       updates = field.updates + 1;
-      robots = map (λ i. moved_robot (field.updates + 1) field.shots (touches movers i) (robot_at field i)) (range_with_len 0 (length field.robots));
+      robots = map (λ i. moved_robot (field.updates + 1) field.shots (touches movers i) (robot_at field i))
+          (range_with_len 0 (length field.robots));
     }

@@ -1,14 +1,10 @@
 -- What a scan sees: the nearest live robot in an arc.
-use Rattle.std.specs.Prelude.{ℕ, ◌-◌, min, max, fold, Bool, ◌&&◌, ◌||◌, ◌==◌, nat_le, if◌then◌else◌, List, [], ◌∷◌, filter, map, ℤ, pos, ◌-ℤ◌, unsigned_abs}
-use Rattle.std.specs.Int.{abs_diff}
+use Rattle.std.specs.Prelude.{ℕ, min, max, fold, Bool, ◌&&◌, ◌||◌, ◌==◌, nat_le, if◌then◌else◌, List, [], ◌∷◌, filter, map, ℤ, pos, ◌-ℤ◌, unsigned_abs}
+unfoldable pub use Rattle.arith.specs.Degree.{apart}
 use Rattle.arith.specs.Root.{root_of}
 use Rattle.arith.specs.Bearing.{bearing_of}
 use Rattle.arena.specs.Field.{Robot, Field, is_alive, robot_at, metres_x, metres_y}
 use Rattle.arena.specs.Collisions.{square, others}
-
--- how far apart two degrees are round the circle
-unfoldable pub apart : ℕ → ℕ → ℕ
-apart a b = min (abs_diff a b) (360 - abs_diff a b)
 
 -- from one robot to another, in whole metres
 unfoldable pub east_to : Robot → Robot → ℤ

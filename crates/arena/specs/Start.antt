@@ -8,7 +8,15 @@ use Rattle.arena.specs.Words.{word}
 -- a robot at rest at a place, unhurt
 unfoldable pub standing : ℕ → ℕ → Robot
 standing x y = record {
-  leg = record { origin_x = x; origin_y = y; heading = 0; distance = 0; speed = 0; wanted_heading = 0; wanted_speed = 0 };
+  leg = record {
+    origin_x = x;
+    origin_y = y;
+    heading = 0;
+    distance = 0;
+    speed = 0;
+    wanted_heading = 0;
+    wanted_speed = 0;
+  };
   hurts = [];
 }
 

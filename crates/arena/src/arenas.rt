@@ -17,7 +17,7 @@ use crate::robots::Robot;
 use crate::scans::scan;
 use crate::slots::{Missile, Slots, fire, land, may_fire, no_missiles};
 use crate::starts::{drawn_robots, placed_robots};
-use crate::updates;
+use crate::updates::{is_still, moved};
 use crate::words::{begun, random_number};
 use arith::{atan, cos, norm_degree, root, sin, tan};
 use arrayvec::ArrayVec;
@@ -35,24 +35,33 @@ const MOST_RANGE: u16 = 700;
 const MOST_SPEED: u16 = 100;
 
 /// A field in play: two to four robots, numbered from 0, their missiles in the air, and the
-/// generator of the match.
+/// generator of the match. If it is known to be still, the next update only counts.
 #[derive(Drop)]
 pub struct Arena {
     updates: u32,
+    is_still: bool,
     robots: ArrayVec<Robot, MOST_ROBOTS>,
     slots: ArrayVec<Slots, MOST_ROBOTS>,
     random: Pcg32,
 }
 
 impl Model for Arena {
-    ghost use Rattle.std.specs.Prelude.{◌≡◌, ◌*◌, ◌≤◌, All, length};
+    ghost use Rattle.std.specs.Prelude.{◌≡◌, ◌*◌, ◌≤◌, true, All, length};
     ghost use Rattle.arena.specs.Ground.{Body, Ground, IsWithin};
+    ghost use Rattle.arena.specs.Rest.{IsStill};
 
     ghost Value = { Ground };
 
-    ghost view = { λ a. record { updates = a.updates; robots = a.robots.items; slots = a.slots.items; random = a.random } };
+    ghost view = { λ a. record {
+      updates = a.updates;
+      robots = a.robots.items;
+      slots = a.slots.items;
+      random = a.random;
+    } };
 
-    ghost invariant = { λ a. (a.updates ≤ 66666667) × (length a.slots.items ≡ length a.robots.items) × (length a.robots.items ≤ 4) × All (λ (b : Body). IsWithin (10000000 * a.updates) b.track) a.robots.items × All (λ s. length s ≤ 2) a.slots.items };
+    ghost invariant = { λ a. (a.updates ≤ 66666667) × (length a.slots.items ≡ length a.robots.items)
+        × (length a.robots.items ≤ 4) × All (λ (b : Body). IsWithin (10000000 * a.updates) b.track) a.robots.items
+        × All (λ s. length s ≤ 2) a.slots.items × (a.is_still ≡ true → IsStill a.robots.items a.slots.items) };
 }
 
 impl Arena {
@@ -68,6 +77,7 @@ impl Arena {
         let robots = drawn_robots(&mut random, n);
         Arena {
             updates: 0,
+            is_still: false,
             robots,
             slots: no_missiles(n),
             random,
@@ -84,6 +94,7 @@ impl Arena {
     {
         Arena {
             updates: 0,
+            is_still: false,
             robots: placed_robots(places),
             slots: no_missiles(places.len()),
             random: begun(seed, number),
@@ -95,7 +106,8 @@ impl Arena {
     pub fn ask(&mut self, robot: usize, intrinsic: Intrinsic, arguments: [i32; 2]) -> i32
         requires { lives self.old robot ≡ true }
         ensures reply { (f : Field) → StandsFor self.old f → result ≡ (answer f robot intrinsic arguments).0 }
-        ensures stands { (f : Field) → StandsFor self.old f → StandsFor self.new (answer f robot intrinsic arguments).1 }
+        ensures stands { (f : Field) → StandsFor self.old f
+            → StandsFor self.new (answer f robot intrinsic arguments).1 }
         ensures updates { self.new.updates ≡ self.old.updates }
         ensures manned { length self.new.robots ≡ length self.old.robots }
     {
@@ -126,8 +138,13 @@ impl Arena {
         ensures manned { length self.new.robots ≡ length self.old.robots }
     {
         let update = self.updates + 1;
-        self.robots = updates::moved(self.robots.as_slice(), self.slots.as_slice(), update);
+        if self.is_still {
+            self.updates = update;
+            return;
+        }
+        self.robots = moved(self.robots.as_slice(), self.slots.as_slice(), update);
         land(self.slots.as_mut_slice(), update);
+        self.is_still = is_still(self.robots.as_slice(), self.slots.as_slice());
         self.updates = update;
     }
 
@@ -187,7 +204,8 @@ impl Arena {
     // The range of the nearest robot in an arc, or 0.
     fn scan(&self, robot: usize, degree: i32, resolution: i32) -> i32
         requires { robot < length self.now.robots }
-        ensures { (f : Field) → StandsFor self.now f → result ≡ pos (scanned f robot (degree_of degree) (brought 10 resolution)) }
+        ensures { (f : Field) → StandsFor self.now f
+            → result ≡ pos (scanned f robot (degree_of degree) (brought 10 resolution)) }
     {
         let resolution = brought(resolution, MOST_RESOLUTION);
         i32::from(scan(
@@ -201,8 +219,10 @@ impl Arena {
     // Fires a missile, and reports by 1 or 0 whether the robot may.
     fn cannon(&mut self, robot: usize, degree: i32, range: i32) -> i32
         requires { robot < length self.old.robots }
-        ensures reply { (f : Field) → StandsFor self.old f → result ≡ (fired f robot (degree_of degree) (brought 700 range)).0 }
-        ensures stands { (f : Field) → StandsFor self.old f → StandsFor self.new (fired f robot (degree_of degree) (brought 700 range)).1 }
+        ensures reply { (f : Field) → StandsFor self.old f
+            → result ≡ (fired f robot (degree_of degree) (brought 700 range)).0 }
+        ensures stands { (f : Field) → StandsFor self.old f
+            → StandsFor self.new (fired f robot (degree_of degree) (brought 700 range)).1 }
         ensures updates { self.new.updates ≡ self.old.updates }
         ensures manned { length self.new.robots ≡ length self.old.robots }
     {
@@ -212,6 +232,7 @@ impl Arena {
         let range = brought(range, MOST_RANGE);
         let (x, y) = self.place(robot);
         let missile = Missile::new(self.updates, x, y, norm_degree(degree), range);
+        self.is_still = false;
         fire(self.slots.as_mut_slice(), robot, missile);
         1
     }
@@ -220,12 +241,14 @@ impl Arena {
     fn drive(&mut self, robot: usize, degree: i32, speed: i32) -> i32
         requires { robot < length self.old.robots }
         ensures reply { result ≡ pos 1 }
-        ensures stands { (f : Field) → StandsFor self.old f → StandsFor self.new (directed f robot (degree_of degree) (brought 100 speed)) }
+        ensures stands { (f : Field) → StandsFor self.old f
+            → StandsFor self.new (directed f robot (degree_of degree) (brought 100 speed)) }
         ensures updates { self.new.updates ≡ self.old.updates }
         ensures manned { length self.new.robots ≡ length self.old.robots }
     {
         let speed = brought(speed, MOST_SPEED) as u8;
         let wanting = self.robot(robot).wanting(norm_degree(degree), speed);
+        self.is_still = false;
         self.robots[robot] = wanting;
         1
     }

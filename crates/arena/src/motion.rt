@@ -1,11 +1,12 @@
 //! How a robot moves: its leg, with the sums of the way in place of the distance.
 
-ghost use Rattle.std.specs.Prelude.{◌≡◌, ◌+◌, ◌^◌, ◌<◌, ◌≤◌, ℤ, pos, ◌+ℤ◌, ◌*ℤ◌, unsigned_abs, ◌||◌};
+ghost use Rattle.std.specs.Prelude.{◌≡◌, true, ◌+◌, ◌^◌, ◌<◌, ◌≤◌, ℤ, pos, ◌+ℤ◌, ◌*ℤ◌, unsigned_abs, ◌||◌};
 ghost use Rattle.arena.specs.Leg.{Leg, last_place, brought, along, place_x, place_y, approached, begun, steered, sped, grown, walled, is_outside, hits_wall, tried, driven};
 ghost use Rattle.arena.specs.Start.{standing};
 ghost use Rattle.arena.specs.Moved.{put_back};
 ghost use Rattle.arena.specs.Answer.{wanting};
 ghost use Rattle.arena.specs.Ground.{Track, track_of};
+ghost use Rattle.arena.specs.Rest.{Rests};
 
 use crate::limits::LAST_PLACE;
 use arith::{cosine_at, sine_at};
@@ -43,11 +44,35 @@ impl Model for Motion {
 
     ghost Value = { Track };
 
-    ghost view = { λ m. record { origin_x = m.origin_x; origin_y = m.origin_y; east = m.east; north = m.north; x = m.x; y = m.y; heading = m.heading; speed = m.speed; wanted_heading = m.wanted_heading; wanted_speed = m.wanted_speed } };
+    ghost view = { λ m. record {
+      origin_x = m.origin_x;
+      origin_y = m.origin_y;
+      east = m.east;
+      north = m.north;
+      x = m.x;
+      y = m.y;
+      heading = m.heading;
+      speed = m.speed;
+      wanted_heading = m.wanted_heading;
+      wanted_speed = m.wanted_speed;
+    } };
 
-    ghost inverse = { λ m. record { origin_x = m.origin_x; origin_y = m.origin_y; east = m.east; north = m.north; x = m.x; y = m.y; heading = m.heading; speed = m.speed; wanted_heading = m.wanted_heading; wanted_speed = m.wanted_speed } };
+    ghost inverse = { λ m. record {
+      origin_x = m.origin_x;
+      origin_y = m.origin_y;
+      east = m.east;
+      north = m.north;
+      x = m.x;
+      y = m.y;
+      heading = m.heading;
+      speed = m.speed;
+      wanted_heading = m.wanted_heading;
+      wanted_speed = m.wanted_speed;
+    } };
 
-    ghost invariant = { λ m. (m.origin_x ≤ 9999) × (m.origin_y ≤ 9999) × (m.x ≤ 9999) × (m.y ≤ 9999) × (m.heading < 360) × (m.wanted_heading < 360) × (m.speed ≤ 100) × (m.wanted_speed ≤ 100) × (pos m.x ≡ along m.origin_x m.east) × (pos m.y ≡ along m.origin_y m.north) };
+    ghost invariant = { λ m. (m.origin_x ≤ 9999) × (m.origin_y ≤ 9999) × (m.x ≤ 9999) × (m.y ≤ 9999)
+        × (m.heading < 360) × (m.wanted_heading < 360) × (m.speed ≤ 100) × (m.wanted_speed ≤ 100)
+        × (pos m.x ≡ along m.origin_x m.east) × (pos m.y ≡ along m.origin_y m.north) };
 }
 
 /// A robot's motion after walls, and whether a wall stopped it.
@@ -107,6 +132,13 @@ impl Motion {
         ensures most { result ≤ 100 }
     {
         self.speed
+    }
+
+    /// Reports whether the robot stands still and wants nothing else, so that an update leaves its leg as it is.
+    pub fn rests(&self) -> bool
+        ensures { result ≡ true → (leg : Leg) → self.now ≡ track_of leg → Rests leg }
+    {
+        self.speed == 0 && self.wanted_speed == 0 && self.wanted_heading == self.heading
     }
 
     /// Sets the heading and the speed that the robot wants.
@@ -174,7 +206,16 @@ impl Motion {
     fn stopped_at(self, x: u16, y: u16) -> Motion
         requires x { x ≤ 9999 }
         requires y { y ≤ 9999 }
-        ensures { result ≡ record self { origin_x = x; origin_y = y; east = pos 0; north = pos 0; x = x; y = y; speed = 0; wanted_speed = 0 } }
+        ensures { result ≡ record self {
+          origin_x = x;
+          origin_y = y;
+          east = pos 0;
+          north = pos 0;
+          x = x;
+          y = y;
+          speed = 0;
+          wanted_speed = 0;
+        } }
     {
         Motion {
             origin_x: x,
@@ -246,7 +287,8 @@ impl Motion {
     pub fn put_back(self, x: u16, y: u16) -> Motion
         requires x { x ≤ 9999 }
         requires y { y ≤ 9999 }
-        ensures leg { (old leg : Leg) → x ≡ place_x old → y ≡ place_y old → self ≡ track_of leg → result ≡ track_of (put_back old leg) }
+        ensures leg { (old leg : Leg) → x ≡ place_x old → y ≡ place_y old → self ≡ track_of leg
+            → result ≡ track_of (put_back old leg) }
         ensures way { (result.east ≡ pos 0) × (result.north ≡ pos 0) }
     {
         self.stopped_at(x, y)

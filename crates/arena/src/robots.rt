@@ -9,6 +9,7 @@ ghost use Rattle.arena.specs.Answer.{wanting};
 ghost use Rattle.arena.specs.Ground.{track_of, body_of, IsWithin};
 ghost use Rattle.arena.specs.Moved.{settled};
 ghost use Rattle.arena.specs.Drive.{drive_of};
+ghost use Rattle.arena.specs.Rest.{Stays};
 
 use crate::collisions::Mover;
 use crate::limits::DEADLY;
@@ -71,6 +72,13 @@ impl Robot {
         self.damage < DEADLY
     }
 
+    /// Reports whether an update leaves the robot as it is, if none bursts near it: it is dead, or at rest.
+    pub fn stays(&self) -> bool
+        ensures { result ≡ true → Stays self.now }
+    {
+        !self.is_alive() || self.motion.rests()
+    }
+
     /// The damage so far, in percent.
     pub fn damage(&self) -> u8
         ensures value { result ≡ self.now.damage }
@@ -110,7 +118,8 @@ impl Robot {
     pub fn wanting(&self, degree: u16, speed: u8) -> Robot
         requires degree { degree < 360 }
         requires speed { speed ≤ 100 }
-        ensures robot { (robot : FieldRobot) → self.now ≡ body_of robot → result ≡ body_of (record robot { leg = wanting robot.leg degree speed }) }
+        ensures robot { (robot : FieldRobot) → self.now ≡ body_of robot
+            → result ≡ body_of (record robot { leg = wanting robot.leg degree speed }) }
         ensures way { (result.track.east ≡ self.now.track.east) × (result.track.north ≡ self.now.track.north) }
     {
         Robot {
@@ -154,7 +163,8 @@ impl Robot {
     /// The motion of a live robot after walls and collisions, given how many others it collides with.
     #[tactic(auto, unfolding(crate::specs::Drive::drive_of, crate::specs::Collisions::candidate, crate::specs::Moved::settled, crate::specs::Ground::body_of, crate::specs::Ground::track_of))]
     pub fn settled(&self, drive: &Drive, touched: usize) -> Motion
-        ensures leg { (robot : FieldRobot) → self.now ≡ body_of robot → drive.now ≡ drive_of robot → is_alive robot ≡ true → result ≡ track_of (settled robot.leg touched) }
+        ensures leg { (robot : FieldRobot) → self.now ≡ body_of robot → drive.now ≡ drive_of robot
+            → is_alive robot ≡ true → result ≡ track_of (settled robot.leg touched) }
         ensures way { (way : ℕ) → IsWithin way drive.now.motion → IsWithin way result }
     {
         if touched > 0 {

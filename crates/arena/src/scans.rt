@@ -5,18 +5,20 @@ ghost use Rattle.arith.specs.Root.{root_of};
 ghost use Rattle.arith.specs.Bearing.{bearing_of};
 ghost use Rattle.arena.specs.Field.{Robot as FieldRobot, Field};
 ghost use Rattle.arena.specs.Collisions.{square};
-ghost use Rattle.arena.specs.Scan.{apart, sees, range_of, nearer, scanned};
+ghost use Rattle.arith.specs.Degree.{apart};
+ghost use Rattle.arena.specs.Scan.{sees, range_of, nearer, scanned};
 ghost use Rattle.arena.specs.Ground.{body_of};
 
 use crate::collisions::square;
 use crate::robots::Robot;
-use arith::{bearing, root};
+use arith::{bears_within, root};
 
 /// The range in metres of the nearest live robot whose bearing differs from a degree by at most the
-/// resolution, or 0.
+/// resolution of at most 10, or 0.
 pub(crate) fn scan(robots: &[Robot], robot: usize, degree: u16, resolution: u16) -> u16
     requires inside { robot < length robots.now }
     requires degree { degree < 360 }
+    requires resolution { resolution ≤ 10 }
     ensures { (field : Field) → robots.now ≡ map body_of field.robots → result ≡ scanned field robot degree resolution }
 {
     let from = &robots[robot];
@@ -27,7 +29,9 @@ pub(crate) fn scan(robots: &[Robot], robot: usize, degree: u16, resolution: u16)
 // The nearest of some robots that are seen, if nearer than a range so far; 0 is no range.
 fn nearest(from: &Robot, others: &[Robot], degree: u16, resolution: u16, so_far: u16) -> u16
     requires degree { degree < 360 }
-    ensures { (a : FieldRobot) (rs : List FieldRobot) → from.now ≡ body_of a → others.now ≡ map body_of rs → result ≡ fold nearer so_far (map (range_of a) (filter (sees a degree resolution) rs)) }
+    requires resolution { resolution ≤ 10 }
+    ensures { (a : FieldRobot) (rs : List FieldRobot) → from.now ≡ body_of a → others.now ≡ map body_of rs
+        → result ≡ fold nearer so_far (map (range_of a) (filter (sees a degree resolution) rs)) }
 {
     let mut nearest = so_far;
     for other in others {
@@ -53,7 +57,8 @@ fn nearer(nearest: u16, range: u16) -> u16
 // Reports whether a robot sees another one.
 #[tactic(auto, unfolding(crate::specs::Scan::sees, crate::specs::Scan::in_arc, crate::specs::Scan::east_to, crate::specs::Scan::north_to, crate::specs::Ground::body_of, crate::specs::Field::is_alive))]
 fn sees(from: &Robot, to: &Robot, degree: u16, resolution: u16) -> bool
-    requires { degree < 360 }
+    requires degree { degree < 360 }
+    requires resolution { resolution ≤ 10 }
     ensures { (a b : FieldRobot) → from.now ≡ body_of a → to.now ≡ body_of b → result ≡ sees a degree resolution b }
 {
     to.is_alive()
@@ -74,25 +79,16 @@ fn in_arc(x: u16, y: u16, to_x: u16, to_y: u16, degree: u16, resolution: u16) ->
     requires to_x { to_x ≤ 999 }
     requires to_y { to_y ≤ 999 }
     requires degree { degree < 360 }
-    ensures { result ≡ (((to_x == x) && (to_y == y)) || nat_le (apart (bearing_of (pos to_x -ℤ pos x) (pos to_y -ℤ pos y)) degree) resolution) }
+    requires resolution { resolution ≤ 10 }
+    ensures { result ≡ (((to_x == x) && (to_y == y)) || nat_le
+        (apart (bearing_of (pos to_x -ℤ pos x) (pos to_y -ℤ pos y)) degree) resolution) }
 {
     if to_x == x && to_y == y {
         return true;
     }
     let east = i32::from(to_x) - i32::from(x);
     let north = i32::from(to_y) - i32::from(y);
-    apart(bearing(east, north), degree) <= resolution
-}
-
-// How far apart two degrees are round the circle.
-#[tactic(auto, unfolding(crate::specs::Scan::apart))]
-fn apart(a: u16, b: u16) -> u16
-    requires a { a < 360 }
-    requires b { b < 360 }
-    ensures { result ≡ apart a b }
-{
-    let between = a.abs_diff(b);
-    between.min(360 - between)
+    bears_within(east, north, degree, resolution)
 }
 
 // How far away a robot is, in metres: at least 1.

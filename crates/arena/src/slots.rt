@@ -49,7 +49,11 @@ impl Missile {
         requires y { y ≤ 9999 }
         requires degree { degree < 360 }
         requires range { range ≤ 700 }
-        ensures { result ≡ record { burst = updates + flight range; x = aimed_x x degree range; y = aimed_y y degree range } }
+        ensures { result ≡ record {
+          burst = updates + flight range;
+          x = aimed_x x degree range;
+          y = aimed_y y degree range;
+        } }
     {
         Missile {
             burst: updates + flight(range),
@@ -154,6 +158,13 @@ impl Slots {
         self.missiles.len() < MOST_MISSILES
     }
 
+    // Reports whether no missile is in the air.
+    fn is_empty(&self) -> bool
+        ensures { result ≡ true → self.now ≡ [] }
+    {
+        self.missiles.is_empty()
+    }
+
     // Adds a missile.
     fn add(&mut self, missile: Missile)
         requires { length self.old < 2 }
@@ -231,11 +242,24 @@ pub fn no_missiles(n: usize) -> ArrayVec<Slots, MOST_ROBOTS>
     slots
 }
 
+/// Reports whether no missile of any robot is in the air.
+pub fn none_flies(slots: &[Slots]) -> bool
+    ensures { result ≡ true → All (λ s. s ≡ []) slots.now }
+{
+    for own in slots {
+        if !own.is_empty() {
+            return false;
+        }
+    }
+    true
+}
+
 /// Reports whether a robot may fire: it has fewer than two missiles in the air.
 pub fn may_fire(slots: &[Slots], robot: usize) -> bool
     requires { robot < length slots.now }
     ensures own { result ≡ nat_lt (length (slice_index_or slots.now robot [])) 2 }
-    ensures shots { (updates : ℕ) (shots : List Shot) → HoldsShots updates slots.now shots → result ≡ nat_lt (length (in_air updates robot shots)) 2 }
+    ensures shots { (updates : ℕ) (shots : List Shot) → HoldsShots updates slots.now shots
+        → result ≡ nat_lt (length (in_air updates robot shots)) 2 }
 {
     slots[robot].has_room()
 }
@@ -244,7 +268,8 @@ pub fn may_fire(slots: &[Slots], robot: usize) -> bool
 pub fn fire(slots: &mut [Slots], robot: usize, missile: Missile)
     requires inside { robot < length slots.old }
     requires free { nat_lt (length (slice_index_or slots.old robot [])) 2 ≡ true }
-    ensures shots { (updates : ℕ) (shots : List Shot) → updates < missile.burst → HoldsShots updates slots.old shots → HoldsShots updates slots.new (shots ++ shot_of robot missile ∷ []) }
+    ensures shots { (updates : ℕ) (shots : List Shot) → updates < missile.burst → HoldsShots updates slots.old shots
+        → HoldsShots updates slots.new (shots ++ shot_of robot missile ∷ []) }
     ensures two { All (λ s. length s ≤ 2) slots.old → All (λ s. length s ≤ 2) slots.new }
 {
     slots[robot].add(missile);
@@ -252,7 +277,8 @@ pub fn fire(slots: &mut [Slots], robot: usize, missile: Missile)
 
 /// Reports whether a missile bursts in an update: if none does, nothing is hurt anywhere.
 pub fn any_due(slots: &[Slots], update: u32) -> bool
-    ensures { result ≡ false → (updates : ℕ) (shots : List Shot) (x y : ℕ) → update ≡ updates + 1 → HoldsShots updates slots.now shots → sum (bursts update shots x y) ≡ 0 }
+    ensures { result ≡ false → (updates : ℕ) (shots : List Shot) (x y : ℕ) → update ≡ updates + 1
+        → HoldsShots updates slots.now shots → sum (bursts update shots x y) ≡ 0 }
 {
     for own in slots {
         if own.is_due(update) {
@@ -268,7 +294,8 @@ pub fn damage_at(slots: &[Slots], update: u32, x: u16, y: u16) -> u8
     requires x { x ≤ 9999 }
     requires y { y ≤ 9999 }
     ensures most { result ≤ 80 }
-    ensures shots { (updates : ℕ) (shots : List Shot) → update ≡ updates + 1 → HoldsShots updates slots.now shots → result ≡ sum (bursts update shots x y) }
+    ensures shots { (updates : ℕ) (shots : List Shot) → update ≡ updates + 1 → HoldsShots updates slots.now shots
+        → result ≡ sum (bursts update shots x y) }
 {
     let mut damage = 0;
     for own in slots {
@@ -279,7 +306,8 @@ pub fn damage_at(slots: &[Slots], update: u32, x: u16, y: u16) -> u8
 
 /// Frees the missiles that burst in an update or before.
 pub fn land(slots: &mut [Slots], update: u32)
-    ensures shots { (updates : ℕ) (shots : List Shot) → update ≡ updates + 1 → HoldsShots updates slots.old shots → HoldsShots update slots.new shots }
+    ensures shots { (updates : ℕ) (shots : List Shot) → update ≡ updates + 1 → HoldsShots updates slots.old shots
+        → HoldsShots update slots.new shots }
     ensures two { All (λ s. length s ≤ 2) slots.old → All (λ s. length s ≤ 2) slots.new }
 {
     for own in slots {

@@ -24,8 +24,10 @@ const PLACES: u32 = 3000;
 /// next ones, and each draws x and then y.
 pub(crate) fn drawn_robots(random: &mut Pcg32, n: usize) -> ArrayVec<Robot, MOST_ROBOTS>
     requires { n ≤ MOST_ROBOTS }
-    ensures robots { (seed number : ℕ) → random.old ≡ generator seed number 0 → result.items ≡ map body_of (start seed number n).robots }
-    ensures words { (seed number : ℕ) → random.old ≡ generator seed number 0 → random.new ≡ generator seed number (1 + 2 * n) }
+    ensures robots { (seed number : ℕ) → random.old ≡ generator seed number 0
+        → result.items ≡ map body_of (start seed number n).robots }
+    ensures words { (seed number : ℕ) → random.old ≡ generator seed number 0
+        → random.new ≡ generator seed number (1 + 2 * n) }
     ensures manned { length result.items ≡ n }
     ensures still { All (λ (b : Body). IsWithin 0 b.track) result.items }
 {
@@ -41,8 +43,11 @@ pub(crate) fn drawn_robots(random: &mut Pcg32, n: usize) -> ArrayVec<Robot, MOST
 // A robot at a drawn place of a quadrant, of which bit 0 is the east half and bit 1 the north half.
 fn drawn_robot(random: &mut Pcg32, quadrant: u32) -> Robot
     requires { quadrant < 4 }
-    ensures robot { (seed number drawn : ℕ) → random.old ≡ generator seed number drawn → result ≡ body_of (standing (drawn_place (quadrant % 2) (word seed number drawn)) (drawn_place (quadrant / 2) (word seed number (drawn + 1)))) }
-    ensures words { (seed number drawn : ℕ) → random.old ≡ generator seed number drawn → random.new ≡ generator seed number (drawn + 2) }
+    ensures robot { (seed number drawn : ℕ) → random.old ≡ generator seed number drawn
+        → result ≡ body_of (standing (drawn_place (quadrant % 2) (word seed number drawn))
+        (drawn_place (quadrant / 2) (word seed number (drawn + 1)))) }
+    ensures words { (seed number drawn : ℕ) → random.old ≡ generator seed number drawn
+        → random.new ≡ generator seed number (drawn + 2) }
     ensures still { IsWithin 0 result.track }
 {
     let x = drawn_place(quadrant % 2, draw(random));

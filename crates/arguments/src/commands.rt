@@ -36,7 +36,8 @@ pub(crate) fn parsed<'a>(alloc: Global, words: &'a [&'a str]) -> Result<ArgMatch
 fn fault_by(error: &Error) -> UseFault
     ensures memory { kind_of error.now ≡ ErrorKind.OutOfMemory → result ≡ UseFault.Memory }
     ensures usage { kind_of error.now ≢ ErrorKind.OutOfMemory → result ≡ UseFault.Usage }
-    ensures either { (result ≡ UseFault.Memory) ⊎ ((result ≡ UseFault.Usage) × (kind_of error.now ≢ ErrorKind.OutOfMemory)) }
+    ensures either { (result ≡ UseFault.Memory)
+        ⊎ ((result ≡ UseFault.Usage) × (kind_of error.now ≢ ErrorKind.OutOfMemory)) }
 {
     match error.kind() {
         ErrorKind::OutOfMemory => UseFault::Memory,

@@ -137,7 +137,7 @@ pub bearing_of_is_first : (dx dy : ℤ) (degree : ℕ) → IsFirstGreatest (reac
 unfolding bearing_of reaches
 bearing_of_is_first dx dy degree is = sym (first_greatest-map (reach_of dx dy) 360 degree is)
 
-bearing_of-IsBearing : (dx dy : ℤ) → IsBearing dx dy (bearing_of dx dy)
+pub bearing_of-IsBearing : (dx dy : ℤ) → IsBearing dx dy (bearing_of dx dy)
 bearing_of-IsBearing dx dy =
     let b = first_of_greatest (reach_of dx dy) 359 in
     subst (λ d. IsBearing dx dy d) (bearing_of_is_first dx dy b.0 b.1) (bearing_is_first dx dy b.0 b.1)

@@ -6,3 +6,5 @@ pub mod CircleLemmas
 pub mod RootLemmas
 pub mod BearingLemmas
 pub mod LaneLemmas
+mod Turning
+mod Arcs

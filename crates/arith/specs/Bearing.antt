@@ -1,5 +1,5 @@
 -- In which degree a point lies, dx metres east and dy metres north.
-use Rattle.std.specs.Prelude.{ℕ, ◌<◌, List, [], ◌∷◌, map, ℤ, ◌+ℤ◌, ◌*ℤ◌, ◌≤ℤ◌, ◌<ℤ◌, fold}
+use Rattle.std.specs.Prelude.{ℕ, ◌<◌, nat_lt, Bool, if◌then◌else◌, List, [], ◌∷◌, map, ℤ, ◌+ℤ◌, ◌*ℤ◌, ◌≤ℤ◌, ◌<ℤ◌, int_lt, int_le, fold}
 use Rattle.std.specs.Int.{int_max}
 use Rattle.std.specs.Ordering.{int_eq}
 use Rattle.std.specs.List.{All, Contains, range_with_len, position_or_len}
@@ -32,3 +32,9 @@ reaches dx dy = map (reach_of dx dy) (range_with_len 0 360)
 -- the bearing as a number, for definitions to name: the first degree of the greatest reach
 unfoldable pub bearing_of : ℤ → ℤ → ℕ
 bearing_of dx dy = first_greatest (reaches dx dy)
+
+-- the point reaches further at one degree than at another; of equals the lesser degree comes first
+unfoldable pub leads : ℤ → ℤ → ℕ → ℕ → Bool
+leads dx dy degree other =
+    if nat_lt degree other then int_le (reach_of dx dy other) (reach_of dx dy degree)
+    else int_lt (reach_of dx dy other) (reach_of dx dy degree)

@@ -1,4 +1,5 @@
--- Values that the definitions give, worked out from them by the prover. They pin down the roundings, the signs and the ties.
+-- Values that the definitions give, worked out from them by the prover. They pin down the roundings, the signs and the
+-- ties.
 use Rattle.std.specs.Prelude.{◌≡◌, ℤ, pos, neg_ℤ, ℕ}
 use Rattle.arith.specs.declared.operators.Op.TheVariants.{ShiftLeft, ShiftRight, Divide, Remainder}
 use Rattle.arith.specs.Op.{value_of}

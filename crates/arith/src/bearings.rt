@@ -1,10 +1,12 @@
 //! The degree in which a point lies.
 
-ghost use Rattle.std.specs.Prelude.{◌≡◌, ◌<◌, ◌≤◌, ◌*◌, unsigned_abs, map};
+ghost use Rattle.std.specs.Prelude.{◌≡◌, ◌<◌, ◌≤◌, ◌*◌, nat_le, pos, unsigned_abs, map};
 ghost use Rattle.std.specs.List.{position, range_with_len};
 ghost use Rattle.std.specs.Ordering.{int_eq};
-ghost use Rattle.arith.specs.Bearing.{reach_of, reaches, IsBearing, bearing_of, IsGreatest};
+ghost use Rattle.arith.specs.Degree.{apart};
+ghost use Rattle.arith.specs.Bearing.{reach_of, reaches, IsBearing, bearing_of, leads, IsGreatest};
 
+use crate::circle::{cosine_at, sine_at};
 use crate::tables::{LANES, round_entries};
 use std::simd::prelude::*;
 
@@ -26,6 +28,51 @@ pub fn bearing(dx: i32, dy: i32) -> u16
         }
     }
     0
+}
+
+/// Reports whether the bearing of a point `dx` metres east and `dy` metres north, both from -999 to 999 and not both 0,
+/// differs from a degree from 0 to 359 by at most `spread` degrees, fewer than 90, round the circle. It compares the
+/// reaches at the ends of this arc with those just beyond them, and works out no bearing.
+pub fn bears_within(dx: i32, dy: i32, degree: u16, spread: u16) -> bool
+    requires dx_in_field { unsigned_abs dx ≤ 999 }
+    requires dy_in_field { unsigned_abs dy ≤ 999 }
+    requires elsewhere { dx ≡ pos 0 → dy ≡ pos 0 → ⊥ }
+    requires degree { degree < 360 }
+    requires spread { spread < 90 }
+    ensures { result ≡ nat_le (apart (bearing_of dx dy) degree) spread }
+{
+    let first = (degree + 360 - spread) % 360;
+    let last = (degree + spread) % 360;
+    leads(dx, dy, first, (first + 359) % 360) && leads(dx, dy, last, (last + 1) % 360)
+}
+
+/// Reports whether a point reaches further at one degree than at another; of equals the lesser degree comes first.
+#[tactic(auto, unfolding(crate::specs::Bearing::leads))]
+fn leads(dx: i32, dy: i32, degree: u16, other: u16) -> bool
+    requires dx_in_field { unsigned_abs dx ≤ 999 }
+    requires dy_in_field { unsigned_abs dy ≤ 999 }
+    requires degree { degree < 360 }
+    requires other { other < 360 }
+    ensures { result ≡ leads dx dy degree other }
+{
+    let here = reach(dx, dy, degree);
+    let there = reach(dx, dy, other);
+    if degree < other {
+        there <= here
+    } else {
+        there < here
+    }
+}
+
+/// How far a point reaches in the direction of a degree, scaled by 100,000.
+#[tactic(auto, using(crate::proofs::BearingLemmas::reach_steps), unfolding(crate::specs::Bearing::reach_of))]
+fn reach(dx: i32, dy: i32, degree: u16) -> i32
+    requires dx_in_field { unsigned_abs dx ≤ 999 }
+    requires dy_in_field { unsigned_abs dy ≤ 999 }
+    requires degree { degree < 360 }
+    ensures { result ≡ reach_of dx dy degree }
+{
+    dx * cosine_at(degree) + dy * sine_at(degree)
 }
 
 /// The greatest reach of a point over the round, scaled by 100,000.

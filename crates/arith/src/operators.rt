@@ -47,6 +47,7 @@ pub enum Op {
 
 /// What an operator makes of any two numbers. Both have been worked out before, also for `&&` and
 /// `||` (docs/numbers.md, "Operators").
+#[inline(always)]
 #[tactic(auto, using(crate::proofs::OpLemmas::op_steps))]
 pub fn binop(op: Op, a: i32, b: i32) -> i32
     ensures { result ≡ value_of op a b }
@@ -74,6 +75,7 @@ pub fn binop(op: Op, a: i32, b: i32) -> i32
 }
 
 /// The quotient, rounded towards 0; by 0 it is 0. The least number by -1 wraps round to itself.
+#[inline(always)]
 #[tactic(auto, using(crate::proofs::OpLemmas::op_steps))]
 fn quotient(a: i32, b: i32) -> i32
     ensures { result ≡ int_wrap w32 (quotient a b) }
@@ -82,6 +84,7 @@ fn quotient(a: i32, b: i32) -> i32
 }
 
 /// The remainder of the quotient, with the sign of `a`; by 0 it is 0.
+#[inline(always)]
 fn remainder(a: i32, b: i32) -> i32
     ensures { result ≡ int_wrap w32 (remainder a b) }
 {

@@ -7,7 +7,7 @@ use Rattle.arena.specs.Field.{Field}
 use Rattle.arena.specs.Ground.{Ground}
 use Rattle.arena.specs.Standing.{StandsFor as IsGroundOf}
 use Rattle.code.specs.declared.want.Want.TheVariants.{Quiet}
-use Rattle.code.specs.Generation.{Code}
+use Rattle.code.specs.Generation.{ObjectCode}
 use Rattle.code.specs.Machine.{State}
 use Rattle.code.specs.Standing.{StandsFor}
 use Rattle.battles.specs.Battle.{Robot, Stage, step, turn, robot_of}
@@ -63,23 +63,23 @@ run_taken robots next i end (suc n) s are small inside within runs =
     ∙ ap (rest robots (is_left (set next i (d + 4 * suc n))) 0 end) (ran_more robots i s n inside turns)
 
 -- The machines and the arena are at a stage from which the turns that are left lead to the end of the window.
-pub record HasCome (robots : List Robot) (codes : List Code) (next : List ℕ) (w : ℕ) (machines : List State) (arena : Ground) (opened : Stage) : Type 0 where
+pub record HasCome (robots : List Robot) (codes : List ObjectCode) (next : List ℕ) (w : ℕ) (machines : List State) (arena : Ground) (opened : Stage) : Type 0 where
   pub stage : Stage
   pub reached : HasReached machines codes arena stage
   pub ends : rest robots (is_left next) 0 (4 * w) stage ≡ rounds robots w opened
 
 -- What a robot makes of its machine and of the arena when it goes on, whatever its trace and the field are.
-pub record HasGoneOn (i : ℕ) (code : Code) (n : ℕ) (machine after : State) (arena grown : Ground) : Type 0 where
+pub record HasGoneOn (i : ℕ) (code : ObjectCode) (n : ℕ) (machine after : State) (arena grown : Ground) : Type 0 where
   pub on : (r : Robot) (f : Field) (trace : List ℤ) → IsRobotOf code r → IsGroundOf arena f → StandsFor machine code trace
       → (field : Field) × (longer : List ℤ) × GoesOn r i f trace n field longer × IsGroundOf grown field × StandsFor after code longer
 
-traces_length : (machines : List State) (codes : List Code) (traces : List (List ℤ)) → EachStandsFor machines codes traces → length traces ≡ length codes
+traces_length : (machines : List State) (codes : List ObjectCode) (traces : List (List ℤ)) → EachStandsFor machines codes traces → length traces ≡ length codes
 traces_length [] [] [] stands = refl
 traces_length (machine ∷ machines) (code ∷ codes) (trace ∷ traces) stands = ap suc (traces_length machines codes traces stands.1)
 traces_length _ _ _ stands = absurd stands
 
-pub come_on : (robots : List Robot) (codes : List Code) (next : List ℕ) (w n i : ℕ) (machines : List State) (arena grown : Ground) (opened : Stage)
-    (code : Code) (none after : State)
+pub come_on : (robots : List Robot) (codes : List ObjectCode) (next : List ℕ) (w n i : ℕ) (machines : List State) (arena grown : Ground) (opened : Stage)
+    (code : ObjectCode) (none after : State)
     → AreRobotsOf codes robots → AreSlots next → i < 4 → i < length codes → get_or next i 0 + 4 * n < 4 * w + 4 → 0 < n
     → ((j : ℕ) → j < 4 → get_or next i 0 ≤ get_or next j 0)
     → HasCome robots codes next w machines arena opened → slice_get codes i ≡ Some code
@@ -133,7 +133,7 @@ left_less end (a ∷ []) i n four small within some = absurd (omega arith)
 left_less end [] i n four small within some = absurd (omega arith)
 
 -- the window begins
-pub opens : (robots : List Robot) (codes : List Code) (next : List ℕ) (w : ℕ) (machines : List State) (arena : Ground) (s : Stage)
+pub opens : (robots : List Robot) (codes : List ObjectCode) (next : List ℕ) (w : ℕ) (machines : List State) (arena : Ground) (s : Stage)
     → AreRobotsOf codes robots → AreSlots next → length codes ≤ 4
     → ((i : ℕ) → i < length codes → i < 4 → get_or next i 0 ≡ i) → ((i : ℕ) → length codes ≤ i → i < 4 → 4 * w ≤ get_or next i 0)
     → HasReached machines codes arena s → HasCome robots codes next w machines arena s
@@ -142,7 +142,7 @@ opens robots codes next w machines arena s are slots most first past reached =
     record { stage = s; reached = reached; ends = rest_all robots next (length codes) w s slots (sym all) most (λ i low. first i low (omega arith)) past }
 
 -- and ends
-pub closes : (robots : List Robot) (codes : List Code) (next : List ℕ) (w : ℕ) (machines : List State) (arena : Ground) (s : Stage)
+pub closes : (robots : List Robot) (codes : List ObjectCode) (next : List ℕ) (w : ℕ) (machines : List State) (arena : Ground) (s : Stage)
     → ((i : ℕ) → i < 4 → 4 * w ≤ get_or next i 0)
     → HasCome robots codes next w machines arena s → HasReached machines codes arena (rounds robots w s)
 closes robots codes next w machines arena s past come =

@@ -8,7 +8,7 @@ use Rattle.code.specs.declared.want.Want.TheVariants.{Quiet}
 use Rattle.grammar.specs.Profile.{Profile}
 use Rattle.grammar.specs.Resolved.{IsResolved}
 use Rattle.grammar.specs.Tree.{File}
-use Rattle.code.specs.Generation.{Code, IsProgramOf}
+use Rattle.code.specs.Generation.{ObjectCode, IsProgramOf}
 use Rattle.code.specs.Machine.{State}
 use Rattle.code.specs.Meaning.{want}
 use Rattle.code.specs.Standing.{StandsFor}
@@ -97,7 +97,7 @@ pub dead_runs : (r : Robot) (i : ℕ) (f : Field) (trace : List ℤ) (n : ℕ) �
 dead_runs r i f trace n dead k within live = absurd (false≢true (sym dead ∙ live))
 
 -- a machine has coasted for so many cycles
-pub coasted : (r : Robot) (i : ℕ) (f : Field) (trace : List ℤ) (n k : ℕ) (code : Code) (machine after : State)
+pub coasted : (r : Robot) (i : ℕ) (f : Field) (trace : List ℤ) (n k : ℕ) (code : ObjectCode) (machine after : State)
     → IsRobotOf code r → is_live f i ≡ true → RunsAlone r i f trace n → StandsFor machine code (alone r i f trace n)
     → ((p : Profile) (file : File) (replies : List ℤ) (cycle : ℕ) → IsResolved file → IsProgramOf code p file
     → StandsFor machine code replies → cycle < k → want p file (replies ++ replicate cycle (pos 0)) ≡ Quiet)

@@ -9,7 +9,7 @@ use Rattle.arena.specs.Start.{start}
 use Rattle.grammar.specs.Profile.{Profile}
 use Rattle.grammar.specs.Resolved.{IsResolved}
 use Rattle.grammar.specs.Tree.{File}
-use Rattle.code.specs.Generation.{Code, code_of}
+use Rattle.code.specs.Generation.{ObjectCode, code_of}
 use Rattle.code.specs.Machine.{State}
 use Rattle.code.specs.Meaning.{want}
 use Rattle.code.specs.Standing.{StandsFor, FitsProgram}
@@ -20,7 +20,7 @@ use Rattle.battles.specs.Pairing.{paired, robots_of}
 use Rattle.battles.proofs.Stages.{robots_length}
 
 -- one machine more
-fits_then : (machines : List State) (codes : List Code) (i : ℕ) (machine : State) (code : Code)
+fits_then : (machines : List State) (codes : List ObjectCode) (i : ℕ) (machine : State) (code : ObjectCode)
     → EachFits machines (take i codes) → slice_get codes i ≡ Some code → FitsProgram machine code
     → EachFits (machines ++ machine ∷ []) (take (suc i) codes)
 fits_then machines [] i machine code fits here new = cc
@@ -31,12 +31,12 @@ fits_then [] (code' ∷ codes) (suc i) machine code fits here new = absurd fits
 fits_then (machine' ∷ machines) (code' ∷ codes) (suc i) machine code fits here new =
     (fits.0, fits_then machines codes i machine code fits.1 here new)
 
-pub fits_more : (machines : List State) (codes : List Code) (i : ℕ) (machine : State) (code : Code)
+pub fits_more : (machines : List State) (codes : List ObjectCode) (i : ℕ) (machine : State) (code : ObjectCode)
     → EachFits machines (take i codes) → slice_get codes i ≡ Some code → FitsProgram machine code
     → EachFits (machines ++ machine ∷ []) (take (i + 1) codes)
 fits_more machines codes i machine code fits here new = rw add-one (fits_then machines codes i machine code fits here new)
 
-stands_then : (machines : List State) (codes : List Code) (i : ℕ) (machine : State) (code : Code)
+stands_then : (machines : List State) (codes : List ObjectCode) (i : ℕ) (machine : State) (code : ObjectCode)
     → EachStandsFor machines (take i codes) (replicate i []) → slice_get codes i ≡ Some code → StandsFor machine code []
     → EachStandsFor (machines ++ machine ∷ []) (take (suc i) codes) (replicate (suc i) [])
 stands_then machines [] i machine code stands here new = cc
@@ -47,7 +47,7 @@ stands_then [] (code' ∷ codes) (suc i) machine code stands here new = absurd s
 stands_then (machine' ∷ machines) (code' ∷ codes) (suc i) machine code stands here new =
     (stands.0, stands_then machines codes i machine code stands.1 here new)
 
-pub stands_more : (machines : List State) (codes : List Code) (i : ℕ) (machine : State) (code : Code)
+pub stands_more : (machines : List State) (codes : List ObjectCode) (i : ℕ) (machine : State) (code : ObjectCode)
     → EachStandsFor machines (take i codes) (replicate i []) → slice_get codes i ≡ Some code → StandsFor machine code []
     → EachStandsFor (machines ++ machine ∷ []) (take (i + 1) codes) (replicate (i + 1) [])
 stands_more machines codes i machine code stands here new = rw add-one (stands_then machines codes i machine code stands here new)
@@ -75,7 +75,7 @@ robots_are_each p (file ∷ files) all = (
   robots_are_each p files (λ k none within. all (suc k) none (omega arith)),
 )
 
-pub robots_are : (codes : List Code) (p : Profile) (files : List File) → AreCodesOf codes p files
+pub robots_are : (codes : List ObjectCode) (p : Profile) (files : List File) → AreCodesOf codes p files
     → AreRobotsOf (paired codes) (robots_of p files)
 robots_are codes p files are =
     rw (are.are, paired_codes p files) (robots_are_each p (paired files) (paired_resolved files are.resolved))
@@ -90,7 +90,7 @@ unfolding damages_of
 damages_more n f = map-range_with_len_more (λ i. damage_of (robot_at f i)) 0 n n (omega arith)
 
 -- a battle begins with no replies
-pub opening_reached : (machines : List State) (codes : List Code) (arena : Ground) (robots : List Robot) (n seed number : ℕ)
+pub opening_reached : (machines : List State) (codes : List ObjectCode) (arena : Ground) (robots : List Robot) (n seed number : ℕ)
     → AreRobotsOf codes robots → n ≡ length codes → IsGroundOf arena (start seed number n)
     → EachStandsFor machines codes (replicate (length codes) [])
     → HasReached machines codes arena (opening (length robots) seed number)

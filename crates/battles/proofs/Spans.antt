@@ -4,7 +4,7 @@ use Rattle.std.specs.Prelude.{nat_le}
 use Rattle.arena.specs.Field.{live_count}
 use Rattle.arena.specs.Moved.{moved}
 use Rattle.battles.specs.Battle.{Robot, Stage, turns, is_over, stage_after, first_above}
-use Rattle.battles.specs.Windows.{rounds, stretch}
+use Rattle.battles.specs.Windows.{rounds, segment}
 use Rattle.battles.proofs.Cycles.{cycle_alone, cycle_updates, goes_on, stage_more, over_if_few, first_later, first_none, first_is, first_more}
 
 -- no update falls within a window
@@ -24,8 +24,8 @@ updated_stage : Stage → Stage
 updated_stage s = record { field = moved s.field; traces = s.traces }
 
 stage_updated : (robots : List Robot) (s : Stage) (n : ℕ) → n % 15 ≡ 0
-    → stage_after robots s (n + 15) ≡ stretch robots (stage_after robots s n)
-unfolding rounds stretch updated_stage
+    → stage_after robots s (n + 15) ≡ segment robots (stage_after robots s n)
+unfolding rounds segment updated_stage
 stage_updated robots s n begins =
     let last : n + 15 ≡ n + 14 + 1 = omega arith in
     ap (stage_after robots s) last
@@ -33,9 +33,9 @@ stage_updated robots s n begins =
     ∙ cycle_updates robots (n + 14 + 1) (stage_after robots s (n + 14)) (omega arith)
     ∙ ap (λ before. updated_stage (turns robots (length robots) before)) (stage_within robots s n 14 begins (omega arith))
 
-pub stage_stretch : (robots : List Robot) (s : Stage) (n : ℕ)
-    → stage_after robots s (15 * (n + 1)) ≡ stretch robots (stage_after robots s (15 * n))
-stage_stretch robots s n =
+pub stage_segment : (robots : List Robot) (s : Stage) (n : ℕ)
+    → stage_after robots s (15 * (n + 1)) ≡ segment robots (stage_after robots s (15 * n))
+stage_segment robots s n =
     let next : 15 * (n + 1) ≡ 15 * n + 15 = omega arith in
     ap (stage_after robots s) next ∙ stage_updated robots s (15 * n) (omega arith)
 
@@ -78,7 +78,7 @@ first_update robots s n limit last begins within so =
     ∙ rw count at so
 
 few_after : (robots : List Robot) (s : Stage) (n : ℕ)
-    → over robots s (15 * n + 14 + 1) ≡ nat_le (live_count (stretch robots (stage_after robots s (15 * n))).field) 1
+    → over robots s (15 * n + 14 + 1) ≡ nat_le (live_count (segment robots (stage_after robots s (15 * n))).field) 1
 unfolding over
 few_after robots s n =
     let next : 15 * n + 14 + 1 ≡ 15 * n + 15 = omega arith in
@@ -87,7 +87,7 @@ few_after robots s n =
 
 pub first_decided : (robots : List Robot) (s : Stage) (n limit last : ℕ) → 15 * n + 15 ≤ limit
     → first_above (λ k. is_over k (stage_after robots s k)) (15 * n) (limit - 15 * n) ≡ last
-    → nat_le (live_count (stretch robots (stage_after robots s (15 * n))).field) 1 ≡ true → 15 * (n + 1) ≡ last
+    → nat_le (live_count (segment robots (stage_after robots s (15 * n))).field) 1 ≡ true → 15 * (n + 1) ≡ last
 unfolding over
 first_decided robots s n limit last within so decided =
     let next : 15 * (n + 1) ≡ 15 * n + 14 + 1 = omega arith in
@@ -96,7 +96,7 @@ first_decided robots s n limit last within so decided =
 
 pub first_undecided : (robots : List Robot) (s : Stage) (n limit last : ℕ) → 15 * n + 15 ≤ limit
     → first_above (λ k. is_over k (stage_after robots s k)) (15 * n) (limit - 15 * n) ≡ last
-    → nat_le (live_count (stretch robots (stage_after robots s (15 * n))).field) 1 ≡ false
+    → nat_le (live_count (segment robots (stage_after robots s (15 * n))).field) 1 ≡ false
     → first_above (λ k. is_over k (stage_after robots s k)) (15 * (n + 1)) (limit - 15 * (n + 1)) ≡ last
 unfolding over
 first_undecided robots s n limit last within so undecided =

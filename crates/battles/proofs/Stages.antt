@@ -5,14 +5,14 @@ use Rattle.arena.specs.Field.{Field}
 use Rattle.arena.specs.Ground.{Ground}
 use Rattle.arena.specs.Standing.{StandsFor as IsGroundOf}
 use Rattle.code.specs.declared.want.Want.TheVariants.{Quiet}
-use Rattle.code.specs.Generation.{Code}
+use Rattle.code.specs.Generation.{ObjectCode}
 use Rattle.code.specs.Machine.{State}
 use Rattle.code.specs.Standing.{StandsFor, FitsProgram}
 use Rattle.battles.specs.Battle.{Robot, Stage, step, robot_of, turn, turns}
 use Rattle.battles.specs.Carrying.{IsRobotOf, AreRobotsOf, EachFits, EachStandsFor, HasReached}
 
 -- the robot with an index is that of the program there
-pub robot_at : (codes : List Code) (robots : List Robot) (i : ℕ) (code : Code) (none : Robot)
+pub robot_at : (codes : List ObjectCode) (robots : List Robot) (i : ℕ) (code : ObjectCode) (none : Robot)
     → AreRobotsOf codes robots → slice_get codes i ≡ Some code → IsRobotOf code (get_or robots i none)
 robot_at [] [] i code none are here = cc
 robot_at [] (robot ∷ robots) i code none are here = absurd are
@@ -22,7 +22,7 @@ robot_at (code' ∷ codes) (robot ∷ robots) zero code none are here =
 robot_at (code' ∷ codes) (robot ∷ robots) (suc i) code none are here = robot_at codes robots i code none are.1 here
 
 -- so does the machine with an index fit
-pub fits_at : (machines : List State) (codes : List Code) (i : ℕ) (code : Code) (none : State)
+pub fits_at : (machines : List State) (codes : List ObjectCode) (i : ℕ) (code : ObjectCode) (none : State)
     → EachFits machines codes → slice_get codes i ≡ Some code → FitsProgram (get_or machines i none) code
 fits_at [] [] i code none fits here = cc
 fits_at [] (code' ∷ codes) i code none fits here = absurd fits
@@ -33,7 +33,7 @@ fits_at (machine ∷ machines) (code' ∷ codes) (suc i) code none fits here =
     fits_at machines codes i code none fits.1 here
 
 -- and is at the end of the trace with that index
-pub stands_at : (machines : List State) (codes : List Code) (traces : List (List ℤ)) (i : ℕ) (code : Code) (none : State)
+pub stands_at : (machines : List State) (codes : List ObjectCode) (traces : List (List ℤ)) (i : ℕ) (code : ObjectCode) (none : State)
     → EachStandsFor machines codes traces → slice_get codes i ≡ Some code → StandsFor (get_or machines i none) code (get_or traces i [])
 stands_at [] [] [] i code none stands here = cc
 stands_at (machine ∷ machines) (code' ∷ codes) (trace ∷ traces) zero code none stands here =
@@ -43,20 +43,20 @@ stands_at (machine ∷ machines) (code' ∷ codes) (trace ∷ traces) (suc i) co
 stands_at _ _ _ i code none stands here = absurd stands
 
 -- there are as many of each
-pub fits_length : (machines : List State) (codes : List Code) → EachFits machines codes → length machines ≡ length codes
+pub fits_length : (machines : List State) (codes : List ObjectCode) → EachFits machines codes → length machines ≡ length codes
 fits_length [] [] fits = refl
 fits_length (machine ∷ machines) (code ∷ codes) fits = ap suc (fits_length machines codes fits.1)
 fits_length [] (code ∷ codes) fits = absurd fits
 fits_length (machine ∷ machines) [] fits = absurd fits
 
-pub robots_length : (codes : List Code) (robots : List Robot) → AreRobotsOf codes robots → length robots ≡ length codes
+pub robots_length : (codes : List ObjectCode) (robots : List Robot) → AreRobotsOf codes robots → length robots ≡ length codes
 robots_length [] [] are = refl
 robots_length (code ∷ codes) (robot ∷ robots) are = ap suc (robots_length codes robots are.1)
 robots_length [] (robot ∷ robots) are = absurd are
 robots_length (code ∷ codes) [] are = absurd are
 
 -- one machine is changed
-pub fits_set : (machines : List State) (codes : List Code) (i : ℕ) (machine : State) (code : Code)
+pub fits_set : (machines : List State) (codes : List ObjectCode) (i : ℕ) (machine : State) (code : ObjectCode)
     → EachFits machines codes → slice_get codes i ≡ Some code → FitsProgram machine code → EachFits (set machines i machine) codes
 fits_set [] [] i machine code fits here new = cc
 fits_set (machine' ∷ machines) (code' ∷ codes) zero machine code fits here new =
@@ -66,7 +66,7 @@ fits_set (machine' ∷ machines) (code' ∷ codes) (suc i) machine code fits her
 fits_set [] (code' ∷ codes) i machine code fits here new = absurd fits
 fits_set (machine' ∷ machines) [] i machine code fits here new = absurd fits
 
-pub stands_set : (machines : List State) (codes : List Code) (traces : List (List ℤ)) (i : ℕ) (machine : State) (code : Code) (trace : List ℤ)
+pub stands_set : (machines : List State) (codes : List ObjectCode) (traces : List (List ℤ)) (i : ℕ) (machine : State) (code : ObjectCode) (trace : List ℤ)
     → EachStandsFor machines codes traces → slice_get codes i ≡ Some code → StandsFor machine code trace
     → EachStandsFor (set machines i machine) codes (set traces i trace)
 stands_set [] [] [] i machine code trace stands here new = cc
@@ -86,15 +86,15 @@ unfolding turns
 turns_more robots i s = rw add-one refl
 
 -- What one robot's cycle makes of its machine and of the arena, whatever its trace and the field are.
-pub record HasStepped (i : ℕ) (code : Code) (machine after : State) (arena grown : Ground) : Type 0 where
+pub record HasStepped (i : ℕ) (code : ObjectCode) (machine after : State) (arena grown : Ground) : Type 0 where
   pub field : (r : Robot) (f : Field) (trace : List ℤ) → IsRobotOf code r → IsGroundOf arena f → StandsFor machine code trace
       → IsGroundOf grown (step r i f trace).0
   pub trace : (r : Robot) (f : Field) (trace : List ℤ) → IsRobotOf code r → IsGroundOf arena f → StandsFor machine code trace
       → StandsFor after code (step r i f trace).1
 
 -- So the stage is that after the robot's turn.
-pub turn_reached : (codes : List Code) (robots : List Robot) (machines : List State) (arena grown : Ground) (s : Stage) (i : ℕ)
-    (code : Code) (none after : State)
+pub turn_reached : (codes : List ObjectCode) (robots : List Robot) (machines : List State) (arena grown : Ground) (s : Stage) (i : ℕ)
+    (code : ObjectCode) (none after : State)
     → AreRobotsOf codes robots → HasReached machines codes arena s → slice_get codes i ≡ Some code
     → HasStepped i code (get_or machines i none) after arena grown
     → HasReached (set machines i after) codes grown (turn robots i s)

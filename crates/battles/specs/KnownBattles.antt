@@ -9,7 +9,7 @@ use Rattle.grammar.specs.declared.operators.StoreOp.TheVariants as store
 use Rattle.grammar.specs.Compiled.{compiled}
 use Rattle.grammar.specs.KnownSources.{constant, file_of_main, late_read_file, main_of, shot_tree}
 use Rattle.grammar.specs.Profile.{Profile, first_profile, second_profile}
-use Rattle.grammar.specs.Tree.{Variable, Binary, Assign, Call, NoMore, Argument, Body, Done, Alone, When, While, File}
+use Rattle.grammar.specs.Tree.{Variable, Binary, Assign, Call, NoMore, Argument, Body, Done, ExpressionStatement, IfStatement, While, File}
 use Rattle.code.specs.KnownPrograms.{shooting_file}
 use Rattle.battles.specs.Battle.{Outcome, Stage, battle, opening, stage_after, damages_of}
 use Rattle.battles.specs.Pairing.{robots_of}
@@ -24,31 +24,34 @@ idle_file = file_of_main [] idle
 -- main(){left op cannon(0,0);}
 abbrev pub beside_shot : Op → ℕ → File
 beside_shot o left =
-    file_of_main [] (Alone (Binary o (constant left) (Call (callee.Intrinsic intrinsic.Cannon) (Argument (constant 0) (Argument (constant 0) NoMore)))) Done)
+    file_of_main [] (ExpressionStatement (Binary o (constant left)
+    (Call (callee.Intrinsic intrinsic.Cannon) (Argument (constant 0) (Argument (constant 0) NoMore)))) Done)
 
 -- int n; main(){n=n+1; if(n==2) cannon(0,0);}
 abbrev pub counting_file : File
 counting_file = record {
   externals = codes "n" ∷ [];
   functions = main_of [] (
-      Alone (Assign store.Set (var.External 0) (Binary op.Add (Variable (var.External 0)) (constant 1)))
-      (When (Binary op.Equal (Variable (var.External 0)) (constant 2)) shot_tree Done)) ∷ [];
+      ExpressionStatement (Assign store.Set (var.External 0) (Binary op.Add (Variable (var.External 0)) (constant 1)))
+      (IfStatement (Binary op.Equal (Variable (var.External 0)) (constant 2)) shot_tree Done)) ∷ [];
   order = 0 ∷ [];
   main = 0;
 }
 
 -- main(){if((2&&3)==1) cannon(0,0); while(1);}
 abbrev pub truth_file : File
-truth_file = file_of_main [] (When (Binary op.Equal (Binary op.And (constant 2) (constant 3)) (constant 1)) shot_tree idle)
+truth_file = file_of_main [] (IfStatement (Binary op.Equal (Binary op.And (constant 2) (constant 3)) (constant 1))
+    shot_tree idle)
 
 -- how a battle ends
 abbrev pub after : ℕ → List ℕ → Outcome
 after cycles damages = record { cycles = cycles; damages = damages }
 
 -- the sources are those of the files, and the battle of these ends so
-pub record Fights (p : Profile) (sources : List (List ℕ)) (files : List File) (limit : ℕ) (outcome : Outcome) : Type 0 where
-  pub compiles : map (compiled p) sources ≡ map (λ file. Ok file) files
-  pub ends : battle (robots_of p files) 1 1 limit ≡ outcome
+pub record Fights (p : Profile) (sources : List (List ℕ)) (files : List File) (limit : ℕ) (outcome : Outcome) : Type 0
+  where
+    pub compiles : map (compiled p) sources ≡ map (λ file. Ok file) files
+    pub ends : battle (robots_of p files) 1 1 limit ≡ outcome
 
 -- A robot that shoots at its own feet in each turn of nine cycles, in cycles 6, 15, 24 and so on.
 abbrev pub shooting : List ℕ

@@ -4,7 +4,7 @@ ghost use Rattle.std.specs.Prelude.{◌≡◌, ◌<◌, ◌≤◌, [], ◌∷◌
 ghost use Rattle.std.specs.Option.{option_to_list};
 ghost use Rattle.battles.specs.Pairing.{paired};
 ghost use Rattle.battles.specs.Programs.{AllSome};
-ghost use Rattle.code.specs.Generation.{Code};
+ghost use Rattle.code.specs.Generation.{ObjectCode};
 
 use arrayvec::ArrayVec;
 use code::Program;
@@ -18,7 +18,7 @@ pub struct Programs {
 }
 
 impl Model for Programs {
-    ghost Value = { List Code };
+    ghost Value = { List ObjectCode };
 
     ghost view = { λ p. flat_map option_to_list p.programs.items };
 

@@ -5,7 +5,7 @@ ghost use Rattle.arena.specs.Field.{live_count};
 ghost use Rattle.battles.specs.Battle.{Robot, Stage, stage_after, last_cycle};
 ghost use Rattle.battles.specs.Carrying.{AreRobotsOf, EachFits, HasReached};
 ghost use Rattle.battles.specs.Pairing.{paired};
-ghost use Rattle.battles.specs.Windows.{stretch};
+ghost use Rattle.battles.specs.Windows.{segment};
 
 use crate::programs::Programs;
 use crate::windows::{UPDATE_CYCLES, window};
@@ -14,16 +14,16 @@ use code::Machine;
 use settings::CYCLES_MAX;
 
 // Runs the cycles up to the next update, and the update. Reports whether that decided the battle.
-fn stretch(machines: &mut [Machine], programs: &Programs, arena: &mut Arena) -> bool
+fn segment(machines: &mut [Machine], programs: &Programs, arena: &mut Arena) -> bool
     requires manned { length arena.old.robots ≡ length (paired programs.now) }
     requires fits { EachFits machines.old (paired programs.now) }
     requires updates { arena.old.updates < 66666667 }
     ensures stage { (robots : List Robot) (s : Stage) → AreRobotsOf (paired programs.now) robots
         → HasReached machines.old (paired programs.now) arena.old s
-        → HasReached machines.new (paired programs.now) arena.new (stretch robots s) }
+        → HasReached machines.new (paired programs.now) arena.new (segment robots s) }
     ensures decided { (robots : List Robot) (s : Stage) → AreRobotsOf (paired programs.now) robots
         → HasReached machines.old (paired programs.now) arena.old s
-        → result ≡ nat_le (live_count (stretch robots s).field) 1 }
+        → result ≡ nat_le (live_count (segment robots s).field) 1 }
     ensures fits { EachFits machines.new (paired programs.now) }
     ensures manned { length arena.new.robots ≡ length (paired programs.now) }
     ensures updates { arena.new.updates ≡ arena.old.updates + 1 }
@@ -52,7 +52,7 @@ pub(crate) fn play(
     ensures manned { length arena.new.robots ≡ length (paired programs.now) }
 {
     for number in 0..limit / UPDATE_CYCLES {
-        if stretch(machines, programs, arena) {
+        if segment(machines, programs, arena) {
             return UPDATE_CYCLES * (number + 1);
         }
     }

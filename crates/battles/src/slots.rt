@@ -27,7 +27,8 @@ impl Model for Slots {
 }
 
 impl Slots {
-    /// Makes the slots of so many robots before a window of so many cycles. Robots that aren't there have no turn in it.
+    /// Makes the slots of so many robots before a window of so many cycles. Robots that aren't there have no turn in
+    /// it.
     #[inline(always)]
     pub(crate) fn new(robots: usize, cycles: u32) -> Slots
         requires { cycles ≤ 1000 }

@@ -16,7 +16,7 @@ use Rattle.code.specs.declared.instr.Instr.TheVariants.{Fcall, Const, Retsub}
 use Rattle.code.specs.declared.instr.Instr.TheVariants as instr
 use Rattle.code.specs.declared.want.Want.{Want}
 use Rattle.code.specs.declared.want.Want.TheVariants.{Quiet}
-use Rattle.code.specs.Generation.{Code, Piece, ◌⨾◌, only, body_code, function_code, last_return}
+use Rattle.code.specs.Generation.{ObjectCode, Piece, ◌⨾◌, only, body_code, function_code, last_return}
 use Rattle.code.specs.declared.frame.Frame.{Frame}
 use Rattle.code.specs.Machine.{instr_at, address_at, names_at, parameters_at, variables_at, variables_of}
 use Rattle.code.specs.Meaning.{Vars, Outcome, Gives, Flow, Through, Returns, Again, and_then, tick, closed, returned, called, first_locals}
@@ -27,14 +27,14 @@ use Rattle.code.proofs.Lists.{words_of, pushed}
 use Rattle.code.proofs.Pieces.{StandsAt, stands, ends, Tied, Evaluation, gone_on, gone_on_with, flown, Evaluates, EvaluatesAll, arrives}
 
 -- what is known of the functions of a file in its code
-pub record Holds (code : Code) (file : File) : Type 0 where
+pub record Holds (code : ObjectCode) (file : File) : Type 0 where
   pub placed : (k : ℕ) → k < length file.functions → StandsAt code (address_at code k) (function_code code.profile (function_at file k) (address_at code k))
   pub named : (k : ℕ) → k < length file.functions → names_at code k ≡ names_of_function (function_at file k)
   pub known : (k : ℕ) → k < length file.functions → k < length code.names.functions
   pub resolved : (k : ℕ) → k < length file.functions → InFile (length file.externals) (length file.functions) (function_at file k)
 
 -- bodies follow their meaning along fewer than n replies
-abbrev pub Follows_sooner : Code → File → ℕ → Again → Type 0
+abbrev pub Follows_sooner : ObjectCode → File → ℕ → Again → Type 0
 Follows_sooner code file n again =
     (l : ℕ) (b : Body) → InBody (length file.externals) l (length file.functions) b →
     (below : List ℤ) (f : Frame) (fs : List Frame) (at : ℕ) (vars : Vars) (depth frames : ℕ) (trace : List ℤ) →
@@ -97,7 +97,7 @@ first_sizes : (f : Function) (arguments : List ℤ) → length (first_locals f a
 first_sizes f arguments =
     length-map-range_with_len (λ (j : ℕ). if nat_lt j f.parameters then get_or arguments j (pos 0) else pos 0) 0 (length f.variables)
 
-module _ (code : Code) (e l n : ℕ) {A : Type 0} where
+module _ (code : ObjectCode) (e l n : ℕ) {A : Type 0} where
   -- the end of a function's run
   pub closed_law : (v : ℕ) (below : List ℤ) (f g : Frame) (fs : List Frame) (at : ℕ) (depth frames : ℕ) (go : ℤ → Vars → List ℤ → Outcome A) (k : A → Vars → List ℤ → Option Want) → f.base ≡ length below → IsDepth v below [] depth → frames ≡ length (f ∷ g ∷ fs) → StandsAt code at (Const (pos 0) ∷ Retsub ∷ []) → ((x : ℤ) (vars : Vars) (rest : List ℤ) → HasSizes e v vars → length rest ≤ n → Follows e l n (go x vars rest) (wants code (back_with f below (g ∷ fs) vars.externals x) rest) k) → (flow : Flow) (vars : Vars) (rest : List ℤ) → HasSizes e v vars → length rest ≤ n → Follows e l n (closed code.profile depth frames flow vars rest go) (flown code at below f (g ∷ fs) flow vars rest) k
   closed_law v below f g fs at depth frames go k base deep count s next (Returns x) vars rest sizes short = next x vars rest sizes short
@@ -107,7 +107,7 @@ module _ (code : Code) (e l n : ℕ) {A : Type 0} where
       on_retsub code e l n below (g ∷ fs) (at + 1) k f vars [] frames (pos 0) r1 (λ rest. go (pos 0) vars rest) s.1.0 base count
       (λ r2 h2. next (pos 0) vars r2 sizes (omega (arith, short, h1, h2))))
 
-module _ (code : Code) (file : File) (l n : ℕ) (again : Again) (holds : Holds code file) (sooner : Follows_sooner code file n again) where
+module _ (code : ObjectCode) (file : File) (l n : ℕ) (again : Again) (holds : Holds code file) (sooner : Follows_sooner code file n again) where
   abbrev e : ℕ
   e = length file.externals
 

@@ -9,13 +9,13 @@ use Rattle.std.proofs.Math.ListN.{get_or-map}
 use Rattle.std.proofs.Math.Seq.{get_or-append_seam}
 use Rattle.grammar.specs.Pools.{FunctionNames, names_of_function}
 use Rattle.grammar.specs.Profile.{Profile}
-use Rattle.grammar.specs.Tree.{Expr, Constant, Variable, Binary, Assign, Postfix, Call, Args, NoMore, Argument, Body, Done, Alone, When, Choose, While, Return, Function, File}
+use Rattle.grammar.specs.Tree.{Expr, Constant, Variable, Binary, Assign, Postfix, Call, Args, NoMore, Argument, Body, Done, ExpressionStatement, IfStatement, IfElseStatement, While, Return, Function, File}
 use Rattle.code.specs.Functions.{function_at, no_function}
 use Rattle.code.specs.declared.instr.Instr.{Instr}
 use Rattle.code.specs.declared.instr.Instr.TheVariants.{Const, Retsub, Nop}
 use Rattle.code.specs.declared.want.Want.{Want}
 use Rattle.code.specs.declared.want.Want.TheVariants.{Quiet, Restart}
-use Rattle.code.specs.Generation.{Code, expr_code, args_code, body_code, function_code, functions_code, last_return, place_of, code_of}
+use Rattle.code.specs.Generation.{ObjectCode, expr_code, args_code, body_code, function_code, functions_code, last_return, place_of, code_of}
 use Rattle.code.specs.Machine.{State, instr_at, address_at, names_at, first_frame, start_state, want_next, reached, is_ready, want_code}
 use Rattle.code.specs.Meaning.{Vars, Outcome, Gives, Awaits, Flow, Through, Returns, Again, and_then, tick, closed, wanted, zeros, value, values, effect, effect_within, want}
 use Rattle.grammar.specs.Resolved.{IsAmong, IsResolved, InExpr, InArgs, InBody}
@@ -26,7 +26,7 @@ use Rattle.code.proofs.Expressions.{const_law, fetch_law, binary_law, assign_law
 use Rattle.code.proofs.Calls.{Holds, Follows_sooner, call_law}
 use Rattle.code.proofs.Statements.{done_law, alone_law, when_law, choose_law, while_law, return_law}
 
-module _ (code : Code) (file : File) (n : ℕ) (again : Again) (holds : Holds code file) (sooner : Follows_sooner code file n again) (l : ℕ) where
+module _ (code : ObjectCode) (file : File) (n : ℕ) (again : Again) (holds : Holds code file) (sooner : Follows_sooner code file n again) (l : ℕ) where
   abbrev e : ℕ
   e = length file.externals
 
@@ -51,13 +51,13 @@ module _ (code : Code) (file : File) (n : ℕ) (again : Again) (holds : Holds co
 
   effect_law : (b : Body) → InBody e l (length file.functions) b → Effects code e l n (body_code code.profile b) (λ vars depth frames trace. effect code.profile file again b vars depth frames trace)
   effect_law Done r = done_law code e l n
-  effect_law (Alone a next) r =
+  effect_law (ExpressionStatement a next) r =
       alone_law code e l n (expr_code code.profile a) (body_code code.profile next) (λ vars depth frames trace. value code.profile file again a vars depth frames trace) (λ vars depth frames trace. effect code.profile file again next vars depth frames trace)
       (value_law a r.0) (effect_law next r.1)
-  effect_law (When c s next) r =
+  effect_law (IfStatement c s next) r =
       when_law code e l n (expr_code code.profile c) (body_code code.profile s) (body_code code.profile next) (λ vars depth frames trace. value code.profile file again c vars depth frames trace) (λ vars depth frames trace. effect code.profile file again s vars depth frames trace) (λ vars depth frames trace. effect code.profile file again next vars depth frames trace)
       (value_law c r.0) (effect_law s r.1) (effect_law next r.2)
-  effect_law (Choose c s t next) r =
+  effect_law (IfElseStatement c s t next) r =
       choose_law code e l n (expr_code code.profile c) (body_code code.profile s) (body_code code.profile t) (body_code code.profile next) (λ vars depth frames trace. value code.profile file again c vars depth frames trace) (λ vars depth frames trace. effect code.profile file again s vars depth frames trace) (λ vars depth frames trace. effect code.profile file again t vars depth frames trace) (λ vars depth frames trace. effect code.profile file again next vars depth frames trace)
       (value_law c r.0) (effect_law s r.1) (effect_law t r.2) (effect_law next r.3)
   effect_law (While c s next) r =
@@ -67,7 +67,7 @@ module _ (code : Code) (file : File) (n : ℕ) (again : Again) (holds : Holds co
       return_law code e l n (expr_code code.profile a) (body_code code.profile next) (λ vars depth frames trace. value code.profile file again a vars depth frames trace) (value_law a r.0)
 
 -- At each bound, along as many replies as the bound allows.
-pub bounded : (code : Code) (file : File) → Holds code file → (n : ℕ) → Follows_sooner code file n (effect_within code.profile file n)
+pub bounded : (code : ObjectCode) (file : File) → Holds code file → (n : ℕ) → Follows_sooner code file n (effect_within code.profile file n)
 bounded code file holds zero l b r below f fs at vars depth frames trace base t short s = absurd (omega (arith, short))
 bounded code file holds (suc n) l b r below f fs at vars depth frames trace base t short s =
     let e = length file.externals in
@@ -83,7 +83,7 @@ bounded code file holds (suc n) l b r below f fs at vars depth frames trace base
     (effect_law code file n again holds (bounded code file holds n) l b r below f fs at vars depth frames trace base tied s)
 
 -- a list's part behind another part stands there
-stands_behind : (code : Code) (front xs : List Instr) → code.instructions ≡ front ++ xs → StandsAt code (length front) xs
+stands_behind : (code : ObjectCode) (front xs : List Instr) → code.instructions ≡ front ++ xs → StandsAt code (length front) xs
 stands_behind code front [] e = tt
 stands_behind code front (x ∷ xs) e =
     let whole : code.instructions ≡ (front ++ x ∷ []) ++ xs = e ∙ sym (append_assoc front (x ∷ []) xs) in
@@ -194,7 +194,7 @@ shown_if true v w e = (cc, refl)
 shown_if false v w e = (cc, cc)
 
 -- what is shown is wanted, and the instruction is ready
-shown_ready : (code : Code) (s : State) (w : Want) → shown code s ≡ Some w → (want_next code s ≡ w) × (is_ready code s (instr_at code s.at) ≡ true)
+shown_ready : (code : ObjectCode) (s : State) (w : Want) → shown code s ≡ Some w → (want_next code s ≡ w) × (is_ready code s (instr_at code s.at) ≡ true)
 shown_ready code s w e = shown_if (is_ready code s (instr_at code s.at)) (want_next code s) w e
 
 pub want_code_is_want : (p : Profile) (file : File) → IsResolved file → (trace : List ℤ) → want_code (code_of p file) trace ≡ want p file trace

@@ -8,7 +8,7 @@ use Rattle.grammar.specs.declared.operators.Op.{Op}
 use Rattle.grammar.specs.declared.operators.Op.TheVariants as op
 use Rattle.grammar.specs.declared.operators.StoreOp.{StoreOp}
 use Rattle.code.specs.declared.instr.Instr.TheVariants.{Fetch, Store, Const, Binop, Chop, Truth, Branch}
-use Rattle.code.specs.Generation.{Code, Piece, ◌⨾◌, only, either, both, short_code, binary_code, no_code}
+use Rattle.code.specs.Generation.{ObjectCode, Piece, ◌⨾◌, only, either, both, short_code, binary_code, no_code}
 use Rattle.code.specs.declared.frame.Frame.{Frame}
 use Rattle.code.specs.Machine.{instr_at}
 use Rattle.code.specs.Meaning.{Vars, Gives, and_then, push, pass, full, short, binary, value_of_variable, assigned}
@@ -18,7 +18,7 @@ use Rattle.code.proofs.Follows.{HasSizes, Follows, chain, wants}
 use Rattle.code.proofs.Instructions.{run, IsDepth, deeper, on_const, on_fetch, on_chop, on_binop, on_truth, on_store, on_branch, assigned_sizes}
 use Rattle.code.proofs.Pieces.{stands, ends, other_of, end_of, stands_either, ends_either, Tied, Evaluation, gone_on, gone_on_with, Evaluates, EvaluatesAll, arrives}
 
-module _ (code : Code) (e l n : ℕ) where
+module _ (code : ObjectCode) (e l n : ℕ) where
   -- the tie behind a value that was pushed
   tied_behind : (below : List ℤ) (fs : List Frame) (temps : List ℤ) (depth frames : ℕ) (vars : Vars) (rest : List ℤ) (x : ℤ) → IsDepth l below temps depth → frames ≡ length fs → 0 < length fs → HasSizes e l vars → length rest ≤ n → Tied e l n below fs vars (temps ++ x ∷ []) (depth + 1) frames rest
   tied_behind below fs temps depth frames vars rest x deep count inside sizes short = record {

@@ -5,7 +5,7 @@ use Rattle.std.proofs.Common.{refl, ap, ◌∙◌, arith}
 use Rattle.code.specs.declared.instr.Instr.{Instr}
 use Rattle.code.specs.declared.want.Want.{Want}
 use Rattle.code.specs.declared.want.Want.TheVariants.{Restart}
-use Rattle.code.specs.Generation.{Code}
+use Rattle.code.specs.Generation.{ObjectCode}
 use Rattle.code.specs.Machine.{State, instr_at, is_ready, is_fitting, event_of, done_with, after, want_next, reached}
 use Rattle.code.specs.Meaning.{Vars, Outcome, Gives, Awaits, and_then, tick}
 
@@ -40,14 +40,14 @@ follows_longer e l n (Gives x vars rest) w k f = record { sizes = f.sizes; short
 follows_longer e l n (Awaits event) w k f = f
 
 -- what a state shows: what it wants, or nothing where its instruction lacks what it takes
-abbrev pub shown : Code → State → Option Want
+abbrev pub shown : ObjectCode → State → Option Want
 shown code s = if is_ready code s (instr_at code s.at) then Some (want_next code s) else None
 
 -- what is shown behind replies, from a state on
-unfoldable pub wants : Code → State → List ℤ → Option Want
+unfoldable pub wants : ObjectCode → State → List ℤ → Option Want
 wants code s trace = shown code (reached code s trace)
 
-module _ (code : Code) (s : State) (i : Instr) (here : instr_at code s.at ≡ Some i) (ready : is_ready code s (Some i) ≡ true) where
+module _ (code : ObjectCode) (s : State) (i : Instr) (here : instr_at code s.at ≡ Some i) (ready : is_ready code s (Some i) ≡ true) where
   shown_when : (b : Bool) → is_fitting code s (Some i) ≡ b → shown code s ≡ Some (if b then event_of s (Some i) else Restart)
   shown_when b fits =
       ap (λ (o : Option Instr). if is_ready code s o then Some (if is_fitting code s o then event_of s o else Restart) else None) here

@@ -15,7 +15,7 @@ use Rattle.code.specs.declared.instr.Instr.TheVariants.{Fetch, Store, Const, Bin
 use Rattle.code.specs.declared.instr.Instr.TheVariants as instr
 use Rattle.code.specs.declared.want.Want.{Want}
 use Rattle.code.specs.declared.want.Want.TheVariants.{Quiet, Ask}
-use Rattle.code.specs.Generation.{Code}
+use Rattle.code.specs.Generation.{ObjectCode}
 use Rattle.code.specs.declared.frame.Frame.{Frame}
 use Rattle.code.specs.Machine.{State, instr_at, done_with, has_variable, read_variable, with_variable, next_with, word, without, address_at, parameters_at, variables_at, variables_of}
 use Rattle.grammar.specs.Resolved.{IsVariable}
@@ -88,7 +88,7 @@ next_run : (at : ℕ) (below : List ℤ) (fs : List Frame) (vars : Vars) (words 
 next_run at below fs vars words temps before e =
     ap (λ (words : List ℤ). let s : State = record { at = at + 1; home = length below; words = words; frames = fs; externals = vars.externals } in s) e
 
-module _ (code : Code) (e l n : ℕ) (below : List ℤ) (fs : List Frame) {A : Type 0} (at : ℕ) (k : A → Vars → List ℤ → Option Want) where
+module _ (code : ObjectCode) (e l n : ℕ) (below : List ℤ) (fs : List Frame) {A : Type 0} (at : ℕ) (k : A → Vars → List ℤ → Option Want) where
   -- what comes behind a cycle
   abbrev Next : List ℤ → (List ℤ → Outcome A) → ℕ → Vars → List ℤ → Type 0
   Next trace go to vars temps =
@@ -205,7 +205,7 @@ back_with f below fs externals x = record {
   externals = externals;
 }
 
-module _ (code : Code) (e l n : ℕ) (below : List ℤ) (fs : List Frame) {A : Type 0} (at : ℕ) (k : A → Vars → List ℤ → Option Want) where
+module _ (code : ObjectCode) (e l n : ℕ) (below : List ℤ) (fs : List Frame) {A : Type 0} (at : ℕ) (k : A → Vars → List ℤ → Option Want) where
   abbrev Reaches : List ℤ → (List ℤ → Outcome A) → State → Type 0
   Reaches trace go s =
       (rest : List ℤ) → suc (length rest) ≡ length trace → Follows e l n (go rest) (wants code s rest) k

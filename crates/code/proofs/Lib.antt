@@ -18,6 +18,7 @@ pub mod Bounds
 pub mod Programs
 pub mod Frames
 pub mod Variables
+pub mod Stacks
 pub mod Machines
 pub mod Coasting
 pub mod Numbers

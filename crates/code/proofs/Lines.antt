@@ -6,7 +6,7 @@ use Rattle.grammar.specs.declared.names.Intrinsic.TheVariants as intrinsic
 use Rattle.grammar.specs.Intrinsics.{name_of}
 use Rattle.grammar.specs.Pools.{FunctionNames}
 use Rattle.code.specs.declared.instr.Instr.{Instr}
-use Rattle.code.specs.Generation.{Code}
+use Rattle.code.specs.Generation.{ObjectCode}
 use Rattle.code.specs.Listing.{numbered, name_line, instr_line, function_lines, functions_lines, externals_lines, instrs_lines, lines_from, lines_of}
 use Rattle.std.proofs.lemmas.List.{get_or-append-add}
 use Rattle.std.proofs.lemmas.Option.{slice_get-get_or}
@@ -81,11 +81,11 @@ pub functions_lines-end : (addresses : List ℕ) (i : ℕ) (fs : List FunctionNa
 functions_lines-end addresses i fs h = ap (functions_lines addresses i) (drop_of_length-le fs h)
 
 -- the lines of the functions stand before those of the code
-pub line_of_functions : (code : Code) (n : ℕ) (line : List ℕ) → n < length (functions_lines code.addresses 0 code.names.functions) → get_or (functions_lines code.addresses 0 code.names.functions) n [] ≡ line → get_or (lines_from code 0 code.names.functions) n [] ≡ line
+pub line_of_functions : (code : ObjectCode) (n : ℕ) (line : List ℕ) → n < length (functions_lines code.addresses 0 code.names.functions) → get_or (functions_lines code.addresses 0 code.names.functions) n [] ≡ line → get_or (lines_from code 0 code.names.functions) n [] ≡ line
 line_of_functions code n line h e =
     get_or-append (functions_lines code.addresses 0 code.names.functions) (instrs_lines code.instructions) [] n h ∙ e
 
-pub line_of_code : (code : Code) (n : ℕ) (line : List ℕ) → length (functions_lines code.addresses 0 code.names.functions) ≤ n → get_or (instrs_lines code.instructions) (n - length (functions_lines code.addresses 0 code.names.functions)) [] ≡ line → get_or (lines_from code 0 code.names.functions) n [] ≡ line
+pub line_of_code : (code : ObjectCode) (n : ℕ) (line : List ℕ) → length (functions_lines code.addresses 0 code.names.functions) ≤ n → get_or (instrs_lines code.instructions) (n - length (functions_lines code.addresses 0 code.names.functions)) [] ≡ line → get_or (lines_from code 0 code.names.functions) n [] ≡ line
 line_of_code code n line past e =
     let own = functions_lines code.addresses 0 code.names.functions in
     let split : n ≡ length own + (n - length own) = omega (arith, past) in
@@ -93,7 +93,7 @@ line_of_code code n line past e =
     ∙ get_or-append-add own (instrs_lines code.instructions) (n - length own) []
     ∙ e
 
-pub code_within : (code : Code) (n : ℕ) → length (functions_lines code.addresses 0 code.names.functions) ≤ n → n < length (lines_from code 0 code.names.functions) → n - length (functions_lines code.addresses 0 code.names.functions) ≤ length code.instructions
+pub code_within : (code : ObjectCode) (n : ℕ) → length (functions_lines code.addresses 0 code.names.functions) ≤ n → n < length (lines_from code 0 code.names.functions) → n - length (functions_lines code.addresses 0 code.names.functions) ≤ length code.instructions
 code_within code n past within =
     omega (
       arith,
@@ -103,7 +103,7 @@ code_within code n past within =
       length-instrs_lines code.instructions,
     )
 
-pub length-lines_of : (code : Code) → length (lines_of code) ≡ length code.names.externals + 1 + length (functions_lines code.addresses 0 code.names.functions) + length code.instructions + 1
+pub length-lines_of : (code : ObjectCode) → length (lines_of code) ≡ length code.names.externals + 1 + length (functions_lines code.addresses 0 code.names.functions) + length code.instructions + 1
 length-lines_of code =
     let functions = functions_lines code.addresses 0 code.names.functions in
     let front = externals_lines code.names.externals in
@@ -116,14 +116,14 @@ length-lines_of code =
     )
 
 -- the lines of the externals stand first, and then the others
-pub line_of_externals : (code : Code) (n : ℕ) (line : List ℕ) → n ≤ length code.names.externals → n < length (lines_of code) → get_or (externals_lines code.names.externals) n [] ≡ line → slice_get (lines_of code) n ≡ Some line
+pub line_of_externals : (code : ObjectCode) (n : ℕ) (line : List ℕ) → n ≤ length code.names.externals → n < length (lines_of code) → get_or (externals_lines code.names.externals) n [] ≡ line → slice_get (lines_of code) n ≡ Some line
 line_of_externals code n line h within e =
     let front = externals_lines code.names.externals in
     let below : n < length front = omega (arith, h, length-externals_lines code.names.externals) in
     slice_get-get_or (lines_of code) n [] within
     ∙ ap (λ (x : List ℕ). Some x) (get_or-append front (lines_from code 0 code.names.functions) [] n below ∙ e)
 
-pub rest_within : (code : Code) (n : ℕ) → length code.names.externals < n → n < length (lines_of code) → n - length code.names.externals - 1 < length (lines_from code 0 code.names.functions)
+pub rest_within : (code : ObjectCode) (n : ℕ) → length code.names.externals < n → n < length (lines_of code) → n - length code.names.externals - 1 < length (lines_from code 0 code.names.functions)
 rest_within code n past within =
     omega (
       arith,
@@ -133,7 +133,7 @@ rest_within code n past within =
       length-externals_lines code.names.externals,
     )
 
-pub line_of_rest : (code : Code) (n : ℕ) (line : List ℕ) → length code.names.externals < n → n < length (lines_of code) → get_or (lines_from code 0 code.names.functions) (n - length code.names.externals - 1) [] ≡ line → slice_get (lines_of code) n ≡ Some line
+pub line_of_rest : (code : ObjectCode) (n : ℕ) (line : List ℕ) → length code.names.externals < n → n < length (lines_of code) → get_or (lines_from code 0 code.names.functions) (n - length code.names.externals - 1) [] ≡ line → slice_get (lines_of code) n ≡ Some line
 line_of_rest code n line past within e =
     let front = externals_lines code.names.externals in
     let rest = lines_from code 0 code.names.functions in

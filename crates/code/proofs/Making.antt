@@ -10,11 +10,11 @@ use Rattle.std.specs.List.{range_with_len}
 use Rattle.std.proofs.Math.Seq.{set-append_seam}
 use Rattle.grammar.specs.declared.operators.Op.{Op}
 use Rattle.grammar.specs.declared.operators.Op.TheVariants as op
-use Rattle.grammar.specs.Actions.{Action, Put, Apply, Middle, BeginCall, EndCall, IfTest, ElsePart, EndIf, BeginWhile, WhileTest, EndWhile, GiveBack, Chop, Finish, middle, expr_actions, args_actions, body_actions, function_actions, functions_actions, numbered_actions, actions}
+use Rattle.grammar.specs.Actions.{Action, StoreVariable, ApplyBinop, LogicMiddle, BeginCall, EndCall, IfTest, ElsePart, EndIf, BeginWhile, WhileTest, EndWhile, GiveBack, Chop, Finish, middle, expr_actions, args_actions, body_actions, function_actions, functions_actions, numbered_actions, actions}
 use Rattle.grammar.specs.Actions.{last_return as last_return_actions}
 use Rattle.grammar.specs.Operators.{is_logic}
 use Rattle.grammar.specs.Profile.{Profile}
-use Rattle.grammar.specs.Tree.{Expr, Constant, Variable, Binary, Assign, Postfix, Call, Args, NoMore, Argument, Body, Done, Alone, When, Choose, While, Return, Function, File}
+use Rattle.grammar.specs.Tree.{Expr, Constant, Variable, Binary, Assign, Postfix, Call, Args, NoMore, Argument, Body, Done, ExpressionStatement, IfStatement, IfElseStatement, While, Return, Function, File}
 use Rattle.code.specs.Functions.{function_at, no_function}
 use Rattle.code.specs.declared.instr.Instr.{Instr}
 use Rattle.code.specs.declared.instr.Instr.TheVariants.{Fetch, Store, Const, Binop, Fcall, Retsub, Branch, Truth, Nop}
@@ -178,10 +178,10 @@ makes_loop p xs ys zs c s b first second third m e =
     ∙ behind p m e (loop c s (length m.code)) zs b third
 
 -- an operator that both sides stand before
-applied : (m : Made) (o : Op) (short : Bool) → m.profile.short_circuit ≡ short → making m (Apply o) ≡ (if short then ended_right o m else with_code m (Binop o ∷ []))
+applied : (m : Made) (o : Op) (short : Bool) → m.profile.short_circuit ≡ short → making m (ApplyBinop o) ≡ (if short then ended_right o m else with_code m (Binop o ∷ []))
 applied m o short is = ap (λ (c : Bool). if c then ended_right o m else with_code m (Binop o ∷ [])) is
 
-between_sides : (m : Made) (o : Op) (short : Bool) → m.profile.short_circuit ≡ short → making m (Middle o) ≡ (if short then begun_right o m else m)
+between_sides : (m : Made) (o : Op) (short : Bool) → m.profile.short_circuit ≡ short → making m (LogicMiddle o) ≡ (if short then begun_right o m else m)
 between_sides m o short is = ap (λ (c : Bool). if c then begun_right o m else m) is
 
 makes_nothing : (p : Profile) → Makes p [] no_code
@@ -194,67 +194,67 @@ module _ (p : Profile) (full : p.short_circuit ≡ false) where
 
   makes_middle : (o : Op) (ys : List Action) (b : Piece) → Makes p ys b → Makes p (middle o ++ ys) b
   makes_middle o ys b second =
-      elim (is_logic o) as (λ v. Makes p ((if v then Middle o ∷ [] else []) ++ ys) b) [
+      elim (is_logic o) as (λ v. Makes p ((if v then LogicMiddle o ∷ [] else []) ++ ys) b) [
         | true ↦ (λ m e. ap (λ (r : Made). made_from r ys) (between_sides m o false (is_full m e)) ∙ second m e)
         | false ↦ second
       ]
 
-  makes_both : (o : Op) (xs ys : List Action) (a b : Piece) → Makes p xs a → Makes p ys b → Makes p (xs ++ (middle o ++ (ys ++ Apply o ∷ []))) (both o a b)
+  makes_both : (o : Op) (xs ys : List Action) (a b : Piece) → Makes p xs a → Makes p ys b → Makes p (xs ++ (middle o ++ (ys ++ ApplyBinop o ∷ []))) (both o a b)
   makes_both o xs ys a b first second =
-      let last : Makes p (Apply o ∷ []) (only (Binop o ∷ [])) = λ m e. applied m o false (is_full m e) in
-      makes_then p xs (middle o ++ (ys ++ Apply o ∷ [])) a (b ⨾ only (Binop o ∷ [])) first
-      (makes_middle o (ys ++ Apply o ∷ []) (b ⨾ only (Binop o ∷ [])) (makes_then p ys (Apply o ∷ []) b (only (Binop o ∷ [])) second last))
+      let last : Makes p (ApplyBinop o ∷ []) (only (Binop o ∷ [])) = λ m e. applied m o false (is_full m e) in
+      makes_then p xs (middle o ++ (ys ++ ApplyBinop o ∷ [])) a (b ⨾ only (Binop o ∷ [])) first
+      (makes_middle o (ys ++ ApplyBinop o ∷ []) (b ⨾ only (Binop o ∷ [])) (makes_then p ys (ApplyBinop o ∷ []) b (only (Binop o ∷ [])) second last))
 
 -- where the right side is left out
 module _ (p : Profile) (leaves : p.short_circuit ≡ true) where
   is_short : (m : Made) → m.profile ≡ p → m.profile.short_circuit ≡ true
   is_short m e = ap (λ (p : Profile). p.short_circuit) e ∙ leaves
 
-  makes_and : (ys : List Action) (b : Piece) → Makes p ys b → Makes p (Middle op.And ∷ (ys ++ Apply op.And ∷ [])) (either (b ⨾ only (Truth ∷ [])) (only (Const (pos 0) ∷ [])))
+  makes_and : (ys : List Action) (b : Piece) → Makes p ys b → Makes p (LogicMiddle op.And ∷ (ys ++ ApplyBinop op.And ∷ [])) (either (b ⨾ only (Truth ∷ [])) (only (Const (pos 0) ∷ [])))
   makes_and ys b second m e =
       let s = b ⨾ only (Truth ∷ []) in
       let t = only (Const (pos 0) ∷ []) in
       let m1 = with_branch m in
       let m2 = with_code m1 (b (length m1.code)) in
-      ap (λ (r : Made). made_from r (ys ++ Apply op.And ∷ [])) (between_sides m op.And true (is_short m e))
-      ∙ made_from-append m1 ys (Apply op.And ∷ [])
-      ∙ ap (λ (r : Made). making r (Apply op.And)) (second m1 e)
+      ap (λ (r : Made). made_from r (ys ++ ApplyBinop op.And ∷ [])) (between_sides m op.And true (is_short m e))
+      ∙ made_from-append m1 ys (ApplyBinop op.And ∷ [])
+      ∙ ap (λ (r : Made). making r (ApplyBinop op.And)) (second m1 e)
       ∙ applied m2 op.And true (is_short m2 e)
       ∙ ap (λ (r : Made). closing (with_code (with_other r) (Const (pos 0) ∷ []))) (with_code-append m1 (b (length m1.code)) (Truth ∷ []))
       ∙ ap (λ (r : Made). closing (with_code r (Const (pos 0) ∷ []))) (begun_else m s)
       ∙ closed_else m s t
 
-  makes_or : (ys : List Action) (b : Piece) → Makes p ys b → Makes p (Middle op.Or ∷ (ys ++ Apply op.Or ∷ [])) (either (only (Const (pos 1) ∷ [])) (b ⨾ only (Truth ∷ [])))
+  makes_or : (ys : List Action) (b : Piece) → Makes p ys b → Makes p (LogicMiddle op.Or ∷ (ys ++ ApplyBinop op.Or ∷ [])) (either (only (Const (pos 1) ∷ [])) (b ⨾ only (Truth ∷ [])))
   makes_or ys b second m e =
       let s = only (Const (pos 1) ∷ []) in
       let t = b ⨾ only (Truth ∷ []) in
       let m1 = between m (Const (pos 1) ∷ []) in
       let m2 = with_code m1 (b (length m1.code)) in
-      ap (λ (r : Made). made_from r (ys ++ Apply op.Or ∷ [])) (between_sides m op.Or true (is_short m e) ∙ begun_else m s)
-      ∙ made_from-append m1 ys (Apply op.Or ∷ [])
-      ∙ ap (λ (r : Made). making r (Apply op.Or)) (second m1 e)
+      ap (λ (r : Made). made_from r (ys ++ ApplyBinop op.Or ∷ [])) (between_sides m op.Or true (is_short m e) ∙ begun_else m s)
+      ∙ made_from-append m1 ys (ApplyBinop op.Or ∷ [])
+      ∙ ap (λ (r : Made). making r (ApplyBinop op.Or)) (second m1 e)
       ∙ applied m2 op.Or true (is_short m2 e)
       ∙ ap closing (with_code-append m1 (b (length m1.code)) (Truth ∷ []))
       ∙ closed_else m s t
 
-  makes_plain : (o : Op) (xs ys : List Action) (a b : Piece) → ((m : Made) → ended_right o m ≡ with_code m (Binop o ∷ [])) → Makes p xs a → Makes p ys b → Makes p (xs ++ (ys ++ Apply o ∷ [])) (both o a b)
+  makes_plain : (o : Op) (xs ys : List Action) (a b : Piece) → ((m : Made) → ended_right o m ≡ with_code m (Binop o ∷ [])) → Makes p xs a → Makes p ys b → Makes p (xs ++ (ys ++ ApplyBinop o ∷ [])) (both o a b)
   makes_plain o xs ys a b plain first second =
-      let last : Makes p (Apply o ∷ []) (only (Binop o ∷ [])) = λ m e. applied m o true (is_short m e) ∙ plain m in
-      makes_then p xs (ys ++ Apply o ∷ []) a (b ⨾ only (Binop o ∷ [])) first
-      (makes_then p ys (Apply o ∷ []) b (only (Binop o ∷ [])) second last)
+      let last : Makes p (ApplyBinop o ∷ []) (only (Binop o ∷ [])) = λ m e. applied m o true (is_short m e) ∙ plain m in
+      makes_then p xs (ys ++ ApplyBinop o ∷ []) a (b ⨾ only (Binop o ∷ [])) first
+      (makes_then p ys (ApplyBinop o ∷ []) b (only (Binop o ∷ [])) second last)
 
-  makes_short : (o : Op) (xs ys : List Action) (a b : Piece) → Makes p xs a → Makes p ys b → Makes p (xs ++ (middle o ++ (ys ++ Apply o ∷ []))) (short_code o a b)
+  makes_short : (o : Op) (xs ys : List Action) (a b : Piece) → Makes p xs a → Makes p ys b → Makes p (xs ++ (middle o ++ (ys ++ ApplyBinop o ∷ []))) (short_code o a b)
   makes_short op.And xs ys a b first second =
-      makes_then p xs (Middle op.And ∷ (ys ++ Apply op.And ∷ [])) a (either (b ⨾ only (Truth ∷ [])) (only (Const (pos 0) ∷ []))) first (makes_and ys b second)
+      makes_then p xs (LogicMiddle op.And ∷ (ys ++ ApplyBinop op.And ∷ [])) a (either (b ⨾ only (Truth ∷ [])) (only (Const (pos 0) ∷ []))) first (makes_and ys b second)
   makes_short op.Or xs ys a b first second =
-      makes_then p xs (Middle op.Or ∷ (ys ++ Apply op.Or ∷ [])) a (either (only (Const (pos 1) ∷ [])) (b ⨾ only (Truth ∷ []))) first (makes_or ys b second)
+      makes_then p xs (LogicMiddle op.Or ∷ (ys ++ ApplyBinop op.Or ∷ [])) a (either (only (Const (pos 1) ∷ [])) (b ⨾ only (Truth ∷ []))) first (makes_or ys b second)
   makes_short o xs ys a b first second = makes_plain o xs ys a b (λ m. refl) first second
 
 -- an operator of either profile
-makes_binary : (p : Profile) (o : Op) (xs ys : List Action) (a b : Piece) → Makes p xs a → Makes p ys b → Makes p (xs ++ (middle o ++ (ys ++ Apply o ∷ []))) (binary_code p o a b)
+makes_binary : (p : Profile) (o : Op) (xs ys : List Action) (a b : Piece) → Makes p xs a → Makes p ys b → Makes p (xs ++ (middle o ++ (ys ++ ApplyBinop o ∷ []))) (binary_code p o a b)
 makes_binary p o xs ys a b first second = by p.short_circuit refl
   where
-    by : (short : Bool) → p.short_circuit ≡ short → Makes p (xs ++ (middle o ++ (ys ++ Apply o ∷ []))) (if short then short_code o a b else both o a b)
+    by : (short : Bool) → p.short_circuit ≡ short → Makes p (xs ++ (middle o ++ (ys ++ ApplyBinop o ∷ []))) (if short then short_code o a b else both o a b)
     by true leaves = makes_short p leaves o xs ys a b first second
     by false full = makes_both p full o xs ys a b first second
 
@@ -266,8 +266,8 @@ module _ (p : Profile) where
     makes_expr (Variable v) = λ m e. refl
     makes_expr (Binary o a b) = makes_binary p o (expr_actions a) (expr_actions b) (expr_code p a) (expr_code p b) (makes_expr a) (makes_expr b)
     makes_expr (Assign o v a) =
-        let last : Makes p (Put v o ∷ []) (only (Store v o ∷ [])) = λ m e. refl in
-        makes_then p (expr_actions a) (Put v o ∷ []) (expr_code p a) (only (Store v o ∷ [])) (makes_expr a) last
+        let last : Makes p (StoreVariable v o ∷ []) (only (Store v o ∷ [])) = λ m e. refl in
+        makes_then p (expr_actions a) (StoreVariable v o ∷ []) (expr_code p a) (only (Store v o ∷ [])) (makes_expr a) last
     makes_expr (Postfix o v) = λ m e. ap (coded m) (simp append_assoc)
     makes_expr (Call f xs) =
         let last : Makes p (EndCall f ∷ []) (only (Fcall f ∷ [])) = λ m e. refl in
@@ -280,13 +280,13 @@ module _ (p : Profile) where
 
   pub makes_body : (b : Body) → Makes p (body_actions b) (body_code p b)
   makes_body Done = makes_nothing p
-  makes_body (Alone a next) =
+  makes_body (ExpressionStatement a next) =
       makes_then p (expr_actions a) (Chop ∷ body_actions next) (expr_code p a) (only (instr.Chop ∷ []) ⨾ body_code p next) (makes_expr a)
       (makes_one p Chop (body_actions next) (instr.Chop ∷ []) (body_code p next) (λ m. refl) (makes_body next))
-  makes_body (When c s next) =
+  makes_body (IfStatement c s next) =
       makes_then p (expr_actions c) (IfTest ∷ (body_actions s ++ EndIf ∷ body_actions next)) (expr_code p c) (past (body_code p s) ⨾ body_code p next) (makes_expr c)
       (makes_if p (body_actions s) (body_actions next) (body_code p s) (body_code p next) (makes_body s) (makes_body next))
-  makes_body (Choose c s t next) =
+  makes_body (IfElseStatement c s t next) =
       makes_then p (expr_actions c) (IfTest ∷ (body_actions s ++ ElsePart ∷ (body_actions t ++ EndIf ∷ body_actions next))) (expr_code p c) (either (body_code p s) (body_code p t) ⨾ body_code p next) (makes_expr c)
       (makes_choice p (body_actions s) (body_actions t) (body_actions next) (body_code p s) (body_code p t) (body_code p next) (makes_body s) (makes_body t) (makes_body next))
   makes_body (While c s next) =

@@ -5,7 +5,7 @@ use Rattle.code.specs.declared.instr.Instr.{Instr}
 use Rattle.code.specs.declared.instr.Instr.TheVariants.{Const, Branch}
 use Rattle.code.specs.declared.want.Want.{Want}
 use Rattle.code.specs.declared.want.Want.TheVariants.{Restart}
-use Rattle.code.specs.Generation.{Code, Piece, ◌⨾◌, either}
+use Rattle.code.specs.Generation.{ObjectCode, Piece, ◌⨾◌, either}
 use Rattle.code.specs.declared.frame.Frame.{Frame}
 use Rattle.code.specs.Machine.{instr_at}
 use Rattle.code.specs.Meaning.{Vars, Outcome, Flow, Through, Returns}
@@ -13,16 +13,16 @@ use Rattle.code.proofs.Follows.{HasSizes, Arrives, Follows, wants}
 use Rattle.code.proofs.Instructions.{run, IsDepth, back_with}
 
 -- these instructions stand in the code from this address on
-abbrev pub StandsAt : Code → ℕ → List Instr → Type 0
+abbrev pub StandsAt : ObjectCode → ℕ → List Instr → Type 0
 StandsAt code at [] = Unit {0}
 StandsAt code at (i ∷ is) = (instr_at code at ≡ Some i) × StandsAt code (at + 1) is
 
 -- the two parts of a list that stands in the code
-pub record StandsBoth (code : Code) (at : ℕ) (xs ys : List Instr) : Type 0 where
+pub record StandsBoth (code : ObjectCode) (at : ℕ) (xs ys : List Instr) : Type 0 where
   pub first : StandsAt code at xs
   pub second : StandsAt code (at + length xs) ys
 
-pub stands_both : (code : Code) (at : ℕ) (xs ys : List Instr) → StandsAt code at (xs ++ ys) → StandsBoth code at xs ys
+pub stands_both : (code : ObjectCode) (at : ℕ) (xs ys : List Instr) → StandsAt code at (xs ++ ys) → StandsBoth code at xs ys
 stands_both code at [] ys s =
     let e : at ≡ at + 0 = omega arith in
     record { first = tt; second = subst (λ (a : ℕ). StandsAt code a ys) e s }
@@ -31,7 +31,7 @@ stands_both code at (x ∷ xs) ys s =
     let e : at + 1 + length xs ≡ at + suc (length xs) = omega arith in
     record { first = (s.0, rest.first); second = subst (λ (a : ℕ). StandsAt code a ys) e rest.second }
 
-pub stands : (code : Code) (at : ℕ) (a b : Piece) → StandsAt code at ((a ⨾ b) at) → StandsBoth code at (a at) (b (at + length (a at)))
+pub stands : (code : ObjectCode) (at : ℕ) (a b : Piece) → StandsAt code at ((a ⨾ b) at) → StandsBoth code at (a at) (b (at + length (a at)))
 stands code at a b s = stands_both code at (a at) (b (at + length (a at))) s
 
 -- where a piece and the one behind it end
@@ -39,7 +39,7 @@ pub ends : (at : ℕ) (a b : Piece) → at + length (a at) + length (b (at + len
 ends at a b = omega (arith, length-append (a at) (b (at + length (a at))))
 
 -- a choice between two pieces
-pub record StandsEither (code : Code) (at : ℕ) (s t : Piece) (other end : ℕ) : Type 0 where
+pub record StandsEither (code : ObjectCode) (at : ℕ) (s t : Piece) (other end : ℕ) : Type 0 where
   pub branch : instr_at code at ≡ Some (Branch other)
   pub first : StandsAt code (at + 1) (s (at + 1))
   pub zero : instr_at code (at + 1 + length (s (at + 1))) ≡ Some (Const (pos 0))
@@ -52,7 +52,7 @@ other_of at s = at + 1 + length (s (at + 1)) + 1 + 1
 abbrev pub end_of : ℕ → Piece → Piece → ℕ
 end_of at s t = other_of at s + length (t (other_of at s))
 
-pub stands_either : (code : Code) (at : ℕ) (s t : Piece) → StandsAt code at (either s t at) → StandsEither code at s t (other_of at s) (end_of at s t)
+pub stands_either : (code : ObjectCode) (at : ℕ) (s t : Piece) → StandsAt code at (either s t at) → StandsEither code at s t (other_of at s) (end_of at s t)
 stands_either code at s t h =
     let both = stands_both code (at + 1) (s (at + 1)) (Const (pos 0) ∷ Branch (end_of at s t) ∷ t (other_of at s)) h.1 in
     record { branch = h.0; first = both.first; zero = both.second.0; jump = both.second.1.0; second = both.second.1.1 }
@@ -73,7 +73,7 @@ pub record Tied (e l n : ℕ) (below : List ℤ) (fs : List Frame) (vars : Vars)
 abbrev pub Evaluation : Type 0 → Type 0
 Evaluation A = Vars → ℕ → ℕ → List ℤ → Outcome A
 
-module _ (code : Code) where
+module _ (code : ObjectCode) where
   -- the run of a function goes on behind a piece, with its values pushed
   abbrev pub gone_on : ℕ → List ℤ → List Frame → List ℤ → ℤ → Vars → List ℤ → Option Want
   gone_on at below fs temps x vars rest = wants code (run at below fs vars (temps ++ x ∷ [])) rest
@@ -87,7 +87,7 @@ module _ (code : Code) where
   flown at below f [] (Returns x) vars rest = Some Restart
   flown at below f (g ∷ fs) (Returns x) vars rest = wants code (back_with f below (g ∷ fs) vars.externals x) rest
 
-module _ (code : Code) (e l n : ℕ) where
+module _ (code : ObjectCode) (e l n : ℕ) where
   -- wherever it stands, the piece follows the evaluation and pushes its value
   abbrev pub Evaluates : Piece → Evaluation ℤ → Type 0
   Evaluates piece ev =

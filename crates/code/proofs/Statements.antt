@@ -5,7 +5,7 @@ use Rattle.arith.specs.Op.{holds}
 use Rattle.code.specs.declared.instr.Instr.TheVariants.{Const, Branch, Chop, Retsub}
 use Rattle.code.specs.declared.want.Want.{Want}
 use Rattle.code.specs.declared.want.Want.TheVariants.{Quiet}
-use Rattle.code.specs.Generation.{Code, Piece, ◌⨾◌, only, no_code, past, either, loop}
+use Rattle.code.specs.Generation.{ObjectCode, Piece, ◌⨾◌, only, no_code, past, either, loop}
 use Rattle.code.specs.declared.frame.Frame.{Frame}
 use Rattle.code.specs.Machine.{instr_at}
 use Rattle.code.specs.Meaning.{Vars, Outcome, Gives, Flow, Through, Returns, and_then, tick, pass, on_through, and_on, over}
@@ -13,7 +13,7 @@ use Rattle.code.proofs.Follows.{HasSizes, Follows, chain, wants}
 use Rattle.code.proofs.Instructions.{run, IsDepth, on_const, on_chop, on_branch, on_retsub, on_retsub_of_main}
 use Rattle.code.proofs.Pieces.{StandsAt, stands, ends, other_of, end_of, stands_either, ends_either, Tied, Evaluation, gone_on, flown, Evaluates, Effects}
 
-module _ (code : Code) (e l n : ℕ) where
+module _ (code : ObjectCode) (e l n : ℕ) where
   -- where a function returns to doesn't depend on where it was
   same_return : (a b : ℕ) (below : List ℤ) (f : Frame) (fs : List Frame) (x : ℤ) (vars : Vars) (rest : List ℤ) → flown code a below f fs (Returns x) vars rest ≡ flown code b below f fs (Returns x) vars rest
   same_return a b below f [] x vars rest = refl

@@ -5,7 +5,7 @@ use Rattle.std.proofs.lemmas.Bool.Decides.{nat_tests}
 use Rattle.std.proofs.lemmas.List.{length-set}
 use Rattle.grammar.specs.declared.operators.Op.{Op}
 use Rattle.grammar.specs.declared.operators.Op.TheVariants as op
-use Rattle.grammar.specs.Actions.{Action, Push, Get, Put, Apply, Middle, BeginCall, EndCall, IfTest, ElsePart, EndIf, BeginWhile, WhileTest, EndWhile, GiveBack, Chop, Begin, Finish, instructions, code_length, middle_length, end_length}
+use Rattle.grammar.specs.Actions.{Action, PushConstant, FetchVariable, StoreVariable, ApplyBinop, LogicMiddle, BeginCall, EndCall, IfTest, ElsePart, EndIf, BeginWhile, WhileTest, EndWhile, GiveBack, Chop, Begin, Finish, instructions, code_length, middle_length, end_length}
 use Rattle.grammar.specs.Profile.{Profile}
 use Rattle.code.specs.declared.instr.Instr.{Instr}
 use Rattle.code.specs.declared.instr.Instr.TheVariants.{Fetch, Store, Const, Binop, Fcall, Retsub, Branch, Truth}
@@ -84,16 +84,16 @@ ended_step o = one_step (Binop o)
 
 -- an action of a profile that evaluates both sides, or leaves out the right one
 abbrev making_by : Bool → Made → Action → Made
-making_by short m (Apply o) = if short then ended_right o m else with_code m (Binop o ∷ [])
-making_by short m (Middle o) = if short then begun_right o m else m
+making_by short m (ApplyBinop o) = if short then ended_right o m else with_code m (Binop o ∷ [])
+making_by short m (LogicMiddle o) = if short then begun_right o m else m
 making_by short m a = making m a
 
 abbrev count_by : Bool → Action → ℕ
-count_by short (Apply o) = if short then end_length o else 1
-count_by short (Middle o) = if short then middle_length o else 0
-count_by short (Push value) = 1
-count_by short (Get v) = 1
-count_by short (Put v o) = 1
+count_by short (ApplyBinop o) = if short then end_length o else 1
+count_by short (LogicMiddle o) = if short then middle_length o else 0
+count_by short (PushConstant value) = 1
+count_by short (FetchVariable v) = 1
+count_by short (StoreVariable v o) = 1
 count_by short BeginCall = 1
 count_by short (EndCall callee) = 1
 count_by short IfTest = 1
@@ -108,13 +108,13 @@ count_by short (Begin number parameters) = 0
 count_by short (Finish variables) = 0
 
 step_by : (short : Bool) (a : Action) → IsStep (λ m. making_by short m a) (count_by short a)
-step_by true (Apply o) = ended_step o
-step_by false (Apply o) = one_step (Binop o)
-step_by true (Middle o) = begun_step o
-step_by false (Middle o) = none_step
-step_by short (Push value) = one_step (Const value)
-step_by short (Get v) = one_step (Fetch v)
-step_by short (Put v o) = one_step (Store v o)
+step_by true (ApplyBinop o) = ended_step o
+step_by false (ApplyBinop o) = one_step (Binop o)
+step_by true (LogicMiddle o) = begun_step o
+step_by false (LogicMiddle o) = none_step
+step_by short (PushConstant value) = one_step (Const value)
+step_by short (FetchVariable v) = one_step (Fetch v)
+step_by short (StoreVariable v o) = one_step (Store v o)
 step_by short BeginCall = one_step instr.Frame
 step_by short (EndCall callee) = one_step (Fcall callee)
 step_by short IfTest = branch_step
@@ -129,11 +129,11 @@ step_by short (Begin number parameters) = function_step number
 step_by short (Finish variables) = none_step
 
 made_by : (m : Made) (a : Action) → making m a ≡ making_by m.profile.short_circuit m a
-made_by m (Apply o) = refl
-made_by m (Middle o) = refl
-made_by m (Push value) = refl
-made_by m (Get v) = refl
-made_by m (Put v o) = refl
+made_by m (ApplyBinop o) = refl
+made_by m (LogicMiddle o) = refl
+made_by m (PushConstant value) = refl
+made_by m (FetchVariable v) = refl
+made_by m (StoreVariable v o) = refl
 made_by m BeginCall = refl
 made_by m (EndCall callee) = refl
 made_by m IfTest = refl
@@ -148,11 +148,11 @@ made_by m (Begin number parameters) = refl
 made_by m (Finish variables) = refl
 
 counted_by : (p : Profile) (a : Action) → instructions p a ≡ count_by p.short_circuit a
-counted_by p (Apply o) = refl
-counted_by p (Middle o) = refl
-counted_by p (Push value) = refl
-counted_by p (Get v) = refl
-counted_by p (Put v o) = refl
+counted_by p (ApplyBinop o) = refl
+counted_by p (LogicMiddle o) = refl
+counted_by p (PushConstant value) = refl
+counted_by p (FetchVariable v) = refl
+counted_by p (StoreVariable v o) = refl
 counted_by p BeginCall = refl
 counted_by p (EndCall callee) = refl
 counted_by p IfTest = refl

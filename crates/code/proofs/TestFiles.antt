@@ -8,7 +8,7 @@ use Rattle.grammar.specs.Compiled.{main_name}
 use Rattle.grammar.specs.Pools.{Names, FunctionNames}
 use Rattle.grammar.specs.Resolved.{InBody, InFile, IsResolved}
 use Rattle.grammar.specs.Scope.{number_of_name}
-use Rattle.grammar.specs.Tree.{Constant, Binary, Call, NoMore, Body, Done, Alone, Choose, While, Function, File}
+use Rattle.grammar.specs.Tree.{Constant, Binary, Call, NoMore, Body, Done, ExpressionStatement, IfElseStatement, While, Function, File}
 
 abbrev main_of : Body → Function
 main_of body = record { name = codes "main"; parameters = 0; variables = []; body = body }
@@ -39,14 +39,14 @@ main_alone e = ap (λ (n : Names). number_of_name main_name (map (λ (f : Functi
 
 -- main(){damage();}
 abbrev pub asking_alone_file : File
-asking_alone_file = file_of (Alone (Call (callee.Intrinsic intrinsic.Damage) NoMore) Done)
+asking_alone_file = file_of (ExpressionStatement (Call (callee.Intrinsic intrinsic.Damage) NoMore) Done)
 
 pub asking_alone_resolved : IsResolved asking_alone_file
-asking_alone_resolved = file_resolved (Alone (Call (callee.Intrinsic intrinsic.Damage) NoMore) Done) ((tt, tt), tt)
+asking_alone_resolved = file_resolved (ExpressionStatement (Call (callee.Intrinsic intrinsic.Damage) NoMore) Done) ((tt, tt), tt)
 
 -- main(){while(1) if(0) 2; else 3;}
 abbrev turning_body : Body
-turning_body = While (Constant (pos 1)) (Choose (Constant (pos 0)) (Alone (Constant (pos 2)) Done) (Alone (Constant (pos 3)) Done) Done) Done
+turning_body = While (Constant (pos 1)) (IfElseStatement (Constant (pos 0)) (ExpressionStatement (Constant (pos 2)) Done) (ExpressionStatement (Constant (pos 3)) Done) Done) Done
 
 abbrev pub turning_file : File
 turning_file = file_of turning_body
@@ -56,7 +56,7 @@ turning_resolved = file_resolved turning_body (tt, (tt, (tt, tt), (tt, tt), tt),
 
 -- main(){0 && 3;}
 abbrev deciding_body : Body
-deciding_body = Alone (Binary op.And (Constant (pos 0)) (Constant (pos 3))) Done
+deciding_body = ExpressionStatement (Binary op.And (Constant (pos 0)) (Constant (pos 3))) Done
 
 abbrev pub deciding_file : File
 deciding_file = file_of deciding_body

@@ -7,11 +7,12 @@ use Rattle.grammar.specs.Profile.{Profile}
 use Rattle.grammar.specs.Resolved.{IsResolved}
 use Rattle.grammar.specs.Scope.{number_of_name}
 use Rattle.grammar.specs.Tree.{File}
-use Rattle.code.specs.Generation.{Code, IsProgramOf}
+use Rattle.code.specs.Generation.{ObjectCode, IsProgramOf}
 use Rattle.code.specs.Making.{Made}
 use Rattle.code.specs.Told.{Stands}
 
--- the maker was told the actions of a resolved file, the names are that file's, and its main is the function of that name
+-- the maker was told the actions of a resolved file, the names are that file's, and its main is the function of that
+-- name
 pub record IsTold (maker : Made) (p : Profile) (names : Names) (file : File) : Type 0 where
   pub resolved : IsResolved file
   pub stands : Stands maker p (actions file)
@@ -24,7 +25,7 @@ pub record IsToldSomeFile (maker : Made) (names : Names) : Type 0 where
   pub told : IsTold maker profile names file
 
 -- the code is that of a resolved file
-pub record IsOfSomeFile (code : Code) : Type 0 where
+pub record IsOfSomeFile (code : ObjectCode) : Type 0 where
   pub file : File
   pub resolved : IsResolved file
   pub is : IsProgramOf code code.profile file

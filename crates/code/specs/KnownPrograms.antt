@@ -10,7 +10,7 @@ use Rattle.grammar.specs.declared.operators.StoreOp.{StoreOp}
 use Rattle.grammar.specs.declared.operators.StoreOp.TheVariants as store
 use Rattle.grammar.specs.KnownSources.{call_of, constant, distance_file, file_of_main, late_read_file, local, main_of, nearest_else_tree, shot_tree, sum_of_postfix_tree}
 use Rattle.grammar.specs.Profile.{Profile, first_profile, second_profile}
-use Rattle.grammar.specs.Tree.{Expr, Args, NoMore, Argument, Assign, Binary, Postfix, Body, Call, Done, Alone, When, File, Function, Return, While}
+use Rattle.grammar.specs.Tree.{Expr, Args, NoMore, Argument, Assign, Binary, Postfix, Body, Call, Done, ExpressionStatement, IfStatement, File, Function, Return, While}
 use Rattle.code.specs.declared.want.Want.{Want}
 use Rattle.code.specs.declared.want.Want.TheVariants.{Quiet, Ask, Restart}
 use Rattle.code.specs.Generation.{code_of}
@@ -21,28 +21,33 @@ use Rattle.code.specs.Values.{combined}
 
 -- a file of a first function, and a main behind it
 abbrev pub file_of_two : Function → Body → File
-file_of_two first main = record { externals = []; functions = first ∷ main_of [] main ∷ []; order = 0 ∷ 1 ∷ []; main = 1 }
+file_of_two first main = record {
+  externals = [];
+  functions = first ∷ main_of [] main ∷ [];
+  order = 0 ∷ 1 ∷ [];
+  main = 1;
+}
 
 abbrev pub statement_of_call : Body
-statement_of_call = Alone (call_of 0) Done
+statement_of_call = ExpressionStatement (call_of 0) Done
 
 -- main(){1+2;}
 abbrev pub sum_file : File
-sum_file = file_of_main [] (Alone (Binary op.Add (constant 1) (constant 2)) Done)
+sum_file = file_of_main [] (ExpressionStatement (Binary op.Add (constant 1) (constant 2)) Done)
 
 -- f(a){return a+damage();} main(){f(5);}
 abbrev pub asking_file : File
 asking_file = file_of_two
     (record { name = codes "f"; parameters = 1; variables = codes "a" ∷ []; body = Return (Binary op.Add (local 0) (Call (callee.Intrinsic intrinsic.Damage) NoMore)) Done })
-    (Alone (Call (callee.Function 0) (Argument (constant 5) NoMore)) Done)
+    (ExpressionStatement (Call (callee.Function 0) (Argument (constant 5) NoMore)) Done)
 
 -- int e; main(){g();} f(){} g(){e-=-1;}: g is mentioned before f, and defined behind it
 abbrev pub defined_behind_file : File
 defined_behind_file = record {
   externals = codes "e" ∷ [];
   functions =
-      main_of [] (Alone (call_of 1) Done)
-      ∷ record { name = codes "g"; parameters = 0; variables = []; body = Alone (Assign store.Subtract (var.External 0) (Binary op.Subtract (constant 0) (constant 1))) Done }
+      main_of [] (ExpressionStatement (call_of 1) Done)
+      ∷ record { name = codes "g"; parameters = 0; variables = []; body = ExpressionStatement (Assign store.Subtract (var.External 0) (Binary op.Subtract (constant 0) (constant 1))) Done }
       ∷ record { name = codes "f"; parameters = 0; variables = []; body = Done }
       ∷ [];
   order = 0 ∷ 2 ∷ 1 ∷ [];
@@ -60,15 +65,16 @@ cannon_of a b = ask intrinsic.Cannon (two a b)
 
 -- a main with these variables and one statement of an expression, and one of two such statements
 abbrev pub says : List (List ℕ) → Expr → File
-says variables e = file_of_main variables (Alone e Done)
+says variables e = file_of_main variables (ExpressionStatement e Done)
 
 abbrev pub says_then : List (List ℕ) → Expr → Expr → File
-says_then variables e next = file_of_main variables (Alone e (Alone next Done))
+says_then variables e next = file_of_main variables (ExpressionStatement e (ExpressionStatement next Done))
 
 -- main(){if((2&&3)==1) cannon(0,0); while(1);}
 abbrev pub truth_file : File
 truth_file =
-    file_of_main [] (When (Binary op.Equal (Binary op.And (constant 2) (constant 3)) (constant 1)) shot_tree (While (constant 1) Done Done))
+    file_of_main [] (IfStatement (Binary op.Equal (Binary op.And (constant 2) (constant 3)) (constant 1)) shot_tree
+    (While (constant 1) Done Done))
 
 -- The listings, worked out by hand.
 pub record KnownListings : Type 0 where
@@ -107,7 +113,8 @@ pub record KnownListings : Type 0 where
       ≡ codes "Externals 1" ∷ codes "  0 e" ∷ codes "Function 0 main vars 0 at 0" ∷ codes "Function 1 g vars 0 at 7" ∷ codes "Function 2 f vars 0 at 5" ∷ codes "Code 15"
       ∷ codes "    0 FRAME" ∷ codes "    1 FCALL 1" ∷ codes "    2 CHOP" ∷ codes "    3 CONST 0" ∷ codes "    4 RETSUB" ∷ codes "    5 CONST 0" ∷ codes "    6 RETSUB"
       ∷ codes "    7 CONST 0" ∷ codes "    8 CONST 1" ∷ codes "    9 BINOP -" ∷ codes "   10 STORE E0 -=" ∷ codes "   11 CHOP" ∷ codes "   12 CONST 0" ∷ codes "   13 RETSUB" ∷ codes "   14 NOP" ∷ []
-  pub left_out : listing_lines second_profile (says [] (Binary op.And (constant 0) (cannon_of (constant 0) (constant 0))))
+  pub left_out : listing_lines second_profile (says []
+      (Binary op.And (constant 0) (cannon_of (constant 0) (constant 0))))
       ≡ codes "Externals 0" ∷ codes "Function 0 main vars 0 at 0" ∷ codes "Code 14"
       ∷ codes "    0 CONST 0" ∷ codes "    1 BRANCH 9" ∷ codes "    2 FRAME" ∷ codes "    3 CONST 0" ∷ codes "    4 CONST 0" ∷ codes "    5 FCALL cannon"
       ∷ codes "    6 TRUTH" ∷ codes "    7 CONST 0" ∷ codes "    8 BRANCH 10" ∷ codes "    9 CONST 0" ∷ codes "   10 CHOP"
@@ -177,10 +184,14 @@ pub record KnownChoices : Type 0 where
   pub or_is_decided : InCycle second_profile (either_or_shot op.Or 1) 6 Quiet
   pub end_after_decided_or : InCycle second_profile (either_or_shot op.Or 1) 8 Restart
   pub truth_is_one : InCycle second_profile truth_file 13 shot
-  pub decided_or_is_one : InCycle second_profile (says [] (cannon_of (Binary op.Or (constant 5) (constant 0)) (constant 0))) 8 (asks_cannon (pos 1) (pos 0))
-  pub right_side_of_or_is_one : InCycle second_profile (says [] (cannon_of (Binary op.Or (constant 0) (constant 5)) (constant 0))) 7 (asks_cannon (pos 1) (pos 0))
-  pub right_side_of_and_is_one : InCycle second_profile (says [] (cannon_of (Binary op.And (constant 5) (constant 7)) (constant 0))) 9 (asks_cannon (pos 1) (pos 0))
-  pub decided_and_is_zero : InCycle second_profile (says [] (cannon_of (Binary op.And (constant 0) (constant 7)) (constant 9))) 6 (asks_cannon (pos 0) (pos 9))
+  pub decided_or_is_one : InCycle second_profile
+      (says [] (cannon_of (Binary op.Or (constant 5) (constant 0)) (constant 0))) 8 (asks_cannon (pos 1) (pos 0))
+  pub right_side_of_or_is_one : InCycle second_profile
+      (says [] (cannon_of (Binary op.Or (constant 0) (constant 5)) (constant 0))) 7 (asks_cannon (pos 1) (pos 0))
+  pub right_side_of_and_is_one : InCycle second_profile
+      (says [] (cannon_of (Binary op.And (constant 5) (constant 7)) (constant 0))) 9 (asks_cannon (pos 1) (pos 0))
+  pub decided_and_is_zero : InCycle second_profile
+      (says [] (cannon_of (Binary op.And (constant 0) (constant 7)) (constant 9))) 6 (asks_cannon (pos 0) (pos 9))
 
 -- f(a,b){cannon(a,b);} main(){f(1,2,3); f(4);}
 abbrev pub passing_file : File
@@ -189,9 +200,10 @@ passing_file = file_of_two
       name = codes "f";
       parameters = 2;
       variables = codes "a" ∷ codes "b" ∷ [];
-      body = Alone (cannon_of (local 0) (local 1)) Done;
+      body = ExpressionStatement (cannon_of (local 0) (local 1)) Done;
     })
-    (Alone (Call (callee.Function 0) (Argument (constant 1) (two (constant 2) (constant 3)))) (Alone (Call (callee.Function 0) (Argument (constant 4) NoMore)) Done))
+    (ExpressionStatement (Call (callee.Function 0) (Argument (constant 1) (two (constant 2) (constant 3))))
+    (ExpressionStatement (Call (callee.Function 0) (Argument (constant 4) NoMore)) Done))
 
 -- main(){int x; x=45; cannon(x OP 3,x);}
 abbrev pub storing_file : StoreOp → File
@@ -206,9 +218,12 @@ Stores o x = InCycle first_profile (storing_file o) 8 (asks_cannon (pos x) (pos 
 pub record KnownValues : Type 0 where
   pub surplus_argument : InCycle first_profile passing_file 9 (asks_cannon (pos 1) (pos 2))
   pub missing_argument : InCycle first_profile passing_file 20 (asks_cannon (pos 4) (pos 0))
-  pub unused_argument : InCycle first_profile (says [] (ask intrinsic.Rand (two (constant 5) (constant 7)))) 4 (asks intrinsic.Rand (pos 5) (pos 0))
-  pub one_argument_of_two : InCycle first_profile (says [] (ask intrinsic.Scan (Argument (constant 1) NoMore))) 3 (asks intrinsic.Scan (pos 1) (pos 0))
-  pub no_argument : InCycle first_profile (says [] (ask intrinsic.Drive NoMore)) 2 (asks intrinsic.Drive (pos 0) (pos 0))
+  pub unused_argument : InCycle first_profile (says [] (ask intrinsic.Rand (two (constant 5) (constant 7)))) 4
+      (asks intrinsic.Rand (pos 5) (pos 0))
+  pub one_argument_of_two : InCycle first_profile (says [] (ask intrinsic.Scan (Argument (constant 1) NoMore))) 3
+      (asks intrinsic.Scan (pos 1) (pos 0))
+  pub no_argument : InCycle first_profile (says [] (ask intrinsic.Drive NoMore)) 2
+      (asks intrinsic.Drive (pos 0) (pos 0))
   pub arguments_in_order :
       InCycle first_profile (says (codes "x" ∷ []) (cannon_of (Postfix store.Add (var.Local 0)) (local 0))) 7 (asks_cannon (pos 0) (pos 1))
   pub assignment_of_assignment :
@@ -216,7 +231,8 @@ pub record KnownValues : Type 0 where
       (says_then (codes "x" ∷ codes "y" ∷ []) (Assign store.Set (var.Local 0) (Assign store.Set (var.Local 1) (constant 2))) (cannon_of (local 0) (local 1)))
       8 (asks_cannon (pos 2) (pos 2))
   pub sides_in_order :
-      InCycle first_profile (says [] (cannon_of (Binary op.Subtract (constant 7) (constant 2)) (Binary op.ShiftLeft (constant 1) (constant 3)))) 8 (asks_cannon (pos 5) (pos 8))
+      InCycle first_profile (says [] (cannon_of (Binary op.Subtract (constant 7) (constant 2))
+      (Binary op.ShiftLeft (constant 1) (constant 3)))) 8 (asks_cannon (pos 5) (pos 8))
   pub set : Stores store.Set 3
   pub add : Stores store.Add 48
   pub subtract : Stores store.Subtract 42
@@ -232,7 +248,8 @@ pub record KnownValues : Type 0 where
 -- the values of an operator at 2 and 21, at 21 and 2, at 2 and 2, at 0 and 2
 abbrev pub Gives : Op → (a b c d : ℤ) → Type 0
 Gives o a b c d =
-    (combined o (pos 2) (pos 21) ≡ a) × (combined o (pos 21) (pos 2) ≡ b) × (combined o (pos 2) (pos 2) ≡ c) × (combined o (pos 0) (pos 2) ≡ d)
+    (combined o (pos 2) (pos 21) ≡ a) × (combined o (pos 21) (pos 2) ≡ b) × (combined o (pos 2) (pos 2) ≡ c)
+    × (combined o (pos 0) (pos 2) ≡ d)
 
 -- No two operators give the same four values.
 pub record KnownOperators : Type 0 where
@@ -263,7 +280,8 @@ is_restart Restart = true
 -- the first cycle in which a restart is wanted, of so many from this one on, where every reply is 0
 abbrev pub first_restart : (List ℤ → Want) → (cycle count : ℕ) → Option ℕ
 first_restart wanted cycle zero = None
-first_restart wanted cycle (suc n) = if is_restart (wanted (zeros (cycle - 1))) then Some cycle else first_restart wanted (cycle + 1) n
+first_restart wanted cycle (suc n) = if is_restart (wanted (zeros (cycle - 1))) then Some cycle else first_restart
+    wanted (cycle + 1) n
 
 -- by the trees and by the instructions the first restart is in this cycle
 pub record RestartsIn (p : Profile) (cycle : ℕ) (file : File) : Type 0 where
@@ -276,12 +294,13 @@ calls_f locals body = file_of_two (record { name = codes "f"; parameters = 0; va
 
 -- damage(); and then these statements
 abbrev pub damage_then : Body → Body
-damage_then next = Alone (Call (callee.Intrinsic intrinsic.Damage) NoMore) next
+damage_then next = ExpressionStatement (Call (callee.Intrinsic intrinsic.Damage) NoMore) next
 
 -- The first restarts of programs.
 pub record KnownRestarts : Type 0 where
   pub return_in_main : RestartsIn first_profile 2 (file_of_main [] (Return (constant 5) Done))
-  pub return_in_loops : RestartsIn first_profile 6 (file_of_main [] (While (constant 1) (While (constant 1) (Return (constant 0) Done) Done) Done))
+  pub return_in_loops : RestartsIn first_profile 6
+      (file_of_main [] (While (constant 1) (While (constant 1) (Return (constant 0) Done) Done) Done))
   pub main_calls_itself : RestartsIn first_profile 127 (file_of_main [] statement_of_call)
   pub f_calls_itself : RestartsIn first_profile 127 (calls_f 0 statement_of_call)
   pub fifty_locals : RestartsIn first_profile 22 (calls_f 50 statement_of_call)

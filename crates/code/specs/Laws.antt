@@ -8,4 +8,5 @@ use Rattle.code.specs.Generation.{code_of}
 
 -- The code of a file has as many instructions as its actions make, and the last NOP.
 abbrev pub HasLengthOfActions : Type 0
-HasLengthOfActions = (p : Profile) (file : File) → IsResolved file → length (code_of p file).instructions ≡ code_length p (actions file) + 1
+HasLengthOfActions = (p : Profile) (file : File) → IsResolved file
+    → length (code_of p file).instructions ≡ code_length p (actions file) + 1

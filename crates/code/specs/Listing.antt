@@ -6,7 +6,7 @@ use Rattle.grammar.specs.Pools.{FunctionNames}
 use Rattle.grammar.specs.Profile.{Profile}
 use Rattle.grammar.specs.Tree.{File}
 use Rattle.code.specs.declared.instr.Instr.{Instr}
-use Rattle.code.specs.Generation.{Code, code_of}
+use Rattle.code.specs.Generation.{ObjectCode, code_of}
 use Rattle.code.specs.Spelling.{instr_text}
 
 -- a line for each member, which is told its number too: the first has this number
@@ -45,11 +45,11 @@ abbrev pub instrs_lines : List Instr → List (List ℕ)
 instrs_lines instrs = (codes "Code " ++ decimal (length instrs)) ∷ numbered instr_line 0 instrs
 
 -- the lines of the functions from this number on, and then those of the code
-abbrev pub lines_from : Code → ℕ → List FunctionNames → List (List ℕ)
+abbrev pub lines_from : ObjectCode → ℕ → List FunctionNames → List (List ℕ)
 lines_from code number fs = functions_lines code.addresses number fs ++ instrs_lines code.instructions
 
 -- the lines behind the line that names the file
-abbrev pub lines_of : Code → List (List ℕ)
+abbrev pub lines_of : ObjectCode → List (List ℕ)
 lines_of code = externals_lines code.names.externals ++ lines_from code 0 code.names.functions
 
 -- a line's bytes with its LF
@@ -57,7 +57,7 @@ abbrev pub ended_line : List ℕ → List ℕ
 ended_line line = line ++ 10 ∷ []
 
 -- the bytes of a listing, the name of the file in front
-abbrev pub listing_of : List ℕ → Code → List ℕ
+abbrev pub listing_of : List ℕ → ObjectCode → List ℕ
 listing_of name code = concat (map ended_line ((codes "File " ++ name) ∷ lines_of code))
 
 abbrev pub listing_lines : Profile → File → List (List ℕ)

@@ -1,6 +1,6 @@
 -- What a maker holds behind a list of actions.
 use Rattle.std.specs.Prelude.{ℕ, pos, ◌+◌, List, [], ◌∷◌, ◌++◌, length, replicate, slice_set, if◌then◌else◌}
-use Rattle.grammar.specs.Actions.{Action, Push, Get, Put, Apply, Middle, BeginCall, EndCall, IfTest, ElsePart, EndIf, BeginWhile, WhileTest, EndWhile, GiveBack, Chop, Begin, Finish}
+use Rattle.grammar.specs.Actions.{Action, PushConstant, FetchVariable, StoreVariable, ApplyBinop, LogicMiddle, BeginCall, EndCall, IfTest, ElsePart, EndIf, BeginWhile, WhileTest, EndWhile, GiveBack, Chop, Begin, Finish}
 use Rattle.grammar.specs.declared.operators.Op.{Op}
 use Rattle.grammar.specs.declared.operators.Op.TheVariants as op
 use Rattle.grammar.specs.Profile.{Profile}
@@ -8,7 +8,8 @@ use Rattle.code.specs.declared.instr.Instr.{Instr}
 use Rattle.code.specs.declared.instr.Instr.TheVariants.{Fetch, Store, Const, Binop, Fcall, Retsub, Branch, Truth}
 use Rattle.code.specs.declared.instr.Instr.TheVariants as instr
 
--- The profile, the instructions so far, the address of each function by number (0 where it didn't begin), and what is open, the last
+-- The profile, the instructions so far, the address of each function by number (0 where it didn't begin), and what is
+-- open, the last
 -- first: the address of a branch that has no target yet, or of a loop's start.
 pub record Made : Type 0 where
   pub profile : Profile
@@ -25,7 +26,12 @@ with_code m code = record { profile = m.profile; code = m.code ++ code; addresse
 
 -- the function of this number begins here
 abbrev pub with_function : Made → ℕ → Made
-with_function m number = record { profile = m.profile; code = m.code; addresses = slice_set m.addresses number (length m.code); opened = m.opened }
+with_function m number = record {
+  profile = m.profile;
+  code = m.code;
+  addresses = slice_set m.addresses number (length m.code);
+  opened = m.opened;
+}
 
 abbrev pub first_of : List ℕ → ℕ
 first_of [] = 0
@@ -41,7 +47,12 @@ opening m = record { profile = m.profile; code = m.code; addresses = m.addresses
 
 -- a branch without a target
 abbrev pub with_branch : Made → Made
-with_branch m = record { profile = m.profile; code = m.code ++ Branch 0 ∷ []; addresses = m.addresses; opened = length m.code ∷ m.opened }
+with_branch m = record {
+  profile = m.profile;
+  code = m.code ++ Branch 0 ∷ [];
+  addresses = m.addresses;
+  opened = length m.code ∷ m.opened;
+}
 
 -- the last open branch leads to the next instruction
 abbrev pub closing : Made → Made
@@ -73,7 +84,8 @@ with_other m = record {
 abbrev pub without_open : Made → Made
 without_open m = record { profile = m.profile; code = m.code; addresses = m.addresses; opened = rest_of m.opened }
 
--- where the right side is left out: behind the left side, a branch is taken to the value of && that is decided, and else
+-- where the right side is left out: behind the left side, a branch is taken to the value of && that is decided, and
+-- else
 -- to the right side of ||, behind its value that is decided
 abbrev pub begun_right : Op → Made → Made
 begun_right op.And m = with_branch m
@@ -87,11 +99,11 @@ ended_right op.Or m = closing (with_code m (Truth ∷ []))
 ended_right o m = with_code m (Binop o ∷ [])
 
 abbrev pub making : Made → Action → Made
-making m (Push value) = with_code m (Const value ∷ [])
-making m (Get v) = with_code m (Fetch v ∷ [])
-making m (Put v o) = with_code m (Store v o ∷ [])
-making m (Apply o) = if m.profile.short_circuit then ended_right o m else with_code m (Binop o ∷ [])
-making m (Middle o) = if m.profile.short_circuit then begun_right o m else m
+making m (PushConstant value) = with_code m (Const value ∷ [])
+making m (FetchVariable v) = with_code m (Fetch v ∷ [])
+making m (StoreVariable v o) = with_code m (Store v o ∷ [])
+making m (ApplyBinop o) = if m.profile.short_circuit then ended_right o m else with_code m (Binop o ∷ [])
+making m (LogicMiddle o) = if m.profile.short_circuit then begun_right o m else m
 making m BeginCall = with_code m (instr.Frame ∷ [])
 making m (EndCall callee) = with_code m (Fcall callee ∷ [])
 making m IfTest = with_branch m

@@ -10,7 +10,7 @@ use Rattle.grammar.specs.declared.names.Var.TheVariants.{External, Local}
 use Rattle.grammar.specs.declared.operators.Op.{Op}
 use Rattle.grammar.specs.declared.operators.Op.TheVariants as op
 use Rattle.grammar.specs.Profile.{Profile}
-use Rattle.grammar.specs.Tree.{Expr, Constant, Variable, Binary, Assign, Postfix, Call, Args, NoMore, Argument, Body, Done, Alone, When, Choose, While, Return, Function, File}
+use Rattle.grammar.specs.Tree.{Expr, Constant, Variable, Binary, Assign, Postfix, Call, Args, NoMore, Argument, Body, Done, ExpressionStatement, IfStatement, IfElseStatement, While, Return, Function, File}
 use Rattle.code.specs.Functions.{function_at}
 use Rattle.code.specs.declared.want.Want.{Want}
 use Rattle.code.specs.declared.want.Want.TheVariants.{Quiet, Ask, Restart}
@@ -57,7 +57,8 @@ Again = Body → Vars → ℕ → ℕ → List ℤ → Outcome Flow
 -- the variables that a function begins with: a parameter is the argument in its place, and all else is 0
 abbrev pub first_locals : Function → List ℤ → List ℤ
 first_locals f arguments =
-    map (λ j. if nat_lt j f.parameters then get_or arguments j (pos 0) else pos 0) (range_with_len 0 (length f.variables))
+    map (λ j. if nat_lt j f.parameters then get_or arguments j (pos 0) else pos 0)
+    (range_with_len 0 (length f.variables))
 
 -- a word is pushed
 abbrev pub push : {A : Type 0} → Profile → ℕ → List ℤ → (List ℤ → Outcome A) → Outcome A
@@ -163,23 +164,26 @@ module _ (p : Profile) (file : File) (again : Again) where
   -- the effect of statements
   abbrev pub effect : Body → Vars → ℕ → ℕ → List ℤ → Outcome Flow
   effect Done vars depth frames trace = Gives Through vars trace
-  effect (Alone e next) vars depth frames trace =
+  effect (ExpressionStatement e next) vars depth frames trace =
       and_then (value e vars depth frames trace) (λ x vars rest.
       pass rest (λ rest. effect next vars depth frames rest))
-  effect (When c s next) vars depth frames trace =
+  effect (IfStatement c s next) vars depth frames trace =
       and_then (value c vars depth frames trace) (λ x vars rest.
       pass rest (λ rest.
-      if holds x then and_on (effect s vars depth frames rest) (λ vars rest. effect next vars depth frames rest) else effect next vars depth frames rest))
-  effect (Choose c s t next) vars depth frames trace =
+      if holds x then and_on (effect s vars depth frames rest) (λ vars rest. effect next vars depth frames rest) else
+      effect next vars depth frames rest))
+  effect (IfElseStatement c s t next) vars depth frames trace =
       and_then (value c vars depth frames trace) (λ x vars rest.
       pass rest (λ rest.
       if holds x then and_on (effect s vars depth frames rest) (λ vars rest.
-      over p depth rest (λ rest. effect next vars depth frames rest)) else and_on (effect t vars depth frames rest) (λ vars rest. effect next vars depth frames rest)))
+      over p depth rest (λ rest. effect next vars depth frames rest)) else and_on (effect t vars depth frames rest)
+      (λ vars rest. effect next vars depth frames rest)))
   effect (While c s next) vars depth frames trace =
       and_then (value c vars depth frames trace) (λ x vars rest.
       pass rest (λ rest.
       if holds x then and_on (effect s vars depth frames rest) (λ vars rest.
-      over p depth rest (λ rest. again (While c s next) vars depth frames rest)) else effect next vars depth frames rest))
+      over p depth rest (λ rest. again (While c s next) vars depth frames rest)) else effect next vars depth frames
+      rest))
   effect (Return e next) vars depth frames trace =
       and_then (value e vars depth frames trace) (λ x vars rest.
       tick (nat_lt 1 frames) Quiet rest (λ reply rest. Gives (Returns x) vars rest))
@@ -187,7 +191,8 @@ module _ (p : Profile) (file : File) (again : Again) where
 -- with at most n turns and calls inside one another
 abbrev pub effect_within : Profile → File → ℕ → Again
 effect_within p file zero body vars depth frames trace = Awaits Restart
-effect_within p file (suc n) body vars depth frames trace = effect p file (effect_within p file n) body vars depth frames trace
+effect_within p file (suc n) body vars depth frames trace = effect p file (effect_within p file n) body vars depth
+    frames trace
 
 -- main does not end: where it would return, it wants a restart
 abbrev pub wanted : Outcome ℤ → Want

@@ -11,6 +11,7 @@ mod machine;
 mod maker;
 mod operators;
 mod program;
+mod stack;
 #[cfg(test)]
 mod tests;
 mod text;
@@ -25,7 +26,7 @@ pub use laws::length_of_code;
 pub use limits::{LINE_BYTES, MOST_FRAMES, MOST_INSTRUCTIONS, MOST_WORDS};
 pub use machine::Machine;
 pub use maker::Maker;
-pub use operators::{operator_mark, store_mark};
+pub use operators::{operator_punctuator, store_punctuator};
 pub use program::Program;
 pub use text::Line;
 pub use want::Want;

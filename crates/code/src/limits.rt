@@ -1,4 +1,5 @@
-//! The room for a program's code, for the machine and for the lines of a listing. What a program may use of it goes by its
+//! The room for a program's code, for the machine and for the lines of a listing. What a program may use of it goes by
+//! its
 //! profile.
 
 /// The most instructions of a program's code in any profile, with the NOP that ends it.

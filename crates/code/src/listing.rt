@@ -6,7 +6,7 @@ ghost use Rattle.code.specs.Spelling.{instr_text, variable_text, callee_text};
 
 use crate::instr::Instr;
 use crate::limits::MOST_INSTRUCTIONS;
-use crate::operators::{operator_mark, store_mark};
+use crate::operators::{operator_punctuator, store_punctuator};
 use crate::program::Program;
 use crate::text::{Line, put_in_five_columns, put_name, put_number, put_text, put_value};
 use grammar::{Callee, Function, MOST_NAMES, Name, Var};
@@ -186,7 +186,7 @@ fn put_instr(line: &mut Line, instr: Instr)
             put_text(line, "STORE ");
             put_variable(line, variable);
             put_text(line, " ");
-            put_text(line, store_mark(op));
+            put_text(line, store_punctuator(op));
         }
         Instr::Const(value) => {
             put_text(line, "CONST ");
@@ -194,7 +194,7 @@ fn put_instr(line: &mut Line, instr: Instr)
         }
         Instr::Binop(op) => {
             put_text(line, "BINOP ");
-            put_text(line, operator_mark(op));
+            put_text(line, operator_punctuator(op));
         }
         Instr::Fcall(callee) => {
             put_text(line, "FCALL ");

@@ -1,14 +1,14 @@
-//! The marks of the operators in a listing.
+//! The punctuators of the operators in a listing.
 
 ghost use Rattle.std.specs.Prelude.{◌≡◌, ◌≤◌, length};
 ghost use Rattle.code.specs.Spelling.{operator_text, store_text};
 
 use grammar::{Op, StoreOp};
 
-/// The mark that spells an operator.
+/// The punctuator that spells an operator.
 #[tactic(auto, unfolding(crate::specs::Spelling::operator_text))]
-pub fn operator_mark(op: Op) -> &'static str
-    ensures mark { result.now ≡ operator_text op }
+pub fn operator_punctuator(op: Op) -> &'static str
+    ensures punctuator { result.now ≡ operator_text op }
     ensures short { length result.now ≤ 2 }
 {
     match op {
@@ -33,10 +33,10 @@ pub fn operator_mark(op: Op) -> &'static str
     }
 }
 
-/// The mark that spells an assignment's operator.
+/// The punctuator that spells an assignment's operator.
 #[tactic(auto, unfolding(crate::specs::Spelling::store_text))]
-pub fn store_mark(op: StoreOp) -> &'static str
-    ensures mark { result.now ≡ store_text op }
+pub fn store_punctuator(op: StoreOp) -> &'static str
+    ensures punctuator { result.now ≡ store_text op }
     ensures short { length result.now ≤ 3 }
 {
     match op {

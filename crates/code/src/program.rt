@@ -8,7 +8,6 @@ ghost use Rattle.code.specs.Machine.{names_at, address_at};
 
 use crate::instr::Instr;
 use crate::limits::{MOST_FRAMES, MOST_INSTRUCTIONS, MOST_WORDS};
-use crate::listing::function_line_count;
 use arrayvec::ArrayVec;
 use grammar::{Function, MOST_NAMES, Pools, Profile};
 use std::marker::Model;
@@ -16,54 +15,44 @@ use std::marker::Model;
 /// The program of a file.
 #[derive(Drop)]
 pub struct Program {
-    profile: Profile,
-    code: ArrayVec<Instr, MOST_INSTRUCTIONS>,
-    addresses: ArrayVec<u16, MOST_NAMES>,
-    names: Pools,
-    main: u8,
+    pub(crate) profile: Profile,
+    pub(crate) code: ArrayVec<Instr, MOST_INSTRUCTIONS>,
+    pub(crate) addresses: ArrayVec<u16, MOST_NAMES>,
+    pub(crate) names: Pools,
+    pub(crate) main: u8,
     // the lines that the functions have in a listing
-    function_lines: u16,
+    pub(crate) function_lines: u16,
 }
 
 impl Model for Program {
     ghost use Rattle.std.specs.Prelude.{◌≡◌, length};
-    ghost use Rattle.code.specs.Generation.{Code};
+    ghost use Rattle.code.specs.Generation.{ObjectCode};
     ghost use Rattle.code.specs.Listing.{functions_lines};
     ghost use Rattle.code.specs.Finishing.{IsOfSomeFile};
     ghost use Rattle.grammar.specs.Profile.{IsProfile};
 
-    ghost Value = { Code };
+    ghost Value = { ObjectCode };
 
-    ghost view = { λ p. record { profile = p.profile; instructions = p.code.items; addresses = p.addresses.items; names = p.names; main = p.main } };
+    ghost view = { λ p. record {
+      profile = p.profile;
+      instructions = p.code.items;
+      addresses = p.addresses.items;
+      names = p.names;
+      main = p.main;
+    } };
 
-    ghost invariant = { λ p. IsProfile p.profile × IsOfSomeFile (record { profile = p.profile; instructions = p.code.items; addresses = p.addresses.items; names = p.names; main = p.main })
+    ghost invariant = { λ p. IsProfile p.profile
+        × IsOfSomeFile (record {
+          profile = p.profile;
+          instructions = p.code.items;
+          addresses = p.addresses.items;
+          names = p.names;
+          main = p.main;
+        })
         × (p.function_lines ≡ length (functions_lines p.addresses.items 0 p.names.functions)) };
 }
 
 impl Program {
-    // The program by this profile with this code, these addresses of its functions and these names.
-    pub(crate) fn new(
-        profile: Profile,
-        code: ArrayVec<Instr, MOST_INSTRUCTIONS>,
-        addresses: ArrayVec<u16, MOST_NAMES>,
-        names: Pools,
-        main: u8,
-    ) -> Program
-        requires known { IsProfile profile }
-        requires file { IsOfSomeFile (record { profile = profile; instructions = code.items; addresses = addresses.items; names = names; main = main }) }
-        ensures { result ≡ record { profile = profile; instructions = code.items; addresses = addresses.items; names = names; main = main } }
-    {
-        let function_lines = function_line_count(names.functions()) as u16;
-        Program {
-            profile,
-            code,
-            addresses,
-            names,
-            main,
-            function_lines,
-        }
-    }
-
     /// The profile by which the program was made.
     #[inline(always)]
     pub fn profile(&self) -> Profile

@@ -7,6 +7,7 @@ use arith::binop;
 use grammar::{Op, StoreOp};
 
 // The operator among those on numbers.
+#[inline(always)]
 #[tactic(auto, unfolding(crate::specs::Values::number_op))]
 fn number_op(op: Op) -> arith::Op
     ensures { result ≡ number_op op }
@@ -34,6 +35,7 @@ fn number_op(op: Op) -> arith::Op
 }
 
 /// What an operator makes of its sides.
+#[inline(always)]
 pub fn combined(op: Op, a: i32, b: i32) -> i32
     ensures { result ≡ combined op a b }
 {
@@ -41,6 +43,7 @@ pub fn combined(op: Op, a: i32, b: i32) -> i32
 }
 
 /// What an assignment makes of the variable's value and its right side.
+#[inline(always)]
 #[tactic(auto, unfolding(crate::specs::Values::stored))]
 pub fn stored(op: StoreOp, old: i32, x: i32) -> i32
     ensures { result ≡ stored op old x }

@@ -31,7 +31,8 @@ IsEndingOf words (Err fault.Write) ending = ending ≡ CannotWrite
 IsEndingOf words (Err fault.Memory) ending = ending ≡ OutOfMemory
 
 -- a run over files whose contents are known so ended in this way
-pub record RunsTo (setup : Setup) (known : List (Option (List ℕ))) (ending : Ending) (before after : Taken) (failed failed_after : Failures) : Type 0 where
+pub record RunsTo (setup : Setup) (known : List (Option (List ℕ))) (ending : Ending) (before after : Taken)
+    (failed failed_after : Failures) : Type 0 where
   pub answer : Result Status RunFault
   pub ends : IsEndingOf setup.words answer ending
   pub output : (sources : List Source) → AreSources sources setup.words known → Runs setup sources answer before after
@@ -44,15 +45,19 @@ IsNotOpened refuses words OutOfMemory = Unit {0}
 IsNotOpened refuses words _ = ⊥
 
 -- How the program ends, up to its own line. Refused words end it at once; else the files are opened, and then they run.
-abbrev pub Ends : (List ℕ → Option (List ℕ)) → (List ℕ → Type 0) → Result Setup UseFault → Ending → Taken → Taken → Type 0
+abbrev pub Ends : (List ℕ → Option (List ℕ)) → (List ℕ → Type 0) → Result Setup UseFault → Ending → Taken → Taken
+    → Type 0
 Ends holds refuses (Err fault) ending before after = ((ending ≡ WrongUsage) ⊎ (ending ≡ OutOfMemory)) × (after ≡ before)
 Ends holds refuses (Ok setup) ending before after =
     (IsNotOpened refuses setup.words ending × (after ≡ before))
-    ⊎ ((failed : Failures) × (failed_after : Failures) × RunsTo setup (map holds setup.words) ending before after failed failed_after)
+    ⊎ ((failed : Failures) × (failed_after : Failures)
+    × RunsTo setup (map holds setup.words) ending before after failed failed_after)
 
--- The program ends so, puts the line of its ending, whole if the channel of faults never failed, and answers its status.
+-- The program ends so, puts the line of its ending, whole if the channel of faults never failed, and answers its
+-- status.
 -- The two counts say how often that channel had failed before, and has failed after.
-pub record Concludes (holds : List ℕ → Option (List ℕ)) (refuses : List ℕ → Type 0) (asked : Result Setup UseFault) (result : ℕ)
+pub record Concludes (holds : List ℕ → Option (List ℕ)) (refuses : List ℕ → Type 0) (asked : Result Setup UseFault)
+    (result : ℕ)
     (before after : Taken) (failed failed_after : ℕ) : Type 0 where
   pub ending : Ending
   pub between : Taken

@@ -35,7 +35,8 @@ impl<F: Read> Feed for FileFeed<F> {
         ensures calm { OnOk result (self.new.failures ≡ self.old.failures) }
         ensures counted { OnErr result (self.new.failures ≡ self.old.failures + 1) }
         // A file whose bytes are known has then lost those that were given, and gives none only at its end.
-        ensures given { IfOk result (λ n. Consumes (F.remaining self.old.file) (F.remaining self.new.file) (take n buf.new)) }
+        ensures given { IfOk result (λ n. Consumes (F.remaining self.old.file) (F.remaining self.new.file)
+            (take n buf.new)) }
         ensures ends { IfOk result (λ n. n ≡ 0 → IsAtEnd (F.remaining self.new.file)) }
         ensures kept { OnErr result (Keeps (F.remaining self.old.file) (F.remaining self.new.file)) }
     {
@@ -81,7 +82,8 @@ impl<W: Write> Sink for StreamSink<W> {
         ensures calm { OnOk result (self.new.failures ≡ self.old.failures) }
         ensures counted { OnErr result (self.new.failures ≡ self.old.failures + 1) }
         // A stream whose bytes are known holds then those that were taken.
-        ensures written { IfOk result (λ n. Appends (W.contents self.old.stream) (W.contents self.new.stream) (take n bytes.now)) }
+        ensures written { IfOk result (λ n. Appends (W.contents self.old.stream) (W.contents self.new.stream)
+            (take n bytes.now)) }
         ensures kept { OnErr result (Keeps (W.contents self.old.stream) (W.contents self.new.stream)) }
     {
         match self.stream.write(bytes) {

@@ -35,7 +35,8 @@ impl Ending<'_> {
     pub fn end<E: Sink>(self, err: &mut E) -> u8
         requires { E.failures err.old < 2 ^ 64 - 1 }
         ensures status { result ≡ status_of self.entry }
-        ensures line { PutsLine (E.portions err.old) (E.failures err.old) (E.portions err.new) (E.failures err.new) (line_of self.entry) }
+        ensures line { PutsLine (E.portions err.old) (E.failures err.old) (E.portions err.new) (E.failures err.new)
+            (line_of self.entry) }
         ensures quiet { line_of self.entry ≡ [] → E.failures err.new ≡ E.failures err.old }
     {
         let _ = self.put_line(err);
@@ -58,7 +59,8 @@ impl Ending<'_> {
     #[tactic(auto, unfolding(crate::specs::Endings::usage_line))]
     fn put_line<E: Sink>(self, err: &mut E) -> Result<(), DeviceFault>
         requires { E.failures err.old < 2 ^ 64 - 1 }
-        ensures line { Puts result (E.portions err.old) (E.failures err.old) (E.portions err.new) (E.failures err.new) (line_of self.entry) }
+        ensures line { Puts result (E.portions err.old) (E.failures err.old) (E.portions err.new) (E.failures err.new)
+            (line_of self.entry) }
         ensures quiet { line_of self.entry ≡ [] → E.failures err.new ≡ E.failures err.old }
     {
         match self {
@@ -75,7 +77,8 @@ impl Ending<'_> {
 /// Puts the line that says this about a file.
 fn put_about<E: Sink>(err: &mut E, what: &[u8], word: &str) -> Result<(), DeviceFault>
     requires { E.failures err.old < 2 ^ 64 - 1 }
-    ensures { Puts result (E.portions err.old) (E.failures err.old) (E.portions err.new) (E.failures err.new) (what.now ++ word.now ++ 10 ∷ []) }
+    ensures { Puts result (E.portions err.old) (E.failures err.old) (E.portions err.new) (E.failures err.new)
+        (what.now ++ word.now ++ 10 ∷ []) }
 {
     let mut pen = Pen::new();
     pen.add(err, what);

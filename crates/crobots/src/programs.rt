@@ -34,7 +34,8 @@ pub fn program<'a, R: Files + AllocGlobal, O: Sink, E: Sink>(
     ensures whole { result ≤ 1 → (O.failures out.new ≡ O.failures out.old) × (E.failures err.new ≡ E.failures err.old) }
     ensures write { result ≡ 4 → (O.failures out.old < O.failures out.new) ⊎ (E.failures err.old < E.failures err.new) }
     ensures ended { Concludes (λ _. None) (λ _. ⊤) (asked (map (λ word. word.now) words.now)) result
-        (taken (O.portions out.old) (E.portions err.old)) (taken (O.portions out.new) (E.portions err.new)) (E.failures err.old) (E.failures err.new) }
+        (taken (O.portions out.old) (E.portions err.old)) (taken (O.portions out.new) (E.portions err.new))
+        (E.failures err.old) (E.failures err.new) }
 {
     program_over(rt.alloc(), &Disk::new(rt), words, out, err)
 }
@@ -55,7 +56,8 @@ pub fn program_over<'a, D: Opener, O: Sink, E: Sink>(
     ensures whole { result ≤ 1 → (O.failures out.new ≡ O.failures out.old) × (E.failures err.new ≡ E.failures err.old) }
     ensures write { result ≡ 4 → (O.failures out.old < O.failures out.new) ⊎ (E.failures err.old < E.failures err.new) }
     ensures ended { Concludes (D.holds disk.now) (D.refuses disk.now) (asked (map (λ word. word.now) words.now)) result
-        (taken (O.portions out.old) (E.portions err.old)) (taken (O.portions out.new) (E.portions err.new)) (E.failures err.old) (E.failures err.new) }
+        (taken (O.portions out.old) (E.portions err.old)) (taken (O.portions out.new) (E.portions err.new))
+        (E.failures err.old) (E.failures err.new) }
 {
     ending(alloc, disk, words, out, err).end(err)
 }
@@ -72,7 +74,8 @@ fn ending<'a, D: Opener, O: Sink, E: Sink>(
     requires faults { E.failures err.old < 2 ^ 64 - 2 }
     ensures ends { Ends (D.holds disk.now) (D.refuses disk.now) (asked (map (λ word. word.now) words.now)) result
         (taken (O.portions out.old) (E.portions err.old)) (taken (O.portions out.new) (E.portions err.new)) }
-    ensures failures { Accounts result (O.failures out.old) (E.failures err.old) (O.failures out.new) (E.failures err.new) }
+    ensures failures { Accounts result (O.failures out.old) (E.failures err.old) (O.failures out.new)
+        (E.failures err.new) }
 {
     let settings = match read_words(alloc, words) {
         Ok(settings) => settings,
@@ -92,7 +95,8 @@ fn open_files<'a, D: Opener>(
     disk: &D,
     words: &[&'a str],
 ) -> Result<Vec<D::File>, Ending<'a>>
-    ensures contents { IfOk result (λ feeds. map D.File.to_come feeds.items ≡ map (λ word. D.holds disk.now word.now) words.now) }
+    ensures contents { IfOk result (λ feeds. map D.File.to_come feeds.items
+        ≡ map (λ word. D.holds disk.now word.now) words.now) }
     ensures calm { IfOk result (λ feeds. All (λ feed. D.File.failures feed ≡ 0) feeds.items) }
     ensures refused { IfErr result (IsNotOpened (D.refuses disk.now) (map (λ word. word.now) words.now)) }
 {
@@ -125,7 +129,8 @@ fn run_files<'a, F: Feed, O: Sink, E: Sink>(
         (taken (O.portions out.old) (E.portions err.old)) (taken (O.portions out.new) (E.portions err.new))
         (failures (map F.failures feeds.old) (O.failures out.old) (E.failures err.old))
         (failures (map F.failures feeds.new) (O.failures out.new) (E.failures err.new)) }
-    ensures failures { Accounts result (O.failures out.old) (E.failures err.old) (O.failures out.new) (E.failures err.new) }
+    ensures failures { Accounts result (O.failures out.old) (E.failures err.old) (O.failures out.new)
+        (E.failures err.new) }
 {
     match run(settings, feeds, out, err) {
         Ok(Status::Done) => Ending::Done,

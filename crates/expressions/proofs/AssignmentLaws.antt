@@ -2,19 +2,19 @@
 use Rattle.std.proofs.Common.{◌≡◌, ℕ, ◌+◌, ◌<◌, ◌≤◌, List, [], ◌∷◌, refl, ap, Bool, true, false, arith}
 use Rattle.std.specs.Prelude.{Some, None, is_some}
 use Rattle.tokens.specs.Tokens.{is_last}
-use Rattle.tokens.specs.declared.lexemes.Lexeme.{Lexeme}
-use Rattle.tokens.specs.declared.lexemes.Mark.{Mark}
-use Rattle.tokens.specs.declared.lexemes.Token.{Token}
-use Rattle.tokens.specs.declared.lexemes.Token.TheVariants as token
+use Rattle.tokens.specs.declared.located_tokens.LocatedToken.{LocatedToken}
+use Rattle.tokens.specs.declared.located_tokens.Punctuator.{Punctuator}
+use Rattle.tokens.specs.declared.located_tokens.Token.{Token}
+use Rattle.tokens.specs.declared.located_tokens.Token.TheVariants as token
 use Rattle.grammar.specs.declared.diagnostics.Code.TheVariants as code
 use Rattle.grammar.specs.declared.diagnostics.ParseFault.{ParseFault}
 use Rattle.grammar.specs.declared.names.Var.{Var}
 use Rattle.grammar.specs.declared.operators.StoreOp.{StoreOp}
-use Rattle.grammar.specs.Actions.{Put, expr_actions}
+use Rattle.grammar.specs.Actions.{StoreVariable, expr_actions}
 use Rattle.grammar.specs.Building.{Meaning, AppendsAll, MayFollow}
 use Rattle.grammar.specs.Compiled.{diagnostic}
 use Rattle.grammar.specs.Derivation.{AnExpr, AVariable, name_of_token}
-use Rattle.grammar.specs.Grammar.{AName, Exactly, Expression, Level, Make, Mentioned, Part, Shut, Store, choice, is_fault, is_mark, opens}
+use Rattle.grammar.specs.Grammar.{AName, Exactly, Expression, Level, Make, Mentioned, Part, Close, Store, choice, is_fault, is_punctuator, opens}
 use Rattle.grammar.specs.Nesting.{nesting}
 use Rattle.grammar.specs.Operators.{store_of, store_operator}
 use Rattle.grammar.specs.Resolved.{InExpr, IsVariable}
@@ -22,23 +22,23 @@ use Rattle.grammar.specs.Tree.{Assign, Expr}
 use Rattle.parsing.specs.Position.{Place, after_at, next_at}
 use Rattle.parsing.specs.Room.{HasRoom, room}
 use Rattle.parsing.specs.Stopping.{stop_with}
-use Rattle.parsing.specs.Stretch.{IsNearTo, Derives, DerivesItem, FailsAt, FailsItem, GoesPast, Refused, StopsAt}
-use Rattle.parsing.proofs.Stretches.{exit, exit_item, joined}
+use Rattle.parsing.specs.Segment.{IsNearTo, Derives, DerivesItem, FailsAt, FailsItem, GoesPast, Refused, StopsAt}
+use Rattle.parsing.proofs.Segments.{exit, exit_item, joined}
 use Rattle.expressions.specs.Expressions.{AddsExpr}
 use Rattle.expressions.proofs.NameLaws.{behind_name_is}
 use Rattle.parsing.proofs.Parts.{MakesOnly}
-use Rattle.expressions.proofs.Productions.{Chooses, OpensLevel, chosen, chosen_within, item_done, makes_and_shuts, mark_ends, mark_past, name_too_deep, same_self}
+use Rattle.expressions.proofs.Productions.{Chooses, OpensLevel, chosen, chosen_within, item_done, makes_and_closes, punctuator_ends, punctuator_past, name_too_deep, same_self}
 use Rattle.expressions.proofs.TellingLaws.{appends_then, next_follows, room_within}
 use Rattle.expressions.proofs.VariableLaws.{IsNamed, after_name, is_named, named_sound, tree_follows}
 
 -- An expression that is no assignment.
 
 plain_choice : (t after : Token) → (is_some (name_of_token t) ≡ true → store_operator after ≡ None) → choice Expression t after ≡ Some (Part (Level 1) ∷ [])
-plain_choice (token.Name name) (token.Mark m) none = let e : store_of m ≡ None = none refl in rw e refl
+plain_choice (token.Name name) (token.Punctuator m) none = let e : store_of m ≡ None = none refl in rw e refl
 plain_choice t after none = refl
 
 plain_opens : (t after : Token) → (is_some (name_of_token t) ≡ true → store_operator after ≡ None) → opens Expression t after ≡ false
-plain_opens (token.Name name) (token.Mark m) none = let e : store_of m ≡ None = none refl in rw e refl
+plain_opens (token.Name name) (token.Punctuator m) none = let e : store_of m ≡ None = none refl in rw e refl
 plain_opens t after none = refl
 
 -- no operator of an assignment stands behind a name
@@ -71,26 +71,26 @@ plain_adds before after at there depth sound none h = record {
 -- An assignment.
 
 record SpellsStore (o : StoreOp) (t : Token) : Type 0 where
-  m : Mark
-  is : t ≡ token.Mark m
+  m : Punctuator
+  is : t ≡ token.Punctuator m
   store : store_of m ≡ Some o
-  fits : is_mark m t ≡ true
+  fits : is_punctuator m t ≡ true
 
 spells_store : (o : StoreOp) (t : Token) → store_operator t ≡ Some o → SpellsStore o t
-spells_store o (token.Mark m) is = record { m = m; is = refl; store = is; fits = same_self m }
+spells_store o (token.Punctuator m) is = record { m = m; is = refl; store = is; fits = same_self m }
 spells_store o (token.Name name) is = absurd (cc)
 spells_store o (token.Word word) is = absurd (cc)
 spells_store o (token.Constant value) is = absurd (cc)
 spells_store o token.End is = absurd (cc)
-spells_store o (token.Fault flaw) is = absurd (cc)
+spells_store o (token.Fault lexical_error) is = absurd (cc)
 
 pub store_goes_on : (o : StoreOp) (t : Token) → store_operator t ≡ Some o → is_last t ≡ false
 store_goes_on o t is = let s : SpellsStore o t = spells_store o t is in rw s.is refl
 
-store_choice : (name : List ℕ) (m : Mark) (o : StoreOp) → store_of m ≡ Some o → choice Expression (token.Name name) (token.Mark m) ≡ Some (AName Mentioned ∷ Exactly m ∷ Part Expression ∷ Make (Store o) ∷ Shut ∷ [])
+store_choice : (name : List ℕ) (m : Punctuator) (o : StoreOp) → store_of m ≡ Some o → choice Expression (token.Name name) (token.Punctuator m) ≡ Some (AName Mentioned ∷ Exactly m ∷ Part Expression ∷ Make (Store o) ∷ Close ∷ [])
 store_choice name m o is = rw is refl
 
-store_opens : (name : List ℕ) (m : Mark) (o : StoreOp) → store_of m ≡ Some o → opens Expression (token.Name name) (token.Mark m) ≡ true
+store_opens : (name : List ℕ) (m : Punctuator) (o : StoreOp) → store_of m ≡ Some o → opens Expression (token.Name name) (token.Punctuator m) ≡ true
 store_opens name m o is = rw is refl
 
 -- a name is next, and the operator of an assignment behind it
@@ -101,7 +101,7 @@ pub record IsAssignment (at : Place) (o : StoreOp) : Type 0 where
 sign_of : (at : Place) (o : StoreOp) → IsAssignment at o → SpellsStore o (after_at at)
 sign_of at o a = spells_store o (after_at at) a.is
 
-store_chooses : (at : Place) (o : StoreOp) (a : IsAssignment at o) (s : SpellsStore o (after_at at)) → Chooses at Expression (AName Mentioned ∷ Exactly s.m ∷ Part Expression ∷ Make (Store o) ∷ Shut ∷ [])
+store_chooses : (at : Place) (o : StoreOp) (a : IsAssignment at o) (s : SpellsStore o (after_at at)) → Chooses at Expression (AName Mentioned ∷ Exactly s.m ∷ Part Expression ∷ Make (Store o) ∷ Close ∷ [])
 store_chooses at o a s = record {
   sound = named_sound (next_at at).token a.named;
   is = λ after more. let n : (next_at at).token ≡ token.Name a.named.name = a.named.is in rw (n, after_name at after a.named more, s.is) (store_choice a.named.name s.m o s.store);
@@ -114,75 +114,75 @@ pub store_too_deep : (at : Place) (used : ℕ) (near : IsNearTo at used) (depth 
 store_too_deep at used near depth o a deep =
     let s : SpellsStore o (after_at at) = sign_of at o a in
     let n : (next_at at).token ≡ token.Name a.named.name = a.named.is in
-    name_too_deep at used near depth Expression Mentioned a.named.name (Exactly s.m ∷ Part Expression ∷ Make (Store o) ∷ Shut ∷ []) (store_chooses at o a s) (store_opens_level at o a s) (rw n refl) deep
+    name_too_deep at used near depth Expression Mentioned a.named.name (Exactly s.m ∷ Part Expression ∷ Make (Store o) ∷ Close ∷ []) (store_chooses at o a s) (store_opens_level at o a s) (rw n refl) deep
 
 store_stands : (at : Place) (depth : ℕ) (o : StoreOp) (a : IsAssignment at o) → depth < 64 → (s : SpellsStore o (after_at at)) →
-    Derives depth (Part Expression ∷ []) (AName Mentioned ∷ Exactly s.m ∷ Part Expression ∷ Make (Store o) ∷ Shut ∷ []) [] [] at at
-store_stands at depth o a shallow s = chosen_within at depth Expression (AName Mentioned ∷ Exactly s.m ∷ Part Expression ∷ Make (Store o) ∷ Shut ∷ []) (store_chooses at o a s) shallow
+    Derives depth (Part Expression ∷ []) (AName Mentioned ∷ Exactly s.m ∷ Part Expression ∷ Make (Store o) ∷ Close ∷ []) [] [] at at
+store_stands at depth o a shallow s = chosen_within at depth Expression (AName Mentioned ∷ Exactly s.m ∷ Part Expression ∷ Make (Store o) ∷ Close ∷ []) (store_chooses at o a s) shallow
 
 pub target_refused : (used : ℕ) (at : Place) (depth : ℕ) (o : StoreOp) (more : Bool) (f : ParseFault) → IsAssignment at o → depth < 64 → Refused (FailsItem (AName Mentioned) at) false used f → Refused (FailsAt depth (Part Expression ∷ []) [] at) more used f
 target_refused used at depth o more f a shallow =
     let s : SpellsStore o (after_at at) = sign_of at o a in
-    exit_item used depth (depth + 1) (Part Expression ∷ []) (AName Mentioned) (Exactly s.m ∷ Part Expression ∷ Make (Store o) ∷ Shut ∷ []) [] [] at at more f
+    exit_item used depth (depth + 1) (Part Expression ∷ []) (AName Mentioned) (Exactly s.m ∷ Part Expression ∷ Make (Store o) ∷ Close ∷ []) [] [] at at more f
     (store_stands at depth o a shallow s) (λ stack same. ap (λ n. n + 1) same)
 
 target_past : (at now : Place) (depth : ℕ) (o : StoreOp) (v : Var) (a : IsAssignment at o) → depth < 64 → DerivesItem (AName Mentioned) [] (AVariable v ∷ []) at now → (s : SpellsStore o (after_at at)) →
-    Derives depth (Part Expression ∷ []) (Exactly s.m ∷ Part Expression ∷ Make (Store o) ∷ Shut ∷ []) [] (AVariable v ∷ []) at now
+    Derives depth (Part Expression ∷ []) (Exactly s.m ∷ Part Expression ∷ Make (Store o) ∷ Close ∷ []) [] (AVariable v ∷ []) at now
 target_past at now depth o v a shallow item s =
-    item_done depth (depth + 1) (Part Expression ∷ []) (AName Mentioned) (Exactly s.m ∷ Part Expression ∷ Make (Store o) ∷ Shut ∷ []) [] (AVariable v ∷ []) [] at at now
+    item_done depth (depth + 1) (Part Expression ∷ []) (AName Mentioned) (Exactly s.m ∷ Part Expression ∷ Make (Store o) ∷ Close ∷ []) [] (AVariable v ∷ []) [] at at now
     (store_stands at depth o a shallow s) (item (depth + 1)) (λ stack same. ap (λ n. n + 1) same)
 
 -- the operator is next behind the name
 next_is : (at now : Place) (o : StoreOp) (v : Var) → IsAssignment at o → DerivesItem (AName Mentioned) [] (AVariable v ∷ []) at now → (next_at now).token ≡ after_at at
-next_is at now o v a item = ap (λ (l : Lexeme). l.token) (behind_name_is at now Mentioned (AVariable v ∷ []) a.named item)
+next_is at now o v a item = ap (λ (l : LocatedToken). l.token) (behind_name_is at now Mentioned (AVariable v ∷ []) a.named item)
 
 pub sign_goes_on : (at now : Place) (o : StoreOp) (v : Var) → IsAssignment at o → DerivesItem (AName Mentioned) [] (AVariable v ∷ []) at now → is_last (next_at now).token ≡ false
 sign_goes_on at now o v a item = rw (next_is at now o v a item) (store_goes_on o (after_at at) a.is)
 
-sign_fits : (at now : Place) (o : StoreOp) (v : Var) → IsAssignment at o → DerivesItem (AName Mentioned) [] (AVariable v ∷ []) at now → (s : SpellsStore o (after_at at)) → is_mark s.m (next_at now).token ≡ true
+sign_fits : (at now : Place) (o : StoreOp) (v : Var) → IsAssignment at o → DerivesItem (AName Mentioned) [] (AVariable v ∷ []) at now → (s : SpellsStore o (after_at at)) → is_punctuator s.m (next_at now).token ≡ true
 sign_fits at now o v a item s = rw (next_is at now o v a item) s.fits
 
 pub sign_refused : (used : ℕ) (at now : Place) (depth : ℕ) (o : StoreOp) (v : Var) (more : Bool) (f : ParseFault) → IsAssignment at o → depth < 64 → DerivesItem (AName Mentioned) [] (AVariable v ∷ []) at now →
     Refused (StopsAt now) false used f → Refused (FailsAt depth (Part Expression ∷ []) [] at) more used f
 sign_refused used at now depth o v more f a shallow item stop =
     let s : SpellsStore o (after_at at) = sign_of at o a in
-    exit_item used depth (depth + 1) (Part Expression ∷ []) (Exactly s.m) (Part Expression ∷ Make (Store o) ∷ Shut ∷ []) [] (AVariable v ∷ []) at now more f
-    (target_past at now depth o v a shallow item s) (λ stack same. ap (λ n. n + 1) same) (mark_ends used now s.m f (sign_fits at now o v a item s) stop)
+    exit_item used depth (depth + 1) (Part Expression ∷ []) (Exactly s.m) (Part Expression ∷ Make (Store o) ∷ Close ∷ []) [] (AVariable v ∷ []) at now more f
+    (target_past at now depth o v a shallow item s) (λ stack same. ap (λ n. n + 1) same) (punctuator_ends used now s.m f (sign_fits at now o v a item s) stop)
 
 sign_past : (at now next : Place) (depth : ℕ) (o : StoreOp) (v : Var) → IsAssignment at o → depth < 64 → DerivesItem (AName Mentioned) [] (AVariable v ∷ []) at now → GoesPast now next →
-    Derives depth (Part Expression ∷ []) (Part Expression ∷ Make (Store o) ∷ Shut ∷ []) [] (AVariable v ∷ []) at next
+    Derives depth (Part Expression ∷ []) (Part Expression ∷ Make (Store o) ∷ Close ∷ []) [] (AVariable v ∷ []) at next
 sign_past at now next depth o v a shallow item goes =
     let s : SpellsStore o (after_at at) = sign_of at o a in
-    item_done depth (depth + 1) (Part Expression ∷ []) (Exactly s.m) (Part Expression ∷ Make (Store o) ∷ Shut ∷ []) [] [] (AVariable v ∷ []) at now next
-    (target_past at now depth o v a shallow item s) (mark_past now next s.m (sign_fits at now o v a item s) goes (depth + 1)) (λ stack same. ap (λ n. n + 1) same)
+    item_done depth (depth + 1) (Part Expression ∷ []) (Exactly s.m) (Part Expression ∷ Make (Store o) ∷ Close ∷ []) [] [] (AVariable v ∷ []) at now next
+    (target_past at now depth o v a shallow item s) (punctuator_past now next s.m (sign_fits at now o v a item s) goes (depth + 1)) (λ stack same. ap (λ n. n + 1) same)
 
 pub value_refused : (used : ℕ) (at now next : Place) (depth : ℕ) (o : StoreOp) (v : Var) (allocates : Bool) (f : ParseFault) → IsAssignment at o → depth < 64 → DerivesItem (AName Mentioned) [] (AVariable v ∷ []) at now →
     GoesPast now next → Refused (FailsAt (depth + 1) (Part Expression ∷ []) [] next) allocates used f → Refused (FailsAt depth (Part Expression ∷ []) [] at) allocates used f
 value_refused used at now next depth o v allocates f a shallow item goes =
-    exit used depth (depth + 1) (Part Expression ∷ []) (Part Expression ∷ []) (Make (Store o) ∷ Shut ∷ []) [] [] (AVariable v ∷ []) at next allocates allocates f
+    exit used depth (depth + 1) (Part Expression ∷ []) (Part Expression ∷ []) (Make (Store o) ∷ Close ∷ []) [] [] (AVariable v ∷ []) at next allocates allocates f
     (sign_past at now next depth o v a shallow item goes) (λ stack same. ap (λ n. n + 1) same) (λ same. same)
 
 store_makes : (o : StoreOp) (v : Var) (e : Expr) → MakesOnly (Store o) (AnExpr e ∷ AVariable v ∷ []) (AnExpr (Assign o v e) ∷ [])
 store_makes o v e = record { makes = λ values. refl; clean = λ profile stack rest values scope functions. refl; learns = λ scope. refl; defines = λ values scope. refl }
 
 pub assignment_adds : (before mid after : Meaning) (at now next there : Place) (depth : ℕ) (o : StoreOp) (v : Var) → IsAssignment at o → depth < 64 → DerivesItem (AName Mentioned) [] (AVariable v ∷ []) at now →
-    GoesPast now next → AddsExpr before mid (depth + 1) 1 (Part Expression ∷ []) [] next there → IsVariable 64 64 v → is_fault (next_at there).token ≡ false → AppendsAll mid after (Put v o ∷ []) →
+    GoesPast now next → AddsExpr before mid (depth + 1) 1 (Part Expression ∷ []) [] next there → IsVariable 64 64 v → is_fault (next_at there).token ≡ false → AppendsAll mid after (StoreVariable v o ∷ []) →
     AddsExpr before after depth 1 (Part Expression ∷ []) [] at there
 assignment_adds before mid after at now next there depth o v a shallow item goes h numbered sound last = record {
   tree = Assign o v h.tree;
   numbered = (numbered, h.numbered);
   narrow = let small : nesting h.tree ≤ room (depth + 1) 1 = h.narrow in omega arith;
-  added = appends_then before mid after (expr_actions h.tree) (Put v o ∷ []) h.added last;
-  derives = joined depth depth (Part Expression ∷ []) (Make (Store o) ∷ Shut ∷ []) [] [] [] (AnExpr h.tree ∷ AVariable v ∷ []) (AnExpr (Assign o v h.tree) ∷ []) [] at there there
-      (joined depth (depth + 1) (Part Expression ∷ []) (Part Expression ∷ []) [] (Make (Store o) ∷ Shut ∷ []) [] [] (AnExpr h.tree ∷ []) (AVariable v ∷ []) at next there
+  added = appends_then before mid after (expr_actions h.tree) (StoreVariable v o ∷ []) h.added last;
+  derives = joined depth depth (Part Expression ∷ []) (Make (Store o) ∷ Close ∷ []) [] [] [] (AnExpr h.tree ∷ AVariable v ∷ []) (AnExpr (Assign o v h.tree) ∷ []) [] at there there
+      (joined depth (depth + 1) (Part Expression ∷ []) (Part Expression ∷ []) [] (Make (Store o) ∷ Close ∷ []) [] [] (AnExpr h.tree ∷ []) (AVariable v ∷ []) at next there
       (sign_past at now next depth o v a shallow item goes) h.derives (λ stack same. ap (λ n. n + 1) same))
-      (makes_and_shuts there depth (Store o) (AnExpr h.tree ∷ AVariable v ∷ []) (AnExpr (Assign o v h.tree) ∷ []) sound (store_makes o v h.tree)) (λ stack same. same);
+      (makes_and_closes there depth (Store o) (AnExpr h.tree ∷ AVariable v ∷ []) (AnExpr (Assign o v h.tree) ∷ []) sound (store_makes o v h.tree)) (λ stack same. same);
 }
 
 pub value_room : (before : Meaning) (depth : ℕ) → depth < 64 → HasRoom before (room depth 1) → HasRoom before (room (depth + 1) 1)
 value_room before depth shallow h = room_within before (room (depth + 1) 1) (room depth 1) h (omega arith)
 
 pub store_follows : (before now : Meaning) (depth : ℕ) (o : StoreOp) (v : Var) (e : Expr) → depth < 64 → HasRoom before (room depth 1) → IsVariable 64 64 v → InExpr 64 64 64 e → nesting e ≤ room (depth + 1) 1 →
-    AppendsAll before now (expr_actions e) → MayFollow now (Put v o)
+    AppendsAll before now (expr_actions e) → MayFollow now (StoreVariable v o)
 store_follows before now depth o v e shallow h variable numbered narrow told =
-    next_follows before now (expr_actions e) (Put v o) [] (tree_follows before (room depth 1) (Assign o v e) h (variable, numbered) (omega arith)) told
+    next_follows before now (expr_actions e) (StoreVariable v o) [] (tree_follows before (room depth 1) (Assign o v e) h (variable, numbered) (omega arith)) told

@@ -1,9 +1,9 @@
 -- Calls and their arguments.
 use Rattle.std.proofs.Common.{◌≡◌, ℕ, ◌+◌, ◌<◌, ◌≤◌, List, [], ◌∷◌, ◌++◌, refl, sym, ap, subst, ◌∙◌, Bool, true, false, arith, append_assoc, append-nil}
 use Rattle.std.specs.Prelude.{Some}
-use Rattle.tokens.specs.declared.lexemes.Mark.TheVariants as mark
-use Rattle.tokens.specs.declared.lexemes.Token.{Token}
-use Rattle.tokens.specs.declared.lexemes.Token.TheVariants as token
+use Rattle.tokens.specs.declared.located_tokens.Punctuator.TheVariants as punctuator
+use Rattle.tokens.specs.declared.located_tokens.Token.{Token}
+use Rattle.tokens.specs.declared.located_tokens.Token.TheVariants as token
 use Rattle.grammar.specs.declared.diagnostics.Code.TheVariants as code
 use Rattle.grammar.specs.declared.diagnostics.ParseFault.{ParseFault}
 use Rattle.grammar.specs.declared.names.Callee.{Callee}
@@ -12,7 +12,7 @@ use Rattle.grammar.specs.Building.{Meaning, AppendsAll, MayFollow}
 use Rattle.grammar.specs.Compiled.{diagnostic}
 use Rattle.grammar.specs.Derivation.{ACall, AnExpr}
 use Rattle.grammar.specs.Following.{InCall, open_count}
-use Rattle.grammar.specs.Grammar.{AName, Arguments, Called, Exactly, Expression, Invoke, Item, Make, MoreArguments, Part, Pass, Primary, Shut, choice, is_fault, is_mark}
+use Rattle.grammar.specs.Grammar.{AName, Arguments, Called, Exactly, Expression, Invoke, Item, Make, MoreArguments, Part, Pass, Primary, Close, choice, is_fault, is_punctuator}
 use Rattle.grammar.specs.Nesting.{args_nesting, nesting}
 use Rattle.grammar.specs.Resolved.{InArgs, InExpr, IsCallable}
 use Rattle.grammar.specs.Tree.{Args, Argument, Call, Expr, NoMore, add_argument}
@@ -21,11 +21,11 @@ use Rattle.grammar.proofs.StandingLaws.{stands_then}
 use Rattle.parsing.specs.Position.{Place, after_at, next_at}
 use Rattle.parsing.specs.Room.{HasRoom, room}
 use Rattle.parsing.specs.Stopping.{stop_with}
-use Rattle.parsing.specs.Stretch.{IsNearTo, Derives, DerivesItem, FailsAt, FailsItem, Refused}
-use Rattle.parsing.proofs.Stretches.{exit_item, fails_behind, joined, refused_map}
+use Rattle.parsing.specs.Segment.{IsNearTo, Derives, DerivesItem, FailsAt, FailsItem, Refused}
+use Rattle.parsing.proofs.Segments.{exit_item, fails_behind, joined, refused_map}
 use Rattle.expressions.specs.Expressions.{AddsArgs, AddsExpr, FailsArgs}
-use Rattle.parsing.proofs.Parts.{MakesOnly, make_stands, mark_is}
-use Rattle.expressions.proofs.Productions.{Chooses, OpensLevel, chosen, chosen_within, item_done, makes_and_shuts, mark_sound, name_too_deep}
+use Rattle.parsing.proofs.Parts.{MakesOnly, make_stands, punctuator_is}
+use Rattle.expressions.proofs.Productions.{Chooses, OpensLevel, chosen, chosen_within, item_done, makes_and_closes, punctuator_sound, name_too_deep}
 use Rattle.expressions.proofs.TellingLaws.{all_follow, appends_then, first_follows, next_follows, room_behind, room_behind_args}
 use Rattle.expressions.proofs.VariableLaws.{IsNamed, after_name, named_sound, tree_follows}
 
@@ -49,13 +49,13 @@ args_narrow (Argument a rest) e n h k =
 pass_makes : (callee : Callee) (args : Args) (e : Expr) → MakesOnly Pass (AnExpr e ∷ ACall callee args ∷ []) (ACall callee (add_argument args e) ∷ [])
 pass_makes callee args e = record { makes = λ values. refl; clean = λ profile stack rest values scope functions. refl; learns = λ scope. refl; defines = λ values scope. refl }
 
-none_stand : (at : Place) (depth : ℕ) (callee : Callee) → is_mark mark.CloseRound (next_at at).token ≡ true → Derives depth (Part Arguments ∷ []) [] (ACall callee NoMore ∷ []) (ACall callee NoMore ∷ []) at at
+none_stand : (at : Place) (depth : ℕ) (callee : Callee) → is_punctuator punctuator.CloseRound (next_at at).token ≡ true → Derives depth (Part Arguments ∷ []) [] (ACall callee NoMore ∷ []) (ACall callee NoMore ∷ []) at at
 none_stand at depth callee fits =
-    let t : (next_at at).token ≡ token.Mark mark.CloseRound = mark_is mark.CloseRound (next_at at).token fits in
-    chosen at depth Arguments [] (ACall callee NoMore ∷ []) (record { sound = mark_sound mark.CloseRound (next_at at).token fits; is = λ after more. rw t refl }) (λ after more. refl)
+    let t : (next_at at).token ≡ token.Punctuator punctuator.CloseRound = punctuator_is punctuator.CloseRound (next_at at).token fits in
+    chosen at depth Arguments [] (ACall callee NoMore ∷ []) (record { sound = punctuator_sound punctuator.CloseRound (next_at at).token fits; is = λ after more. rw t refl }) (λ after more. refl)
 
 -- there are none
-pub no_arguments : (before : Meaning) (at : Place) (depth : ℕ) → is_mark mark.CloseRound (next_at at).token ≡ true → AddsArgs before before depth (Part Arguments ∷ []) [] at at
+pub no_arguments : (before : Meaning) (at : Place) (depth : ℕ) → is_punctuator punctuator.CloseRound (next_at at).token ≡ true → AddsArgs before before depth (Part Arguments ∷ []) [] at at
 no_arguments before at depth fits = record {
   tree = NoMore;
   numbered = tt;
@@ -64,17 +64,17 @@ no_arguments before at depth fits = record {
   derives = λ callee. none_stand at depth callee fits;
 }
 
-first_choice : (t after : Token) → is_mark mark.CloseRound t ≡ false → choice Arguments t after ≡ Some (Part Expression ∷ Make Pass ∷ Part MoreArguments ∷ [])
-first_choice (token.Mark mark.CloseRound) after other = absurd (cc)
+first_choice : (t after : Token) → is_punctuator punctuator.CloseRound t ≡ false → choice Arguments t after ≡ Some (Part Expression ∷ Make Pass ∷ Part MoreArguments ∷ [])
+first_choice (token.Punctuator punctuator.CloseRound) after other = absurd (cc)
 first_choice t after other = refl
 
-first_stands : (at : Place) (depth : ℕ) (callee : Callee) → is_fault (next_at at).token ≡ false → is_mark mark.CloseRound (next_at at).token ≡ false →
+first_stands : (at : Place) (depth : ℕ) (callee : Callee) → is_fault (next_at at).token ≡ false → is_punctuator punctuator.CloseRound (next_at at).token ≡ false →
     Derives depth (Part Arguments ∷ []) (Part Expression ∷ Make Pass ∷ Part MoreArguments ∷ []) (ACall callee NoMore ∷ []) (ACall callee NoMore ∷ []) at at
 first_stands at depth callee sound other =
     chosen at depth Arguments (Part Expression ∷ Make Pass ∷ Part MoreArguments ∷ []) (ACall callee NoMore ∷ [])
     (record { sound = sound; is = λ after more. first_choice (next_at at).token after other }) (λ after more. refl)
 
-pub first_refused : (used : ℕ) (at : Place) (depth : ℕ) (allocates : Bool) (f : ParseFault) → is_fault (next_at at).token ≡ false → is_mark mark.CloseRound (next_at at).token ≡ false →
+pub first_refused : (used : ℕ) (at : Place) (depth : ℕ) (allocates : Bool) (f : ParseFault) → is_fault (next_at at).token ≡ false → is_punctuator punctuator.CloseRound (next_at at).token ≡ false →
     Refused (FailsAt depth (Part Expression ∷ []) [] at) allocates used f → Refused (FailsArgs depth at) allocates used f
 first_refused used at depth allocates f sound other =
     refused_map used (FailsAt depth (Part Expression ∷ []) [] at) (FailsArgs depth at) allocates allocates f
@@ -91,7 +91,7 @@ passed at now there depth callee args front e a b sound =
     (joined depth depth front (Part Expression ∷ []) [] (Make Pass ∷ Part MoreArguments ∷ []) (ACall callee NoMore ∷ []) [] (AnExpr e ∷ []) (ACall callee args ∷ []) at now there a b (λ stack same. same))
     (make_stands there depth Pass (AnExpr e ∷ ACall callee args ∷ []) (ACall callee (add_argument args e) ∷ []) sound (pass_makes callee args e)) (λ stack same. same)
 
-pub first_adds : (before after : Meaning) (at there : Place) (depth : ℕ) → is_fault (next_at at).token ≡ false → is_mark mark.CloseRound (next_at at).token ≡ false →
+pub first_adds : (before after : Meaning) (at there : Place) (depth : ℕ) → is_fault (next_at at).token ≡ false → is_punctuator punctuator.CloseRound (next_at at).token ≡ false →
     AddsExpr before after depth 1 (Part Expression ∷ []) [] at there → is_fault (next_at there).token ≡ false → AddsArgs before after depth (Part Arguments ∷ []) (Part MoreArguments ∷ []) at there
 first_adds before after at there depth sound other h behind = record {
   tree = Argument h.tree NoMore;
@@ -101,41 +101,41 @@ first_adds before after at there depth sound other h behind = record {
   derives = λ callee. passed at at there depth callee NoMore (Part Arguments ∷ []) h.tree (first_stands at depth callee sound other) h.derives behind;
 }
 
-comma_choice : (t after : Token) → is_mark mark.Comma t ≡ true → choice MoreArguments t after ≡ Some (Exactly mark.Comma ∷ Part Expression ∷ Make Pass ∷ Part MoreArguments ∷ [])
-comma_choice t after fits = rw (mark_is mark.Comma t fits) refl
+comma_choice : (t after : Token) → is_punctuator punctuator.Comma t ≡ true → choice MoreArguments t after ≡ Some (Exactly punctuator.Comma ∷ Part Expression ∷ Make Pass ∷ Part MoreArguments ∷ [])
+comma_choice t after fits = rw (punctuator_is punctuator.Comma t fits) refl
 
 comma_stands : (before mid : Meaning) (at now : Place) (depth : ℕ) (h : AddsArgs before mid depth (Part Arguments ∷ []) (Part MoreArguments ∷ []) at now) (callee : Callee) →
-    is_mark mark.Comma (next_at now).token ≡ true →
-    Derives depth (Part Arguments ∷ []) (Exactly mark.Comma ∷ Part Expression ∷ Make Pass ∷ Part MoreArguments ∷ []) (ACall callee NoMore ∷ []) (ACall callee h.tree ∷ []) at now
+    is_punctuator punctuator.Comma (next_at now).token ≡ true →
+    Derives depth (Part Arguments ∷ []) (Exactly punctuator.Comma ∷ Part Expression ∷ Make Pass ∷ Part MoreArguments ∷ []) (ACall callee NoMore ∷ []) (ACall callee h.tree ∷ []) at now
 comma_stands before mid at now depth h callee fits =
-    joined depth depth (Part Arguments ∷ []) (Part MoreArguments ∷ []) (Exactly mark.Comma ∷ Part Expression ∷ Make Pass ∷ Part MoreArguments ∷ []) [] (ACall callee NoMore ∷ []) (ACall callee h.tree ∷ []) (ACall callee h.tree ∷ []) [] at now now
+    joined depth depth (Part Arguments ∷ []) (Part MoreArguments ∷ []) (Exactly punctuator.Comma ∷ Part Expression ∷ Make Pass ∷ Part MoreArguments ∷ []) [] (ACall callee NoMore ∷ []) (ACall callee h.tree ∷ []) (ACall callee h.tree ∷ []) [] at now now
     (h.derives callee)
-    (chosen now depth MoreArguments (Exactly mark.Comma ∷ Part Expression ∷ Make Pass ∷ Part MoreArguments ∷ []) (ACall callee h.tree ∷ [])
-    (record { sound = mark_sound mark.Comma (next_at now).token fits; is = λ after more. comma_choice (next_at now).token after fits }) (λ after more. refl)) (λ stack same. same)
+    (chosen now depth MoreArguments (Exactly punctuator.Comma ∷ Part Expression ∷ Make Pass ∷ Part MoreArguments ∷ []) (ACall callee h.tree ∷ [])
+    (record { sound = punctuator_sound punctuator.Comma (next_at now).token fits; is = λ after more. comma_choice (next_at now).token after fits }) (λ after more. refl)) (λ stack same. same)
 
 pub comma_refused : (used : ℕ) (before mid : Meaning) (at now : Place) (depth : ℕ) (more : Bool) (f : ParseFault) → AddsArgs before mid depth (Part Arguments ∷ []) (Part MoreArguments ∷ []) at now →
-    is_mark mark.Comma (next_at now).token ≡ true → Refused (FailsItem (Exactly mark.Comma) now) false used f → Refused (FailsArgs depth at) more used f
+    is_punctuator punctuator.Comma (next_at now).token ≡ true → Refused (FailsItem (Exactly punctuator.Comma) now) false used f → Refused (FailsArgs depth at) more used f
 comma_refused used before mid at now depth more f h fits =
-    refused_map used (FailsItem (Exactly mark.Comma) now) (FailsArgs depth at) false more f
-    (λ d k callee. fails_behind depth depth (Part Arguments ∷ []) (Exactly mark.Comma ∷ []) (Part Expression ∷ Make Pass ∷ Part MoreArguments ∷ []) (ACall callee NoMore ∷ []) [] (ACall callee h.tree ∷ []) at now d
+    refused_map used (FailsItem (Exactly punctuator.Comma) now) (FailsArgs depth at) false more f
+    (λ d k callee. fails_behind depth depth (Part Arguments ∷ []) (Exactly punctuator.Comma ∷ []) (Part Expression ∷ Make Pass ∷ Part MoreArguments ∷ []) (ACall callee NoMore ∷ []) [] (ACall callee h.tree ∷ []) at now d
     (comma_stands before mid at now depth h callee fits) (λ stack same. same) (k depth)) (λ never. absurd (cc))
 
 comma_past : (before mid : Meaning) (at now next : Place) (depth : ℕ) (h : AddsArgs before mid depth (Part Arguments ∷ []) (Part MoreArguments ∷ []) at now) (callee : Callee) →
-    is_mark mark.Comma (next_at now).token ≡ true → DerivesItem (Exactly mark.Comma) [] [] now next →
+    is_punctuator punctuator.Comma (next_at now).token ≡ true → DerivesItem (Exactly punctuator.Comma) [] [] now next →
     Derives depth (Part Arguments ∷ []) (Part Expression ∷ Make Pass ∷ Part MoreArguments ∷ []) (ACall callee NoMore ∷ []) (ACall callee h.tree ∷ []) at next
 comma_past before mid at now next depth h callee fits sign =
-    item_done depth depth (Part Arguments ∷ []) (Exactly mark.Comma) (Part Expression ∷ Make Pass ∷ Part MoreArguments ∷ []) (ACall callee NoMore ∷ []) [] (ACall callee h.tree ∷ []) at now next
+    item_done depth depth (Part Arguments ∷ []) (Exactly punctuator.Comma) (Part Expression ∷ Make Pass ∷ Part MoreArguments ∷ []) (ACall callee NoMore ∷ []) [] (ACall callee h.tree ∷ []) at now next
     (comma_stands before mid at now depth h callee fits) (sign depth) (λ stack same. same)
 
 pub argument_refused : (used : ℕ) (before mid : Meaning) (at now next : Place) (depth : ℕ) (allocates : Bool) (f : ParseFault) → AddsArgs before mid depth (Part Arguments ∷ []) (Part MoreArguments ∷ []) at now →
-    is_mark mark.Comma (next_at now).token ≡ true → DerivesItem (Exactly mark.Comma) [] [] now next → Refused (FailsAt depth (Part Expression ∷ []) [] next) allocates used f → Refused (FailsArgs depth at) allocates used f
+    is_punctuator punctuator.Comma (next_at now).token ≡ true → DerivesItem (Exactly punctuator.Comma) [] [] now next → Refused (FailsAt depth (Part Expression ∷ []) [] next) allocates used f → Refused (FailsArgs depth at) allocates used f
 argument_refused used before mid at now next depth allocates f h fits sign =
     refused_map used (FailsAt depth (Part Expression ∷ []) [] next) (FailsArgs depth at) allocates allocates f
     (λ d k callee. fails_behind depth depth (Part Arguments ∷ []) (Part Expression ∷ []) (Make Pass ∷ Part MoreArguments ∷ []) (ACall callee NoMore ∷ []) [] (ACall callee h.tree ∷ []) at next d
     (comma_past before mid at now next depth h callee fits sign) (λ stack same. same) k) (λ same. same)
 
 pub argument_adds : (before mid after : Meaning) (at now next there : Place) (depth : ℕ) → AddsArgs before mid depth (Part Arguments ∷ []) (Part MoreArguments ∷ []) at now →
-    is_mark mark.Comma (next_at now).token ≡ true → DerivesItem (Exactly mark.Comma) [] [] now next → AddsExpr mid after depth 1 (Part Expression ∷ []) [] next there → is_fault (next_at there).token ≡ false →
+    is_punctuator punctuator.Comma (next_at now).token ≡ true → DerivesItem (Exactly punctuator.Comma) [] [] now next → AddsExpr mid after depth 1 (Part Expression ∷ []) [] next there → is_fault (next_at there).token ≡ false →
     AddsArgs before after depth (Part Arguments ∷ []) (Part MoreArguments ∷ []) at there
 argument_adds before mid after at now next there depth h fits sign e sound = record {
   tree = add_argument h.tree e.tree;
@@ -145,12 +145,12 @@ argument_adds before mid after at now next there depth h fits sign e sound = rec
   derives = λ callee. passed at next there depth callee h.tree (Part Arguments ∷ []) e.tree (comma_past before mid at now next depth h callee fits sign) e.derives sound;
 }
 
-end_choice : (t after : Token) → is_mark mark.Comma t ≡ false → choice MoreArguments t after ≡ Some []
-end_choice (token.Mark mark.Comma) after other = absurd (cc)
+end_choice : (t after : Token) → is_punctuator punctuator.Comma t ≡ false → choice MoreArguments t after ≡ Some []
+end_choice (token.Punctuator punctuator.Comma) after other = absurd (cc)
 end_choice t after other = refl
 
 pub arguments_end : (before after : Meaning) (at there : Place) (depth : ℕ) → AddsArgs before after depth (Part Arguments ∷ []) (Part MoreArguments ∷ []) at there →
-    is_fault (next_at there).token ≡ false → is_mark mark.Comma (next_at there).token ≡ false → AddsArgs before after depth (Part Arguments ∷ []) [] at there
+    is_fault (next_at there).token ≡ false → is_punctuator punctuator.Comma (next_at there).token ≡ false → AddsArgs before after depth (Part Arguments ∷ []) [] at there
 arguments_end before after at there depth h sound other = record {
   tree = h.tree;
   numbered = h.numbered;
@@ -169,93 +169,93 @@ next_argument_room before now at there depth front pending h a =
 
 -- Calls.
 
-call_choice : (name : List ℕ) → choice Primary (token.Name name) (token.Mark mark.OpenRound) ≡ Some (AName Called ∷ Exactly mark.OpenRound ∷ Part Arguments ∷ Exactly mark.CloseRound ∷ Make Invoke ∷ Shut ∷ [])
+call_choice : (name : List ℕ) → choice Primary (token.Name name) (token.Punctuator punctuator.OpenRound) ≡ Some (AName Called ∷ Exactly punctuator.OpenRound ∷ Part Arguments ∷ Exactly punctuator.CloseRound ∷ Make Invoke ∷ Close ∷ [])
 call_choice name = refl
 
-call_chooses : (at : Place) → IsNamed (next_at at).token → is_mark mark.OpenRound (after_at at) ≡ true →
-    Chooses at Primary (AName Called ∷ Exactly mark.OpenRound ∷ Part Arguments ∷ Exactly mark.CloseRound ∷ Make Invoke ∷ Shut ∷ [])
+call_chooses : (at : Place) → IsNamed (next_at at).token → is_punctuator punctuator.OpenRound (after_at at) ≡ true →
+    Chooses at Primary (AName Called ∷ Exactly punctuator.OpenRound ∷ Part Arguments ∷ Exactly punctuator.CloseRound ∷ Make Invoke ∷ Close ∷ [])
 call_chooses at n fits = record {
   sound = named_sound (next_at at).token n;
-  is = λ after more. let t : after_at at ≡ token.Mark mark.OpenRound = mark_is mark.OpenRound (after_at at) fits in rw (n.is, after_name at after n more, t) refl;
+  is = λ after more. let t : after_at at ≡ token.Punctuator punctuator.OpenRound = punctuator_is punctuator.OpenRound (after_at at) fits in rw (n.is, after_name at after n more, t) refl;
 }
 
-call_opens : (at : Place) → IsNamed (next_at at).token → is_mark mark.OpenRound (after_at at) ≡ true → OpensLevel at Primary
-call_opens at n fits after more = let t : after_at at ≡ token.Mark mark.OpenRound = mark_is mark.OpenRound (after_at at) fits in rw (n.is, after_name at after n more, t) refl
+call_opens : (at : Place) → IsNamed (next_at at).token → is_punctuator punctuator.OpenRound (after_at at) ≡ true → OpensLevel at Primary
+call_opens at n fits after more = let t : after_at at ≡ token.Punctuator punctuator.OpenRound = punctuator_is punctuator.OpenRound (after_at at) fits in rw (n.is, after_name at after n more, t) refl
 
-pub call_too_deep : (at : Place) (used : ℕ) (near : IsNearTo at used) (depth : ℕ) → IsNamed (next_at at).token → is_mark mark.OpenRound (after_at at) ≡ true → 64 ≤ depth →
+pub call_too_deep : (at : Place) (used : ℕ) (near : IsNearTo at used) (depth : ℕ) → IsNamed (next_at at).token → is_punctuator punctuator.OpenRound (after_at at) ≡ true → 64 ≤ depth →
     FailsAt depth (Part Primary ∷ []) [] at (stop_with (Some (diagnostic (next_at at).line code.NestedTooDeeply)) used)
 call_too_deep at used near depth n fits deep =
-    name_too_deep at used near depth Primary Called n.name (Exactly mark.OpenRound ∷ Part Arguments ∷ Exactly mark.CloseRound ∷ Make Invoke ∷ Shut ∷ []) (call_chooses at n fits) (call_opens at n fits) (rw n.is refl) deep
+    name_too_deep at used near depth Primary Called n.name (Exactly punctuator.OpenRound ∷ Part Arguments ∷ Exactly punctuator.CloseRound ∷ Make Invoke ∷ Close ∷ []) (call_chooses at n fits) (call_opens at n fits) (rw n.is refl) deep
 
 -- what a call was found to be, and up to where
 pub record IsCall (at : Place) (depth : ℕ) : Type 0 where
   pub named : IsNamed (next_at at).token
-  pub fits : is_mark mark.OpenRound (after_at at) ≡ true
+  pub fits : is_punctuator punctuator.OpenRound (after_at at) ≡ true
   pub shallow : depth < 64
 
-call_stands : (at : Place) (depth : ℕ) → IsCall at depth → Derives depth (Part Primary ∷ []) (AName Called ∷ Exactly mark.OpenRound ∷ Part Arguments ∷ Exactly mark.CloseRound ∷ Make Invoke ∷ Shut ∷ []) [] [] at at
+call_stands : (at : Place) (depth : ℕ) → IsCall at depth → Derives depth (Part Primary ∷ []) (AName Called ∷ Exactly punctuator.OpenRound ∷ Part Arguments ∷ Exactly punctuator.CloseRound ∷ Make Invoke ∷ Close ∷ []) [] [] at at
 call_stands at depth c =
-    chosen_within at depth Primary (AName Called ∷ Exactly mark.OpenRound ∷ Part Arguments ∷ Exactly mark.CloseRound ∷ Make Invoke ∷ Shut ∷ []) (call_chooses at c.named c.fits) c.shallow
+    chosen_within at depth Primary (AName Called ∷ Exactly punctuator.OpenRound ∷ Part Arguments ∷ Exactly punctuator.CloseRound ∷ Make Invoke ∷ Close ∷ []) (call_chooses at c.named c.fits) c.shallow
 
 pub callee_refused : (used : ℕ) (at : Place) (depth : ℕ) (more : Bool) (f : ParseFault) → IsCall at depth → Refused (FailsItem (AName Called) at) false used f → Refused (FailsAt depth (Part Primary ∷ []) [] at) more used f
 callee_refused used at depth more f c =
-    exit_item used depth (depth + 1) (Part Primary ∷ []) (AName Called) (Exactly mark.OpenRound ∷ Part Arguments ∷ Exactly mark.CloseRound ∷ Make Invoke ∷ Shut ∷ []) [] [] at at more f
+    exit_item used depth (depth + 1) (Part Primary ∷ []) (AName Called) (Exactly punctuator.OpenRound ∷ Part Arguments ∷ Exactly punctuator.CloseRound ∷ Make Invoke ∷ Close ∷ []) [] [] at at more f
     (call_stands at depth c) (λ stack same. ap (λ n. n + 1) same)
 
 callee_past : (at now : Place) (depth : ℕ) (callee : Callee) → IsCall at depth → DerivesItem (AName Called) [] (ACall callee NoMore ∷ []) at now →
-    Derives depth (Part Primary ∷ []) (Exactly mark.OpenRound ∷ Part Arguments ∷ Exactly mark.CloseRound ∷ Make Invoke ∷ Shut ∷ []) [] (ACall callee NoMore ∷ []) at now
+    Derives depth (Part Primary ∷ []) (Exactly punctuator.OpenRound ∷ Part Arguments ∷ Exactly punctuator.CloseRound ∷ Make Invoke ∷ Close ∷ []) [] (ACall callee NoMore ∷ []) at now
 callee_past at now depth callee c item =
-    item_done depth (depth + 1) (Part Primary ∷ []) (AName Called) (Exactly mark.OpenRound ∷ Part Arguments ∷ Exactly mark.CloseRound ∷ Make Invoke ∷ Shut ∷ []) [] (ACall callee NoMore ∷ []) [] at at now
+    item_done depth (depth + 1) (Part Primary ∷ []) (AName Called) (Exactly punctuator.OpenRound ∷ Part Arguments ∷ Exactly punctuator.CloseRound ∷ Make Invoke ∷ Close ∷ []) [] (ACall callee NoMore ∷ []) [] at at now
     (call_stands at depth c) (item (depth + 1)) (λ stack same. ap (λ n. n + 1) same)
 
 pub call_open_refused : (used : ℕ) (at now : Place) (depth : ℕ) (callee : Callee) (more : Bool) (f : ParseFault) → IsCall at depth → DerivesItem (AName Called) [] (ACall callee NoMore ∷ []) at now →
-    Refused (FailsItem (Exactly mark.OpenRound) now) false used f → Refused (FailsAt depth (Part Primary ∷ []) [] at) more used f
+    Refused (FailsItem (Exactly punctuator.OpenRound) now) false used f → Refused (FailsAt depth (Part Primary ∷ []) [] at) more used f
 call_open_refused used at now depth callee more f c item =
-    exit_item used depth (depth + 1) (Part Primary ∷ []) (Exactly mark.OpenRound) (Part Arguments ∷ Exactly mark.CloseRound ∷ Make Invoke ∷ Shut ∷ []) [] (ACall callee NoMore ∷ []) at now more f
+    exit_item used depth (depth + 1) (Part Primary ∷ []) (Exactly punctuator.OpenRound) (Part Arguments ∷ Exactly punctuator.CloseRound ∷ Make Invoke ∷ Close ∷ []) [] (ACall callee NoMore ∷ []) at now more f
     (callee_past at now depth callee c item) (λ stack same. ap (λ n. n + 1) same)
 
-call_open_past : (at now inner : Place) (depth : ℕ) (callee : Callee) → IsCall at depth → DerivesItem (AName Called) [] (ACall callee NoMore ∷ []) at now → DerivesItem (Exactly mark.OpenRound) [] [] now inner →
-    Derives depth (Part Primary ∷ []) (Part Arguments ∷ Exactly mark.CloseRound ∷ Make Invoke ∷ Shut ∷ []) [] (ACall callee NoMore ∷ []) at inner
+call_open_past : (at now inner : Place) (depth : ℕ) (callee : Callee) → IsCall at depth → DerivesItem (AName Called) [] (ACall callee NoMore ∷ []) at now → DerivesItem (Exactly punctuator.OpenRound) [] [] now inner →
+    Derives depth (Part Primary ∷ []) (Part Arguments ∷ Exactly punctuator.CloseRound ∷ Make Invoke ∷ Close ∷ []) [] (ACall callee NoMore ∷ []) at inner
 call_open_past at now inner depth callee c item bracket =
-    item_done depth (depth + 1) (Part Primary ∷ []) (Exactly mark.OpenRound) (Part Arguments ∷ Exactly mark.CloseRound ∷ Make Invoke ∷ Shut ∷ []) [] [] (ACall callee NoMore ∷ []) at now inner
+    item_done depth (depth + 1) (Part Primary ∷ []) (Exactly punctuator.OpenRound) (Part Arguments ∷ Exactly punctuator.CloseRound ∷ Make Invoke ∷ Close ∷ []) [] [] (ACall callee NoMore ∷ []) at now inner
     (callee_past at now depth callee c item) (bracket (depth + 1)) (λ stack same. ap (λ n. n + 1) same)
 
 pub arguments_refused : (used : ℕ) (at now inner : Place) (depth : ℕ) (callee : Callee) (allocates : Bool) (f : ParseFault) → IsCall at depth → DerivesItem (AName Called) [] (ACall callee NoMore ∷ []) at now →
-    DerivesItem (Exactly mark.OpenRound) [] [] now inner → Refused (FailsArgs (depth + 1) inner) allocates used f → Refused (FailsAt depth (Part Primary ∷ []) [] at) allocates used f
+    DerivesItem (Exactly punctuator.OpenRound) [] [] now inner → Refused (FailsArgs (depth + 1) inner) allocates used f → Refused (FailsAt depth (Part Primary ∷ []) [] at) allocates used f
 arguments_refused used at now inner depth callee allocates f c item bracket =
     refused_map used (FailsArgs (depth + 1) inner) (FailsAt depth (Part Primary ∷ []) [] at) allocates allocates f
-    (λ d h. fails_behind depth (depth + 1) (Part Primary ∷ []) (Part Arguments ∷ []) (Exactly mark.CloseRound ∷ Make Invoke ∷ Shut ∷ []) [] (ACall callee NoMore ∷ []) [] at inner d
+    (λ d h. fails_behind depth (depth + 1) (Part Primary ∷ []) (Part Arguments ∷ []) (Exactly punctuator.CloseRound ∷ Make Invoke ∷ Close ∷ []) [] (ACall callee NoMore ∷ []) [] at inner d
     (call_open_past at now inner depth callee c item bracket) (λ stack same. ap (λ n. n + 1) same) (h callee)) (λ same. same)
 
 arguments_past : (before after : Meaning) (at now inner behind : Place) (depth : ℕ) (callee : Callee) → IsCall at depth → DerivesItem (AName Called) [] (ACall callee NoMore ∷ []) at now →
-    DerivesItem (Exactly mark.OpenRound) [] [] now inner → (h : AddsArgs before after (depth + 1) (Part Arguments ∷ []) [] inner behind) →
-    Derives depth (Part Primary ∷ []) (Exactly mark.CloseRound ∷ Make Invoke ∷ Shut ∷ []) [] (ACall callee h.tree ∷ []) at behind
+    DerivesItem (Exactly punctuator.OpenRound) [] [] now inner → (h : AddsArgs before after (depth + 1) (Part Arguments ∷ []) [] inner behind) →
+    Derives depth (Part Primary ∷ []) (Exactly punctuator.CloseRound ∷ Make Invoke ∷ Close ∷ []) [] (ACall callee h.tree ∷ []) at behind
 arguments_past before after at now inner behind depth callee c item bracket h =
-    joined depth (depth + 1) (Part Primary ∷ []) (Part Arguments ∷ []) [] (Exactly mark.CloseRound ∷ Make Invoke ∷ Shut ∷ []) [] (ACall callee NoMore ∷ []) (ACall callee h.tree ∷ []) [] at inner behind
+    joined depth (depth + 1) (Part Primary ∷ []) (Part Arguments ∷ []) [] (Exactly punctuator.CloseRound ∷ Make Invoke ∷ Close ∷ []) [] (ACall callee NoMore ∷ []) (ACall callee h.tree ∷ []) [] at inner behind
     (call_open_past at now inner depth callee c item bracket) (h.derives callee) (λ stack same. ap (λ n. n + 1) same)
 
 pub call_close_refused : (used : ℕ) (before after : Meaning) (at now inner behind : Place) (depth : ℕ) (callee : Callee) (more : Bool) (f : ParseFault) → IsCall at depth → DerivesItem (AName Called) [] (ACall callee NoMore ∷ []) at now →
-    DerivesItem (Exactly mark.OpenRound) [] [] now inner → AddsArgs before after (depth + 1) (Part Arguments ∷ []) [] inner behind → Refused (FailsItem (Exactly mark.CloseRound) behind) false used f →
+    DerivesItem (Exactly punctuator.OpenRound) [] [] now inner → AddsArgs before after (depth + 1) (Part Arguments ∷ []) [] inner behind → Refused (FailsItem (Exactly punctuator.CloseRound) behind) false used f →
     Refused (FailsAt depth (Part Primary ∷ []) [] at) more used f
 call_close_refused used before after at now inner behind depth callee more f c item bracket h =
-    exit_item used depth (depth + 1) (Part Primary ∷ []) (Exactly mark.CloseRound) (Make Invoke ∷ Shut ∷ []) [] (ACall callee h.tree ∷ []) at behind more f
+    exit_item used depth (depth + 1) (Part Primary ∷ []) (Exactly punctuator.CloseRound) (Make Invoke ∷ Close ∷ []) [] (ACall callee h.tree ∷ []) at behind more f
     (arguments_past before after at now inner behind depth callee c item bracket h) (λ stack same. ap (λ n. n + 1) same)
 
 invoke_makes : (callee : Callee) (args : Args) → MakesOnly Invoke (ACall callee args ∷ []) (AnExpr (Call callee args) ∷ [])
 invoke_makes callee args = record { makes = λ values. refl; clean = λ profile stack rest values scope functions. refl; learns = λ scope. refl; defines = λ values scope. refl }
 
 pub call_adds : (before begun mid after : Meaning) (at now inner behind there : Place) (depth : ℕ) (callee : Callee) → IsCall at depth → DerivesItem (AName Called) [] (ACall callee NoMore ∷ []) at now →
-    DerivesItem (Exactly mark.OpenRound) [] [] now inner → AddsArgs begun mid (depth + 1) (Part Arguments ∷ []) [] inner behind → DerivesItem (Exactly mark.CloseRound) [] [] behind there →
+    DerivesItem (Exactly punctuator.OpenRound) [] [] now inner → AddsArgs begun mid (depth + 1) (Part Arguments ∷ []) [] inner behind → DerivesItem (Exactly punctuator.CloseRound) [] [] behind there →
     IsCallable 64 callee → is_fault (next_at there).token ≡ false → AppendsAll before begun (BeginCall ∷ []) → AppendsAll mid after (EndCall callee ∷ []) → AddsExpr before after depth 11 (Part Primary ∷ []) [] at there
 call_adds before begun mid after at now inner behind there depth callee c item bracket h close numbered sound first last = record {
   tree = Call callee h.tree;
   numbered = (numbered, h.numbered);
   narrow = let small : args_nesting h.tree ≤ room (depth + 1) 1 = h.narrow in let shallow : depth < 64 = c.shallow in omega arith;
   added = appends_then before begun after (BeginCall ∷ []) (args_actions h.tree ++ EndCall callee ∷ []) first (appends_then begun mid after (args_actions h.tree) (EndCall callee ∷ []) h.added last);
-  derives = joined depth depth (Part Primary ∷ []) (Make Invoke ∷ Shut ∷ []) [] [] [] (ACall callee h.tree ∷ []) (AnExpr (Call callee h.tree) ∷ []) [] at there there
-      (item_done depth (depth + 1) (Part Primary ∷ []) (Exactly mark.CloseRound) (Make Invoke ∷ Shut ∷ []) [] [] (ACall callee h.tree ∷ []) at behind there
+  derives = joined depth depth (Part Primary ∷ []) (Make Invoke ∷ Close ∷ []) [] [] [] (ACall callee h.tree ∷ []) (AnExpr (Call callee h.tree) ∷ []) [] at there there
+      (item_done depth (depth + 1) (Part Primary ∷ []) (Exactly punctuator.CloseRound) (Make Invoke ∷ Close ∷ []) [] [] (ACall callee h.tree ∷ []) at behind there
       (arguments_past begun mid at now inner behind depth callee c item bracket h) (close (depth + 1)) (λ stack same. ap (λ n. n + 1) same))
-      (makes_and_shuts there depth Invoke (ACall callee h.tree ∷ []) (AnExpr (Call callee h.tree) ∷ []) sound (invoke_makes callee h.tree)) (λ stack same. same);
+      (makes_and_closes there depth Invoke (ACall callee h.tree ∷ []) (AnExpr (Call callee h.tree) ∷ []) sound (invoke_makes callee h.tree)) (λ stack same. same);
 }
 
 pub begin_follows : (before : Meaning) (depth : ℕ) → depth < 64 → HasRoom before (room depth 11) → MayFollow before BeginCall

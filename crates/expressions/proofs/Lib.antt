@@ -4,6 +4,7 @@ pub mod SignLaws
 pub mod VariableLaws
 pub mod NameLaws
 pub mod OperatorLaws
+pub mod ClimbingLaws
 pub mod NestedLaws
 pub mod CallLaws
 pub mod AssignmentLaws

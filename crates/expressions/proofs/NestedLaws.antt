@@ -1,92 +1,92 @@
 -- Brackets, and what begins no primary.
 use Rattle.std.proofs.Common.{◌≡◌, ℕ, ◌+◌, ◌<◌, ◌≤◌, List, [], ◌∷◌, refl, ap, Bool, true, false, arith}
 use Rattle.std.specs.Prelude.{Some, None}
-use Rattle.tokens.specs.declared.lexemes.Mark.TheVariants as mark
-use Rattle.tokens.specs.declared.lexemes.Token.{Token}
-use Rattle.tokens.specs.declared.lexemes.Token.TheVariants as token
+use Rattle.tokens.specs.declared.located_tokens.Punctuator.TheVariants as punctuator
+use Rattle.tokens.specs.declared.located_tokens.Token.{Token}
+use Rattle.tokens.specs.declared.located_tokens.Token.TheVariants as token
 use Rattle.grammar.specs.declared.diagnostics.Code.TheVariants as code
 use Rattle.grammar.specs.declared.diagnostics.ParseFault.{ParseFault}
 use Rattle.grammar.specs.Building.{Meaning}
 use Rattle.grammar.specs.Compiled.{diagnostic}
 use Rattle.grammar.specs.Derivation.{AnExpr}
 use Rattle.grammar.specs.Faults.{misfit_code}
-use Rattle.grammar.specs.Grammar.{Exactly, Expression, Part, Primary, Shut, Unary, choice, is_fault, is_mark, opens}
+use Rattle.grammar.specs.Grammar.{Exactly, Expression, Part, Primary, Close, Unary, choice, is_fault, is_punctuator, opens}
 use Rattle.grammar.specs.Nesting.{nesting}
 use Rattle.parsing.specs.Position.{Place, next_at}
 use Rattle.parsing.specs.Room.{HasRoom, room}
 use Rattle.parsing.specs.Stopping.{stop_with}
-use Rattle.parsing.specs.Stretch.{IsNearTo, Derives, DerivesItem, FailsAt, FailsItem, GoesPast, Refused, StopsAt}
-use Rattle.parsing.proofs.Stretches.{exit, exit_item, joined}
+use Rattle.parsing.specs.Segment.{IsNearTo, Derives, DerivesItem, FailsAt, FailsItem, GoesPast, Refused, StopsAt}
+use Rattle.parsing.proofs.Segments.{exit, exit_item, joined}
 use Rattle.expressions.specs.declared.signs.Sign.{Sign}
 use Rattle.expressions.specs.declared.signs.Sign.TheVariants as sign
 use Rattle.expressions.specs.declared.signs.Step.{Step}
 use Rattle.expressions.specs.declared.signs.Step.TheVariants as step
 use Rattle.expressions.specs.Expressions.{AddsExpr}
-use Rattle.expressions.specs.Signs.{sign_mark, step_mark}
-use Rattle.parsing.proofs.Parts.{mark_is, shut_stands}
-use Rattle.expressions.proofs.Productions.{Chooses, OpensLevel, chosen, chosen_within, item_done, mark_ends, mark_past, mark_sound, mark_too_deep, none_chosen}
+use Rattle.expressions.specs.Signs.{sign_punctuator, step_punctuator}
+use Rattle.parsing.proofs.Parts.{punctuator_is, close_stands}
+use Rattle.expressions.proofs.Productions.{Chooses, OpensLevel, chosen, chosen_within, item_done, punctuator_ends, punctuator_past, punctuator_sound, punctuator_too_deep, none_chosen}
 use Rattle.expressions.proofs.TellingLaws.{room_within}
 
 -- Brackets.
 
-open_chooses : (at : Place) → is_mark mark.OpenRound (next_at at).token ≡ true → Chooses at Primary (Exactly mark.OpenRound ∷ Part Expression ∷ Exactly mark.CloseRound ∷ Shut ∷ [])
+open_chooses : (at : Place) → is_punctuator punctuator.OpenRound (next_at at).token ≡ true → Chooses at Primary (Exactly punctuator.OpenRound ∷ Part Expression ∷ Exactly punctuator.CloseRound ∷ Close ∷ [])
 open_chooses at fits = record {
-  sound = mark_sound mark.OpenRound (next_at at).token fits;
-  is = λ after more. let t : (next_at at).token ≡ token.Mark mark.OpenRound = mark_is mark.OpenRound (next_at at).token fits in rw t refl;
+  sound = punctuator_sound punctuator.OpenRound (next_at at).token fits;
+  is = λ after more. let t : (next_at at).token ≡ token.Punctuator punctuator.OpenRound = punctuator_is punctuator.OpenRound (next_at at).token fits in rw t refl;
 }
 
-open_opens : (at : Place) → is_mark mark.OpenRound (next_at at).token ≡ true → OpensLevel at Primary
-open_opens at fits after more = let t : (next_at at).token ≡ token.Mark mark.OpenRound = mark_is mark.OpenRound (next_at at).token fits in rw t refl
+open_opens : (at : Place) → is_punctuator punctuator.OpenRound (next_at at).token ≡ true → OpensLevel at Primary
+open_opens at fits after more = let t : (next_at at).token ≡ token.Punctuator punctuator.OpenRound = punctuator_is punctuator.OpenRound (next_at at).token fits in rw t refl
 
-pub bracket_too_deep : (at : Place) (used : ℕ) (near : IsNearTo at used) (depth : ℕ) → is_mark mark.OpenRound (next_at at).token ≡ true → 64 ≤ depth → FailsAt depth (Part Primary ∷ []) [] at (stop_with (Some (diagnostic (next_at at).line code.NestedTooDeeply)) used)
-bracket_too_deep at used near depth fits deep = mark_too_deep at used near depth Primary mark.OpenRound (Part Expression ∷ Exactly mark.CloseRound ∷ Shut ∷ []) (open_chooses at fits) (open_opens at fits) fits deep
+pub bracket_too_deep : (at : Place) (used : ℕ) (near : IsNearTo at used) (depth : ℕ) → is_punctuator punctuator.OpenRound (next_at at).token ≡ true → 64 ≤ depth → FailsAt depth (Part Primary ∷ []) [] at (stop_with (Some (diagnostic (next_at at).line code.NestedTooDeeply)) used)
+bracket_too_deep at used near depth fits deep = punctuator_too_deep at used near depth Primary punctuator.OpenRound (Part Expression ∷ Exactly punctuator.CloseRound ∷ Close ∷ []) (open_chooses at fits) (open_opens at fits) fits deep
 
-open_stands : (at : Place) (depth : ℕ) → is_mark mark.OpenRound (next_at at).token ≡ true → depth < 64 →
-    Derives depth (Part Primary ∷ []) (Exactly mark.OpenRound ∷ Part Expression ∷ Exactly mark.CloseRound ∷ Shut ∷ []) [] [] at at
-open_stands at depth fits shallow = chosen_within at depth Primary (Exactly mark.OpenRound ∷ Part Expression ∷ Exactly mark.CloseRound ∷ Shut ∷ []) (open_chooses at fits) shallow
+open_stands : (at : Place) (depth : ℕ) → is_punctuator punctuator.OpenRound (next_at at).token ≡ true → depth < 64 →
+    Derives depth (Part Primary ∷ []) (Exactly punctuator.OpenRound ∷ Part Expression ∷ Exactly punctuator.CloseRound ∷ Close ∷ []) [] [] at at
+open_stands at depth fits shallow = chosen_within at depth Primary (Exactly punctuator.OpenRound ∷ Part Expression ∷ Exactly punctuator.CloseRound ∷ Close ∷ []) (open_chooses at fits) shallow
 
-pub open_ends : (used : ℕ) (at : Place) (depth : ℕ) (more : Bool) (f : ParseFault) → is_mark mark.OpenRound (next_at at).token ≡ true → depth < 64 →
+pub open_ends : (used : ℕ) (at : Place) (depth : ℕ) (more : Bool) (f : ParseFault) → is_punctuator punctuator.OpenRound (next_at at).token ≡ true → depth < 64 →
     Refused (StopsAt at) false used f → Refused (FailsAt depth (Part Primary ∷ []) [] at) more used f
 open_ends used at depth more f fits shallow stop =
-    exit_item used depth (depth + 1) (Part Primary ∷ []) (Exactly mark.OpenRound) (Part Expression ∷ Exactly mark.CloseRound ∷ Shut ∷ []) [] [] at at more f
-    (open_stands at depth fits shallow) (λ stack same. ap (λ n. n + 1) same) (mark_ends used at mark.OpenRound f fits stop)
+    exit_item used depth (depth + 1) (Part Primary ∷ []) (Exactly punctuator.OpenRound) (Part Expression ∷ Exactly punctuator.CloseRound ∷ Close ∷ []) [] [] at at more f
+    (open_stands at depth fits shallow) (λ stack same. ap (λ n. n + 1) same) (punctuator_ends used at punctuator.OpenRound f fits stop)
 
-open_past : (at now : Place) (depth : ℕ) → is_mark mark.OpenRound (next_at at).token ≡ true → depth < 64 → GoesPast at now →
-    Derives depth (Part Primary ∷ []) (Part Expression ∷ Exactly mark.CloseRound ∷ Shut ∷ []) [] [] at now
+open_past : (at now : Place) (depth : ℕ) → is_punctuator punctuator.OpenRound (next_at at).token ≡ true → depth < 64 → GoesPast at now →
+    Derives depth (Part Primary ∷ []) (Part Expression ∷ Exactly punctuator.CloseRound ∷ Close ∷ []) [] [] at now
 open_past at now depth fits shallow goes =
-    item_done depth (depth + 1) (Part Primary ∷ []) (Exactly mark.OpenRound) (Part Expression ∷ Exactly mark.CloseRound ∷ Shut ∷ []) [] [] [] at at now
-    (open_stands at depth fits shallow) (mark_past at now mark.OpenRound fits goes (depth + 1)) (λ stack same. ap (λ n. n + 1) same)
+    item_done depth (depth + 1) (Part Primary ∷ []) (Exactly punctuator.OpenRound) (Part Expression ∷ Exactly punctuator.CloseRound ∷ Close ∷ []) [] [] [] at at now
+    (open_stands at depth fits shallow) (punctuator_past at now punctuator.OpenRound fits goes (depth + 1)) (λ stack same. ap (λ n. n + 1) same)
 
-pub inside_refused : (used : ℕ) (at now : Place) (depth : ℕ) (allocates : Bool) (f : ParseFault) → is_mark mark.OpenRound (next_at at).token ≡ true → depth < 64 → GoesPast at now →
+pub inside_refused : (used : ℕ) (at now : Place) (depth : ℕ) (allocates : Bool) (f : ParseFault) → is_punctuator punctuator.OpenRound (next_at at).token ≡ true → depth < 64 → GoesPast at now →
     Refused (FailsAt (depth + 1) (Part Expression ∷ []) [] now) allocates used f → Refused (FailsAt depth (Part Primary ∷ []) [] at) allocates used f
 inside_refused used at now depth allocates f fits shallow goes =
-    exit used depth (depth + 1) (Part Primary ∷ []) (Part Expression ∷ []) (Exactly mark.CloseRound ∷ Shut ∷ []) [] [] [] at now allocates allocates f
+    exit used depth (depth + 1) (Part Primary ∷ []) (Part Expression ∷ []) (Exactly punctuator.CloseRound ∷ Close ∷ []) [] [] [] at now allocates allocates f
     (open_past at now depth fits shallow goes) (λ stack same. ap (λ n. n + 1) same) (λ same. same)
 
-inside_past : (before after : Meaning) (at now behind : Place) (depth : ℕ) → is_mark mark.OpenRound (next_at at).token ≡ true → depth < 64 → GoesPast at now →
-    (h : AddsExpr before after (depth + 1) 1 (Part Expression ∷ []) [] now behind) → Derives depth (Part Primary ∷ []) (Exactly mark.CloseRound ∷ Shut ∷ []) [] (AnExpr h.tree ∷ []) at behind
+inside_past : (before after : Meaning) (at now behind : Place) (depth : ℕ) → is_punctuator punctuator.OpenRound (next_at at).token ≡ true → depth < 64 → GoesPast at now →
+    (h : AddsExpr before after (depth + 1) 1 (Part Expression ∷ []) [] now behind) → Derives depth (Part Primary ∷ []) (Exactly punctuator.CloseRound ∷ Close ∷ []) [] (AnExpr h.tree ∷ []) at behind
 inside_past before after at now behind depth fits shallow goes h =
-    joined depth (depth + 1) (Part Primary ∷ []) (Part Expression ∷ []) [] (Exactly mark.CloseRound ∷ Shut ∷ []) [] [] (AnExpr h.tree ∷ []) [] at now behind
+    joined depth (depth + 1) (Part Primary ∷ []) (Part Expression ∷ []) [] (Exactly punctuator.CloseRound ∷ Close ∷ []) [] [] (AnExpr h.tree ∷ []) [] at now behind
     (open_past at now depth fits shallow goes) h.derives (λ stack same. ap (λ n. n + 1) same)
 
-pub close_refused : (used : ℕ) (before after : Meaning) (at now behind : Place) (depth : ℕ) (more : Bool) (f : ParseFault) → is_mark mark.OpenRound (next_at at).token ≡ true → depth < 64 → GoesPast at now →
-    AddsExpr before after (depth + 1) 1 (Part Expression ∷ []) [] now behind → Refused (FailsItem (Exactly mark.CloseRound) behind) false used f → Refused (FailsAt depth (Part Primary ∷ []) [] at) more used f
+pub close_refused : (used : ℕ) (before after : Meaning) (at now behind : Place) (depth : ℕ) (more : Bool) (f : ParseFault) → is_punctuator punctuator.OpenRound (next_at at).token ≡ true → depth < 64 → GoesPast at now →
+    AddsExpr before after (depth + 1) 1 (Part Expression ∷ []) [] now behind → Refused (FailsItem (Exactly punctuator.CloseRound) behind) false used f → Refused (FailsAt depth (Part Primary ∷ []) [] at) more used f
 close_refused used before after at now behind depth more f fits shallow goes h =
-    exit_item used depth (depth + 1) (Part Primary ∷ []) (Exactly mark.CloseRound) (Shut ∷ []) [] (AnExpr h.tree ∷ []) at behind more f
+    exit_item used depth (depth + 1) (Part Primary ∷ []) (Exactly punctuator.CloseRound) (Close ∷ []) [] (AnExpr h.tree ∷ []) at behind more f
     (inside_past before after at now behind depth fits shallow goes h) (λ stack same. ap (λ n. n + 1) same)
 
-pub bracket_adds : (before after : Meaning) (at now behind there : Place) (depth : ℕ) → is_mark mark.OpenRound (next_at at).token ≡ true → depth < 64 → GoesPast at now →
-    AddsExpr before after (depth + 1) 1 (Part Expression ∷ []) [] now behind → DerivesItem (Exactly mark.CloseRound) [] [] behind there → is_fault (next_at there).token ≡ false →
+pub bracket_adds : (before after : Meaning) (at now behind there : Place) (depth : ℕ) → is_punctuator punctuator.OpenRound (next_at at).token ≡ true → depth < 64 → GoesPast at now →
+    AddsExpr before after (depth + 1) 1 (Part Expression ∷ []) [] now behind → DerivesItem (Exactly punctuator.CloseRound) [] [] behind there → is_fault (next_at there).token ≡ false →
     AddsExpr before after depth 11 (Part Primary ∷ []) [] at there
 bracket_adds before after at now behind there depth fits shallow goes h close sound = record {
   tree = h.tree;
   numbered = h.numbered;
   narrow = let small : nesting h.tree ≤ room (depth + 1) 1 = h.narrow in omega arith;
   added = h.added;
-  derives = joined depth depth (Part Primary ∷ []) (Shut ∷ []) [] [] [] (AnExpr h.tree ∷ []) (AnExpr h.tree ∷ []) [] at there there
-      (item_done depth (depth + 1) (Part Primary ∷ []) (Exactly mark.CloseRound) (Shut ∷ []) [] [] (AnExpr h.tree ∷ []) at behind there
+  derives = joined depth depth (Part Primary ∷ []) (Close ∷ []) [] [] [] (AnExpr h.tree ∷ []) (AnExpr h.tree ∷ []) [] at there there
+      (item_done depth (depth + 1) (Part Primary ∷ []) (Exactly punctuator.CloseRound) (Close ∷ []) [] [] (AnExpr h.tree ∷ []) at behind there
       (inside_past before after at now behind depth fits shallow goes h) (close (depth + 1)) (λ stack same. ap (λ n. n + 1) same))
-      (shut_stands there depth (AnExpr h.tree ∷ []) sound) (λ stack same. same);
+      (close_stands there depth (AnExpr h.tree ∷ []) sound) (λ stack same. same);
 }
 
 pub inside_room : (before : Meaning) (depth : ℕ) → depth < 64 → HasRoom before (room depth 11) → HasRoom before (room (depth + 1) 1)
@@ -94,25 +94,25 @@ inside_room before depth shallow h = room_within before (room (depth + 1) 1) (ro
 
 -- An operand without an operator before it is a primary.
 
-primary_choice : (t after : Token) → ((s : Sign) → is_mark (sign_mark s) t ≡ false) → ((s : Step) → is_mark (step_mark s) t ≡ false) → choice Unary t after ≡ Some (Part Primary ∷ [])
-primary_choice (token.Mark mark.Minus) after signs steps = let e : is_mark (sign_mark sign.Negation) (token.Mark mark.Minus) ≡ false = signs sign.Negation in absurd (cc)
-primary_choice (token.Mark mark.Not) after signs steps = let e : is_mark (sign_mark sign.Denial) (token.Mark mark.Not) ≡ false = signs sign.Denial in absurd (cc)
-primary_choice (token.Mark mark.Tilde) after signs steps = let e : is_mark (sign_mark sign.Complement) (token.Mark mark.Tilde) ≡ false = signs sign.Complement in absurd (cc)
-primary_choice (token.Mark mark.PlusPlus) after signs steps = let e : is_mark (step_mark step.Up) (token.Mark mark.PlusPlus) ≡ false = steps step.Up in absurd (cc)
-primary_choice (token.Mark mark.MinusMinus) after signs steps = let e : is_mark (step_mark step.Down) (token.Mark mark.MinusMinus) ≡ false = steps step.Down in absurd (cc)
+primary_choice : (t after : Token) → ((s : Sign) → is_punctuator (sign_punctuator s) t ≡ false) → ((s : Step) → is_punctuator (step_punctuator s) t ≡ false) → choice Unary t after ≡ Some (Part Primary ∷ [])
+primary_choice (token.Punctuator punctuator.Minus) after signs steps = let e : is_punctuator (sign_punctuator sign.Negation) (token.Punctuator punctuator.Minus) ≡ false = signs sign.Negation in absurd (cc)
+primary_choice (token.Punctuator punctuator.Not) after signs steps = let e : is_punctuator (sign_punctuator sign.Denial) (token.Punctuator punctuator.Not) ≡ false = signs sign.Denial in absurd (cc)
+primary_choice (token.Punctuator punctuator.Tilde) after signs steps = let e : is_punctuator (sign_punctuator sign.Complement) (token.Punctuator punctuator.Tilde) ≡ false = signs sign.Complement in absurd (cc)
+primary_choice (token.Punctuator punctuator.PlusPlus) after signs steps = let e : is_punctuator (step_punctuator step.Up) (token.Punctuator punctuator.PlusPlus) ≡ false = steps step.Up in absurd (cc)
+primary_choice (token.Punctuator punctuator.MinusMinus) after signs steps = let e : is_punctuator (step_punctuator step.Down) (token.Punctuator punctuator.MinusMinus) ≡ false = steps step.Down in absurd (cc)
 primary_choice t after signs steps = refl
 
-primary_opens : (t after : Token) → ((s : Sign) → is_mark (sign_mark s) t ≡ false) → opens Unary t after ≡ false
-primary_opens (token.Mark mark.Minus) after signs = let e : is_mark (sign_mark sign.Negation) (token.Mark mark.Minus) ≡ false = signs sign.Negation in absurd (cc)
-primary_opens (token.Mark mark.Not) after signs = let e : is_mark (sign_mark sign.Denial) (token.Mark mark.Not) ≡ false = signs sign.Denial in absurd (cc)
-primary_opens (token.Mark mark.Tilde) after signs = let e : is_mark (sign_mark sign.Complement) (token.Mark mark.Tilde) ≡ false = signs sign.Complement in absurd (cc)
+primary_opens : (t after : Token) → ((s : Sign) → is_punctuator (sign_punctuator s) t ≡ false) → opens Unary t after ≡ false
+primary_opens (token.Punctuator punctuator.Minus) after signs = let e : is_punctuator (sign_punctuator sign.Negation) (token.Punctuator punctuator.Minus) ≡ false = signs sign.Negation in absurd (cc)
+primary_opens (token.Punctuator punctuator.Not) after signs = let e : is_punctuator (sign_punctuator sign.Denial) (token.Punctuator punctuator.Not) ≡ false = signs sign.Denial in absurd (cc)
+primary_opens (token.Punctuator punctuator.Tilde) after signs = let e : is_punctuator (sign_punctuator sign.Complement) (token.Punctuator punctuator.Tilde) ≡ false = signs sign.Complement in absurd (cc)
 primary_opens t after signs = refl
 
 -- the next token is no operator before an operand
 pub record NoOperator (t : Token) : Type 0 where
   pub sound : is_fault t ≡ false
-  pub signs : (s : Sign) → is_mark (sign_mark s) t ≡ false
-  pub steps : (s : Step) → is_mark (step_mark s) t ≡ false
+  pub signs : (s : Sign) → is_punctuator (sign_punctuator s) t ≡ false
+  pub steps : (s : Step) → is_punctuator (step_punctuator s) t ≡ false
 
 primary_stands : (at : Place) (depth : ℕ) → NoOperator (next_at at).token → Derives depth (Part Unary ∷ []) (Part Primary ∷ []) [] [] at at
 primary_stands at depth n =
@@ -137,17 +137,17 @@ primary_adds before after at there depth n h = record {
 pub record NoPrimary (t : Token) : Type 0 where
   pub constant : (value : ℕ) → t ≡ token.Constant value → ⊥
   pub name : (name : List ℕ) → t ≡ token.Name name → ⊥
-  pub bracket : is_mark mark.OpenRound t ≡ false
+  pub bracket : is_punctuator punctuator.OpenRound t ≡ false
 
 no_primary : (t after : Token) → NoPrimary t → choice Primary t after ≡ None
 no_primary (token.Constant value) after n = absurd (n.constant value refl)
 no_primary (token.Name name) after n = absurd (n.name name refl)
-no_primary (token.Mark mark.OpenRound) after n = let e : is_mark mark.OpenRound (token.Mark mark.OpenRound) ≡ false = n.bracket in absurd (cc)
+no_primary (token.Punctuator punctuator.OpenRound) after n = let e : is_punctuator punctuator.OpenRound (token.Punctuator punctuator.OpenRound) ≡ false = n.bracket in absurd (cc)
 no_primary t after n = refl
 
 no_primary_opens : (t after : Token) → NoPrimary t → opens Primary t after ≡ false
 no_primary_opens (token.Name name) after n = absurd (n.name name refl)
-no_primary_opens (token.Mark mark.OpenRound) after n = let e : is_mark mark.OpenRound (token.Mark mark.OpenRound) ≡ false = n.bracket in absurd (cc)
+no_primary_opens (token.Punctuator punctuator.OpenRound) after n = let e : is_punctuator punctuator.OpenRound (token.Punctuator punctuator.OpenRound) ≡ false = n.bracket in absurd (cc)
 no_primary_opens t after n = refl
 
 pub primary_misfits : (at : Place) (used : ℕ) (near : IsNearTo at used) (depth : ℕ) → is_fault (next_at at).token ≡ false → NoPrimary (next_at at).token →

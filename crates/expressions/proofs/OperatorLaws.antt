@@ -1,153 +1,50 @@
 -- The ten levels of binary operators.
-use Rattle.std.proofs.Common.{◌≡◌, ℕ, ◌+◌, ◌<◌, ◌≤◌, List, [], ◌∷◌, ◌++◌, refl, subst, Bool, true, false, arith}
+use Rattle.std.proofs.Common.{◌≡◌, ℕ, ◌+◌, ◌≤◌, [], ◌∷◌, ◌++◌, refl, subst, Bool, true, false, arith}
 use Rattle.std.proofs.lemmas.Bool.Decides.{nat_tests}
-use Rattle.std.specs.Prelude.{Some, None, nat_lt, ◌==◌, if◌then◌else◌}
-use Rattle.tokens.specs.declared.lexemes.Mark.{Mark}
-use Rattle.tokens.specs.declared.lexemes.Mark.TheVariants as mark
-use Rattle.tokens.specs.declared.lexemes.Token.{Token}
-use Rattle.tokens.specs.declared.lexemes.Token.TheVariants as token
+use Rattle.std.specs.Prelude.{Some, None, ◌==◌, if◌then◌else◌}
+use Rattle.tokens.specs.declared.located_tokens.Punctuator.{Punctuator}
+use Rattle.tokens.specs.declared.located_tokens.Punctuator.TheVariants as punctuator
+use Rattle.tokens.specs.declared.located_tokens.Token.{Token}
+use Rattle.tokens.specs.declared.located_tokens.Token.TheVariants as token
 use Rattle.grammar.specs.declared.diagnostics.ParseFault.{ParseFault}
 use Rattle.grammar.specs.declared.operators.Op.{Op}
 use Rattle.grammar.specs.declared.operators.Op.TheVariants as op
-use Rattle.grammar.specs.Actions.{Apply, Middle, expr_actions, middle}
+use Rattle.grammar.specs.Actions.{ApplyBinop, LogicMiddle, expr_actions, middle}
 use Rattle.grammar.specs.Building.{Meaning, AppendsAll, MayFollow}
 use Rattle.grammar.specs.Derivation.{AnExpr}
 use Rattle.grammar.specs.Following.{Open, AValue, BeforeRight, Computed, Opened, Origin, open_count}
-use Rattle.grammar.specs.Grammar.{Exactly, Item, Level, Make, Operate, Part, Tail, Unary, choice, is_fault, is_mark}
+use Rattle.grammar.specs.Grammar.{Exactly, Level, Make, Operate, Part, Tail, choice, is_fault, is_punctuator}
 use Rattle.grammar.specs.Nesting.{nesting, right_side}
 use Rattle.grammar.specs.Operators.{if_at, is_logic, operator_at}
 use Rattle.grammar.specs.declared.operators.Binary.{Binary as AnOperator}
 use Rattle.grammar.specs.Resolved.{InExpr}
 use Rattle.grammar.specs.Tree.{Binary, Expr}
 use Rattle.grammar.proofs.FollowingLaws.{Leads, act, chain, expr_leads, logic_itself, origin_of}
-use Rattle.grammar.proofs.StandingLaws.{stands_then}
 use Rattle.parsing.specs.Position.{Place, next_at}
 use Rattle.parsing.specs.Room.{HasLeft, HasRoom, room}
-use Rattle.parsing.specs.Stretch.{Derives, FailsAt, FailsItem, GoesPast, Refused, StopsAt}
-use Rattle.parsing.proofs.Stretches.{exit, fails_behind, fails_then, joined, refused_map}
+use Rattle.parsing.specs.Segment.{Derives, FailsAt, FailsItem, GoesPast, Refused, StopsAt}
+use Rattle.parsing.proofs.Segments.{fails_behind, joined, refused_map}
 use Rattle.expressions.specs.Expressions.{AddsExpr, AddsOperand, FailsOperand}
 use Rattle.expressions.specs.Telling.{MayFollowAll}
 use Rattle.parsing.proofs.Parts.{MakesOnly, make_stands}
-use Rattle.expressions.proofs.Productions.{chosen, item_done, mark_ends, mark_past, mark_sound, same_self}
+use Rattle.expressions.proofs.Productions.{chosen, item_done, punctuator_ends, punctuator_past, punctuator_sound, same_self}
 use Rattle.expressions.proofs.TellingLaws.{all_follow, appends_then, first_follows, others_follow, room_behind}
-
--- Levels.
-
-level_choice : (n : ℕ) (t after : Token) → n ≤ 10 → choice (Level n) t after ≡ Some (Part (Level (n + 1)) ∷ Part (Tail n) ∷ [])
-level_choice n t after small = let test : nat_lt n 11 ≡ true = below n small in rw test refl
-  where
-    below : (n : ℕ) → n ≤ 10 → nat_lt n 11 ≡ true
-    below n small = grind (arith, nat_tests)
-
-last_choice : (n : ℕ) (t after : Token) → 10 < n → choice (Level n) t after ≡ Some (Part Unary ∷ [])
-last_choice n t after last = let test : nat_lt n 11 ≡ false = above n last in rw test refl
-  where
-    above : (n : ℕ) → 10 < n → nat_lt n 11 ≡ false
-    above n last = grind (arith, nat_tests)
-
-level_stands : (at : Place) (depth n : ℕ) → n ≤ 10 → is_fault (next_at at).token ≡ false → Derives depth (Part (Level n) ∷ []) (Part (Level (n + 1)) ∷ Part (Tail n) ∷ []) [] [] at at
-level_stands at depth n small sound =
-    chosen at depth (Level n) (Part (Level (n + 1)) ∷ Part (Tail n) ∷ []) [] (record { sound = sound; is = λ after more. level_choice n (next_at at).token after small }) (λ after more. refl)
-
-last_stands : (at : Place) (depth n : ℕ) → 10 < n → is_fault (next_at at).token ≡ false → Derives depth (Part (Level n) ∷ []) (Part Unary ∷ []) [] [] at at
-last_stands at depth n last sound =
-    chosen at depth (Level n) (Part Unary ∷ []) [] (record { sound = sound; is = λ after more. last_choice n (next_at at).token after last }) (λ after more. refl)
-
-pub last_refused : (used : ℕ) (at : Place) (depth n : ℕ) (allocates : Bool) (f : ParseFault) → 10 < n → is_fault (next_at at).token ≡ false →
-    Refused (FailsAt depth (Part Unary ∷ []) [] at) allocates used f → Refused (FailsAt depth (Part (Level n) ∷ []) [] at) allocates used f
-last_refused used at depth n allocates f last sound =
-    exit used depth depth (Part (Level n) ∷ []) (Part Unary ∷ []) [] [] [] [] at at allocates allocates f (last_stands at depth n last sound) (λ stack same. same) (λ same. same)
-
-pub last_adds : (before after : Meaning) (at there : Place) (depth n : ℕ) → 10 < n → n ≤ 11 → is_fault (next_at at).token ≡ false →
-    AddsExpr before after depth 11 (Part Unary ∷ []) [] at there → AddsExpr before after depth n (Part (Level n) ∷ []) [] at there
-last_adds before after at there depth n last most sound h = record {
-  tree = h.tree;
-  numbered = h.numbered;
-  narrow = let small : nesting h.tree ≤ room depth 11 = h.narrow in omega arith;
-  added = h.added;
-  derives = joined depth depth (Part (Level n) ∷ []) (Part Unary ∷ []) [] [] [] [] (AnExpr h.tree ∷ []) [] at at there (last_stands at depth n last sound) h.derives (λ stack same. same);
-}
-
-pub level_refused : (used : ℕ) (at : Place) (depth n : ℕ) (allocates : Bool) (f : ParseFault) → n ≤ 10 → is_fault (next_at at).token ≡ false →
-    Refused (FailsAt depth (Part (Level (n + 1)) ∷ []) [] at) allocates used f → Refused (FailsAt depth (Part (Level n) ∷ []) [] at) allocates used f
-level_refused used at depth n allocates f small sound =
-    exit used depth depth (Part (Level n) ∷ []) (Part (Level (n + 1)) ∷ []) (Part (Tail n) ∷ []) [] [] [] at at allocates allocates f (level_stands at depth n small sound) (λ stack same. same) (λ same. same)
-
-pub level_adds : (before after : Meaning) (at there : Place) (depth n : ℕ) → n ≤ 10 → is_fault (next_at at).token ≡ false →
-    AddsExpr before after depth (n + 1) (Part (Level (n + 1)) ∷ []) [] at there → AddsExpr before after depth n (Part (Level n) ∷ []) (Part (Tail n) ∷ []) at there
-level_adds before after at there depth n small sound h = record {
-  tree = h.tree;
-  numbered = h.numbered;
-  narrow = let less : nesting h.tree ≤ room depth (n + 1) = h.narrow in omega arith;
-  added = h.added;
-  derives = joined depth depth (Part (Level n) ∷ []) (Part (Level (n + 1)) ∷ []) [] (Part (Tail n) ∷ []) [] [] (AnExpr h.tree ∷ []) [] at at there (level_stands at depth n small sound) h.derives (λ stack same. same);
-}
-
--- a further operator at the tail
-pub tail_adds : (before mid after : Meaning) (at now there : Place) (depth n : ℕ) (o : Op) →
-    AddsExpr before mid depth n (Part (Level n) ∷ []) (Part (Tail n) ∷ []) at now → AddsOperand mid after depth n o now there →
-    AddsExpr before after depth n (Part (Level n) ∷ []) (Part (Tail n) ∷ []) at there
-tail_adds before mid after at now there depth n o h r = record {
-  tree = Binary o h.tree r.right;
-  numbered = (h.numbered, r.numbered);
-  narrow = let left : nesting h.tree ≤ room depth n = h.narrow in let right : right_side o + nesting r.right ≤ room depth n = r.narrow in omega arith;
-  added = appends_then before mid after (expr_actions h.tree) (middle o ++ (expr_actions r.right ++ Apply o ∷ [])) h.added r.added;
-  derives = joined depth depth (Part (Level n) ∷ []) (Part (Tail n) ∷ []) (Part (Tail n) ∷ []) [] [] (AnExpr h.tree ∷ []) (AnExpr (Binary o h.tree r.right) ∷ []) [] at now there
-      h.derives (r.derives h.tree) (λ stack same. same);
-}
-
-pub tail_refused : (used : ℕ) (before mid : Meaning) (at now : Place) (depth n : ℕ) (allocates : Bool) (f : ParseFault) →
-    AddsExpr before mid depth n (Part (Level n) ∷ []) (Part (Tail n) ∷ []) at now → Refused (FailsOperand depth n now) allocates used f → Refused (FailsAt depth (Part (Level n) ∷ []) [] at) allocates used f
-tail_refused used before mid at now depth n allocates f h =
-    refused_map used (FailsOperand depth n now) (FailsAt depth (Part (Level n) ∷ []) [] at) allocates allocates f
-    (λ d fails. fails_then depth (Part (Level n) ∷ []) (Part (Tail n) ∷ []) [] (AnExpr h.tree ∷ []) at now d h.derives (fails h.tree)) (λ same. same)
-
-no_operator : (n : ℕ) (t after : Token) → operator_at n t ≡ None → choice (Tail n) t after ≡ Some []
-no_operator n (token.Mark m) after none = rw none refl
-no_operator n (token.Name name) after none = refl
-no_operator n (token.Word word) after none = refl
-no_operator n (token.Constant value) after none = refl
-no_operator n token.End after none = refl
-no_operator n (token.Fault flaw) after none = refl
-
--- no further operator
-pub level_ends : (before after : Meaning) (at there : Place) (depth n : ℕ) → operator_at n (next_at there).token ≡ None → is_fault (next_at there).token ≡ false →
-    AddsExpr before after depth n (Part (Level n) ∷ []) (Part (Tail n) ∷ []) at there → AddsExpr before after depth n (Part (Level n) ∷ []) [] at there
-level_ends before after at there depth n none sound h = record {
-  tree = h.tree;
-  numbered = h.numbered;
-  narrow = h.narrow;
-  added = h.added;
-  derives = joined depth depth (Part (Level n) ∷ []) (Part (Tail n) ∷ []) [] [] [] (AnExpr h.tree ∷ []) (AnExpr h.tree ∷ []) [] at there there h.derives
-      (chosen there depth (Tail n) [] (AnExpr h.tree ∷ []) (record { sound = sound; is = λ behind more. no_operator n (next_at there).token behind none }) (λ behind more. refl)) (λ stack same. same);
-}
-
--- the left side of a further operator
-pub left_open : (before now : Meaning) (at there : Place) (depth n : ℕ) (front pending : List Item) → HasRoom before (room depth n) → AddsExpr before now depth n front pending at there → HasLeft now (room depth n)
-left_open before now at there depth n front pending h e = record {
-  origin = origin_of e.tree;
-  outer = h.outer;
-  opened = h.opened;
-  stands = stands_then before now (expr_actions e.tree) (h.outer ∷ h.opened) (AValue (origin_of e.tree) ∷ h.outer ∷ h.opened) e.added h.stands
-      (expr_leads e.tree h.outer h.opened e.numbered (let few : open_count (h.outer ∷ h.opened) + room depth n ≤ 200 = h.few in let small : nesting e.tree ≤ room depth n = e.narrow in omega arith)).is;
-  few = h.few;
-}
 
 -- An operator and its right side.
 
 record SpellsOperator (n : ℕ) (o : Op) (t : Token) : Type 0 where
-  m : Mark
-  is : t ≡ token.Mark m
+  m : Punctuator
+  is : t ≡ token.Punctuator m
   choice_is : (after : Token) → choice (Tail n) t after ≡ Some (Exactly m ∷ Part (Level (n + 1)) ∷ Make (Operate o) ∷ Part (Tail n) ∷ [])
-  fits : is_mark m t ≡ true
+  fits : is_punctuator m t ≡ true
 
 spells : (n : ℕ) (o : Op) (t : Token) → operator_at n t ≡ Some o → SpellsOperator n o t
-spells n o (token.Mark m) is = record { m = m; is = refl; choice_is = λ after. rw is refl; fits = same_self m }
+spells n o (token.Punctuator m) is = record { m = m; is = refl; choice_is = λ after. rw is refl; fits = same_self m }
 spells n o (token.Name name) is = absurd (cc)
 spells n o (token.Word word) is = absurd (cc)
 spells n o (token.Constant value) is = absurd (cc)
 spells n o token.End is = absurd (cc)
-spells n o (token.Fault flaw) is = absurd (cc)
+spells n o (token.Fault lexical_error) is = absurd (cc)
 
 pub operator_sound : (n : ℕ) (o : Op) (t : Token) → operator_at n t ≡ Some o → is_fault t ≡ false
 operator_sound n o t is = let s : SpellsOperator n o t = spells n o t is in rw s.is refl
@@ -156,7 +53,7 @@ operator_stands : (at : Place) (depth n : ℕ) (o : Op) (left : Expr) (s : Spell
     Derives depth (Part (Tail n) ∷ []) (Exactly s.m ∷ Part (Level (n + 1)) ∷ Make (Operate o) ∷ Part (Tail n) ∷ []) (AnExpr left ∷ []) (AnExpr left ∷ []) at at
 operator_stands at depth n o left s =
     chosen at depth (Tail n) (Exactly s.m ∷ Part (Level (n + 1)) ∷ Make (Operate o) ∷ Part (Tail n) ∷ []) (AnExpr left ∷ [])
-    (record { sound = mark_sound s.m (next_at at).token s.fits; is = λ after more. s.choice_is after }) (λ after more. refl)
+    (record { sound = punctuator_sound s.m (next_at at).token s.fits; is = λ after more. s.choice_is after }) (λ after more. refl)
 
 pub operator_ends : (used : ℕ) (at : Place) (depth n : ℕ) (o : Op) (more : Bool) (f : ParseFault) → operator_at n (next_at at).token ≡ Some o → Refused (StopsAt at) false used f → Refused (FailsOperand depth n at) more used f
 operator_ends used at depth n o more f is stop = ended (spells n o (next_at at).token is) f stop
@@ -165,14 +62,14 @@ operator_ends used at depth n o more f is stop = ended (spells n o (next_at at).
     ended s f stop =
         refused_map used (FailsItem (Exactly s.m) at) (FailsOperand depth n at) false more f
         (λ d h left. fails_behind depth depth (Part (Tail n) ∷ []) (Exactly s.m ∷ []) (Part (Level (n + 1)) ∷ Make (Operate o) ∷ Part (Tail n) ∷ []) (AnExpr left ∷ []) [] (AnExpr left ∷ []) at at d
-        (operator_stands at depth n o left s) (λ stack same. same) (h depth)) (λ never. absurd (cc)) (mark_ends used at s.m f s.fits stop)
+        (operator_stands at depth n o left s) (λ stack same. same) (h depth)) (λ never. absurd (cc)) (punctuator_ends used at s.m f s.fits stop)
 
 operator_past : (at now : Place) (depth n : ℕ) (o : Op) (left : Expr) → operator_at n (next_at at).token ≡ Some o → GoesPast at now →
     Derives depth (Part (Tail n) ∷ []) (Part (Level (n + 1)) ∷ Make (Operate o) ∷ Part (Tail n) ∷ []) (AnExpr left ∷ []) (AnExpr left ∷ []) at now
 operator_past at now depth n o left is goes =
     let s : SpellsOperator n o (next_at at).token = spells n o (next_at at).token is in
     item_done depth depth (Part (Tail n) ∷ []) (Exactly s.m) (Part (Level (n + 1)) ∷ Make (Operate o) ∷ Part (Tail n) ∷ []) (AnExpr left ∷ []) [] (AnExpr left ∷ []) at at now
-    (operator_stands at depth n o left s) (mark_past at now s.m s.fits goes depth) (λ stack same. same)
+    (operator_stands at depth n o left s) (punctuator_past at now s.m s.fits goes depth) (λ stack same. same)
 
 pub right_refused : (used : ℕ) (at now : Place) (depth n : ℕ) (o : Op) (allocates : Bool) (f : ParseFault) → operator_at n (next_at at).token ≡ Some o → GoesPast at now →
     Refused (FailsAt depth (Part (Level (n + 1)) ∷ []) [] now) allocates used f → Refused (FailsOperand depth n at) allocates used f
@@ -200,7 +97,7 @@ unlike : (o p : Op) → is_logic p ≡ false → p ≡ o → is_logic o ≡ true
 unlike o p none same logic = cc
 
 logic_level : (n : ℕ) (o : Op) (t : Token) → operator_at n t ≡ Some o → is_logic o ≡ true → n ≤ 2
-logic_level n o (token.Mark m) is logic = by_mark m is
+logic_level n o (token.Punctuator m) is logic = by_punctuator m is
   where
     found : (l : ℕ) (p : Op) → if_at n (Some (record { level = l; op = p })) ≡ Some o → (l ≡ n) × (p ≡ o)
     found l p is = at_its_level n (record { level = l; op = p }) o is
@@ -211,31 +108,31 @@ logic_level n o (token.Mark m) is logic = by_mark m is
     level_is : (l : ℕ) (p : Op) → l ≤ 2 → if_at n (Some (record { level = l; op = p })) ≡ Some o → n ≤ 2
     level_is l p least is = subst (λ (k : ℕ). k ≤ 2) (found l p is).0 least
 
-    by_mark : (m : Mark) → operator_at n (token.Mark m) ≡ Some o → n ≤ 2
-    by_mark mark.OrOr is = level_is 1 op.Or (omega arith) is
-    by_mark mark.AndAnd is = level_is 2 op.And (omega arith) is
-    by_mark mark.Or is = never 3 op.BitOr refl is
-    by_mark mark.Xor is = never 4 op.BitXor refl is
-    by_mark mark.And is = never 5 op.BitAnd refl is
-    by_mark mark.EqualsEquals is = never 6 op.Equal refl is
-    by_mark mark.NotEquals is = never 6 op.NotEqual refl is
-    by_mark mark.Less is = never 7 op.Less refl is
-    by_mark mark.Greater is = never 7 op.Greater refl is
-    by_mark mark.LessEquals is = never 7 op.LessOrEqual refl is
-    by_mark mark.GreaterEquals is = never 7 op.GreaterOrEqual refl is
-    by_mark mark.ShiftLeft is = never 8 op.ShiftLeft refl is
-    by_mark mark.ShiftRight is = never 8 op.ShiftRight refl is
-    by_mark mark.Plus is = never 9 op.Add refl is
-    by_mark mark.Minus is = never 9 op.Subtract refl is
-    by_mark mark.Star is = never 10 op.Multiply refl is
-    by_mark mark.Slash is = never 10 op.Divide refl is
-    by_mark mark.Percent is = never 10 op.Remainder refl is
-    by_mark m is = absurd (cc)
+    by_punctuator : (m : Punctuator) → operator_at n (token.Punctuator m) ≡ Some o → n ≤ 2
+    by_punctuator punctuator.OrOr is = level_is 1 op.Or (omega arith) is
+    by_punctuator punctuator.AndAnd is = level_is 2 op.And (omega arith) is
+    by_punctuator punctuator.Or is = never 3 op.BitOr refl is
+    by_punctuator punctuator.Xor is = never 4 op.BitXor refl is
+    by_punctuator punctuator.And is = never 5 op.BitAnd refl is
+    by_punctuator punctuator.EqualsEquals is = never 6 op.Equal refl is
+    by_punctuator punctuator.NotEquals is = never 6 op.NotEqual refl is
+    by_punctuator punctuator.Less is = never 7 op.Less refl is
+    by_punctuator punctuator.Greater is = never 7 op.Greater refl is
+    by_punctuator punctuator.LessEquals is = never 7 op.LessOrEqual refl is
+    by_punctuator punctuator.GreaterEquals is = never 7 op.GreaterOrEqual refl is
+    by_punctuator punctuator.ShiftLeft is = never 8 op.ShiftLeft refl is
+    by_punctuator punctuator.ShiftRight is = never 8 op.ShiftRight refl is
+    by_punctuator punctuator.Plus is = never 9 op.Add refl is
+    by_punctuator punctuator.Minus is = never 9 op.Subtract refl is
+    by_punctuator punctuator.Star is = never 10 op.Multiply refl is
+    by_punctuator punctuator.Slash is = never 10 op.Divide refl is
+    by_punctuator punctuator.Percent is = never 10 op.Remainder refl is
+    by_punctuator m is = absurd (cc)
 logic_level n o (token.Name name) is logic = absurd (cc)
 logic_level n o (token.Word word) is logic = absurd (cc)
 logic_level n o (token.Constant value) is logic = absurd (cc)
 logic_level n o token.End is logic = absurd (cc)
-logic_level n o (token.Fault flaw) is logic = absurd (cc)
+logic_level n o (token.Fault lexical_error) is logic = absurd (cc)
 
 -- what a right side leaves of the room
 pub right_room : (depth n : ℕ) (o : Op) (t : Token) → operator_at n t ≡ Some o → right_side o + room depth (n + 1) ≤ room depth n
@@ -258,7 +155,7 @@ middle_leads : (o : Op) (logic : Bool) → is_logic o ≡ logic → (origin : Or
     Leads (middle o) (AValue origin ∷ outer ∷ opened) (right_open o logic origin ∷ right_below logic origin (outer ∷ opened))
 middle_leads o true is origin outer opened small =
     let side : right_side o ≡ 1 = rw is refl in
-    rw is (act (Middle o) (AValue origin ∷ outer ∷ opened) (BeforeRight o ∷ AValue origin ∷ outer ∷ opened) (rw is refl) (omega arith))
+    rw is (act (LogicMiddle o) (AValue origin ∷ outer ∷ opened) (BeforeRight o ∷ AValue origin ∷ outer ∷ opened) (rw is refl) (omega arith))
 middle_leads o false is origin outer opened small = rw is (record { is = refl })
 
 right_counts : (o : Op) (logic : Bool) → is_logic o ≡ logic → (origin : Origin) (outer : Open) (opened : Opened) →
@@ -267,9 +164,9 @@ right_counts o true is origin outer opened = let side : right_side o ≡ 1 = rw 
 right_counts o false is origin outer opened = let side : right_side o ≡ 0 = rw is refl in omega arith
 
 apply_leads : (o : Op) (logic : Bool) → is_logic o ≡ logic → (origin right : Origin) (outer : Open) (opened : Opened) → open_count (outer ∷ opened) ≤ 200 →
-    Leads (Apply o ∷ []) (AValue right ∷ right_open o logic origin ∷ right_below logic origin (outer ∷ opened)) (AValue Computed ∷ outer ∷ opened)
-apply_leads o true is origin right outer opened small = act (Apply o) _ (AValue Computed ∷ outer ∷ opened) (rw (logic_itself o is) refl) (omega arith)
-apply_leads o false is origin right outer opened small = act (Apply o) _ (AValue Computed ∷ outer ∷ opened) (rw is refl) (omega arith)
+    Leads (ApplyBinop o ∷ []) (AValue right ∷ right_open o logic origin ∷ right_below logic origin (outer ∷ opened)) (AValue Computed ∷ outer ∷ opened)
+apply_leads o true is origin right outer opened small = act (ApplyBinop o) _ (AValue Computed ∷ outer ∷ opened) (rw (logic_itself o is) refl) (omega arith)
+apply_leads o false is origin right outer opened small = act (ApplyBinop o) _ (AValue Computed ∷ outer ∷ opened) (rw is refl) (omega arith)
 
 pub middle_follows : (before : Meaning) (depth n : ℕ) (o : Op) (t : Token) → operator_at n t ≡ Some o → HasLeft before (room depth n) → MayFollowAll before (middle o)
 middle_follows before depth n o t is h =
@@ -286,28 +183,28 @@ right_has_room before now depth n o t is h told =
     (middle_leads o (is_logic o) refl h.origin h.outer h.opened (omega arith)) (omega arith)
 
 pub apply_follows : (before told now : Meaning) (depth n : ℕ) (o : Op) (t : Token) (e : Expr) → operator_at n t ≡ Some o → HasLeft before (room depth n) → AppendsAll before told (middle o) →
-    InExpr 64 64 64 e → nesting e ≤ room depth (n + 1) → AppendsAll told now (expr_actions e) → MayFollow now (Apply o)
+    InExpr 64 64 64 e → nesting e ≤ room depth (n + 1) → AppendsAll told now (expr_actions e) → MayFollow now (ApplyBinop o)
 apply_follows before told now depth n o t e is h first numbered narrow second =
     let few : open_count (h.outer ∷ h.opened) + room depth n ≤ 200 = h.few in
     let less : right_side o + room depth (n + 1) ≤ room depth n = right_room depth n o t is in
     let same : open_count (right_open o (is_logic o) h.origin ∷ right_below (is_logic o) h.origin (h.outer ∷ h.opened)) ≡ right_side o + open_count (h.outer ∷ h.opened) = right_counts o (is_logic o) refl h.origin h.outer h.opened in
-    let leads : Leads (middle o ++ (expr_actions e ++ Apply o ∷ [])) (AValue h.origin ∷ h.outer ∷ h.opened) (AValue Computed ∷ h.outer ∷ h.opened) =
-    chain (middle o) (expr_actions e ++ Apply o ∷ []) _ _ _ (middle_leads o (is_logic o) refl h.origin h.outer h.opened (omega arith))
-    (chain (expr_actions e) (Apply o ∷ []) _ _ _ (expr_leads e (right_open o (is_logic o) h.origin) (right_below (is_logic o) h.origin (h.outer ∷ h.opened)) numbered (omega arith))
+    let leads : Leads (middle o ++ (expr_actions e ++ ApplyBinop o ∷ [])) (AValue h.origin ∷ h.outer ∷ h.opened) (AValue Computed ∷ h.outer ∷ h.opened) =
+    chain (middle o) (expr_actions e ++ ApplyBinop o ∷ []) _ _ _ (middle_leads o (is_logic o) refl h.origin h.outer h.opened (omega arith))
+    (chain (expr_actions e) (ApplyBinop o ∷ []) _ _ _ (expr_leads e (right_open o (is_logic o) h.origin) (right_below (is_logic o) h.origin (h.outer ∷ h.opened)) numbered (omega arith))
     (apply_leads o (is_logic o) refl h.origin (origin_of e) h.outer h.opened (omega arith))) in
-    first_follows now (Apply o) []
-    (others_follow told now (expr_actions e) (Apply o ∷ [])
-    (others_follow before told (middle o) (expr_actions e ++ Apply o ∷ []) (all_follow before (AValue h.origin ∷ h.outer ∷ h.opened) (AValue Computed ∷ h.outer ∷ h.opened) (middle o ++ (expr_actions e ++ Apply o ∷ [])) h.stands leads) first)
+    first_follows now (ApplyBinop o) []
+    (others_follow told now (expr_actions e) (ApplyBinop o ∷ [])
+    (others_follow before told (middle o) (expr_actions e ++ ApplyBinop o ∷ []) (all_follow before (AValue h.origin ∷ h.outer ∷ h.opened) (AValue Computed ∷ h.outer ∷ h.opened) (middle o ++ (expr_actions e ++ ApplyBinop o ∷ [])) h.stands leads) first)
     second)
 
 pub operand_adds : (before told mid after : Meaning) (at now there : Place) (depth n : ℕ) (o : Op) → operator_at n (next_at at).token ≡ Some o → GoesPast at now →
-    AppendsAll before told (middle o) → AddsExpr told mid depth (n + 1) (Part (Level (n + 1)) ∷ []) [] now there → AppendsAll mid after (Apply o ∷ []) → is_fault (next_at there).token ≡ false →
+    AppendsAll before told (middle o) → AddsExpr told mid depth (n + 1) (Part (Level (n + 1)) ∷ []) [] now there → AppendsAll mid after (ApplyBinop o ∷ []) → is_fault (next_at there).token ≡ false →
     AddsOperand before after depth n o at there
 operand_adds before told mid after at now there depth n o is goes first h last sound = record {
   right = h.tree;
   numbered = h.numbered;
   narrow = let small : nesting h.tree ≤ room depth (n + 1) = h.narrow in let less : right_side o + room depth (n + 1) ≤ room depth n = right_room depth n o (next_at at).token is in omega arith;
-  added = appends_then before told after (middle o) (expr_actions h.tree ++ Apply o ∷ []) first (appends_then told mid after (expr_actions h.tree) (Apply o ∷ []) h.added last);
+  added = appends_then before told after (middle o) (expr_actions h.tree ++ ApplyBinop o ∷ []) first (appends_then told mid after (expr_actions h.tree) (ApplyBinop o ∷ []) h.added last);
   derives = λ left. joined depth depth (Part (Tail n) ∷ []) (Make (Operate o) ∷ []) [] (Part (Tail n) ∷ []) (AnExpr left ∷ []) (AnExpr h.tree ∷ AnExpr left ∷ []) (AnExpr (Binary o left h.tree) ∷ []) [] at there there
       (joined depth depth (Part (Tail n) ∷ []) (Part (Level (n + 1)) ∷ []) [] (Make (Operate o) ∷ Part (Tail n) ∷ []) (AnExpr left ∷ []) [] (AnExpr h.tree ∷ []) (AnExpr left ∷ []) at now there
       (operator_past at now depth n o left is goes) h.derives (λ stack same. same))

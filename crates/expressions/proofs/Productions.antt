@@ -1,52 +1,52 @@
--- What a production adds to a stretch of the derivation: its choice, its marks, the trees made and the level shut.
+-- What a production adds to a segment of the derivation: its choice, its punctuators, the trees made and the level close.
 use Rattle.std.proofs.Common.{◌≡◌, ℕ, ◌+◌, ◌<◌, ◌≤◌, List, [], ◌∷◌, ◌++◌, refl, ap, Bool, true, false, arith, eqb}
 use Rattle.std.proofs.lemmas.Bool.Decides.{nat_tests}
 use Rattle.std.specs.Prelude.{Some, None, nat_le}
 use Rattle.tokens.specs.Tokens.{is_last}
-use Rattle.tokens.specs.declared.lexemes.Lexeme.{Lexeme}
-use Rattle.tokens.specs.declared.lexemes.Mark.{Mark}
-use Rattle.tokens.specs.contracts.lexemes.Mark.{the_type}
-use Rattle.tokens.specs.declared.lexemes.Token.{Token}
-use Rattle.tokens.specs.declared.lexemes.Token.TheVariants as token
+use Rattle.tokens.specs.declared.located_tokens.LocatedToken.{LocatedToken}
+use Rattle.tokens.specs.declared.located_tokens.Punctuator.{Punctuator}
+use Rattle.tokens.specs.contracts.located_tokens.Punctuator.{the_type}
+use Rattle.tokens.specs.declared.located_tokens.Token.{Token}
+use Rattle.tokens.specs.declared.located_tokens.Token.TheVariants as token
 use denote.Enum.Declared.{tag_of}
 use Rattle.grammar.specs.declared.diagnostics.Code.TheVariants as code
 use Rattle.grammar.specs.declared.diagnostics.ParseFault.{ParseFault}
 use Rattle.grammar.specs.Compiled.{diagnostic}
 use Rattle.grammar.specs.Derivation.{Value, name_of_token, next_of}
 use Rattle.grammar.specs.Faults.{fault, levels, misfit_code, most_levels, only_if}
-use Rattle.grammar.specs.Grammar.{Item, AName, Exactly, Make, Part, Role, Rule, Shut, Symbol, choice, is_fault, is_mark, opens, same_mark}
+use Rattle.grammar.specs.Grammar.{Item, AName, Exactly, Make, Part, Role, SemanticAction, Close, Symbol, choice, is_fault, is_punctuator, opens, same_punctuator}
 use Rattle.grammar.proofs.Firsts.{no_part, too_deep, too_deep_name}
 use Rattle.grammar.proofs.Runs.{then}
-use Rattle.grammar.proofs.Steps.{part, shut}
+use Rattle.grammar.proofs.Steps.{part, close}
 use Rattle.parsing.specs.Position.{Place, after_at, next_at, scope_at}
 use Rattle.parsing.specs.Stopping.{stop_with}
-use Rattle.parsing.specs.Stretch.{IsNearTo, Derives, DerivesItem, FailsAt, FailsItem, GoesPast, Refused, StopsAt}
-use Rattle.parsing.proofs.Items.{mark_derives, mark_stops}
-use Rattle.parsing.proofs.Parts.{MakesOnly, beyond, make_leads, mark_is, within}
-use Rattle.parsing.proofs.Stretches.{IsBehind, fails_at_next, fails_behind, joined, refused_map, stand}
+use Rattle.parsing.specs.Segment.{IsNearTo, Derives, DerivesItem, FailsAt, FailsItem, GoesPast, Refused, StopsAt}
+use Rattle.parsing.proofs.Items.{punctuator_derives, punctuator_stops}
+use Rattle.parsing.proofs.Parts.{MakesOnly, beyond, make_leads, punctuator_is, within}
+use Rattle.parsing.proofs.Segments.{IsBehind, fails_at_next, fails_behind, joined, refused_map, stand}
 
--- Marks.
+-- Punctuators.
 
 eqb_self : (n : ℕ) → eqb n n ≡ true
 eqb_self n = grind (arith, nat_tests)
 
-pub same_self : (m : Mark) → same_mark m m ≡ true
+pub same_self : (m : Punctuator) → same_punctuator m m ≡ true
 same_self m = eqb_self (tag_of the_type m)
 
-pub mark_sound : (m : Mark) (t : Token) → is_mark m t ≡ true → is_fault t ≡ false
-mark_sound m t is = rw (mark_is m t is) refl
+pub punctuator_sound : (m : Punctuator) (t : Token) → is_punctuator m t ≡ true → is_fault t ≡ false
+punctuator_sound m t is = rw (punctuator_is m t is) refl
 
 pub name_sound : (name : List ℕ) (t : Token) → t ≡ token.Name name → is_fault t ≡ false
 name_sound name t is = rw is refl
 
--- a mark is passed
-pub mark_past : (at there : Place) (m : Mark) → is_mark m (next_at at).token ≡ true → GoesPast at there → DerivesItem (Exactly m) [] [] at there
-mark_past at there m fits goes = mark_derives at.position.reading (scope_at at) at.to_come there m (mark_sound m (next_at at).token fits) fits goes
+-- a punctuator is passed
+pub punctuator_past : (at there : Place) (m : Punctuator) → is_punctuator m (next_at at).token ≡ true → GoesPast at there → DerivesItem (Exactly m) [] [] at there
+punctuator_past at there m fits goes = punctuator_derives at.position.reading (scope_at at) at.to_come there m (punctuator_sound m (next_at at).token fits) fits goes
 
 -- the token behind it is a fault
-pub mark_ends : (used : ℕ) (at : Place) (m : Mark) (f : ParseFault) → is_mark m (next_at at).token ≡ true → Refused (StopsAt at) false used f → Refused (FailsItem (Exactly m) at) false used f
-mark_ends used at m f fits =
-    refused_map used (StopsAt at) (FailsItem (Exactly m) at) false false f (mark_stops at.position.reading (scope_at at) at.to_come m (mark_sound m (next_at at).token fits) fits) (λ same. same)
+pub punctuator_ends : (used : ℕ) (at : Place) (m : Punctuator) (f : ParseFault) → is_punctuator m (next_at at).token ≡ true → Refused (StopsAt at) false used f → Refused (FailsItem (Exactly m) at) false used f
+punctuator_ends used at m f fits =
+    refused_map used (StopsAt at) (FailsItem (Exactly m) at) false false f (punctuator_stops at.position.reading (scope_at at) at.to_come m (punctuator_sound m (next_at at).token fits) fits) (λ same. same)
 
 -- The choice of a production.
 
@@ -67,10 +67,10 @@ OpensNone at symbol = WithAfter at (λ after. opens symbol (next_at at).token af
 abbrev pub OpensLevel : Place → Symbol → Type 0
 OpensLevel at symbol = WithAfter at (λ after. opens symbol (next_at at).token after ≡ true)
 
-next_behind : (at : Place) (tail : List Lexeme) → IsBehind at.position.reading tail → is_last (next_at at).token ≡ false → next_of tail ≡ after_at at
+next_behind : (at : Place) (tail : List LocatedToken) → IsBehind at.position.reading tail → is_last (next_at at).token ≡ false → next_of tail ≡ after_at at
 next_behind at tail b more = ap next_of (b.is more)
 
-free : (n : ℕ) (opened : Bool) (rest : List Lexeme) → opened ≡ false → only_if opened (only_if (nat_le most_levels n) (fault rest code.NestedTooDeeply ∷ [])) ≡ []
+free : (n : ℕ) (opened : Bool) (rest : List LocatedToken) → opened ≡ false → only_if opened (only_if (nat_le most_levels n) (fault rest code.NestedTooDeeply ∷ [])) ≡ []
 free n opened rest none = rw none refl
 
 -- a production that opens no level is chosen
@@ -90,10 +90,10 @@ chosen_within at depth symbol items c shallow = stand at depth (Part symbol ∷ 
       (within (opens symbol (next_at at).token (next_of tail)) (levels stack) (next_at at ∷ tail) (rw depths shallow));
 })
 
--- one that would open a level beyond the last one, by a mark
-pub mark_too_deep : (at : Place) (used : ℕ) (near : IsNearTo at used) (depth : ℕ) (symbol : Symbol) (m : Mark) (items : List Item) → Chooses at symbol (Exactly m ∷ items) → OpensLevel at symbol →
-    is_mark m (next_at at).token ≡ true → 64 ≤ depth → FailsAt depth (Part symbol ∷ []) [] at (stop_with (Some (diagnostic (next_at at).line code.NestedTooDeeply)) used)
-mark_too_deep at used near depth symbol m items c opened fits deep =
+-- one that would open a level beyond the last one, by a punctuator
+pub punctuator_too_deep : (at : Place) (used : ℕ) (near : IsNearTo at used) (depth : ℕ) (symbol : Symbol) (m : Punctuator) (items : List Item) → Chooses at symbol (Exactly m ∷ items) → OpensLevel at symbol →
+    is_punctuator m (next_at at).token ≡ true → 64 ≤ depth → FailsAt depth (Part symbol ∷ []) [] at (stop_with (Some (diagnostic (next_at at).line code.NestedTooDeeply)) used)
+punctuator_too_deep at used near depth symbol m items c opened fits deep =
     fails_at_next depth (Part symbol ∷ []) [] at _ used near (λ tail b profile stack values functions depths.
     too_deep profile symbol m items stack (next_at at) tail values (scope_at at) functions c.sound (c.is (next_of tail) (next_behind at tail b)) fits
     (beyond (opens symbol (next_at at).token (next_of tail)) (levels stack) (next_at at ∷ tail) (opened (next_of tail) (next_behind at tail b)) (rw depths deep)))
@@ -116,14 +116,14 @@ none_chosen at used near depth symbol sound none opened =
 
 -- The trees made.
 
--- a tree is made, and the level is shut
-pub makes_and_shuts : (at : Place) (depth : ℕ) (rule : Rule) (taken left : List Value) → is_fault (next_at at).token ≡ false → MakesOnly rule taken left →
-    Derives depth (Make rule ∷ Shut ∷ []) [] taken left at at
-makes_and_shuts at depth rule taken left sound m = stand at depth (Make rule ∷ Shut ∷ []) [] taken left (λ tail b. record {
+-- a tree is made, and the level is close
+pub makes_and_closes : (at : Place) (depth : ℕ) (rule : SemanticAction) (taken left : List Value) → is_fault (next_at at).token ≡ false → MakesOnly rule taken left →
+    Derives depth (Make rule ∷ Close ∷ []) [] taken left at at
+makes_and_closes at depth rule taken left sound m = stand at depth (Make rule ∷ Close ∷ []) [] taken left (λ tail b. record {
   passes = λ profile stack values functions depths.
       then profile _ _ _
-      ((make_leads (next_at at) (depth + 1) rule taken left (scope_at at) tail sound m).passes profile (Shut ∷ stack) values functions (ap (λ n. n + 1) depths))
-      (shut profile stack (next_at at ∷ tail) (left ++ values) (scope_at at) functions sound);
+      ((make_leads (next_at at) (depth + 1) rule taken left (scope_at at) tail sound m).passes profile (Close ∷ stack) values functions (ap (λ n. n + 1) depths))
+      (close profile stack (next_at at ∷ tail) (left ++ values) (scope_at at) functions sound);
 })
 
 -- The exits of a function that matches a symbol at any depth.

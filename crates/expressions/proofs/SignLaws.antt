@@ -1,16 +1,16 @@
 -- The operators before an operand.
 use Rattle.std.proofs.Common.{◌≡◌, ℕ, pos, ◌+◌, ◌<◌, ◌≤◌, List, [], ◌∷◌, ◌++◌, refl, sym, ap, subst, Bool, true, false, arith}
 use Rattle.std.specs.Prelude.{Some}
-use Rattle.tokens.specs.declared.lexemes.Token.{Token}
-use Rattle.tokens.specs.declared.lexemes.Token.TheVariants as token
+use Rattle.tokens.specs.declared.located_tokens.Token.{Token}
+use Rattle.tokens.specs.declared.located_tokens.Token.TheVariants as token
 use Rattle.grammar.specs.declared.diagnostics.Code.TheVariants as code
 use Rattle.grammar.specs.declared.diagnostics.ParseFault.{ParseFault}
-use Rattle.grammar.specs.Actions.{Action, Push, expr_actions}
+use Rattle.grammar.specs.Actions.{Action, PushConstant, expr_actions}
 use Rattle.grammar.specs.Building.{Meaning, AppendsAll}
 use Rattle.grammar.specs.Compiled.{diagnostic}
 use Rattle.grammar.specs.Derivation.{AnExpr}
 use Rattle.grammar.specs.Following.{AValue, Number, open_count}
-use Rattle.grammar.specs.Grammar.{Exactly, Make, Part, Shut, Unary, choice, is_fault, is_mark, opens}
+use Rattle.grammar.specs.Grammar.{Exactly, Make, Part, Close, Unary, choice, is_fault, is_punctuator, opens}
 use Rattle.grammar.specs.Nesting.{nesting}
 use Rattle.grammar.specs.Resolved.{InExpr}
 use Rattle.grammar.specs.Tree.{Expr}
@@ -18,67 +18,67 @@ use Rattle.grammar.proofs.FollowingLaws.{Leads, act, expr_leads, origin_of}
 use Rattle.parsing.specs.Position.{Place, next_at}
 use Rattle.parsing.specs.Room.{HasRoom, room}
 use Rattle.parsing.specs.Stopping.{stop_with}
-use Rattle.parsing.specs.Stretch.{IsNearTo, Derives, FailsAt, GoesPast, Refused, StopsAt}
-use Rattle.parsing.proofs.Stretches.{exit, exit_item, joined}
+use Rattle.parsing.specs.Segment.{IsNearTo, Derives, FailsAt, GoesPast, Refused, StopsAt}
+use Rattle.parsing.proofs.Segments.{exit, exit_item, joined}
 use Rattle.expressions.specs.declared.signs.Sign.{Sign}
 use Rattle.expressions.specs.declared.signs.Sign.TheVariants as sign
 use Rattle.expressions.specs.Expressions.{AddsExpr}
-use Rattle.expressions.specs.Signs.{before_operand, behind_operand, sign_mark, sign_rule, signed}
+use Rattle.expressions.specs.Signs.{before_operand, behind_operand, sign_punctuator, sign_rule, signed}
 use Rattle.expressions.specs.Telling.{MayFollowAll}
-use Rattle.parsing.proofs.Parts.{MakesOnly, mark_is}
-use Rattle.expressions.proofs.Productions.{Chooses, OpensLevel, chosen_within, item_done, makes_and_shuts, mark_ends, mark_past, mark_sound, mark_too_deep}
+use Rattle.parsing.proofs.Parts.{MakesOnly, punctuator_is}
+use Rattle.expressions.proofs.Productions.{Chooses, OpensLevel, chosen_within, item_done, makes_and_closes, punctuator_ends, punctuator_past, punctuator_sound, punctuator_too_deep}
 use Rattle.expressions.proofs.TellingLaws.{all_follow, appends_then, others_follow, room_behind}
 
 -- The derivation.
 
-sign_choice : (s : Sign) (after : Token) → choice Unary (token.Mark (sign_mark s)) after ≡ Some (Exactly (sign_mark s) ∷ Part Unary ∷ Make (sign_rule s) ∷ Shut ∷ [])
+sign_choice : (s : Sign) (after : Token) → choice Unary (token.Punctuator (sign_punctuator s)) after ≡ Some (Exactly (sign_punctuator s) ∷ Part Unary ∷ Make (sign_rule s) ∷ Close ∷ [])
 sign_choice sign.Negation after = refl
 sign_choice sign.Denial after = refl
 sign_choice sign.Complement after = refl
 
-sign_opens : (s : Sign) (after : Token) → opens Unary (token.Mark (sign_mark s)) after ≡ true
+sign_opens : (s : Sign) (after : Token) → opens Unary (token.Punctuator (sign_punctuator s)) after ≡ true
 sign_opens sign.Negation after = refl
 sign_opens sign.Denial after = refl
 sign_opens sign.Complement after = refl
 
-sign_chooses : (at : Place) (s : Sign) → is_mark (sign_mark s) (next_at at).token ≡ true → Chooses at Unary (Exactly (sign_mark s) ∷ Part Unary ∷ Make (sign_rule s) ∷ Shut ∷ [])
+sign_chooses : (at : Place) (s : Sign) → is_punctuator (sign_punctuator s) (next_at at).token ≡ true → Chooses at Unary (Exactly (sign_punctuator s) ∷ Part Unary ∷ Make (sign_rule s) ∷ Close ∷ [])
 sign_chooses at s fits = record {
-  sound = mark_sound (sign_mark s) (next_at at).token fits;
-  is = λ after more. let t : (next_at at).token ≡ token.Mark (sign_mark s) = mark_is (sign_mark s) (next_at at).token fits in rw t (sign_choice s after);
+  sound = punctuator_sound (sign_punctuator s) (next_at at).token fits;
+  is = λ after more. let t : (next_at at).token ≡ token.Punctuator (sign_punctuator s) = punctuator_is (sign_punctuator s) (next_at at).token fits in rw t (sign_choice s after);
 }
 
-sign_opens_level : (at : Place) (s : Sign) → is_mark (sign_mark s) (next_at at).token ≡ true → OpensLevel at Unary
-sign_opens_level at s fits after more = let t : (next_at at).token ≡ token.Mark (sign_mark s) = mark_is (sign_mark s) (next_at at).token fits in rw t (sign_opens s after)
+sign_opens_level : (at : Place) (s : Sign) → is_punctuator (sign_punctuator s) (next_at at).token ≡ true → OpensLevel at Unary
+sign_opens_level at s fits after more = let t : (next_at at).token ≡ token.Punctuator (sign_punctuator s) = punctuator_is (sign_punctuator s) (next_at at).token fits in rw t (sign_opens s after)
 
 sign_makes : (s : Sign) (e : Expr) → MakesOnly (sign_rule s) (AnExpr e ∷ []) (AnExpr (signed s e) ∷ [])
 sign_makes sign.Negation e = record { makes = λ values. refl; clean = λ profile stack rest values scope functions. refl; learns = λ scope. refl; defines = λ values scope. refl }
 sign_makes sign.Denial e = record { makes = λ values. refl; clean = λ profile stack rest values scope functions. refl; learns = λ scope. refl; defines = λ values scope. refl }
 sign_makes sign.Complement e = record { makes = λ values. refl; clean = λ profile stack rest values scope functions. refl; learns = λ scope. refl; defines = λ values scope. refl }
 
-pub sign_too_deep : (at : Place) (used : ℕ) (near : IsNearTo at used) (depth : ℕ) (s : Sign) → is_mark (sign_mark s) (next_at at).token ≡ true → 64 ≤ depth →
+pub sign_too_deep : (at : Place) (used : ℕ) (near : IsNearTo at used) (depth : ℕ) (s : Sign) → is_punctuator (sign_punctuator s) (next_at at).token ≡ true → 64 ≤ depth →
     FailsAt depth (Part Unary ∷ []) [] at (stop_with (Some (diagnostic (next_at at).line code.NestedTooDeeply)) used)
-sign_too_deep at used near depth s fits deep = mark_too_deep at used near depth Unary (sign_mark s) (Part Unary ∷ Make (sign_rule s) ∷ Shut ∷ []) (sign_chooses at s fits) (sign_opens_level at s fits) fits deep
+sign_too_deep at used near depth s fits deep = punctuator_too_deep at used near depth Unary (sign_punctuator s) (Part Unary ∷ Make (sign_rule s) ∷ Close ∷ []) (sign_chooses at s fits) (sign_opens_level at s fits) fits deep
 
-sign_stands : (at : Place) (depth : ℕ) (s : Sign) → is_mark (sign_mark s) (next_at at).token ≡ true → depth < 64 →
-    Derives depth (Part Unary ∷ []) (Exactly (sign_mark s) ∷ Part Unary ∷ Make (sign_rule s) ∷ Shut ∷ []) [] [] at at
-sign_stands at depth s fits shallow = chosen_within at depth Unary (Exactly (sign_mark s) ∷ Part Unary ∷ Make (sign_rule s) ∷ Shut ∷ []) (sign_chooses at s fits) shallow
+sign_stands : (at : Place) (depth : ℕ) (s : Sign) → is_punctuator (sign_punctuator s) (next_at at).token ≡ true → depth < 64 →
+    Derives depth (Part Unary ∷ []) (Exactly (sign_punctuator s) ∷ Part Unary ∷ Make (sign_rule s) ∷ Close ∷ []) [] [] at at
+sign_stands at depth s fits shallow = chosen_within at depth Unary (Exactly (sign_punctuator s) ∷ Part Unary ∷ Make (sign_rule s) ∷ Close ∷ []) (sign_chooses at s fits) shallow
 
-pub sign_ends : (used : ℕ) (at : Place) (depth : ℕ) (s : Sign) (more : Bool) (f : ParseFault) → is_mark (sign_mark s) (next_at at).token ≡ true → depth < 64 →
+pub sign_ends : (used : ℕ) (at : Place) (depth : ℕ) (s : Sign) (more : Bool) (f : ParseFault) → is_punctuator (sign_punctuator s) (next_at at).token ≡ true → depth < 64 →
     Refused (StopsAt at) false used f → Refused (FailsAt depth (Part Unary ∷ []) [] at) more used f
 sign_ends used at depth s more f fits shallow stop =
-    exit_item used depth (depth + 1) (Part Unary ∷ []) (Exactly (sign_mark s)) (Part Unary ∷ Make (sign_rule s) ∷ Shut ∷ []) [] [] at at more f
-    (sign_stands at depth s fits shallow) (λ stack same. ap (λ n. n + 1) same) (mark_ends used at (sign_mark s) f fits stop)
+    exit_item used depth (depth + 1) (Part Unary ∷ []) (Exactly (sign_punctuator s)) (Part Unary ∷ Make (sign_rule s) ∷ Close ∷ []) [] [] at at more f
+    (sign_stands at depth s fits shallow) (λ stack same. ap (λ n. n + 1) same) (punctuator_ends used at (sign_punctuator s) f fits stop)
 
-sign_past : (at now : Place) (depth : ℕ) (s : Sign) → is_mark (sign_mark s) (next_at at).token ≡ true → depth < 64 → GoesPast at now →
-    Derives depth (Part Unary ∷ []) (Part Unary ∷ Make (sign_rule s) ∷ Shut ∷ []) [] [] at now
+sign_past : (at now : Place) (depth : ℕ) (s : Sign) → is_punctuator (sign_punctuator s) (next_at at).token ≡ true → depth < 64 → GoesPast at now →
+    Derives depth (Part Unary ∷ []) (Part Unary ∷ Make (sign_rule s) ∷ Close ∷ []) [] [] at now
 sign_past at now depth s fits shallow goes =
-    item_done depth (depth + 1) (Part Unary ∷ []) (Exactly (sign_mark s)) (Part Unary ∷ Make (sign_rule s) ∷ Shut ∷ []) [] [] [] at at now
-    (sign_stands at depth s fits shallow) (mark_past at now (sign_mark s) fits goes (depth + 1)) (λ stack same. ap (λ n. n + 1) same)
+    item_done depth (depth + 1) (Part Unary ∷ []) (Exactly (sign_punctuator s)) (Part Unary ∷ Make (sign_rule s) ∷ Close ∷ []) [] [] [] at at now
+    (sign_stands at depth s fits shallow) (punctuator_past at now (sign_punctuator s) fits goes (depth + 1)) (λ stack same. ap (λ n. n + 1) same)
 
-pub operand_refused : (used : ℕ) (at now : Place) (depth : ℕ) (s : Sign) (allocates : Bool) (f : ParseFault) → is_mark (sign_mark s) (next_at at).token ≡ true → depth < 64 → GoesPast at now →
+pub operand_refused : (used : ℕ) (at now : Place) (depth : ℕ) (s : Sign) (allocates : Bool) (f : ParseFault) → is_punctuator (sign_punctuator s) (next_at at).token ≡ true → depth < 64 → GoesPast at now →
     Refused (FailsAt (depth + 1) (Part Unary ∷ []) [] now) allocates used f → Refused (FailsAt depth (Part Unary ∷ []) [] at) allocates used f
 operand_refused used at now depth s allocates f fits shallow goes =
-    exit used depth (depth + 1) (Part Unary ∷ []) (Part Unary ∷ []) (Make (sign_rule s) ∷ Shut ∷ []) [] [] [] at now allocates allocates f
+    exit used depth (depth + 1) (Part Unary ∷ []) (Part Unary ∷ []) (Make (sign_rule s) ∷ Close ∷ []) [] [] [] at now allocates allocates f
     (sign_past at now depth s fits shallow goes) (λ stack same. ap (λ n. n + 1) same) (λ same. same)
 
 -- What is told.
@@ -100,15 +100,15 @@ sign_narrow sign.Complement e n h = omega arith
 
 pub before_follows : (before : Meaning) (s : Sign) (n : ℕ) → HasRoom before n → MayFollowAll before (before_operand s)
 before_follows before sign.Negation n h =
-    all_follow before (h.outer ∷ h.opened) (AValue (Number (pos 0)) ∷ h.outer ∷ h.opened) (Push (pos 0) ∷ []) h.stands (act (Push (pos 0)) (h.outer ∷ h.opened) (AValue (Number (pos 0)) ∷ h.outer ∷ h.opened) refl (let few : open_count (h.outer ∷ h.opened) + n ≤ 200 = h.few in omega arith))
+    all_follow before (h.outer ∷ h.opened) (AValue (Number (pos 0)) ∷ h.outer ∷ h.opened) (PushConstant (pos 0) ∷ []) h.stands (act (PushConstant (pos 0)) (h.outer ∷ h.opened) (AValue (Number (pos 0)) ∷ h.outer ∷ h.opened) refl (let few : open_count (h.outer ∷ h.opened) + n ≤ 200 = h.few in omega arith))
 before_follows before sign.Denial n h = all_follow before (h.outer ∷ h.opened) (h.outer ∷ h.opened) [] h.stands (record { is = refl })
 before_follows before sign.Complement n h = all_follow before (h.outer ∷ h.opened) (h.outer ∷ h.opened) [] h.stands (record { is = refl })
 
 pub operand_room : (before now : Meaning) (s : Sign) (depth : ℕ) → depth < 64 → HasRoom before (room depth 11) → AppendsAll before now (before_operand s) → HasRoom now (room (depth + 1) 11)
 operand_room before now sign.Negation depth shallow h told =
     let few : open_count (h.outer ∷ h.opened) + room depth 11 ≤ 200 = h.few in
-    room_behind before now (room (depth + 1) 11) (Push (pos 0) ∷ []) (h.outer ∷ h.opened) (AValue (Number (pos 0))) (h.outer ∷ h.opened) h.stands told
-    (act (Push (pos 0)) (h.outer ∷ h.opened) (AValue (Number (pos 0)) ∷ h.outer ∷ h.opened) refl (omega arith)) (omega arith)
+    room_behind before now (room (depth + 1) 11) (PushConstant (pos 0) ∷ []) (h.outer ∷ h.opened) (AValue (Number (pos 0))) (h.outer ∷ h.opened) h.stands told
+    (act (PushConstant (pos 0)) (h.outer ∷ h.opened) (AValue (Number (pos 0)) ∷ h.outer ∷ h.opened) refl (omega arith)) (omega arith)
 operand_room before now sign.Denial depth shallow h told =
     let few : open_count (h.outer ∷ h.opened) + room depth 11 ≤ 200 = h.few in
     room_behind before now (room (depth + 1) 11) [] (h.outer ∷ h.opened) h.outer h.opened h.stands told (record { is = refl }) (omega arith)
@@ -127,7 +127,7 @@ behind_follows before told now s e depth shallow h first numbered narrow second 
     (others_follow before told (before_operand s) (expr_actions e ++ behind_operand s) (subst (λ (xs : List Action). MayFollowAll before xs) (sign_actions s e) (all_follow before (h.outer ∷ h.opened) (AValue (origin_of (signed s e)) ∷ h.outer ∷ h.opened) (expr_actions (signed s e)) h.stands leads)) first)
     second
 
-pub sign_adds : (before told mid after : Meaning) (at now there : Place) (depth : ℕ) (s : Sign) → is_mark (sign_mark s) (next_at at).token ≡ true → depth < 64 → GoesPast at now →
+pub sign_adds : (before told mid after : Meaning) (at now there : Place) (depth : ℕ) (s : Sign) → is_punctuator (sign_punctuator s) (next_at at).token ≡ true → depth < 64 → GoesPast at now →
     AppendsAll before told (before_operand s) → AddsExpr told mid (depth + 1) 11 (Part Unary ∷ []) [] now there → AppendsAll mid after (behind_operand s) → is_fault (next_at there).token ≡ false →
     AddsExpr before after depth 11 (Part Unary ∷ []) [] at there
 sign_adds before told mid after at now there depth s fits shallow goes first h last sound = record {
@@ -135,8 +135,8 @@ sign_adds before told mid after at now there depth s fits shallow goes first h l
   numbered = sign_numbered s h.tree h.numbered;
   narrow = sign_narrow s h.tree (room depth 11) (let small : nesting h.tree ≤ room (depth + 1) 11 = h.narrow in omega arith);
   added = subst (λ (xs : List Action). AppendsAll before after xs) (sym (sign_actions s h.tree)) (appends_then before told after (before_operand s) (expr_actions h.tree ++ behind_operand s) first (appends_then told mid after (expr_actions h.tree) (behind_operand s) h.added last));
-  derives = joined depth depth (Part Unary ∷ []) (Make (sign_rule s) ∷ Shut ∷ []) [] [] [] (AnExpr h.tree ∷ []) (AnExpr (signed s h.tree) ∷ []) [] at there there
-      (joined depth (depth + 1) (Part Unary ∷ []) (Part Unary ∷ []) [] (Make (sign_rule s) ∷ Shut ∷ []) [] [] (AnExpr h.tree ∷ []) [] at now there
+  derives = joined depth depth (Part Unary ∷ []) (Make (sign_rule s) ∷ Close ∷ []) [] [] [] (AnExpr h.tree ∷ []) (AnExpr (signed s h.tree) ∷ []) [] at there there
+      (joined depth (depth + 1) (Part Unary ∷ []) (Part Unary ∷ []) [] (Make (sign_rule s) ∷ Close ∷ []) [] [] (AnExpr h.tree ∷ []) [] at now there
       (sign_past at now depth s fits shallow goes) h.derives (λ stack same. ap (λ n. n + 1) same))
-      (makes_and_shuts there depth (sign_rule s) (AnExpr h.tree ∷ []) (AnExpr (signed s h.tree) ∷ []) sound (sign_makes s h.tree)) (λ stack same. same);
+      (makes_and_closes there depth (sign_rule s) (AnExpr h.tree ∷ []) (AnExpr (signed s h.tree) ∷ []) sound (sign_makes s h.tree)) (λ stack same. same);
 }

@@ -2,18 +2,18 @@
 use Rattle.std.proofs.Common.{◌≡◌, ℕ, pos, ◌+◌, ◌≤◌, List, [], ◌∷◌, refl, Bool, true, false, arith}
 use Rattle.std.specs.Prelude.{ℤ, Some, is_some}
 use Rattle.tokens.specs.Tokens.{is_last}
-use Rattle.tokens.specs.declared.lexemes.Lexeme.{Lexeme}
-use Rattle.tokens.specs.declared.lexemes.Mark.TheVariants as mark
-use Rattle.tokens.specs.declared.lexemes.Token.{Token}
-use Rattle.tokens.specs.declared.lexemes.Token.TheVariants as token
+use Rattle.tokens.specs.declared.located_tokens.LocatedToken.{LocatedToken}
+use Rattle.tokens.specs.declared.located_tokens.Punctuator.TheVariants as punctuator
+use Rattle.tokens.specs.declared.located_tokens.Token.{Token}
+use Rattle.tokens.specs.declared.located_tokens.Token.TheVariants as token
 use Rattle.grammar.specs.declared.diagnostics.ParseFault.{ParseFault}
 use Rattle.grammar.specs.declared.names.Var.{Var}
 use Rattle.grammar.specs.declared.operators.StoreOp.{StoreOp}
-use Rattle.grammar.specs.Actions.{Chop, Get, Push, Put, expr_actions}
+use Rattle.grammar.specs.Actions.{Chop, FetchVariable, PushConstant, StoreVariable, expr_actions}
 use Rattle.grammar.specs.Building.{Meaning, AppendsAll, MayFollow}
 use Rattle.grammar.specs.Derivation.{AnExpr, AVariable, constant_value, name_of_token}
 use Rattle.grammar.specs.Following.{AValue, Number, open_count}
-use Rattle.grammar.specs.Grammar.{AConstant, AName, Exactly, Fetch, Make, Mentioned, Part, Primary, StepBefore, StepBehind, Unary, choice, is_fault, is_mark, opens}
+use Rattle.grammar.specs.Grammar.{AConstant, AName, Exactly, Fetch, Make, Mentioned, Part, Primary, StepBefore, StepBehind, Unary, choice, is_fault, is_punctuator, opens}
 use Rattle.grammar.specs.Nesting.{nesting}
 use Rattle.grammar.specs.Resolved.{InExpr, IsVariable}
 use Rattle.grammar.specs.Scope.{Scope}
@@ -22,15 +22,15 @@ use Rattle.grammar.proofs.FollowingLaws.{act, expr_leads, origin_of}
 use Rattle.grammar.proofs.Steps.{constant}
 use Rattle.parsing.specs.Position.{Place, after_at, next_at, scope_at}
 use Rattle.parsing.specs.Room.{HasRoom}
-use Rattle.parsing.specs.Stretch.{Derives, DerivesItem, FailsItem, GoesPast, Refused, StopsAt}
-use Rattle.parsing.proofs.Stretches.{Leads, joined, past, refused_map, stops}
+use Rattle.parsing.specs.Segment.{Derives, DerivesItem, FailsItem, GoesPast, Refused, StopsAt}
+use Rattle.parsing.proofs.Segments.{Leads, joined, past, refused_map, stops}
 use Rattle.expressions.specs.declared.signs.Step.{Step}
 use Rattle.expressions.specs.declared.signs.Step.TheVariants as step
 use Rattle.expressions.specs.Expressions.{AddsExpr}
-use Rattle.expressions.specs.Signs.{step_mark, step_store}
+use Rattle.expressions.specs.Signs.{step_punctuator, step_store}
 use Rattle.expressions.specs.Telling.{MayFollowAll}
-use Rattle.parsing.proofs.Parts.{MakesOnly, make_stands, mark_is}
-use Rattle.expressions.proofs.Productions.{Chooses, OpensNone, chosen, item_done, item_exit, mark_ends, mark_past, mark_sound}
+use Rattle.parsing.proofs.Parts.{MakesOnly, make_stands, punctuator_is}
+use Rattle.expressions.proofs.Productions.{Chooses, OpensNone, chosen, item_done, item_exit, punctuator_ends, punctuator_past, punctuator_sound}
 use Rattle.expressions.proofs.TellingLaws.{all_follow, appends_then, first_follows}
 
 -- Names.
@@ -41,11 +41,11 @@ pub record IsNamed (t : Token) : Type 0 where
 
 pub is_named : (t : Token) → is_some (name_of_token t) ≡ true → IsNamed t
 is_named (token.Name name) h = record { name = name; is = refl }
-is_named (token.Mark m) h = absurd (cc)
+is_named (token.Punctuator m) h = absurd (cc)
 is_named (token.Word word) h = absurd (cc)
 is_named (token.Constant value) h = absurd (cc)
 is_named token.End h = absurd (cc)
-is_named (token.Fault flaw) h = absurd (cc)
+is_named (token.Fault lexical_error) h = absurd (cc)
 
 pub named_goes_on : (t : Token) → IsNamed t → is_last t ≡ false
 named_goes_on t n = rw n.is refl
@@ -68,13 +68,13 @@ constant_chooses at value is = record { sound = rw is refl; is = λ after more. 
 constant_opens : (at : Place) (value : ℕ) → (next_at at).token ≡ token.Constant value → OpensNone at Primary
 constant_opens at value is after more = rw is refl
 
-constant_leads : (lexeme : Lexeme) (value : ℕ) → lexeme.token ≡ token.Constant value → (depth : ℕ) (known : Scope) (rest : List Lexeme) →
-    Leads depth (AConstant ∷ []) [] [] (AnExpr (Constant (pos value)) ∷ []) known known (lexeme ∷ rest) rest
-constant_leads lexeme value is depth known rest = record {
+constant_leads : (located_token : LocatedToken) (value : ℕ) → located_token.token ≡ token.Constant value → (depth : ℕ) (known : Scope) (rest : List LocatedToken) →
+    Leads depth (AConstant ∷ []) [] [] (AnExpr (Constant (pos value)) ∷ []) known known (located_token ∷ rest) rest
+constant_leads located_token value is depth known rest = record {
   passes = λ profile stack values functions depths.
-      let sound : is_fault lexeme.token ≡ false = rw is refl in
-      let found : constant_value lexeme.token ≡ Some value = rw is refl in
-      constant profile value stack (lexeme ∷ rest) values known functions sound found;
+      let sound : is_fault located_token.token ≡ false = rw is refl in
+      let found : constant_value located_token.token ≡ Some value = rw is refl in
+      constant profile value stack (located_token ∷ rest) values known functions sound found;
 }
 
 constant_past : (at there : Place) (value : ℕ) → (next_at at).token ≡ token.Constant value → GoesPast at there → DerivesItem AConstant [] (AnExpr (Constant (pos value)) ∷ []) at there
@@ -92,7 +92,7 @@ constant_ends used at value more f is stop =
     (λ d s depth. stops at.position.reading (scope_at at) (scope_at at) at.to_come d depth (AConstant ∷ []) [] [] (AnExpr (Constant (pos value)) ∷ []) (λ rest b. constant_leads (next_at at) value is depth (scope_at at) rest) s)
     (λ same. same) stop)
 
-pub constant_adds : (before after : Meaning) (at there : Place) (value : ℕ) → (next_at at).token ≡ token.Constant value → GoesPast at there → AppendsAll before after (Push (pos value) ∷ []) → (depth : ℕ) →
+pub constant_adds : (before after : Meaning) (at there : Place) (value : ℕ) → (next_at at).token ≡ token.Constant value → GoesPast at there → AppendsAll before after (PushConstant (pos value) ∷ []) → (depth : ℕ) →
     AddsExpr before after depth 11 (Part Primary ∷ []) [] at there
 constant_adds before after at there value is goes told depth = record {
   tree = Constant (pos value);
@@ -103,11 +103,11 @@ constant_adds before after at there value is goes told depth = record {
       (constant_stands at value is depth) (constant_past at there value is goes depth) (λ stack same. same);
 }
 
-pub constant_follows : (before : Meaning) (n : ℕ) (value : ℤ) → HasRoom before n → MayFollow before (Push value)
+pub constant_follows : (before : Meaning) (n : ℕ) (value : ℤ) → HasRoom before n → MayFollow before (PushConstant value)
 constant_follows before n value h =
     let few : open_count (h.outer ∷ h.opened) + n ≤ 200 = h.few in
-    first_follows before (Push value) [] (all_follow before (h.outer ∷ h.opened) (AValue (Number value) ∷ h.outer ∷ h.opened) (Push value ∷ []) h.stands
-    (act (Push value) (h.outer ∷ h.opened) (AValue (Number value) ∷ h.outer ∷ h.opened) refl (omega arith)))
+    first_follows before (PushConstant value) [] (all_follow before (h.outer ∷ h.opened) (AValue (Number value) ∷ h.outer ∷ h.opened) (PushConstant value ∷ []) h.stands
+    (act (PushConstant value) (h.outer ∷ h.opened) (AValue (Number value) ∷ h.outer ∷ h.opened) refl (omega arith)))
 
 -- the actions of a whole tree that opens nothing may follow
 pub tree_follows : (before : Meaning) (n : ℕ) (tree : Expr) → HasRoom before n → InExpr 64 64 64 tree → nesting tree ≤ n → MayFollowAll before (expr_actions tree)
@@ -117,43 +117,43 @@ tree_follows before n tree h numbered narrow =
 
 -- A variable's value.
 
-fetch_choice : (name : List ℕ) (after : Token) → is_mark mark.OpenRound after ≡ false → is_mark mark.PlusPlus after ≡ false → is_mark mark.MinusMinus after ≡ false →
+fetch_choice : (name : List ℕ) (after : Token) → is_punctuator punctuator.OpenRound after ≡ false → is_punctuator punctuator.PlusPlus after ≡ false → is_punctuator punctuator.MinusMinus after ≡ false →
     choice Primary (token.Name name) after ≡ Some (AName Mentioned ∷ Make Fetch ∷ [])
-fetch_choice name (token.Mark mark.OpenRound) call up down = absurd (cc)
-fetch_choice name (token.Mark mark.PlusPlus) call up down = absurd (cc)
-fetch_choice name (token.Mark mark.MinusMinus) call up down = absurd (cc)
+fetch_choice name (token.Punctuator punctuator.OpenRound) call up down = absurd (cc)
+fetch_choice name (token.Punctuator punctuator.PlusPlus) call up down = absurd (cc)
+fetch_choice name (token.Punctuator punctuator.MinusMinus) call up down = absurd (cc)
 fetch_choice name after call up down = refl
 
-name_opens : (name : List ℕ) (after : Token) → is_mark mark.OpenRound after ≡ false → opens Primary (token.Name name) after ≡ false
-name_opens name (token.Mark mark.OpenRound) call = absurd (cc)
+name_opens : (name : List ℕ) (after : Token) → is_punctuator punctuator.OpenRound after ≡ false → opens Primary (token.Name name) after ≡ false
+name_opens name (token.Punctuator punctuator.OpenRound) call = absurd (cc)
 name_opens name after call = refl
 
-name_opens_none : (at : Place) → IsNamed (next_at at).token → is_mark mark.OpenRound (after_at at) ≡ false → OpensNone at Primary
+name_opens_none : (at : Place) → IsNamed (next_at at).token → is_punctuator punctuator.OpenRound (after_at at) ≡ false → OpensNone at Primary
 name_opens_none at n call after more = rw (n.is, after_name at after n more) (name_opens n.name (after_at at) call)
 
 -- it isn't followed by ++ or --
 abbrev pub NoStep : Place → Type 0
-NoStep at = (s : Step) → is_mark (step_mark s) (after_at at) ≡ false
+NoStep at = (s : Step) → is_punctuator (step_punctuator s) (after_at at) ≡ false
 
-fetch_chooses : (at : Place) → IsNamed (next_at at).token → is_mark mark.OpenRound (after_at at) ≡ false → NoStep at → Chooses at Primary (AName Mentioned ∷ Make Fetch ∷ [])
+fetch_chooses : (at : Place) → IsNamed (next_at at).token → is_punctuator punctuator.OpenRound (after_at at) ≡ false → NoStep at → Chooses at Primary (AName Mentioned ∷ Make Fetch ∷ [])
 fetch_chooses at n call none = record {
   sound = named_sound (next_at at).token n;
   is = λ after more. rw (n.is, after_name at after n more) (fetch_choice n.name (after_at at) call (none step.Up) (none step.Down));
 }
 
-fetch_stands : (at : Place) → IsNamed (next_at at).token → is_mark mark.OpenRound (after_at at) ≡ false → NoStep at → (depth : ℕ) →
+fetch_stands : (at : Place) → IsNamed (next_at at).token → is_punctuator punctuator.OpenRound (after_at at) ≡ false → NoStep at → (depth : ℕ) →
     Derives depth (Part Primary ∷ []) (AName Mentioned ∷ Make Fetch ∷ []) [] [] at at
 fetch_stands at n call none depth = chosen at depth Primary (AName Mentioned ∷ Make Fetch ∷ []) [] (fetch_chooses at n call none) (name_opens_none at n call)
 
-pub fetch_ends : (used : ℕ) (at : Place) (more : Bool) (f : ParseFault) → IsNamed (next_at at).token → is_mark mark.OpenRound (after_at at) ≡ false → NoStep at →
+pub fetch_ends : (used : ℕ) (at : Place) (more : Bool) (f : ParseFault) → IsNamed (next_at at).token → is_punctuator punctuator.OpenRound (after_at at) ≡ false → NoStep at →
     Refused (FailsItem (AName Mentioned) at) false used f → Refused (FailsItem (Part Primary) at) more used f
 fetch_ends used at more f n call none = item_exit used (Part Primary) (AName Mentioned) (Make Fetch ∷ []) [] at at more f (fetch_stands at n call none) (λ depth stack same. same)
 
 fetch_makes : (v : Var) → MakesOnly Fetch (AVariable v ∷ []) (AnExpr (Variable v) ∷ [])
 fetch_makes v = record { makes = λ values. refl; clean = λ profile stack rest values scope functions. refl; learns = λ scope. refl; defines = λ values scope. refl }
 
-pub fetch_adds : (before after : Meaning) (at there : Place) (v : Var) → IsNamed (next_at at).token → is_mark mark.OpenRound (after_at at) ≡ false → NoStep at →
-    DerivesItem (AName Mentioned) [] (AVariable v ∷ []) at there → IsVariable 64 64 v → is_fault (next_at there).token ≡ false → AppendsAll before after (Get v ∷ []) → (depth : ℕ) →
+pub fetch_adds : (before after : Meaning) (at there : Place) (v : Var) → IsNamed (next_at at).token → is_punctuator punctuator.OpenRound (after_at at) ≡ false → NoStep at →
+    DerivesItem (AName Mentioned) [] (AVariable v ∷ []) at there → IsVariable 64 64 v → is_fault (next_at there).token ≡ false → AppendsAll before after (FetchVariable v ∷ []) → (depth : ℕ) →
     AddsExpr before after depth 11 (Part Primary ∷ []) [] at there
 fetch_adds before after at there v n call none item numbered sound told depth = record {
   tree = Variable v;
@@ -168,110 +168,110 @@ fetch_adds before after at there v n call none item numbered sound told depth = 
 
 -- ++ or -- behind a variable.
 
-behind_choice : (name : List ℕ) (s : Step) → choice Primary (token.Name name) (token.Mark (step_mark s)) ≡ Some (AName Mentioned ∷ Exactly (step_mark s) ∷ Make (StepBehind (step_store s)) ∷ [])
+behind_choice : (name : List ℕ) (s : Step) → choice Primary (token.Name name) (token.Punctuator (step_punctuator s)) ≡ Some (AName Mentioned ∷ Exactly (step_punctuator s) ∷ Make (StepBehind (step_store s)) ∷ [])
 behind_choice name step.Up = refl
 behind_choice name step.Down = refl
 
-behind_opens : (name : List ℕ) (s : Step) → opens Primary (token.Name name) (token.Mark (step_mark s)) ≡ false
+behind_opens : (name : List ℕ) (s : Step) → opens Primary (token.Name name) (token.Punctuator (step_punctuator s)) ≡ false
 behind_opens name step.Up = refl
 behind_opens name step.Down = refl
 
-behind_chooses : (at : Place) (s : Step) → IsNamed (next_at at).token → is_mark (step_mark s) (after_at at) ≡ true →
-    Chooses at Primary (AName Mentioned ∷ Exactly (step_mark s) ∷ Make (StepBehind (step_store s)) ∷ [])
+behind_chooses : (at : Place) (s : Step) → IsNamed (next_at at).token → is_punctuator (step_punctuator s) (after_at at) ≡ true →
+    Chooses at Primary (AName Mentioned ∷ Exactly (step_punctuator s) ∷ Make (StepBehind (step_store s)) ∷ [])
 behind_chooses at s n fits = record {
   sound = named_sound (next_at at).token n;
-  is = λ after more. let t : after_at at ≡ token.Mark (step_mark s) = mark_is (step_mark s) (after_at at) fits in rw (n.is, after_name at after n more, t) (behind_choice n.name s);
+  is = λ after more. let t : after_at at ≡ token.Punctuator (step_punctuator s) = punctuator_is (step_punctuator s) (after_at at) fits in rw (n.is, after_name at after n more, t) (behind_choice n.name s);
 }
 
-behind_opens_none : (at : Place) (s : Step) → IsNamed (next_at at).token → is_mark (step_mark s) (after_at at) ≡ true → OpensNone at Primary
+behind_opens_none : (at : Place) (s : Step) → IsNamed (next_at at).token → is_punctuator (step_punctuator s) (after_at at) ≡ true → OpensNone at Primary
 behind_opens_none at s n fits after more =
-    let t : after_at at ≡ token.Mark (step_mark s) = mark_is (step_mark s) (after_at at) fits in rw (n.is, after_name at after n more, t) (behind_opens n.name s)
+    let t : after_at at ≡ token.Punctuator (step_punctuator s) = punctuator_is (step_punctuator s) (after_at at) fits in rw (n.is, after_name at after n more, t) (behind_opens n.name s)
 
-behind_stands : (at : Place) (s : Step) → IsNamed (next_at at).token → is_mark (step_mark s) (after_at at) ≡ true → (depth : ℕ) →
-    Derives depth (Part Primary ∷ []) (AName Mentioned ∷ Exactly (step_mark s) ∷ Make (StepBehind (step_store s)) ∷ []) [] [] at at
+behind_stands : (at : Place) (s : Step) → IsNamed (next_at at).token → is_punctuator (step_punctuator s) (after_at at) ≡ true → (depth : ℕ) →
+    Derives depth (Part Primary ∷ []) (AName Mentioned ∷ Exactly (step_punctuator s) ∷ Make (StepBehind (step_store s)) ∷ []) [] [] at at
 behind_stands at s n fits depth =
-    chosen at depth Primary (AName Mentioned ∷ Exactly (step_mark s) ∷ Make (StepBehind (step_store s)) ∷ []) [] (behind_chooses at s n fits) (behind_opens_none at s n fits)
+    chosen at depth Primary (AName Mentioned ∷ Exactly (step_punctuator s) ∷ Make (StepBehind (step_store s)) ∷ []) [] (behind_chooses at s n fits) (behind_opens_none at s n fits)
 
-pub behind_name_ends : (used : ℕ) (at : Place) (s : Step) (more : Bool) (f : ParseFault) → IsNamed (next_at at).token → is_mark (step_mark s) (after_at at) ≡ true →
+pub behind_name_ends : (used : ℕ) (at : Place) (s : Step) (more : Bool) (f : ParseFault) → IsNamed (next_at at).token → is_punctuator (step_punctuator s) (after_at at) ≡ true →
     Refused (FailsItem (AName Mentioned) at) false used f → Refused (FailsItem (Part Primary) at) more used f
 behind_name_ends used at s more f n fits =
-    item_exit used (Part Primary) (AName Mentioned) (Exactly (step_mark s) ∷ Make (StepBehind (step_store s)) ∷ []) [] at at more f (behind_stands at s n fits) (λ depth stack same. same)
+    item_exit used (Part Primary) (AName Mentioned) (Exactly (step_punctuator s) ∷ Make (StepBehind (step_store s)) ∷ []) [] at at more f (behind_stands at s n fits) (λ depth stack same. same)
 
-behind_past_name : (at now : Place) (s : Step) (v : Var) → IsNamed (next_at at).token → is_mark (step_mark s) (after_at at) ≡ true → DerivesItem (AName Mentioned) [] (AVariable v ∷ []) at now → (depth : ℕ) →
-    Derives depth (Part Primary ∷ []) (Exactly (step_mark s) ∷ Make (StepBehind (step_store s)) ∷ []) [] (AVariable v ∷ []) at now
+behind_past_name : (at now : Place) (s : Step) (v : Var) → IsNamed (next_at at).token → is_punctuator (step_punctuator s) (after_at at) ≡ true → DerivesItem (AName Mentioned) [] (AVariable v ∷ []) at now → (depth : ℕ) →
+    Derives depth (Part Primary ∷ []) (Exactly (step_punctuator s) ∷ Make (StepBehind (step_store s)) ∷ []) [] (AVariable v ∷ []) at now
 behind_past_name at now s v n fits item depth =
-    item_done depth depth (Part Primary ∷ []) (AName Mentioned) (Exactly (step_mark s) ∷ Make (StepBehind (step_store s)) ∷ []) [] (AVariable v ∷ []) [] at at now
+    item_done depth depth (Part Primary ∷ []) (AName Mentioned) (Exactly (step_punctuator s) ∷ Make (StepBehind (step_store s)) ∷ []) [] (AVariable v ∷ []) [] at at now
     (behind_stands at s n fits depth) (item depth) (λ stack same. same)
 
-pub behind_mark_ends : (used : ℕ) (at now : Place) (s : Step) (v : Var) (more : Bool) (f : ParseFault) → IsNamed (next_at at).token → is_mark (step_mark s) (after_at at) ≡ true →
-    DerivesItem (AName Mentioned) [] (AVariable v ∷ []) at now → Refused (FailsItem (Exactly (step_mark s)) now) false used f → Refused (FailsItem (Part Primary) at) more used f
-behind_mark_ends used at now s v more f n fits item =
-    item_exit used (Part Primary) (Exactly (step_mark s)) (Make (StepBehind (step_store s)) ∷ []) (AVariable v ∷ []) at now more f (behind_past_name at now s v n fits item) (λ depth stack same. same)
+pub behind_punctuator_ends : (used : ℕ) (at now : Place) (s : Step) (v : Var) (more : Bool) (f : ParseFault) → IsNamed (next_at at).token → is_punctuator (step_punctuator s) (after_at at) ≡ true →
+    DerivesItem (AName Mentioned) [] (AVariable v ∷ []) at now → Refused (FailsItem (Exactly (step_punctuator s)) now) false used f → Refused (FailsItem (Part Primary) at) more used f
+behind_punctuator_ends used at now s v more f n fits item =
+    item_exit used (Part Primary) (Exactly (step_punctuator s)) (Make (StepBehind (step_store s)) ∷ []) (AVariable v ∷ []) at now more f (behind_past_name at now s v n fits item) (λ depth stack same. same)
 
 behind_makes : (o : StoreOp) (v : Var) → MakesOnly (StepBehind o) (AVariable v ∷ []) (AnExpr (Postfix o v) ∷ [])
 behind_makes o v = record { makes = λ values. refl; clean = λ profile stack rest values scope functions. refl; learns = λ scope. refl; defines = λ values scope. refl }
 
-pub behind_adds : (before a b c after : Meaning) (at now there : Place) (s : Step) (v : Var) → IsNamed (next_at at).token → is_mark (step_mark s) (after_at at) ≡ true →
-    DerivesItem (AName Mentioned) [] (AVariable v ∷ []) at now → DerivesItem (Exactly (step_mark s)) [] [] now there → IsVariable 64 64 v → is_fault (next_at there).token ≡ false →
-    AppendsAll before a (Get v ∷ []) → AppendsAll a b (Push (pos 1) ∷ []) → AppendsAll b c (Put v (step_store s) ∷ []) → AppendsAll c after (Chop ∷ []) → (depth : ℕ) →
+pub behind_adds : (before a b c after : Meaning) (at now there : Place) (s : Step) (v : Var) → IsNamed (next_at at).token → is_punctuator (step_punctuator s) (after_at at) ≡ true →
+    DerivesItem (AName Mentioned) [] (AVariable v ∷ []) at now → DerivesItem (Exactly (step_punctuator s)) [] [] now there → IsVariable 64 64 v → is_fault (next_at there).token ≡ false →
+    AppendsAll before a (FetchVariable v ∷ []) → AppendsAll a b (PushConstant (pos 1) ∷ []) → AppendsAll b c (StoreVariable v (step_store s) ∷ []) → AppendsAll c after (Chop ∷ []) → (depth : ℕ) →
     AddsExpr before after depth 11 (Part Primary ∷ []) [] at there
 behind_adds before a b c after at now there s v n fits item sign numbered sound first second third last depth = record {
   tree = Postfix (step_store s) v;
   numbered = numbered;
   narrow = omega arith;
-  added = appends_then before a after (Get v ∷ []) (Push (pos 1) ∷ Put v (step_store s) ∷ Chop ∷ []) first
-      (appends_then a b after (Push (pos 1) ∷ []) (Put v (step_store s) ∷ Chop ∷ []) second (appends_then b c after (Put v (step_store s) ∷ []) (Chop ∷ []) third last));
+  added = appends_then before a after (FetchVariable v ∷ []) (PushConstant (pos 1) ∷ StoreVariable v (step_store s) ∷ Chop ∷ []) first
+      (appends_then a b after (PushConstant (pos 1) ∷ []) (StoreVariable v (step_store s) ∷ Chop ∷ []) second (appends_then b c after (StoreVariable v (step_store s) ∷ []) (Chop ∷ []) third last));
   derives = joined depth depth (Part Primary ∷ []) (Make (StepBehind (step_store s)) ∷ []) [] [] [] (AVariable v ∷ []) (AnExpr (Postfix (step_store s) v) ∷ []) [] at there there
-      (item_done depth depth (Part Primary ∷ []) (Exactly (step_mark s)) (Make (StepBehind (step_store s)) ∷ []) [] [] (AVariable v ∷ []) at now there
+      (item_done depth depth (Part Primary ∷ []) (Exactly (step_punctuator s)) (Make (StepBehind (step_store s)) ∷ []) [] [] (AVariable v ∷ []) at now there
       (behind_past_name at now s v n fits item depth) (sign depth) (λ stack same. same))
       (make_stands there depth (StepBehind (step_store s)) (AVariable v ∷ []) (AnExpr (Postfix (step_store s) v) ∷ []) sound (behind_makes (step_store s) v)) (λ stack same. same);
 }
 
 -- ++ or -- before a variable.
 
-before_choice : (s : Step) (after : Token) → choice Unary (token.Mark (step_mark s)) after ≡ Some (Exactly (step_mark s) ∷ AName Mentioned ∷ Make (StepBefore (step_store s)) ∷ [])
+before_choice : (s : Step) (after : Token) → choice Unary (token.Punctuator (step_punctuator s)) after ≡ Some (Exactly (step_punctuator s) ∷ AName Mentioned ∷ Make (StepBefore (step_store s)) ∷ [])
 before_choice step.Up after = refl
 before_choice step.Down after = refl
 
-before_opens : (s : Step) (after : Token) → opens Unary (token.Mark (step_mark s)) after ≡ false
+before_opens : (s : Step) (after : Token) → opens Unary (token.Punctuator (step_punctuator s)) after ≡ false
 before_opens step.Up after = refl
 before_opens step.Down after = refl
 
-before_stands : (at : Place) (s : Step) → is_mark (step_mark s) (next_at at).token ≡ true → (depth : ℕ) →
-    Derives depth (Part Unary ∷ []) (Exactly (step_mark s) ∷ AName Mentioned ∷ Make (StepBefore (step_store s)) ∷ []) [] [] at at
+before_stands : (at : Place) (s : Step) → is_punctuator (step_punctuator s) (next_at at).token ≡ true → (depth : ℕ) →
+    Derives depth (Part Unary ∷ []) (Exactly (step_punctuator s) ∷ AName Mentioned ∷ Make (StepBefore (step_store s)) ∷ []) [] [] at at
 before_stands at s fits depth =
-    let t : (next_at at).token ≡ token.Mark (step_mark s) = mark_is (step_mark s) (next_at at).token fits in
-    chosen at depth Unary (Exactly (step_mark s) ∷ AName Mentioned ∷ Make (StepBefore (step_store s)) ∷ []) []
-    (record { sound = mark_sound (step_mark s) (next_at at).token fits; is = λ after more. rw t (before_choice s after) }) (λ after more. rw t (before_opens s after))
+    let t : (next_at at).token ≡ token.Punctuator (step_punctuator s) = punctuator_is (step_punctuator s) (next_at at).token fits in
+    chosen at depth Unary (Exactly (step_punctuator s) ∷ AName Mentioned ∷ Make (StepBefore (step_store s)) ∷ []) []
+    (record { sound = punctuator_sound (step_punctuator s) (next_at at).token fits; is = λ after more. rw t (before_choice s after) }) (λ after more. rw t (before_opens s after))
 
-pub before_mark_ends : (used : ℕ) (at : Place) (s : Step) (more : Bool) (f : ParseFault) → is_mark (step_mark s) (next_at at).token ≡ true → Refused (StopsAt at) false used f → Refused (FailsItem (Part Unary) at) more used f
-before_mark_ends used at s more f fits stop =
-    item_exit used (Part Unary) (Exactly (step_mark s)) (AName Mentioned ∷ Make (StepBefore (step_store s)) ∷ []) [] at at more f (before_stands at s fits) (λ depth stack same. same) (mark_ends used at (step_mark s) f fits stop)
+pub before_punctuator_ends : (used : ℕ) (at : Place) (s : Step) (more : Bool) (f : ParseFault) → is_punctuator (step_punctuator s) (next_at at).token ≡ true → Refused (StopsAt at) false used f → Refused (FailsItem (Part Unary) at) more used f
+before_punctuator_ends used at s more f fits stop =
+    item_exit used (Part Unary) (Exactly (step_punctuator s)) (AName Mentioned ∷ Make (StepBefore (step_store s)) ∷ []) [] at at more f (before_stands at s fits) (λ depth stack same. same) (punctuator_ends used at (step_punctuator s) f fits stop)
 
-before_past_mark : (at now : Place) (s : Step) → is_mark (step_mark s) (next_at at).token ≡ true → GoesPast at now → (depth : ℕ) →
+before_past_punctuator : (at now : Place) (s : Step) → is_punctuator (step_punctuator s) (next_at at).token ≡ true → GoesPast at now → (depth : ℕ) →
     Derives depth (Part Unary ∷ []) (AName Mentioned ∷ Make (StepBefore (step_store s)) ∷ []) [] [] at now
-before_past_mark at now s fits goes depth =
-    item_done depth depth (Part Unary ∷ []) (Exactly (step_mark s)) (AName Mentioned ∷ Make (StepBefore (step_store s)) ∷ []) [] [] [] at at now
-    (before_stands at s fits depth) (mark_past at now (step_mark s) fits goes depth) (λ stack same. same)
+before_past_punctuator at now s fits goes depth =
+    item_done depth depth (Part Unary ∷ []) (Exactly (step_punctuator s)) (AName Mentioned ∷ Make (StepBefore (step_store s)) ∷ []) [] [] [] at at now
+    (before_stands at s fits depth) (punctuator_past at now (step_punctuator s) fits goes depth) (λ stack same. same)
 
-pub before_name_ends : (used : ℕ) (at now : Place) (s : Step) (more : Bool) (f : ParseFault) → is_mark (step_mark s) (next_at at).token ≡ true → GoesPast at now →
+pub before_name_ends : (used : ℕ) (at now : Place) (s : Step) (more : Bool) (f : ParseFault) → is_punctuator (step_punctuator s) (next_at at).token ≡ true → GoesPast at now →
     Refused (FailsItem (AName Mentioned) now) false used f → Refused (FailsItem (Part Unary) at) more used f
 before_name_ends used at now s more f fits goes =
-    item_exit used (Part Unary) (AName Mentioned) (Make (StepBefore (step_store s)) ∷ []) [] at now more f (before_past_mark at now s fits goes) (λ depth stack same. same)
+    item_exit used (Part Unary) (AName Mentioned) (Make (StepBefore (step_store s)) ∷ []) [] at now more f (before_past_punctuator at now s fits goes) (λ depth stack same. same)
 
 before_makes : (o : StoreOp) (v : Var) → MakesOnly (StepBefore o) (AVariable v ∷ []) (AnExpr (Assign o v (Constant (pos 1))) ∷ [])
 before_makes o v = record { makes = λ values. refl; clean = λ profile stack rest values scope functions. refl; learns = λ scope. refl; defines = λ values scope. refl }
 
-pub before_adds : (before a after : Meaning) (at now there : Place) (s : Step) (v : Var) → is_mark (step_mark s) (next_at at).token ≡ true → GoesPast at now →
+pub before_adds : (before a after : Meaning) (at now there : Place) (s : Step) (v : Var) → is_punctuator (step_punctuator s) (next_at at).token ≡ true → GoesPast at now →
     DerivesItem (AName Mentioned) [] (AVariable v ∷ []) now there → IsVariable 64 64 v → is_fault (next_at there).token ≡ false →
-    AppendsAll before a (Push (pos 1) ∷ []) → AppendsAll a after (Put v (step_store s) ∷ []) → (depth : ℕ) → AddsExpr before after depth 11 (Part Unary ∷ []) [] at there
+    AppendsAll before a (PushConstant (pos 1) ∷ []) → AppendsAll a after (StoreVariable v (step_store s) ∷ []) → (depth : ℕ) → AddsExpr before after depth 11 (Part Unary ∷ []) [] at there
 before_adds before a after at now there s v fits goes item numbered sound first last depth = record {
   tree = Assign (step_store s) v (Constant (pos 1));
   numbered = (numbered, tt);
   narrow = omega arith;
-  added = appends_then before a after (Push (pos 1) ∷ []) (Put v (step_store s) ∷ []) first last;
+  added = appends_then before a after (PushConstant (pos 1) ∷ []) (StoreVariable v (step_store s) ∷ []) first last;
   derives = joined depth depth (Part Unary ∷ []) (Make (StepBefore (step_store s)) ∷ []) [] [] [] (AVariable v ∷ []) (AnExpr (Assign (step_store s) v (Constant (pos 1))) ∷ []) [] at there there
       (item_done depth depth (Part Unary ∷ []) (AName Mentioned) (Make (StepBefore (step_store s)) ∷ []) [] (AVariable v ∷ []) [] at now there
-      (before_past_mark at now s fits goes depth) (item depth) (λ stack same. same))
+      (before_past_punctuator at now s fits goes depth) (item depth) (λ stack same. same))
       (make_stands there depth (StepBefore (step_store s)) (AVariable v ∷ []) (AnExpr (Assign (step_store s) v (Constant (pos 1))) ∷ []) sound (before_makes (step_store s) v)) (λ stack same. same);
 }

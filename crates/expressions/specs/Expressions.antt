@@ -1,23 +1,28 @@
--- What the parse of an expression did: the builder was told the actions of a tree, and the derivation made the same tree.
-use Rattle.std.specs.Prelude.{ℕ, ◌+◌, ◌≤◌, List, [], ◌∷◌, ◌++◌}
-use Rattle.parsing.specs.Stopping.{Stop}
+-- What the parse of an expression did: the builder was told the actions of a tree, and the derivation made the same
+-- tree.
+use Rattle.std.specs.Prelude.{ℕ, ◌+◌, ◌≤◌, List, [], ◌∷◌, ◌++◌, Bool, Result, Ok, Err}
+use Rattle.grammar.specs.declared.diagnostics.ParseFault.{ParseFault}
 use Rattle.grammar.specs.declared.names.Callee.{Callee}
+use Rattle.grammar.specs.declared.operators.Binary.{Binary as AnOperator}
 use Rattle.grammar.specs.declared.operators.Op.{Op}
-use Rattle.grammar.specs.Actions.{Apply, args_actions, expr_actions, middle}
+use Rattle.grammar.specs.declared.pools.TheConstants.{MOST_NAMES}
+use Rattle.grammar.specs.Actions.{ApplyBinop, args_actions, expr_actions, middle}
 use Rattle.grammar.specs.Building.{Meaning, AppendsAll}
 use Rattle.grammar.specs.Derivation.{ACall, AnExpr}
-use Rattle.grammar.specs.Grammar.{Item, Arguments, Part, Tail}
+use Rattle.grammar.specs.Grammar.{Item, Arguments, Part, Symbol, Tail}
 use Rattle.grammar.specs.Nesting.{args_nesting, nesting, right_side}
 use Rattle.grammar.specs.Resolved.{InArgs, InExpr}
 use Rattle.grammar.specs.Tree.{Args, Binary, Expr, NoMore}
-use Rattle.parsing.specs.Position.{Place}
+use Rattle.parsing.specs.Position.{Place, Standing, taken_at}
 use Rattle.parsing.specs.Room.{room}
-use Rattle.parsing.specs.Stretch.{Derives, FailsAt}
+use Rattle.parsing.specs.Stopping.{Stop}
+use Rattle.parsing.specs.Segment.{Derives, FailsAt, FailsItem, Refused}
 
 -- An expression was read, by the items in front, of operators from a level on, with so many levels of nesting open.
-pub record AddsExpr (before after : Meaning) (depth level : ℕ) (front pending : List Item) (here there : Place) : Type 0 where
+pub record AddsExpr (before after : Meaning) (depth level : ℕ) (front pending : List Item) (here there : Place)
+    : Type 0 where
   pub tree : Expr
-  pub numbered : InExpr 64 64 64 tree
+  pub numbered : InExpr MOST_NAMES MOST_NAMES MOST_NAMES tree
   pub narrow : nesting tree ≤ room depth level
   pub added : AppendsAll before after (expr_actions tree)
   pub derives : Derives depth front pending [] (AnExpr tree ∷ []) here there
@@ -25,10 +30,12 @@ pub record AddsExpr (before after : Meaning) (depth level : ℕ) (front pending 
 -- One further operator was read with its right side, whatever its left side is.
 pub record AddsOperand (before after : Meaning) (depth level : ℕ) (op : Op) (here there : Place) : Type 0 where
   pub right : Expr
-  pub numbered : InExpr 64 64 64 right
+  pub numbered : InExpr MOST_NAMES MOST_NAMES MOST_NAMES right
   pub narrow : right_side op + nesting right ≤ room depth level
-  pub added : AppendsAll before after (middle op ++ (expr_actions right ++ Apply op ∷ []))
-  pub derives : (left : Expr) → Derives depth (Part (Tail level) ∷ []) (Part (Tail level) ∷ []) (AnExpr left ∷ []) (AnExpr (Binary op left right) ∷ []) here there
+  pub added : AppendsAll before after (middle op ++ (expr_actions right ++ ApplyBinop op ∷ []))
+  pub derives : (left : Expr) →
+      Derives depth (Part (Tail level) ∷ []) (Part (Tail level) ∷ []) (AnExpr left ∷ [])
+      (AnExpr (Binary op left right) ∷ []) here there
 
 -- The first fault from there on, whatever the left side is.
 abbrev pub FailsOperand : ℕ → ℕ → Place → Stop → Type 0
@@ -37,10 +44,46 @@ FailsOperand depth level here d = (left : Expr) → FailsAt depth (Part (Tail le
 -- The arguments of a call were read, whatever it calls.
 pub record AddsArgs (before after : Meaning) (depth : ℕ) (front pending : List Item) (here there : Place) : Type 0 where
   pub tree : Args
-  pub numbered : InArgs 64 64 64 tree
+  pub numbered : InArgs MOST_NAMES MOST_NAMES MOST_NAMES tree
   pub narrow : args_nesting tree ≤ room depth 1
   pub added : AppendsAll before after (args_actions tree)
-  pub derives : (callee : Callee) → Derives depth front pending (ACall callee NoMore ∷ []) (ACall callee tree ∷ []) here there
+  pub derives : (callee : Callee) →
+      Derives depth front pending (ACall callee NoMore ∷ []) (ACall callee tree ∷ []) here there
 
 abbrev pub FailsArgs : ℕ → Place → Stop → Type 0
 FailsArgs depth here d = (callee : Callee) → FailsAt depth (Part Arguments ∷ []) (ACall callee NoMore ∷ []) here d
+
+-- What a parse of an expression says, by its result.
+
+-- An expression was read by this symbol, at a level of the operators. Or the derivation stops within it, as the refusal
+-- says.
+abbrev pub Parses : {A : Type 0} → Result A ParseFault → (allocates : Bool) (before after : Meaning) (depth level : ℕ) →
+    Symbol → (old new : Standing) → Type 0
+Parses (Ok x) allocates before after depth level symbol old new =
+    AddsExpr before after depth level (Part symbol ∷ []) [] old.place new.place
+Parses (Err fault) allocates before after depth level symbol old new =
+    Refused (FailsAt depth (Part symbol ∷ []) [] old.place) allocates (taken_at new.place) fault
+
+-- the same of an operand that opens no level, at any depth
+abbrev pub ParsesOperandAlone : {A : Type 0} → Result A ParseFault → (allocates : Bool) (before after : Meaning) →
+    Symbol → (old new : Standing) → Type 0
+ParsesOperandAlone (Ok x) allocates before after symbol old new =
+    (depth : ℕ) → AddsExpr before after depth 11 (Part symbol ∷ []) [] old.place new.place
+ParsesOperandAlone (Err fault) allocates before after symbol old new =
+    Refused (FailsItem (Part symbol) old.place) allocates (taken_at new.place) fault
+
+-- the same of an operator and its right side
+abbrev pub ParsesOperand : {A : Type 0} → Result A ParseFault → (allocates : Bool) (before after : Meaning)
+    (depth : ℕ) → AnOperator → (old new : Standing) → Type 0
+ParsesOperand (Ok x) allocates before after depth b old new =
+    AddsOperand before after depth b.level b.op old.place new.place
+ParsesOperand (Err fault) allocates before after depth b old new =
+    Refused (FailsOperand depth b.level old.place) allocates (taken_at new.place) fault
+
+-- the same of a call's arguments
+abbrev pub ParsesArgs : {A : Type 0} → Result A ParseFault → (allocates : Bool) (before after : Meaning) (depth : ℕ) →
+    (old new : Standing) → Type 0
+ParsesArgs (Ok x) allocates before after depth old new =
+    AddsArgs before after depth (Part Arguments ∷ []) [] old.place new.place
+ParsesArgs (Err fault) allocates before after depth old new =
+    Refused (FailsArgs depth old.place) allocates (taken_at new.place) fault

@@ -1,3 +1,4 @@
 pub mod Telling
 pub mod Signs
+pub mod Starts
 pub mod Expressions

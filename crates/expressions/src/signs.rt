@@ -1,14 +1,14 @@
 //! The operators before an operand, and `++` and `--`.
 
 ghost use Rattle.std.specs.Prelude.{◌≡◌, [], ◌∷◌, IfNone, IfSome, OnOk, false, true};
-ghost use Rattle.grammar.specs.Actions.{Apply, Push};
+ghost use Rattle.grammar.specs.Actions.{ApplyBinop, PushConstant};
 ghost use Rattle.grammar.specs.Building.{AppendsAll, Refuses};
-ghost use Rattle.grammar.specs.Grammar.{is_mark};
-ghost use Rattle.expressions.specs.Signs.{before_operand, behind_operand, sign_mark, step_mark, step_store};
+ghost use Rattle.grammar.specs.Grammar.{is_punctuator};
+ghost use Rattle.expressions.specs.Signs.{before_operand, behind_operand, sign_punctuator, step_punctuator, step_store};
 ghost use Rattle.expressions.specs.Telling.{MayFollowAll};
 
 use grammar::{Build, BuildFault, Op, StoreOp};
-use tokens::{Mark, Token};
+use tokens::{Punctuator, Token};
 
 /// An operator before an operand.
 #[derive(Clone, Copy, Debug, PartialEq, Eq)]
@@ -32,37 +32,37 @@ pub enum Step {
 
 /// The operator before an operand that a token spells.
 pub fn sign_of(token: &Token) -> Option<Sign>
-    ensures spelled { IfSome result (λ sign. is_mark (sign_mark sign) token.now ≡ true) }
-    ensures none { IfNone result ((sign : Sign) → is_mark (sign_mark sign) token.now ≡ false) }
+    ensures spelled { IfSome result (λ sign. is_punctuator (sign_punctuator sign) token.now ≡ true) }
+    ensures none { IfNone result ((sign : Sign) → is_punctuator (sign_punctuator sign) token.now ≡ false) }
 {
     match *token {
-        Token::Mark(Mark::Minus) => Some(Sign::Negation),
-        Token::Mark(Mark::Not) => Some(Sign::Denial),
-        Token::Mark(Mark::Tilde) => Some(Sign::Complement),
+        Token::Punctuator(Punctuator::Minus) => Some(Sign::Negation),
+        Token::Punctuator(Punctuator::Not) => Some(Sign::Denial),
+        Token::Punctuator(Punctuator::Tilde) => Some(Sign::Complement),
         _ => None,
     }
 }
 
 /// Whether a token is `++` or `--`, and which.
 pub fn step_of(token: &Token) -> Option<Step>
-    ensures spelled { IfSome result (λ step. is_mark (step_mark step) token.now ≡ true) }
-    ensures none { IfNone result ((step : Step) → is_mark (step_mark step) token.now ≡ false) }
+    ensures spelled { IfSome result (λ step. is_punctuator (step_punctuator step) token.now ≡ true) }
+    ensures none { IfNone result ((step : Step) → is_punctuator (step_punctuator step) token.now ≡ false) }
 {
     match *token {
-        Token::Mark(Mark::PlusPlus) => Some(Step::Up),
-        Token::Mark(Mark::MinusMinus) => Some(Step::Down),
+        Token::Punctuator(Punctuator::PlusPlus) => Some(Step::Up),
+        Token::Punctuator(Punctuator::MinusMinus) => Some(Step::Down),
         _ => None,
     }
 }
 
 impl Step {
     /// How the step is spelled.
-    pub fn mark(self) -> Mark
-        ensures { result ≡ step_mark self }
+    pub fn punctuator(self) -> Punctuator
+        ensures { result ≡ step_punctuator self }
     {
         match self {
-            Step::Up => Mark::PlusPlus,
-            Step::Down => Mark::MinusMinus,
+            Step::Up => Punctuator::PlusPlus,
+            Step::Down => Punctuator::MinusMinus,
         }
     }
 
@@ -106,8 +106,9 @@ impl Sign {
 
 /// A constant, and the operator of the last value and it.
 fn compare<B: Build>(build: &mut B, value: i32, op: Op) -> Result<(), BuildFault>
-    requires follow { MayFollowAll (B.stands build.old) (Push value ∷ Apply op ∷ []) }
-    ensures told { OnOk result (AppendsAll (B.stands build.old) (B.stands build.new) (Push value ∷ Apply op ∷ [])) }
+    requires follow { MayFollowAll (B.stands build.old) (PushConstant value ∷ ApplyBinop op ∷ []) }
+    ensures told { OnOk result (AppendsAll (B.stands build.old) (B.stands build.new)
+        (PushConstant value ∷ ApplyBinop op ∷ [])) }
     ensures memory { Refuses result B.allocates }
 {
     build.constant(value)?;

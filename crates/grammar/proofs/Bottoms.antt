@@ -2,18 +2,18 @@
 use Rattle.std.proofs.Common.{◌≡◌, ℕ, zero, suc, ◌+◌, ◌<◌, List, [], ◌∷◌, ◌++◌, refl, subst, sym, Bool, true, false, arith, length, drop, append-nil}
 use Rattle.std.specs.Prelude.{Option, Some, None, nat_lt, unwrap_or, if◌then◌else◌}
 use Rattle.tokens.specs.Tokens.{is_last}
-use Rattle.tokens.specs.declared.lexemes.Lexeme.{Lexeme}
-use Rattle.tokens.specs.declared.lexemes.Mark.{Mark}
-use Rattle.tokens.specs.declared.lexemes.Mark.TheVariants as mark
-use Rattle.tokens.specs.declared.lexemes.Token.{Token}
-use Rattle.tokens.specs.declared.lexemes.Token.TheVariants as token
-use Rattle.tokens.specs.declared.lexemes.Word.{Word}
-use Rattle.tokens.specs.declared.lexemes.Word.TheVariants as word
+use Rattle.tokens.specs.declared.located_tokens.LocatedToken.{LocatedToken}
+use Rattle.tokens.specs.declared.located_tokens.Punctuator.{Punctuator}
+use Rattle.tokens.specs.declared.located_tokens.Punctuator.TheVariants as punctuator
+use Rattle.tokens.specs.declared.located_tokens.Token.{Token}
+use Rattle.tokens.specs.declared.located_tokens.Token.TheVariants as token
+use Rattle.tokens.specs.declared.located_tokens.Word.{Word}
+use Rattle.tokens.specs.declared.located_tokens.Word.TheVariants as word
 use Rattle.grammar.specs.declared.operators.Op.{Op}
 use Rattle.grammar.specs.declared.operators.StoreOp.{StoreOp}
 use Rattle.grammar.specs.Derivation.{State, Value, Definition, start, step, step_of, stepped, run, next_of, name_of_token, constant_value, matched, name_matched, replaced, constant_matched}
 use Rattle.grammar.specs.Faults.{Fault, faults_of, faults_at}
-use Rattle.grammar.specs.Grammar.{Symbol, Source, Types, Head, More, Parameters, ParameterTypes, FunctionBlock, Block, Declarations, Statements, Statement, ElsePart, Back, Expression, Level, Tail, Unary, Primary, Arguments, MoreArguments, Role, Item, Exactly, AWord, AName, AConstant, AnEnd, Part, Make, Shut, Production, choice, assignment_or, tail_production, is_fault, is_mark, is_word}
+use Rattle.grammar.specs.Grammar.{Symbol, Source, Types, Head, More, Parameters, ParameterTypes, FunctionBlock, Block, Declarations, Statements, Statement, ElsePart, Back, Expression, Level, Tail, Unary, Primary, Arguments, MoreArguments, Role, Item, Exactly, AWord, AName, AConstant, AnEnd, Part, Make, Close, Production, choice, assignment_or, tail_production, is_fault, is_punctuator, is_word}
 use Rattle.grammar.specs.Operators.{operator_at, store_of}
 use Rattle.grammar.specs.Parsing.{IsIn}
 use Rattle.grammar.specs.Profile.{Profile}
@@ -50,27 +50,27 @@ level_fits : (n : ℕ) (b : Bool) → fits false (if b then Some (Part (Level (n
 level_fits n true = refl
 level_fits n false = refl
 
-tail_fits : (n : ℕ) (o : Option Op) (m : Mark) → fits false (Some (tail_production n o m)) ≡ true
+tail_fits : (n : ℕ) (o : Option Op) (m : Punctuator) → fits false (Some (tail_production n o m)) ≡ true
 tail_fits n None m = refl
 tail_fits n (Some op) m = refl
 
-assignment_fits : (o : Option StoreOp) (m : Mark) → fits false (Some (assignment_or o m)) ≡ true
+assignment_fits : (o : Option StoreOp) (m : Punctuator) → fits false (Some (assignment_or o m)) ≡ true
 assignment_fits None m = refl
 assignment_fits (Some op) m = refl
 
 expression_fits : (next after : Token) → fits false (choice Expression next after) ≡ true
-expression_fits (token.Name name) (token.Mark m) = assignment_fits (store_of m) m
+expression_fits (token.Name name) (token.Punctuator m) = assignment_fits (store_of m) m
 expression_fits next after = refl
 
 primary_fits : (next after : Token) → fits false (choice Primary next after) ≡ true
-primary_fits (token.Name name) (token.Mark mark.OpenRound) = refl
-primary_fits (token.Name name) (token.Mark mark.PlusPlus) = refl
-primary_fits (token.Name name) (token.Mark mark.MinusMinus) = refl
-primary_fits (token.Mark mark.OpenRound) after = refl
+primary_fits (token.Name name) (token.Punctuator punctuator.OpenRound) = refl
+primary_fits (token.Name name) (token.Punctuator punctuator.PlusPlus) = refl
+primary_fits (token.Name name) (token.Punctuator punctuator.MinusMinus) = refl
+primary_fits (token.Punctuator punctuator.OpenRound) after = refl
 primary_fits next after = refl
 
 head_fits : (next after : Token) → fits false (choice Head next after) ≡ true
-head_fits (token.Name name) (token.Mark mark.OpenRound) = refl
+head_fits (token.Name name) (token.Punctuator punctuator.OpenRound) = refl
 head_fits next after = refl
 
 choice_fits : (symbol : Symbol) (next after : Token) → fits (is_bottom (Part symbol)) (choice symbol next after) ≡ true
@@ -81,44 +81,44 @@ choice_fits Source next after = refl
 choice_fits Types (token.Word word.Type) after = refl
 choice_fits Types next after = refl
 choice_fits Head next after = head_fits next after
-choice_fits (More role) (token.Mark mark.Comma) after = refl
+choice_fits (More role) (token.Punctuator punctuator.Comma) after = refl
 choice_fits (More role) next after = refl
 choice_fits Parameters (token.Name name) after = refl
 choice_fits Parameters next after = refl
 choice_fits ParameterTypes (token.Word word.Type) after = refl
 choice_fits ParameterTypes next after = refl
-choice_fits FunctionBlock (token.Mark mark.OpenCurly) after = refl
+choice_fits FunctionBlock (token.Punctuator punctuator.OpenCurly) after = refl
 choice_fits FunctionBlock next after = refl
-choice_fits Block (token.Mark mark.OpenCurly) after = refl
+choice_fits Block (token.Punctuator punctuator.OpenCurly) after = refl
 choice_fits Block next after = refl
 choice_fits Declarations (token.Word word.Type) after = refl
 choice_fits Declarations next after = refl
-choice_fits Statements (token.Mark mark.CloseCurly) after = refl
+choice_fits Statements (token.Punctuator punctuator.CloseCurly) after = refl
 choice_fits Statements next after = refl
-choice_fits Statement (token.Mark mark.Semicolon) after = refl
-choice_fits Statement (token.Mark mark.OpenCurly) after = refl
+choice_fits Statement (token.Punctuator punctuator.Semicolon) after = refl
+choice_fits Statement (token.Punctuator punctuator.OpenCurly) after = refl
 choice_fits Statement (token.Word word.If) after = refl
 choice_fits Statement (token.Word word.While) after = refl
 choice_fits Statement (token.Word word.Return) after = refl
 choice_fits Statement next after = refl
 choice_fits ElsePart (token.Word word.Else) after = refl
 choice_fits ElsePart next after = refl
-choice_fits Back (token.Mark mark.Semicolon) after = refl
+choice_fits Back (token.Punctuator punctuator.Semicolon) after = refl
 choice_fits Back next after = refl
 choice_fits Expression next after = expression_fits next after
 choice_fits (Level n) next after = level_fits n (nat_lt n 11)
-choice_fits (Tail n) (token.Mark m) after = tail_fits n (operator_at n (token.Mark m)) m
+choice_fits (Tail n) (token.Punctuator m) after = tail_fits n (operator_at n (token.Punctuator m)) m
 choice_fits (Tail n) next after = refl
-choice_fits Unary (token.Mark mark.Minus) after = refl
-choice_fits Unary (token.Mark mark.Not) after = refl
-choice_fits Unary (token.Mark mark.Tilde) after = refl
-choice_fits Unary (token.Mark mark.PlusPlus) after = refl
-choice_fits Unary (token.Mark mark.MinusMinus) after = refl
+choice_fits Unary (token.Punctuator punctuator.Minus) after = refl
+choice_fits Unary (token.Punctuator punctuator.Not) after = refl
+choice_fits Unary (token.Punctuator punctuator.Tilde) after = refl
+choice_fits Unary (token.Punctuator punctuator.PlusPlus) after = refl
+choice_fits Unary (token.Punctuator punctuator.MinusMinus) after = refl
 choice_fits Unary next after = refl
 choice_fits Primary next after = primary_fits next after
-choice_fits Arguments (token.Mark mark.CloseRound) after = refl
+choice_fits Arguments (token.Punctuator punctuator.CloseRound) after = refl
 choice_fits Arguments next after = refl
-choice_fits MoreArguments (token.Mark mark.Comma) after = refl
+choice_fits MoreArguments (token.Punctuator punctuator.Comma) after = refl
 choice_fits MoreArguments next after = refl
 
 no_true : false ≡ true → ⊥
@@ -138,11 +138,11 @@ items_above true items (item ∷ stack) fit h = absurd cc
 items_above false items stack fit h = none_above items stack fit h
 
 -- where no tokens are left, there is nothing left to derive; else they end with one that is the last
-abbrev Left : List Item → List Lexeme → Type 0
+abbrev Left : List Item → List LocatedToken → Type 0
 Left stack [] = stack ≡ []
-Left stack (lexeme ∷ rest) = EndsWithLast (lexeme ∷ rest)
+Left stack (located_token ∷ rest) = EndsWithLast (located_token ∷ rest)
 
-record IsGrounded (stack : List Item) (rest : List Lexeme) : Type 0 where
+record IsGrounded (stack : List Item) (rest : List LocatedToken) : Type 0 where
   bottom : at_bottom stack ≡ true
   left : Left stack rest
 
@@ -150,76 +150,76 @@ abbrev Leads : Option State → Type 0
 Leads None = Unit {0}
 Leads (Some t) = IsGrounded t.stack t.rest
 
-mark_is_not_last : (m : Mark) (t : Token) → is_mark m t ≡ true → is_last t ≡ false
-mark_is_not_last m (token.Mark n) h = refl
-mark_is_not_last m (token.Name name) h = refl
-mark_is_not_last m (token.Word w) h = refl
-mark_is_not_last m (token.Constant value) h = refl
-mark_is_not_last m token.End h = absurd cc
-mark_is_not_last m (token.Fault flaw) h = absurd cc
+punctuator_is_not_last : (m : Punctuator) (t : Token) → is_punctuator m t ≡ true → is_last t ≡ false
+punctuator_is_not_last m (token.Punctuator n) h = refl
+punctuator_is_not_last m (token.Name name) h = refl
+punctuator_is_not_last m (token.Word w) h = refl
+punctuator_is_not_last m (token.Constant value) h = refl
+punctuator_is_not_last m token.End h = absurd cc
+punctuator_is_not_last m (token.Fault lexical_error) h = absurd cc
 
 word_is_not_last : (w : Word) (t : Token) → is_word w t ≡ true → is_last t ≡ false
-word_is_not_last w (token.Mark n) h = refl
+word_is_not_last w (token.Punctuator n) h = refl
 word_is_not_last w (token.Name name) h = refl
 word_is_not_last w (token.Word v) h = refl
 word_is_not_last w (token.Constant value) h = refl
 word_is_not_last w token.End h = absurd cc
-word_is_not_last w (token.Fault flaw) h = absurd cc
+word_is_not_last w (token.Fault lexical_error) h = absurd cc
 
 name_is_not_last : (t : Token) (name : List ℕ) → name_of_token t ≡ Some name → is_last t ≡ false
-name_is_not_last (token.Mark n) name h = refl
+name_is_not_last (token.Punctuator n) name h = refl
 name_is_not_last (token.Name n) name h = refl
 name_is_not_last (token.Word w) name h = refl
 name_is_not_last (token.Constant value) name h = refl
 name_is_not_last token.End name h = absurd cc
-name_is_not_last (token.Fault flaw) name h = absurd cc
+name_is_not_last (token.Fault lexical_error) name h = absurd cc
 
 constant_is_not_last : (t : Token) (value : ℕ) → constant_value t ≡ Some value → is_last t ≡ false
-constant_is_not_last (token.Mark n) value h = refl
+constant_is_not_last (token.Punctuator n) value h = refl
 constant_is_not_last (token.Name n) value h = refl
 constant_is_not_last (token.Word w) value h = refl
 constant_is_not_last (token.Constant v) value h = refl
 constant_is_not_last token.End value h = absurd cc
-constant_is_not_last (token.Fault flaw) value h = absurd cc
+constant_is_not_last (token.Fault lexical_error) value h = absurd cc
 
 -- behind a token that isn't the last there is another
-left_behind : (item : Item) (stack : List Item) (rest : List Lexeme) → is_last (next_of rest) ≡ false → Left (item ∷ stack) rest → Left stack (drop 1 rest)
+left_behind : (item : Item) (stack : List Item) (rest : List LocatedToken) → is_last (next_of rest) ≡ false → Left (item ∷ stack) rest → Left stack (drop 1 rest)
 left_behind item stack [] other h = absurd cc
-left_behind item stack (lexeme ∷ []) other h = absurd cc
-left_behind item stack (lexeme ∷ next ∷ rest) other h = h
+left_behind item stack (located_token ∷ []) other h = absurd cc
+left_behind item stack (located_token ∷ next ∷ rest) other h = h
 
-left_at_end : (rest : List Lexeme) (item : Item) → Left (item ∷ []) rest → Left [] (drop 1 rest)
+left_at_end : (rest : List LocatedToken) (item : Item) → Left (item ∷ []) rest → Left [] (drop 1 rest)
 left_at_end [] item h = refl
-left_at_end (lexeme ∷ []) item h = refl
-left_at_end (lexeme ∷ next ∷ rest) item h = h
+left_at_end (located_token ∷ []) item h = refl
+left_at_end (located_token ∷ next ∷ rest) item h = h
 
-matched_leads : (b : Bool) (item : Item) (stack : List Item) (rest : List Lexeme) (values : List Value) (scope : Scope) (functions : List Definition) →
+matched_leads : (b : Bool) (item : Item) (stack : List Item) (rest : List LocatedToken) (values : List Value) (scope : Scope) (functions : List Definition) →
     at_bottom stack ≡ true → (b ≡ true → is_last (next_of rest) ≡ false) → Left (item ∷ stack) rest → Leads (matched b stack rest values scope functions)
 matched_leads true item stack rest values scope functions bottom other h = record { bottom = bottom; left = left_behind item stack rest (other refl) h }
 matched_leads false item stack rest values scope functions bottom other h = tt
 
-name_leads : (role : Role) (name : Option (List ℕ)) (item : Item) (stack : List Item) (rest : List Lexeme) (values : List Value) (scope : Scope) (functions : List Definition) →
+name_leads : (role : Role) (name : Option (List ℕ)) (item : Item) (stack : List Item) (rest : List LocatedToken) (values : List Value) (scope : Scope) (functions : List Definition) →
     at_bottom stack ≡ true → ((n : List ℕ) → name ≡ Some n → is_last (next_of rest) ≡ false) → Left (item ∷ stack) rest → Leads (name_matched role name stack rest values scope functions)
 name_leads role (Some name) item stack rest values scope functions bottom other h = record { bottom = bottom; left = left_behind item stack rest (other name refl) h }
 name_leads role None item stack rest values scope functions bottom other h = tt
 
-constant_leads : (value : Option ℕ) (item : Item) (stack : List Item) (rest : List Lexeme) (values : List Value) (scope : Scope) (functions : List Definition) →
+constant_leads : (value : Option ℕ) (item : Item) (stack : List Item) (rest : List LocatedToken) (values : List Value) (scope : Scope) (functions : List Definition) →
     at_bottom stack ≡ true → ((n : ℕ) → value ≡ Some n → is_last (next_of rest) ≡ false) → Left (item ∷ stack) rest → Leads (constant_matched value stack rest values scope functions)
 constant_leads (Some value) item stack rest values scope functions bottom other h = record { bottom = bottom; left = left_behind item stack rest (other value refl) h }
 constant_leads None item stack rest values scope functions bottom other h = tt
 
-end_leads : (b : Bool) (stack : List Item) (rest : List Lexeme) (values : List Value) (scope : Scope) (functions : List Definition) →
+end_leads : (b : Bool) (stack : List Item) (rest : List LocatedToken) (values : List Value) (scope : Scope) (functions : List Definition) →
     is_nothing stack ≡ true → Left (AnEnd ∷ stack) rest → Leads (matched b stack rest values scope functions)
 end_leads true [] rest values scope functions bottom h = record { bottom = refl; left = left_at_end rest AnEnd h }
 end_leads true (item ∷ stack) rest values scope functions bottom h = absurd cc
 end_leads false stack rest values scope functions bottom h = tt
 
 -- where an item is left to derive, tokens are left, whatever the items are
-left_same : (item : Item) (stack items : List Item) (rest : List Lexeme) → Left (item ∷ stack) rest → Left items rest
+left_same : (item : Item) (stack items : List Item) (rest : List LocatedToken) → Left (item ∷ stack) rest → Left items rest
 left_same item stack items [] h = absurd cc
-left_same item stack items (lexeme ∷ rest) h = h
+left_same item stack items (located_token ∷ rest) h = h
 
-replaced_leads : (symbol : Symbol) (items : Production) (stack : List Item) (rest : List Lexeme) (values : List Value) (scope : Scope) (functions : List Definition) →
+replaced_leads : (symbol : Symbol) (items : Production) (stack : List Item) (rest : List LocatedToken) (values : List Value) (scope : Scope) (functions : List Definition) →
     fits (is_bottom (Part symbol)) items ≡ true → IsGrounded (Part symbol ∷ stack) rest → Leads (replaced items stack rest values scope functions)
 replaced_leads symbol (Some items) stack rest values scope functions fit h = record {
   bottom = items_above (is_bottom (Part symbol)) items stack fit h.bottom;
@@ -227,16 +227,16 @@ replaced_leads symbol (Some items) stack rest values scope functions fit h = rec
 }
 replaced_leads symbol None stack rest values scope functions fit h = tt
 
-step_leads : (stack : List Item) (rest : List Lexeme) (values : List Value) (scope : Scope) (functions : List Definition) → IsGrounded stack rest → Leads (step_of stack rest values scope functions)
+step_leads : (stack : List Item) (rest : List LocatedToken) (values : List Value) (scope : Scope) (functions : List Definition) → IsGrounded stack rest → Leads (step_of stack rest values scope functions)
 step_leads [] rest values scope functions h = tt
-step_leads (Exactly m ∷ stack) rest values scope functions h = matched_leads _ (Exactly m) stack rest values scope functions h.bottom (mark_is_not_last m (next_of rest)) h.left
+step_leads (Exactly m ∷ stack) rest values scope functions h = matched_leads _ (Exactly m) stack rest values scope functions h.bottom (punctuator_is_not_last m (next_of rest)) h.left
 step_leads (AWord w ∷ stack) rest values scope functions h = matched_leads _ (AWord w) stack rest values scope functions h.bottom (word_is_not_last w (next_of rest)) h.left
 step_leads (AName role ∷ stack) rest values scope functions h = name_leads role _ (AName role) stack rest values scope functions h.bottom (name_is_not_last (next_of rest)) h.left
 step_leads (AConstant ∷ stack) rest values scope functions h = constant_leads _ AConstant stack rest values scope functions h.bottom (constant_is_not_last (next_of rest)) h.left
 step_leads (AnEnd ∷ stack) rest values scope functions h = end_leads _ stack rest values scope functions h.bottom h.left
 step_leads (Part symbol ∷ stack) rest values scope functions h = replaced_leads symbol _ stack rest values scope functions (choice_fits symbol (next_of rest) _) h
 step_leads (Make rule ∷ stack) rest values scope functions h = record { bottom = h.bottom; left = left_same (Make rule) stack stack rest h.left }
-step_leads (Shut ∷ stack) rest values scope functions h = record { bottom = h.bottom; left = left_same Shut stack stack rest h.left }
+step_leads (Close ∷ stack) rest values scope functions h = record { bottom = h.bottom; left = left_same Close stack stack rest h.left }
 
 guarded_leads : (b : Bool) (o : Option State) → Leads o → Leads (if b then None else o)
 guarded_leads true o h = tt
@@ -251,20 +251,20 @@ run_grounded zero s h = h
 run_grounded (suc n) s h = run_grounded n (stepped s)
     (kept_grounded s (step s) h (guarded_leads (is_fault (next_of s.rest)) _ (step_leads s.stack s.rest s.values s.scope s.functions h)))
 
-start_left : (lexemes : List Lexeme) → EndsWithLast lexemes → Left (Part Source ∷ []) lexemes
+start_left : (located_tokens : List LocatedToken) → EndsWithLast located_tokens → Left (Part Source ∷ []) located_tokens
 start_left [] h = absurd h
-start_left (lexeme ∷ rest) h = h
+start_left (located_token ∷ rest) h = h
 
-some_left : (profile : Profile) (f : Fault) (stack : List Item) (rest : List Lexeme) (values : List Value) (scope : Scope) (functions : List Definition) →
+some_left : (profile : Profile) (f : Fault) (stack : List Item) (rest : List LocatedToken) (values : List Value) (scope : Scope) (functions : List Definition) →
     Left stack rest → IsIn f (faults_of profile stack rest values scope functions) → 0 < length rest
 some_left profile f [] [] values scope functions left h = absurd h
 some_left profile f (item ∷ stack) [] values scope functions left h = absurd cc
-some_left profile f stack (lexeme ∷ rest) values scope functions left h = omega arith
+some_left profile f stack (located_token ∷ rest) values scope functions left h = omega arith
 
 -- a fault stands at a token
-pub fault_at_token : (profile : Profile) (lexemes : List Lexeme) (n : ℕ) (f : Fault) → EndsWithLast lexemes →
-    IsIn f (faults_at profile (run n (start lexemes))) → 0 < length (run n (start lexemes)).rest
-fault_at_token profile lexemes n f ends h =
-    let s : State = run n (start lexemes) in
-    let grounded : IsGrounded s.stack s.rest = run_grounded n (start lexemes) (record { bottom = refl; left = start_left lexemes ends }) in
+pub fault_at_token : (profile : Profile) (located_tokens : List LocatedToken) (n : ℕ) (f : Fault) → EndsWithLast located_tokens →
+    IsIn f (faults_at profile (run n (start located_tokens))) → 0 < length (run n (start located_tokens)).rest
+fault_at_token profile located_tokens n f ends h =
+    let s : State = run n (start located_tokens) in
+    let grounded : IsGrounded s.stack s.rest = run_grounded n (start located_tokens) (record { bottom = refl; left = start_left located_tokens ends }) in
     some_left profile f s.stack s.rest s.values s.scope s.functions grounded.left h

@@ -2,19 +2,19 @@
 use Rattle.std.proofs.Common.{◌≡◌, ℕ, zero, suc, ◌+◌, ◌<◌, ◌≤◌, List, [], ◌∷◌, ◌++◌, refl, sym, ap, ◌∙◌, subst, Bool, true, false, arith}
 use Rattle.std.proofs.lemmas.Bool.Decides.{nat_tests}
 use Rattle.std.specs.Prelude.{Option, Some, None, nat_lt, if◌then◌else◌}
-use Rattle.tokens.specs.declared.lexemes.Lexeme.{Lexeme}
-use Rattle.tokens.specs.declared.lexemes.Mark.{Mark}
-use Rattle.tokens.specs.declared.lexemes.Mark.TheVariants as mark
-use Rattle.tokens.specs.declared.lexemes.Token.{Token}
-use Rattle.tokens.specs.declared.lexemes.Token.TheVariants as token
-use Rattle.tokens.specs.declared.lexemes.Word.TheVariants as word
+use Rattle.tokens.specs.declared.located_tokens.LocatedToken.{LocatedToken}
+use Rattle.tokens.specs.declared.located_tokens.Punctuator.{Punctuator}
+use Rattle.tokens.specs.declared.located_tokens.Punctuator.TheVariants as punctuator
+use Rattle.tokens.specs.declared.located_tokens.Token.{Token}
+use Rattle.tokens.specs.declared.located_tokens.Token.TheVariants as token
+use Rattle.tokens.specs.declared.located_tokens.Word.TheVariants as word
 use Rattle.grammar.specs.declared.operators.Op.{Op}
 use Rattle.grammar.specs.declared.operators.StoreOp.{StoreOp}
 use Rattle.grammar.specs.Derivation.{State, state, Value, Definition, step, step_of, stepped, run, next_of, after_of, matched, name_matched, replaced, constant_matched}
-use Rattle.grammar.specs.Grammar.{Symbol, Source, Types, Head, More, Parameters, ParameterTypes, FunctionBlock, Block, Declarations, Statements, Statement, ElsePart, Back, Expression, Level, Tail, Unary, Primary, Arguments, MoreArguments, Role, Item, Exactly, AWord, AName, AConstant, AnEnd, Part, Make, Shut, Production, choice, assignment_or, tail_production, is_fault}
+use Rattle.grammar.specs.Grammar.{Symbol, Source, Types, Head, More, Parameters, ParameterTypes, FunctionBlock, Block, Declarations, Statements, Statement, ElsePart, Back, Expression, Level, Tail, Unary, Primary, Arguments, MoreArguments, Role, Item, Exactly, AWord, AName, AConstant, AnEnd, Part, Make, Close, Production, choice, assignment_or, tail_production, is_fault}
 use Rattle.grammar.specs.Operators.{operator_at, store_of}
 use Rattle.grammar.specs.Scope.{Scope}
-use Rattle.grammar.specs.Weight.{cost, costs, credit_of, credit, weight}
+use Rattle.grammar.proofs.Weight.{cost, costs, credit_of, credit, weight}
 
 abbrev load : List Item → ℕ
 load stack = costs stack + credit stack
@@ -45,7 +45,7 @@ credit_small : (stack : List Item) → credit stack ≤ 40
 credit_small [] = omega arith
 credit_small (Part symbol ∷ stack) = symbol_small symbol
 credit_small (Make rule ∷ stack) = omega arith
-credit_small (Shut ∷ stack) = omega arith
+credit_small (Close ∷ stack) = omega arith
 credit_small (Exactly m ∷ stack) = omega arith
 credit_small (AWord w ∷ stack) = omega arith
 credit_small (AName role ∷ stack) = omega arith
@@ -67,11 +67,11 @@ empty_lighter symbol most stack = let one : 1 ≤ cost (Part symbol) = costs_one
     costs_one Back = omega arith
     costs_one symbol = omega arith
 
-tail_lighter : (n : ℕ) (o : Option Op) (m : Mark) → Lighter (Tail n) (Some (tail_production n o m))
+tail_lighter : (n : ℕ) (o : Option Op) (m : Punctuator) → Lighter (Tail n) (Some (tail_production n o m))
 tail_lighter n None m = empty_lighter (Tail n) refl
 tail_lighter n (Some op) m = λ stack. omega arith
 
-assignment_lighter : (o : Option StoreOp) (m : Mark) → Lighter Expression (Some (assignment_or o m))
+assignment_lighter : (o : Option StoreOp) (m : Punctuator) → Lighter Expression (Some (assignment_or o m))
 assignment_lighter None m = λ stack. omega arith
 assignment_lighter (Some op) m = λ stack. omega arith
 
@@ -86,17 +86,17 @@ expression_lighter : Lighter Statement (choice Statement token.End token.End)
 expression_lighter = λ stack. omega arith
 
 statement_lighter : (t after : Token) → Lighter Statement (choice Statement t after)
-statement_lighter (token.Mark mark.Semicolon) after = λ stack. omega arith
-statement_lighter (token.Mark mark.OpenCurly) after = λ stack. omega arith
+statement_lighter (token.Punctuator punctuator.Semicolon) after = λ stack. omega arith
+statement_lighter (token.Punctuator punctuator.OpenCurly) after = λ stack. omega arith
 statement_lighter (token.Word word.If) after = λ stack. omega arith
 statement_lighter (token.Word word.While) after = λ stack. omega arith
 statement_lighter (token.Word word.Return) after = λ stack. omega arith
 statement_lighter t after = expression_lighter
 
 name_lighter : (after : Token) → Lighter Primary (choice Primary (token.Name []) after)
-name_lighter (token.Mark mark.OpenRound) = λ stack. omega arith
-name_lighter (token.Mark mark.PlusPlus) = λ stack. omega arith
-name_lighter (token.Mark mark.MinusMinus) = λ stack. omega arith
+name_lighter (token.Punctuator punctuator.OpenRound) = λ stack. omega arith
+name_lighter (token.Punctuator punctuator.PlusPlus) = λ stack. omega arith
+name_lighter (token.Punctuator punctuator.MinusMinus) = λ stack. omega arith
 name_lighter after = plain_lighter
   where
     plain_lighter : Lighter Primary (choice Primary (token.Name []) token.End)
@@ -105,15 +105,15 @@ name_lighter after = plain_lighter
 primary_lighter : (t after : Token) → Lighter Primary (choice Primary t after)
 primary_lighter (token.Constant value) after = λ stack. omega arith
 primary_lighter (token.Name name) after = name_lighter after
-primary_lighter (token.Mark mark.OpenRound) after = λ stack. omega arith
+primary_lighter (token.Punctuator punctuator.OpenRound) after = λ stack. omega arith
 primary_lighter t after = tt
 
 unary_lighter : (t after : Token) → Lighter Unary (choice Unary t after)
-unary_lighter (token.Mark mark.Minus) after = λ stack. omega arith
-unary_lighter (token.Mark mark.Not) after = λ stack. omega arith
-unary_lighter (token.Mark mark.Tilde) after = λ stack. omega arith
-unary_lighter (token.Mark mark.PlusPlus) after = λ stack. omega arith
-unary_lighter (token.Mark mark.MinusMinus) after = λ stack. omega arith
+unary_lighter (token.Punctuator punctuator.Minus) after = λ stack. omega arith
+unary_lighter (token.Punctuator punctuator.Not) after = λ stack. omega arith
+unary_lighter (token.Punctuator punctuator.Tilde) after = λ stack. omega arith
+unary_lighter (token.Punctuator punctuator.PlusPlus) after = λ stack. omega arith
+unary_lighter (token.Punctuator punctuator.MinusMinus) after = λ stack. omega arith
 unary_lighter t after = plain_lighter
   where
     plain_lighter : Lighter Unary (choice Unary token.End token.End)
@@ -123,7 +123,7 @@ external_lighter : Lighter Head (choice Head (token.Name []) token.End)
 external_lighter = λ stack. omega arith
 
 head_lighter : (t after : Token) → Lighter Head (choice Head t after)
-head_lighter (token.Name name) (token.Mark mark.OpenRound) = λ stack. omega arith
+head_lighter (token.Name name) (token.Punctuator punctuator.OpenRound) = λ stack. omega arith
 head_lighter (token.Name name) after = external_lighter
 head_lighter t after = tt
 
@@ -150,35 +150,35 @@ lighter Source t after = tt
 lighter Types (token.Word word.Type) after = λ stack. omega arith
 lighter Types t after = empty_lighter Types refl
 lighter Head t after = head_lighter t after
-lighter (More role) (token.Mark mark.Comma) after = λ stack. omega arith
+lighter (More role) (token.Punctuator punctuator.Comma) after = λ stack. omega arith
 lighter (More role) t after = empty_lighter (More role) refl
 lighter Parameters (token.Name name) after = λ stack. omega arith
 lighter Parameters t after = empty_lighter Parameters refl
 lighter ParameterTypes (token.Word word.Type) after = λ stack. omega arith
 lighter ParameterTypes t after = empty_lighter ParameterTypes refl
-lighter FunctionBlock (token.Mark mark.OpenCurly) after = λ stack. omega arith
+lighter FunctionBlock (token.Punctuator punctuator.OpenCurly) after = λ stack. omega arith
 lighter FunctionBlock t after = tt
-lighter Block (token.Mark mark.OpenCurly) after = λ stack. omega arith
+lighter Block (token.Punctuator punctuator.OpenCurly) after = λ stack. omega arith
 lighter Block t after = tt
 lighter Declarations (token.Word word.Type) after = λ stack. omega arith
 lighter Declarations t after = empty_lighter Declarations refl
-lighter Statements (token.Mark mark.CloseCurly) after = empty_lighter Statements refl
+lighter Statements (token.Punctuator punctuator.CloseCurly) after = empty_lighter Statements refl
 lighter Statements t after = more_statements_lighter
 lighter Statement t after = statement_lighter t after
 lighter ElsePart (token.Word word.Else) after = λ stack. omega arith
 lighter ElsePart t after = rule_lighter
-lighter Back (token.Mark mark.Semicolon) after = λ stack. omega arith
+lighter Back (token.Punctuator punctuator.Semicolon) after = λ stack. omega arith
 lighter Back t after = back_lighter
-lighter Expression (token.Name name) (token.Mark m) = assignment_lighter (store_of m) m
+lighter Expression (token.Name name) (token.Punctuator m) = assignment_lighter (store_of m) m
 lighter Expression t after = level_one_lighter
 lighter (Level n) t after = level_lighter n (nat_lt n 11) refl
-lighter (Tail n) (token.Mark m) after = tail_lighter n (operator_at n (token.Mark m)) m
+lighter (Tail n) (token.Punctuator m) after = tail_lighter n (operator_at n (token.Punctuator m)) m
 lighter (Tail n) t after = empty_lighter (Tail n) refl
 lighter Unary t after = unary_lighter t after
 lighter Primary t after = primary_lighter t after
-lighter Arguments (token.Mark mark.CloseRound) after = empty_lighter Arguments refl
+lighter Arguments (token.Punctuator punctuator.CloseRound) after = empty_lighter Arguments refl
 lighter Arguments t after = argument_lighter
-lighter MoreArguments (token.Mark mark.Comma) after = λ stack. omega arith
+lighter MoreArguments (token.Punctuator punctuator.Comma) after = λ stack. omega arith
 lighter MoreArguments t after = empty_lighter MoreArguments refl
 
 abbrev Falls : ℕ → Option State → Type 0
@@ -186,41 +186,41 @@ Falls n None = Unit {0}
 Falls n (Some t) = weight t < n
 
 -- the item that was matched is gone, and so is its token
-matched_falls : (fits : Bool) (item : Item) (stack : List Item) (lexeme : Lexeme) (rest : List Lexeme) (values : List Value) (scope : Scope) (functions : List Definition) →
-    1 ≤ cost item → Falls (weight (state (item ∷ stack) (lexeme ∷ rest) values scope functions)) (matched fits stack (lexeme ∷ rest) values scope functions)
-matched_falls false item stack lexeme rest values scope functions h = tt
-matched_falls true item stack lexeme rest values scope functions h = omega (arith, credit_small stack)
+matched_falls : (fits : Bool) (item : Item) (stack : List Item) (located_token : LocatedToken) (rest : List LocatedToken) (values : List Value) (scope : Scope) (functions : List Definition) →
+    1 ≤ cost item → Falls (weight (state (item ∷ stack) (located_token ∷ rest) values scope functions)) (matched fits stack (located_token ∷ rest) values scope functions)
+matched_falls false item stack located_token rest values scope functions h = tt
+matched_falls true item stack located_token rest values scope functions h = omega (arith, credit_small stack)
 
-name_falls : (role : Role) (name : Option (List ℕ)) (stack : List Item) (lexeme : Lexeme) (rest : List Lexeme) (values : List Value) (scope : Scope) (functions : List Definition) →
-    Falls (weight (state (AName role ∷ stack) (lexeme ∷ rest) values scope functions)) (name_matched role name stack (lexeme ∷ rest) values scope functions)
-name_falls role None stack lexeme rest values scope functions = tt
-name_falls role (Some name) stack lexeme rest values scope functions = omega (arith, credit_small stack)
+name_falls : (role : Role) (name : Option (List ℕ)) (stack : List Item) (located_token : LocatedToken) (rest : List LocatedToken) (values : List Value) (scope : Scope) (functions : List Definition) →
+    Falls (weight (state (AName role ∷ stack) (located_token ∷ rest) values scope functions)) (name_matched role name stack (located_token ∷ rest) values scope functions)
+name_falls role None stack located_token rest values scope functions = tt
+name_falls role (Some name) stack located_token rest values scope functions = omega (arith, credit_small stack)
 
-constant_falls : (value : Option ℕ) (stack : List Item) (lexeme : Lexeme) (rest : List Lexeme) (values : List Value) (scope : Scope) (functions : List Definition) →
-    Falls (weight (state (AConstant ∷ stack) (lexeme ∷ rest) values scope functions)) (constant_matched value stack (lexeme ∷ rest) values scope functions)
-constant_falls None stack lexeme rest values scope functions = tt
-constant_falls (Some value) stack lexeme rest values scope functions = omega (arith, credit_small stack)
+constant_falls : (value : Option ℕ) (stack : List Item) (located_token : LocatedToken) (rest : List LocatedToken) (values : List Value) (scope : Scope) (functions : List Definition) →
+    Falls (weight (state (AConstant ∷ stack) (located_token ∷ rest) values scope functions)) (constant_matched value stack (located_token ∷ rest) values scope functions)
+constant_falls None stack located_token rest values scope functions = tt
+constant_falls (Some value) stack located_token rest values scope functions = omega (arith, credit_small stack)
 
-replaced_falls : (symbol : Symbol) (items : Production) (stack : List Item) (rest : List Lexeme) (values : List Value) (scope : Scope) (functions : List Definition) →
+replaced_falls : (symbol : Symbol) (items : Production) (stack : List Item) (rest : List LocatedToken) (values : List Value) (scope : Scope) (functions : List Definition) →
     Lighter symbol items → Falls (weight (state (Part symbol ∷ stack) rest values scope functions)) (replaced items stack rest values scope functions)
 replaced_falls symbol None stack rest values scope functions h = tt
 replaced_falls symbol (Some items) stack rest values scope functions h = omega (arith, h stack)
 
-falls_of : (stack : List Item) (rest : List Lexeme) (values : List Value) (scope : Scope) (functions : List Definition) → Falls (weight (state stack rest values scope functions)) (step_of stack rest values scope functions)
+falls_of : (stack : List Item) (rest : List LocatedToken) (values : List Value) (scope : Scope) (functions : List Definition) → Falls (weight (state stack rest values scope functions)) (step_of stack rest values scope functions)
 falls_of [] rest values scope functions = tt
 falls_of (Exactly m ∷ stack) [] values scope functions = tt
-falls_of (Exactly m ∷ stack) (lexeme ∷ rest) values scope functions = matched_falls _ (Exactly m) stack lexeme rest values scope functions (omega arith)
+falls_of (Exactly m ∷ stack) (located_token ∷ rest) values scope functions = matched_falls _ (Exactly m) stack located_token rest values scope functions (omega arith)
 falls_of (AWord w ∷ stack) [] values scope functions = tt
-falls_of (AWord w ∷ stack) (lexeme ∷ rest) values scope functions = matched_falls _ (AWord w) stack lexeme rest values scope functions (omega arith)
+falls_of (AWord w ∷ stack) (located_token ∷ rest) values scope functions = matched_falls _ (AWord w) stack located_token rest values scope functions (omega arith)
 falls_of (AName role ∷ stack) [] values scope functions = tt
-falls_of (AName role ∷ stack) (lexeme ∷ rest) values scope functions = name_falls role _ stack lexeme rest values scope functions
+falls_of (AName role ∷ stack) (located_token ∷ rest) values scope functions = name_falls role _ stack located_token rest values scope functions
 falls_of (AnEnd ∷ stack) [] values scope functions = omega (arith, credit_small stack)
-falls_of (AnEnd ∷ stack) (lexeme ∷ rest) values scope functions = matched_falls _ AnEnd stack lexeme rest values scope functions (omega arith)
+falls_of (AnEnd ∷ stack) (located_token ∷ rest) values scope functions = matched_falls _ AnEnd stack located_token rest values scope functions (omega arith)
 falls_of (AConstant ∷ stack) [] values scope functions = tt
-falls_of (AConstant ∷ stack) (lexeme ∷ rest) values scope functions = constant_falls _ stack lexeme rest values scope functions
+falls_of (AConstant ∷ stack) (located_token ∷ rest) values scope functions = constant_falls _ stack located_token rest values scope functions
 falls_of (Part symbol ∷ stack) rest values scope functions = replaced_falls symbol _ stack rest values scope functions (lighter symbol (next_of rest) (after_of rest))
 falls_of (Make rule ∷ stack) rest values scope functions = omega (arith, credit_small stack)
-falls_of (Shut ∷ stack) rest values scope functions = omega (arith, credit_small stack)
+falls_of (Close ∷ stack) rest values scope functions = omega (arith, credit_small stack)
 
 guarded_falls : (b : Bool) (n : ℕ) (o : Option State) → Falls n o → Falls n (if b then None else o)
 guarded_falls true n o h = tt

@@ -5,7 +5,7 @@ use Rattle.std.proofs.lemmas.Option.{slice_get_within}
 use Rattle.std.specs.List.{list_any}
 use Rattle.std.specs.Option.{is_some}
 use Rattle.std.specs.Prelude.{Option, Some, None, Ok, Err, if◌then◌else◌, slice_get, ◌==◌, ◌||◌, map}
-use Rattle.tokens.specs.declared.lexemes.Lexeme.{Lexeme}
+use Rattle.tokens.specs.declared.located_tokens.LocatedToken.{LocatedToken}
 use Rattle.grammar.specs.declared.diagnostics.Code.TheVariants as code
 use Rattle.grammar.specs.Actions.{numbered_actions, functions_actions}
 use Rattle.grammar.specs.Compiled.{compiled_tokens, diagnostic, last_line, defined_as, in_front, all_defined, file_of, main_name, order_of, resolved}
@@ -134,8 +134,8 @@ at_end scope ds = state [] [] [] scope ds
 begun_at_end : (scope : Scope) (ds : List Definition) → Sound (at_end scope ds) → scope.begun ≡ order_of ds
 begun_at_end scope ds s = s.tied.begun
 
-verdict_at_end : (profile : Profile) (lexemes : List Lexeme) (scope : Scope) (ds : List Definition) → PassesAll profile lexemes scope ds → compiled_tokens profile lexemes ≡ resolved lexemes scope ds
-verdict_at_end profile lexemes scope ds p = clean_verdict profile lexemes (at_end scope ds) p refl refl
+verdict_at_end : (profile : Profile) (located_tokens : List LocatedToken) (scope : Scope) (ds : List Definition) → PassesAll profile located_tokens scope ds → compiled_tokens profile located_tokens ≡ resolved located_tokens scope ds
+verdict_at_end profile located_tokens scope ds p = clean_verdict profile located_tokens (at_end scope ds) p refl refl
 
 module _ (scope : Scope) (ds : List Definition) (s : Sound (at_end scope ds)) (a : AreAll 0 scope.lines ds) where
   each_at : (k : ℕ) → k < length scope.functions → slice_get a.functions k ≡ defined_as k ds
@@ -156,13 +156,13 @@ abbrev file_at : Scope → List Definition → List Function → ℕ → File
 file_at scope ds functions main = record { externals = scope.externals; functions = functions; order = order_of ds; main = main }
 
 -- where each function is defined, and main is one of them, there is the file
-resolved_at : (lexemes : List Lexeme) (scope : Scope) (ds : List Definition) (functions : List Function) (main : ℕ) → all_defined 0 scope.lines ds ≡ Ok functions →
-    function_number main_name scope ≡ Some main → resolved lexemes scope ds ≡ Ok (file_at scope ds functions main)
-resolved_at lexemes scope ds functions main all named = rw (all, named) refl
+resolved_at : (located_tokens : List LocatedToken) (scope : Scope) (ds : List Definition) (functions : List Function) (main : ℕ) → all_defined 0 scope.lines ds ≡ Ok functions →
+    function_number main_name scope ≡ Some main → resolved located_tokens scope ds ≡ Ok (file_at scope ds functions main)
+resolved_at located_tokens scope ds functions main all named = rw (all, named) refl
 
-without_main_at : (lexemes : List Lexeme) (scope : Scope) (ds : List Definition) (functions : List Function) → all_defined 0 scope.lines ds ≡ Ok functions →
-    function_number main_name scope ≡ None → resolved lexemes scope ds ≡ Err (diagnostic (last_line lexemes) code.NoMainFunction)
-without_main_at lexemes scope ds functions all named = rw (all, named) refl
+without_main_at : (located_tokens : List LocatedToken) (scope : Scope) (ds : List Definition) (functions : List Function) → all_defined 0 scope.lines ds ≡ Ok functions →
+    function_number main_name scope ≡ None → resolved located_tokens scope ds ≡ Err (diagnostic (last_line located_tokens) code.NoMainFunction)
+without_main_at located_tokens scope ds functions all named = rw (all, named) refl
 
 names_same : (scope : Scope) (ds : List Definition) (functions : List Function) (main : ℕ) → map names_of_function functions ≡ scope.functions → known_names scope ≡ names_of (file_at scope ds functions main)
 names_same scope ds functions main e = rw e refl
@@ -180,32 +180,32 @@ is_none_value : (o : Option ℕ) → is_some o ≡ false → o ≡ None
 is_none_value None e = refl
 is_none_value (Some n) e = absurd (cc)
 
-all_at_end : (profile : Profile) (lexemes : List Lexeme) (scope : Scope) (ds : List Definition) → PassesAll profile lexemes scope ds → line_of_undefined 0 scope.lines scope.begun ≡ None → AreAll 0 scope.lines ds
-all_at_end profile lexemes scope ds p e =
-    all_are 0 scope.lines ds (subst (λ (ns : List ℕ). line_of_undefined 0 scope.lines ns ≡ None) (begun_at_end scope ds (sound_of_passes profile lexemes (at_end scope ds) p)) e)
+all_at_end : (profile : Profile) (located_tokens : List LocatedToken) (scope : Scope) (ds : List Definition) → PassesAll profile located_tokens scope ds → line_of_undefined 0 scope.lines scope.begun ≡ None → AreAll 0 scope.lines ds
+all_at_end profile located_tokens scope ds p e =
+    all_are 0 scope.lines ds (subst (λ (ns : List ℕ). line_of_undefined 0 scope.lines ns ≡ None) (begun_at_end scope ds (sound_of_passes profile located_tokens (at_end scope ds) p)) e)
 
 pub finished : Finished
-finished profile lexemes scope ds p e has =
-    let s : Sound (at_end scope ds) = sound_of_passes profile lexemes (at_end scope ds) p in
-    let a : AreAll 0 scope.lines ds = all_at_end profile lexemes scope ds p e in
+finished profile located_tokens scope ds p e has =
+    let s : Sound (at_end scope ds) = sound_of_passes profile located_tokens (at_end scope ds) p in
+    let a : AreAll 0 scope.lines ds = all_at_end profile located_tokens scope ds p e in
     let main : IsSome (function_number main_name scope) = is_some_value (function_number main_name scope) has in
-    let compiled : compiled_tokens profile lexemes ≡ Ok (file_at scope ds a.functions main.value) = verdict_at_end profile lexemes scope ds p ∙ resolved_at lexemes scope ds a.functions main.value a.are main.is in
+    let compiled : compiled_tokens profile located_tokens ≡ Ok (file_at scope ds a.functions main.value) = verdict_at_end profile located_tokens scope ds p ∙ resolved_at located_tokens scope ds a.functions main.value a.are main.is in
     record {
       file = file_at scope ds a.functions main.value;
       compiled = compiled;
-      resolved = compiled_is_resolved profile lexemes (file_at scope ds a.functions main.value) compiled;
-      named = names_same scope ds a.functions main.value (names_at scope ds s a (named_of_passes profile lexemes (at_end scope ds) p));
+      resolved = compiled_is_resolved profile located_tokens (file_at scope ds a.functions main.value) compiled;
+      named = names_same scope ds a.functions main.value (names_at scope ds s a (named_of_passes profile located_tokens (at_end scope ds) p));
       main = main.is;
       told = told_at scope ds s a;
     }
 
 pub undefined : Undefined
-undefined profile lexemes scope ds line p e =
-    verdict_at_end profile lexemes scope ds p
-    ∙ ap (λ all. file_of (last_line lexemes) scope (order_of ds) all (function_number main_name scope)) (one_is_not 0 scope.lines ds line
-    (subst (λ (ns : List ℕ). line_of_undefined 0 scope.lines ns ≡ Some line) (begun_at_end scope ds (sound_of_passes profile lexemes (at_end scope ds) p)) e))
+undefined profile located_tokens scope ds line p e =
+    verdict_at_end profile located_tokens scope ds p
+    ∙ ap (λ all. file_of (last_line located_tokens) scope (order_of ds) all (function_number main_name scope)) (one_is_not 0 scope.lines ds line
+    (subst (λ (ns : List ℕ). line_of_undefined 0 scope.lines ns ≡ Some line) (begun_at_end scope ds (sound_of_passes profile located_tokens (at_end scope ds) p)) e))
 
 pub without_main : WithoutMain
-without_main profile lexemes scope ds p e has =
-    let a : AreAll 0 scope.lines ds = all_at_end profile lexemes scope ds p e in
-    verdict_at_end profile lexemes scope ds p ∙ without_main_at lexemes scope ds a.functions a.are (is_none_value (function_number main_name scope) has)
+without_main profile located_tokens scope ds p e has =
+    let a : AreAll 0 scope.lines ds = all_at_end profile located_tokens scope ds p e in
+    verdict_at_end profile located_tokens scope ds p ∙ without_main_at located_tokens scope ds a.functions a.are (is_none_value (function_number main_name scope) has)

@@ -2,16 +2,16 @@
 use Rattle.std.proofs.Common.{◌≡◌, ℕ, zero, suc, ◌<◌, ◌≤◌, List, [], ◌∷◌, ◌++◌, refl, sym, ap, ◌∙◌, subst, inl, inr, Bool, true, false, arith, length, drop, le_refl, le_trans, lt-ltb, append-nil}
 use Rattle.std.proofs.lemmas.Bool.Decides.{nat_tests}
 use Rattle.std.specs.Prelude.{Option, Some, None, unwrap_or, nat_le, nat_lt, if◌then◌else◌}
-use Rattle.tokens.specs.declared.lexemes.Lexeme.{Lexeme}
-use Rattle.tokens.specs.declared.lexemes.Mark.{Mark}
-use Rattle.tokens.specs.declared.lexemes.Mark.TheVariants as mark
-use Rattle.tokens.specs.declared.lexemes.Word.{Word}
+use Rattle.tokens.specs.declared.located_tokens.LocatedToken.{LocatedToken}
+use Rattle.tokens.specs.declared.located_tokens.Punctuator.{Punctuator}
+use Rattle.tokens.specs.declared.located_tokens.Punctuator.TheVariants as punctuator
+use Rattle.tokens.specs.declared.located_tokens.Word.{Word}
 use Rattle.grammar.specs.declared.diagnostics.Code.{Code}
 use Rattle.grammar.specs.declared.diagnostics.Code.TheVariants as code
 use Rattle.grammar.specs.Compiled.{diagnostic}
 use Rattle.grammar.specs.Derivation.{State, state, Value, Definition, definition_of, last_body, stepped, step, step_of, run, next_of, after_of, line_of, name_of_token, matched, name_matched, replaced, constant_matched}
 use Rattle.grammar.specs.Faults.{Fault, fault, faults_at, is_first, item_faults, level_faults, length_faults, name_faults, role_faults, no_room, misfits, misfit_code, levels, number_of, most_levels, most_names, is_too_long, only_if}
-use Rattle.grammar.specs.Grammar.{Item, Exactly, AWord, AName, AConstant, AnEnd, Part, Make, Shut, Symbol, Role, Defined, External, Parameter, Typed, Local, Called, Mentioned, Define, Production, choice, opens, is_mark, is_word, is_fault}
+use Rattle.grammar.specs.Grammar.{Item, Exactly, AWord, AName, AConstant, AnEnd, Part, Make, Close, Symbol, Role, Defined, External, Parameter, Typed, Local, Called, Mentioned, Define, Production, choice, opens, is_punctuator, is_word, is_fault}
 use Rattle.grammar.specs.Intrinsics.{is_intrinsic}
 use Rattle.grammar.specs.Parsing.{IsIn, IsFirstFault, Fails}
 use Rattle.grammar.specs.Profile.{Profile}
@@ -42,34 +42,34 @@ stuck profile s f still faults = record {
       subst (λ (x : Fault). is_first f x ≡ true) same (reflexive f);
 }
 
-pub fails_stuck : (profile : Profile) (s : State) (rest : List Lexeme) (c : Code) → stepped s ≡ s → faults_at profile s ≡ fault rest c ∷ [] →
+pub fails_stuck : (profile : Profile) (s : State) (rest : List LocatedToken) (c : Code) → stepped s ≡ s → faults_at profile s ≡ fault rest c ∷ [] →
     Fails profile s (diagnostic (line_of rest) c)
 fails_stuck profile s rest c still faults = record { fault = fault rest c; first = stuck profile s (fault rest c) still faults; line = refl; code = refl }
 
 -- a fault fits nothing
-pub at_fault : (profile : Profile) (stack : List Item) (rest : List Lexeme) (values : List Value) (scope : Scope) (functions : List Definition) →
+pub at_fault : (profile : Profile) (stack : List Item) (rest : List LocatedToken) (values : List Value) (scope : Scope) (functions : List Definition) →
     is_fault (next_of rest) ≡ true → Fails profile (state stack rest values scope functions) (diagnostic (line_of rest) (misfit_code (next_of rest)))
 at_fault profile stack rest values scope functions is = fails_stuck profile _ rest _ (rw is refl) (rw is refl)
 
-pub no_part : (profile : Profile) (symbol : Symbol) (stack : List Item) (rest : List Lexeme) (values : List Value) (scope : Scope) (functions : List Definition) →
+pub no_part : (profile : Profile) (symbol : Symbol) (stack : List Item) (rest : List LocatedToken) (values : List Value) (scope : Scope) (functions : List Definition) →
     is_fault (next_of rest) ≡ false → choice symbol (next_of rest) (after_of rest) ≡ None → level_faults symbol stack rest ≡ [] →
     Fails profile (state (Part symbol ∷ stack) rest values scope functions) (diagnostic (line_of rest) (misfit_code (next_of rest)))
 no_part profile symbol stack rest values scope functions sound none clean =
     fails_stuck profile _ rest _ (rw (sound, none) refl) (rw (sound, clean, none) refl)
 
-pub no_mark : (profile : Profile) (m : Mark) (stack : List Item) (rest : List Lexeme) (values : List Value) (scope : Scope) (functions : List Definition) →
-    is_fault (next_of rest) ≡ false → is_mark m (next_of rest) ≡ false →
+pub no_punctuator : (profile : Profile) (m : Punctuator) (stack : List Item) (rest : List LocatedToken) (values : List Value) (scope : Scope) (functions : List Definition) →
+    is_fault (next_of rest) ≡ false → is_punctuator m (next_of rest) ≡ false →
     Fails profile (state (Exactly m ∷ stack) rest values scope functions) (diagnostic (line_of rest) (misfit_code (next_of rest)))
-no_mark profile m stack rest values scope functions sound none =
+no_punctuator profile m stack rest values scope functions sound none =
     fails_stuck profile _ rest _ (rw (sound, none) refl) (rw (sound, none) refl)
 
-pub no_word : (profile : Profile) (w : Word) (stack : List Item) (rest : List Lexeme) (values : List Value) (scope : Scope) (functions : List Definition) →
+pub no_word : (profile : Profile) (w : Word) (stack : List Item) (rest : List LocatedToken) (values : List Value) (scope : Scope) (functions : List Definition) →
     is_fault (next_of rest) ≡ false → is_word w (next_of rest) ≡ false →
     Fails profile (state (AWord w ∷ stack) rest values scope functions) (diagnostic (line_of rest) (misfit_code (next_of rest)))
 no_word profile w stack rest values scope functions sound none =
     fails_stuck profile _ rest _ (rw (sound, none) refl) (rw (sound, none) refl)
 
-pub no_name : (profile : Profile) (role : Role) (stack : List Item) (rest : List Lexeme) (values : List Value) (scope : Scope) (functions : List Definition) →
+pub no_name : (profile : Profile) (role : Role) (stack : List Item) (rest : List LocatedToken) (values : List Value) (scope : Scope) (functions : List Definition) →
     is_fault (next_of rest) ≡ false → name_of_token (next_of rest) ≡ None →
     Fails profile (state (AName role ∷ stack) rest values scope functions) (diagnostic (line_of rest) (misfit_code (next_of rest)))
 no_name profile role stack rest values scope functions sound none =
@@ -77,31 +77,31 @@ no_name profile role stack rest values scope functions sound none =
 
 -- A step never gives tokens back.
 
-abbrev Keeps : List Lexeme → Option State → Type 0
+abbrev Keeps : List LocatedToken → Option State → Type 0
 Keeps rest None = Unit {0}
 Keeps rest (Some t) = length t.rest ≤ length rest
 
-fewer : (rest : List Lexeme) → length (drop 1 rest) ≤ length rest
+fewer : (rest : List LocatedToken) → length (drop 1 rest) ≤ length rest
 fewer [] = le_refl 0
-fewer (lexeme ∷ rest) = omega arith
+fewer (located_token ∷ rest) = omega arith
 
-name_keeps : (role : Role) (name : Option (List ℕ)) (stack : List Item) (rest : List Lexeme) (values : List Value) (scope : Scope) (functions : List Definition) → Keeps rest (name_matched role name stack rest values scope functions)
+name_keeps : (role : Role) (name : Option (List ℕ)) (stack : List Item) (rest : List LocatedToken) (values : List Value) (scope : Scope) (functions : List Definition) → Keeps rest (name_matched role name stack rest values scope functions)
 name_keeps role (Some name) stack rest values scope functions = fewer rest
 name_keeps role None stack rest values scope functions = tt
 
-matched_keeps : (fits : Bool) (stack : List Item) (rest : List Lexeme) (values : List Value) (scope : Scope) (functions : List Definition) → Keeps rest (matched fits stack rest values scope functions)
+matched_keeps : (fits : Bool) (stack : List Item) (rest : List LocatedToken) (values : List Value) (scope : Scope) (functions : List Definition) → Keeps rest (matched fits stack rest values scope functions)
 matched_keeps true stack rest values scope functions = fewer rest
 matched_keeps false stack rest values scope functions = tt
 
-constant_keeps : (value : Option ℕ) (stack : List Item) (rest : List Lexeme) (values : List Value) (scope : Scope) (functions : List Definition) → Keeps rest (constant_matched value stack rest values scope functions)
+constant_keeps : (value : Option ℕ) (stack : List Item) (rest : List LocatedToken) (values : List Value) (scope : Scope) (functions : List Definition) → Keeps rest (constant_matched value stack rest values scope functions)
 constant_keeps (Some value) stack rest values scope functions = fewer rest
 constant_keeps None stack rest values scope functions = tt
 
-replaced_keeps : (items : Production) (stack : List Item) (rest : List Lexeme) (values : List Value) (scope : Scope) (functions : List Definition) → Keeps rest (replaced items stack rest values scope functions)
+replaced_keeps : (items : Production) (stack : List Item) (rest : List LocatedToken) (values : List Value) (scope : Scope) (functions : List Definition) → Keeps rest (replaced items stack rest values scope functions)
 replaced_keeps (Some items) stack rest values scope functions = le_refl (length rest)
 replaced_keeps None stack rest values scope functions = tt
 
-step_keeps : (stack : List Item) (rest : List Lexeme) (values : List Value) (scope : Scope) (functions : List Definition) → Keeps rest (step_of stack rest values scope functions)
+step_keeps : (stack : List Item) (rest : List LocatedToken) (values : List Value) (scope : Scope) (functions : List Definition) → Keeps rest (step_of stack rest values scope functions)
 step_keeps [] rest values scope functions = tt
 step_keeps (Exactly m ∷ stack) rest values scope functions = matched_keeps _ stack rest values scope functions
 step_keeps (AWord w ∷ stack) rest values scope functions = matched_keeps _ stack rest values scope functions
@@ -110,9 +110,9 @@ step_keeps (AnEnd ∷ stack) rest values scope functions = matched_keeps _ stack
 step_keeps (AConstant ∷ stack) rest values scope functions = constant_keeps _ stack rest values scope functions
 step_keeps (Part symbol ∷ stack) rest values scope functions = replaced_keeps _ stack rest values scope functions
 step_keeps (Make rule ∷ stack) rest values scope functions = le_refl (length rest)
-step_keeps (Shut ∷ stack) rest values scope functions = le_refl (length rest)
+step_keeps (Close ∷ stack) rest values scope functions = le_refl (length rest)
 
-guarded_keeps : (b : Bool) (rest : List Lexeme) (o : Option State) → Keeps rest o → Keeps rest (if b then None else o)
+guarded_keeps : (b : Bool) (rest : List LocatedToken) (o : Option State) → Keeps rest o → Keeps rest (if b then None else o)
 guarded_keeps true rest o h = tt
 guarded_keeps false rest o h = h
 
@@ -129,30 +129,30 @@ run_keeps (suc n) s = le_trans (run_keeps n (stepped s)) (stepped_keeps s)
 
 -- A fault stands at the next token.
 
-only_if_rest : (g : Fault) (b : Bool) (faults : List Fault) (rest : List Lexeme) → ((IsIn g faults) → g.rest ≡ rest) → IsIn g (only_if b faults) → g.rest ≡ rest
+only_if_rest : (g : Fault) (b : Bool) (faults : List Fault) (rest : List LocatedToken) → ((IsIn g faults) → g.rest ≡ rest) → IsIn g (only_if b faults) → g.rest ≡ rest
 only_if_rest g true faults rest each h = each h
 only_if_rest g false faults rest each h = absurd h
 
-single_rest : (g : Fault) (rest : List Lexeme) (c : Code) → IsIn g (fault rest c ∷ []) → g.rest ≡ rest
+single_rest : (g : Fault) (rest : List LocatedToken) (c : Code) → IsIn g (fault rest c ∷ []) → g.rest ≡ rest
 single_rest g rest c (inl p) = sym (ap (λ (f : Fault). f.rest) p)
 single_rest g rest c (inr h) = absurd h
 
-appended_rest : (g : Fault) (xs ys : List Fault) (rest : List Lexeme) → (IsIn g xs → g.rest ≡ rest) → (IsIn g ys → g.rest ≡ rest) → IsIn g (xs ++ ys) → g.rest ≡ rest
+appended_rest : (g : Fault) (xs ys : List Fault) (rest : List LocatedToken) → (IsIn g xs → g.rest ≡ rest) → (IsIn g ys → g.rest ≡ rest) → IsIn g (xs ++ ys) → g.rest ≡ rest
 appended_rest g [] ys rest p q h = q h
 appended_rest g (x ∷ xs) ys rest p q (inl e) = p (inl e)
 appended_rest g (x ∷ xs) ys rest p q (inr h) = appended_rest g xs ys rest (λ k. p (inr k)) q h
 
-guarded_rest : (g : Fault) (b : Bool) (xs ys : List Fault) (rest : List Lexeme) → (IsIn g xs → g.rest ≡ rest) → (IsIn g ys → g.rest ≡ rest) →
+guarded_rest : (g : Fault) (b : Bool) (xs ys : List Fault) (rest : List LocatedToken) → (IsIn g xs → g.rest ≡ rest) → (IsIn g ys → g.rest ≡ rest) →
     IsIn g (if b then xs else ys) → g.rest ≡ rest
 guarded_rest g true xs ys rest p q h = p h
 guarded_rest g false xs ys rest p q h = q h
 
-no_room_rest : (g : Fault) (new : Bool) (count : ℕ) (c : Code) (rest : List Lexeme) → IsIn g (no_room new count c rest) → g.rest ≡ rest
+no_room_rest : (g : Fault) (new : Bool) (count : ℕ) (c : Code) (rest : List LocatedToken) → IsIn g (no_room new count c rest) → g.rest ≡ rest
 no_room_rest g new count c rest h =
     only_if_rest g new (only_if (nat_le most_names count) (fault rest c ∷ [])) rest
     (only_if_rest g (nat_le most_names count) (fault rest c ∷ []) rest (single_rest g rest c)) h
 
-role_rest : (g : Fault) (role : Role) (name : List ℕ) (scope : Scope) (rest : List Lexeme) → IsIn g (role_faults role name scope rest) → g.rest ≡ rest
+role_rest : (g : Fault) (role : Role) (name : List ℕ) (scope : Scope) (rest : List LocatedToken) → IsIn g (role_faults role name scope rest) → g.rest ≡ rest
 role_rest g Defined name scope rest h =
     guarded_rest g (is_intrinsic name) (fault rest code.IntrinsicRedefined ∷ []) (if has_begun name scope then fault rest code.FunctionDefinedTwice ∷ [] else no_room (is_function_new name scope) (length scope.functions) code.TooManyFunctions rest) rest
     (single_rest g rest code.IntrinsicRedefined)
@@ -168,11 +168,11 @@ role_rest g Local name scope rest h = no_room_rest g (is_local_new name scope) (
 role_rest g Called name scope rest h = no_room_rest g (is_function_new name scope) (length scope.functions) code.TooManyFunctions rest h
 role_rest g Mentioned name scope rest h = no_room_rest g (is_variable_new name scope) (length scope.current.variables) code.TooManyVariables rest h
 
-name_rest : (g : Fault) (role : Role) (name : Option (List ℕ)) (scope : Scope) (rest : List Lexeme) → IsIn g (name_faults role name scope rest) → g.rest ≡ rest
+name_rest : (g : Fault) (role : Role) (name : Option (List ℕ)) (scope : Scope) (rest : List LocatedToken) → IsIn g (name_faults role name scope rest) → g.rest ≡ rest
 name_rest g role None scope rest h = absurd h
 name_rest g role (Some name) scope rest h = role_rest g role name scope rest h
 
-item_rest : (profile : Profile) (g : Fault) (stack : List Item) (rest : List Lexeme) (values : List Value) (scope : Scope) (functions : List Definition) →
+item_rest : (profile : Profile) (g : Fault) (stack : List Item) (rest : List LocatedToken) (values : List Value) (scope : Scope) (functions : List Definition) →
     IsIn g (item_faults profile stack rest values scope functions) → g.rest ≡ rest
 item_rest profile g [] rest values scope functions h = absurd h
 item_rest profile g (Exactly m ∷ stack) rest values scope functions h = absurd h
@@ -186,9 +186,9 @@ item_rest profile g (Part symbol ∷ stack) rest values scope functions h =
 item_rest profile g (Make Define ∷ stack) rest values scope functions h =
     only_if_rest g (is_too_long profile (functions ++ definition_of scope (last_body values) ∷ [])) (fault rest code.TooMuchCode ∷ []) rest (single_rest g rest code.TooMuchCode) h
 item_rest profile g (Make rule ∷ stack) rest values scope functions h = absurd h
-item_rest profile g (Shut ∷ stack) rest values scope functions h = absurd h
+item_rest profile g (Close ∷ stack) rest values scope functions h = absurd h
 
-misfits_rest : (g : Fault) (stack : List Item) (rest : List Lexeme) (next : Option State) → IsIn g (misfits stack rest next) → g.rest ≡ rest
+misfits_rest : (g : Fault) (stack : List Item) (rest : List LocatedToken) (next : Option State) → IsIn g (misfits stack rest next) → g.rest ≡ rest
 misfits_rest g [] rest next h = absurd h
 misfits_rest g (item ∷ stack) rest None h = single_rest g rest _ h
 misfits_rest g (item ∷ stack) rest (Some s) h = absurd h
@@ -243,55 +243,55 @@ none_in f [] e g h = absurd h
 none_in f (x ∷ faults) e g h = absurd (cc)
 
 -- A name with a fault of its role.
-pub name_fails : (profile : Profile) (role : Role) (name : List ℕ) (c : Code) (stack : List Item) (lexeme : Lexeme) (rest : List Lexeme) (values : List Value) (scope : Scope) (functions : List Definition) →
-    is_fault lexeme.token ≡ false → name_of_token lexeme.token ≡ Some name → role_faults role name scope (lexeme ∷ rest) ≡ fault (lexeme ∷ rest) c ∷ [] →
-    Fails profile (state (AName role ∷ stack) (lexeme ∷ rest) values scope functions) (diagnostic lexeme.line c)
-name_fails profile role name c stack lexeme rest values scope functions sound fits fails = record {
-  fault = fault (lexeme ∷ rest) c;
+pub name_fails : (profile : Profile) (role : Role) (name : List ℕ) (c : Code) (stack : List Item) (located_token : LocatedToken) (rest : List LocatedToken) (values : List Value) (scope : Scope) (functions : List Definition) →
+    is_fault located_token.token ≡ false → name_of_token located_token.token ≡ Some name → role_faults role name scope (located_token ∷ rest) ≡ fault (located_token ∷ rest) c ∷ [] →
+    Fails profile (state (AName role ∷ stack) (located_token ∷ rest) values scope functions) (diagnostic located_token.line c)
+name_fails profile role name c stack located_token rest values scope functions sound fits fails = record {
+  fault = fault (located_token ∷ rest) c;
   first = now_first profile _ _ (rw (sound, fits, fails) refl) (simp (sound, fits) (omega arith));
   line = refl;
   code = refl;
 }
 
 -- The closing brace of the function with which the code is too long.
-pub too_long : (profile : Profile) (stack : List Item) (lexeme : Lexeme) (rest : List Lexeme) (values : List Value) (scope : Scope) (functions : List Definition) →
-    is_fault lexeme.token ≡ false → is_mark mark.CloseCurly lexeme.token ≡ true →
-    length_faults profile scope functions values (lexeme ∷ rest) ≡ fault (lexeme ∷ rest) code.TooMuchCode ∷ [] →
-    Fails profile (state (Make Define ∷ Exactly mark.CloseCurly ∷ stack) (lexeme ∷ rest) values scope functions) (diagnostic lexeme.line code.TooMuchCode)
-too_long profile stack lexeme rest values scope functions sound fits long = record {
-  fault = fault (lexeme ∷ rest) code.TooMuchCode;
-  first = matched_first profile _ _ (rw (sound, long) refl) (none_in (fault (lexeme ∷ rest) code.TooMuchCode) _ (simp (sound, fits))) (simp (sound, fits) (omega arith));
+pub too_long : (profile : Profile) (stack : List Item) (located_token : LocatedToken) (rest : List LocatedToken) (values : List Value) (scope : Scope) (functions : List Definition) →
+    is_fault located_token.token ≡ false → is_punctuator punctuator.CloseCurly located_token.token ≡ true →
+    length_faults profile scope functions values (located_token ∷ rest) ≡ fault (located_token ∷ rest) code.TooMuchCode ∷ [] →
+    Fails profile (state (Make Define ∷ Exactly punctuator.CloseCurly ∷ stack) (located_token ∷ rest) values scope functions) (diagnostic located_token.line code.TooMuchCode)
+too_long profile stack located_token rest values scope functions sound fits long = record {
+  fault = fault (located_token ∷ rest) code.TooMuchCode;
+  first = matched_first profile _ _ (rw (sound, long) refl) (none_in (fault (located_token ∷ rest) code.TooMuchCode) _ (simp (sound, fits))) (simp (sound, fits) (omega arith));
   line = refl;
   code = refl;
 }
 
--- A level beyond the last one, opened by a mark.
-pub too_deep : (profile : Profile) (symbol : Symbol) (m : Mark) (items stack : List Item) (lexeme : Lexeme) (rest : List Lexeme) (values : List Value) (scope : Scope) (functions : List Definition) →
-    is_fault lexeme.token ≡ false → choice symbol lexeme.token (next_of rest) ≡ Some (Exactly m ∷ items) → is_mark m lexeme.token ≡ true →
-    level_faults symbol stack (lexeme ∷ rest) ≡ fault (lexeme ∷ rest) code.NestedTooDeeply ∷ [] →
-    Fails profile (state (Part symbol ∷ stack) (lexeme ∷ rest) values scope functions) (diagnostic lexeme.line code.NestedTooDeeply)
-too_deep profile symbol m items stack lexeme rest values scope functions sound chosen fits deep = record {
-  fault = fault (lexeme ∷ rest) code.NestedTooDeeply;
-  first = matched_first profile _ _ (rw (sound, deep, chosen) refl) (none_in (fault (lexeme ∷ rest) code.NestedTooDeeply) _ (simp (sound, chosen, fits))) (simp (sound, chosen, fits) (omega arith));
+-- A level beyond the last one, opened by a punctuator.
+pub too_deep : (profile : Profile) (symbol : Symbol) (m : Punctuator) (items stack : List Item) (located_token : LocatedToken) (rest : List LocatedToken) (values : List Value) (scope : Scope) (functions : List Definition) →
+    is_fault located_token.token ≡ false → choice symbol located_token.token (next_of rest) ≡ Some (Exactly m ∷ items) → is_punctuator m located_token.token ≡ true →
+    level_faults symbol stack (located_token ∷ rest) ≡ fault (located_token ∷ rest) code.NestedTooDeeply ∷ [] →
+    Fails profile (state (Part symbol ∷ stack) (located_token ∷ rest) values scope functions) (diagnostic located_token.line code.NestedTooDeeply)
+too_deep profile symbol m items stack located_token rest values scope functions sound chosen fits deep = record {
+  fault = fault (located_token ∷ rest) code.NestedTooDeeply;
+  first = matched_first profile _ _ (rw (sound, deep, chosen) refl) (none_in (fault (located_token ∷ rest) code.NestedTooDeeply) _ (simp (sound, chosen, fits))) (simp (sound, chosen, fits) (omega arith));
   line = refl;
   code = refl;
 }
 
 -- By a word.
-pub too_deep_word : (profile : Profile) (symbol : Symbol) (w : Word) (items stack : List Item) (lexeme : Lexeme) (rest : List Lexeme) (values : List Value) (scope : Scope) (functions : List Definition) →
-    is_fault lexeme.token ≡ false → choice symbol lexeme.token (next_of rest) ≡ Some (AWord w ∷ items) → is_word w lexeme.token ≡ true →
-    level_faults symbol stack (lexeme ∷ rest) ≡ fault (lexeme ∷ rest) code.NestedTooDeeply ∷ [] →
-    Fails profile (state (Part symbol ∷ stack) (lexeme ∷ rest) values scope functions) (diagnostic lexeme.line code.NestedTooDeeply)
-too_deep_word profile symbol w items stack lexeme rest values scope functions sound chosen fits deep = record {
-  fault = fault (lexeme ∷ rest) code.NestedTooDeeply;
-  first = matched_first profile _ _ (rw (sound, deep, chosen) refl) (none_in (fault (lexeme ∷ rest) code.NestedTooDeeply) _ (simp (sound, chosen, fits))) (simp (sound, chosen, fits) (omega arith));
+pub too_deep_word : (profile : Profile) (symbol : Symbol) (w : Word) (items stack : List Item) (located_token : LocatedToken) (rest : List LocatedToken) (values : List Value) (scope : Scope) (functions : List Definition) →
+    is_fault located_token.token ≡ false → choice symbol located_token.token (next_of rest) ≡ Some (AWord w ∷ items) → is_word w located_token.token ≡ true →
+    level_faults symbol stack (located_token ∷ rest) ≡ fault (located_token ∷ rest) code.NestedTooDeeply ∷ [] →
+    Fails profile (state (Part symbol ∷ stack) (located_token ∷ rest) values scope functions) (diagnostic located_token.line code.NestedTooDeeply)
+too_deep_word profile symbol w items stack located_token rest values scope functions sound chosen fits deep = record {
+  fault = fault (located_token ∷ rest) code.NestedTooDeeply;
+  first = matched_first profile _ _ (rw (sound, deep, chosen) refl) (none_in (fault (located_token ∷ rest) code.NestedTooDeeply) _ (simp (sound, chosen, fits))) (simp (sound, chosen, fits) (omega arith));
   line = refl;
   code = refl;
 }
 
 -- A fault of a role has a greater code than that of a level.
 
-single_code : (g : Fault) (rest : List Lexeme) (c : Code) → 9 ≤ number_of c → IsIn g (fault rest c ∷ []) → 9 ≤ number_of g.code
+single_code : (g : Fault) (rest : List LocatedToken) (c : Code) → 9 ≤ number_of c → IsIn g (fault rest c ∷ []) → 9 ≤ number_of g.code
 single_code g rest c least (inl p) = subst (λ (f : Fault). 9 ≤ number_of f.code) p least
 single_code g rest c least (inr h) = absurd h
 
@@ -304,12 +304,12 @@ guarded_code : (g : Fault) (b : Bool) (xs ys : List Fault) → (IsIn g xs → 9 
 guarded_code g true xs ys p q h = p h
 guarded_code g false xs ys p q h = q h
 
-no_room_code : (g : Fault) (new : Bool) (count : ℕ) (c : Code) (rest : List Lexeme) → 9 ≤ number_of c → IsIn g (no_room new count c rest) → 9 ≤ number_of g.code
+no_room_code : (g : Fault) (new : Bool) (count : ℕ) (c : Code) (rest : List LocatedToken) → 9 ≤ number_of c → IsIn g (no_room new count c rest) → 9 ≤ number_of g.code
 no_room_code g new count c rest least h =
     only_if_code g new (only_if (nat_le most_names count) (fault rest c ∷ []))
     (only_if_code g (nat_le most_names count) (fault rest c ∷ []) (single_code g rest c least)) h
 
-role_code : (g : Fault) (role : Role) (name : List ℕ) (scope : Scope) (rest : List Lexeme) → IsIn g (role_faults role name scope rest) → 9 ≤ number_of g.code
+role_code : (g : Fault) (role : Role) (name : List ℕ) (scope : Scope) (rest : List LocatedToken) → IsIn g (role_faults role name scope rest) → 9 ≤ number_of g.code
 role_code g Defined name scope rest h =
     guarded_code g (is_intrinsic name) (fault rest code.IntrinsicRedefined ∷ []) (if has_begun name scope then fault rest code.FunctionDefinedTwice ∷ [] else no_room (is_function_new name scope) (length scope.functions) code.TooManyFunctions rest)
     (single_code g rest code.IntrinsicRedefined (omega arith))
@@ -325,7 +325,7 @@ role_code g Local name scope rest h = no_room_code g (is_local_new name scope) (
 role_code g Called name scope rest h = no_room_code g (is_function_new name scope) (length scope.functions) code.TooManyFunctions rest (omega arith) h
 role_code g Mentioned name scope rest h = no_room_code g (is_variable_new name scope) (length scope.current.variables) code.TooManyVariables rest (omega arith) h
 
-deep_before_role : (g : Fault) (role : Role) (name : List ℕ) (scope : Scope) (rest : List Lexeme) (faults : List Fault) → faults ≡ role_faults role name scope rest →
+deep_before_role : (g : Fault) (role : Role) (name : List ℕ) (scope : Scope) (rest : List LocatedToken) (faults : List Fault) → faults ≡ role_faults role name scope rest →
     IsIn g faults → is_first (fault rest code.NestedTooDeeply) g ≡ true
 deep_before_role g role name scope rest faults same h =
     let here : IsIn g (role_faults role name scope rest) = subst (λ (fs : List Fault). IsIn g fs) same h in
@@ -333,14 +333,14 @@ deep_before_role g role name scope rest faults same h =
     same_token_first (fault rest code.NestedTooDeeply) g (role_rest g role name scope rest here) (omega arith)
 
 -- A level beyond the last one, opened by a name: the name may have a fault of its role, which comes behind.
-pub too_deep_name : (profile : Profile) (symbol : Symbol) (role : Role) (name : List ℕ) (items stack : List Item) (lexeme : Lexeme) (rest : List Lexeme) (values : List Value) (scope : Scope) (functions : List Definition) →
-    is_fault lexeme.token ≡ false → choice symbol lexeme.token (next_of rest) ≡ Some (AName role ∷ items) → name_of_token lexeme.token ≡ Some name →
-    level_faults symbol stack (lexeme ∷ rest) ≡ fault (lexeme ∷ rest) code.NestedTooDeeply ∷ [] →
-    Fails profile (state (Part symbol ∷ stack) (lexeme ∷ rest) values scope functions) (diagnostic lexeme.line code.NestedTooDeeply)
-too_deep_name profile symbol role name items stack lexeme rest values scope functions sound chosen fits deep = record {
-  fault = fault (lexeme ∷ rest) code.NestedTooDeeply;
+pub too_deep_name : (profile : Profile) (symbol : Symbol) (role : Role) (name : List ℕ) (items stack : List Item) (located_token : LocatedToken) (rest : List LocatedToken) (values : List Value) (scope : Scope) (functions : List Definition) →
+    is_fault located_token.token ≡ false → choice symbol located_token.token (next_of rest) ≡ Some (AName role ∷ items) → name_of_token located_token.token ≡ Some name →
+    level_faults symbol stack (located_token ∷ rest) ≡ fault (located_token ∷ rest) code.NestedTooDeeply ∷ [] →
+    Fails profile (state (Part symbol ∷ stack) (located_token ∷ rest) values scope functions) (diagnostic located_token.line code.NestedTooDeeply)
+too_deep_name profile symbol role name items stack located_token rest values scope functions sound chosen fits deep = record {
+  fault = fault (located_token ∷ rest) code.NestedTooDeeply;
   first = matched_first profile _ _ (rw (sound, deep, chosen) refl)
-      (λ g h. deep_before_role g role name scope (lexeme ∷ rest) _ (simp (sound, chosen, fits, append-nil)) h) (simp (sound, chosen, fits) (omega arith));
+      (λ g h. deep_before_role g role name scope (located_token ∷ rest) _ (simp (sound, chosen, fits, append-nil)) h) (simp (sound, chosen, fits) (omega arith));
   line = refl;
   code = refl;
 }

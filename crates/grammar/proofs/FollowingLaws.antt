@@ -8,12 +8,12 @@ use Rattle.grammar.specs.declared.names.Var.{Var}
 use Rattle.grammar.specs.declared.names.Var.TheVariants as var
 use Rattle.grammar.specs.declared.operators.Op.{Op}
 use Rattle.grammar.specs.declared.operators.Op.TheVariants as op
-use Rattle.grammar.specs.Actions.{Action, Push, Get, Put, Apply, Middle, BeginCall, EndCall, IfTest, ElsePart, EndIf, BeginWhile, WhileTest, EndWhile, GiveBack, Chop, Begin, Finish, expr_actions, args_actions, body_actions, last_return, middle, function_actions, functions_actions, numbered_actions}
+use Rattle.grammar.specs.Actions.{Action, PushConstant, FetchVariable, StoreVariable, ApplyBinop, LogicMiddle, BeginCall, EndCall, IfTest, ElsePart, EndIf, BeginWhile, WhileTest, EndWhile, GiveBack, Chop, Begin, Finish, expr_actions, args_actions, body_actions, last_return, middle, function_actions, functions_actions, numbered_actions}
 use Rattle.grammar.specs.Following.{Open, InFunction, AValue, BeforeRight, InCall, InBranch, InElse, BeforeTest, InTurn, Opened, Origin, Number, Fetched, Stepped, Computed, open_count, is_place, few_open, follow, follow_all, then_follow, most_open, most_numbers, is_var_numbered, is_callee_numbered, statement_done, call_done, stored, is_number, same_op, same_var}
 use Rattle.grammar.specs.Nesting.{nesting, args_nesting, body_nesting, right_side}
 use Rattle.grammar.specs.Operators.{is_logic}
 use Rattle.grammar.specs.Resolved.{IsVariable, IsCallable, InExpr, InArgs, InBody, InFile, IsAmong}
-use Rattle.grammar.specs.Tree.{Expr, Constant, Variable, Binary, Assign, Postfix, Call, Args, NoMore, Argument, Body, Done, Alone, When, Choose, While, Return, Function}
+use Rattle.grammar.specs.Tree.{Expr, Constant, Variable, Binary, Assign, Postfix, Call, Args, NoMore, Argument, Body, Done, ExpressionStatement, IfStatement, IfElseStatement, While, Return, Function}
 use Rattle.grammar.specs.Laws.{EachFileFollows}
 use Rattle.grammar.proofs.Widening.{body_wider, function_wider}
 
@@ -109,31 +109,31 @@ also a acts o p q e small b = record { is = follow_cons a acts o p e small ∙ b
 sides_lead : (op : Op) (logic : Bool) → is_logic op ≡ logic → (a b : Expr) (outer : Open) (o : Opened) → open_count (outer ∷ o) + right_side op ≤ 200 →
     Leads (expr_actions a) (outer ∷ o) (AValue (origin_of a) ∷ outer ∷ o) →
     ((inner : Open) (p : Opened) → open_count (inner ∷ p) ≤ open_count (outer ∷ o) + right_side op → Leads (expr_actions b) (inner ∷ p) (AValue (origin_of b) ∷ inner ∷ p)) →
-    Leads (expr_actions a ++ (middle op ++ (expr_actions b ++ Apply op ∷ []))) (outer ∷ o) (AValue Computed ∷ outer ∷ o)
+    Leads (expr_actions a ++ (middle op ++ (expr_actions b ++ ApplyBinop op ∷ []))) (outer ∷ o) (AValue Computed ∷ outer ∷ o)
 sides_lead op true logic a b outer o small left right =
     let side : right_side op ≡ 1 = rw logic refl in
     rw logic (chain (expr_actions a) _ _ _ _ left
-    (also (Middle op) _ _ (BeforeRight op ∷ AValue (origin_of a) ∷ outer ∷ o) _ (rw logic refl) (omega (arith, side))
+    (also (LogicMiddle op) _ _ (BeforeRight op ∷ AValue (origin_of a) ∷ outer ∷ o) _ (rw logic refl) (omega (arith, side))
     (chain (expr_actions b) _ _ _ _ (right (BeforeRight op) (AValue (origin_of a) ∷ outer ∷ o) (omega (arith, side)))
-    (act (Apply op) _ _ (rw (logic_itself op logic) refl) (omega arith)))))
+    (act (ApplyBinop op) _ _ (rw (logic_itself op logic) refl) (omega arith)))))
 sides_lead op false logic a b outer o small left right =
     rw logic (chain (expr_actions a) _ _ _ _ left
     (chain (expr_actions b) _ _ _ _ (right (AValue (origin_of a)) (outer ∷ o) (omega arith))
-    (act (Apply op) _ _ (rw logic refl) (omega arith))))
+    (act (ApplyBinop op) _ _ (rw logic refl) (omega arith))))
 
 mutual
   pub expr_leads : (e : Expr) (outer : Open) (o : Opened) → InExpr 64 64 64 e → open_count (outer ∷ o) + nesting e ≤ 200 →
       Leads (expr_actions e) (outer ∷ o) (AValue (origin_of e) ∷ outer ∷ o)
-  expr_leads (Constant value) outer o h small = act (Push value) _ _ refl (omega arith)
-  expr_leads (Variable v) outer o h small = act (Get v) _ _ (rw (var_numbered v h) refl) (omega arith)
+  expr_leads (Constant value) outer o h small = act (PushConstant value) _ _ refl (omega arith)
+  expr_leads (Variable v) outer o h small = act (FetchVariable v) _ _ (rw (var_numbered v h) refl) (omega arith)
   expr_leads (Binary op a b) outer o h small =
       sides_lead op (is_logic op) refl a b outer o (omega arith) (expr_leads a outer o h.0 (omega arith)) (λ inner p less. expr_leads b inner p h.1 (omega arith))
   expr_leads (Assign op v e) outer o h small =
-      chain (expr_actions e) _ _ _ _ (expr_leads e outer o h.1 small) (act (Put v op) _ _ (rw (var_numbered v h.0) refl) (omega arith))
+      chain (expr_actions e) _ _ _ _ (expr_leads e outer o h.1 small) (act (StoreVariable v op) _ _ (rw (var_numbered v h.0) refl) (omega arith))
   expr_leads (Postfix op v) outer o h small =
-      also (Get v) _ _ (AValue (Fetched v) ∷ outer ∷ o) _ (rw (var_numbered v h) refl) (omega arith)
-      (also (Push (pos 1)) _ _ (AValue (Number (pos 1)) ∷ AValue (Fetched v) ∷ outer ∷ o) _ refl (omega arith)
-      (also (Put v op) _ _ (AValue (Stepped v) ∷ AValue (Fetched v) ∷ outer ∷ o) _ (rw (var_numbered v h) refl) (omega arith)
+      also (FetchVariable v) _ _ (AValue (Fetched v) ∷ outer ∷ o) _ (rw (var_numbered v h) refl) (omega arith)
+      (also (PushConstant (pos 1)) _ _ (AValue (Number (pos 1)) ∷ AValue (Fetched v) ∷ outer ∷ o) _ refl (omega arith)
+      (also (StoreVariable v op) _ _ (AValue (Stepped v) ∷ AValue (Fetched v) ∷ outer ∷ o) _ (rw (var_numbered v h) refl) (omega arith)
       (act Chop _ _ (rw (same_itself v) refl) (omega arith))))
   expr_leads (Call f args) outer o h small =
       also BeginCall _ _ (InCall ∷ outer ∷ o) _ refl (omega arith)
@@ -174,9 +174,9 @@ settled_count returned (x ∷ o) = refl
 -- what is open behind statements
 abbrev pub behind_body : Body → Opened → Opened
 behind_body Done o = o
-behind_body (Alone e rest) o = behind_body rest (settled false o)
-behind_body (When c s rest) o = behind_body rest (settled false o)
-behind_body (Choose c s t rest) o = behind_body rest (settled false o)
+behind_body (ExpressionStatement e rest) o = behind_body rest (settled false o)
+behind_body (IfStatement c s rest) o = behind_body rest (settled false o)
+behind_body (IfElseStatement c s t rest) o = behind_body rest (settled false o)
 behind_body (While c s rest) o = behind_body rest (settled false o)
 behind_body (Return e rest) o = behind_body rest (settled (is_number 0 (origin_of e)) o)
 
@@ -197,9 +197,9 @@ chop_settles origin (x ∷ o) e = absurd (cc)
 -- inside of a branch or a loop nothing is settled
 pub inside : (b : Body) (x : Open) (o : Opened) → ((returned : Bool) → settled returned (x ∷ o) ≡ x ∷ o) → behind_body b (x ∷ o) ≡ x ∷ o
 inside Done x o same = refl
-inside (Alone e rest) x o same = ap (behind_body rest) (same false) ∙ inside rest x o same
-inside (When c s rest) x o same = ap (behind_body rest) (same false) ∙ inside rest x o same
-inside (Choose c s t rest) x o same = ap (behind_body rest) (same false) ∙ inside rest x o same
+inside (ExpressionStatement e rest) x o same = ap (behind_body rest) (same false) ∙ inside rest x o same
+inside (IfStatement c s rest) x o same = ap (behind_body rest) (same false) ∙ inside rest x o same
+inside (IfElseStatement c s t rest) x o same = ap (behind_body rest) (same false) ∙ inside rest x o same
 inside (While c s rest) x o same = ap (behind_body rest) (same false) ∙ inside rest x o same
 inside (Return e rest) x o same = ap (behind_body rest) (same (is_number 0 (origin_of e))) ∙ inside rest x o same
 
@@ -208,17 +208,17 @@ leads_to acts o p q e a = subst (λ (r : Opened). Leads acts o r) e a
 
 pub body_leads : (b : Body) (o : Opened) → is_place o ≡ true → InBody 64 64 64 b → open_count o + body_nesting b ≤ 200 → Leads (body_actions b) o (behind_body b o)
 body_leads Done o place h small = record { is = refl }
-body_leads (Alone e rest) o place h small =
+body_leads (ExpressionStatement e rest) o place h small =
     chain (expr_actions e) _ _ _ _ (value_leads e o place h.0 (omega arith))
     (also Chop _ _ (settled false o) _ (chop_settles (origin_of e) o place) (omega (arith, settled_count false o))
     (body_leads rest (settled false o) (settled_place false o place) h.1 (omega (arith, settled_count false o))))
-body_leads (When c s rest) o place h small =
+body_leads (IfStatement c s rest) o place h small =
     chain (expr_actions c) _ _ _ _ (value_leads c o place h.0 (omega arith))
     (also IfTest _ _ (InBranch ∷ o) _ (rw place refl) (omega arith)
     (chain (body_actions s) _ _ (InBranch ∷ o) _ (leads_to _ _ _ _ (inside s InBranch o (λ returned. refl)) (body_leads s (InBranch ∷ o) refl h.1 (omega arith)))
     (also EndIf _ _ (settled false o) _ (done_settles false o place) (omega (arith, settled_count false o))
     (body_leads rest (settled false o) (settled_place false o place) h.2 (omega (arith, settled_count false o))))))
-body_leads (Choose c s t rest) o place h small =
+body_leads (IfElseStatement c s t rest) o place h small =
     chain (expr_actions c) _ _ _ _ (value_leads c o place h.0 (omega arith))
     (also IfTest _ _ (InBranch ∷ o) _ (rw place refl) (omega arith)
     (chain (body_actions s) _ _ (InBranch ∷ o) _ (leads_to _ _ _ _ (inside s InBranch o (λ returned. refl)) (body_leads s (InBranch ∷ o) refl h.1 (omega arith)))
@@ -247,9 +247,9 @@ pub record KeepsFunction (b : Body) (parameters : ℕ) (before : Bool) : Type 0 
 
 pub keeps_function : (b : Body) (parameters : ℕ) (before : Bool) → KeepsFunction b parameters before
 keeps_function Done parameters before = record { returned = before; is = refl }
-keeps_function (Alone e rest) parameters before = let k : KeepsFunction rest parameters false = keeps_function rest parameters false in record { returned = k.returned; is = k.is }
-keeps_function (When c s rest) parameters before = let k : KeepsFunction rest parameters false = keeps_function rest parameters false in record { returned = k.returned; is = k.is }
-keeps_function (Choose c s t rest) parameters before = let k : KeepsFunction rest parameters false = keeps_function rest parameters false in record { returned = k.returned; is = k.is }
+keeps_function (ExpressionStatement e rest) parameters before = let k : KeepsFunction rest parameters false = keeps_function rest parameters false in record { returned = k.returned; is = k.is }
+keeps_function (IfStatement c s rest) parameters before = let k : KeepsFunction rest parameters false = keeps_function rest parameters false in record { returned = k.returned; is = k.is }
+keeps_function (IfElseStatement c s t rest) parameters before = let k : KeepsFunction rest parameters false = keeps_function rest parameters false in record { returned = k.returned; is = k.is }
 keeps_function (While c s rest) parameters before = let k : KeepsFunction rest parameters false = keeps_function rest parameters false in record { returned = k.returned; is = k.is }
 keeps_function (Return e rest) parameters before =
     let k : KeepsFunction rest parameters (is_number 0 (origin_of e)) = keeps_function rest parameters (is_number 0 (origin_of e)) in record { returned = k.returned; is = k.is }
@@ -269,7 +269,7 @@ definition_leads number parameters variables body known within most h small =
     let k : KeepsFunction body parameters false = keeps_function body parameters false in
     also (Begin number parameters) _ _ (InFunction parameters false ∷ []) _ (function_begins number parameters known (omega arith)) (omega arith)
     (chain (body_actions body) _ _ (InFunction parameters k.returned ∷ []) _ (leads_to _ _ _ _ k.is (body_leads body (InFunction parameters false ∷ []) refl h (omega arith)))
-    (also (Push (pos 0)) _ _ (AValue (Number (pos 0)) ∷ InFunction parameters k.returned ∷ []) _ refl (omega arith)
+    (also (PushConstant (pos 0)) _ _ (AValue (Number (pos 0)) ∷ InFunction parameters k.returned ∷ []) _ refl (omega arith)
     (also GiveBack _ _ (InFunction parameters true ∷ []) _ refl (omega arith)
     (act (Finish variables) _ _ (function_finishes parameters variables within most) (omega arith)))))
 

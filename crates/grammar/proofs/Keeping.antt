@@ -1,16 +1,16 @@
 -- What stands within a function's block keeps the function that is being defined.
 use Rattle.std.proofs.Common.{◌≡◌, ℕ, zero, suc, ◌+◌, ◌≤◌, List, [], ◌∷◌, ◌++◌, refl, sym, ap, ◌∙◌, subst, Bool, true, false, arith, length, length-append, append_assoc}
 use Rattle.std.specs.Prelude.{Option, Some, None, nat_lt, if◌then◌else◌, unwrap_or}
-use Rattle.tokens.specs.declared.lexemes.Lexeme.{Lexeme}
-use Rattle.tokens.specs.declared.lexemes.Mark.{Mark}
-use Rattle.tokens.specs.declared.lexemes.Mark.TheVariants as mark
-use Rattle.tokens.specs.declared.lexemes.Token.{Token}
-use Rattle.tokens.specs.declared.lexemes.Token.TheVariants as token
-use Rattle.tokens.specs.declared.lexemes.Word.TheVariants as word
+use Rattle.tokens.specs.declared.located_tokens.LocatedToken.{LocatedToken}
+use Rattle.tokens.specs.declared.located_tokens.Punctuator.{Punctuator}
+use Rattle.tokens.specs.declared.located_tokens.Punctuator.TheVariants as punctuator
+use Rattle.tokens.specs.declared.located_tokens.Token.{Token}
+use Rattle.tokens.specs.declared.located_tokens.Token.TheVariants as token
+use Rattle.tokens.specs.declared.located_tokens.Word.TheVariants as word
 use Rattle.grammar.specs.declared.operators.Op.{Op}
 use Rattle.grammar.specs.declared.operators.StoreOp.{StoreOp}
 use Rattle.grammar.specs.Derivation.{State, state, Value, Definition, step, step_of, stepped, run, next_of, after_of, line_of, matched, name_matched, constant_matched, replaced, name_of_token, constant_value, is_end, defined, behind_rule}
-use Rattle.grammar.specs.Grammar.{Symbol, Source, Types, Head, More, Parameters, ParameterTypes, FunctionBlock, Block, Declarations, Statements, Statement, ElsePart, Back, Expression, Level, Tail, Unary, Primary, Arguments, MoreArguments, Role, Defined, External, Parameter, Typed, Local, Called, Mentioned, Item, Exactly, AWord, AName, AConstant, AnEnd, Part, Make, Shut, Rule, Define, Production, choice, assignment_or, tail_production, is_fault, is_mark, is_word}
+use Rattle.grammar.specs.Grammar.{Symbol, Source, Types, Head, More, Parameters, ParameterTypes, FunctionBlock, Block, Declarations, Statements, Statement, ElsePart, Back, Expression, Level, Tail, Unary, Primary, Arguments, MoreArguments, Role, Defined, External, Parameter, Typed, Local, Called, Mentioned, Item, Exactly, AWord, AName, AConstant, AnEnd, Part, Make, Close, SemanticAction, Define, Production, choice, assignment_or, tail_production, is_fault, is_punctuator, is_word}
 use Rattle.grammar.specs.Laws.{KeepsFunction, BlocksKeepTheFunction}
 use Rattle.grammar.specs.Operators.{operator_at, store_of}
 use Rattle.grammar.specs.Scope.{Scope, behind_name, is_external_new, is_local_new, is_variable_new, is_function_new, with_external, with_variable, with_new_function}
@@ -62,28 +62,28 @@ append_inner (item ∷ items) more h k =
 
 -- The production of an inner symbol has inner items only.
 
-more_inner : (role : Role) → is_inner_role role ≡ true → inner_production (Some (Exactly mark.Comma ∷ AName role ∷ Part (More role) ∷ [])) ≡ true
+more_inner : (role : Role) → is_inner_role role ≡ true → inner_production (Some (Exactly punctuator.Comma ∷ AName role ∷ Part (More role) ∷ [])) ≡ true
 more_inner role h = rw h refl
 
 level_inner : (n : ℕ) (b : Bool) → inner_production (if b then Some (Part (Level (n + 1)) ∷ Part (Tail n) ∷ []) else Some (Part Unary ∷ [])) ≡ true
 level_inner n true = refl
 level_inner n false = refl
 
-tail_inner : (n : ℕ) (o : Option Op) (m : Mark) → inner_production (Some (tail_production n o m)) ≡ true
+tail_inner : (n : ℕ) (o : Option Op) (m : Punctuator) → inner_production (Some (tail_production n o m)) ≡ true
 tail_inner n None m = refl
 tail_inner n (Some op) m = refl
 
-assignment_inner : (o : Option StoreOp) (m : Mark) → inner_production (Some (assignment_or o m)) ≡ true
+assignment_inner : (o : Option StoreOp) (m : Punctuator) → inner_production (Some (assignment_or o m)) ≡ true
 assignment_inner None m = refl
 assignment_inner (Some op) m = refl
 
 primary_inner : (next after : Token) → inner_production (choice Primary next after) ≡ true
 primary_inner (token.Constant value) after = refl
-primary_inner (token.Name name) (token.Mark mark.OpenRound) = refl
-primary_inner (token.Name name) (token.Mark mark.PlusPlus) = refl
-primary_inner (token.Name name) (token.Mark mark.MinusMinus) = refl
+primary_inner (token.Name name) (token.Punctuator punctuator.OpenRound) = refl
+primary_inner (token.Name name) (token.Punctuator punctuator.PlusPlus) = refl
+primary_inner (token.Name name) (token.Punctuator punctuator.MinusMinus) = refl
 primary_inner (token.Name name) after = refl
-primary_inner (token.Mark mark.OpenRound) after = refl
+primary_inner (token.Punctuator punctuator.OpenRound) after = refl
 primary_inner next after = refl
 
 choice_inner : (symbol : Symbol) (next after : Token) → is_inner_symbol symbol ≡ true → inner_production (choice symbol next after) ≡ true
@@ -93,41 +93,41 @@ choice_inner Parameters next after h = absurd (cc)
 choice_inner FunctionBlock next after h = absurd (cc)
 choice_inner Types (token.Word word.Type) after h = refl
 choice_inner Types next after h = refl
-choice_inner (More role) (token.Mark mark.Comma) after h = more_inner role h
+choice_inner (More role) (token.Punctuator punctuator.Comma) after h = more_inner role h
 choice_inner (More role) next after h = refl
 choice_inner ParameterTypes (token.Word word.Type) after h = refl
 choice_inner ParameterTypes next after h = refl
-choice_inner Block (token.Mark mark.OpenCurly) after h = refl
+choice_inner Block (token.Punctuator punctuator.OpenCurly) after h = refl
 choice_inner Block next after h = refl
 choice_inner Declarations (token.Word word.Type) after h = refl
 choice_inner Declarations next after h = refl
-choice_inner Statements (token.Mark mark.CloseCurly) after h = refl
+choice_inner Statements (token.Punctuator punctuator.CloseCurly) after h = refl
 choice_inner Statements next after h = refl
-choice_inner Statement (token.Mark mark.Semicolon) after h = refl
-choice_inner Statement (token.Mark mark.OpenCurly) after h = refl
+choice_inner Statement (token.Punctuator punctuator.Semicolon) after h = refl
+choice_inner Statement (token.Punctuator punctuator.OpenCurly) after h = refl
 choice_inner Statement (token.Word word.If) after h = refl
 choice_inner Statement (token.Word word.While) after h = refl
 choice_inner Statement (token.Word word.Return) after h = refl
 choice_inner Statement next after h = refl
 choice_inner ElsePart (token.Word word.Else) after h = refl
 choice_inner ElsePart next after h = refl
-choice_inner Back (token.Mark mark.Semicolon) after h = refl
+choice_inner Back (token.Punctuator punctuator.Semicolon) after h = refl
 choice_inner Back next after h = refl
-choice_inner Expression (token.Name name) (token.Mark m) h = assignment_inner (store_of m) m
+choice_inner Expression (token.Name name) (token.Punctuator m) h = assignment_inner (store_of m) m
 choice_inner Expression next after h = refl
 choice_inner (Level n) next after h = level_inner n (nat_lt n 11)
-choice_inner (Tail n) (token.Mark m) after h = tail_inner n (operator_at n (token.Mark m)) m
+choice_inner (Tail n) (token.Punctuator m) after h = tail_inner n (operator_at n (token.Punctuator m)) m
 choice_inner (Tail n) next after h = refl
-choice_inner Unary (token.Mark mark.Minus) after h = refl
-choice_inner Unary (token.Mark mark.Not) after h = refl
-choice_inner Unary (token.Mark mark.Tilde) after h = refl
-choice_inner Unary (token.Mark mark.PlusPlus) after h = refl
-choice_inner Unary (token.Mark mark.MinusMinus) after h = refl
+choice_inner Unary (token.Punctuator punctuator.Minus) after h = refl
+choice_inner Unary (token.Punctuator punctuator.Not) after h = refl
+choice_inner Unary (token.Punctuator punctuator.Tilde) after h = refl
+choice_inner Unary (token.Punctuator punctuator.PlusPlus) after h = refl
+choice_inner Unary (token.Punctuator punctuator.MinusMinus) after h = refl
 choice_inner Unary next after h = refl
 choice_inner Primary next after h = primary_inner next after
-choice_inner Arguments (token.Mark mark.CloseRound) after h = refl
+choice_inner Arguments (token.Punctuator punctuator.CloseRound) after h = refl
 choice_inner Arguments next after h = refl
-choice_inner MoreArguments (token.Mark mark.Comma) after h = refl
+choice_inner MoreArguments (token.Punctuator punctuator.Comma) after h = refl
 choice_inner MoreArguments next after h = refl
 
 -- What an inner name or rule does to the scope.
@@ -151,11 +151,11 @@ name_keeps Local name line scope h = kept_either (is_local_new name scope) scope
 name_keeps Called name line scope h = kept_either (is_function_new name scope) scope (with_new_function name line scope) (record { number = refl; begun = refl; name = refl; parameters = refl })
 name_keeps Mentioned name line scope h = kept_either (is_variable_new name scope) scope (with_variable name scope) (record { number = refl; begun = refl; name = refl; parameters = refl })
 
-rule_keeps : (rule : Rule) (scope : Scope) → is_inner (Make rule) ≡ true → KeepsFunction scope (behind_rule rule scope)
+rule_keeps : (rule : SemanticAction) (scope : Scope) → is_inner (Make rule) ≡ true → KeepsFunction scope (behind_rule rule scope)
 rule_keeps Define scope h = absurd (cc)
 rule_keeps rule scope h = kept scope
 
-defines_none : (rule : Rule) (values : List Value) (scope : Scope) (functions : List Definition) → is_inner (Make rule) ≡ true →
+defines_none : (rule : SemanticAction) (values : List Value) (scope : Scope) (functions : List Definition) → is_inner (Make rule) ≡ true →
     length (functions ++ defined rule values scope) ≡ length functions
 defines_none Define values scope functions h = absurd (cc)
 defines_none rule values scope functions h = length-append functions [] ∙ omega arith
@@ -173,31 +173,31 @@ abbrev IfStands : List Item → Scope → ℕ → Option State → Type 0
 IfStands base known count None = Unit {0}
 IfStands base known count (Some s) = Stands base known count s
 
-matched_stands : (fits : Bool) (items base : List Item) (rest : List Lexeme) (values : List Value) (scope : Scope) (functions : List Definition) → all_inner items ≡ true →
+matched_stands : (fits : Bool) (items base : List Item) (rest : List LocatedToken) (values : List Value) (scope : Scope) (functions : List Definition) → all_inner items ≡ true →
     IfStands base scope (length functions) (matched fits (items ++ base) rest values scope functions)
 matched_stands false items base rest values scope functions h = tt
 matched_stands true items base rest values scope functions h = record { items = items; inner = h; over = refl; keeps = kept scope; same = refl }
 
-name_stands : (role : Role) (o : Option (List ℕ)) (items base : List Item) (rest : List Lexeme) (values : List Value) (scope : Scope) (functions : List Definition) → is_inner_role role ≡ true →
+name_stands : (role : Role) (o : Option (List ℕ)) (items base : List Item) (rest : List LocatedToken) (values : List Value) (scope : Scope) (functions : List Definition) → is_inner_role role ≡ true →
     all_inner items ≡ true → IfStands base scope (length functions) (name_matched role o (items ++ base) rest values scope functions)
 name_stands role None items base rest values scope functions r h = tt
 name_stands role (Some name) items base rest values scope functions r h =
     record { items = items; inner = h; over = refl; keeps = name_keeps role name (line_of rest) scope r; same = refl }
 
-constant_stands : (o : Option ℕ) (items base : List Item) (rest : List Lexeme) (values : List Value) (scope : Scope) (functions : List Definition) → all_inner items ≡ true →
+constant_stands : (o : Option ℕ) (items base : List Item) (rest : List LocatedToken) (values : List Value) (scope : Scope) (functions : List Definition) → all_inner items ≡ true →
     IfStands base scope (length functions) (constant_matched o (items ++ base) rest values scope functions)
 constant_stands None items base rest values scope functions h = tt
 constant_stands (Some value) items base rest values scope functions h = record { items = items; inner = h; over = refl; keeps = kept scope; same = refl }
 
-part_stands : (production : Production) (items base : List Item) (rest : List Lexeme) (values : List Value) (scope : Scope) (functions : List Definition) → inner_production production ≡ true →
+part_stands : (production : Production) (items base : List Item) (rest : List LocatedToken) (values : List Value) (scope : Scope) (functions : List Definition) → inner_production production ≡ true →
     all_inner items ≡ true → IfStands base scope (length functions) (replaced production (items ++ base) rest values scope functions)
 part_stands None items base rest values scope functions p h = tt
 part_stands (Some front) items base rest values scope functions p h =
     record { items = front ++ items; inner = append_inner front items p h; over = sym (append_assoc front items base); keeps = kept scope; same = refl }
 
-item_stands : (item : Item) (items base : List Item) (rest : List Lexeme) (values : List Value) (scope : Scope) (functions : List Definition) → is_inner item ≡ true → all_inner items ≡ true →
+item_stands : (item : Item) (items base : List Item) (rest : List LocatedToken) (values : List Value) (scope : Scope) (functions : List Definition) → is_inner item ≡ true → all_inner items ≡ true →
     IfStands base scope (length functions) (step_of (item ∷ items ++ base) rest values scope functions)
-item_stands (Exactly m) items base rest values scope functions i h = matched_stands (is_mark m (next_of rest)) items base rest values scope functions h
+item_stands (Exactly m) items base rest values scope functions i h = matched_stands (is_punctuator m (next_of rest)) items base rest values scope functions h
 item_stands (AWord w) items base rest values scope functions i h = matched_stands (is_word w (next_of rest)) items base rest values scope functions h
 item_stands (AName role) items base rest values scope functions i h = name_stands role (name_of_token (next_of rest)) items base rest values scope functions i h
 item_stands AConstant items base rest values scope functions i h = constant_stands (constant_value (next_of rest)) items base rest values scope functions h
@@ -206,7 +206,7 @@ item_stands (Part symbol) items base rest values scope functions i h =
     part_stands (choice symbol (next_of rest) (after_of rest)) items base rest values scope functions (choice_inner symbol (next_of rest) (after_of rest) i) h
 item_stands (Make rule) items base rest values scope functions i h =
     record { items = items; inner = h; over = refl; keeps = rule_keeps rule scope i; same = defines_none rule values scope functions i }
-item_stands Shut items base rest values scope functions i h = record { items = items; inner = h; over = refl; keeps = kept scope; same = refl }
+item_stands Close items base rest values scope functions i h = record { items = items; inner = h; over = refl; keeps = kept scope; same = refl }
 
 guarded_stands : (b : Bool) (base : List Item) (known : Scope) (count : ℕ) (o : Option State) → IfStands base known count o → IfStands base known count (if b then None else o)
 guarded_stands true base known count o h = tt
@@ -223,36 +223,36 @@ abbrev IfMore : ℕ → Option State → Type 0
 IfMore count None = Unit {0}
 IfMore count (Some s) = count ≤ length s.functions
 
-matched_more : (fits : Bool) (stack : List Item) (rest : List Lexeme) (values : List Value) (scope : Scope) (functions : List Definition) →
+matched_more : (fits : Bool) (stack : List Item) (rest : List LocatedToken) (values : List Value) (scope : Scope) (functions : List Definition) →
     IfMore (length functions) (matched fits stack rest values scope functions)
 matched_more false stack rest values scope functions = tt
 matched_more true stack rest values scope functions = omega arith
 
-name_more : (role : Role) (o : Option (List ℕ)) (stack : List Item) (rest : List Lexeme) (values : List Value) (scope : Scope) (functions : List Definition) →
+name_more : (role : Role) (o : Option (List ℕ)) (stack : List Item) (rest : List LocatedToken) (values : List Value) (scope : Scope) (functions : List Definition) →
     IfMore (length functions) (name_matched role o stack rest values scope functions)
 name_more role None stack rest values scope functions = tt
 name_more role (Some name) stack rest values scope functions = omega arith
 
-constant_more : (o : Option ℕ) (stack : List Item) (rest : List Lexeme) (values : List Value) (scope : Scope) (functions : List Definition) →
+constant_more : (o : Option ℕ) (stack : List Item) (rest : List LocatedToken) (values : List Value) (scope : Scope) (functions : List Definition) →
     IfMore (length functions) (constant_matched o stack rest values scope functions)
 constant_more None stack rest values scope functions = tt
 constant_more (Some value) stack rest values scope functions = omega arith
 
-part_more : (production : Production) (stack : List Item) (rest : List Lexeme) (values : List Value) (scope : Scope) (functions : List Definition) →
+part_more : (production : Production) (stack : List Item) (rest : List LocatedToken) (values : List Value) (scope : Scope) (functions : List Definition) →
     IfMore (length functions) (replaced production stack rest values scope functions)
 part_more None stack rest values scope functions = tt
 part_more (Some items) stack rest values scope functions = omega arith
 
-item_more : (stack : List Item) (rest : List Lexeme) (values : List Value) (scope : Scope) (functions : List Definition) → IfMore (length functions) (step_of stack rest values scope functions)
+item_more : (stack : List Item) (rest : List LocatedToken) (values : List Value) (scope : Scope) (functions : List Definition) → IfMore (length functions) (step_of stack rest values scope functions)
 item_more [] rest values scope functions = tt
-item_more (Exactly m ∷ stack) rest values scope functions = matched_more (is_mark m (next_of rest)) stack rest values scope functions
+item_more (Exactly m ∷ stack) rest values scope functions = matched_more (is_punctuator m (next_of rest)) stack rest values scope functions
 item_more (AWord w ∷ stack) rest values scope functions = matched_more (is_word w (next_of rest)) stack rest values scope functions
 item_more (AName role ∷ stack) rest values scope functions = name_more role (name_of_token (next_of rest)) stack rest values scope functions
 item_more (AConstant ∷ stack) rest values scope functions = constant_more (constant_value (next_of rest)) stack rest values scope functions
 item_more (AnEnd ∷ stack) rest values scope functions = matched_more (is_end (next_of rest)) stack rest values scope functions
 item_more (Part symbol ∷ stack) rest values scope functions = part_more (choice symbol (next_of rest) (after_of rest)) stack rest values scope functions
 item_more (Make rule ∷ stack) rest values scope functions = omega (arith, length-append functions (defined rule values scope))
-item_more (Shut ∷ stack) rest values scope functions = omega arith
+item_more (Close ∷ stack) rest values scope functions = omega arith
 
 stepped_more : (b : Bool) (s : State) (o : Option State) → IfMore (length s.functions) o → length s.functions ≤ length (unwrap_or (if b then None else o) s).functions
 stepped_more true s o h = omega arith
@@ -294,7 +294,7 @@ run_keeps zero stack known count s h = λ same. h.keeps
 run_keeps (suc n) stack known count s h = step_keeps n h.items stack known count s h.inner h.over h (λ t k. run_keeps n stack known count t k)
 
 -- from inner items over a function's end to any state before the next function is defined
-pub inner_keeps : (n : ℕ) (items stack after : List Item) (rest later : List Lexeme) (values left : List Value) (known learnt : Scope) (functions : List Definition) → all_inner items ≡ true →
+pub inner_keeps : (n : ℕ) (items stack after : List Item) (rest later : List LocatedToken) (values left : List Value) (known learnt : Scope) (functions : List Definition) → all_inner items ≡ true →
     run n (state (items ++ Make Define ∷ stack) rest values known functions) ≡ state after later left learnt functions → KeepsFunction known learnt
 inner_keeps n items stack after rest later values left known learnt functions inner leads =
     subst (λ (t : State). KeepsFunction known t.scope) leads

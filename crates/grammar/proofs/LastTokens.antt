@@ -2,31 +2,31 @@
 use Rattle.std.proofs.Common.{◌≡◌, ℕ, zero, suc, ◌<◌, List, [], ◌∷◌, length, refl, Bool, true, false, cond, arith}
 use Rattle.tokens.specs.Source.{source}
 use Rattle.tokens.specs.Front.{Front, Nothing, Space, Unclosed, Sign, front}
-use Rattle.tokens.specs.Tokens.{Ahead, at_end, passed, placed, last_lexeme, is_last, cut, cut_front, lexemes, from_start, tokens}
-use Rattle.tokens.specs.declared.lexemes.Flaw.TheVariants.{CommentNotClosed}
-use Rattle.tokens.specs.declared.lexemes.Lexeme.{Lexeme}
-use Rattle.tokens.specs.declared.lexemes.Token.{Token}
-use Rattle.tokens.specs.declared.lexemes.Token.TheVariants as token
-use Rattle.tokens.proofs.LexemesLemmas.{IsPiece, front-is_piece, length-passed}
+use Rattle.tokens.specs.Tokens.{Ahead, at_end, passed, placed, last_located_token, is_last, cut, cut_front, located_tokens, from_start, tokens}
+use Rattle.tokens.specs.declared.located_tokens.LexicalError.TheVariants.{CommentNotClosed}
+use Rattle.tokens.specs.declared.located_tokens.LocatedToken.{LocatedToken}
+use Rattle.tokens.specs.declared.located_tokens.Token.{Token}
+use Rattle.tokens.specs.declared.located_tokens.Token.TheVariants as token
+use Rattle.tokens.proofs.LocatedTokensLemmas.{IsPiece, front-is_piece, length-passed}
 
-abbrev pub EndsWithLast : List Lexeme → Type 0
+abbrev pub EndsWithLast : List LocatedToken → Type 0
 EndsWithLast [] = ⊥
-EndsWithLast (lexeme ∷ []) = is_last lexeme.token ≡ true
-EndsWithLast (lexeme ∷ other ∷ rest) = EndsWithLast (other ∷ rest)
+EndsWithLast (located_token ∷ []) = is_last located_token.token ≡ true
+EndsWithLast (located_token ∷ other ∷ rest) = EndsWithLast (other ∷ rest)
 
 abbrev here : ℕ → ℕ → List ℕ → Bool → Ahead
 here line place bytes too_long = record { line = line; place = place; bytes = bytes; too_long = too_long }
 
-closing_is_last : (t : Token) (line : ℕ) (end : Ahead) → is_last t ≡ true → is_last (last_lexeme t line end).token ≡ true
+closing_is_last : (t : Token) (line : ℕ) (end : Ahead) → is_last t ≡ true → is_last (last_located_token t line end).token ≡ true
 closing_is_last t line end h = by end.too_long
   where
-    by : (too_long : Bool) → is_last (last_lexeme t line (here end.line end.place end.bytes too_long)).token ≡ true
+    by : (too_long : Bool) → is_last (last_located_token t line (here end.line end.place end.bytes too_long)).token ≡ true
     by true = refl
     by false = h
 
-in_front : (lexeme : Lexeme) (others : List Lexeme) → EndsWithLast others → EndsWithLast (lexeme ∷ others)
-in_front lexeme [] h = absurd h
-in_front lexeme (other ∷ others) h = h
+in_front : (located_token : LocatedToken) (others : List LocatedToken) → EndsWithLast others → EndsWithLast (located_token ∷ others)
+in_front located_token [] h = absurd h
+in_front located_token (other ∷ others) h = h
 
 cut_ends : (n line place : ℕ) (bytes : List ℕ) (too_long : Bool) → length bytes < n → EndsWithLast (cut n (here line place bytes too_long))
 cut_ends zero line place bytes t h = absurd (omega (arith, h))
@@ -39,9 +39,9 @@ cut_ends (suc n) line place (b ∷ bytes) t h = by (front (b ∷ bytes)) (front-
     a : Ahead
     a = here line place (b ∷ bytes) t
 
-    followed : (lexeme : Lexeme) (others : List Lexeme) (last : Bool) → is_last lexeme.token ≡ last → EndsWithLast others → EndsWithLast (lexeme ∷ cond last [] others)
-    followed lexeme others true e h = e
-    followed lexeme others false e h = in_front lexeme others h
+    followed : (located_token : LocatedToken) (others : List LocatedToken) (last : Bool) → is_last located_token.token ≡ last → EndsWithLast others → EndsWithLast (located_token ∷ cond last [] others)
+    followed located_token others true e h = e
+    followed located_token others false e h = in_front located_token others h
 
     by : (f : Front) → IsPiece f → ((count : ℕ) → 0 < count → EndsWithLast (cut n (passed count a))) → EndsWithLast (cut_front f a (cut n))
     by Nothing p each = closing_is_last token.End line (at_end a) refl
@@ -50,7 +50,7 @@ cut_ends (suc n) line place (b ∷ bytes) t h = by (front (b ∷ bytes)) (front-
     by (Sign sign count) p each = followed (placed sign count a) (cut n (passed count a)) (is_last sign) refl (each count p)
 
 pub tokens_end : (bytes : List ℕ) → EndsWithLast (tokens bytes)
-unfolding tokens lexemes
+unfolding tokens located_tokens
 tokens_end bytes =
     let a = from_start (source bytes) in
     cut_ends (suc (length a.bytes)) a.line a.place a.bytes a.too_long (omega arith)

@@ -2,6 +2,7 @@ pub mod KnownSources
 pub mod KnownTexts
 pub mod Runs
 pub mod Steps
+pub mod Weight
 pub mod Endings
 pub mod Firsts
 pub mod Order

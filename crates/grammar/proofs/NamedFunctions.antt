@@ -1,11 +1,11 @@
 -- Along a derivation without a fault, each function that was defined has its names among those known.
 use Rattle.std.proofs.Common.{◌≡◌, ℕ, zero, suc, ◌<◌, List, [], ◌∷◌, ◌++◌, sym, ◌∙◌, subst, inl, inr, Bool, true, false, append-nil, length}
 use Rattle.std.specs.Prelude.{Option, Some, None, if◌then◌else◌, unwrap_or, slice_get, set}
-use Rattle.tokens.specs.declared.lexemes.Lexeme.{Lexeme}
+use Rattle.tokens.specs.declared.located_tokens.LocatedToken.{LocatedToken}
 use Rattle.grammar.specs.Compiled.{order_of}
 use Rattle.grammar.specs.Derivation.{State, state, start, Value, Definition, definition_of, last_body, next_of, after_of, line_of, name_of_token, constant_value, is_end, matched, name_matched, constant_matched, replaced, step_of, step, stepped, run}
 use Rattle.grammar.specs.Faults.{faults_at, faults_in}
-use Rattle.grammar.specs.Grammar.{Item, Exactly, AWord, AName, AConstant, AnEnd, Part, Make, Shut, Define, Role, Defined, External, Parameter, Typed, Local, Called, Mentioned, Production, choice, is_fault, is_mark, is_word}
+use Rattle.grammar.specs.Grammar.{Item, Exactly, AWord, AName, AConstant, AnEnd, Part, Make, Close, Define, Role, Defined, External, Parameter, Typed, Local, Called, Mentioned, Production, choice, is_fault, is_punctuator, is_word}
 use Rattle.grammar.specs.Parsing.{Passes}
 use Rattle.grammar.specs.Pools.{FunctionNames, names_of_function}
 use Rattle.grammar.specs.Profile.{Profile}
@@ -17,8 +17,8 @@ use Rattle.grammar.proofs.Runs.{append_empty}
 use Rattle.grammar.proofs.Places.{get_append, get_set_same, get_set_other}
 
 -- a derivation that comes from the start without a fault is sound
-pub sound_of_passes : (profile : Profile) (lexemes : List Lexeme) (s : State) → Passes profile (start lexemes) s → Sound s
-sound_of_passes profile lexemes s p = subst (λ (t : State). Sound t) p.leads (run_sound profile p.steps (start lexemes) p.clean (start_sound lexemes))
+pub sound_of_passes : (profile : Profile) (located_tokens : List LocatedToken) (s : State) → Passes profile (start located_tokens) s → Sound s
+sound_of_passes profile located_tokens s p = subst (λ (t : State). Sound t) p.leads (run_sound profile p.steps (start located_tokens) p.clean (start_sound located_tokens))
 
 -- the names of each function that was defined stand at its number
 abbrev pub AreNamed : List FunctionNames → List Definition → Type 0
@@ -68,7 +68,7 @@ named_append : (functions : List FunctionNames) (ds : List Definition) (d : Defi
 named_append functions [] d h e = (e, tt)
 named_append functions (x ∷ ds) d h e = (h.0, named_append functions ds d h.1 e)
 
-define_named : (stack : List Item) (rest : List Lexeme) (values : List Value) (scope : Scope) (ds : List Definition) → Sound (state (Make Define ∷ stack) rest values scope ds) →
+define_named : (stack : List Item) (rest : List LocatedToken) (values : List Value) (scope : Scope) (ds : List Definition) → Sound (state (Make Define ∷ stack) rest values scope ds) →
     AreNamed scope.functions ds → AreNamed (end_definition scope).functions (ds ++ definition_of scope (last_body values) ∷ [])
 define_named stack rest values scope ds s h =
     let b : Busy values scope ds = ended (phase_of stack) values scope ds s.tied in
@@ -83,22 +83,22 @@ abbrev IfNamed : Option State → Type 0
 IfNamed None = Unit {0}
 IfNamed (Some s) = AreNamed s.scope.functions s.functions
 
-matched_named : (fits : Bool) (stack : List Item) (rest : List Lexeme) (values : List Value) (scope : Scope) (ds : List Definition) → AreNamed scope.functions ds →
+matched_named : (fits : Bool) (stack : List Item) (rest : List LocatedToken) (values : List Value) (scope : Scope) (ds : List Definition) → AreNamed scope.functions ds →
     IfNamed (matched fits stack rest values scope ds)
 matched_named true stack rest values scope ds h = h
 matched_named false stack rest values scope ds h = tt
 
-name_named : (role : Role) (name : Option (List ℕ)) (stack : List Item) (rest : List Lexeme) (values : List Value) (scope : Scope) (ds : List Definition) → AreNamed scope.functions ds →
+name_named : (role : Role) (name : Option (List ℕ)) (stack : List Item) (rest : List LocatedToken) (values : List Value) (scope : Scope) (ds : List Definition) → AreNamed scope.functions ds →
     IfNamed (name_matched role name stack rest values scope ds)
 name_named role None stack rest values scope ds h = tt
 name_named role (Some name) stack rest values scope ds h = role_named role name (line_of rest) scope ds h
 
-constant_named : (value : Option ℕ) (stack : List Item) (rest : List Lexeme) (values : List Value) (scope : Scope) (ds : List Definition) → AreNamed scope.functions ds →
+constant_named : (value : Option ℕ) (stack : List Item) (rest : List LocatedToken) (values : List Value) (scope : Scope) (ds : List Definition) → AreNamed scope.functions ds →
     IfNamed (constant_matched value stack rest values scope ds)
 constant_named None stack rest values scope ds h = tt
 constant_named (Some value) stack rest values scope ds h = h
 
-part_named : (production : Production) (stack : List Item) (rest : List Lexeme) (values : List Value) (scope : Scope) (ds : List Definition) → AreNamed scope.functions ds →
+part_named : (production : Production) (stack : List Item) (rest : List LocatedToken) (values : List Value) (scope : Scope) (ds : List Definition) → AreNamed scope.functions ds →
     IfNamed (replaced production stack rest values scope ds)
 part_named None stack rest values scope ds h = tt
 part_named (Some items) stack rest values scope ds h = h
@@ -106,10 +106,10 @@ part_named (Some items) stack rest values scope ds h = h
 same_named : (functions : List FunctionNames) (ds : List Definition) → AreNamed functions ds → AreNamed functions (ds ++ [])
 same_named functions ds h = subst (λ (xs : List Definition). AreNamed functions xs) (sym (append-nil ds)) h
 
-step_named : (stack : List Item) (rest : List Lexeme) (values : List Value) (scope : Scope) (ds : List Definition) → Sound (state stack rest values scope ds) →
+step_named : (stack : List Item) (rest : List LocatedToken) (values : List Value) (scope : Scope) (ds : List Definition) → Sound (state stack rest values scope ds) →
     AreNamed scope.functions ds → IfNamed (step_of stack rest values scope ds)
 step_named [] rest values scope ds s h = tt
-step_named (Exactly m ∷ stack) rest values scope ds s h = matched_named (is_mark m (next_of rest)) stack rest values scope ds h
+step_named (Exactly m ∷ stack) rest values scope ds s h = matched_named (is_punctuator m (next_of rest)) stack rest values scope ds h
 step_named (AWord w ∷ stack) rest values scope ds s h = matched_named (is_word w (next_of rest)) stack rest values scope ds h
 step_named (AName role ∷ stack) rest values scope ds s h = name_named role (name_of_token (next_of rest)) stack rest values scope ds h
 step_named (AConstant ∷ stack) rest values scope ds s h = constant_named (constant_value (next_of rest)) stack rest values scope ds h
@@ -117,7 +117,7 @@ step_named (AnEnd ∷ stack) rest values scope ds s h = matched_named (is_end (n
 step_named (Part symbol ∷ stack) rest values scope ds s h = part_named (choice symbol (next_of rest) (after_of rest)) stack rest values scope ds h
 step_named (Make Define ∷ stack) rest values scope ds s h = define_named stack rest values scope ds s h
 step_named (Make rule ∷ stack) rest values scope ds s h = same_named scope.functions ds h
-step_named (Shut ∷ stack) rest values scope ds s h = h
+step_named (Close ∷ stack) rest values scope ds s h = h
 
 -- Derivations.
 
@@ -142,6 +142,6 @@ run_named profile (suc n) s clean sound h =
     (stepped_sound profile s (append_empty (faults_at profile s) (faults_in profile n (stepped s)) clean).0 sound) (stepped_named s sound h)
 
 -- so it is wherever a derivation leads without a fault
-pub named_of_passes : (profile : Profile) (lexemes : List Lexeme) (s : State) → Passes profile (start lexemes) s → AreNamed s.scope.functions s.functions
-named_of_passes profile lexemes s p =
-    subst (λ (t : State). AreNamed t.scope.functions t.functions) p.leads (run_named profile p.steps (start lexemes) p.clean (start_sound lexemes) tt)
+pub named_of_passes : (profile : Profile) (located_tokens : List LocatedToken) (s : State) → Passes profile (start located_tokens) s → AreNamed s.scope.functions s.functions
+named_of_passes profile located_tokens s p =
+    subst (λ (t : State). AreNamed t.scope.functions t.functions) p.leads (run_named profile p.steps (start located_tokens) p.clean (start_sound located_tokens) tt)

@@ -1,14 +1,14 @@
 -- How the items still to do lie: what belongs to a function stands above its end, and functions stand one behind another.
 use Rattle.std.proofs.Common.{◌≡◌, ℕ, ◌+◌, List, [], ◌∷◌, ◌++◌, refl, ap, subst, Bool, true, false}
 use Rattle.std.specs.Prelude.{Option, Some, None, nat_lt, if◌then◌else◌}
-use Rattle.tokens.specs.declared.lexemes.Mark.{Mark}
-use Rattle.tokens.specs.declared.lexemes.Mark.TheVariants as mark
-use Rattle.tokens.specs.declared.lexemes.Token.{Token}
-use Rattle.tokens.specs.declared.lexemes.Token.TheVariants as token
-use Rattle.tokens.specs.declared.lexemes.Word.TheVariants as word
+use Rattle.tokens.specs.declared.located_tokens.Punctuator.{Punctuator}
+use Rattle.tokens.specs.declared.located_tokens.Punctuator.TheVariants as punctuator
+use Rattle.tokens.specs.declared.located_tokens.Token.{Token}
+use Rattle.tokens.specs.declared.located_tokens.Token.TheVariants as token
+use Rattle.tokens.specs.declared.located_tokens.Word.TheVariants as word
 use Rattle.grammar.specs.declared.operators.Op.{Op}
 use Rattle.grammar.specs.declared.operators.StoreOp.{StoreOp}
-use Rattle.grammar.specs.Grammar.{Symbol, Source, Types, Head, More, Parameters, ParameterTypes, FunctionBlock, Block, Declarations, Statements, Statement, ElsePart, Back, Expression, Level, Tail, Unary, Primary, Arguments, MoreArguments, Role, Defined, External, Parameter, Typed, Local, Called, Mentioned, Item, Exactly, AWord, AName, AConstant, AnEnd, Part, Make, Shut, Rule, Define, Production, choice, assignment_or, tail_production}
+use Rattle.grammar.specs.Grammar.{Symbol, Source, Types, Head, More, Parameters, ParameterTypes, FunctionBlock, Block, Declarations, Statements, Statement, ElsePart, Back, Expression, Level, Tail, Unary, Primary, Arguments, MoreArguments, Role, Defined, External, Parameter, Typed, Local, Called, Mentioned, Item, Exactly, AWord, AName, AConstant, AnEnd, Part, Make, Close, SemanticAction, Define, Production, choice, assignment_or, tail_production}
 use Rattle.grammar.specs.Operators.{operator_at, store_of}
 
 pub data Phase : Type 0 where
@@ -52,7 +52,7 @@ by_symbol FunctionBlock phase = outside_then Inside phase
 by_symbol Declarations phase = phase
 by_symbol symbol phase = inside phase
 
-abbrev pub by_rule : Rule → Phase → Phase
+abbrev pub by_rule : SemanticAction → Phase → Phase
 by_rule Define phase = outside_then Inside phase
 by_rule rule phase = inside phase
 
@@ -65,7 +65,7 @@ by_item AConstant phase = inside phase
 by_item AnEnd phase = phase
 by_item (Part symbol) phase = by_symbol symbol phase
 by_item (Make rule) phase = by_rule rule phase
-by_item Shut phase = phase
+by_item Close phase = phase
 
 -- items over others
 abbrev pub over : List Item → Phase → Phase
@@ -102,7 +102,7 @@ abbrev Kept : Symbol → Production → Type 0
 Kept symbol None = Unit {0}
 Kept symbol (Some items) = KeptBy symbol items
 
-more_kept : (role : Role) → Kept (More role) (Some (Exactly mark.Comma ∷ AName role ∷ Part (More role) ∷ []))
+more_kept : (role : Role) → Kept (More role) (Some (Exactly punctuator.Comma ∷ AName role ∷ Part (More role) ∷ []))
 more_kept Defined = record { outside = tt; before = tt; inside = tt; wrong = tt }
 more_kept External = record { outside = refl; before = refl; inside = refl; wrong = tt }
 more_kept Parameter = record { outside = refl; before = refl; inside = refl; wrong = tt }
@@ -124,26 +124,26 @@ level_kept : (n : ℕ) (b : Bool) → Kept (Level n) (if b then Some (Part (Leve
 level_kept n true = record { outside = tt; before = tt; inside = refl; wrong = tt }
 level_kept n false = record { outside = tt; before = tt; inside = refl; wrong = tt }
 
-tail_kept : (n : ℕ) (o : Option Op) (m : Mark) → Kept (Tail n) (Some (tail_production n o m))
+tail_kept : (n : ℕ) (o : Option Op) (m : Punctuator) → Kept (Tail n) (Some (tail_production n o m))
 tail_kept n None m = record { outside = tt; before = tt; inside = refl; wrong = tt }
 tail_kept n (Some op) m = record { outside = tt; before = tt; inside = refl; wrong = tt }
 
-assignment_kept : (o : Option StoreOp) (m : Mark) → Kept Expression (Some (assignment_or o m))
+assignment_kept : (o : Option StoreOp) (m : Punctuator) → Kept Expression (Some (assignment_or o m))
 assignment_kept None m = record { outside = tt; before = tt; inside = refl; wrong = tt }
 assignment_kept (Some op) m = record { outside = tt; before = tt; inside = refl; wrong = tt }
 
 head_kept : (next after : Token) → Kept Head (choice Head next after)
-head_kept (token.Name name) (token.Mark mark.OpenRound) = record { outside = refl; before = tt; inside = tt; wrong = tt }
+head_kept (token.Name name) (token.Punctuator punctuator.OpenRound) = record { outside = refl; before = tt; inside = tt; wrong = tt }
 head_kept (token.Name name) after = record { outside = refl; before = tt; inside = tt; wrong = tt }
 head_kept next after = tt
 
 primary_kept : (next after : Token) → Kept Primary (choice Primary next after)
 primary_kept (token.Constant value) after = record { outside = tt; before = tt; inside = refl; wrong = tt }
-primary_kept (token.Name name) (token.Mark mark.OpenRound) = record { outside = tt; before = tt; inside = refl; wrong = tt }
-primary_kept (token.Name name) (token.Mark mark.PlusPlus) = record { outside = tt; before = tt; inside = refl; wrong = tt }
-primary_kept (token.Name name) (token.Mark mark.MinusMinus) = record { outside = tt; before = tt; inside = refl; wrong = tt }
+primary_kept (token.Name name) (token.Punctuator punctuator.OpenRound) = record { outside = tt; before = tt; inside = refl; wrong = tt }
+primary_kept (token.Name name) (token.Punctuator punctuator.PlusPlus) = record { outside = tt; before = tt; inside = refl; wrong = tt }
+primary_kept (token.Name name) (token.Punctuator punctuator.MinusMinus) = record { outside = tt; before = tt; inside = refl; wrong = tt }
 primary_kept (token.Name name) after = record { outside = tt; before = tt; inside = refl; wrong = tt }
-primary_kept (token.Mark mark.OpenRound) after = record { outside = tt; before = tt; inside = refl; wrong = tt }
+primary_kept (token.Punctuator punctuator.OpenRound) after = record { outside = tt; before = tt; inside = refl; wrong = tt }
 primary_kept next after = tt
 
 kept : (symbol : Symbol) (next after : Token) → Kept symbol (choice symbol next after)
@@ -154,45 +154,45 @@ kept Source next after = tt
 kept Types (token.Word word.Type) after = record { outside = refl; before = refl; inside = refl; wrong = tt }
 kept Types next after = record { outside = refl; before = refl; inside = refl; wrong = tt }
 kept Head next after = head_kept next after
-kept (More role) (token.Mark mark.Comma) after = more_kept role
+kept (More role) (token.Punctuator punctuator.Comma) after = more_kept role
 kept (More role) next after = no_more_kept role
 kept Parameters (token.Name name) after = record { outside = refl; before = refl; inside = refl; wrong = tt }
 kept Parameters next after = record { outside = refl; before = refl; inside = refl; wrong = tt }
 kept ParameterTypes (token.Word word.Type) after = record { outside = refl; before = refl; inside = refl; wrong = tt }
 kept ParameterTypes next after = record { outside = refl; before = refl; inside = refl; wrong = tt }
-kept FunctionBlock (token.Mark mark.OpenCurly) after = record { outside = refl; before = tt; inside = tt; wrong = tt }
+kept FunctionBlock (token.Punctuator punctuator.OpenCurly) after = record { outside = refl; before = tt; inside = tt; wrong = tt }
 kept FunctionBlock next after = tt
-kept Block (token.Mark mark.OpenCurly) after = record { outside = tt; before = tt; inside = refl; wrong = tt }
+kept Block (token.Punctuator punctuator.OpenCurly) after = record { outside = tt; before = tt; inside = refl; wrong = tt }
 kept Block next after = tt
 kept Declarations (token.Word word.Type) after = record { outside = refl; before = refl; inside = refl; wrong = tt }
 kept Declarations next after = record { outside = refl; before = refl; inside = refl; wrong = tt }
-kept Statements (token.Mark mark.CloseCurly) after = record { outside = tt; before = tt; inside = refl; wrong = tt }
+kept Statements (token.Punctuator punctuator.CloseCurly) after = record { outside = tt; before = tt; inside = refl; wrong = tt }
 kept Statements next after = record { outside = tt; before = tt; inside = refl; wrong = tt }
-kept Statement (token.Mark mark.Semicolon) after = record { outside = tt; before = tt; inside = refl; wrong = tt }
-kept Statement (token.Mark mark.OpenCurly) after = record { outside = tt; before = tt; inside = refl; wrong = tt }
+kept Statement (token.Punctuator punctuator.Semicolon) after = record { outside = tt; before = tt; inside = refl; wrong = tt }
+kept Statement (token.Punctuator punctuator.OpenCurly) after = record { outside = tt; before = tt; inside = refl; wrong = tt }
 kept Statement (token.Word word.If) after = record { outside = tt; before = tt; inside = refl; wrong = tt }
 kept Statement (token.Word word.While) after = record { outside = tt; before = tt; inside = refl; wrong = tt }
 kept Statement (token.Word word.Return) after = record { outside = tt; before = tt; inside = refl; wrong = tt }
 kept Statement next after = record { outside = tt; before = tt; inside = refl; wrong = tt }
 kept ElsePart (token.Word word.Else) after = record { outside = tt; before = tt; inside = refl; wrong = tt }
 kept ElsePart next after = record { outside = tt; before = tt; inside = refl; wrong = tt }
-kept Back (token.Mark mark.Semicolon) after = record { outside = tt; before = tt; inside = refl; wrong = tt }
+kept Back (token.Punctuator punctuator.Semicolon) after = record { outside = tt; before = tt; inside = refl; wrong = tt }
 kept Back next after = record { outside = tt; before = tt; inside = refl; wrong = tt }
-kept Expression (token.Name name) (token.Mark m) = assignment_kept (store_of m) m
+kept Expression (token.Name name) (token.Punctuator m) = assignment_kept (store_of m) m
 kept Expression next after = record { outside = tt; before = tt; inside = refl; wrong = tt }
 kept (Level n) next after = level_kept n (nat_lt n 11)
-kept (Tail n) (token.Mark m) after = tail_kept n (operator_at n (token.Mark m)) m
+kept (Tail n) (token.Punctuator m) after = tail_kept n (operator_at n (token.Punctuator m)) m
 kept (Tail n) next after = record { outside = tt; before = tt; inside = refl; wrong = tt }
-kept Unary (token.Mark mark.Minus) after = record { outside = tt; before = tt; inside = refl; wrong = tt }
-kept Unary (token.Mark mark.Not) after = record { outside = tt; before = tt; inside = refl; wrong = tt }
-kept Unary (token.Mark mark.Tilde) after = record { outside = tt; before = tt; inside = refl; wrong = tt }
-kept Unary (token.Mark mark.PlusPlus) after = record { outside = tt; before = tt; inside = refl; wrong = tt }
-kept Unary (token.Mark mark.MinusMinus) after = record { outside = tt; before = tt; inside = refl; wrong = tt }
+kept Unary (token.Punctuator punctuator.Minus) after = record { outside = tt; before = tt; inside = refl; wrong = tt }
+kept Unary (token.Punctuator punctuator.Not) after = record { outside = tt; before = tt; inside = refl; wrong = tt }
+kept Unary (token.Punctuator punctuator.Tilde) after = record { outside = tt; before = tt; inside = refl; wrong = tt }
+kept Unary (token.Punctuator punctuator.PlusPlus) after = record { outside = tt; before = tt; inside = refl; wrong = tt }
+kept Unary (token.Punctuator punctuator.MinusMinus) after = record { outside = tt; before = tt; inside = refl; wrong = tt }
 kept Unary next after = record { outside = tt; before = tt; inside = refl; wrong = tt }
 kept Primary next after = primary_kept next after
-kept Arguments (token.Mark mark.CloseRound) after = record { outside = tt; before = tt; inside = refl; wrong = tt }
+kept Arguments (token.Punctuator punctuator.CloseRound) after = record { outside = tt; before = tt; inside = refl; wrong = tt }
 kept Arguments next after = record { outside = tt; before = tt; inside = refl; wrong = tt }
-kept MoreArguments (token.Mark mark.Comma) after = record { outside = tt; before = tt; inside = refl; wrong = tt }
+kept MoreArguments (token.Punctuator punctuator.Comma) after = record { outside = tt; before = tt; inside = refl; wrong = tt }
 kept MoreArguments next after = record { outside = tt; before = tt; inside = refl; wrong = tt }
 
 at_phase : (symbol : Symbol) (items : List Item) → KeptBy symbol items → (phase : Phase) → Stays (by_symbol symbol phase) (over items phase)

@@ -3,7 +3,7 @@ use Rattle.std.proofs.Common.{◌≡◌, ℕ, ◌<◌, ◌≤◌, List, [], ◌�
 use Rattle.tokens.specs.Ends.{IsRising}
 use Rattle.tokens.specs.Reading.{reach_of}
 use Rattle.tokens.specs.Tokens.{tokens}
-use Rattle.tokens.specs.declared.lexemes.Lexeme.{Lexeme}
+use Rattle.tokens.specs.declared.located_tokens.LocatedToken.{LocatedToken}
 use Rattle.tokens.proofs.EndLemmas.{tokens-rising}
 use Rattle.grammar.specs.Compiled.{all_faults, enough}
 use Rattle.grammar.specs.Derivation.{State, start, run}
@@ -20,54 +20,54 @@ use Rattle.grammar.proofs.Verdicts.{IsRest, gathered, run_rests}
 
 -- All tokens end where the last one does, or before.
 
-next_by_last : (place : ℕ) (next : Lexeme) (others : List Lexeme) → IsRising place (next ∷ others) → next.end ≤ last_end (next ∷ others)
+next_by_last : (place : ℕ) (next : LocatedToken) (others : List LocatedToken) → IsRising place (next ∷ others) → next.end ≤ last_end (next ∷ others)
 next_by_last place next [] rising = le_refl next.end
 next_by_last place next (after ∷ others) rising = omega (arith, rising.1.0, next_by_last next.end after others rising.1)
 
-reach_by_last : (place : ℕ) (rest : List Lexeme) → IsRising place rest → reach_of rest ≤ last_end rest
+reach_by_last : (place : ℕ) (rest : List LocatedToken) → IsRising place rest → reach_of rest ≤ last_end rest
 reach_by_last place [] rising = le_refl 0
 reach_by_last place (next ∷ []) rising = le_refl next.end
 reach_by_last place (next ∷ after ∷ others) rising = next_by_last next.end after others rising.1
 
-last_behind : (lexeme : Lexeme) (others : List Lexeme) → last_end others ≤ last_end (lexeme ∷ others)
-last_behind lexeme [] = omega arith
-last_behind lexeme (other ∷ others) = le_refl (last_end (other ∷ others))
+last_behind : (located_token : LocatedToken) (others : List LocatedToken) → last_end others ≤ last_end (located_token ∷ others)
+last_behind located_token [] = omega arith
+last_behind located_token (other ∷ others) = le_refl (last_end (other ∷ others))
 
-all_by_last : (place : ℕ) (passed rest : List Lexeme) → IsRising place (passed ++ rest) → reach_of rest ≤ last_end (passed ++ rest)
+all_by_last : (place : ℕ) (passed rest : List LocatedToken) → IsRising place (passed ++ rest) → reach_of rest ≤ last_end (passed ++ rest)
 all_by_last place [] rest rising = reach_by_last place rest rising
-all_by_last place (lexeme ∷ passed) rest rising = omega (arith, last_behind lexeme (passed ++ rest), all_by_last lexeme.end passed rest rising.1)
+all_by_last place (located_token ∷ passed) rest rising = omega (arith, last_behind located_token (passed ++ rest), all_by_last located_token.end passed rest rising.1)
 
 -- What is reached from a token is reached from those behind it.
 
-reach_behind : (place : ℕ) (lexeme : Lexeme) (others : List Lexeme) → 0 < length others → IsRising place (lexeme ∷ others) → reach_of (lexeme ∷ others) ≤ reach_of others
-reach_behind place lexeme [] some rising = absurd (omega (arith, some))
-reach_behind place lexeme (next ∷ []) some rising = le_refl next.end
-reach_behind place lexeme (next ∷ after ∷ others) some rising = rising.1.1.0
+reach_behind : (place : ℕ) (located_token : LocatedToken) (others : List LocatedToken) → 0 < length others → IsRising place (located_token ∷ others) → reach_of (located_token ∷ others) ≤ reach_of others
+reach_behind place located_token [] some rising = absurd (omega (arith, some))
+reach_behind place located_token (next ∷ []) some rising = le_refl next.end
+reach_behind place located_token (next ∷ after ∷ others) some rising = rising.1.1.0
 
-reach_is_end : (rest : List Lexeme) → reach_of rest ≤ end_behind rest
+reach_is_end : (rest : List LocatedToken) → reach_of rest ≤ end_behind rest
 reach_is_end [] = le_refl 0
 reach_is_end (next ∷ []) = le_refl next.end
 reach_is_end (next ∷ after ∷ others) = le_refl after.end
 
-reach_later : (place : ℕ) (before rest : List Lexeme) → 0 < length rest → IsRising place (before ++ rest) → reach_of (before ++ rest) ≤ end_behind rest
+reach_later : (place : ℕ) (before rest : List LocatedToken) → 0 < length rest → IsRising place (before ++ rest) → reach_of (before ++ rest) ≤ end_behind rest
 reach_later place [] rest some rising = reach_is_end rest
-reach_later place (lexeme ∷ before) rest some rising =
+reach_later place (located_token ∷ before) rest some rising =
     let others : 0 < length (before ++ rest) = omega (arith, length-append before rest, some) in
-    omega (arith, reach_behind place lexeme (before ++ rest) others rising, reach_later lexeme.end before rest some rising.1)
+    omega (arith, reach_behind place located_token (before ++ rest) others rising, reach_later located_token.end before rest some rising.1)
 
-same_others : (x y : Lexeme) (xs ys : List Lexeme) → x ∷ xs ≡ y ∷ ys → xs ≡ ys
+same_others : (x y : LocatedToken) (xs ys : List LocatedToken) → x ∷ xs ≡ y ∷ ys → xs ≡ ys
 same_others x y xs ys e = cc
 
 -- with as many tokens left, or fewer
-reach_by : (place : ℕ) (before left passed rest : List Lexeme) → before ++ left ≡ passed ++ rest → length left ≤ length rest → 0 < length left →
+reach_by : (place : ℕ) (before left passed rest : List LocatedToken) → before ++ left ≡ passed ++ rest → length left ≤ length rest → 0 < length left →
     IsRising place (passed ++ rest) → reach_of rest ≤ end_behind left
 reach_by place before left [] rest is fewer some rising =
     subst (λ xs. reach_of xs ≤ end_behind left) is (reach_later place before left some (subst (IsRising place) (sym is) rising))
-reach_by place [] left (lexeme ∷ passed) rest is fewer some rising =
+reach_by place [] left (located_token ∷ passed) rest is fewer some rising =
     absurd (omega (arith, ap length is, length-append passed rest, fewer))
-reach_by place (x ∷ before) left (lexeme ∷ passed) rest is fewer some rising = reach_by lexeme.end before left passed rest (same_others x lexeme _ _ is) fewer some rising.1
+reach_by place (x ∷ before) left (located_token ∷ passed) rest is fewer some rising = reach_by located_token.end before left passed rest (same_others x located_token _ _ is) fewer some rising.1
 
-fault_by : (profile : Profile) (bytes : List ℕ) (passed rest : List Lexeme) (f : Fault) → tokens bytes ≡ passed ++ rest → length f.rest ≤ length rest →
+fault_by : (profile : Profile) (bytes : List ℕ) (passed rest : List LocatedToken) (f : Fault) → tokens bytes ≡ passed ++ rest → length f.rest ≤ length rest →
     IsFault profile (start (tokens bytes)) f → reach_of rest ≤ end_behind f.rest
 fault_by profile bytes passed rest f is fewer comes =
     let s : State = run comes.steps (start (tokens bytes)) in

@@ -3,12 +3,12 @@ use Rattle.std.proofs.Common.{◌≡◌, ℕ, zero, suc, ◌+◌, ◌<◌, List,
 use Rattle.std.proofs.lemmas.Bool.Decides.{nat_tests}
 use Rattle.std.proofs.lemmas.List.{length-set, map-append}
 use Rattle.std.specs.Prelude.{Option, Some, None, Result, Ok, Err, if◌then◌else◌, unwrap_or, slice_get, ◌==◌}
-use Rattle.tokens.specs.declared.lexemes.Lexeme.{Lexeme}
+use Rattle.tokens.specs.declared.located_tokens.LocatedToken.{LocatedToken}
 use Rattle.grammar.specs.declared.diagnostics.Diagnostic.{Diagnostic}
 use Rattle.grammar.specs.Compiled.{order_of, defined_as, in_front, all_defined, file_of, resolved, verdict, main_name, all_faults, last_state, enough, last_line}
 use Rattle.grammar.specs.Derivation.{State, state, start, Value, Definition, definition_of, last_body, made, of_name, next_of, after_of, line_of, name_of_token, constant_value, matched, name_matched, constant_matched, replaced, step_of, step, stepped, run}
 use Rattle.grammar.specs.Faults.{Fault, faults_at, faults_in, item_faults, name_faults, role_faults, misfit, misfits}
-use Rattle.grammar.specs.Grammar.{Item, Exactly, AWord, AName, AConstant, AnEnd, Part, Make, Shut, Symbol, Rule, Operate, Negate, Not, Complement, Fetch, Store, StepBefore, StepBehind, Pass, Invoke, Empty, Evaluate, Decide, DecideElse, Repeat, Zero, GiveBack, Define, Role, Defined, External, Parameter, Typed, Local, Called, Mentioned, Production, choice, is_fault}
+use Rattle.grammar.specs.Grammar.{Item, Exactly, AWord, AName, AConstant, AnEnd, Part, Make, Close, Symbol, SemanticAction, Operate, Negate, Not, Complement, Fetch, Store, StepBefore, StepBehind, Pass, Invoke, Empty, Evaluate, Decide, DecideElse, Repeat, Zero, GiveBack, Define, Role, Defined, External, Parameter, Typed, Local, Called, Mentioned, Production, choice, is_fault}
 use Rattle.grammar.specs.Laws.{CompiledIsResolved}
 use Rattle.grammar.specs.Profile.{Profile}
 use Rattle.grammar.specs.Resolved.{InFile, IsAmong, AreDistinct, IsResolved}
@@ -91,7 +91,7 @@ tied_ended Wrong values old new ds more change t = absurd t
 
 -- Steps.
 
-name_sound : (role : Role) (name : List ℕ) (stack : List Item) (rest : List Lexeme) (line : ℕ) (left : List Lexeme) (values : List Value) (scope : Scope) (ds : List Definition) →
+name_sound : (role : Role) (name : List ℕ) (stack : List Item) (rest : List LocatedToken) (line : ℕ) (left : List LocatedToken) (values : List Value) (scope : Scope) (ds : List Definition) →
     Known scope ds → Clean (role_faults role name scope rest) → Tied (by_role role (phase_of stack)) values scope ds →
     Sound (state stack left (of_name role name scope ++ values) (behind_name role name line scope) ds)
 name_sound Defined name stack rest line left values scope ds k clean t =
@@ -162,7 +162,7 @@ ended Inside values scope ds t = absurd t
 ended Before values scope ds t = absurd t
 ended Wrong values scope ds t = absurd t
 
-define_sound : (stack : List Item) (rest : List Lexeme) (values : List Value) (scope : Scope) (ds : List Definition) →
+define_sound : (stack : List Item) (rest : List LocatedToken) (values : List Value) (scope : Scope) (ds : List Definition) →
     Known scope ds → Tied (outside_then Inside (phase_of stack)) values scope ds →
     Sound (state stack rest [] (end_definition scope) (ds ++ definition_of scope (last_body values) ∷ []))
 define_sound stack rest values scope ds k t = record {
@@ -171,7 +171,7 @@ define_sound stack rest values scope ds k t = record {
       (λ b. record { none = refl; begun = b.begun ∙ sym (order-append ds (definition_of scope (last_body values))) }) t;
 }
 
-make_sound : (rule : Rule) (stack : List Item) (rest : List Lexeme) (values : List Value) (scope : Scope) (ds : List Definition) →
+make_sound : (rule : SemanticAction) (stack : List Item) (rest : List LocatedToken) (values : List Value) (scope : Scope) (ds : List Definition) →
     Known scope ds → Tied (inside (phase_of stack)) values scope ds → Sound (state stack rest (made rule values) scope (ds ++ []))
 make_sound rule stack rest values scope ds k t = subst (λ (xs : List Definition). Sound (state stack rest (made rule values) scope xs)) (sym (append-nil ds)) (record {
   known = k;
@@ -182,12 +182,12 @@ abbrev IfSound : Option State → Type 0
 IfSound None = Unit {0}
 IfSound (Some s) = Sound s
 
-matched_sound : (fits : Bool) (stack : List Item) (rest : List Lexeme) (values : List Value) (scope : Scope) (ds : List Definition) →
+matched_sound : (fits : Bool) (stack : List Item) (rest : List LocatedToken) (values : List Value) (scope : Scope) (ds : List Definition) →
     Sound (state stack rest values scope ds) → IfSound (matched fits stack rest values scope ds)
 matched_sound true stack rest values scope ds s = record { known = s.known; tied = s.tied }
 matched_sound false stack rest values scope ds s = tt
 
-constant_sound : (value : Option ℕ) (stack : List Item) (rest : List Lexeme) (values : List Value) (scope : Scope) (ds : List Definition) →
+constant_sound : (value : Option ℕ) (stack : List Item) (rest : List LocatedToken) (values : List Value) (scope : Scope) (ds : List Definition) →
     Known scope ds → Tied (inside (phase_of stack)) values scope ds → IfSound (constant_matched value stack rest values scope ds)
 constant_sound None stack rest values scope ds k t = tt
 constant_sound (Some value) stack rest values scope ds k t = record {
@@ -195,12 +195,12 @@ constant_sound (Some value) stack rest values scope ds k t = record {
   tied = tied_inside (phase_of stack) values _ scope scope ds (λ b. record { within = (tt, b.within); begun = b.begun }) t;
 }
 
-named_sound : (role : Role) (name : Option (List ℕ)) (stack : List Item) (rest : List Lexeme) (values : List Value) (scope : Scope) (ds : List Definition) →
+named_sound : (role : Role) (name : Option (List ℕ)) (stack : List Item) (rest : List LocatedToken) (values : List Value) (scope : Scope) (ds : List Definition) →
     Clean (name_faults role name scope rest) → Known scope ds → Tied (by_role role (phase_of stack)) values scope ds → IfSound (name_matched role name stack rest values scope ds)
 named_sound role None stack rest values scope ds clean k t = tt
 named_sound role (Some name) stack rest values scope ds clean k t = name_sound role name stack rest (line_of rest) (drop 1 rest) values scope ds k clean t
 
-part_sound : (symbol : Symbol) (production : Production) (stack : List Item) (rest : List Lexeme) (values : List Value) (scope : Scope) (ds : List Definition) →
+part_sound : (symbol : Symbol) (production : Production) (stack : List Item) (rest : List LocatedToken) (values : List Value) (scope : Scope) (ds : List Definition) →
     choice symbol (next_of rest) (after_of rest) ≡ production → Sound (state (Part symbol ∷ stack) rest values scope ds) → IfSound (replaced production stack rest values scope ds)
 part_sound symbol None stack rest values scope ds e s = tt
 part_sound symbol (Some items) stack rest values scope ds e s = record {
@@ -208,7 +208,7 @@ part_sound symbol (Some items) stack rest values scope ds e s = record {
   tied = tied_stays (phase_of (Part symbol ∷ stack)) (phase_of (items ++ stack)) values scope ds (part_stays symbol (next_of rest) (after_of rest) items stack e) s.tied;
 }
 
-sound_of : (profile : Profile) (stack : List Item) (rest : List Lexeme) (values : List Value) (scope : Scope) (ds : List Definition) →
+sound_of : (profile : Profile) (stack : List Item) (rest : List LocatedToken) (values : List Value) (scope : Scope) (ds : List Definition) →
     Clean (item_faults profile stack rest values scope ds) → Sound (state stack rest values scope ds) → IfSound (step_of stack rest values scope ds)
 sound_of profile [] rest values scope ds clean s = tt
 sound_of profile (Exactly m ∷ stack) rest values scope ds clean s = matched_sound _ stack rest values scope ds (record { known = s.known; tied = s.tied })
@@ -235,9 +235,9 @@ sound_of profile (Make DecideElse ∷ stack) rest values scope ds clean s = make
 sound_of profile (Make Repeat ∷ stack) rest values scope ds clean s = make_sound Repeat stack rest values scope ds s.known s.tied
 sound_of profile (Make Zero ∷ stack) rest values scope ds clean s = make_sound Zero stack rest values scope ds s.known s.tied
 sound_of profile (Make GiveBack ∷ stack) rest values scope ds clean s = make_sound GiveBack stack rest values scope ds s.known s.tied
-sound_of profile (Shut ∷ stack) rest values scope ds clean s = record { known = s.known; tied = s.tied }
+sound_of profile (Close ∷ stack) rest values scope ds clean s = record { known = s.known; tied = s.tied }
 
-guarded_sound : (b : Bool) (rest : List Lexeme) (xs ys : List Fault) (o : Option State) → (if b then misfit rest else xs ++ ys) ≡ [] → (xs ≡ [] → IfSound o) → IfSound (if b then None else o)
+guarded_sound : (b : Bool) (rest : List LocatedToken) (xs ys : List Fault) (o : Option State) → (if b then misfit rest else xs ++ ys) ≡ [] → (xs ≡ [] → IfSound o) → IfSound (if b then None else o)
 guarded_sound true rest xs ys o e h = tt
 guarded_sound false rest xs ys o e h = h (append_empty xs ys e).0
 
@@ -257,8 +257,8 @@ run_sound profile (suc n) s clean h =
     run_sound profile n (stepped s) (append_empty (faults_at profile s) (faults_in profile n (stepped s)) clean).1
     (stepped_sound profile s (append_empty (faults_at profile s) (faults_in profile n (stepped s)) clean).0 h)
 
-pub start_sound : (lexemes : List Lexeme) → Sound (start lexemes)
-start_sound lexemes = record {
+pub start_sound : (located_tokens : List LocatedToken) → Sound (start located_tokens)
+start_sound located_tokens = record {
   known = record {
     externals = omega arith;
     functions = omega arith;
@@ -397,18 +397,18 @@ resolved_of s all place h found named =
     from_zero k = omega arith
 
 -- where the verdict is a file, no fault was gathered
-record IsClean (lexemes : List Lexeme) (faults : List Fault) (scope : Scope) (ds : List Definition) (file : File) : Type 0 where
+record IsClean (located_tokens : List LocatedToken) (faults : List Fault) (scope : Scope) (ds : List Definition) (file : File) : Type 0 where
   clean : faults ≡ []
-  is : resolved lexemes scope ds ≡ Ok file
+  is : resolved located_tokens scope ds ≡ Ok file
 
-is_clean : (lexemes : List Lexeme) (faults : List Fault) (scope : Scope) (ds : List Definition) (file : File) → verdict lexemes faults scope ds ≡ Ok file → IsClean lexemes faults scope ds file
-is_clean lexemes [] scope ds file e = record { clean = refl; is = e }
-is_clean lexemes (f ∷ faults) scope ds file e = absurd (cc)
+is_clean : (located_tokens : List LocatedToken) (faults : List Fault) (scope : Scope) (ds : List Definition) (file : File) → verdict located_tokens faults scope ds ≡ Ok file → IsClean located_tokens faults scope ds file
+is_clean located_tokens [] scope ds file e = record { clean = refl; is = e }
+is_clean located_tokens (f ∷ faults) scope ds file e = absurd (cc)
 
 pub compiled_is_resolved : CompiledIsResolved
-compiled_is_resolved profile lexemes file e =
-    let c : IsClean lexemes (all_faults profile lexemes) (last_state lexemes).scope (last_state lexemes).functions file = is_clean lexemes (all_faults profile lexemes) (last_state lexemes).scope (last_state lexemes).functions file e in
-    let s : Sound (last_state lexemes) = run_sound profile (enough lexemes) (start lexemes) c.clean (start_sound lexemes) in
-    let m : IsMade (last_state lexemes).scope (order_of (last_state lexemes).functions) (all_defined 0 (last_state lexemes).scope.lines (last_state lexemes).functions) (function_number main_name (last_state lexemes).scope) file =
-    is_made (last_line lexemes) (last_state lexemes).scope (order_of (last_state lexemes).functions) (all_defined 0 (last_state lexemes).scope.lines (last_state lexemes).functions) (function_number main_name (last_state lexemes).scope) file c.is in
-    subst (λ (x : File). IsResolved x) m.is (resolved_of (last_state lexemes) m.all m.place s m.found m.named)
+compiled_is_resolved profile located_tokens file e =
+    let c : IsClean located_tokens (all_faults profile located_tokens) (last_state located_tokens).scope (last_state located_tokens).functions file = is_clean located_tokens (all_faults profile located_tokens) (last_state located_tokens).scope (last_state located_tokens).functions file e in
+    let s : Sound (last_state located_tokens) = run_sound profile (enough located_tokens) (start located_tokens) c.clean (start_sound located_tokens) in
+    let m : IsMade (last_state located_tokens).scope (order_of (last_state located_tokens).functions) (all_defined 0 (last_state located_tokens).scope.lines (last_state located_tokens).functions) (function_number main_name (last_state located_tokens).scope) file =
+    is_made (last_line located_tokens) (last_state located_tokens).scope (order_of (last_state located_tokens).functions) (all_defined 0 (last_state located_tokens).scope.lines (last_state located_tokens).functions) (function_number main_name (last_state located_tokens).scope) file c.is in
+    subst (λ (x : File). IsResolved x) m.is (resolved_of (last_state located_tokens) m.all m.place s m.found m.named)

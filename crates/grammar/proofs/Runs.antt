@@ -1,4 +1,4 @@
--- Stretches of a derivation one behind another, and how a first fault goes back along one.
+-- Segments of a derivation one behind another, and how a first fault goes back along one.
 use Rattle.std.proofs.Common.{◌≡◌, ℕ, zero, suc, ◌+◌, List, [], ◌∷◌, ◌++◌, refl, sym, ap, ◌∙◌, subst, zero-add, suc-add, append_assoc}
 use Rattle.grammar.specs.declared.diagnostics.Diagnostic.{Diagnostic}
 use Rattle.grammar.specs.Derivation.{State, stepped, run}
@@ -59,7 +59,7 @@ sooner profile m s f h = record {
   here = subst (λ (t : State). IsIn f (faults_at profile t)) (sym (run-add m h.steps s)) h.here;
 }
 
--- a first fault goes back along a stretch without faults
+-- a first fault goes back along a segment without faults
 pub first_back : (profile : Profile) (s t : State) (f : Fault) → Passes profile s t → IsFirstFault profile t f → IsFirstFault profile s f
 first_back profile s t f p h = record {
   comes = sooner profile p.steps s f (subst (λ (v : State). IsFault profile v f) (sym p.leads) h.comes);

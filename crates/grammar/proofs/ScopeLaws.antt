@@ -6,10 +6,11 @@ use Rattle.std.proofs.lemmas.Map.Steps.{length-le_from_distinct_below}
 use Rattle.std.proofs.lemmas.Bool.Decides.{nat_tests}
 use Rattle.std.proofs.lemmas.List.{drop_more, length-map, length-append}
 use Rattle.std.proofs.lemmas.List.Sums.{position_or_len_is}
+use Rattle.std.proofs.Math.Seq.{take-set-lt}
 use Rattle.std.specs.List.{AllByRecursion, IsDistinct, list_any, position, position_or_len}
 use Rattle.std.specs.Str.{bytes_eq}
 use Rattle.std.specs.Prelude.{nat_le, nat_lt, slice_index_or, ◌==◌}
-use Rattle.tokens.specs.declared.lexemes.Lexeme.{Lexeme}
+use Rattle.tokens.specs.declared.located_tokens.LocatedToken.{LocatedToken}
 use Rattle.grammar.specs.declared.diagnostics.Code.{Code}
 use Rattle.grammar.specs.declared.diagnostics.Code.TheVariants as code
 use Rattle.grammar.specs.Faults.{fault, no_room, most_names, parameter_faults}
@@ -27,24 +28,24 @@ pub position_of_map : {A B : Type 0} (p : B → Bool) (f : A → B) (xs : List A
 position_of_map p f xs = ap₂ (λ n m. cond (nat_lt n m) (Some n) None) (position_or_len_of_map p f xs) (length-map xs f)
 
 -- a new name that finds room
-pub room : (new : Bool) (n : ℕ) (c : Code) (rest : List Lexeme) → nat_le 64 n ≡ false → no_room new n c rest ≡ []
+pub room : (new : Bool) (n : ℕ) (c : Code) (rest : List LocatedToken) → nat_le 64 n ≡ false → no_room new n c rest ≡ []
 unfolding most_names
 room false n c rest small = refl
 room true n c rest small = rw small refl
 
 -- and one that finds none
-pub full : (new : Bool) (n : ℕ) (c : Code) (rest : List Lexeme) → new ≡ true → nat_le 64 n ≡ true → no_room new n c rest ≡ fault rest c ∷ []
+pub full : (new : Bool) (n : ℕ) (c : Code) (rest : List LocatedToken) → new ≡ true → nat_le 64 n ≡ true → no_room new n c rest ≡ fault rest c ∷ []
 unfolding most_names
 full new n c rest is large = rw (is, large) refl
 
 -- a name that isn't new
-pub known : (new : Bool) (n : ℕ) (c : Code) (rest : List Lexeme) → new ≡ false → no_room new n c rest ≡ []
+pub known : (new : Bool) (n : ℕ) (c : Code) (rest : List LocatedToken) → new ≡ false → no_room new n c rest ≡ []
 known new n c rest is = rw is refl
 
 pub below_most : (n : ℕ) → nat_le 64 n ≡ false → n < 64
 below_most n h = grind (arith, nat_tests)
 
-pub parameter_full : (name : List ℕ) (scope : Scope) (rest : List Lexeme) → is_local_new name scope ≡ true → nat_le 64 (length scope.current.variables) ≡ true →
+pub parameter_full : (name : List ℕ) (scope : Scope) (rest : List LocatedToken) → is_local_new name scope ≡ true → nat_le 64 (length scope.current.variables) ≡ true →
     parameter_faults name scope rest ≡ fault rest code.TooManyVariables ∷ []
 parameter_full name scope rest new large = rw new (full true (length scope.current.variables) code.TooManyVariables rest refl large)
 
@@ -74,7 +75,7 @@ pub function_new : (name : List ℕ) (scope : Scope) → intrinsic_named name �
 function_new name scope own unknown = rw (own, unknown) refl
 
 -- one function too many is called
-pub called_full : (name : List ℕ) (scope : Scope) (rest : List Lexeme) → intrinsic_named name ≡ None → function_number name scope ≡ None → nat_le 64 (length scope.functions) ≡ true →
+pub called_full : (name : List ℕ) (scope : Scope) (rest : List LocatedToken) → intrinsic_named name ≡ None → function_number name scope ≡ None → nat_le 64 (length scope.functions) ≡ true →
     no_room (is_function_new name scope) (length scope.functions) code.TooManyFunctions rest ≡ fault rest code.TooManyFunctions ∷ []
 called_full name scope rest own unknown large =
     full (is_function_new name scope) (length scope.functions) code.TooManyFunctions rest (function_new name scope own unknown) large
@@ -128,6 +129,9 @@ room_begun functions lines begun n kept within new =
     let more = kept_begun functions lines begun n kept within new in
     let most = length-le_from_distinct_below (begun ++ n ∷ []) (length functions) more.once more.known in
     omega (arith, most, kept.few, length-append begun (n ∷ []))
+
+-- a function of the pools changes in its place
+pub ruleset in_place = (take-set-lt)
 
 pub ruleset beginnings = (kept_begun, room_begun)
 

@@ -5,14 +5,14 @@ use Rattle.std.proofs.lemmas.List.{length-map}
 use Rattle.std.specs.Prelude.{Option, Some, None, if◌then◌else◌, map, nat_lt, nat_le, ◌==◌, ◌||◌}
 use Rattle.std.specs.List.{position_or_len, list_any}
 use Rattle.std.specs.Str.{bytes_eq}
-use Rattle.tokens.specs.declared.lexemes.Lexeme.{Lexeme}
+use Rattle.tokens.specs.declared.located_tokens.LocatedToken.{LocatedToken}
 use Rattle.grammar.specs.declared.diagnostics.Code.{Code}
 use Rattle.grammar.specs.declared.diagnostics.Code.TheVariants as code
 use Rattle.grammar.specs.declared.names.Callee.{Callee}
 use Rattle.grammar.specs.declared.names.Intrinsic.{Intrinsic}
 use Rattle.grammar.specs.Derivation.{Value, AnExpr, AVariable, ACall, ABody, Definition, last_body, made}
 use Rattle.grammar.specs.Faults.{Fault, fault, no_room, most_names, role_faults}
-use Rattle.grammar.specs.Grammar.{Rule, Operate, Negate, Not, Complement, Fetch, Store, StepBefore, StepBehind, Pass, Invoke, Empty, Evaluate, Decide, DecideElse, Repeat, Zero, GiveBack, Define, Role, Defined, External, Parameter, Typed, Local, Called, Mentioned}
+use Rattle.grammar.specs.Grammar.{SemanticAction, Operate, Negate, Not, Complement, Fetch, Store, StepBefore, StepBehind, Pass, Invoke, Empty, Evaluate, Decide, DecideElse, Repeat, Zero, GiveBack, Define, Role, Defined, External, Parameter, Typed, Local, Called, Mentioned}
 use Rattle.grammar.specs.Intrinsics.{intrinsic_named, is_intrinsic}
 use Rattle.grammar.specs.Pools.{FunctionNames}
 use Rattle.grammar.specs.Resolved.{IsVariable, IsCallable, InExpr, InArgs, InBody, InFile, IsAmong, AreDistinct}
@@ -53,9 +53,9 @@ argument_in e l n (tree.Argument a rest) x h k = (h.0, argument_in e l n rest x 
 
 join_in : (e l n : ℕ) (b c : Body) → InBody e l n b → InBody e l n c → InBody e l n (join b c)
 join_in e l n tree.Done c h k = k
-join_in e l n (tree.Alone a rest) c h k = (h.0, join_in e l n rest c h.1 k)
-join_in e l n (tree.When a s rest) c h k = (h.0, h.1, join_in e l n rest c h.2 k)
-join_in e l n (tree.Choose a s t rest) c h k = (h.0, h.1, h.2, join_in e l n rest c h.3 k)
+join_in e l n (tree.ExpressionStatement a rest) c h k = (h.0, join_in e l n rest c h.1 k)
+join_in e l n (tree.IfStatement a s rest) c h k = (h.0, h.1, join_in e l n rest c h.2 k)
+join_in e l n (tree.IfElseStatement a s t rest) c h k = (h.0, h.1, h.2, join_in e l n rest c h.3 k)
 join_in e l n (tree.While a s rest) c h k = (h.0, h.1, join_in e l n rest c h.2 k)
 join_in e l n (tree.Return a rest) c h k = (h.0, join_in e l n rest c h.1 k)
 
@@ -64,7 +64,7 @@ last_body_in e l n (ABody b ∷ values) h = h.0
 last_body_in e l n values h = tt
 
 -- what a rule makes is among the same names
-pub made_in : (e l n : ℕ) (rule : Rule) (values : List Value) → ValuesIn e l n values → ValuesIn e l n (made rule values)
+pub made_in : (e l n : ℕ) (rule : SemanticAction) (values : List Value) → ValuesIn e l n values → ValuesIn e l n (made rule values)
 made_in e l n (Operate o) (AnExpr b ∷ AnExpr a ∷ values) h = ((h.1.0, h.0), h.1.1)
 made_in e l n Negate (AnExpr x ∷ values) h = ((tt, h.0), h.1)
 made_in e l n Not (AnExpr x ∷ values) h = ((h.0, tt), h.1)
@@ -157,7 +157,7 @@ pub function_below : (name : List ℕ) (scope : Scope) (k : ℕ) → function_nu
 function_below name scope k e = omega (arith, place_below name (map (λ (f : FunctionNames). f.name) scope.functions) k e, length-map scope.functions (λ (f : FunctionNames). f.name))
 
 -- where a name that is new finds room
-room : (count : ℕ) (c : Code) (rest : List Lexeme) → no_room true count c rest ≡ [] → count < 64
+room : (count : ℕ) (c : Code) (rest : List LocatedToken) → no_room true count c rest ≡ [] → count < 64
 unfolding most_names
 room count c rest e = below (nat_le 64 count) refl e
   where
@@ -279,7 +279,7 @@ abbrev pub Clean : List Fault → Type 0
 Clean faults = faults ≡ []
 
 -- where a new name finds no room there is a fault
-room_if : (new : Bool) (count : ℕ) (c : Code) (rest : List Lexeme) → Clean (no_room new count c rest) → new ≡ true → count < 64
+room_if : (new : Bool) (count : ℕ) (c : Code) (rest : List LocatedToken) → Clean (no_room new count c rest) → new ≡ true → count < 64
 room_if true count c rest clean is = room count c rest clean
 room_if false count c rest clean is = absurd (cc)
 
@@ -320,7 +320,7 @@ abbrev pub Begins : Role → Type 0
 Begins Defined = ⊥
 Begins role = Unit {0}
 
-pub role_grows : (role : Role) (name : List ℕ) (line : ℕ) (scope : Scope) (ds : List Definition) (rest : List Lexeme) → Begins role → Known scope ds →
+pub role_grows : (role : Role) (name : List ℕ) (line : ℕ) (scope : Scope) (ds : List Definition) (rest : List LocatedToken) → Begins role → Known scope ds →
     Clean (role_faults role name scope rest) → Grows scope (behind_name role name line scope) ds
 role_grows Defined name line scope ds rest other k clean = absurd other
 role_grows External name line scope ds rest other k clean =
@@ -346,7 +346,7 @@ pub record BeginsWell (name : List ℕ) (line : ℕ) (scope : Scope) (ds : List 
   pub known : Known (begin_definition name line scope) ds
   pub begun : (begin_definition name line scope).begun ≡ scope.begun ++ number_for name scope ∷ []
 
-pub definition_begins : (name : List ℕ) (line : ℕ) (scope : Scope) (ds : List Definition) (rest : List Lexeme) → Known scope ds → Clean (role_faults Defined name scope rest) → BeginsWell name line scope ds
+pub definition_begins : (name : List ℕ) (line : ℕ) (scope : Scope) (ds : List Definition) (rest : List LocatedToken) → Known scope ds → Clean (role_faults Defined name scope rest) → BeginsWell name line scope ds
 definition_begins name line scope ds rest k clean = at_tests (is_intrinsic name) (has_begun name scope) refl refl clean
   where
     all_below : (j : ℕ) → IsAmong j scope.begun ⊎ (j ≡ number_for name scope) → Grows scope (with_function name line scope) ds → number_for name scope < length (with_function name line scope).functions → j < length (with_function name line scope).functions

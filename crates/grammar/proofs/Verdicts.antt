@@ -1,16 +1,16 @@
 -- What the derivation of a source leads to is what the source is.
-use Rattle.std.proofs.Common.{◌≡◌, ℕ, zero, suc, ◌+◌, ◌⊎◌, List, [], ◌∷◌, ◌++◌, refl, sym, ap, ◌∙◌, subst, inl, inr, Bool, true, false, arith, length, drop, append_assoc, length-append, le-add_right, le_refl, add-one, ⊎_elim, ap₂}
+use Rattle.std.proofs.Common.{◌≡◌, ◌≤◌, ℕ, zero, suc, ◌+◌, ◌⊎◌, List, [], ◌∷◌, ◌++◌, refl, sym, ap, ◌∙◌, subst, inl, inr, Bool, true, false, arith, length, drop, append_assoc, length-append, le-add_right, le_refl, add-one, ⊎_elim, ap₂}
 use Rattle.std.specs.Prelude.{Option, Some, None, Err, unwrap_or, if◌then◌else◌}
-use Rattle.tokens.specs.declared.lexemes.Lexeme.{Lexeme}
+use Rattle.tokens.specs.declared.located_tokens.LocatedToken.{LocatedToken}
 use Rattle.grammar.specs.declared.diagnostics.Diagnostic.{Diagnostic}
 use Rattle.grammar.specs.Compiled.{compiled_tokens, verdict, resolved, enough, diagnostic}
 use Rattle.grammar.specs.Derivation.{State, Value, Definition, start, step, step_of, stepped, run, next_of, line_of, matched, name_matched, replaced, constant_matched}
 use Rattle.grammar.specs.Faults.{Fault, faults_at, faults_in, first_of}
-use Rattle.grammar.specs.Grammar.{Item, Exactly, AWord, AName, AConstant, AnEnd, Part, Make, Shut, Role, Production, is_fault}
+use Rattle.grammar.specs.Grammar.{Item, Exactly, AWord, AName, AConstant, AnEnd, Part, Make, Close, Role, Production, is_fault}
 use Rattle.grammar.specs.Parsing.{IsIn, IsFault, IsFirstFault, Fails, Passes}
 use Rattle.grammar.specs.Profile.{Profile}
 use Rattle.grammar.specs.Scope.{Scope}
-use Rattle.grammar.specs.Weight.{weight}
+use Rattle.grammar.proofs.Weight.{weight}
 use Rattle.grammar.proofs.Endings.{IsFinal, ends, stays_final, final_stays}
 use Rattle.grammar.proofs.Firsts.{at_rest}
 use Rattle.grammar.proofs.Order.{first_in, first_least, same_place}
@@ -54,13 +54,17 @@ reached profile n m s t final leads clean ended quiet (inr a) = record {
   there = sym (stays_final a.more (run n s) final) ∙ sym (run-add n a.more s) ∙ subst (λ (k : ℕ). run k s ≡ t) (sym a.sum) leads;
 }
 
-pub enough_ends : (lexemes : List Lexeme) → IsFinal (run (enough lexemes) (start lexemes))
-enough_ends lexemes = ends (enough lexemes) (start lexemes) (le-add_right (weight (start lexemes)) 1)
+weighs : (located_tokens : List LocatedToken) → weight (start located_tokens) + 1 ≡ enough located_tokens
+weighs located_tokens = omega arith
 
-pub clean_verdict : (profile : Profile) (lexemes : List Lexeme) (t : State) → Passes profile (start lexemes) t → IsFinal t → faults_at profile t ≡ [] →
-    compiled_tokens profile lexemes ≡ resolved lexemes t.scope t.functions
-clean_verdict profile lexemes t p ended quiet =
-    let r : Reaches profile (enough lexemes) (start lexemes) t = reached profile (enough lexemes) p.steps (start lexemes) t (enough_ends lexemes) p.leads p.clean ended quiet (apart p.steps (enough lexemes)) in
+pub enough_ends : (located_tokens : List LocatedToken) → IsFinal (run (enough located_tokens) (start located_tokens))
+enough_ends located_tokens = ends (enough located_tokens) (start located_tokens)
+    (subst (λ (n : ℕ). weight (start located_tokens) ≤ n) (weighs located_tokens) (le-add_right (weight (start located_tokens)) 1))
+
+pub clean_verdict : (profile : Profile) (located_tokens : List LocatedToken) (t : State) → Passes profile (start located_tokens) t → IsFinal t → faults_at profile t ≡ [] →
+    compiled_tokens profile located_tokens ≡ resolved located_tokens t.scope t.functions
+clean_verdict profile located_tokens t p ended quiet =
+    let r : Reaches profile (enough located_tokens) (start located_tokens) t = reached profile (enough located_tokens) p.steps (start located_tokens) t (enough_ends located_tokens) p.leads p.clean ended quiet (apart p.steps (enough located_tokens)) in
     rw (r.clean, r.there) refl
 
 -- A derivation with a fault.
@@ -100,44 +104,44 @@ all_gathered profile (suc n) s (suc k) f final h = in_append_right f (faults_at 
 
 -- The tokens left are always the rest of all tokens.
 
-pub record IsRest (rest all : List Lexeme) : Type 0 where
-  pub before : List Lexeme
+pub record IsRest (rest all : List LocatedToken) : Type 0 where
+  pub before : List LocatedToken
   pub is : all ≡ before ++ rest
 
-rest_itself : (rest : List Lexeme) → IsRest rest rest
+rest_itself : (rest : List LocatedToken) → IsRest rest rest
 rest_itself rest = record { before = []; is = refl }
 
-rest_fewer : (rest : List Lexeme) → IsRest (drop 1 rest) rest
+rest_fewer : (rest : List LocatedToken) → IsRest (drop 1 rest) rest
 rest_fewer [] = record { before = []; is = refl }
-rest_fewer (lexeme ∷ rest) = record { before = lexeme ∷ []; is = refl }
+rest_fewer (located_token ∷ rest) = record { before = located_token ∷ []; is = refl }
 
-rest_of_rest : (a b c : List Lexeme) → IsRest a b → IsRest b c → IsRest a c
+rest_of_rest : (a b c : List LocatedToken) → IsRest a b → IsRest b c → IsRest a c
 rest_of_rest a b c p q = record {
   before = q.before ++ p.before;
   is = q.is ∙ ap (λ xs. q.before ++ xs) p.is ∙ sym (append_assoc q.before p.before a);
 }
 
-abbrev Rests : List Lexeme → Option State → Type 0
+abbrev Rests : List LocatedToken → Option State → Type 0
 Rests rest None = Unit {0}
 Rests rest (Some t) = IsRest t.rest rest
 
-name_rests : (role : Role) (name : Option (List ℕ)) (stack : List Item) (rest : List Lexeme) (values : List Value) (scope : Scope) (functions : List Definition) → Rests rest (name_matched role name stack rest values scope functions)
+name_rests : (role : Role) (name : Option (List ℕ)) (stack : List Item) (rest : List LocatedToken) (values : List Value) (scope : Scope) (functions : List Definition) → Rests rest (name_matched role name stack rest values scope functions)
 name_rests role (Some name) stack rest values scope functions = rest_fewer rest
 name_rests role None stack rest values scope functions = tt
 
-matched_rests : (fits : Bool) (stack : List Item) (rest : List Lexeme) (values : List Value) (scope : Scope) (functions : List Definition) → Rests rest (matched fits stack rest values scope functions)
+matched_rests : (fits : Bool) (stack : List Item) (rest : List LocatedToken) (values : List Value) (scope : Scope) (functions : List Definition) → Rests rest (matched fits stack rest values scope functions)
 matched_rests true stack rest values scope functions = rest_fewer rest
 matched_rests false stack rest values scope functions = tt
 
-constant_rests : (value : Option ℕ) (stack : List Item) (rest : List Lexeme) (values : List Value) (scope : Scope) (functions : List Definition) → Rests rest (constant_matched value stack rest values scope functions)
+constant_rests : (value : Option ℕ) (stack : List Item) (rest : List LocatedToken) (values : List Value) (scope : Scope) (functions : List Definition) → Rests rest (constant_matched value stack rest values scope functions)
 constant_rests (Some value) stack rest values scope functions = rest_fewer rest
 constant_rests None stack rest values scope functions = tt
 
-replaced_rests : (items : Production) (stack : List Item) (rest : List Lexeme) (values : List Value) (scope : Scope) (functions : List Definition) → Rests rest (replaced items stack rest values scope functions)
+replaced_rests : (items : Production) (stack : List Item) (rest : List LocatedToken) (values : List Value) (scope : Scope) (functions : List Definition) → Rests rest (replaced items stack rest values scope functions)
 replaced_rests (Some items) stack rest values scope functions = rest_itself rest
 replaced_rests None stack rest values scope functions = tt
 
-step_rests : (stack : List Item) (rest : List Lexeme) (values : List Value) (scope : Scope) (functions : List Definition) → Rests rest (step_of stack rest values scope functions)
+step_rests : (stack : List Item) (rest : List LocatedToken) (values : List Value) (scope : Scope) (functions : List Definition) → Rests rest (step_of stack rest values scope functions)
 step_rests [] rest values scope functions = tt
 step_rests (Exactly m ∷ stack) rest values scope functions = matched_rests _ stack rest values scope functions
 step_rests (AWord w ∷ stack) rest values scope functions = matched_rests _ stack rest values scope functions
@@ -146,9 +150,9 @@ step_rests (AnEnd ∷ stack) rest values scope functions = matched_rests _ stack
 step_rests (AConstant ∷ stack) rest values scope functions = constant_rests _ stack rest values scope functions
 step_rests (Part symbol ∷ stack) rest values scope functions = replaced_rests _ stack rest values scope functions
 step_rests (Make rule ∷ stack) rest values scope functions = rest_itself rest
-step_rests (Shut ∷ stack) rest values scope functions = rest_itself rest
+step_rests (Close ∷ stack) rest values scope functions = rest_itself rest
 
-guarded_rests : (b : Bool) (rest : List Lexeme) (o : Option State) → Rests rest o → Rests rest (if b then None else o)
+guarded_rests : (b : Bool) (rest : List LocatedToken) (o : Option State) → Rests rest o → Rests rest (if b then None else o)
 guarded_rests true rest o h = tt
 guarded_rests false rest o h = h
 
@@ -161,7 +165,7 @@ run_rests zero s = rest_itself s.rest
 run_rests (suc n) s = rest_of_rest _ _ _ (run_rests n (stepped s))
     (kept_rests s (step s) (guarded_rests (is_fault (next_of s.rest)) s.rest _ (step_rests s.stack s.rest s.values s.scope s.functions)))
 
-same_tails : (a b x y : List Lexeme) → a ++ x ≡ b ++ y → length x ≡ length y → x ≡ y
+same_tails : (a b x y : List LocatedToken) → a ++ x ≡ b ++ y → length x ≡ length y → x ≡ y
 same_tails [] [] x y e l = e
 same_tails [] (p ∷ b) x y e l = let h : length x ≡ length ((p ∷ b) ++ y) = ap length e in absurd (omega (arith, length-append b y))
 same_tails (p ∷ a) [] x y e l = let h : length ((p ∷ a) ++ x) ≡ length y = ap length e in absurd (omega (arith, length-append a x))
@@ -180,22 +184,22 @@ some_fault : (f : Fault) (xs : List Fault) → IsIn f xs → (g : Fault) × (gs 
 some_fault f [] h = absurd h
 some_fault f (g ∷ gs) h = (g, gs, refl)
 
-verdict_at : (profile : Profile) (lexemes : List Lexeme) (s : State) (f : Fault) (faults : List Fault) (scope : Scope) (functions : List Definition) →
+verdict_at : (profile : Profile) (located_tokens : List LocatedToken) (s : State) (f : Fault) (faults : List Fault) (scope : Scope) (functions : List Definition) →
     IsFirstFault profile s f → ((g : Fault) → IsIn g faults → IsFault profile s g) → IsIn f faults →
-    verdict lexemes faults scope functions ≡ Err (diagnostic (line_of f.rest) f.code)
-verdict_at profile lexemes s f [] scope functions first sound h = absurd h
-verdict_at profile lexemes s f (g ∷ gs) scope functions first sound h =
+    verdict located_tokens faults scope functions ≡ Err (diagnostic (line_of f.rest) f.code)
+verdict_at profile located_tokens s f [] scope functions first sound h = absurd h
+verdict_at profile located_tokens s f (g ∷ gs) scope functions first sound h =
     let one : IsFault profile s (first_of g gs) = sound (first_of g gs) (first_in g gs) in
     let same : (length f.rest ≡ length (first_of g gs).rest) × (f.code ≡ (first_of g gs).code) = same_place f (first_of g gs) (first.first (first_of g gs) one) (first_least g gs f h) in
     let rest : f.rest ≡ (first_of g gs).rest = same_rest profile s f (first_of g gs) first.comes one same.0 in
     rw (rest, same.1) refl
 
-pub fault_verdict : (profile : Profile) (lexemes : List Lexeme) (d : Diagnostic) → Fails profile (start lexemes) d → compiled_tokens profile lexemes ≡ Err d
-fault_verdict profile lexemes d h =
-    let n : ℕ = weight (start lexemes) in
-    let here : IsIn h.fault (faults_in profile (suc n) (start lexemes)) = all_gathered profile n (start lexemes) h.first.comes.steps h.fault (ends n (start lexemes) (le_refl n)) h.first.comes.here in
-    let there : IsIn h.fault (faults_in profile (enough lexemes) (start lexemes)) = subst (λ (k : ℕ). IsIn h.fault (faults_in profile k (start lexemes))) (sym (add-one n)) here in
-    verdict_at profile lexemes (start lexemes) h.fault (faults_in profile (enough lexemes) (start lexemes)) _ _ h.first (gathered profile (enough lexemes) (start lexemes)) there
+pub fault_verdict : (profile : Profile) (located_tokens : List LocatedToken) (d : Diagnostic) → Fails profile (start located_tokens) d → compiled_tokens profile located_tokens ≡ Err d
+fault_verdict profile located_tokens d h =
+    let n : ℕ = weight (start located_tokens) in
+    let here : IsIn h.fault (faults_in profile (suc n) (start located_tokens)) = all_gathered profile n (start located_tokens) h.first.comes.steps h.fault (ends n (start located_tokens) (le_refl n)) h.first.comes.here in
+    let there : IsIn h.fault (faults_in profile (enough located_tokens) (start located_tokens)) = subst (λ (k : ℕ). IsIn h.fault (faults_in profile k (start located_tokens))) (sym (add-one n) ∙ weighs located_tokens) here in
+    verdict_at profile located_tokens (start located_tokens) h.fault (faults_in profile (enough located_tokens) (start located_tokens)) _ _ h.first (gathered profile (enough located_tokens) (start located_tokens)) there
     ∙ ap Err (same_diagnostic d (diagnostic (line_of h.fault.rest) h.fault.code) h.line h.code)
   where
     same_diagnostic : (d e : Diagnostic) → d.line ≡ e.line → d.code ≡ e.code → e ≡ d

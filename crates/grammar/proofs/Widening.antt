@@ -5,7 +5,7 @@ use Rattle.grammar.specs.declared.names.Callee.TheVariants as callee
 use Rattle.grammar.specs.declared.names.Var.{Var}
 use Rattle.grammar.specs.declared.names.Var.TheVariants as var
 use Rattle.grammar.specs.Resolved.{IsVariable, IsCallable, InExpr, InArgs, InBody, InFile}
-use Rattle.grammar.specs.Tree.{Expr, Constant, Variable, Binary, Assign, Postfix, Call, Args, NoMore, Argument, Body, Done, Alone, When, Choose, While, Return, Function}
+use Rattle.grammar.specs.Tree.{Expr, Constant, Variable, Binary, Assign, Postfix, Call, Args, NoMore, Argument, Body, Done, ExpressionStatement, IfStatement, IfElseStatement, While, Return, Function}
 
 -- as many names, or more
 pub record IsWider (e l n e' l' n' : ℕ) : Type 0 where
@@ -36,9 +36,9 @@ mutual
 
 pub body_wider : (e l n e' l' n' : ℕ) → IsWider e l n e' l' n' → (b : Body) → InBody e l n b → InBody e' l' n' b
 body_wider e l n e' l' n' w Done h = tt
-body_wider e l n e' l' n' w (Alone a rest) h = (expr_wider e l n e' l' n' w a h.0, body_wider e l n e' l' n' w rest h.1)
-body_wider e l n e' l' n' w (When c s rest) h = (expr_wider e l n e' l' n' w c h.0, body_wider e l n e' l' n' w s h.1, body_wider e l n e' l' n' w rest h.2)
-body_wider e l n e' l' n' w (Choose c s t rest) h =
+body_wider e l n e' l' n' w (ExpressionStatement a rest) h = (expr_wider e l n e' l' n' w a h.0, body_wider e l n e' l' n' w rest h.1)
+body_wider e l n e' l' n' w (IfStatement c s rest) h = (expr_wider e l n e' l' n' w c h.0, body_wider e l n e' l' n' w s h.1, body_wider e l n e' l' n' w rest h.2)
+body_wider e l n e' l' n' w (IfElseStatement c s t rest) h =
     (expr_wider e l n e' l' n' w c h.0, body_wider e l n e' l' n' w s h.1, body_wider e l n e' l' n' w t h.2, body_wider e l n e' l' n' w rest h.3)
 body_wider e l n e' l' n' w (While c s rest) h = (expr_wider e l n e' l' n' w c h.0, body_wider e l n e' l' n' w s h.1, body_wider e l n e' l' n' w rest h.2)
 body_wider e l n e' l' n' w (Return a rest) h = (expr_wider e l n e' l' n' w a h.0, body_wider e l n e' l' n' w rest h.1)

@@ -7,14 +7,14 @@ use Rattle.grammar.specs.declared.operators.Op.TheVariants as op
 use Rattle.grammar.specs.declared.operators.StoreOp.{StoreOp}
 use Rattle.grammar.specs.Operators.{is_logic}
 use Rattle.grammar.specs.Profile.{Profile}
-use Rattle.grammar.specs.Tree.{Expr, Constant, Variable, Binary, Assign, Postfix, Call, Args, NoMore, Argument, Body, Done, Alone, When, Choose, While, Return, Function, File}
+use Rattle.grammar.specs.Tree.{Expr, Constant, Variable, Binary, Assign, Postfix, Call, Args, NoMore, Argument, Body, Done, ExpressionStatement, IfStatement, IfElseStatement, While, Return, Function, File}
 
 pub data Action : Type 0 where
-  Push : (value : ℤ) → Action  -- a constant
-  Get : (v : Var) → Action  -- a variable's value
-  Put : (v : Var) (op : StoreOp) → Action  -- a store, behind its word; the new value stays
-  Apply : (op : Op) → Action  -- a binary operator, behind both sides
-  Middle : (op : Op) → Action  -- between the sides of && and ||
+  PushConstant : (value : ℤ) → Action  -- a constant
+  FetchVariable : (v : Var) → Action  -- a variable's value
+  StoreVariable : (v : Var) (op : StoreOp) → Action  -- a store, behind its word; the new value stays
+  ApplyBinop : (op : Op) → Action  -- a binary operator, behind both sides
+  LogicMiddle : (op : Op) → Action  -- between the sides of && and ||
   BeginCall : Action  -- the arguments of a call follow
   EndCall : (callee : Callee) → Action  -- they are done
   IfTest : Action  -- behind the condition of an if
@@ -41,11 +41,11 @@ end_length o = 1
 
 -- how many instructions an action makes
 abbrev pub instructions : Profile → Action → ℕ
-instructions p (Push value) = 1
-instructions p (Get v) = 1
-instructions p (Put v o) = 1
-instructions p (Apply o) = if p.short_circuit then end_length o else 1
-instructions p (Middle o) = if p.short_circuit then middle_length o else 0
+instructions p (PushConstant value) = 1
+instructions p (FetchVariable v) = 1
+instructions p (StoreVariable v o) = 1
+instructions p (ApplyBinop o) = if p.short_circuit then end_length o else 1
+instructions p (LogicMiddle o) = if p.short_circuit then middle_length o else 0
 instructions p BeginCall = 1
 instructions p (EndCall callee) = 1
 instructions p IfTest = 1
@@ -65,15 +65,15 @@ code_length p [] = 0
 code_length p (a ∷ acts) = instructions p a + code_length p acts
 
 abbrev pub middle : Op → List Action
-middle op = if is_logic op then Middle op ∷ [] else []
+middle op = if is_logic op then LogicMiddle op ∷ [] else []
 
 abbrev mutual
   pub expr_actions : Expr → List Action
-  expr_actions (Constant value) = Push value ∷ []
-  expr_actions (Variable v) = Get v ∷ []
-  expr_actions (Binary op a b) = expr_actions a ++ (middle op ++ (expr_actions b ++ Apply op ∷ []))
-  expr_actions (Assign op v e) = expr_actions e ++ Put v op ∷ []
-  expr_actions (Postfix op v) = Get v ∷ Push (pos 1) ∷ Put v op ∷ Chop ∷ []
+  expr_actions (Constant value) = PushConstant value ∷ []
+  expr_actions (Variable v) = FetchVariable v ∷ []
+  expr_actions (Binary op a b) = expr_actions a ++ (middle op ++ (expr_actions b ++ ApplyBinop op ∷ []))
+  expr_actions (Assign op v e) = expr_actions e ++ StoreVariable v op ∷ []
+  expr_actions (Postfix op v) = FetchVariable v ∷ PushConstant (pos 1) ∷ StoreVariable v op ∷ Chop ∷ []
   expr_actions (Call callee args) = BeginCall ∷ (args_actions args ++ EndCall callee ∷ [])
 
   pub args_actions : Args → List Action
@@ -82,16 +82,17 @@ abbrev mutual
 
 abbrev pub body_actions : Body → List Action
 body_actions Done = []
-body_actions (Alone e rest) = expr_actions e ++ Chop ∷ body_actions rest
-body_actions (When c s rest) = expr_actions c ++ IfTest ∷ (body_actions s ++ EndIf ∷ body_actions rest)
-body_actions (Choose c s t rest) =
+body_actions (ExpressionStatement e rest) = expr_actions e ++ Chop ∷ body_actions rest
+body_actions (IfStatement c s rest) = expr_actions c ++ IfTest ∷ (body_actions s ++ EndIf ∷ body_actions rest)
+body_actions (IfElseStatement c s t rest) =
     expr_actions c ++ IfTest ∷ (body_actions s ++ ElsePart ∷ (body_actions t ++ EndIf ∷ body_actions rest))
-body_actions (While c s rest) = BeginWhile ∷ (expr_actions c ++ WhileTest ∷ (body_actions s ++ EndWhile ∷ body_actions rest))
+body_actions (While c s rest) = BeginWhile ∷ (expr_actions c
+    ++ WhileTest ∷ (body_actions s ++ EndWhile ∷ body_actions rest))
 body_actions (Return e rest) = expr_actions e ++ GiveBack ∷ body_actions rest
 
 -- the return that stands at each function's end
 abbrev pub last_return : List Action
-last_return = Push (pos 0) ∷ GiveBack ∷ []
+last_return = PushConstant (pos 0) ∷ GiveBack ∷ []
 
 abbrev pub function_actions : ℕ → Function → List Action
 function_actions number f =

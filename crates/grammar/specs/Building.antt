@@ -26,18 +26,21 @@ pub record StandsOpen (before : Meaning) (opened : Opened) : Type 0 where
 
 -- each list stood for before, with these actions at its end, is stood for behind the call
 abbrev pub AppendsAll : Meaning → Meaning → List Action → Type 0
-AppendsAll before behind more = (profile : Profile) (acts : List Action) → before profile acts → behind profile (acts ++ more)
+AppendsAll before behind more = (profile : Profile) (acts : List Action) → before profile acts
+    → behind profile (acts ++ more)
 
 abbrev pub Appends : Meaning → Meaning → Action → Type 0
 Appends before behind action = AppendsAll before behind (action ∷ [])
 
 -- the code so far and the last NOP are within the profile's limit
 abbrev pub FitsWithin : Meaning → Type 0
-FitsWithin before = (profile : Profile) (acts : List Action) → before profile acts → code_length profile acts + 1 ≤ profile.instructions
+FitsWithin before = (profile : Profile) (acts : List Action) → before profile acts
+    → code_length profile acts + 1 ≤ profile.instructions
 
 -- they pass it
 abbrev pub IsOver : Meaning → Type 0
-IsOver before = (profile : Profile) (acts : List Action) → before profile acts → profile.instructions < code_length profile acts + 1
+IsOver before = (profile : Profile) (acts : List Action) → before profile acts
+    → profile.instructions < code_length profile acts + 1
 
 -- the one refusal is of memory, by a builder that asks for memory
 abbrev pub Refuses : {A : Type 0} → Result A BuildFault → Bool → Type 0

@@ -1,7 +1,7 @@
 -- What a source is: a file, or its first fault.
-use Rattle.std.specs.Prelude.{ℕ, ◌+◌, List, [], ◌∷◌, Option, Some, None, Result, Ok, Err, codes, map, if◌then◌else◌, ◌==◌}
+use Rattle.std.specs.Prelude.{ℕ, ◌+◌, ◌*◌, List, [], ◌∷◌, length, Option, Some, None, Result, Ok, Err, codes, map, if◌then◌else◌, ◌==◌}
 use Rattle.tokens.specs.Tokens.{tokens}
-use Rattle.tokens.specs.declared.lexemes.Lexeme.{Lexeme}
+use Rattle.tokens.specs.declared.located_tokens.LocatedToken.{LocatedToken}
 use Rattle.grammar.specs.declared.diagnostics.Code.{Code}
 use Rattle.grammar.specs.declared.diagnostics.Code.TheVariants as code
 use Rattle.grammar.specs.declared.diagnostics.Diagnostic.{Diagnostic}
@@ -10,16 +10,15 @@ use Rattle.grammar.specs.Faults.{Fault, faults_in, first_of}
 use Rattle.grammar.specs.Profile.{Profile}
 use Rattle.grammar.specs.Scope.{Scope, function_number}
 use Rattle.grammar.specs.Tree.{Function, File}
-use Rattle.grammar.specs.Weight.{weight}
 
 abbrev pub diagnostic : ℕ → Code → Diagnostic
 diagnostic line c = record { line = line; code = c }
 
 -- the line of the last token
-abbrev pub last_line : List Lexeme → ℕ
+abbrev pub last_line : List LocatedToken → ℕ
 last_line [] = 1
-last_line (lexeme ∷ []) = lexeme.line
-last_line (lexeme ∷ other ∷ rest) = last_line (other ∷ rest)
+last_line (located_token ∷ []) = located_token.line
+last_line (located_token ∷ other ∷ rest) = last_line (other ∷ rest)
 
 -- the function of this number
 abbrev pub defined_as : ℕ → List Definition → Option Function
@@ -34,7 +33,8 @@ in_front (Some f) line (Err other) = Err other
 -- the functions from this number on, or the line on which the first of them without a definition was first mentioned
 abbrev pub all_defined : ℕ → List ℕ → List Definition → Result (List Function) ℕ
 all_defined number [] definitions = Ok []
-all_defined number (line ∷ lines) definitions = in_front (defined_as number definitions) line (all_defined (number + 1) lines definitions)
+all_defined number (line ∷ lines) definitions = in_front (defined_as number definitions) line
+    (all_defined (number + 1) lines definitions)
 
 abbrev pub main_name : List ℕ
 main_name = codes "main"
@@ -49,31 +49,33 @@ file_of last scope order (Ok functions) None = Err (diagnostic last code.NoMainF
 file_of last scope order (Ok functions) (Some main) =
     Ok (record { externals = scope.externals; functions = functions; order = order; main = main })
 
-abbrev pub resolved : List Lexeme → Scope → List Definition → Result File Diagnostic
-resolved lexemes scope definitions =
-    file_of (last_line lexemes) scope (order_of definitions) (all_defined 0 scope.lines definitions) (function_number main_name scope)
+abbrev pub resolved : List LocatedToken → Scope → List Definition → Result File Diagnostic
+resolved located_tokens scope definitions =
+    file_of (last_line located_tokens) scope (order_of definitions) (all_defined 0 scope.lines definitions)
+    (function_number main_name scope)
 
 -- the first of the faults, or the file where there is none
-abbrev pub verdict : List Lexeme → List Fault → Scope → List Definition → Result File Diagnostic
-verdict lexemes [] scope definitions = resolved lexemes scope definitions
-verdict lexemes (f ∷ faults) scope definitions =
+abbrev pub verdict : List LocatedToken → List Fault → Scope → List Definition → Result File Diagnostic
+verdict located_tokens [] scope definitions = resolved located_tokens scope definitions
+verdict located_tokens (f ∷ faults) scope definitions =
     let first = first_of f faults in Err (diagnostic (line_of first.rest) first.code)
 
--- as many steps as lead to the end of the derivation
-abbrev pub enough : List Lexeme → ℕ
-enough lexemes = weight (start lexemes) + 1
+-- A derivation of so many tokens has ended after this many steps: at most 40 a token, and 71 for the whole.
+abbrev pub enough : List LocatedToken → ℕ
+enough located_tokens = 40 * length located_tokens + 71
 
 -- the last state of a derivation
-abbrev pub last_state : List Lexeme → State
-last_state lexemes = run (enough lexemes) (start lexemes)
+abbrev pub last_state : List LocatedToken → State
+last_state located_tokens = run (enough located_tokens) (start located_tokens)
 
 -- the faults of a derivation
-abbrev pub all_faults : Profile → List Lexeme → List Fault
-all_faults profile lexemes = faults_in profile (enough lexemes) (start lexemes)
+abbrev pub all_faults : Profile → List LocatedToken → List Fault
+all_faults profile located_tokens = faults_in profile (enough located_tokens) (start located_tokens)
 
-abbrev pub compiled_tokens : Profile → List Lexeme → Result File Diagnostic
-compiled_tokens profile lexemes =
-    verdict lexemes (all_faults profile lexemes) (last_state lexemes).scope (last_state lexemes).functions
+abbrev pub compiled_tokens : Profile → List LocatedToken → Result File Diagnostic
+compiled_tokens profile located_tokens =
+    verdict located_tokens (all_faults profile located_tokens) (last_state located_tokens).scope
+    (last_state located_tokens).functions
 
 unfoldable pub compiled : Profile → List ℕ → Result File Diagnostic
 compiled profile bytes = compiled_tokens profile (tokens bytes)

@@ -1,16 +1,16 @@
 -- The faults of a source, and the first of them.
 use Rattle.std.specs.Prelude.{ℕ, zero, suc, ◌+◌, List, [], ◌∷◌, ◌++◌, Bool, true, false, Option, Some, None, length, nat_lt, nat_le, if◌then◌else◌}
-use Rattle.tokens.specs.declared.lexemes.Flaw.{Flaw}
-use Rattle.tokens.specs.declared.lexemes.Flaw.TheVariants as flaw
-use Rattle.tokens.specs.declared.lexemes.Lexeme.{Lexeme}
-use Rattle.tokens.specs.declared.lexemes.Token.{Token}
-use Rattle.tokens.specs.declared.lexemes.Token.TheVariants as token
-use Rattle.tokens.specs.declared.lexemes.Word.TheVariants as word
+use Rattle.tokens.specs.declared.located_tokens.LexicalError.{LexicalError}
+use Rattle.tokens.specs.declared.located_tokens.LexicalError.TheVariants as lexical_error
+use Rattle.tokens.specs.declared.located_tokens.LocatedToken.{LocatedToken}
+use Rattle.tokens.specs.declared.located_tokens.Token.{Token}
+use Rattle.tokens.specs.declared.located_tokens.Token.TheVariants as token
+use Rattle.tokens.specs.declared.located_tokens.Word.TheVariants as word
 use Rattle.grammar.specs.declared.diagnostics.Code.{Code}
 use Rattle.grammar.specs.declared.diagnostics.Code.TheVariants as code
 use Rattle.grammar.specs.Actions.{Action, code_length, function_actions}
 use Rattle.grammar.specs.Derivation.{State, Value, Definition, definition_of, last_body, step_of, stepped, next_of, after_of, name_of_token}
-use Rattle.grammar.specs.Grammar.{Item, AName, Part, Make, Shut, Define, Symbol, Role, Defined, External, Parameter, Typed, Local, Called, Mentioned, is_fault, opens}
+use Rattle.grammar.specs.Grammar.{Item, AName, Part, Make, Close, Define, Symbol, Role, Defined, External, Parameter, Typed, Local, Called, Mentioned, is_fault, opens}
 use Rattle.grammar.specs.Intrinsics.{is_intrinsic}
 use Rattle.grammar.specs.Profile.{Profile}
 use Rattle.grammar.specs.Scope.{Scope, has_begun, is_external_new, is_function_new, is_local_new, is_variable_new}
@@ -25,10 +25,10 @@ most_names = 64
 
 -- a fault: the tokens from its token on, and its code
 pub record Fault : Type 0 where
-  pub rest : List Lexeme
+  pub rest : List LocatedToken
   pub code : Code
 
-abbrev pub fault : List Lexeme → Code → Fault
+abbrev pub fault : List LocatedToken → Code → Fault
 fault rest c = record { rest = rest; code = c }
 
 -- the number of a code
@@ -50,62 +50,67 @@ number_of code.TooMuchCode = 14
 number_of code.FunctionNotDefined = 15
 number_of code.NoMainFunction = 16
 
-abbrev pub flaw_code : Flaw → Code
-flaw_code flaw.BadCharacter = code.BadCharacter
-flaw_code flaw.CommentNotClosed = code.CommentNotClosed
-flaw_code flaw.NameTooLong = code.NameTooLong
-flaw_code flaw.ConstantTooLarge = code.ConstantTooLarge
-flaw_code flaw.SourceTooLong = code.SourceTooLong
+abbrev pub lexical_error_code : LexicalError → Code
+lexical_error_code lexical_error.BadCharacter = code.BadCharacter
+lexical_error_code lexical_error.CommentNotClosed = code.CommentNotClosed
+lexical_error_code lexical_error.NameTooLong = code.NameTooLong
+lexical_error_code lexical_error.ConstantTooLarge = code.ConstantTooLarge
+lexical_error_code lexical_error.SourceTooLong = code.SourceTooLong
 
 -- the code of a token that doesn't fit
 abbrev pub misfit_code : Token → Code
-misfit_code (token.Fault f) = flaw_code f
+misfit_code (token.Fault f) = lexical_error_code f
 misfit_code (token.Word word.Refused) = code.ReservedWord
 misfit_code next = code.SyntaxError
 
 -- how many levels are open: each stays open until its production is done
 abbrev pub levels : List Item → ℕ
 levels [] = 0
-levels (Shut ∷ stack) = levels stack + 1
+levels (Close ∷ stack) = levels stack + 1
 levels (item ∷ stack) = levels stack
 
 abbrev pub only_if : Bool → List Fault → List Fault
 only_if b faults = if b then faults else []
 
 -- a symbol opens a level beyond the last one
-abbrev pub level_faults : Symbol → List Item → List Lexeme → List Fault
+abbrev pub level_faults : Symbol → List Item → List LocatedToken → List Fault
 level_faults symbol stack rest =
-    only_if (opens symbol (next_of rest) (after_of rest)) (only_if (nat_le most_levels (levels stack)) (fault rest code.NestedTooDeeply ∷ []))
+    only_if (opens symbol (next_of rest) (after_of rest))
+    (only_if (nat_le most_levels (levels stack)) (fault rest code.NestedTooDeeply ∷ []))
 
 -- a new name that finds no room behind so many
-abbrev pub no_room : Bool → ℕ → Code → List Lexeme → List Fault
+abbrev pub no_room : Bool → ℕ → Code → List LocatedToken → List Fault
 no_room new count c rest = only_if new (only_if (nat_le most_names count) (fault rest c ∷ []))
 
 -- a function's definition: of an intrinsic function, a second one, or one function too many
-abbrev pub definition_faults : List ℕ → Scope → List Lexeme → List Fault
+abbrev pub definition_faults : List ℕ → Scope → List LocatedToken → List Fault
 definition_faults name scope rest =
     if is_intrinsic name then fault rest code.IntrinsicRedefined ∷ []
     else (if has_begun name scope then fault rest code.FunctionDefinedTwice ∷ []
     else no_room (is_function_new name scope) (length scope.functions) code.TooManyFunctions rest)
 
 -- a parameter in the list: a name that stands there already, or one variable too many
-abbrev pub parameter_faults : List ℕ → Scope → List Lexeme → List Fault
+abbrev pub parameter_faults : List ℕ → Scope → List LocatedToken → List Fault
 parameter_faults name scope rest =
     if is_local_new name scope then no_room true (length scope.current.variables) code.TooManyVariables rest
     else fault rest code.BadParameterDeclaration ∷ []
 
 -- the faults of a name in a role
-abbrev pub role_faults : Role → List ℕ → Scope → List Lexeme → List Fault
+abbrev pub role_faults : Role → List ℕ → Scope → List LocatedToken → List Fault
 role_faults Defined name scope rest = definition_faults name scope rest
-role_faults External name scope rest = no_room (is_external_new name scope) (length scope.externals) code.TooManyVariables rest
+role_faults External name scope rest = no_room (is_external_new name scope) (length scope.externals)
+    code.TooManyVariables rest
 role_faults Parameter name scope rest = parameter_faults name scope rest
 role_faults Typed name scope rest = only_if (is_local_new name scope) (fault rest code.BadParameterDeclaration ∷ [])
-role_faults Local name scope rest = no_room (is_local_new name scope) (length scope.current.variables) code.TooManyVariables rest
-role_faults Called name scope rest = no_room (is_function_new name scope) (length scope.functions) code.TooManyFunctions rest
-role_faults Mentioned name scope rest = no_room (is_variable_new name scope) (length scope.current.variables) code.TooManyVariables rest
+role_faults Local name scope rest = no_room (is_local_new name scope) (length scope.current.variables)
+    code.TooManyVariables rest
+role_faults Called name scope rest = no_room (is_function_new name scope) (length scope.functions)
+    code.TooManyFunctions rest
+role_faults Mentioned name scope rest = no_room (is_variable_new name scope) (length scope.current.variables)
+    code.TooManyVariables rest
 
 -- where the next token is a name
-abbrev pub name_faults : Role → Option (List ℕ) → Scope → List Lexeme → List Fault
+abbrev pub name_faults : Role → Option (List ℕ) → Scope → List LocatedToken → List Fault
 name_faults role None scope rest = []
 name_faults role (Some name) scope rest = role_faults role name scope rest
 
@@ -119,32 +124,36 @@ abbrev pub is_too_long : Profile → List Definition → Bool
 is_too_long profile functions = nat_lt profile.instructions (code_length profile (definitions_actions functions) + 1)
 
 -- the code with the function that is about to be defined passes the limit, at its closing brace
-abbrev pub length_faults : Profile → Scope → List Definition → List Value → List Lexeme → List Fault
+abbrev pub length_faults : Profile → Scope → List Definition → List Value → List LocatedToken → List Fault
 length_faults profile scope functions values rest =
-    only_if (is_too_long profile (functions ++ definition_of scope (last_body values) ∷ [])) (fault rest code.TooMuchCode ∷ [])
+    only_if (is_too_long profile (functions ++ definition_of scope (last_body values) ∷ []))
+    (fault rest code.TooMuchCode ∷ [])
 
 -- the faults at the next item
-abbrev pub item_faults : Profile → List Item → List Lexeme → List Value → Scope → List Definition → List Fault
+abbrev pub item_faults : Profile → List Item → List LocatedToken → List Value → Scope → List Definition → List Fault
 item_faults profile (Part symbol ∷ stack) rest values scope functions = level_faults symbol stack rest
-item_faults profile (AName role ∷ stack) rest values scope functions = name_faults role (name_of_token (next_of rest)) scope rest
-item_faults profile (Make Define ∷ stack) rest values scope functions = length_faults profile scope functions values rest
+item_faults profile (AName role ∷ stack) rest values scope functions = name_faults role (name_of_token (next_of rest))
+    scope rest
+item_faults profile (Make Define ∷ stack) rest values scope functions = length_faults profile scope functions values
+    rest
 item_faults profile stack rest values scope functions = []
 
 -- the fault of a token that doesn't fit
-abbrev pub misfit : List Lexeme → List Fault
+abbrev pub misfit : List LocatedToken → List Fault
 misfit rest = fault rest (misfit_code (next_of rest)) ∷ []
 
 -- where something is still to derive, and no step leads on
-abbrev pub misfits : List Item → List Lexeme → Option State → List Fault
+abbrev pub misfits : List Item → List LocatedToken → Option State → List Fault
 misfits [] rest next = []
 misfits (item ∷ stack) rest None = misfit rest
 misfits (item ∷ stack) rest (Some s) = []
 
 -- the faults at one state of a derivation
-abbrev pub faults_of : Profile → List Item → List Lexeme → List Value → Scope → List Definition → List Fault
+abbrev pub faults_of : Profile → List Item → List LocatedToken → List Value → Scope → List Definition → List Fault
 faults_of profile stack rest values scope functions =
     if is_fault (next_of rest) then misfit rest
-    else item_faults profile stack rest values scope functions ++ misfits stack rest (step_of stack rest values scope functions)
+    else item_faults profile stack rest values scope functions
+    ++ misfits stack rest (step_of stack rest values scope functions)
 
 abbrev pub faults_at : Profile → State → List Fault
 faults_at profile s = faults_of profile s.stack s.rest s.values s.scope s.functions

@@ -1,7 +1,7 @@
 -- What a source is where its derivation matched all tokens without a fault.
 use Rattle.std.specs.Prelude.{◌≡◌, ℕ, List, [], Some, None, Ok, Err, true, false}
 use Rattle.std.specs.Option.{is_some}
-use Rattle.tokens.specs.declared.lexemes.Lexeme.{Lexeme}
+use Rattle.tokens.specs.declared.located_tokens.LocatedToken.{LocatedToken}
 use Rattle.grammar.specs.declared.diagnostics.Code.TheVariants as code
 use Rattle.grammar.specs.Actions.{actions}
 use Rattle.grammar.specs.Compiled.{compiled_tokens, diagnostic, last_line, main_name}
@@ -16,17 +16,18 @@ use Rattle.grammar.specs.Scope.{Scope, function_number}
 use Rattle.grammar.specs.Tree.{File}
 
 -- the derivation leads from the first token to the end, and nothing is left to match or to do
-abbrev pub PassesAll : Profile → List Lexeme → Scope → List Definition → Type 0
-PassesAll profile lexemes scope ds = Passes profile (start lexemes) (state [] [] [] scope ds)
+abbrev pub PassesAll : Profile → List LocatedToken → Scope → List Definition → Type 0
+PassesAll profile located_tokens scope ds = Passes profile (start located_tokens) (state [] [] [] scope ds)
 
 -- the names of externals and functions that are known
 abbrev pub known_names : Scope → Names
 known_names scope = record { externals = scope.externals; functions = scope.functions }
 
 -- the source is a file: its names are those known, and its actions those of the functions as they were defined
-pub record IsFinished (profile : Profile) (lexemes : List Lexeme) (scope : Scope) (ds : List Definition) : Type 0 where
+pub record IsFinished (profile : Profile) (located_tokens : List LocatedToken) (scope : Scope) (ds : List Definition)
+    : Type 0 where
   pub file : File
-  pub compiled : compiled_tokens profile lexemes ≡ Ok file
+  pub compiled : compiled_tokens profile located_tokens ≡ Ok file
   pub resolved : IsResolved file
   pub named : known_names scope ≡ names_of file
   pub main : function_number main_name scope ≡ Some file.main
@@ -34,16 +35,21 @@ pub record IsFinished (profile : Profile) (lexemes : List Lexeme) (scope : Scope
 
 -- each function that was mentioned is defined, and main is among them: the source is a file
 abbrev pub Finished : Type 0
-Finished = (profile : Profile) (lexemes : List Lexeme) (scope : Scope) (ds : List Definition) → PassesAll profile lexemes scope ds →
-    line_of_undefined 0 scope.lines scope.begun ≡ None → is_some (function_number main_name scope) ≡ true → IsFinished profile lexemes scope ds
+Finished = (profile : Profile) (located_tokens : List LocatedToken) (scope : Scope) (ds : List Definition)
+    → PassesAll profile located_tokens scope ds →
+    line_of_undefined 0 scope.lines scope.begun ≡ None → is_some (function_number main_name scope) ≡ true
+    → IsFinished profile located_tokens scope ds
 
 -- one isn't: the fault stands on the line of its first mention
 abbrev pub Undefined : Type 0
-Undefined = (profile : Profile) (lexemes : List Lexeme) (scope : Scope) (ds : List Definition) (line : ℕ) → PassesAll profile lexemes scope ds →
-    line_of_undefined 0 scope.lines scope.begun ≡ Some line → compiled_tokens profile lexemes ≡ Err (diagnostic line code.FunctionNotDefined)
+Undefined = (profile : Profile) (located_tokens : List LocatedToken) (scope : Scope) (ds : List Definition) (line : ℕ)
+    → PassesAll profile located_tokens scope ds →
+    line_of_undefined 0 scope.lines scope.begun ≡ Some line
+    → compiled_tokens profile located_tokens ≡ Err (diagnostic line code.FunctionNotDefined)
 
 -- main isn't among them: the fault stands on the last line
 abbrev pub WithoutMain : Type 0
-WithoutMain = (profile : Profile) (lexemes : List Lexeme) (scope : Scope) (ds : List Definition) → PassesAll profile lexemes scope ds →
+WithoutMain = (profile : Profile) (located_tokens : List LocatedToken) (scope : Scope) (ds : List Definition)
+    → PassesAll profile located_tokens scope ds →
     line_of_undefined 0 scope.lines scope.begun ≡ None → is_some (function_number main_name scope) ≡ false →
-    compiled_tokens profile lexemes ≡ Err (diagnostic (last_line lexemes) code.NoMainFunction)
+    compiled_tokens profile located_tokens ≡ Err (diagnostic (last_line located_tokens) code.NoMainFunction)

@@ -7,7 +7,7 @@ use Rattle.grammar.specs.declared.names.Callee.TheVariants as callee
 use Rattle.grammar.specs.declared.names.Var.{Var}
 use Rattle.grammar.specs.declared.names.Var.TheVariants as var
 use Rattle.grammar.specs.declared.operators.Op.{Op}
-use Rattle.grammar.specs.Actions.{Action, Push, Get, Put, Apply, Middle, BeginCall, EndCall, IfTest, ElsePart, EndIf, BeginWhile, WhileTest, EndWhile, GiveBack, Chop, Begin, Finish}
+use Rattle.grammar.specs.Actions.{Action, PushConstant, FetchVariable, StoreVariable, ApplyBinop, LogicMiddle, BeginCall, EndCall, IfTest, ElsePart, EndIf, BeginWhile, WhileTest, EndWhile, GiveBack, Chop, Begin, Finish}
 use Rattle.grammar.specs.Operators.{is_logic}
 
 -- the most calls, ifs, whiles and right sides of && and || that are open at once
@@ -105,12 +105,14 @@ same_op o p = sameb ops.the_type o p
 
 -- what is open behind an action, where it may follow
 abbrev pub follow : Action → Opened → Option Opened
-follow (Push value) opened = within (AValue (Number value)) opened
-follow (Get v) opened = if is_var_numbered v then within (AValue (Fetched v)) opened else None
-follow (Put v op) (AValue origin ∷ opened) = only_on (is_var_numbered v) (AValue (stored v origin) ∷ opened)
-follow (Apply op) (AValue right ∷ AValue left ∷ opened) = if is_logic op then None else Some (AValue Computed ∷ opened)
-follow (Apply op) (AValue right ∷ BeforeRight o ∷ AValue left ∷ opened) = only_on (same_op op o) (AValue Computed ∷ opened)
-follow (Middle op) (AValue left ∷ opened) = only_on (is_logic op) (BeforeRight op ∷ AValue left ∷ opened)
+follow (PushConstant value) opened = within (AValue (Number value)) opened
+follow (FetchVariable v) opened = if is_var_numbered v then within (AValue (Fetched v)) opened else None
+follow (StoreVariable v op) (AValue origin ∷ opened) = only_on (is_var_numbered v) (AValue (stored v origin) ∷ opened)
+follow (ApplyBinop op) (AValue right ∷ AValue left ∷ opened) = if is_logic op then None else Some
+    (AValue Computed ∷ opened)
+follow (ApplyBinop op) (AValue right ∷ BeforeRight o ∷ AValue left ∷ opened) = only_on (same_op op o)
+    (AValue Computed ∷ opened)
+follow (LogicMiddle op) (AValue left ∷ opened) = only_on (is_logic op) (BeforeRight op ∷ AValue left ∷ opened)
 follow BeginCall opened = within InCall opened
 follow (EndCall callee) opened = if is_callee_numbered callee then call_done opened else None
 follow IfTest (AValue condition ∷ opened) = only_on (is_place opened) (InBranch ∷ opened)
@@ -125,7 +127,8 @@ follow Chop (AValue origin ∷ AValue below ∷ opened) = only_on (is_step origi
 follow Chop (AValue origin ∷ opened) = statement_done false opened
 follow (Begin number parameters) [] =
     only_on (nat_lt number most_numbers && nat_le parameters most_numbers) (InFunction parameters false ∷ [])
-follow (Finish variables) (InFunction parameters true ∷ []) = only_on (nat_le parameters variables && nat_le variables most_numbers) []
+follow (Finish variables) (InFunction parameters true ∷ []) = only_on
+    (nat_le parameters variables && nat_le variables most_numbers) []
 follow action opened = None
 
 -- not too much is open

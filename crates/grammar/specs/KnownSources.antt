@@ -1,12 +1,12 @@
 -- Sources that show the rules: their trees, their names, and for each kind of fault one that has it.
 use Rattle.std.specs.Prelude.{◌≡◌, ℕ, zero, suc, ◌+◌, pos, negsuc, List, [], ◌∷◌, ◌++◌, false, Option, Some, None, Result, Ok, Err, codes, replicate}
-use Rattle.tokens.specs.declared.lexemes.Flaw.{Flaw}
-use Rattle.tokens.specs.declared.lexemes.Flaw.TheVariants as flaw
-use Rattle.tokens.specs.declared.lexemes.Lexeme.{Lexeme}
-use Rattle.tokens.specs.declared.lexemes.Mark.TheVariants as mark
-use Rattle.tokens.specs.declared.lexemes.Token.{Token}
-use Rattle.tokens.specs.declared.lexemes.Token.TheVariants as token
-use Rattle.tokens.specs.declared.lexemes.Word.TheVariants as word
+use Rattle.tokens.specs.declared.located_tokens.LexicalError.{LexicalError}
+use Rattle.tokens.specs.declared.located_tokens.LexicalError.TheVariants as lexical_error
+use Rattle.tokens.specs.declared.located_tokens.LocatedToken.{LocatedToken}
+use Rattle.tokens.specs.declared.located_tokens.Punctuator.TheVariants as punctuator
+use Rattle.tokens.specs.declared.located_tokens.Token.{Token}
+use Rattle.tokens.specs.declared.located_tokens.Token.TheVariants as token
+use Rattle.tokens.specs.declared.located_tokens.Word.TheVariants as word
 use Rattle.grammar.specs.declared.diagnostics.Code.{Code}
 use Rattle.grammar.specs.declared.diagnostics.Code.TheVariants as code
 use Rattle.grammar.specs.declared.diagnostics.Diagnostic.{Diagnostic}
@@ -15,24 +15,24 @@ use Rattle.grammar.specs.declared.names.Intrinsic.TheVariants as intrinsic
 use Rattle.grammar.specs.declared.names.Var.TheVariants as var
 use Rattle.grammar.specs.declared.operators.Op.TheVariants as op
 use Rattle.grammar.specs.declared.operators.StoreOp.TheVariants as store
-use Rattle.grammar.specs.Actions.{Action, Push, Get, Apply, Middle, BeginCall, EndCall, IfTest, ElsePart, GiveBack, Chop, Begin, Finish, actions, code_length, function_actions}
+use Rattle.grammar.specs.Actions.{Action, PushConstant, FetchVariable, ApplyBinop, LogicMiddle, BeginCall, EndCall, IfTest, ElsePart, GiveBack, Chop, Begin, Finish, actions, code_length, function_actions}
 use Rattle.grammar.specs.Compiled.{compiled_tokens, diagnostic}
 use Rattle.grammar.specs.Following.{Opened, follow_all, InFunction, AValue, Computed, IsBeginning}
 use Rattle.grammar.specs.Need.{need_tokens, built_tokens}
 use Rattle.grammar.specs.Profile.{Profile, first_profile}
-use Rattle.grammar.specs.Tree.{Expr, Constant, Variable, Binary, Assign, Postfix, Call, NoMore, Argument, Body, Done, Alone, When, Choose, While, Return, Function, File}
+use Rattle.grammar.specs.Tree.{Expr, Constant, Variable, Binary, Assign, Postfix, Call, NoMore, Argument, Body, Done, ExpressionStatement, IfStatement, IfElseStatement, While, Return, Function, File}
 
 -- tokens, each on a line of its own, so that a line names a token
-abbrev pub from_line : ℕ → List Token → List Lexeme
+abbrev pub from_line : ℕ → List Token → List LocatedToken
 from_line line [] = []
 from_line line (t ∷ ts) = record { token = t; line = line; end = line } ∷ from_line (line + 1) ts
 
 -- with the end behind them
-abbrev pub on_lines : List Token → List Lexeme
+abbrev pub on_lines : List Token → List LocatedToken
 on_lines ts = from_line 1 (ts ++ token.End ∷ [])
 
 -- with a fault behind them
-abbrev pub broken_off : List Token → Flaw → List Lexeme
+abbrev pub broken_off : List Token → LexicalError → List LocatedToken
 broken_off ts fault = from_line 1 (ts ++ token.Fault fault ∷ [])
 
 abbrev pub letter : ℕ → Token
@@ -82,32 +82,32 @@ return = token.Word word.Return
 
 -- ( ) { } ; ,
 abbrev pub ro : Token
-ro = token.Mark mark.OpenRound
+ro = token.Punctuator punctuator.OpenRound
 
 abbrev pub rc : Token
-rc = token.Mark mark.CloseRound
+rc = token.Punctuator punctuator.CloseRound
 
 abbrev pub co : Token
-co = token.Mark mark.OpenCurly
+co = token.Punctuator punctuator.OpenCurly
 
 abbrev pub cc : Token
-cc = token.Mark mark.CloseCurly
+cc = token.Punctuator punctuator.CloseCurly
 
 abbrev pub end : Token
-end = token.Mark mark.Semicolon
+end = token.Punctuator punctuator.Semicolon
 
 abbrev pub comma : Token
-comma = token.Mark mark.Comma
+comma = token.Punctuator punctuator.Comma
 
 abbrev pub equals : Token
-equals = token.Mark mark.Equals
+equals = token.Punctuator punctuator.Equals
 
 -- name ( ) { .. }
 abbrev pub function : Token → List Token → List Token
 function name body = name ∷ ro ∷ rc ∷ co ∷ (body ++ cc ∷ [])
 
 -- main ( ) { .. }
-abbrev pub in_main : List Token → List Lexeme
+abbrev pub in_main : List Token → List LocatedToken
 in_main body = on_lines (function main body)
 
 -- the function main, without parameters
@@ -116,7 +116,12 @@ main_of variables body = record { name = codes "main"; parameters = 0; variables
 
 -- a file of this function main alone
 abbrev pub file_of_main : List (List ℕ) → Body → File
-file_of_main variables body = record { externals = []; functions = main_of variables body ∷ []; order = 0 ∷ []; main = 0 }
+file_of_main variables body = record {
+  externals = [];
+  functions = main_of variables body ∷ [];
+  order = 0 ∷ [];
+  main = 0;
+}
 
 abbrev pub local : ℕ → Expr
 local n = Variable (var.Local n)
@@ -125,29 +130,31 @@ abbrev pub constant : ℕ → Expr
 constant n = Constant (pos n)
 
 -- the source is this file, with so many instructions
-pub record IsFile (source : List Lexeme) (file : File) (instructions : ℕ) : Type 0 where
+pub record IsFile (source : List LocatedToken) (file : File) (instructions : ℕ) : Type 0 where
   pub compiled : compiled_tokens first_profile source ≡ Ok file
   pub code : code_length first_profile (actions file) + 1 ≡ instructions
 
 -- it has this fault at the token of this line
-abbrev pub HasFault : List Lexeme → ℕ → Code → Type 0
+abbrev pub HasFault : List LocatedToken → ℕ → Code → Type 0
 HasFault source line fault = compiled_tokens first_profile source ≡ Err (diagnostic line fault)
 
 -- x = a+++b;
 abbrev pub sum_of_postfix : List Token
-sum_of_postfix = x ∷ equals ∷ a ∷ token.Mark mark.PlusPlus ∷ token.Mark mark.Plus ∷ b ∷ end ∷ []
+sum_of_postfix = x ∷ equals ∷ a ∷ token.Punctuator punctuator.PlusPlus ∷ token.Punctuator punctuator.Plus ∷ b ∷ end ∷ []
 
 abbrev pub sum_of_postfix_tree : Body
-sum_of_postfix_tree = Alone (Assign store.Set (var.Local 0) (Binary op.Add (Postfix store.Add (var.Local 1)) (local 2))) Done
+sum_of_postfix_tree = ExpressionStatement (Assign store.Set (var.Local 0)
+    (Binary op.Add (Postfix store.Add (var.Local 1)) (local 2))) Done
 
 -- d(x,y) int x,y; { return(x*x+y*y); } main() { d(3); }
 abbrev pub square : Token → List Token
-square v = v ∷ token.Mark mark.Star ∷ v ∷ []
+square v = v ∷ token.Punctuator punctuator.Star ∷ v ∷ []
 
 abbrev pub distance : List Token
 distance =
     d ∷ ro ∷ x ∷ comma ∷ y ∷ rc ∷ int ∷ x ∷ comma ∷ y ∷ end ∷ co
-    ∷ return ∷ ro ∷ (square x ++ token.Mark mark.Plus ∷ (square y ++ rc ∷ end ∷ cc ∷ function main (d ∷ ro ∷ number 3 ∷ rc ∷ end ∷ [])))
+    ∷ return ∷ ro ∷ (square x ++ token.Punctuator punctuator.Plus
+    ∷ (square y ++ rc ∷ end ∷ cc ∷ function main (d ∷ ro ∷ number 3 ∷ rc ∷ end ∷ [])))
 
 abbrev pub square_tree : ℕ → Expr
 square_tree n = Binary op.Multiply (local n) (local n)
@@ -158,7 +165,8 @@ distance_tree = record { name = codes "d"; parameters = 2; variables = codes "x"
 abbrev pub distance_file : File
 distance_file = record {
   externals = [];
-  functions = distance_tree ∷ main_of [] (Alone (Call (callee.Function 0) (Argument (constant 3) NoMore)) Done) ∷ [];
+  functions = distance_tree ∷ main_of [] (ExpressionStatement
+      (Call (callee.Function 0) (Argument (constant 3) NoMore)) Done) ∷ [];
   order = 0 ∷ 1 ∷ [];
   main = 1;
 }
@@ -169,29 +177,32 @@ nearest_else =
     token.Word word.If ∷ ro ∷ a ∷ rc ∷ token.Word word.If ∷ ro ∷ b ∷ rc ∷ c ∷ end ∷ token.Word word.Else ∷ d ∷ end ∷ []
 
 abbrev pub nearest_else_tree : Body
-nearest_else_tree = When (local 0) (Choose (local 1) (Alone (local 2) Done) (Alone (local 3) Done) Done) Done
+nearest_else_tree = IfStatement (local 0) (IfElseStatement (local 1) (ExpressionStatement (local 2) Done)
+    (ExpressionStatement (local 3) Done) Done) Done
 
 -- int x; f(){ x=1; return 1; } main(){ x+=f(); if(x==2) cannon(0,0); while(1); }
 abbrev pub late_read : List Token
 late_read =
     int ∷ x ∷ end ∷ (function f (x ∷ equals ∷ number 1 ∷ end ∷ return ∷ number 1 ∷ end ∷ []) ++ function main (
-    x ∷ token.Mark mark.PlusEquals ∷ f ∷ ro ∷ rc ∷ end
-    ∷ token.Word word.If ∷ ro ∷ x ∷ token.Mark mark.EqualsEquals ∷ number 2 ∷ rc ∷ cannon ∷ ro ∷ number 0 ∷ comma ∷ number 0 ∷ rc ∷ end
+    x ∷ token.Punctuator punctuator.PlusEquals ∷ f ∷ ro ∷ rc ∷ end
+    ∷ token.Word word.If ∷ ro ∷ x ∷ token.Punctuator punctuator.EqualsEquals ∷ number 2 ∷ rc ∷ cannon ∷ ro ∷ number 0
+    ∷ comma ∷ number 0 ∷ rc ∷ end
     ∷ token.Word word.While ∷ ro ∷ number 1 ∷ rc ∷ end ∷ []))
 
 abbrev pub shot_tree : Body
-shot_tree = Alone (Call (callee.Intrinsic intrinsic.Cannon) (Argument (constant 0) (Argument (constant 0) NoMore))) Done
+shot_tree = ExpressionStatement (Call (callee.Intrinsic intrinsic.Cannon)
+    (Argument (constant 0) (Argument (constant 0) NoMore))) Done
 
 abbrev pub late_read_body : Body
 late_read_body =
-    Alone (Assign store.Add (var.External 0) (Call (callee.Function 0) NoMore))
-    (When (Binary op.Equal (Variable (var.External 0)) (constant 2)) shot_tree (While (constant 1) Done Done))
+    ExpressionStatement (Assign store.Add (var.External 0) (Call (callee.Function 0) NoMore))
+    (IfStatement (Binary op.Equal (Variable (var.External 0)) (constant 2)) shot_tree (While (constant 1) Done Done))
 
 abbrev pub late_read_file : File
 late_read_file = record {
   externals = codes "x" ∷ [];
   functions =
-      record { name = codes "f"; parameters = 0; variables = []; body = Alone (Assign store.Set (var.External 0) (constant 1)) (Return (constant 1) Done) }
+      record { name = codes "f"; parameters = 0; variables = []; body = ExpressionStatement (Assign store.Set (var.External 0) (constant 1)) (Return (constant 1) Done) }
       ∷ main_of [] late_read_body ∷ [];
   order = 0 ∷ 1 ∷ [];
   main = 1;
@@ -200,17 +211,19 @@ late_read_file = record {
 -- -a; !a; ~a; ++a; --a; a--; return;
 abbrev pub unary_signs : List Token
 unary_signs =
-    token.Mark mark.Minus ∷ a ∷ end ∷ token.Mark mark.Not ∷ a ∷ end ∷ token.Mark mark.Tilde ∷ a ∷ end
-    ∷ token.Mark mark.PlusPlus ∷ a ∷ end ∷ token.Mark mark.MinusMinus ∷ a ∷ end ∷ a ∷ token.Mark mark.MinusMinus ∷ end ∷ return ∷ end ∷ []
+    token.Punctuator punctuator.Minus ∷ a ∷ end ∷ token.Punctuator punctuator.Not ∷ a ∷ end
+    ∷ token.Punctuator punctuator.Tilde ∷ a ∷ end
+    ∷ token.Punctuator punctuator.PlusPlus ∷ a ∷ end ∷ token.Punctuator punctuator.MinusMinus ∷ a ∷ end ∷ a
+    ∷ token.Punctuator punctuator.MinusMinus ∷ end ∷ return ∷ end ∷ []
 
 abbrev pub unary_trees : Body
 unary_trees =
-    Alone (Binary op.Subtract (constant 0) (local 0))
-    (Alone (Binary op.Equal (local 0) (constant 0))
-    (Alone (Binary op.BitXor (local 0) (Constant (negsuc 0)))
-    (Alone (Assign store.Add (var.Local 0) (constant 1))
-    (Alone (Assign store.Subtract (var.Local 0) (constant 1))
-    (Alone (Postfix store.Subtract (var.Local 0))
+    ExpressionStatement (Binary op.Subtract (constant 0) (local 0))
+    (ExpressionStatement (Binary op.Equal (local 0) (constant 0))
+    (ExpressionStatement (Binary op.BitXor (local 0) (Constant (negsuc 0)))
+    (ExpressionStatement (Assign store.Add (var.Local 0) (constant 1))
+    (ExpressionStatement (Assign store.Subtract (var.Local 0) (constant 1))
+    (ExpressionStatement (Postfix store.Subtract (var.Local 0))
     (Return (constant 0) Done))))))
 
 -- int x; main(){ x; { int x; x; } ; x; }: a name is what it is at its token
@@ -220,7 +233,7 @@ hidden_later = int ∷ x ∷ end ∷ function main (x ∷ end ∷ co ∷ int ∷
 abbrev pub hidden_later_file : File
 hidden_later_file = record {
   externals = codes "x" ∷ [];
-  functions = main_of (codes "x" ∷ []) (Alone (Variable (var.External 0)) (Alone (local 0) (Alone (local 0) Done))) ∷ [];
+  functions = main_of (codes "x" ∷ []) (ExpressionStatement (Variable (var.External 0)) (ExpressionStatement (local 0) (ExpressionStatement (local 0) Done))) ∷ [];
   order = 0 ∷ [];
   main = 0;
 }
@@ -238,7 +251,7 @@ call_of n = Call (callee.Function n) NoMore
 abbrev pub defined_later_file : File
 defined_later_file = record {
   externals = [];
-  functions = main_of [] (Alone (call_of 1) (Alone (call_of 2) Done)) ∷ empty_function (codes "g") ∷ empty_function (codes "f") ∷ [];
+  functions = main_of [] (ExpressionStatement (call_of 1) (ExpressionStatement (call_of 2) Done)) ∷ empty_function (codes "g") ∷ empty_function (codes "f") ∷ [];
   order = 0 ∷ 2 ∷ 1 ∷ [];
   main = 0;
 }
@@ -256,18 +269,23 @@ pub record KnownTrees : Type 0 where
 
 -- Tokens that don't fit.
 pub record KnownMisfits : Type 0 where
-  pub sum_assigned : HasFault (in_main (a ∷ token.Mark mark.Plus ∷ b ∷ equals ∷ c ∷ end ∷ [])) 8 code.SyntaxError
-  pub brackets_stepped : HasFault (in_main (ro ∷ a ∷ rc ∷ token.Mark mark.PlusPlus ∷ end ∷ [])) 8 code.SyntaxError
-  pub sign_stepped : HasFault (in_main (token.Mark mark.MinusMinus ∷ token.Mark mark.Minus ∷ a ∷ end ∷ [])) 6 code.SyntaxError
+  pub sum_assigned : HasFault (in_main (a ∷ token.Punctuator punctuator.Plus ∷ b ∷ equals ∷ c ∷ end ∷ [])) 8
+      code.SyntaxError
+  pub brackets_stepped : HasFault (in_main (ro ∷ a ∷ rc ∷ token.Punctuator punctuator.PlusPlus ∷ end ∷ [])) 8
+      code.SyntaxError
+  pub sign_stepped : HasFault (in_main (token.Punctuator punctuator.MinusMinus ∷ token.Punctuator punctuator.Minus ∷ a
+      ∷ end ∷ [])) 6 code.SyntaxError
   pub constant_then_name : HasFault (in_main (number 12 ∷ token.Name (codes "ab") ∷ end ∷ [])) 6 code.SyntaxError
   pub late_declaration : HasFault (in_main (end ∷ int ∷ x ∷ end ∷ [])) 6 code.SyntaxError
   pub unclosed : HasFault (on_lines (main ∷ ro ∷ rc ∷ co ∷ [])) 5 code.SyntaxError
   pub refused_word : HasFault (in_main (token.Word word.Refused ∷ end ∷ [])) 5 code.ReservedWord
   pub misplaced_word : HasFault (in_main (token.Word word.Else ∷ end ∷ [])) 5 code.SyntaxError
-  pub bad_character : HasFault (broken_off (main ∷ ro ∷ []) flaw.BadCharacter) 3 code.BadCharacter
-  pub comment_not_closed : HasFault (broken_off (function main []) flaw.CommentNotClosed) 6 code.CommentNotClosed
-  pub fault_behind_a_name : HasFault (broken_off (int ∷ f ∷ []) flaw.NameTooLong) 3 code.NameTooLong
-  pub misfit_before_a_fault : HasFault (broken_off (int ∷ int ∷ end ∷ []) flaw.ConstantTooLarge) 3 code.SyntaxError
+  pub bad_character : HasFault (broken_off (main ∷ ro ∷ []) lexical_error.BadCharacter) 3 code.BadCharacter
+  pub comment_not_closed : HasFault (broken_off (function main []) lexical_error.CommentNotClosed) 6
+      code.CommentNotClosed
+  pub fault_behind_a_name : HasFault (broken_off (int ∷ f ∷ []) lexical_error.NameTooLong) 3 code.NameTooLong
+  pub misfit_before_a_fault : HasFault (broken_off (int ∷ int ∷ end ∷ []) lexical_error.ConstantTooLarge) 3
+      code.SyntaxError
 
 -- so many brackets round a constant
 abbrev pub bracketed : ℕ → List Token
@@ -296,7 +314,7 @@ abbrev pub length_of : Result File Diagnostic → Option ℕ
 length_of (Ok file) = Some (code_length first_profile (actions file) + 1)
 length_of (Err d) = None
 
-abbrev pub HasLength : List Lexeme → ℕ → Type 0
+abbrev pub HasLength : List LocatedToken → ℕ → Type 0
 HasLength source instructions = length_of (compiled_tokens first_profile source) ≡ Some instructions
 
 -- the first profile with so many instructions
@@ -305,7 +323,8 @@ limited n = record first_profile { instructions = n }
 
 -- Faults of levels, names and length, at the least size that has them.
 pub record KnownLimits : Type 0 where
-  pub deepest : compiled_tokens first_profile (in_main (bracketed 63)) ≡ Ok (file_of_main [] (Alone (constant 1) Done))
+  pub deepest : compiled_tokens first_profile (in_main (bracketed 63))
+      ≡ Ok (file_of_main [] (ExpressionStatement (constant 1) Done))
   pub too_deep : HasFault (in_main (bracketed 64)) 68 code.NestedTooDeeply
   pub most_variables : HasLength (in_main (statements_of_names 64)) 131
   pub variables : HasFault (in_main (statements_of_names 65)) 133 code.TooManyVariables
@@ -317,7 +336,8 @@ pub record KnownLimits : Type 0 where
   pub too_long_by_one : HasFault (in_main (ones 999)) 2003 code.TooMuchCode
   pub longest : compiled_tokens (limited 3) (in_main []) ≡ Ok (file_of_main [] Done)
   pub too_long : compiled_tokens (limited 2) (in_main []) ≡ Err (diagnostic 5 code.TooMuchCode)
-  pub too_long_before_misfit : compiled_tokens (limited 2) (on_lines (function main [] ++ cc ∷ [])) ≡ Err (diagnostic 5 code.TooMuchCode)
+  pub too_long_before_misfit : compiled_tokens (limited 2) (on_lines (function main [] ++ cc ∷ []))
+      ≡ Err (diagnostic 5 code.TooMuchCode)
   pub misfit_before_too_long : compiled_tokens (limited 2) (in_main (comma ∷ [])) ≡ Err (diagnostic 5 code.SyntaxError)
 
 -- Faults of names, each at its name.
@@ -340,7 +360,7 @@ pub record KnownNameFaults : Type 0 where
 pub record KnownNeeds : Type 0 where
   pub all : need_tokens first_profile (in_main []) ≡ 6
   pub misfit : need_tokens first_profile (in_main (token.Word word.Refused ∷ end ∷ end ∷ [])) ≡ 6
-  pub last_token : need_tokens first_profile (broken_off (main ∷ ro ∷ []) flaw.BadCharacter) ≡ 3
+  pub last_token : need_tokens first_profile (broken_off (main ∷ ro ∷ []) lexical_error.BadCharacter) ≡ 3
   pub built : built_tokens (on_lines (function f [] ++ function main [])) 8 ≡ function_actions 0 (empty_function (codes "f"))
   pub not_yet_built : built_tokens (on_lines (function f [] ++ function main [])) 7 ≡ []
   pub built_with_end : built_tokens (on_lines (function f [] ++ function main [])) 20 ≡ function_actions 0 (empty_function (codes "f"))
@@ -364,17 +384,21 @@ pub record KnownBeginnings : Type 0 where
   pub nearest_else : IsClosed (file_of_main (codes "a" ∷ codes "b" ∷ codes "c" ∷ codes "d" ∷ []) nearest_else_tree)
   pub late_read : IsClosed late_read_file
   pub unary_signs : IsClosed (file_of_main (codes "a" ∷ []) unary_trees)
-  pub right_side : opened_by (Push (pos 1) ∷ Middle op.And ∷ Get (var.Local 0) ∷ Apply op.And ∷ []) ≡ Some (AValue Computed ∷ InFunction 0 false ∷ [])
-  pub no_right_side : opened_by (Push (pos 1) ∷ Middle op.And ∷ Apply op.And ∷ []) ≡ None
-  pub no_middle : opened_by (Push (pos 1) ∷ Push (pos 2) ∷ Apply op.And ∷ []) ≡ None
+  pub right_side : opened_by (PushConstant (pos 1) ∷ LogicMiddle op.And ∷ FetchVariable (var.Local 0)
+      ∷ ApplyBinop op.And ∷ []) ≡ Some (AValue Computed ∷ InFunction 0 false ∷ [])
+  pub no_right_side : opened_by (PushConstant (pos 1) ∷ LogicMiddle op.And ∷ ApplyBinop op.And ∷ []) ≡ None
+  pub no_middle : opened_by (PushConstant (pos 1) ∷ PushConstant (pos 2) ∷ ApplyBinop op.And ∷ []) ≡ None
   pub value_missing : opened_by (Chop ∷ []) ≡ None
-  pub value_left : opened_by (Push (pos 1) ∷ Push (pos 2) ∷ IfTest ∷ []) ≡ None
-  pub arguments : opened_by (BeginCall ∷ Push (pos 1) ∷ Push (pos 2) ∷ EndCall (callee.Intrinsic intrinsic.Scan) ∷ []) ≡ Some (AValue Computed ∷ InFunction 0 false ∷ [])
-  pub statement_in_call : opened_by (BeginCall ∷ Push (pos 1) ∷ Chop ∷ []) ≡ None
+  pub value_left : opened_by (PushConstant (pos 1) ∷ PushConstant (pos 2) ∷ IfTest ∷ []) ≡ None
+  pub arguments : opened_by (BeginCall ∷ PushConstant (pos 1) ∷ PushConstant (pos 2)
+      ∷ EndCall (callee.Intrinsic intrinsic.Scan) ∷ []) ≡ Some (AValue Computed ∷ InFunction 0 false ∷ [])
+  pub statement_in_call : opened_by (BeginCall ∷ PushConstant (pos 1) ∷ Chop ∷ []) ≡ None
   pub else_alone : opened_by (ElsePart ∷ []) ≡ None
-  pub if_within_a_function : opened_by (Push (pos 1) ∷ IfTest ∷ Push (pos 0) ∷ GiveBack ∷ Finish 0 ∷ []) ≡ None
-  pub no_last_return : opened_by (Push (pos 1) ∷ GiveBack ∷ Finish 0 ∷ []) ≡ None
-  pub fewer_variables_than_parameters : follow_all (Begin 0 2 ∷ Push (pos 0) ∷ GiveBack ∷ Finish 1 ∷ []) [] ≡ None
-  pub number_too_large : opened_by (Get (var.Local 64) ∷ []) ≡ None
+  pub if_within_a_function : opened_by (PushConstant (pos 1) ∷ IfTest ∷ PushConstant (pos 0) ∷ GiveBack ∷ Finish 0
+      ∷ []) ≡ None
+  pub no_last_return : opened_by (PushConstant (pos 1) ∷ GiveBack ∷ Finish 0 ∷ []) ≡ None
+  pub fewer_variables_than_parameters : follow_all (Begin 0 2 ∷ PushConstant (pos 0) ∷ GiveBack ∷ Finish 1 ∷ []) []
+      ≡ None
+  pub number_too_large : opened_by (FetchVariable (var.Local 64) ∷ []) ≡ None
   pub most_open : IsBeginning (Begin 0 0 ∷ calls_begun 200)
   pub too_much_open : opened_by (calls_begun 201) ≡ None

@@ -7,7 +7,7 @@ use Rattle.grammar.specs.Compiled.{compiled, diagnostic}
 use Rattle.grammar.specs.KnownSources.{constant, distance_file, empty_function, file_of_main, nearest_else_tree, sum_of_postfix_tree}
 use Rattle.grammar.specs.Need.{built, need}
 use Rattle.grammar.specs.Profile.{first_profile}
-use Rattle.grammar.specs.Tree.{Alone, Done, File}
+use Rattle.grammar.specs.Tree.{ExpressionStatement, Done, File}
 
 abbrev pub IsFileOf : List ℕ → File → Type 0
 IsFileOf text file = compiled first_profile text ≡ Ok file
@@ -21,7 +21,7 @@ main_text body = codes "main(){" ++ (body ++ codes "}")
 
 -- a file of main alone, with this constant as its one statement
 abbrev pub constant_file : ℕ → File
-constant_file n = file_of_main [] (Alone (constant n) Done)
+constant_file n = file_of_main [] (ExpressionStatement (constant n) Done)
 
 pub record KnownTexts : Type 0 where
   pub nothing : IsFileOf (main_text []) (file_of_main [] Done)

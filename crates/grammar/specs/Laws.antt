@@ -2,8 +2,8 @@
 use Rattle.std.specs.Prelude.{◌≡◌, ◌≤◌, ℕ, List, [], ◌∷◌, ◌++◌, length, Bool, Some, None, Ok, Err, if◌then◌else◌, slice_get}
 use Rattle.tokens.specs.Reading.{reach_of}
 use Rattle.tokens.specs.Tokens.{tokens}
-use Rattle.tokens.specs.declared.lexemes.Lexeme.{Lexeme}
-use Rattle.tokens.specs.declared.lexemes.Token.{Token}
+use Rattle.tokens.specs.declared.located_tokens.LocatedToken.{LocatedToken}
+use Rattle.tokens.specs.declared.located_tokens.Token.{Token}
 use Rattle.grammar.specs.declared.diagnostics.Diagnostic.{Diagnostic}
 use Rattle.grammar.specs.Compiled.{compiled_tokens, last_state, resolved}
 use Rattle.grammar.specs.Derivation.{State, state, Value, Definition, start, step, run}
@@ -22,40 +22,47 @@ use Rattle.grammar.specs.Tree.{Function, File}
 
 -- no step leads on from the last state
 abbrev pub EachDerivationEnds : Type 0
-EachDerivationEnds = (lexemes : List Lexeme) → step (last_state lexemes) ≡ None
+EachDerivationEnds = (located_tokens : List LocatedToken) → step (last_state located_tokens) ≡ None
 
 -- a source whose derivation ends without a fault is the file of its last state, or lacks a function
 abbrev pub FaultlessIsResolved : Type 0
-FaultlessIsResolved = (profile : Profile) (lexemes : List Lexeme) (t : State) →
-    Passes profile (start lexemes) t → step t ≡ None → faults_at profile t ≡ [] → compiled_tokens profile lexemes ≡ resolved lexemes t.scope t.functions
+FaultlessIsResolved = (profile : Profile) (located_tokens : List LocatedToken) (t : State) →
+    Passes profile (start located_tokens) t → step t ≡ None → faults_at profile t ≡ []
+    → compiled_tokens profile located_tokens ≡ resolved located_tokens t.scope t.functions
 
 -- any other is its first fault: the one at the earliest token, and there the one with the least code
 abbrev pub FirstFaultDecides : Type 0
-FirstFaultDecides = (profile : Profile) (lexemes : List Lexeme) (d : Diagnostic) → Fails profile (start lexemes) d → compiled_tokens profile lexemes ≡ Err d
+FirstFaultDecides = (profile : Profile) (located_tokens : List LocatedToken) (d : Diagnostic)
+    → Fails profile (start located_tokens) d → compiled_tokens profile located_tokens ≡ Err d
 
--- a production opens a level exactly where its end shuts one
-abbrev pub shuts : Production → ℕ
-shuts None = 0
-shuts (Some items) = levels items
+-- a production opens a level exactly where its end closes one
+abbrev pub closes : Production → ℕ
+closes None = 0
+closes (Some items) = levels items
 
 abbrev pub opened_levels : Bool → ℕ
 opened_levels b = if b then 1 else 0
 
-abbrev pub LevelsAreShut : Type 0
-LevelsAreShut = (symbol : Symbol) (next after : Token) → shuts (choice symbol next after) ≡ opened_levels (opens symbol next after)
+abbrev pub LevelsAreClosed : Type 0
+LevelsAreClosed = (symbol : Symbol) (next after : Token)
+    → closes (choice symbol next after) ≡ opened_levels (opens symbol next after)
 
--- the actions of a resolved file may follow one another, and leave nothing open, where no function has too much open at once
+-- the actions of a resolved file may follow one another, and leave nothing open, where no function has too much open
+-- at once
 abbrev pub EachFileFollows : Type 0
-EachFileFollows = (file : File) → IsResolved file → ((k : ℕ) (f : Function) → slice_get file.functions k ≡ Some f → body_nesting f.body ≤ 200) →
+EachFileFollows = (file : File) → IsResolved file
+    → ((k : ℕ) (f : Function) → slice_get file.functions k ≡ Some f → body_nesting f.body ≤ 200) →
     follow_all (actions file) [] ≡ Some []
 
 -- a file that compiles is resolved
 abbrev pub CompiledIsResolved : Type 0
-CompiledIsResolved = (profile : Profile) (lexemes : List Lexeme) (file : File) → compiled_tokens profile lexemes ≡ Ok file → IsResolved file
+CompiledIsResolved = (profile : Profile) (located_tokens : List LocatedToken) (file : File)
+    → compiled_tokens profile located_tokens ≡ Ok file → IsResolved file
 
 -- where a builder stands for a list that leaves this open, it may be told an action that may follow what is open
 abbrev pub MayBeTold : Meaning → Type 0
-MayBeTold stands = (opened next : Opened) (action : Action) → StandsOpen stands opened → follow action opened ≡ Some next → open_count next ≤ 200 → MayFollow stands action
+MayBeTold stands = (opened next : Opened) (action : Action) → StandsOpen stands opened
+    → follow action opened ≡ Some next → open_count next ≤ 200 → MayFollow stands action
 
 -- the function that is being defined keeps its number, its name and its parameters, and no other definition begins
 pub record KeepsFunction (known learnt : Scope) : Type 0 where
@@ -66,11 +73,16 @@ pub record KeepsFunction (known learnt : Scope) : Type 0 where
 
 -- what stands in a function's block keeps the function, up to the block's end: there no further function is defined yet
 abbrev pub BlocksKeepTheFunction : Type 0
-BlocksKeepTheFunction = (n : ℕ) (stack : List Item) (rest later : List Lexeme) (values left : List Value) (known learnt : Scope) (functions : List Definition) →
-    run n (state (Part Declarations ∷ Part Statements ∷ Make Define ∷ stack) rest values known functions) ≡ state (Make Define ∷ stack) later left learnt functions →
+BlocksKeepTheFunction = (n : ℕ) (stack : List Item) (rest later : List LocatedToken) (values left : List Value)
+    (known learnt : Scope) (functions : List Definition) →
+    run n (state (Part Declarations ∷ Part Statements ∷ Make Define ∷ stack) rest values known functions)
+    ≡ state (Make Define ∷ stack) later left learnt functions →
     KeepsFunction known learnt
 
--- Where no fault stands before these last tokens of a source, the source is needed up to the second of them, or the first where it is the last.
+-- Where no fault stands before these last tokens of a source, the source is needed up to the second of them, or the
+-- first where it is the last.
 abbrev pub WhatWasReadIsNeeded : Type 0
-WhatWasReadIsNeeded = (profile : Profile) (bytes : List ℕ) (passed rest : List Lexeme) → tokens bytes ≡ passed ++ rest →
-    ((f : Fault) → IsFault profile (start (tokens bytes)) f → length f.rest ≤ length rest) → reach_of rest ≤ need profile bytes
+WhatWasReadIsNeeded = (profile : Profile) (bytes : List ℕ) (passed rest : List LocatedToken)
+    → tokens bytes ≡ passed ++ rest →
+    ((f : Fault) → IsFault profile (start (tokens bytes)) f → length f.rest ≤ length rest)
+    → reach_of rest ≤ need profile bytes

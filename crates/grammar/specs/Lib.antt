@@ -8,7 +8,6 @@ pub mod Grammar
 pub mod Scope
 pub mod Derivation
 pub mod Faults
-pub mod Weight
 pub mod Compiled
 pub mod Need
 pub mod Following

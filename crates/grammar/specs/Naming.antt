@@ -1,7 +1,7 @@
 -- What a name in a role does to what is known, and what may be wrong with it.
 use Rattle.std.specs.Prelude.{◌≡◌, ℕ, ◌+◌, ◌<◌, ◌≤◌, List, [], ◌∷◌, Option, Some, None, length, true, eqb, ◌==◌, if◌then◌else◌}
 use Rattle.std.specs.List.{IsDistinct, list_any}
-use Rattle.tokens.specs.declared.lexemes.Lexeme.{Lexeme}
+use Rattle.tokens.specs.declared.located_tokens.LocatedToken.{LocatedToken}
 use Rattle.grammar.specs.declared.diagnostics.Code.{Code}
 use Rattle.grammar.specs.Faults.{fault, role_faults}
 use Rattle.grammar.specs.Grammar.{Role}
@@ -9,12 +9,12 @@ use Rattle.grammar.specs.Scope.{Scope, behind_name}
 
 -- the name has no fault, and the new scope is that behind it
 pub record Knows (role : Role) (name : List ℕ) (line : ℕ) (old new : Scope) : Type 0 where
-  pub clean : (rest : List Lexeme) → role_faults role name old rest ≡ []
+  pub clean : (rest : List LocatedToken) → role_faults role name old rest ≡ []
   pub behind : new ≡ behind_name role name line old
 
 -- the name has this one fault
 abbrev pub RefusesName : Role → List ℕ → Scope → Code → Type 0
-RefusesName role name scope c = (rest : List Lexeme) → role_faults role name scope rest ≡ fault rest c ∷ []
+RefusesName role name scope c = (rest : List LocatedToken) → role_faults role name scope rest ≡ fault rest c ∷ []
 
 -- each function that was mentioned has its line, and the definition of each begins once at most
 pub record IsKept {F : Type 0} (functions : List F) (lines begun : List ℕ) : Type 0 where
@@ -26,4 +26,5 @@ pub record IsKept {F : Type 0} (functions : List F) (lines begun : List ℕ) : T
 -- the line of the first mention of the first function, by number, whose definition didn't begin
 abbrev pub line_of_undefined : ℕ → List ℕ → List ℕ → Option ℕ
 line_of_undefined number [] begun = None
-line_of_undefined number (line ∷ lines) begun = if list_any (λ k. k == number) begun then line_of_undefined (number + 1) lines begun else Some line
+line_of_undefined number (line ∷ lines) begun = if list_any (λ k. k == number) begun then line_of_undefined
+    (number + 1) lines begun else Some line

@@ -1,7 +1,7 @@
 -- How far a source need be read, and what a builder has been told by then.
 use Rattle.std.specs.Prelude.{ℕ, zero, suc, List, [], ◌∷◌, ◌++◌, Bool, true, false, ◌&&◌, not, nat_le, if◌then◌else◌}
 use Rattle.tokens.specs.Tokens.{tokens}
-use Rattle.tokens.specs.declared.lexemes.Lexeme.{Lexeme}
+use Rattle.tokens.specs.declared.located_tokens.LocatedToken.{LocatedToken}
 use Rattle.grammar.specs.Actions.{Action, function_actions}
 use Rattle.grammar.specs.Compiled.{all_faults, enough}
 use Rattle.grammar.specs.Derivation.{State, Value, definition_of, last_body, is_end, start, stepped}
@@ -11,47 +11,48 @@ use Rattle.grammar.specs.Profile.{Profile}
 use Rattle.grammar.specs.Scope.{Scope}
 
 -- where the token behind the next one ends, or the next one where it is the last
-abbrev pub end_behind : List Lexeme → ℕ
+abbrev pub end_behind : List LocatedToken → ℕ
 end_behind [] = 0
-end_behind (lexeme ∷ []) = lexeme.end
-end_behind (lexeme ∷ other ∷ rest) = other.end
+end_behind (located_token ∷ []) = located_token.end
+end_behind (located_token ∷ other ∷ rest) = other.end
 
 -- where the last token ends: at the source's end
-abbrev pub last_end : List Lexeme → ℕ
+abbrev pub last_end : List LocatedToken → ℕ
 last_end [] = 0
-last_end (lexeme ∷ []) = lexeme.end
-last_end (lexeme ∷ other ∷ rest) = last_end (other ∷ rest)
+last_end (located_token ∷ []) = located_token.end
+last_end (located_token ∷ other ∷ rest) = last_end (other ∷ rest)
 
 -- up to the token behind the first fault; where there is none, all of the source
-abbrev pub needed : List Lexeme → List Fault → ℕ
-needed lexemes [] = last_end lexemes
-needed lexemes (f ∷ faults) = end_behind (first_of f faults).rest
+abbrev pub needed : List LocatedToken → List Fault → ℕ
+needed located_tokens [] = last_end located_tokens
+needed located_tokens (f ∷ faults) = end_behind (first_of f faults).rest
 
-abbrev pub need_tokens : Profile → List Lexeme → ℕ
-need_tokens profile lexemes = needed lexemes (all_faults profile lexemes)
+abbrev pub need_tokens : Profile → List LocatedToken → ℕ
+need_tokens profile located_tokens = needed located_tokens (all_faults profile located_tokens)
 
 -- how many bytes of a source decide what it is
 unfoldable pub need : Profile → List ℕ → ℕ
 need profile bytes = need_tokens profile (tokens bytes)
 
-abbrev pub ends_by : ℕ → Lexeme → Bool
-ends_by count lexeme = not (is_end lexeme.token) && nat_le lexeme.end count
+abbrev pub ends_by : ℕ → LocatedToken → Bool
+ends_by count located_token = not (is_end located_token.token) && nat_le located_token.end count
 
 -- so many more tokens, the end not among them, end within these bytes
-abbrev pub has_ahead : ℕ → ℕ → List Lexeme → Bool
+abbrev pub has_ahead : ℕ → ℕ → List LocatedToken → Bool
 has_ahead zero count rest = true
 has_ahead (suc n) count [] = false
-has_ahead (suc n) count (lexeme ∷ rest) = ends_by count lexeme && has_ahead n count rest
+has_ahead (suc n) count (located_token ∷ rest) = ends_by count located_token && has_ahead n count rest
 
 -- three tokens behind a function's closing brace, which is next
-abbrev pub is_behind_brace : ℕ → List Lexeme → Bool
+abbrev pub is_behind_brace : ℕ → List LocatedToken → Bool
 is_behind_brace count [] = false
 is_behind_brace count (brace ∷ rest) = has_ahead 3 count rest
 
 -- the actions of the function whose closing brace is next, where a builder has been told them
-abbrev pub built_of : ℕ → List Item → List Lexeme → List Value → Scope → List Action
+abbrev pub built_of : ℕ → List Item → List LocatedToken → List Value → Scope → List Action
 built_of count (Make Define ∷ stack) rest values scope =
-    if is_behind_brace count rest then function_actions scope.number (definition_of scope (last_body values)).function else []
+    if is_behind_brace count rest then function_actions scope.number (definition_of scope (last_body values)).function
+    else []
 built_of count stack rest values scope = []
 
 -- the functions of the first n states
@@ -59,8 +60,8 @@ abbrev pub built_in : ℕ → ℕ → State → List Action
 built_in count zero s = []
 built_in count (suc n) s = built_of count s.stack s.rest s.values s.scope ++ built_in count n (stepped s)
 
-abbrev pub built_tokens : List Lexeme → ℕ → List Action
-built_tokens lexemes count = built_in count (enough lexemes) (start lexemes)
+abbrev pub built_tokens : List LocatedToken → ℕ → List Action
+built_tokens located_tokens count = built_in count (enough located_tokens) (start located_tokens)
 
 -- what a builder has been told for certain once so many bytes of a source were read
 unfoldable pub built : List ℕ → ℕ → List Action

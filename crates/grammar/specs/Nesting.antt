@@ -2,7 +2,7 @@
 use Rattle.std.specs.Prelude.{ℕ, ◌+◌, max, if◌then◌else◌}
 use Rattle.grammar.specs.declared.operators.Op.{Op}
 use Rattle.grammar.specs.Operators.{is_logic}
-use Rattle.grammar.specs.Tree.{Expr, Constant, Variable, Binary, Assign, Postfix, Call, Args, NoMore, Argument, Body, Done, Alone, When, Choose, While, Return}
+use Rattle.grammar.specs.Tree.{Expr, Constant, Variable, Binary, Assign, Postfix, Call, Args, NoMore, Argument, Body, Done, ExpressionStatement, IfStatement, IfElseStatement, While, Return}
 
 abbrev pub right_side : Op → ℕ
 right_side op = if is_logic op then 1 else 0
@@ -22,8 +22,9 @@ abbrev mutual
 
 abbrev pub body_nesting : Body → ℕ
 body_nesting Done = 0
-body_nesting (Alone e rest) = max (nesting e) (body_nesting rest)
-body_nesting (When c s rest) = max (max (nesting c) (1 + body_nesting s)) (body_nesting rest)
-body_nesting (Choose c s t rest) = max (max (nesting c) (1 + max (body_nesting s) (body_nesting t))) (body_nesting rest)
+body_nesting (ExpressionStatement e rest) = max (nesting e) (body_nesting rest)
+body_nesting (IfStatement c s rest) = max (max (nesting c) (1 + body_nesting s)) (body_nesting rest)
+body_nesting (IfElseStatement c s t rest) = max (max (nesting c) (1 + max (body_nesting s) (body_nesting t)))
+    (body_nesting rest)
 body_nesting (While c s rest) = max (1 + max (nesting c) (body_nesting s)) (body_nesting rest)
 body_nesting (Return e rest) = max (nesting e) (body_nesting rest)

@@ -1,4 +1,4 @@
--- A stretch of a derivation without a fault, and its first fault.
+-- A segment of a derivation without a fault, and its first fault.
 use Rattle.std.specs.Prelude.{ℕ, ◌≡◌, ◌⊎◌, List, [], ◌∷◌, true}
 use Rattle.grammar.specs.declared.diagnostics.Diagnostic.{Diagnostic}
 use Rattle.grammar.specs.Derivation.{State, run, line_of}

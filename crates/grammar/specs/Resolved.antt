@@ -4,7 +4,7 @@ use Rattle.grammar.specs.declared.names.Callee.{Callee}
 use Rattle.grammar.specs.declared.names.Callee.TheVariants as callee
 use Rattle.grammar.specs.declared.names.Var.{Var}
 use Rattle.grammar.specs.declared.names.Var.TheVariants as var
-use Rattle.grammar.specs.Tree.{Expr, Constant, Variable, Binary, Assign, Postfix, Call, Args, NoMore, Argument, Body, Done, Alone, When, Choose, While, Return, Function, File}
+use Rattle.grammar.specs.Tree.{Expr, Constant, Variable, Binary, Assign, Postfix, Call, Args, NoMore, Argument, Body, Done, ExpressionStatement, IfStatement, IfElseStatement, While, Return, Function, File}
 
 -- one of so many externals and locals
 abbrev pub IsVariable : (externals locals : ℕ) → Var → Type 0
@@ -32,9 +32,9 @@ abbrev mutual
 
 abbrev pub InBody : (externals locals functions : ℕ) → Body → Type 0
 InBody e l n Done = Unit {0}
-InBody e l n (Alone a rest) = InExpr e l n a × InBody e l n rest
-InBody e l n (When c s rest) = InExpr e l n c × InBody e l n s × InBody e l n rest
-InBody e l n (Choose c s t rest) = InExpr e l n c × InBody e l n s × InBody e l n t × InBody e l n rest
+InBody e l n (ExpressionStatement a rest) = InExpr e l n a × InBody e l n rest
+InBody e l n (IfStatement c s rest) = InExpr e l n c × InBody e l n s × InBody e l n rest
+InBody e l n (IfElseStatement c s t rest) = InExpr e l n c × InBody e l n s × InBody e l n t × InBody e l n rest
 InBody e l n (While c s rest) = InExpr e l n c × InBody e l n s × InBody e l n rest
 InBody e l n (Return a rest) = InExpr e l n a × InBody e l n rest
 
@@ -57,7 +57,8 @@ AreDistinct (n ∷ numbers) = (IsAmong n numbers → ⊥) × AreDistinct numbers
 pub record IsResolved (file : File) : Type 0 where
   pub externals : length file.externals ≤ 64
   pub functions : length file.functions ≤ 64
-  pub each : (k : ℕ) (f : Function) → slice_get file.functions k ≡ Some f → InFile (length file.externals) (length file.functions) f
+  pub each : (k : ℕ) (f : Function) → slice_get file.functions k ≡ Some f
+      → InFile (length file.externals) (length file.functions) f
   pub defined : (k : ℕ) → k < length file.functions → IsAmong k file.order
   pub only : (k : ℕ) → IsAmong k file.order → k < length file.functions
   pub once : AreDistinct file.order

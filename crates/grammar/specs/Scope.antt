@@ -39,7 +39,8 @@ function_number name scope = number_of_name name (map (λ (f : FunctionNames). f
 -- the variable of a name: one of the function's, or else an external
 abbrev pub variable_named : List ℕ → Scope → Option Var
 variable_named name scope =
-    option_or (option_map var.Local (number_of_name name scope.current.variables)) (option_map var.External (number_of_name name scope.externals))
+    option_or (option_map var.Local (number_of_name name scope.current.variables))
+    (option_map var.External (number_of_name name scope.externals))
 
 -- a name that stands for neither is the function's next local
 abbrev pub variable_of : List ℕ → Scope → Var
@@ -75,18 +76,25 @@ abbrev pub has_begun : List ℕ → Scope → Bool
 has_begun name scope = list_any (λ k. k == number_for name scope) scope.begun
 
 abbrev pub with_variable : List ℕ → Scope → Scope
-with_variable name scope = record scope { current = record scope.current { variables = scope.current.variables ++ name ∷ [] } }
+with_variable name scope = record scope {
+  current = record scope.current
+      { variables = scope.current.variables ++ name ∷ [] };
+}
 
 abbrev pub with_parameter : List ℕ → Scope → Scope
 with_parameter name scope =
-    record scope { current = record scope.current { parameters = scope.current.parameters + 1; variables = scope.current.variables ++ name ∷ [] } }
+    record scope {
+      current = record scope.current
+          { parameters = scope.current.parameters + 1; variables = scope.current.variables ++ name ∷ [] };
+    }
 
 abbrev pub with_external : List ℕ → Scope → Scope
 with_external name scope = record scope { externals = scope.externals ++ name ∷ [] }
 
 -- a new function is mentioned on a line
 abbrev pub with_new_function : List ℕ → ℕ → Scope → Scope
-with_new_function name line scope = record scope { functions = scope.functions ++ only_named name ∷ []; lines = scope.lines ++ line ∷ [] }
+with_new_function name line scope = record scope
+    { functions = scope.functions ++ only_named name ∷ []; lines = scope.lines ++ line ∷ [] }
 
 -- a function is mentioned on a line
 abbrev pub with_function : List ℕ → ℕ → Scope → Scope
@@ -98,16 +106,27 @@ begun_with name scope = if is_intrinsic name then scope.begun else scope.begun +
 
 -- the definition of the function of this name and number begins
 abbrev pub with_begun : ℕ → List ℕ → Scope → Scope
-with_begun number name scope = record scope { begun = scope.begun ++ number ∷ []; number = number; current = only_named name }
+with_begun number name scope = record scope {
+  begun = scope.begun ++ number ∷ [];
+  number = number;
+  current = only_named name;
+}
 
 -- a definition begins: the function is mentioned, and has no variables yet
 abbrev pub begin_definition : List ℕ → ℕ → Scope → Scope
 begin_definition name line scope =
-    record (with_function name line scope) { begun = begun_with name scope; number = number_for name scope; current = only_named name }
+    record (with_function name line scope) {
+      begun = begun_with name scope;
+      number = number_for name scope;
+      current = only_named name;
+    }
 
 -- it ends: the function's parameters and variables are known
 abbrev pub end_definition : Scope → Scope
-end_definition scope = record scope { functions = set scope.functions scope.number scope.current; current = only_named [] }
+end_definition scope = record scope {
+  functions = set scope.functions scope.number scope.current;
+  current = only_named [];
+}
 
 -- what is known behind a name in a role
 abbrev pub behind_name : Role → List ℕ → ℕ → Scope → Scope

@@ -25,9 +25,9 @@ mutual
 -- a list of statements, each with those that stand behind it; a block adds its statements, and ; adds none
 pub data Body : Type 0 where
   Done : Body
-  Alone : (e : Expr) (rest : Body) → Body
-  When : (c : Expr) (s rest : Body) → Body
-  Choose : (c : Expr) (s t rest : Body) → Body
+  ExpressionStatement : (e : Expr) (rest : Body) → Body
+  IfStatement : (c : Expr) (s rest : Body) → Body
+  IfElseStatement : (c : Expr) (s t rest : Body) → Body
   While : (c : Expr) (s rest : Body) → Body
   Return : (e : Expr) (rest : Body) → Body
 
@@ -41,9 +41,9 @@ add_argument (Argument a rest) e = Argument a (add_argument rest e)
 -- the statements of one body and then those of another
 abbrev pub join : Body → Body → Body
 join Done b = b
-join (Alone e rest) b = Alone e (join rest b)
-join (When c s rest) b = When c s (join rest b)
-join (Choose c s t rest) b = Choose c s t (join rest b)
+join (ExpressionStatement e rest) b = ExpressionStatement e (join rest b)
+join (IfStatement c s rest) b = IfStatement c s (join rest b)
+join (IfElseStatement c s t rest) b = IfElseStatement c s t (join rest b)
 join (While c s rest) b = While c s (join rest b)
 join (Return e rest) b = Return e (join rest b)
 
@@ -54,7 +54,8 @@ pub record Function : Type 0 where
   pub variables : List (List ℕ)
   pub body : Body
 
--- a resolved file: the names of its externals, its functions by number, their numbers in the order of the definitions, and main's
+-- a resolved file: the names of its externals, its functions by number, their numbers in the order of the definitions,
+-- and main's
 pub record File : Type 0 where
   pub externals : List (List ℕ)
   pub functions : List Function

@@ -1,7 +1,7 @@
 //! The trait of what a parse builds: it is told each action in the order of the tokens.
 
 ghost use Rattle.std.specs.Prelude.{◌≡◌, ℕ, ◌+◌, ◌<◌, ◌≤◌, List, [], ◌∷◌, ◌++◌, Bool, IsTrue, IsErrOf, OnOk, OnErr};
-ghost use Rattle.grammar.specs.Actions.{Action, Push, Get, Put, Apply, Middle, BeginCall, EndCall, IfTest, ElsePart, EndIf, BeginWhile, WhileTest, EndWhile, GiveBack, Chop, Begin, Finish};
+ghost use Rattle.grammar.specs.Actions.{Action, PushConstant, FetchVariable, StoreVariable, ApplyBinop, LogicMiddle, BeginCall, EndCall, IfTest, ElsePart, EndIf, BeginWhile, WhileTest, EndWhile, GiveBack, Chop, Begin, Finish};
 ghost use Rattle.grammar.specs.Building.{Appends, FitsWithin, IsOver, MayFollow, Refuses};
 ghost use Rattle.grammar.specs.Profile.{Profile};
 
@@ -29,32 +29,33 @@ pub trait Build {
 
     /// A constant is the next value.
     fn constant(&mut self, value: i32) -> Result<(), BuildFault>
-        requires follows { MayFollow (stands self.old) (Push value) }
-        ensures ok { OnOk result (Appends (stands self.old) (stands self.new) (Push value)) }
+        requires follows { MayFollow (stands self.old) (PushConstant value) }
+        ensures ok { OnOk result (Appends (stands self.old) (stands self.new) (PushConstant value)) }
         ensures memory { Refuses result allocates };
 
     /// The value of a variable is the next value.
     fn fetch(&mut self, var: Var) -> Result<(), BuildFault>
-        requires follows { MayFollow (stands self.old) (Get var) }
-        ensures ok { OnOk result (Appends (stands self.old) (stands self.new) (Get var)) }
+        requires follows { MayFollow (stands self.old) (FetchVariable var) }
+        ensures ok { OnOk result (Appends (stands self.old) (stands self.new) (FetchVariable var)) }
         ensures memory { Refuses result allocates };
 
-    /// A variable takes the last value, or the operator's result of its own value and the last one. The new value stays.
+    /// A variable takes the last value, or the operator's result of its own value and the last one. The new value
+    /// stays.
     fn store(&mut self, var: Var, op: StoreOp) -> Result<(), BuildFault>
-        requires follows { MayFollow (stands self.old) (Put var op) }
-        ensures ok { OnOk result (Appends (stands self.old) (stands self.new) (Put var op)) }
+        requires follows { MayFollow (stands self.old) (StoreVariable var op) }
+        ensures ok { OnOk result (Appends (stands self.old) (stands self.new) (StoreVariable var op)) }
         ensures memory { Refuses result allocates };
 
     /// The last two values become the operator's.
     fn binop(&mut self, op: Op) -> Result<(), BuildFault>
-        requires follows { MayFollow (stands self.old) (Apply op) }
-        ensures ok { OnOk result (Appends (stands self.old) (stands self.new) (Apply op)) }
+        requires follows { MayFollow (stands self.old) (ApplyBinop op) }
+        ensures ok { OnOk result (Appends (stands self.old) (stands self.new) (ApplyBinop op)) }
         ensures memory { Refuses result allocates };
 
     /// The left side of `&&` or `||` is done, and its right side follows.
     fn logic_middle(&mut self, op: Op) -> Result<(), BuildFault>
-        requires follows { MayFollow (stands self.old) (Middle op) }
-        ensures ok { OnOk result (Appends (stands self.old) (stands self.new) (Middle op)) }
+        requires follows { MayFollow (stands self.old) (LogicMiddle op) }
+        ensures ok { OnOk result (Appends (stands self.old) (stands self.new) (LogicMiddle op)) }
         ensures memory { Refuses result allocates };
 
     /// A call begins: its arguments follow.
@@ -125,11 +126,12 @@ pub trait Build {
 
     /// The function ends, with so many variables, parameters among them.
     ///
-    /// `Full` comes exactly where the code so far and the final NOP pass the most instructions of a file, memory aside.
+    /// Answers `Full` exactly if the code so far and the final NOP pass the most instructions of a file.
     fn end_function(&mut self, variables: u8) -> Result<(), BuildFault>
         requires follows { MayFollow (stands self.old) (Finish variables) }
         ensures ok { OnOk result (Appends (stands self.old) (stands self.new) (Finish variables)) }
         ensures fits { OnOk result (FitsWithin (stands self.old)) }
         ensures full { IsErrOf result BuildFault.Full → IsOver (stands self.old) }
-        ensures memory { IsErrOf result BuildFault.Memory → IsTrue allocates };
+        ensures memory { IsErrOf result BuildFault.Memory → IsTrue allocates }
+        ensures within { IsErrOf result BuildFault.Memory → FitsWithin (stands self.old) };
 }

@@ -1,11 +1,11 @@
 //! The sixteen diagnostics with their texts, and what a parse refuses.
 
 ghost use Rattle.std.specs.Prelude.{◌≡◌};
-ghost use Rattle.grammar.specs.Faults.{flaw_code};
+ghost use Rattle.grammar.specs.Faults.{lexical_error_code};
 ghost use Rattle.grammar.specs.Texts.{text_of};
 
 use crate::build::BuildFault;
-use tokens::{DeviceFault, Flaw};
+use tokens::{DeviceFault, LexicalError};
 
 /// What is wrong with a source.
 #[derive(Clone, Copy, Debug, PartialEq, Eq)]
@@ -72,15 +72,15 @@ impl Code {
 }
 
 /// The code of a fault within a token.
-pub fn code_of(flaw: Flaw) -> Code
-    ensures { result ≡ flaw_code flaw }
+pub fn code_of(lexical_error: LexicalError) -> Code
+    ensures { result ≡ lexical_error_code lexical_error }
 {
-    match flaw {
-        Flaw::BadCharacter => Code::BadCharacter,
-        Flaw::CommentNotClosed => Code::CommentNotClosed,
-        Flaw::NameTooLong => Code::NameTooLong,
-        Flaw::ConstantTooLarge => Code::ConstantTooLarge,
-        Flaw::SourceTooLong => Code::SourceTooLong,
+    match lexical_error {
+        LexicalError::BadCharacter => Code::BadCharacter,
+        LexicalError::CommentNotClosed => Code::CommentNotClosed,
+        LexicalError::NameTooLong => Code::NameTooLong,
+        LexicalError::ConstantTooLarge => Code::ConstantTooLarge,
+        LexicalError::SourceTooLong => Code::SourceTooLong,
     }
 }
 

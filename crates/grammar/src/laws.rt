@@ -1,7 +1,7 @@
 //! Laws on the definitions of the language.
 
 ghost use Rattle.grammar.specs.Finished.{Finished, Undefined, WithoutMain};
-ghost use Rattle.grammar.specs.Laws.{BlocksKeepTheFunction, CompiledIsResolved, EachDerivationEnds, EachFileFollows, FaultlessIsResolved, FirstFaultDecides, LevelsAreShut, MayBeTold, WhatWasReadIsNeeded};
+ghost use Rattle.grammar.specs.Laws.{BlocksKeepTheFunction, CompiledIsResolved, EachDerivationEnds, EachFileFollows, FaultlessIsResolved, FirstFaultDecides, LevelsAreClosed, MayBeTold, WhatWasReadIsNeeded};
 
 use crate::build::Build;
 
@@ -12,19 +12,21 @@ pub fn derivations()
     ensures first_fault { FirstFaultDecides }
 {}
 
-/// A source whose derivation ends without a fault is a file, or a function that it mentions isn't defined, or it has no function main.
+/// A source whose derivation ends without a fault is a file, or a function that it mentions isn't defined, or it has
+/// no function main.
 pub fn finished()
     ensures file { Finished }
     ensures undefined { Undefined }
     ensures without_main { WithoutMain }
 {}
 
-/// The grammar's productions shut each level that they open.
+/// The grammar's productions close each level that they open.
 pub fn levels()
-    ensures { LevelsAreShut }
+    ensures { LevelsAreClosed }
 {}
 
-/// What was read of a source is needed: where no fault stands before the tokens that are next, up to the second of them.
+/// What was read of a source is needed: where no fault stands before the tokens that are next, up to the second of
+/// them.
 pub fn reach()
     ensures { WhatWasReadIsNeeded }
 {}

@@ -1,4 +1,5 @@
-//! Defines the language of robot programs: its grammar, its names, its diagnostics, and the trait by which a parser reports to a builder.
+//! Defines the language of robot programs: its grammar, its names, its diagnostics, and the trait by which a parser
+//! reports to a builder.
 #![tactic(auto)]
 
 mod build;
@@ -15,7 +16,7 @@ pub use build::{Build, BuildFault};
 pub use diagnostics::{Code, Diagnostic, ParseFault, code_of};
 pub use known::{known_sources, known_texts};
 pub use names::{Callee, Intrinsic, Var};
-pub use operators::{LAST_LEVEL, Op, StoreOp, operator_at, store_operator};
+pub use operators::{Binary, Op, StoreOp, operator_from, store_operator};
 pub use pools::{Function, MOST_NAMES, Pools};
 pub use profiles::Profile;
 pub use scope::{Scope, intrinsic, number_of};

@@ -1,9 +1,9 @@
-//! The eighteen binary operators and the eleven of assignments, with the marks that spell them.
+//! The eighteen binary operators and the eleven of assignments, with the punctuators that spell them.
 
 ghost use Rattle.std.specs.Prelude.{◌≡◌};
-ghost use Rattle.grammar.specs.Operators.{binary_of, is_logic, operator_at, store_of, store_operator};
+ghost use Rattle.grammar.specs.Operators.{binary_of, is_logic, operator_from, store_of, store_operator};
 
-use tokens::{Mark, Token};
+use tokens::{Punctuator, Token};
 
 /// A binary operator. The levels of the grammar bind tighter from the first to the last:
 /// `||`, `&&`, `|`, `^`, `&`, equality, order, shifts, sums, products.
@@ -83,9 +83,6 @@ pub struct Binary {
     pub op: Op,
 }
 
-/// The tightest level of the binary operators.
-pub const LAST_LEVEL: u8 = 10;
-
 impl Op {
     /// Whether a builder is told of the middle between the operator's sides: those of `&&` and `||`.
     pub fn is_logic(self) -> bool
@@ -95,42 +92,42 @@ impl Op {
     }
 }
 
-/// The operator of this level that the token spells.
-pub fn operator_at(token: &Token, level: u8) -> Option<Op>
-    ensures { result ≡ operator_at level token.now }
+/// Returns the operator that a token spells, with its level, if that is this level or a tighter one.
+pub fn operator_from(token: &Token, level: u8) -> Option<Binary>
+    ensures { result ≡ operator_from level token.now }
 {
-    let Token::Mark(mark) = *token else {
+    let Token::Punctuator(punctuator) = *token else {
         return None;
     };
-    match binary_of(mark) {
-        Some(binary) if binary.level == level => Some(binary.op),
+    match binary_of(punctuator) {
+        Some(binary) if binary.level >= level => Some(binary),
         _ => None,
     }
 }
 
-/// The binary operator that a mark spells.
-fn binary_of(mark: Mark) -> Option<Binary>
-    ensures { result ≡ binary_of mark }
+/// The binary operator that a punctuator spells.
+fn binary_of(punctuator: Punctuator) -> Option<Binary>
+    ensures { result ≡ binary_of punctuator }
 {
-    let (level, op) = match mark {
-        Mark::OrOr => (1, Op::Or),
-        Mark::AndAnd => (2, Op::And),
-        Mark::Or => (3, Op::BitOr),
-        Mark::Xor => (4, Op::BitXor),
-        Mark::And => (5, Op::BitAnd),
-        Mark::EqualsEquals => (6, Op::Equal),
-        Mark::NotEquals => (6, Op::NotEqual),
-        Mark::Less => (7, Op::Less),
-        Mark::Greater => (7, Op::Greater),
-        Mark::LessEquals => (7, Op::LessOrEqual),
-        Mark::GreaterEquals => (7, Op::GreaterOrEqual),
-        Mark::ShiftLeft => (8, Op::ShiftLeft),
-        Mark::ShiftRight => (8, Op::ShiftRight),
-        Mark::Plus => (9, Op::Add),
-        Mark::Minus => (9, Op::Subtract),
-        Mark::Star => (10, Op::Multiply),
-        Mark::Slash => (10, Op::Divide),
-        Mark::Percent => (10, Op::Remainder),
+    let (level, op) = match punctuator {
+        Punctuator::OrOr => (1, Op::Or),
+        Punctuator::AndAnd => (2, Op::And),
+        Punctuator::Or => (3, Op::BitOr),
+        Punctuator::Xor => (4, Op::BitXor),
+        Punctuator::And => (5, Op::BitAnd),
+        Punctuator::EqualsEquals => (6, Op::Equal),
+        Punctuator::NotEquals => (6, Op::NotEqual),
+        Punctuator::Less => (7, Op::Less),
+        Punctuator::Greater => (7, Op::Greater),
+        Punctuator::LessEquals => (7, Op::LessOrEqual),
+        Punctuator::GreaterEquals => (7, Op::GreaterOrEqual),
+        Punctuator::ShiftLeft => (8, Op::ShiftLeft),
+        Punctuator::ShiftRight => (8, Op::ShiftRight),
+        Punctuator::Plus => (9, Op::Add),
+        Punctuator::Minus => (9, Op::Subtract),
+        Punctuator::Star => (10, Op::Multiply),
+        Punctuator::Slash => (10, Op::Divide),
+        Punctuator::Percent => (10, Op::Remainder),
         _ => return None,
     };
     Some(Binary { level, op })
@@ -141,27 +138,27 @@ pub fn store_operator(token: &Token) -> Option<StoreOp>
     ensures { result ≡ store_operator token.now }
 {
     match *token {
-        Token::Mark(mark) => store_of(mark),
+        Token::Punctuator(punctuator) => store_of(punctuator),
         _ => None,
     }
 }
 
-/// The operator of an assignment that a mark spells.
-fn store_of(mark: Mark) -> Option<StoreOp>
-    ensures { result ≡ store_of mark }
+/// The operator of an assignment that a punctuator spells.
+fn store_of(punctuator: Punctuator) -> Option<StoreOp>
+    ensures { result ≡ store_of punctuator }
 {
-    match mark {
-        Mark::Equals => Some(StoreOp::Set),
-        Mark::PlusEquals => Some(StoreOp::Add),
-        Mark::MinusEquals => Some(StoreOp::Subtract),
-        Mark::StarEquals => Some(StoreOp::Multiply),
-        Mark::SlashEquals => Some(StoreOp::Divide),
-        Mark::PercentEquals => Some(StoreOp::Remainder),
-        Mark::ShiftLeftEquals => Some(StoreOp::ShiftLeft),
-        Mark::ShiftRightEquals => Some(StoreOp::ShiftRight),
-        Mark::AndEquals => Some(StoreOp::BitAnd),
-        Mark::XorEquals => Some(StoreOp::BitXor),
-        Mark::OrEquals => Some(StoreOp::BitOr),
+    match punctuator {
+        Punctuator::Equals => Some(StoreOp::Set),
+        Punctuator::PlusEquals => Some(StoreOp::Add),
+        Punctuator::MinusEquals => Some(StoreOp::Subtract),
+        Punctuator::StarEquals => Some(StoreOp::Multiply),
+        Punctuator::SlashEquals => Some(StoreOp::Divide),
+        Punctuator::PercentEquals => Some(StoreOp::Remainder),
+        Punctuator::ShiftLeftEquals => Some(StoreOp::ShiftLeft),
+        Punctuator::ShiftRightEquals => Some(StoreOp::ShiftRight),
+        Punctuator::AndEquals => Some(StoreOp::BitAnd),
+        Punctuator::XorEquals => Some(StoreOp::BitXor),
+        Punctuator::OrEquals => Some(StoreOp::BitOr),
         _ => None,
     }
 }

@@ -1,6 +1,6 @@
 //! The names of a file by number, in types of fixed size.
 
-ghost use Rattle.std.specs.Prelude.{◌≡◌, ◌+◌, ◌<◌, ◌≤◌, ℕ, List, [], ◌∷◌, ◌++◌, length};
+ghost use Rattle.std.specs.Prelude.{◌≡◌, ◌+◌, ◌<◌, ◌≤◌, ℕ, List, [], ◌∷◌, ◌++◌, length, set};
 
 use arrayvec::ArrayVec;
 use std::marker::Model;
@@ -82,10 +82,33 @@ impl Function {
         self.variables.push(name);
     }
 
+    /// Becomes a function without variables, in its place: only the names that were there are blanked.
+    pub(crate) fn restart(&mut self, name: Name)
+        ensures { self.new ≡ record { name = name; parameters = 0; variables = [] } }
+    {
+        self.name = name;
+        self.parameters = 0;
+        self.variables.clear();
+    }
+
+    /// Becomes the same as another function, in its place: only the names that are there are copied.
+    pub(crate) fn copy_from(&mut self, other: &Function)
+        ensures { self.new ≡ other.now }
+    {
+        self.restart(other.name);
+        for name in other.variables.as_slice() {
+            self.variables.push(*name);
+        }
+        self.parameters = other.parameters;
+    }
+
     /// Adds a parameter, with the next number.
     pub(crate) fn add_parameter(&mut self, name: Name)
         requires { length self.old.variables < MOST_NAMES }
-        ensures { self.new ≡ record self.old { parameters = self.old.parameters + 1; variables = self.old.variables ++ name ∷ [] } }
+        ensures { self.new ≡ record self.old {
+          parameters = self.old.parameters + 1;
+          variables = self.old.variables ++ name ∷ [];
+        } }
     {
         self.variables.push(name);
         self.parameters += 1;
@@ -93,41 +116,37 @@ impl Function {
 }
 
 /// The names of a file: its externals and its functions by number.
+///
+/// A function is made in its place: the places behind the functions hold blank ones.
 #[derive(Drop)]
 pub struct Pools {
     externals: ArrayVec<Name, MOST_NAMES>,
-    functions: ArrayVec<Function, MOST_NAMES>,
+    functions: [Function; MOST_NAMES],
+    count: u8,
 }
 
 impl Model for Pools {
+    ghost use Rattle.std.specs.Prelude.{◌≤◌, take};
     ghost use Rattle.grammar.specs.Pools.{Names};
 
     ghost Value = { Names };
 
-    ghost view = { λ p. record { externals = p.externals.items; functions = p.functions.items } };
+    ghost view = { λ p. record { externals = p.externals.items; functions = take p.count p.functions } };
+
+    ghost invariant = { λ p. p.count ≤ 64 };
 }
 
 impl Pools {
+    ghost use Rattle.grammar.specs.Scope.{only_named};
+
     /// No names.
     pub fn new() -> Pools
         ensures { result ≡ record { externals = []; functions = [] } }
     {
         Pools {
             externals: ArrayVec::new(),
-            functions: ArrayVec::new(),
-        }
-    }
-
-    /// These names.
-    pub(crate) fn of(
-        externals: ArrayVec<Name, MOST_NAMES>,
-        functions: ArrayVec<Function, MOST_NAMES>,
-    ) -> Pools
-        ensures { result ≡ record { externals = externals.items; functions = functions.items } }
-    {
-        Pools {
-            externals,
-            functions,
+            functions: Default::default(),
+            count: 0,
         }
     }
 
@@ -144,14 +163,45 @@ impl Pools {
         ensures names { result.now ≡ self.now.functions }
         ensures most { length result.now ≤ MOST_NAMES }
     {
-        self.functions.as_slice()
+        &self.functions[..self.count as usize]
     }
 
     /// Adds a function, with the next number.
     pub fn define(&mut self, function: Function)
         requires { length self.old.functions < MOST_NAMES }
-        ensures { self.new ≡ record { externals = self.old.externals; functions = self.old.functions ++ function ∷ [] } }
+        ensures { self.new ≡ record {
+          externals = self.old.externals;
+          functions = self.old.functions ++ function ∷ [];
+        } }
     {
-        self.functions.push(function);
+        self.functions[self.count as usize] = function;
+        self.count += 1;
+    }
+
+    /// Adds an external, with the next number.
+    pub(crate) fn add_external(&mut self, name: Name)
+        requires { length self.old.externals < MOST_NAMES }
+        ensures { self.new ≡ record self.old { externals = self.old.externals ++ name ∷ [] } }
+    {
+        self.externals.push(name);
+    }
+
+    /// Adds a function without variables, with the next number.
+    pub(crate) fn add_function(&mut self, name: Name)
+        requires { length self.old.functions < MOST_NAMES }
+        ensures { self.new ≡ record self.old { functions = self.old.functions ++ only_named name ∷ [] } }
+    {
+        self.functions[self.count as usize].restart(name);
+        self.count += 1;
+    }
+
+    /// The function of this number becomes the same as another. Past the functions nothing does.
+    #[tactic(auto, using(crate::proofs::ScopeLaws::in_place))]
+    pub(crate) fn set_function(&mut self, number: u8, function: &Function)
+        ensures { self.new ≡ record self.old { functions = set self.old.functions number function.now } }
+    {
+        if number < self.count {
+            self.functions[number as usize].copy_from(function);
+        }
     }
 }

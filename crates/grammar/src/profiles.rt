@@ -19,11 +19,26 @@ impl Model for Profile {
 
     ghost Value = { Profile };
 
-    ghost view = { λ p. record { instructions = p.instructions; words = p.words; frames = p.frames; short_circuit = p.short_circuit } };
+    ghost view = { λ p. record {
+      instructions = p.instructions;
+      words = p.words;
+      frames = p.frames;
+      short_circuit = p.short_circuit;
+    } };
 
-    ghost invariant = { λ p. IsProfile (record { instructions = p.instructions; words = p.words; frames = p.frames; short_circuit = p.short_circuit }) };
+    ghost invariant = { λ p. IsProfile (record {
+      instructions = p.instructions;
+      words = p.words;
+      frames = p.frames;
+      short_circuit = p.short_circuit;
+    }) };
 
-    ghost inverse = { λ p. record { instructions = p.instructions; words = p.words; frames = p.frames; short_circuit = p.short_circuit } };
+    ghost inverse = { λ p. record {
+      instructions = p.instructions;
+      words = p.words;
+      frames = p.frames;
+      short_circuit = p.short_circuit;
+    } };
 }
 
 impl Profile {
@@ -40,7 +55,8 @@ impl Profile {
         }
     }
 
-    /// `&&` and `||` leave out their right side, as in C. A program has at most 4,000 instructions, 1,000 words of stack
+    /// `&&` and `||` leave out their right side, as in C. A program has at most 4,000 instructions, 1,000 words of
+    /// stack
     /// and 128 frames.
     #[tactic(auto, unfolding(crate::specs::Profile::second_profile))]
     pub fn second() -> Profile

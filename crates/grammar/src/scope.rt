@@ -12,14 +12,13 @@ use crate::names::{Callee, Intrinsic, Var};
 use crate::pools::{Function, MOST_NAMES, Pools};
 use arrayvec::ArrayVec;
 use std::marker::Model;
-use std::mem;
 use tokens::Name;
 
 /// The number of a name among names.
 pub fn number_of(names: &[Name], name: &Name) -> Option<usize>
     ensures { result ≡ number_of_name name.now names.now }
 {
-    names.iter().position(|other| name.is(other.as_bytes()))
+    names.iter().position(|other| name.same(other))
 }
 
 const INTRINSICS: [Intrinsic; 13] = [
@@ -52,8 +51,7 @@ pub fn intrinsic(name: &Name) -> Option<Intrinsic>
 /// What is known of the names of a file at a place of its source.
 #[derive(Drop)]
 pub struct Scope {
-    externals: ArrayVec<Name, MOST_NAMES>,
-    functions: ArrayVec<Function, MOST_NAMES>,
+    pools: Pools,
     lines: ArrayVec<u32, MOST_NAMES>,
     begun: ArrayVec<u8, MOST_NAMES>,
     number: u8,
@@ -66,9 +64,16 @@ impl Model for Scope {
 
     ghost Value = { Known };
 
-    ghost view = { λ s. record { externals = s.externals.items; functions = s.functions.items; lines = s.lines.items; begun = s.begun.items; number = s.number; current = s.current } };
+    ghost view = { λ s. record {
+      externals = s.pools.externals;
+      functions = s.pools.functions;
+      lines = s.lines.items;
+      begun = s.begun.items;
+      number = s.number;
+      current = s.current;
+    } };
 
-    ghost invariant = { λ s. IsKept s.functions.items s.lines.items s.begun.items };
+    ghost invariant = { λ s. IsKept s.pools.functions s.lines.items s.begun.items };
 }
 
 impl Scope {
@@ -79,13 +84,13 @@ impl Scope {
     ghost use Rattle.grammar.specs.Scope.{no_names, behind_name, end_definition, has_begun, number_for, is_local_new, is_external_new, with_variable, with_parameter, with_external, variable_named, variable_of, callee_of, with_begun, with_new_function, function_number};
 
     /// Nothing is known before a file's first token.
+    #[inline(never)]
     #[tactic(auto, using(crate::proofs::ScopeLaws::kept_nothing))]
     pub fn new() -> Scope
         ensures { result ≡ no_names }
     {
         Scope {
-            externals: ArrayVec::new(),
-            functions: ArrayVec::new(),
+            pools: Pools::new(),
             lines: ArrayVec::new(),
             begun: ArrayVec::new(),
             number: 0,
@@ -96,7 +101,8 @@ impl Scope {
     /// The variable of a name that is mentioned. A name that stands for none becomes the function's next local.
     #[tactic(auto, using(crate::proofs::ScopeLaws::names))]
     pub fn mention(&mut self, name: Name) -> Result<Var, Code>
-        ensures known { IfOk result (λ v. (v ≡ variable_of name self.old) × ((line : ℕ) → Knows Mentioned name line self.old self.new)) }
+        ensures known { IfOk result (λ v. (v ≡ variable_of name self.old)
+            × ((line : ℕ) → Knows Mentioned name line self.old self.new)) }
         ensures within { IfOk result (IsVariable 64 64) }
         ensures refused { IfErr result (λ c. RefusesName Mentioned name self.old c) }
     {
@@ -171,10 +177,12 @@ impl Scope {
         Ok(())
     }
 
-    /// What a name that is called calls. A function of the file that is new is known from here on, by the line of this name.
+    /// What a name that is called calls. A function of the file that is new is known from here on, by the line of this
+    /// name.
     #[tactic(auto, using(crate::proofs::ScopeLaws::names))]
     pub fn call(&mut self, name: Name, line: u32) -> Result<Callee, Code>
-        ensures known { IfOk result (λ callee. (callee ≡ callee_of name self.old) × Knows Called name line self.old self.new) }
+        ensures known { IfOk result (λ callee. (callee ≡ callee_of name self.old)
+            × Knows Called name line self.old self.new) }
         ensures within { IfOk result (IsCallable 64) }
         ensures refused { IfErr result (λ c. RefusesName Called name self.old c) }
     {
@@ -206,10 +214,8 @@ impl Scope {
     pub fn end_definition(&mut self)
         ensures { self.new ≡ end_definition self.old }
     {
-        let ended = mem::replace(&mut self.current, Function::new(Name::new()));
-        if let Some(function) = self.functions.get_mut(self.number as usize) {
-            *function = ended;
-        }
+        self.pools.set_function(self.number, &self.current);
+        self.current.restart(Name::new());
     }
 
     /// How many parameters the function that is being defined has so far.
@@ -240,14 +246,15 @@ impl Scope {
     pub fn has_main(&self) -> bool
         ensures { result ≡ is_some (function_number main_name self.now) }
     {
-        function_number(self.functions.as_slice(), b"main").is_some()
+        function_number(self.pools.functions(), b"main").is_some()
     }
 
     /// The names of the file.
+    #[inline(never)]
     pub fn into_pools(self) -> Pools
         ensures { result ≡ record { externals = self.externals; functions = self.functions } }
     {
-        Pools::of(self.externals, self.functions)
+        self.pools
     }
 
     // The variable of a name: one of the function's, or else an external.
@@ -258,7 +265,7 @@ impl Scope {
         if let Some(number) = number_of(self.current.variables(), name) {
             return Some(Var::Local(number as u8));
         }
-        let number = number_of(self.externals.as_slice(), name)?;
+        let number = number_of(self.pools.externals(), name)?;
         Some(Var::External(number as u8))
     }
 
@@ -276,7 +283,7 @@ impl Scope {
         if self.has_most_functions() {
             return Err(Code::TooManyFunctions);
         }
-        let number = self.functions.len() as u8;
+        let number = self.pools.functions().len() as u8;
         self.add_function(name, line);
         Ok(number)
     }
@@ -286,20 +293,20 @@ impl Scope {
         ensures number { result ≡ function_number name.now self.now }
         ensures within { IfSome result (λ n. n < 64) }
     {
-        function_number(self.functions.as_slice(), name.as_bytes())
+        function_number(self.pools.functions(), name.as_bytes())
     }
 
     fn has_most_functions(&self) -> bool
         ensures most { result ≡ nat_le 64 (length self.now.functions) }
     {
-        self.functions.len() >= MOST_NAMES
+        self.pools.functions().len() >= MOST_NAMES
     }
 
     fn add_function(&mut self, name: Name, line: u32)
         requires { length self.old.functions < 64 }
         ensures { self.new ≡ with_new_function name line self.old }
     {
-        self.functions.push(Function::new(name));
+        self.pools.add_function(name);
         self.lines.push(line);
     }
 
@@ -307,7 +314,9 @@ impl Scope {
     fn has_begun(&self, name: &Name) -> bool
         ensures { result ≡ has_begun name.now self.now }
     {
-        let number = self.function_number(name).unwrap_or(self.functions.len());
+        let number = self
+            .function_number(name)
+            .unwrap_or(self.pools.functions().len());
         is_among(self.begun.as_slice(), number)
     }
 
@@ -320,7 +329,7 @@ impl Scope {
     {
         self.begun.push(number);
         self.number = number;
-        self.current = Function::new(name);
+        self.current.restart(name);
     }
 
     fn is_local_new(&self, name: &Name) -> bool
@@ -332,7 +341,7 @@ impl Scope {
     fn is_external_new(&self, name: &Name) -> bool
         ensures { result ≡ is_external_new name.now self.now }
     {
-        number_of(self.externals.as_slice(), name).is_none()
+        number_of(self.pools.externals(), name).is_none()
     }
 
     fn has_most_variables(&self) -> bool
@@ -344,7 +353,7 @@ impl Scope {
     fn has_most_externals(&self) -> bool
         ensures most { result ≡ nat_le 64 (length self.now.externals) }
     {
-        self.externals.len() >= MOST_NAMES
+        self.pools.externals().len() >= MOST_NAMES
     }
 
     fn next_local(&self) -> Var
@@ -371,7 +380,7 @@ impl Scope {
         requires { length self.old.externals < 64 }
         ensures { self.new ≡ with_external name self.old }
     {
-        self.externals.push(name);
+        self.pools.add_external(name);
     }
 }
 

@@ -1,6 +1,6 @@
 -- How the reading of a file goes on, and where it stops.
 use Rattle.std.proofs.Common.{◌≡◌, List, [], ◌∷◌, ◌++◌, refl, sym, ap, ◌∙◌, subst, Bool, true, append_assoc, append-nil, ℕ}
-use Rattle.tokens.specs.declared.lexemes.Lexeme.{Lexeme}
+use Rattle.tokens.specs.declared.located_tokens.LocatedToken.{LocatedToken}
 use Rattle.grammar.specs.declared.diagnostics.Diagnostic.{Diagnostic}
 use Rattle.grammar.specs.declared.diagnostics.ParseFault.{ParseFault}
 use Rattle.grammar.specs.Actions.{Action, function_actions}
@@ -14,9 +14,9 @@ use Rattle.parsing.specs.Position.{GoesOn, Place, scope_at, next_at}
 use Rattle.parsing.specs.Stopping.{Stop, stop_with}
 use Rattle.std.specs.Prelude.{Some}
 use Rattle.grammar.specs.Profile.{Profile}
-use Rattle.parsing.specs.Stretch.{Derives, FailsAt, Refused, Takes, IsNearTo}
-use Rattle.parsing.proofs.Stretches.{refused_map, told_goes, Begins, near_told, stops_back, stops_here, told_begins}
-use Rattle.lang.specs.Progress.{Advances, StopsReading}
+use Rattle.parsing.specs.Segment.{Derives, FailsAt, Refused, Takes, IsNearTo}
+use Rattle.parsing.proofs.Segments.{refused_map, told_goes, Begins, near_told, stops_back, stops_here, told_begins}
+use Rattle.lang.specs.Progress.{ReadsOn, StopsReading}
 
 pub definitions_actions-append : (ds es : List Definition) → definitions_actions (ds ++ es) ≡ definitions_actions ds ++ definitions_actions es
 definitions_actions-append [] es = refl
@@ -25,11 +25,11 @@ definitions_actions-append (d ∷ ds) es =
     ∙ sym (append_assoc (function_actions d.number d.function) (definitions_actions ds) (definitions_actions es))
 
 -- nothing is read
-pub advances_stay : (before : Meaning) (front : List Item) (at : Place) → Advances before before front front at at
+pub advances_stay : (before : Meaning) (front : List Item) (at : Place) → ReadsOn before before front front at at
 advances_stay before front at = record {
   consumed = [];
   more = [];
-  told = λ lexemes is. record { rest = lexemes; is = refl; shows = is };
+  told = λ located_tokens is. record { rest = located_tokens; is = refl; shows = is };
   follows = λ rest g. g;
   added = λ profile acts h. subst (λ (xs : List Action). before profile xs) (sym (append-nil acts)) h;
   passes = λ rest g profile functions h. subst (λ (fs : List Definition). Passes profile (state front rest [] (scope_at at) functions) (state front rest [] (scope_at at) fs)) (sym (append-nil functions)) (here profile _);
@@ -37,15 +37,15 @@ advances_stay before front at = record {
 
 -- two readings one behind another
 pub advances_then : (before mid after : Meaning) (front between pending : List Item) (at now there : Place) →
-    Advances before mid front between at now → Advances mid after between pending now there → Advances before after front pending at there
+    ReadsOn before mid front between at now → ReadsOn mid after between pending now there → ReadsOn before after front pending at there
 advances_then before mid after front between pending at now there a b = record {
   consumed = a.consumed ++ b.consumed;
   more = a.more ++ b.more;
-  told = λ lexemes is.
-      let t : Takes a.consumed lexemes now = a.told lexemes is in
+  told = λ located_tokens is.
+      let t : Takes a.consumed located_tokens now = a.told located_tokens is in
       let u : Takes b.consumed t.rest there = b.told t.rest t.shows in
-      record { rest = u.rest; is = t.is ∙ ap (λ (ls : List Lexeme). a.consumed ++ ls) u.is ∙ sym (append_assoc a.consumed b.consumed u.rest); shows = u.shows };
-  follows = λ rest g. subst (λ (ls : List Lexeme). GoesOn at ls) (sym (append_assoc a.consumed b.consumed rest)) (a.follows _ (b.follows rest g));
+      record { rest = u.rest; is = t.is ∙ ap (λ (ls : List LocatedToken). a.consumed ++ ls) u.is ∙ sym (append_assoc a.consumed b.consumed u.rest); shows = u.shows };
+  follows = λ rest g. subst (λ (ls : List LocatedToken). GoesOn at ls) (sym (append_assoc a.consumed b.consumed rest)) (a.follows _ (b.follows rest g));
   added = λ profile acts h.
       subst (λ (xs : List Action). after profile xs) (append_assoc acts (definitions_actions a.more) (definitions_actions b.more) ∙ ap (λ (xs : List Action). acts ++ xs) (sym (definitions_actions-append a.more b.more)))
       (b.added profile _ (a.added profile acts h));
@@ -57,16 +57,16 @@ advances_then before mid after front between pending at now there a b = record {
 
 -- a fault behind a reading
 pub stops_then : (before mid : Meaning) (front between : List Item) (at now : Place) (d : Stop) →
-    Advances before mid front between at now → StopsReading mid between now d → StopsReading before front at d
-stops_then before mid front between at now d a stops lexemes is profile functions h =
-    let t : Takes a.consumed lexemes now = a.told lexemes is in
+    ReadsOn before mid front between at now → StopsReading mid between now d → StopsReading before front at d
+stops_then before mid front between at now d a stops located_tokens is profile functions h =
+    let t : Takes a.consumed located_tokens now = a.told located_tokens is in
     let told : mid profile (definitions_actions (functions ++ a.more)) = subst (λ (xs : List Action). mid profile xs) (sym (definitions_actions-append functions a.more)) (a.added profile _ h) in
     rw t.is (stops_back profile _ _ d a.consumed refl (a.passes t.rest (told_goes now t.rest t.shows) profile functions h) (stops t.rest t.shows profile (functions ++ a.more) told))
 
--- a stretch between functions
-pub stretch_advances : (before : Meaning) (front pending stack : List Item) (at there : Place) → levels stack ≡ 0 → Derives 0 front pending [] [] at there →
-    Advances before before (front ++ stack) (pending ++ stack) at there
-stretch_advances before front pending stack at there depths a = record {
+-- a segment between functions
+pub segment_advances : (before : Meaning) (front pending stack : List Item) (at there : Place) → levels stack ≡ 0 → Derives 0 front pending [] [] at there →
+    ReadsOn before before (front ++ stack) (pending ++ stack) at there
+segment_advances before front pending stack at there depths a = record {
   consumed = a.consumed;
   more = [];
   told = a.told;
@@ -78,24 +78,24 @@ stretch_advances before front pending stack at there depths a = record {
 }
 
 -- a fault within one
-pub stretch_stops : (before : Meaning) (front stack : List Item) (at : Place) (d : Stop) → levels stack ≡ 0 → FailsAt 0 front [] at d → StopsReading before (front ++ stack) at d
-stretch_stops before front stack at d depths fails lexemes is profile functions h = fails lexemes is profile stack [] functions depths
+pub segment_stops : (before : Meaning) (front stack : List Item) (at : Place) (d : Stop) → levels stack ≡ 0 → FailsAt 0 front [] at d → StopsReading before (front ++ stack) at d
+segment_stops before front stack at d depths fails located_tokens is profile functions h = fails located_tokens is profile stack [] functions depths
 
 -- a refusal behind a reading
-pub leave : (used : ℕ) (before mid : Meaning) (front between : List Item) (at now : Place) (allocates more : Bool) (f : ParseFault) → Advances before mid front between at now →
+pub leave : (used : ℕ) (before mid : Meaning) (front between : List Item) (at now : Place) (allocates more : Bool) (f : ParseFault) → ReadsOn before mid front between at now →
     ((allocates ≡ true) → more ≡ true) → Refused (StopsReading mid between now) allocates used f → Refused (StopsReading before front at) more used f
 leave used before mid front between at now allocates more f a memory = refused_map used _ _ allocates more f (λ d. stops_then before mid front between at now d a) memory
 
--- a refusal of a callee within a stretch
-pub leave_stretch : (used : ℕ) (before : Meaning) (front stack : List Item) (at : Place) (allocates more : Bool) (f : ParseFault) → levels stack ≡ 0 →
+-- a refusal of a callee within a segment
+pub leave_segment : (used : ℕ) (before : Meaning) (front stack : List Item) (at : Place) (allocates more : Bool) (f : ParseFault) → levels stack ≡ 0 →
     ((allocates ≡ true) → more ≡ true) → Refused (FailsAt 0 front [] at) allocates used f → Refused (StopsReading before (front ++ stack) at) more used f
-leave_stretch used before front stack at allocates more f depths memory = refused_map used _ _ allocates more f (λ d. stretch_stops before front stack at d depths) memory
+leave_segment used before front stack at allocates more f depths memory = refused_map used _ _ allocates more f (λ d. segment_stops before front stack at d depths) memory
 
 -- the first fault stands at the next token
 pub reading_fails_at_next : (before : Meaning) (front : List Item) (at : Place) (d : Diagnostic) (used : ℕ) → IsNearTo at used →
-    ((tail : List Lexeme) (profile : Profile) (functions : List Definition) → Fails profile (state front (next_at at ∷ tail) [] (scope_at at) functions) d) →
+    ((tail : List LocatedToken) (profile : Profile) (functions : List Definition) → Fails profile (state front (next_at at ∷ tail) [] (scope_at at) functions) d) →
     StopsReading before front at (stop_with (Some d) used)
-reading_fails_at_next before front at d used near fails lexemes is profile functions h =
-    let b : Begins at.position.reading lexemes = told_begins at lexemes is in
-    let here : Fails profile (state front lexemes [] (scope_at at) functions) d = rw b.is (fails b.tail profile functions) in
-    stops_here profile (state front lexemes [] (scope_at at) functions) (stop_with (Some d) used) here (near_told at lexemes used is near)
+reading_fails_at_next before front at d used near fails located_tokens is profile functions h =
+    let b : Begins at.position.reading located_tokens = told_begins at located_tokens is in
+    let here : Fails profile (state front located_tokens [] (scope_at at) functions) d = rw b.is (fails b.tail profile functions) in
+    stops_here profile (state front located_tokens [] (scope_at at) functions) (stop_with (Some d) used) here (near_told at located_tokens used is near)

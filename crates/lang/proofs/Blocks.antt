@@ -1,11 +1,11 @@
 -- What the reading of a function derives.
-use Rattle.std.proofs.Common.{◌≡◌, ℕ, ◌+◌, ◌<◌, ◌≤◌, List, [], ◌∷◌, ◌++◌, refl, sym, ap, ◌∙◌, subst, Bool, true, false, arith, append_assoc, append-nil}
+use Rattle.std.proofs.Common.{◌≡◌, ℕ, ◌+◌, ◌<◌, ◌≤◌, List, [], ◌∷◌, ◌++◌, refl, sym, ap, ◌∙◌, subst, Bool, true, false, arith, append_assoc, append-nil, le_refl}
 use Rattle.std.proofs.lemmas.Bool.Decides.{nat_tests}
 use Rattle.std.specs.Prelude.{length, nat_lt, Some, None}
-use Rattle.tokens.specs.declared.lexemes.Lexeme.{Lexeme}
-use Rattle.tokens.specs.declared.lexemes.Mark.TheVariants as mark
-use Rattle.tokens.specs.declared.lexemes.Token.{Token}
-use Rattle.tokens.specs.declared.lexemes.Token.TheVariants as token
+use Rattle.tokens.specs.declared.located_tokens.LocatedToken.{LocatedToken}
+use Rattle.tokens.specs.declared.located_tokens.Punctuator.TheVariants as punctuator
+use Rattle.tokens.specs.declared.located_tokens.Token.{Token}
+use Rattle.tokens.specs.declared.located_tokens.Token.TheVariants as token
 use Rattle.grammar.specs.declared.diagnostics.Code.TheVariants as code
 use Rattle.grammar.specs.declared.diagnostics.ParseFault.{ParseFault}
 use Rattle.grammar.specs.declared.diagnostics.ParseFault.TheVariants as refusal
@@ -13,25 +13,26 @@ use Rattle.grammar.specs.Actions.{Action, Begin, Finish, body_actions, code_leng
 use Rattle.grammar.specs.Building.{Meaning, AppendsAll}
 use Rattle.grammar.specs.Derivation.{ABody, Definition, definition_of, state}
 use Rattle.grammar.specs.Faults.{definitions_actions, is_too_long}
-use Rattle.grammar.specs.Grammar.{Item, AName, Define, Defined, Exactly, FunctionBlock, Make, ParameterTypes, Parameters, Part, Shut, is_fault, is_mark}
+use Rattle.grammar.specs.Grammar.{Item, AName, Define, Defined, Exactly, FunctionBlock, Make, ParameterTypes, Parameters, Part, Close, is_fault, is_punctuator}
 use Rattle.grammar.specs.Parsing.{Passes, Fails}
 use Rattle.grammar.specs.Profile.{Profile}
 use Rattle.grammar.specs.Scope.{Scope, end_definition}
 use Rattle.grammar.specs.Tree.{Body}
 use Rattle.grammar.proofs.Firsts.{too_long}
 use Rattle.grammar.proofs.Runs.{then}
-use Rattle.grammar.proofs.Steps.{make, shut}
-use Rattle.parsing.specs.Position.{GoesOn, Place, next_at, scope_at, tokens_at}
+use Rattle.grammar.proofs.Steps.{make, close}
+use Rattle.parsing.specs.Advancing.{IsReady, StayedOrWentOn, Stopped}
+use Rattle.parsing.specs.Position.{GoesOn, Place, Standing, next_at, scope_at, scope_of, tokens_at, with_scope}
 use Rattle.parsing.specs.Stopping.{Stop, Stops, stop_with}
 use Rattle.grammar.specs.Compiled.{diagnostic}
-use Rattle.parsing.specs.Stretch.{Derives, DerivesItem, FailsAt, FailsItem, Refused, Takes, IsNearTo}
-use Rattle.parsing.proofs.HeadingLaws.{heading_items}
-use Rattle.parsing.proofs.Stretches.{Begins, fails_then, goes_begins, joined, refused_map, stay, told_begins, told_goes, near_told, stops_back, stops_here}
-use Rattle.lang.specs.Progress.{AddsBlock, Advances, ClosesFunction, IsTooMuch, StopsReading, at_brace, at_definition, at_source}
+use Rattle.parsing.specs.Segment.{Derives, DerivesItem, FailsAt, FailsItem, Refused, Takes, IsNearTo}
+use Rattle.parsing.specs.Declarations.{heading_items}
+use Rattle.parsing.proofs.Segments.{Begins, fails_then, goes_begins, joined, refused_map, stay, told_begins, told_goes, near_told, stops_back, stops_here}
+use Rattle.lang.specs.Progress.{AddsBlock, ReadsOn, ClosesFunction, IsTooMuch, StopsReading, at_brace, at_definition, at_source}
 use Rattle.lang.proofs.Advancing.{definitions_actions-append}
 
 abbrev pub definition_items : List Item
-definition_items = AName Defined ∷ Exactly mark.OpenRound ∷ Part Parameters ∷ Exactly mark.CloseRound ∷ Part ParameterTypes ∷ Part FunctionBlock ∷ []
+definition_items = AName Defined ∷ Exactly punctuator.OpenRound ∷ Part Parameters ∷ Exactly punctuator.CloseRound ∷ Part ParameterTypes ∷ Part FunctionBlock ∷ []
 
 -- up to the block
 pub headed : (at now : Place) → Derives 0 heading_items [] [] [] at now → Derives 0 definition_items (Part FunctionBlock ∷ []) [] [] at now
@@ -90,15 +91,15 @@ short_enough : (profile : Profile) (second third fourth : Meaning) (functions : 
 short_enough profile second third fourth functions scope body number parameters variables b c h =
     within_limit profile _ _ (code_with profile functions scope body parameters number) (c.fits profile _ (b profile _ h))
 
-define_step : (profile : Profile) (lexemes : List Lexeme) (known learnt : Scope) (functions : List Definition) (body : Body) (stack : List Item) (next : Lexeme) (tail : List Lexeme) → lexemes ≡ next ∷ tail → is_fault next.token ≡ false → learnt ≡ end_definition known →
+define_step : (profile : Profile) (located_tokens : List LocatedToken) (known learnt : Scope) (functions : List Definition) (body : Body) (stack : List Item) (next : LocatedToken) (tail : List LocatedToken) → located_tokens ≡ next ∷ tail → is_fault next.token ≡ false → learnt ≡ end_definition known →
     is_too_long profile (functions ++ definition_of known body ∷ []) ≡ false →
-    Passes profile (state (Make Define ∷ stack) lexemes (ABody body ∷ []) known functions) (state stack lexemes [] learnt (functions ++ definition_of known body ∷ []))
-define_step profile lexemes known learnt functions body stack next tail e sound ended short =
+    Passes profile (state (Make Define ∷ stack) located_tokens (ABody body ∷ []) known functions) (state stack located_tokens [] learnt (functions ++ definition_of known body ∷ []))
+define_step profile located_tokens known learnt functions body stack next tail e sound ended short =
     rw (e, ended) (make profile Define stack (next ∷ tail) (ABody body ∷ []) known functions sound (rw short refl))
 
-shut_step : (profile : Profile) (lexemes : List Lexeme) (scope : Scope) (functions : List Definition) (stack : List Item) (next : Lexeme) (tail : List Lexeme) → lexemes ≡ next ∷ tail → is_fault next.token ≡ false →
-    Passes profile (state (Shut ∷ stack) lexemes [] scope functions) (state stack lexemes [] scope functions)
-shut_step profile lexemes scope functions stack next tail e sound = rw e (shut profile stack (next ∷ tail) [] scope functions sound)
+close_step : (profile : Profile) (located_tokens : List LocatedToken) (scope : Scope) (functions : List Definition) (stack : List Item) (next : LocatedToken) (tail : List LocatedToken) → located_tokens ≡ next ∷ tail → is_fault next.token ≡ false →
+    Passes profile (state (Close ∷ stack) located_tokens [] scope functions) (state stack located_tokens [] scope functions)
+close_step profile located_tokens scope functions stack next tail e sound = rw e (close profile stack (next ∷ tail) [] scope functions sound)
 
 -- the place at the closing brace, and the same behind the function's end
 pub record IsEnded (brace ended : Place) : Type 0 where
@@ -106,7 +107,26 @@ pub record IsEnded (brace ended : Place) : Type 0 where
   pub to_come : ended.to_come ≡ brace.to_come
   pub scope : scope_at ended ≡ end_definition (scope_at brace)
 
-goes_ended : (brace ended : Place) (rest : List Lexeme) → IsEnded brace ended → GoesOn ended rest → GoesOn brace rest
+-- a function's end changes the names alone
+pub ended : (at new : Standing) → new ≡ with_scope (end_definition (scope_of at)) at → IsEnded at.place new.place
+ended at new is = rw is (record { reading = refl; to_come = refl; scope = refl })
+
+pub renamed : (at new : Standing) → IsReady at → new ≡ with_scope (end_definition (scope_of at)) at → StayedOrWentOn at new
+renamed at new ready is = rw is (record {
+  device = refl;
+  failures = refl;
+  took = record { rest = λ total h. h };
+  falls = le_refl _;
+  ready = record { sound = ready.sound; near = ready.near; count = ready.count };
+})
+
+-- a refusal that is not the device's, at a parser that did nothing
+pub short : (f : ParseFault) (at : Standing) → (refusal.Device ≡ f → ⊥) → Stopped f at at
+short (refusal.Source d) at other = record { device = refl; failures = refl; took = record { rest = λ total h. h } }
+short refusal.Device at other = absurd (other refl)
+short refusal.Memory at other = record { device = refl; failures = refl; took = record { rest = λ total h. h } }
+
+goes_ended : (brace ended : Place) (rest : List LocatedToken) → IsEnded brace ended → GoesOn ended rest → GoesOn brace rest
 goes_ended brace ended rest s g = record { behind = g.behind; is = g.is ∙ rw s.reading refl }
 
 tokens_ended : (brace ended : Place) → IsEnded brace ended → tokens_at ended ≡ tokens_at brace
@@ -116,66 +136,66 @@ tokens_ended brace ended s = rw (s.reading, s.to_come) refl
 pub function_advances : (first second third fourth : Meaning) (at now brace ended there : Place) (number parameters variables : ℕ) →
     Derives 0 heading_items [] [] [] at now → (b : AddsBlock second third now brace) → IsSame number parameters variables (scope_at brace) → IsEnded brace ended →
     AppendsAll first second (Begin number parameters ∷ []) → ClosesFunction third fourth variables →
-    DerivesItem (Exactly mark.CloseCurly) [] [] ended there → is_fault (next_at brace).token ≡ false → is_fault (next_at there).token ≡ false →
-    Advances first fourth at_definition at_source at there
+    DerivesItem (Exactly punctuator.CloseCurly) [] [] ended there → is_fault (next_at brace).token ≡ false → is_fault (next_at there).token ≡ false →
+    ReadsOn first fourth at_definition at_source at there
 function_advances first second third fourth at now brace ended there number parameters variables h b same s told c e sound_brace sound =
     let d : Derives 0 definition_items at_brace [] (ABody b.tree ∷ []) at brace = braced second third at now brace h b in
     let f : Definition = definition_of (scope_at brace) b.tree in
     record {
       consumed = d.consumed ++ (e 1).consumed;
       more = f ∷ [];
-      told = λ lexemes is.
-          let t : Takes d.consumed lexemes brace = d.told lexemes is in
+      told = λ located_tokens is.
+          let t : Takes d.consumed located_tokens brace = d.told located_tokens is in
           let u : Takes (e 1).consumed t.rest there = (e 1).told t.rest (tokens_ended brace ended s ∙ t.shows) in
-          record { rest = u.rest; is = t.is ∙ ap (λ (ls : List Lexeme). d.consumed ++ ls) u.is ∙ sym (append_assoc d.consumed (e 1).consumed u.rest); shows = u.shows };
-      follows = λ rest g. subst (λ (ls : List Lexeme). GoesOn at ls) (sym (append_assoc d.consumed (e 1).consumed rest)) (d.follows _ (goes_ended brace ended _ s ((e 1).follows rest g)));
+          record { rest = u.rest; is = t.is ∙ ap (λ (ls : List LocatedToken). d.consumed ++ ls) u.is ∙ sym (append_assoc d.consumed (e 1).consumed u.rest); shows = u.shows };
+      follows = λ rest g. subst (λ (ls : List LocatedToken). GoesOn at ls) (sym (append_assoc d.consumed (e 1).consumed rest)) (d.follows _ (goes_ended brace ended _ s ((e 1).follows rest g)));
       added = λ profile acts k. subst (λ (xs : List Action). fourth profile (acts ++ xs)) (sym (function_told number parameters variables (scope_at brace) b.tree same))
           (told_function first second third fourth number parameters variables b.tree told b.added c.added profile acts k);
       passes = λ rest g profile functions k.
-          let between : List Lexeme = (e 1).consumed ++ rest in
+          let between : List LocatedToken = (e 1).consumed ++ rest in
           let goes : GoesOn brace between = goes_ended brace ended between s ((e 1).follows rest g) in
           let x : Begins brace.position.reading between = goes_begins brace between goes in
           let y : Begins there.position.reading rest = goes_begins there rest g in
           let short : is_too_long profile (functions ++ f ∷ []) ≡ false = short_enough profile second third fourth functions (scope_at brace) b.tree number parameters variables b.added c (told profile _ k) in
           rw (append_assoc d.consumed (e 1).consumed rest)
           (then profile _ _ _ (d.passes between goes profile at_source [] functions refl)
-          (then profile _ _ _ (define_step profile between (scope_at brace) (scope_at ended) functions b.tree (Exactly mark.CloseCurly ∷ Shut ∷ at_source) (next_at brace) x.tail x.is sound_brace s.scope short)
-          (then profile _ _ _ ((e 1).passes rest g profile (Shut ∷ at_source) [] (functions ++ f ∷ []) refl)
-          (shut_step profile rest (scope_at there) (functions ++ f ∷ []) at_source (next_at there) y.tail y.is sound))));
+          (then profile _ _ _ (define_step profile between (scope_at brace) (scope_at ended) functions b.tree (Exactly punctuator.CloseCurly ∷ Close ∷ at_source) (next_at brace) x.tail x.is sound_brace s.scope short)
+          (then profile _ _ _ ((e 1).passes rest g profile (Close ∷ at_source) [] (functions ++ f ∷ []) refl)
+          (close_step profile rest (scope_at there) (functions ++ f ∷ []) at_source (next_at there) y.tail y.is sound))));
     }
 
 -- Where the reading of a function stops.
 
 heading_stops : (before : Meaning) (at : Place) (d : Stop) → FailsAt 0 heading_items [] at d → StopsReading before at_definition at d
-heading_stops before at d fails lexemes is profile functions h = fails lexemes is profile (Part FunctionBlock ∷ at_source) [] functions refl
+heading_stops before at d fails located_tokens is profile functions h = fails located_tokens is profile (Part FunctionBlock ∷ at_source) [] functions refl
 
 pub heading_refused : (used : ℕ) (before : Meaning) (at : Place) (f : ParseFault) (more : Bool) → Refused (FailsAt 0 heading_items [] at) false used f → Refused (StopsReading before at_definition at) more used f
 heading_refused used before at f more = refused_map used _ _ false more f (λ d. heading_stops before at d) (λ never. absurd (cc))
 
 block_stops : (before : Meaning) (at now : Place) (d : Stop) → Derives 0 heading_items [] [] [] at now → FailsAt 0 (Part FunctionBlock ∷ []) [] now d → StopsReading before at_definition at d
-block_stops before at now d h fails lexemes is profile functions k =
-    fails_then 0 definition_items (Part FunctionBlock ∷ []) [] [] at now d (headed at now h) fails lexemes is profile at_source [] functions refl
+block_stops before at now d h fails located_tokens is profile functions k =
+    fails_then 0 definition_items (Part FunctionBlock ∷ []) [] [] at now d (headed at now h) fails located_tokens is profile at_source [] functions refl
 
 pub block_refused : (used : ℕ) (before : Meaning) (at now : Place) (f : ParseFault) (allocates : Bool) → Derives 0 heading_items [] [] [] at now → Refused (FailsAt 0 (Part FunctionBlock ∷ []) [] now) allocates used f →
     Refused (StopsReading before at_definition at) allocates used f
 block_refused used before at now f allocates h = refused_map used _ _ allocates allocates f (λ d. block_stops before at now d h) (λ same. same)
 
 too_much_stops : (first second third : Meaning) (at now brace : Place) (number parameters : ℕ) (d : Stop) → IsNearTo brace d.taken → Derives 0 heading_items [] [] [] at now → (b : AddsBlock second third now brace) →
-    AppendsAll first second (Begin number parameters ∷ []) → is_fault (next_at brace).token ≡ false → is_mark mark.CloseCurly (next_at brace).token ≡ true → IsTooMuch third (next_at brace).line d → StopsReading first at_definition at d
-too_much_stops first second third at now brace number parameters d near h b told sound closed much lexemes is profile functions k =
+    AppendsAll first second (Begin number parameters ∷ []) → is_fault (next_at brace).token ≡ false → is_punctuator punctuator.CloseCurly (next_at brace).token ≡ true → IsTooMuch third (next_at brace).line d → StopsReading first at_definition at d
+too_much_stops first second third at now brace number parameters d near h b told sound closed much located_tokens is profile functions k =
     let s : Derives 0 definition_items at_brace [] (ABody b.tree ∷ []) at brace = braced second third at now brace h b in
-    let t : Takes s.consumed lexemes brace = s.told lexemes is in
+    let t : Takes s.consumed located_tokens brace = s.told located_tokens is in
     let x : Begins brace.position.reading t.rest = told_begins brace t.rest t.shows in
     let long : is_too_long profile (functions ++ definition_of (scope_at brace) b.tree ∷ []) ≡ true = past_limit profile _ _ (code_with profile functions (scope_at brace) b.tree parameters number) (much.over profile _ (b.added profile _ (told profile _ k))) in
     let fails : Fails profile (state (at_brace ++ at_source) t.rest (ABody b.tree ∷ []) (scope_at brace) functions) (diagnostic (next_at brace).line code.TooMuchCode) =
-    rw x.is (too_long profile (Shut ∷ at_source) (next_at brace) x.tail (ABody b.tree ∷ []) (scope_at brace) functions sound closed (rw long refl)) in
+    rw x.is (too_long profile (Close ∷ at_source) (next_at brace) x.tail (ABody b.tree ∷ []) (scope_at brace) functions sound closed (rw long refl)) in
     let stop : Stops profile (state (at_brace ++ at_source) t.rest (ABody b.tree ∷ []) (scope_at brace) functions) d =
     stops_here profile (state (at_brace ++ at_source) t.rest (ABody b.tree ∷ []) (scope_at brace) functions) d (rw much.is fails) (rw much.is (near_told brace t.rest d.taken t.shows near)) in
     rw t.is
     (stops_back profile _ _ d s.consumed refl (s.passes t.rest (told_goes brace t.rest t.shows) profile at_source [] functions refl) stop)
 
 pub too_much_refused : (used : ℕ) (first second third : Meaning) (at now brace : Place) (number parameters : ℕ) (f : ParseFault) (allocates : Bool) → IsNearTo brace used → Derives 0 heading_items [] [] [] at now → AddsBlock second third now brace →
-    AppendsAll first second (Begin number parameters ∷ []) → is_fault (next_at brace).token ≡ false → is_mark mark.CloseCurly (next_at brace).token ≡ true → Refused (IsTooMuch third (next_at brace).line) allocates used f →
+    AppendsAll first second (Begin number parameters ∷ []) → is_fault (next_at brace).token ≡ false → is_punctuator punctuator.CloseCurly (next_at brace).token ≡ true → Refused (IsTooMuch third (next_at brace).line) allocates used f →
     Refused (StopsReading first at_definition at) allocates used f
 too_much_refused used first second third at now brace number parameters f allocates near h b told sound closed =
     by_fault f
@@ -189,30 +209,30 @@ too_much_refused used first second third at now brace number parameters f alloca
 brace_stops : (first second third fourth : Meaning) (at now brace ended : Place) (number parameters variables : ℕ) (d : Stop) →
     Derives 0 heading_items [] [] [] at now → AddsBlock second third now brace → IsEnded brace ended →
     AppendsAll first second (Begin number parameters ∷ []) → ClosesFunction third fourth variables → is_fault (next_at brace).token ≡ false →
-    FailsItem (Exactly mark.CloseCurly) ended d → StopsReading first at_definition at d
-brace_stops first second third fourth at now brace ended number parameters variables d h b s told c sound fails lexemes is profile functions k =
+    FailsItem (Exactly punctuator.CloseCurly) ended d → StopsReading first at_definition at d
+brace_stops first second third fourth at now brace ended number parameters variables d h b s told c sound fails located_tokens is profile functions k =
     let x : Derives 0 definition_items at_brace [] (ABody b.tree ∷ []) at brace = braced second third at now brace h b in
-    let t : Takes x.consumed lexemes brace = x.told lexemes is in
+    let t : Takes x.consumed located_tokens brace = x.told located_tokens is in
     let y : Begins brace.position.reading t.rest = told_begins brace t.rest t.shows in
     let f : Definition = definition_of (scope_at brace) b.tree in
     let short : is_too_long profile (functions ++ f ∷ []) ≡ false = short_enough profile second third fourth functions (scope_at brace) b.tree number parameters variables b.added c (told profile _ k) in
     rw t.is
     (stops_back profile _ _ _ x.consumed refl (x.passes t.rest (told_goes brace t.rest t.shows) profile at_source [] functions refl)
-    (stops_back profile _ _ _ [] refl (define_step profile t.rest (scope_at brace) (scope_at ended) functions b.tree (Exactly mark.CloseCurly ∷ Shut ∷ at_source) (next_at brace) y.tail y.is sound s.scope short)
-    (fails 1 t.rest (tokens_ended brace ended s ∙ t.shows) profile (Shut ∷ at_source) [] (functions ++ f ∷ []) refl)))
+    (stops_back profile _ _ _ [] refl (define_step profile t.rest (scope_at brace) (scope_at ended) functions b.tree (Exactly punctuator.CloseCurly ∷ Close ∷ at_source) (next_at brace) y.tail y.is sound s.scope short)
+    (fails 1 t.rest (tokens_ended brace ended s ∙ t.shows) profile (Close ∷ at_source) [] (functions ++ f ∷ []) refl)))
 
 pub brace_refused : (used : ℕ) (first second third fourth : Meaning) (at now brace ended : Place) (number parameters variables : ℕ) (f : ParseFault) (more : Bool) →
     Derives 0 heading_items [] [] [] at now → AddsBlock second third now brace → IsEnded brace ended →
     AppendsAll first second (Begin number parameters ∷ []) → ClosesFunction third fourth variables → is_fault (next_at brace).token ≡ false →
-    Refused (FailsItem (Exactly mark.CloseCurly) ended) false used f → Refused (StopsReading first at_definition at) more used f
+    Refused (FailsItem (Exactly punctuator.CloseCurly) ended) false used f → Refused (StopsReading first at_definition at) more used f
 brace_refused used first second third fourth at now brace ended number parameters variables f more h b s told c sound =
     refused_map used _ _ false more f (λ d. brace_stops first second third fourth at now brace ended number parameters variables d h b s told c sound) (λ never. absurd (cc))
 
 -- A closing brace is no fault.
-pub closing_sound : (t : Token) → is_mark mark.CloseCurly t ≡ true → is_fault t ≡ false
-closing_sound (token.Mark m) is = refl
+pub closing_sound : (t : Token) → is_punctuator punctuator.CloseCurly t ≡ true → is_fault t ≡ false
+closing_sound (token.Punctuator m) is = refl
 closing_sound (token.Name name) is = refl
 closing_sound (token.Word word) is = refl
 closing_sound (token.Constant value) is = refl
 closing_sound token.End is = refl
-closing_sound (token.Fault flaw) is = absurd (cc)
+closing_sound (token.Fault lexical_error) is = absurd (cc)

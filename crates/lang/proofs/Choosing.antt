@@ -2,48 +2,48 @@
 use Rattle.std.proofs.Common.{◌≡◌, ℕ, List, [], ◌∷◌, ◌++◌, refl, ◌∙◌, Bool, true, false}
 use Rattle.std.specs.Prelude.{Some, None}
 use Rattle.tokens.specs.Tokens.{is_last}
-use Rattle.tokens.specs.declared.lexemes.Lexeme.{Lexeme}
-use Rattle.tokens.specs.declared.lexemes.Mark.TheVariants as mark
-use Rattle.tokens.specs.declared.lexemes.Token.{Token}
-use Rattle.tokens.specs.declared.lexemes.Token.TheVariants as token
-use Rattle.tokens.specs.declared.lexemes.Word.TheVariants as word
+use Rattle.tokens.specs.declared.located_tokens.LocatedToken.{LocatedToken}
+use Rattle.tokens.specs.declared.located_tokens.Punctuator.TheVariants as punctuator
+use Rattle.tokens.specs.declared.located_tokens.Token.{Token}
+use Rattle.tokens.specs.declared.located_tokens.Token.TheVariants as token
+use Rattle.tokens.specs.declared.located_tokens.Word.TheVariants as word
 use Rattle.grammar.specs.declared.diagnostics.ParseFault.{ParseFault}
 use Rattle.grammar.specs.Building.{Meaning}
 use Rattle.grammar.specs.Compiled.{diagnostic}
 use Rattle.grammar.specs.Derivation.{next_of}
 use Rattle.grammar.specs.Faults.{misfit_code}
-use Rattle.grammar.specs.Grammar.{Item, AName, AWord, Defined, Exactly, External, FunctionBlock, Head, More, ParameterTypes, Parameters, Part, Source, Symbol, Types, choice, is_fault, is_mark, is_word, opens}
+use Rattle.grammar.specs.Grammar.{Item, AName, AWord, Defined, Exactly, External, FunctionBlock, Head, More, ParameterTypes, Parameters, Part, Source, Symbol, Types, choice, is_fault, is_punctuator, is_word, opens}
 use Rattle.grammar.proofs.Firsts.{no_part}
 use Rattle.grammar.proofs.Steps.{part}
 use Rattle.parsing.specs.Position.{Place, after_at, next_at, scope_at}
 use Rattle.parsing.specs.Stopping.{stop_with}
-use Rattle.parsing.specs.Stretch.{Derives, DerivesItem, FailsAt, FailsItem, Refused, IsNearTo}
+use Rattle.parsing.specs.Segment.{Derives, DerivesItem, FailsAt, FailsItem, Refused, IsNearTo}
 use Rattle.parsing.proofs.Parts.{word_is}
-use Rattle.parsing.proofs.Stretches.{IsBehind, Leads, refused_map, stand}
-use Rattle.lang.specs.Progress.{Advances, StopsReading, at_definition, at_source}
-use Rattle.lang.proofs.Advancing.{advances_then, leave, stops_then, stretch_advances, stretch_stops, reading_fails_at_next}
+use Rattle.parsing.proofs.Segments.{IsBehind, Leads, refused_map, stand}
+use Rattle.lang.specs.Progress.{ReadsOn, StopsReading, at_definition, at_source}
+use Rattle.lang.proofs.Advancing.{advances_then, leave, stops_then, segment_advances, segment_stops, reading_fails_at_next}
 
 -- a symbol that opens no level was replaced
-symbol_leads : (symbol : Symbol) (items : List Item) (lexeme : Lexeme) (tail : List Lexeme) (at : Place) → is_fault lexeme.token ≡ false → choice symbol lexeme.token (next_of tail) ≡ Some items → opens symbol lexeme.token (next_of tail) ≡ false →
-    Leads 0 (Part symbol ∷ []) items [] [] (scope_at at) (scope_at at) (lexeme ∷ tail) (lexeme ∷ tail)
-symbol_leads symbol items lexeme tail at sound chosen flat = record {
-  passes = λ profile stack values functions depths. part profile symbol items stack (lexeme ∷ tail) values (scope_at at) functions sound chosen (rw flat refl);
+symbol_leads : (symbol : Symbol) (items : List Item) (located_token : LocatedToken) (tail : List LocatedToken) (at : Place) → is_fault located_token.token ≡ false → choice symbol located_token.token (next_of tail) ≡ Some items → opens symbol located_token.token (next_of tail) ≡ false →
+    Leads 0 (Part symbol ∷ []) items [] [] (scope_at at) (scope_at at) (located_token ∷ tail) (located_token ∷ tail)
+symbol_leads symbol items located_token tail at sound chosen flat = record {
+  passes = λ profile stack values functions depths. part profile symbol items stack (located_token ∷ tail) values (scope_at at) functions sound chosen (rw flat refl);
 }
 
 abbrev pub typed_items : List Item
 typed_items = AWord word.Type ∷ Part Types ∷ Part Head ∷ at_source
 
 -- a type word begins a file's part
-pub source_typed : (before : Meaning) (at : Place) → is_word word.Type (next_at at).token ≡ true → Advances before before at_source typed_items at at
+pub source_typed : (before : Meaning) (at : Place) → is_word word.Type (next_at at).token ≡ true → ReadsOn before before at_source typed_items at at
 source_typed before at is =
     let same : (next_at at).token ≡ token.Word word.Type = word_is word.Type (next_at at).token is in
-    stretch_advances before (Part Source ∷ []) typed_items [] at at refl
+    segment_advances before (Part Source ∷ []) typed_items [] at at refl
     (stand at 0 (Part Source ∷ []) typed_items [] [] (λ tail b. symbol_leads Source typed_items (next_at at) tail at (rw same refl) (rw same refl) refl))
 
 -- so does a function's name
-pub source_named : (before : Meaning) (at : Place) (name : List ℕ) → (next_at at).token ≡ token.Name name → Advances before before at_source at_definition at at
+pub source_named : (before : Meaning) (at : Place) (name : List ℕ) → (next_at at).token ≡ token.Name name → ReadsOn before before at_source at_definition at at
 source_named before at name same =
-    stretch_advances before (Part Source ∷ []) at_definition [] at at refl
+    segment_advances before (Part Source ∷ []) at_definition [] at at refl
     (stand at 0 (Part Source ∷ []) at_definition [] [] (λ tail b. symbol_leads Source at_definition (next_at at) tail at (rw same refl) (rw same refl) refl))
 
 -- nothing else does
@@ -52,9 +52,9 @@ source_none token.End after end type name = absurd (end refl)
 source_none (token.Word word.Type) after end type name = absurd (cc)
 source_none (token.Word w) after end type name = refl
 source_none (token.Name n) after end type name = absurd (name n refl)
-source_none (token.Mark m) after end type name = refl
+source_none (token.Punctuator m) after end type name = refl
 source_none (token.Constant value) after end type name = refl
-source_none (token.Fault flaw) after end type name = refl
+source_none (token.Fault lexical_error) after end type name = refl
 
 pub source_misfits : (before : Meaning) (at : Place) (used : ℕ) (near : IsNearTo at used) → is_fault (next_at at).token ≡ false → ((next_at at).token ≡ token.End → ⊥) → is_word word.Type (next_at at).token ≡ false → ((name : List ℕ) → (next_at at).token ≡ token.Name name → ⊥) →
     StopsReading before at_source at (stop_with (Some (diagnostic (next_at at).line (misfit_code (next_at at).token))) used)
@@ -66,72 +66,72 @@ source_misfits before at used near sound end type name =
 abbrev pub at_head : List Item
 at_head = Part Head ∷ at_source
 
-pub type_word : (before : Meaning) (at now : Place) → DerivesItem (AWord word.Type) [] [] at now → Advances before before typed_items (Part Types ∷ at_head) at now
-type_word before at now d = stretch_advances before (AWord word.Type ∷ []) [] (Part Types ∷ at_head) at now refl (d 0)
+pub type_word : (before : Meaning) (at now : Place) → DerivesItem (AWord word.Type) [] [] at now → ReadsOn before before typed_items (Part Types ∷ at_head) at now
+type_word before at now d = segment_advances before (AWord word.Type ∷ []) [] (Part Types ∷ at_head) at now refl (d 0)
 
-pub more_types : (before : Meaning) (at now : Place) → Derives 0 (Part Types ∷ []) [] [] [] at now → Advances before before (Part Types ∷ at_head) at_head at now
-more_types before at now d = stretch_advances before (Part Types ∷ []) [] at_head at now refl d
+pub more_types : (before : Meaning) (at now : Place) → Derives 0 (Part Types ∷ []) [] [] [] at now → ReadsOn before before (Part Types ∷ at_head) at_head at now
+more_types before at now d = segment_advances before (Part Types ∷ []) [] at_head at now refl d
 
 -- up to the head
 pub typed_head : (before : Meaning) (at now behind : Place) → is_word word.Type (next_at at).token ≡ true → DerivesItem (AWord word.Type) [] [] at now → Derives 0 (Part Types ∷ []) [] [] [] now behind →
-    Advances before before at_source at_head at behind
+    ReadsOn before before at_source at_head at behind
 typed_head before at now behind is d e =
     advances_then before before before at_source (Part Types ∷ at_head) at_head at now behind
     (advances_then before before before at_source typed_items (Part Types ∷ at_head) at at now (source_typed before at is) (type_word before at now d)) (more_types before now behind e)
 
 pub word_refused : (used : ℕ) (before : Meaning) (at : Place) (f : ParseFault) (more : Bool) → is_word word.Type (next_at at).token ≡ true → Refused (FailsItem (AWord word.Type) at) false used f → Refused (StopsReading before at_source at) more used f
 word_refused used before at f more is = refused_map used (FailsItem (AWord word.Type) at) (StopsReading before at_source at) false more f
-    (λ d fails. stops_then before before at_source typed_items at at d (source_typed before at is) (stretch_stops before (AWord word.Type ∷ []) (Part Types ∷ at_head) at d refl (fails 0))) (λ never. absurd (cc))
+    (λ d fails. stops_then before before at_source typed_items at at d (source_typed before at is) (segment_stops before (AWord word.Type ∷ []) (Part Types ∷ at_head) at d refl (fails 0))) (λ never. absurd (cc))
 
 pub types_refused : (used : ℕ) (before : Meaning) (at now : Place) (f : ParseFault) (more : Bool) → is_word word.Type (next_at at).token ≡ true → DerivesItem (AWord word.Type) [] [] at now →
     Refused (λ d. (depth : ℕ) → FailsAt depth (Part Types ∷ []) [] now d) false used f → Refused (StopsReading before at_source at) more used f
 types_refused used before at now f more is passed = refused_map used (λ d. (depth : ℕ) → FailsAt depth (Part Types ∷ []) [] now d) (StopsReading before at_source at) false more f
     (λ d fails. stops_then before before at_source (Part Types ∷ at_head) at now d
     (advances_then before before before at_source typed_items (Part Types ∷ at_head) at at now (source_typed before at is) (type_word before at now passed))
-    (stretch_stops before (Part Types ∷ []) at_head now d refl (fails 0))) (λ never. absurd (cc))
+    (segment_stops before (Part Types ∷ []) at_head now d refl (fails 0))) (λ never. absurd (cc))
 
 -- A head.
 
 abbrev pub external_items : List Item
-external_items = AName External ∷ Part (More External) ∷ Exactly mark.Semicolon ∷ []
+external_items = AName External ∷ Part (More External) ∷ Exactly punctuator.Semicolon ∷ []
 
-round_is : (t : Token) → is_mark mark.OpenRound t ≡ true → t ≡ token.Mark mark.OpenRound
-round_is (token.Mark mark.OpenRound) is = refl
-round_is (token.Mark m) is = absurd (cc)
+round_is : (t : Token) → is_punctuator punctuator.OpenRound t ≡ true → t ≡ token.Punctuator punctuator.OpenRound
+round_is (token.Punctuator punctuator.OpenRound) is = refl
+round_is (token.Punctuator m) is = absurd (cc)
 round_is (token.Name name) is = absurd (cc)
 round_is (token.Word w) is = absurd (cc)
 round_is (token.Constant value) is = absurd (cc)
 round_is token.End is = absurd (cc)
-round_is (token.Fault flaw) is = absurd (cc)
+round_is (token.Fault lexical_error) is = absurd (cc)
 
-behind_is : (at : Place) (tail : List Lexeme) → IsBehind at.position.reading tail → is_last (next_at at).token ≡ false → next_of tail ≡ after_at at
+behind_is : (at : Place) (tail : List LocatedToken) → IsBehind at.position.reading tail → is_last (next_at at).token ≡ false → next_of tail ≡ after_at at
 behind_is at tail b more = rw (b.is more) refl
 
 abbrev pub definition_head : List Item
 definition_head =
-    AName Defined ∷ Exactly mark.OpenRound ∷ Part Parameters ∷ Exactly mark.CloseRound ∷ Part ParameterTypes ∷ Part FunctionBlock ∷ []
+    AName Defined ∷ Exactly punctuator.OpenRound ∷ Part Parameters ∷ Exactly punctuator.CloseRound ∷ Part ParameterTypes ∷ Part FunctionBlock ∷ []
 
 -- a name and a bracket begin a function
-pub head_defined : (before : Meaning) (at : Place) (name : List ℕ) → (next_at at).token ≡ token.Name name → is_mark mark.OpenRound (after_at at) ≡ true → Advances before before at_head at_definition at at
+pub head_defined : (before : Meaning) (at : Place) (name : List ℕ) → (next_at at).token ≡ token.Name name → is_punctuator punctuator.OpenRound (after_at at) ≡ true → ReadsOn before before at_head at_definition at at
 head_defined before at name same is =
-    stretch_advances before (Part Head ∷ []) definition_head at_source at at refl
+    segment_advances before (Part Head ∷ []) definition_head at_source at at refl
     (stand at 0 (Part Head ∷ []) definition_head [] [] (λ tail b.
-    let next : next_of tail ≡ token.Mark mark.OpenRound = behind_is at tail b (rw same refl) ∙ round_is (after_at at) is in
+    let next : next_of tail ≡ token.Punctuator punctuator.OpenRound = behind_is at tail b (rw same refl) ∙ round_is (after_at at) is in
     symbol_leads Head definition_head (next_at at) tail at (rw same refl) (rw (same, next) refl) refl))
 
-choose_external : (name : List ℕ) (after : Token) → is_mark mark.OpenRound after ≡ false → choice Head (token.Name name) after ≡ Some external_items
-choose_external name (token.Mark mark.OpenRound) other = absurd (cc)
-choose_external name (token.Mark m) other = refl
+choose_external : (name : List ℕ) (after : Token) → is_punctuator punctuator.OpenRound after ≡ false → choice Head (token.Name name) after ≡ Some external_items
+choose_external name (token.Punctuator punctuator.OpenRound) other = absurd (cc)
+choose_external name (token.Punctuator m) other = refl
 choose_external name (token.Name n) other = refl
 choose_external name (token.Word w) other = refl
 choose_external name (token.Constant value) other = refl
 choose_external name token.End other = refl
-choose_external name (token.Fault flaw) other = refl
+choose_external name (token.Fault lexical_error) other = refl
 
 -- any other name an external
-pub head_external : (before : Meaning) (at : Place) (name : List ℕ) → (next_at at).token ≡ token.Name name → is_mark mark.OpenRound (after_at at) ≡ false → Advances before before at_head (external_items ++ at_source) at at
+pub head_external : (before : Meaning) (at : Place) (name : List ℕ) → (next_at at).token ≡ token.Name name → is_punctuator punctuator.OpenRound (after_at at) ≡ false → ReadsOn before before at_head (external_items ++ at_source) at at
 head_external before at name same other =
-    stretch_advances before (Part Head ∷ []) external_items at_source at at refl
+    segment_advances before (Part Head ∷ []) external_items at_source at at refl
     (stand at 0 (Part Head ∷ []) external_items [] [] (λ tail b.
     let next : next_of tail ≡ after_at at = behind_is at tail b (rw same refl) in
     symbol_leads Head external_items (next_at at) tail at (rw same refl) (rw (same, next) (choose_external name (after_at at) other)) refl))
@@ -140,9 +140,9 @@ head_none : (t after : Token) → ((name : List ℕ) → t ≡ token.Name name �
 head_none token.End after name = refl
 head_none (token.Word w) after name = refl
 head_none (token.Name n) after name = absurd (name n refl)
-head_none (token.Mark m) after name = refl
+head_none (token.Punctuator m) after name = refl
 head_none (token.Constant value) after name = refl
-head_none (token.Fault flaw) after name = refl
+head_none (token.Fault lexical_error) after name = refl
 
 pub head_misfits : (before : Meaning) (at : Place) (used : ℕ) (near : IsNearTo at used) → is_fault (next_at at).token ≡ false → ((name : List ℕ) → (next_at at).token ≡ token.Name name → ⊥) →
     StopsReading before at_head at (stop_with (Some (diagnostic (next_at at).line (misfit_code (next_at at).token))) used)
@@ -150,18 +150,18 @@ head_misfits before at used near sound name =
     reading_fails_at_next before at_head at _ used near (λ tail profile functions. no_part profile Head at_source (next_at at ∷ tail) [] (scope_at at) functions sound (head_none (next_at at).token _ name) refl)
 
 -- externals were declared
-pub externals_read : (before : Meaning) (at now : Place) (name : List ℕ) → (next_at at).token ≡ token.Name name → is_mark mark.OpenRound (after_at at) ≡ false → Derives 0 external_items [] [] [] at now → Advances before before at_head at_source at now
+pub externals_read : (before : Meaning) (at now : Place) (name : List ℕ) → (next_at at).token ≡ token.Name name → is_punctuator punctuator.OpenRound (after_at at) ≡ false → Derives 0 external_items [] [] [] at now → ReadsOn before before at_head at_source at now
 externals_read before at now name same other d =
-    advances_then before before before at_head (external_items ++ at_source) at_source at at now (head_external before at name same other) (stretch_advances before external_items [] at_source at now refl d)
+    advances_then before before before at_head (external_items ++ at_source) at_source at at now (head_external before at name same other) (segment_advances before external_items [] at_source at now refl d)
 
-pub externals_refused : (used : ℕ) (before : Meaning) (at : Place) (name : List ℕ) (f : ParseFault) (more : Bool) → (next_at at).token ≡ token.Name name → is_mark mark.OpenRound (after_at at) ≡ false →
+pub externals_refused : (used : ℕ) (before : Meaning) (at : Place) (name : List ℕ) (f : ParseFault) (more : Bool) → (next_at at).token ≡ token.Name name → is_punctuator punctuator.OpenRound (after_at at) ≡ false →
     Refused (λ d. (depth : ℕ) → FailsAt depth external_items [] at d) false used f → Refused (StopsReading before at_head at) more used f
 externals_refused used before at name f more same other = refused_map used (λ d. (depth : ℕ) → FailsAt depth external_items [] at d) (StopsReading before at_head at) false more f
-    (λ d fails. stops_then before before at_head (external_items ++ at_source) at at d (head_external before at name same other) (stretch_stops before external_items at_source at d refl (fails 0))) (λ never. absurd (cc))
+    (λ d fails. stops_then before before at_head (external_items ++ at_source) at at d (head_external before at name same other) (segment_stops before external_items at_source at d refl (fails 0))) (λ never. absurd (cc))
 
 -- a function was read behind what leads to it
-pub function_read : (before after : Meaning) (front : List Item) (at there : Place) → Advances before before front at_definition at at → Advances before after at_definition at_source at there → Advances before after front at_source at there
+pub function_read : (before after : Meaning) (front : List Item) (at there : Place) → ReadsOn before before front at_definition at at → ReadsOn before after at_definition at_source at there → ReadsOn before after front at_source at there
 function_read before after front at there a b = advances_then before before after front at_definition at_source at at there a b
 
-pub function_refused : (used : ℕ) (before : Meaning) (front : List Item) (at : Place) (f : ParseFault) (allocates : Bool) → Advances before before front at_definition at at → Refused (StopsReading before at_definition at) allocates used f → Refused (StopsReading before front at) allocates used f
+pub function_refused : (used : ℕ) (before : Meaning) (front : List Item) (at : Place) (f : ParseFault) (allocates : Bool) → ReadsOn before before front at_definition at at → Refused (StopsReading before at_definition at) allocates used f → Refused (StopsReading before front at) allocates used f
 function_refused used before front at f allocates a = leave used before before front at_definition at at allocates allocates f a (λ same. same)

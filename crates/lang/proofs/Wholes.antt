@@ -5,9 +5,9 @@ use Rattle.std.specs.Prelude.{Option, Some, None, Ok, Err, Result, is_some}
 use Rattle.tokens.specs.Reading.{reach_of}
 use Rattle.tokens.specs.Tokens.{is_last, tokens}
 use Rattle.tokens.specs.Window.{Takes as TakesBytes}
-use Rattle.tokens.specs.declared.lexemes.Lexeme.{Lexeme}
-use Rattle.tokens.specs.declared.lexemes.Token.{Token}
-use Rattle.tokens.specs.declared.lexemes.Token.TheVariants as token
+use Rattle.tokens.specs.declared.located_tokens.LocatedToken.{LocatedToken}
+use Rattle.tokens.specs.declared.located_tokens.Token.{Token}
+use Rattle.tokens.specs.declared.located_tokens.Token.TheVariants as token
 use Rattle.grammar.specs.declared.diagnostics.Code.TheVariants as code
 use Rattle.grammar.specs.declared.diagnostics.Diagnostic.{Diagnostic}
 use Rattle.grammar.specs.declared.diagnostics.ParseFault.{ParseFault}
@@ -34,22 +34,22 @@ use Rattle.grammar.specs.Finished.{IsFinished, PassesAll}
 use Rattle.grammar.proofs.FileLaws.{finished, undefined, without_main}
 use Rattle.parsing.specs.Position.{GoesOn, Place, next_at, scope_at, tokens_at}
 use Rattle.parsing.specs.Stopping.{NoneBefore, Stops, slack as slack_of, stop_with}
-use Rattle.parsing.specs.Stretch.{IsNearTo, Refused, StopsFirst, StopsOpening, Takes}
-use Rattle.parsing.proofs.Stretches.{near_told, none_back, none_before, told_goes}
+use Rattle.parsing.specs.Segment.{IsNearTo, Refused, StopsFirst, StopsOpening, Takes}
+use Rattle.parsing.proofs.Segments.{near_told, none_back, none_before, told_goes}
 use Rattle.lang.specs.Files.{FailsBytes, IsFile, IsNew, Says, StopsTaking, TakesNoMore, TakesUpTo}
-use Rattle.lang.specs.Progress.{ADefinition, AMain, Advances, Lacks, Lists, StopsReading, at_source}
+use Rattle.lang.specs.Progress.{ADefinition, AMain, IsComplete, Lacks, ReadsOn, StopsReading, at_source}
 
 end_is : (t : Token) → is_end t ≡ true → t ≡ token.End
 end_is token.End is = refl
 end_is (token.Name name) is = absurd (cc)
-end_is (token.Mark m) is = absurd (cc)
+end_is (token.Punctuator m) is = absurd (cc)
 end_is (token.Word w) is = absurd (cc)
 end_is (token.Constant value) is = absurd (cc)
-end_is (token.Fault flaw) is = absurd (cc)
+end_is (token.Fault lexical_error) is = absurd (cc)
 
 -- The end is the only token from there on.
 
-ends_alone : (at : Place) (rest : List Lexeme) → is_end (next_at at).token ≡ true → GoesOn at rest → rest ≡ next_at at ∷ []
+ends_alone : (at : Place) (rest : List LocatedToken) → is_end (next_at at).token ≡ true → GoesOn at rest → rest ≡ next_at at ∷ []
 ends_alone at rest is g =
     let last : is_last (next_at at).token ≡ true = rw (end_is (next_at at).token is) refl in
     g.is ∙ rw last refl
@@ -59,24 +59,24 @@ goes_alone at is =
     let last : is_last (next_at at).token ≡ true = rw (end_is (next_at at).token is) refl in
     record { behind = []; is = rw last refl }
 
-end_steps : (profile : Profile) (next : Lexeme) (scope : Scope) (functions : List Definition) → is_end next.token ≡ true → Passes profile (state at_source (next ∷ []) [] scope functions) (state [] [] [] scope functions)
+end_steps : (profile : Profile) (next : LocatedToken) (scope : Scope) (functions : List Definition) → is_end next.token ≡ true → Passes profile (state at_source (next ∷ []) [] scope functions) (state [] [] [] scope functions)
 end_steps profile next scope functions is =
     let at : next.token ≡ token.End = end_is next.token is in
     then profile _ _ _ (part profile Source (AnEnd ∷ []) [] (next ∷ []) [] scope functions (rw at refl) (rw at refl) refl) (last profile [] (next ∷ []) [] scope functions (rw at refl) is)
 
-last_line_is : (consumed : List Lexeme) (next : Lexeme) → last_line (consumed ++ next ∷ []) ≡ next.line
+last_line_is : (consumed : List LocatedToken) (next : LocatedToken) → last_line (consumed ++ next ∷ []) ≡ next.line
 last_line_is [] next = refl
-last_line_is (lexeme ∷ []) next = refl
-last_line_is (lexeme ∷ other ∷ consumed) next = last_line_is (other ∷ consumed) next
+last_line_is (located_token ∷ []) next = refl
+last_line_is (located_token ∷ other ∷ consumed) next = last_line_is (other ∷ consumed) next
 
 -- A reading from the start of a file to its end.
 pub record IsWhole (before after : Meaning) (told : Option (List ℕ)) (at there : Place) : Type 0 where
-  pub reads : Advances before after at_source at_source at there
+  pub reads : ReadsOn before after at_source at_source at there
   pub nothing : scope_at at ≡ no_names
   pub tells : tokens_at at ≡ option_map tokens told
   pub ends : is_end (next_at there).token ≡ true
 
-abbrev all_of : (before after : Meaning) (told : Option (List ℕ)) (at there : Place) → IsWhole before after told at there → List Lexeme
+abbrev all_of : (before after : Meaning) (told : Option (List ℕ)) (at there : Place) → IsWhole before after told at there → List LocatedToken
 all_of before after told at there w = w.reads.consumed ++ next_at there ∷ []
 
 passes_all : (before after : Meaning) (told : Option (List ℕ)) (at there : Place) (w : IsWhole before after told at there) (profile : Profile) → before profile [] →
@@ -91,27 +91,28 @@ passes_all before after told at there w profile h =
 tokens_all : (before after : Meaning) (told : Option (List ℕ)) (at there : Place) (w : IsWhole before after told at there) (bytes : List ℕ) → told ≡ Some bytes → tokens bytes ≡ all_of before after told at there w
 tokens_all before after told at there w bytes is =
     let t : Takes w.reads.consumed (tokens bytes) there = w.reads.told (tokens bytes) (w.tells ∙ ap (option_map tokens) is) in
-    t.is ∙ ap (λ (ls : List Lexeme). w.reads.consumed ++ ls) (ends_alone there t.rest w.ends (told_goes there t.rest t.shows))
+    t.is ∙ ap (λ (ls : List LocatedToken). w.reads.consumed ++ ls) (ends_alone there t.rest w.ends (told_goes there t.rest t.shows))
 
 resolved_all : (before after : Meaning) (told : Option (List ℕ)) (at there : Place) (w : IsWhole before after told at there) (profile : Profile) → before profile [] →
     compiled_tokens profile (all_of before after told at there w) ≡ resolved (all_of before after told at there w) (scope_at there) w.reads.more
 resolved_all before after told at there w profile h =
     clean_verdict profile (all_of before after told at there w) (state [] [] [] (scope_at there) w.reads.more) (passes_all before after told at there w profile h) refl refl
 
-compiled_as : (profile : Profile) (bytes : List ℕ) (lexemes : List Lexeme) (verdict : Result File Diagnostic) → tokens bytes ≡ lexemes → compiled_tokens profile lexemes ≡ verdict → compiled profile bytes ≡ verdict
+compiled_as : (profile : Profile) (bytes : List ℕ) (located_tokens : List LocatedToken) (verdict : Result File Diagnostic) → tokens bytes ≡ located_tokens → compiled_tokens profile located_tokens ≡ verdict → compiled profile bytes ≡ verdict
 unfolding compiled
-compiled_as profile bytes lexemes verdict same is = rw same is
+compiled_as profile bytes located_tokens verdict same is = rw same is
 
 -- all functions are defined, and main is among them
-pub whole_file : (before after : Meaning) (told : Option (List ℕ)) (at there : Place) (names : Names) → IsNew before → IsWhole before after told at there → Lists (scope_at there) names → IsFile before after told names
-whole_file before after told at there names new w lists =
+pub whole_file : (before after : Meaning) (told : Option (List ℕ)) (at there : Place) (names : Names) → IsNew before →
+    IsWhole before after told at there → IsComplete (scope_at there) → names ≡ record { externals = (scope_at there).externals; functions = (scope_at there).functions } → IsFile before after told names
+whole_file before after told at there names new w complete same =
     let f : IsFinished new.profile (all_of before after told at there w) (scope_at there) w.reads.more =
-    finished new.profile (all_of before after told at there w) (scope_at there) w.reads.more (passes_all before after told at there w new.profile new.stands) lists.defined lists.main in
+    finished new.profile (all_of before after told at there w) (scope_at there) w.reads.more (passes_all before after told at there w new.profile new.stands) complete.defined complete.main in
     record {
       file = f.file;
       resolved = f.resolved;
-      named = lists.is ∙ f.named;
-      main = rw lists.is f.main;
+      named = same ∙ f.named;
+      main = rw same f.main;
       built = λ profile h. subst (λ (acts : List Action). after profile acts) (sym f.told) (w.reads.added profile [] h);
       is = λ bytes shows profile h. compiled_as profile bytes (all_of before after told at there w) (Ok f.file) (tokens_all before after told at there w bytes shows)
           (resolved_all before after told at there w profile h ∙ sym (resolved_all before after told at there w new.profile new.stands) ∙ f.compiled);
@@ -151,7 +152,7 @@ stopped used before told at refusal.Memory allocates nothing tells h = h
 
 first_fails : (before : Meaning) (told told' : Option (List ℕ)) (d : Diagnostic) → StopsOpening told told' (refusal.Source d) → FailsBytes before told d
 first_fails before told told' d stops bytes shows profile h =
-    let s : (is_fault (next_of (tokens bytes)) ≡ true) × (d ≡ diagnostic (line_of (tokens bytes)) (misfit_code (next_of (tokens bytes)))) = stops.refused.flaw (tokens bytes) (ap (option_map tokens) shows) in
+    let s : (is_fault (next_of (tokens bytes)) ≡ true) × (d ≡ diagnostic (line_of (tokens bytes)) (misfit_code (next_of (tokens bytes)))) = stops.refused.lexical_error (tokens bytes) (ap (option_map tokens) shows) in
     compiled_as profile bytes (tokens bytes) (Err d) refl
     (fault_verdict profile (tokens bytes) d (rw s.1 (at_fault profile at_source (tokens bytes) [] no_names [] s.0)))
 
@@ -162,7 +163,7 @@ first_refused before told told' refusal.Memory more stops = let never : false �
 
 -- How much was taken.
 
-takes_up_to : (profile : Profile) (bytes : List ℕ) (to_come : Option (List ℕ)) (used more : ℕ) (passed rest : List Lexeme) → tokens bytes ≡ passed ++ rest → NoneBefore profile (start (tokens bytes)) rest →
+takes_up_to : (profile : Profile) (bytes : List ℕ) (to_come : Option (List ℕ)) (used more : ℕ) (passed rest : List LocatedToken) → tokens bytes ≡ passed ++ rest → NoneBefore profile (start (tokens bytes)) rest →
     to_come ≡ Some (drop used bytes) → used ≤ reach_of rest + more → TakesUpTo profile bytes to_come more
 takes_up_to profile bytes to_come used more passed rest is none took taken =
     let needed : reach_of rest ≤ need profile bytes = what_was_read_is_needed profile bytes passed rest is none.each in
@@ -172,8 +173,9 @@ takes_up_to profile bytes to_come used more passed rest is none took taken =
 abbrev pub HasTaken : ℕ → (told to_come : Option (List ℕ)) → Type 0
 HasTaken used told to_come = (bytes : List ℕ) → told ≡ Some bytes → to_come ≡ Some (drop used bytes)
 
-pub has_taken : (first used : ℕ) (told between to_come : Option (List ℕ)) → between ≡ option_map (drop first) told → TakesBytes first used between to_come → HasTaken used told to_come
-has_taken first used told between to_come opened took bytes is = took.rest told opened ∙ rw is refl
+pub has_taken : (first used : ℕ) (told between there to_come : Option (List ℕ)) → between ≡ option_map (drop first) told → TakesBytes first used between there → to_come ≡ there →
+    HasTaken used told to_come
+has_taken first used told between there to_come opened took same bytes is = same ∙ (took.rest told opened ∙ rw is refl)
 
 reading_takes : (used slack : ℕ) (before : Meaning) (told to_come : Option (List ℕ)) (at : Place) (o : Option Diagnostic) → slack ≡ slack_of o → scope_at at ≡ no_names → tokens_at at ≡ option_map tokens told →
     HasTaken used told to_come → StopsReading before at_source at (stop_with o used) → TakesNoMore before told to_come slack
@@ -208,7 +210,7 @@ whole_takes used before after told to_come at there w near taken bytes shows pro
     subst (λ (known : Scope). Passes profile (state at_source (w.reads.consumed ++ t.rest) [] known []) (state at_source t.rest [] (scope_at there) w.reads.more)) w.nothing
     (w.reads.passes t.rest (told_goes there t.rest t.shows) profile [] h) in
     let none : NoneBefore profile (start (tokens bytes)) t.rest =
-    subst (λ (ls : List Lexeme). NoneBefore profile (start ls) t.rest) (sym t.is)
+    subst (λ (ls : List LocatedToken). NoneBefore profile (start ls) t.rest) (sym t.is)
     (none_back profile _ (state at_source t.rest [] (scope_at there) w.reads.more) t.rest reached (none_before profile (state at_source t.rest [] (scope_at there) w.reads.more))) in
     takes_up_to profile bytes to_come used 4096 w.reads.consumed t.rest t.is none (taken bytes shows) (near_told there t.rest used t.shows near)
 

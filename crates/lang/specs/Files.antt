@@ -18,19 +18,21 @@ pub record IsNew (before : Meaning) : Type 0 where
   pub profile : Profile
   pub stands : before profile []
 
--- The names are those of a resolved file, and a builder that stood for no action stands for the file's actions, whatever the device
--- tells. Where it tells its bytes, they are that file.
+-- The names are those of a resolved file, and a builder that stood for no action stands for the file's actions,
+-- whatever the device tells. Where it tells its bytes, they are that file.
 pub record IsFile (before after : Meaning) (told : Option (List ℕ)) (names : Names) : Type 0 where
   pub file : File
   pub resolved : IsResolved file
   pub named : names ≡ names_of file
   pub main : number_of_name main_name (map (λ (f : FunctionNames). f.name) names.functions) ≡ Some file.main
   pub built : (profile : Profile) → before profile [] → after profile (actions file)
-  pub is : (bytes : List ℕ) → told ≡ Some bytes → (profile : Profile) → before profile [] → compiled profile bytes ≡ Ok file
+  pub is : (bytes : List ℕ) → told ≡ Some bytes → (profile : Profile) → before profile [] →
+      compiled profile bytes ≡ Ok file
 
 -- where the device tells its bytes, the diagnostic is that of their first fault
 abbrev pub FailsBytes : Meaning → Option (List ℕ) → Diagnostic → Type 0
-FailsBytes before told d = (bytes : List ℕ) → told ≡ Some bytes → (profile : Profile) → before profile [] → compiled profile bytes ≡ Err d
+FailsBytes before told d =
+    (bytes : List ℕ) → told ≡ Some bytes → (profile : Profile) → before profile [] → compiled profile bytes ≡ Err d
 
 -- what a refusal says: of a source its fault, of memory that the builder asks for it
 abbrev pub Says : (Diagnostic → Type 0) → Bool → ParseFault → Type 0
@@ -46,9 +48,12 @@ pub record TakesUpTo (profile : Profile) (bytes : List ℕ) (to_come : Option (L
 
 -- the same of each profile that the builder goes by, where the device tells its bytes
 abbrev pub TakesNoMore : Meaning → (told to_come : Option (List ℕ)) → ℕ → Type 0
-TakesNoMore before told to_come more = (bytes : List ℕ) → told ≡ Some bytes → (profile : Profile) → before profile [] → TakesUpTo profile bytes to_come more
+TakesNoMore before told to_come more =
+    (bytes : List ℕ) → told ≡ Some bytes → (profile : Profile) → before profile [] →
+    TakesUpTo profile bytes to_come more
 
--- what was taken where a source was refused: a window past what decides the fault at most, and where the device failed, nothing past it
+-- what was taken where a source was refused: a window past what decides the fault at most, and where the device failed,
+-- nothing past it
 abbrev pub StopsTaking : Meaning → (told to_come : Option (List ℕ)) → ParseFault → Type 0
 StopsTaking before told to_come (refusal.Source d) = TakesNoMore before told to_come 4096
 StopsTaking before told to_come refusal.Device = TakesNoMore before told to_come 0

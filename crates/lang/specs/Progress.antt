@@ -1,46 +1,54 @@
 -- How far a file was read: the functions defined, the builder's actions, and the derivation from the file's start.
 use Rattle.std.specs.Prelude.{ℕ, ◌+◌, ◌<◌, ◌≤◌, ◌≡◌, List, [], ◌∷◌, ◌++◌, Bool, true, false, Some, None, is_some}
-use Rattle.tokens.specs.declared.lexemes.Lexeme.{Lexeme}
-use Rattle.tokens.specs.declared.lexemes.Mark.TheVariants as mark
+use Rattle.std.specs.Prelude.{Result, Ok, Err}
+use Rattle.tokens.specs.declared.located_tokens.LocatedToken.{LocatedToken}
+use Rattle.tokens.specs.declared.located_tokens.Punctuator.TheVariants as punctuator
 use Rattle.grammar.specs.declared.diagnostics.Code.TheVariants as code
 use Rattle.grammar.specs.Actions.{Action, Finish, body_actions, code_length, last_return}
 use Rattle.grammar.specs.Building.{Meaning, AppendsAll, StandsOpen}
 use Rattle.grammar.specs.declared.diagnostics.ParseFault.{ParseFault}
 use Rattle.grammar.specs.declared.diagnostics.ParseFault.TheVariants as refusal
+use Rattle.grammar.specs.declared.pools.TheConstants.{MOST_NAMES}
 use Rattle.grammar.specs.Compiled.{diagnostic, main_name}
 use Rattle.grammar.specs.Derivation.{ABody, Definition, state}
 use Rattle.grammar.specs.Faults.{definitions_actions}
 use Rattle.grammar.specs.Following.{InFunction}
-use Rattle.grammar.specs.Grammar.{Item, AName, Define, Defined, Exactly, FunctionBlock, Make, ParameterTypes, Parameters, Part, Shut, Source}
+use Rattle.grammar.specs.Grammar.{Item, AName, Define, Defined, Exactly, FunctionBlock, Make, ParameterTypes}
+use Rattle.grammar.specs.Grammar.{Parameters, Part, Close, Source}
 use Rattle.grammar.specs.Laws.{KeepsFunction}
 use Rattle.grammar.specs.Naming.{line_of_undefined}
 use Rattle.grammar.specs.Nesting.{body_nesting}
 use Rattle.grammar.specs.Parsing.{Passes}
-use Rattle.grammar.specs.Pools.{Names}
 use Rattle.grammar.specs.Profile.{Profile}
 use Rattle.grammar.specs.Resolved.{InBody}
 use Rattle.grammar.specs.Scope.{Scope, function_number}
 use Rattle.grammar.specs.Tree.{Body}
-use Rattle.parsing.specs.Position.{GoesOn, Place, Position, scope_at, tokens_at}
+use Rattle.parsing.specs.Position.{GoesOn, Place, Position, Standing, scope_at, taken_at, tokens_at}
+use Rattle.parsing.specs.Room.{open_limit}
 use Rattle.parsing.specs.Stopping.{Stop, Stops}
-use Rattle.parsing.specs.Stretch.{Derives, Takes}
+use Rattle.parsing.specs.Segment.{Derives, FailsAt, Refused, Takes}
 
--- From one place between functions to another the builder was told further functions, and the derivation, which goes from these items
--- to those, defines them. It takes the same tokens whether the device tells them or not.
-pub record Advances (before after : Meaning) (front pending : List Item) (here there : Place) : Type 0 where
-  pub consumed : List Lexeme
+-- From one place between functions to another the builder was told further functions, and the derivation, which goes
+-- from these items to those, defines them. It takes the same tokens whether the device tells them or not.
+pub record ReadsOn (before after : Meaning) (front pending : List Item) (here there : Place) : Type 0 where
+  pub consumed : List LocatedToken
   pub more : List Definition
-  pub told : (lexemes : List Lexeme) → tokens_at here ≡ Some lexemes → Takes consumed lexemes there
-  pub follows : (rest : List Lexeme) → GoesOn there rest → GoesOn here (consumed ++ rest)
+  pub told : (located_tokens : List LocatedToken) → tokens_at here ≡ Some located_tokens
+      → Takes consumed located_tokens there
+  pub follows : (rest : List LocatedToken) → GoesOn there rest → GoesOn here (consumed ++ rest)
   pub added : AppendsAll before after (definitions_actions more)
-  pub passes : (rest : List Lexeme) → GoesOn there rest → (profile : Profile) (functions : List Definition) → before profile (definitions_actions functions) →
-      Passes profile (state front (consumed ++ rest) [] (scope_at here) functions) (state pending rest [] (scope_at there) (functions ++ more))
+  pub passes : (rest : List LocatedToken) → GoesOn there rest → (profile : Profile) (functions : List Definition) →
+      before profile (definitions_actions functions) →
+      Passes profile (state front (consumed ++ rest) [] (scope_at here) functions)
+      (state pending rest [] (scope_at there) (functions ++ more))
 
 -- where the tokens are told, the derivation from these items on stops so
 abbrev pub StopsReading : Meaning → List Item → Place → Stop → Type 0
 StopsReading before front here stop =
-    (lexemes : List Lexeme) → tokens_at here ≡ Some lexemes → (profile : Profile) (functions : List Definition) → before profile (definitions_actions functions) →
-    Stops profile (state front lexemes [] (scope_at here) functions) stop
+    (located_tokens : List LocatedToken) → tokens_at here ≡ Some located_tokens
+    → (profile : Profile) (functions : List Definition) →
+    before profile (definitions_actions functions) →
+    Stops profile (state front located_tokens [] (scope_at here) functions) stop
 
 -- between the parts of a file
 abbrev pub at_source : List Item
@@ -49,17 +57,20 @@ at_source = Part Source ∷ []
 -- where a function's definition begins
 abbrev pub at_definition : List Item
 at_definition =
-    AName Defined ∷ Exactly mark.OpenRound ∷ Part Parameters ∷ Exactly mark.CloseRound ∷ Part ParameterTypes ∷ Part FunctionBlock ∷ at_source
+    AName Defined ∷ Exactly punctuator.OpenRound ∷ Part Parameters ∷ Exactly punctuator.CloseRound
+    ∷ Part ParameterTypes ∷
+    Part FunctionBlock ∷ at_source
 
 -- what a function's block is up to its closing brace
 abbrev pub at_brace : List Item
-at_brace = Make Define ∷ Exactly mark.CloseCurly ∷ Shut ∷ []
+at_brace = Make Define ∷ Exactly punctuator.CloseCurly ∷ Close ∷ []
 
--- A function's block was read up to its closing brace: the builder was told its statements, and the function stayed the same.
+-- A function's block was read up to its closing brace: the builder was told its statements, and the function stayed the
+-- same.
 pub record AddsBlock (before after : Meaning) (here there : Place) : Type 0 where
   pub tree : Body
-  pub numbered : InBody 64 64 64 tree
-  pub narrow : body_nesting tree ≤ 200
+  pub numbered : InBody MOST_NAMES MOST_NAMES MOST_NAMES tree
+  pub narrow : body_nesting tree ≤ open_limit
   pub added : AppendsAll before after (body_actions tree)
   pub kept : KeepsFunction (scope_at here) (scope_at there)
   pub derives : Derives 0 (Part FunctionBlock ∷ []) at_brace [] (ABody tree ∷ []) here there
@@ -70,27 +81,45 @@ pub record MayEnd (before : Meaning) (variables : ℕ) : Type 0 where
   pub returned : Bool
   pub stands : StandsOpen before (InFunction parameters returned ∷ [])
   pub within : parameters ≤ variables
-  pub few : variables ≤ 64
+  pub few : variables ≤ MOST_NAMES
 
 -- The builder was told the last return and the function's end, and the code is within the limit.
 pub record ClosesFunction (before after : Meaning) (variables : ℕ) : Type 0 where
   pub added : AppendsAll before after (last_return ++ Finish variables ∷ [])
-  pub fits : (profile : Profile) (acts : List Action) → before profile acts → code_length profile (acts ++ last_return) + 1 ≤ profile.instructions
+  pub fits : (profile : Profile) (acts : List Action) → before profile acts →
+      code_length profile (acts ++ last_return) + 1 ≤ profile.instructions
 
 -- The code passes the limit, and the diagnostic says so at this line.
 pub record IsTooMuch (before : Meaning) (line : ℕ) (stop : Stop) : Type 0 where
   pub is : stop.fault ≡ Some (diagnostic line code.TooMuchCode)
-  pub over : (profile : Profile) (acts : List Action) → before profile acts → profile.instructions < code_length profile (acts ++ last_return) + 1
+  pub over : (profile : Profile) (acts : List Action) → before profile acts →
+      profile.instructions < code_length profile (acts ++ last_return) + 1
 
--- Each function that was mentioned is defined, main is among them, and these are the names.
-pub record Lists (scope : Scope) (names : Names) : Type 0 where
+-- Each function that was mentioned is defined, and main is among them.
+pub record IsComplete (scope : Scope) : Type 0 where
   pub defined : line_of_undefined 0 scope.lines scope.begun ≡ None
   pub main : is_some (function_number main_name scope) ≡ true
-  pub is : names ≡ record { externals = scope.externals; functions = scope.functions }
 
 -- A function is not defined, or else there is no main function.
 pub data Lacks (position : Position) (fault : ParseFault) : Type 0 where
   ADefinition : (line : ℕ) → line_of_undefined 0 position.scope.lines position.scope.begun ≡ Some line →
       fault ≡ refusal.Source (diagnostic line code.FunctionNotDefined) → Lacks position fault
-  AMain : line_of_undefined 0 position.scope.lines position.scope.begun ≡ None → is_some (function_number main_name position.scope) ≡ false →
+  AMain : line_of_undefined 0 position.scope.lines position.scope.begun ≡ None →
+      is_some (function_number main_name position.scope) ≡ false →
       fault ≡ refusal.Source (diagnostic position.reading.next.line code.NoMainFunction) → Lacks position fault
+
+-- What a parse of a file's parts says, by its result.
+
+-- Parts of a file were read from these items on. Or the derivation stops within them, as the refusal says.
+abbrev pub ReadsParts : {A : Type 0} → Result A ParseFault → (allocates : Bool) (before after : Meaning) →
+    List Item → (old new : Standing) → Type 0
+ReadsParts (Ok x) allocates before after front old new = ReadsOn before after front at_source old.place new.place
+ReadsParts (Err fault) allocates before after front old new =
+    Refused (StopsReading before front old.place) allocates (taken_at new.place) fault
+
+-- the same of a function's block, up to its closing brace
+abbrev pub ParsesBlock : {A : Type 0} → Result A ParseFault → (allocates : Bool) (before after : Meaning) →
+    (old new : Standing) → Type 0
+ParsesBlock (Ok x) allocates before after old new = AddsBlock before after old.place new.place
+ParsesBlock (Err fault) allocates before after old new =
+    Refused (FailsAt 0 (Part FunctionBlock ∷ []) [] old.place) allocates (taken_at new.place) fault

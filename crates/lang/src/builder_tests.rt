@@ -48,15 +48,15 @@ fn refusal_of_trees(alloc: Global, actions: usize) -> Result<Option<BuildFault>,
 
 #[test]
 fn a_refusal_of_the_builder_is_answered(rt: HostRuntime) -> Result<(), Fail> {
-    // `begin_function`, `constant`, `chop`, `constant`, `give_back` and `end_function`
-    for actions in 0..6 {
+    // `begin_function`, `constant`, `chop`, `constant` and `give_back`; then comes `end_function`
+    for actions in 0..5 {
         assert_eq!(rt; refusal(actions), Some(ParseFault::Memory));
         assert_eq!(rt;
             refusal_of_trees(rt.alloc(), actions)?,
             Some(BuildFault::Memory)
         );
     }
-    assert_eq!(rt; refusal(6), Some(source_fault(1, Code::TooMuchCode)));
-    assert_eq!(rt; refusal_of_trees(rt.alloc(), 6)?, Some(BuildFault::Full));
+    assert_eq!(rt; refusal(5), Some(source_fault(1, Code::TooMuchCode)));
+    assert_eq!(rt; refusal_of_trees(rt.alloc(), 5)?, Some(BuildFault::Full));
     Ok(())
 }

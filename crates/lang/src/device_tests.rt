@@ -33,7 +33,7 @@ fn a_builder_has_what_stood_before_a_failed_read(rt: HostRuntime) -> Result<(), 
         let functions = format!(in rt.alloc(); "{:?}", outcome.trees.functions())?;
         assert_eq!(rt;
             functions.as_str(),
-            "[Function { number: 0, parameters: 0, variables: 0, body: [Alone(Constant(1))] }]"
+            "[Function { number: 0, parameters: 0, variables: 0, body: [ExpressionStatement(Constant(1))] }]"
         );
     }
     Ok(())

@@ -16,7 +16,7 @@ const EMPTY_MAIN: &[&str] = &[
 const STEP: &[&str] = &[
     "externals",
     "main x a b: Function { number: 0, parameters: 0, variables: 3, body: [\
-     Alone(Assign(Set, Local(0), Binary(Add, Postfix(Add, Local(1)), Variable(Local(2)))))] }",
+     ExpressionStatement(Assign(Set, Local(0), Binary(Add, Postfix(Add, Local(1)), Variable(Local(2)))))] }",
 ];
 
 /// The same of `d(x,y) int x,y; {return(x*x+y*y);} main(){d(3);}`.
@@ -26,7 +26,7 @@ const PARAMETERS: &[&str] = &[
      Binary(Multiply, Variable(Local(0)), Variable(Local(0))), \
      Binary(Multiply, Variable(Local(1)), Variable(Local(1)))))] }",
     "main: Function { number: 1, parameters: 0, variables: 0, body: [\
-     Alone(Call(Function(0), [Constant(3)]))] }",
+     ExpressionStatement(Call(Function(0), [Constant(3)]))] }",
 ];
 
 /// A file with an external, a function, a loop and an intrinsic function.
@@ -36,11 +36,11 @@ const SHOT: &[u8] = b"int x; f(){x=1;return 1;} main(){x+=f(); if(x==2) cannon(0
 const SHOT_MADE: &[&str] = &[
     "externals x",
     "f: Function { number: 0, parameters: 0, variables: 0, body: [\
-     Alone(Assign(Set, External(0), Constant(1))), Return(Constant(1))] }",
+     ExpressionStatement(Assign(Set, External(0), Constant(1))), Return(Constant(1))] }",
     "main: Function { number: 1, parameters: 0, variables: 0, body: [\
-     Alone(Assign(Add, External(0), Call(Function(0), []))), \
-     When(Binary(Equal, Variable(External(0)), Constant(2)), [\
-     Alone(Call(Intrinsic(Cannon), [Constant(0), Constant(0)]))]), \
+     ExpressionStatement(Assign(Add, External(0), Call(Function(0), []))), \
+     IfStatement(Binary(Equal, Variable(External(0)), Constant(2)), [\
+     ExpressionStatement(Call(Intrinsic(Cannon), [Constant(0), Constant(0)]))]), \
      While(Constant(1), [])] }",
 ];
 
@@ -66,27 +66,27 @@ fn faulty_files_have_their_fault(rt: HostRuntime) -> Result<(), Fail> {
 const SHIFTED: &[&str] = &[
     "externals",
     "main x: Function { number: 0, parameters: 0, variables: 1, body: [\
-     Alone(Assign(ShiftLeft, Local(0), Constant(1)))] }",
+     ExpressionStatement(Assign(ShiftLeft, Local(0), Constant(1)))] }",
 ];
 
 /// The same of `main(){abcdefghijklmnopqrstuvwxyz_1234;}`.
 const LONG_NAME: &[&str] = &[
     "externals",
     "main abcdefghijklmnopqrstuvwxyz_1234: Function { number: 0, parameters: 0, variables: 1, body: [\
-     Alone(Variable(Local(0)))] }",
+     ExpressionStatement(Variable(Local(0)))] }",
 ];
 
 /// The same of `main(){1;}`.
 const ONE: &[&str] = &[
     "externals",
-    "main: Function { number: 0, parameters: 0, variables: 0, body: [Alone(Constant(1))] }",
+    "main: Function { number: 0, parameters: 0, variables: 0, body: [ExpressionStatement(Constant(1))] }",
 ];
 
 #[test]
 fn tokens_may_lie_across_the_end_of_the_window(rt: HostRuntime) -> Result<(), Fail> {
     for place in [4_094, 4_095, 4_096] {
-        let mark = [Once(b"main(){x"), Times(b" ", place - 8), Once(b"<<=1;}")];
-        check_trees(&rt, &source_of(rt.alloc(), &mark)?, SHIFTED)?;
+        let punctuator = [Once(b"main(){x"), Times(b" ", place - 8), Once(b"<<=1;}")];
+        check_trees(&rt, &source_of(rt.alloc(), &punctuator)?, SHIFTED)?;
         let name = [
             Once(b"main(){"),
             Times(b" ", place - 7),

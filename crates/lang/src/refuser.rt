@@ -6,7 +6,7 @@ ghost use Rattle.grammar.specs.Building.{Refuses};
 use crate::{Build, BuildFault, Callee, Op, StoreOp, Var};
 
 /// A builder with room for no instruction: the end of each function is too much code for it.
-/// After so many actions it is refused memory.
+/// After so many actions before that it is refused memory.
 #[derive(Drop)]
 pub struct Refuser {
     /// How many actions more it takes.
@@ -96,7 +96,6 @@ impl Build for Refuser {
     }
 
     fn end_function(&mut self, _variables: u8) -> Result<(), BuildFault> {
-        self.take()?;
         Err(BuildFault::Full)
     }
 }

@@ -10,70 +10,70 @@ const FORMS: &[(&[u8], &str)] = &[
     // a sign is an operator with a constant
     (
         b"main(){-1 * 2; !3; ~4;}",
-        "[Alone(Binary(Multiply, Binary(Subtract, Constant(0), Constant(1)), Constant(2))), \
-         Alone(Binary(Equal, Constant(3), Constant(0))), \
-         Alone(Binary(BitXor, Constant(4), Constant(-1)))]",
+        "[ExpressionStatement(Binary(Multiply, Binary(Subtract, Constant(0), Constant(1)), Constant(2))), \
+         ExpressionStatement(Binary(Equal, Constant(3), Constant(0))), \
+         ExpressionStatement(Binary(BitXor, Constant(4), Constant(-1)))]",
     ),
     (
         b"main(){++a; --a; a++; a--;}",
-        "[Alone(Assign(Add, Local(0), Constant(1))), \
-         Alone(Assign(Subtract, Local(0), Constant(1))), \
-         Alone(Postfix(Add, Local(0))), \
-         Alone(Postfix(Subtract, Local(0)))]",
+        "[ExpressionStatement(Assign(Add, Local(0), Constant(1))), \
+         ExpressionStatement(Assign(Subtract, Local(0), Constant(1))), \
+         ExpressionStatement(Postfix(Add, Local(0))), \
+         ExpressionStatement(Postfix(Subtract, Local(0)))]",
     ),
     // operators of one level are grouped to the left
     (
         b"main(){1 - 2 + 3; 4 / 5 % 6; 7 - (8 - 9);}",
-        "[Alone(Binary(Add, Binary(Subtract, Constant(1), Constant(2)), Constant(3))), \
-         Alone(Binary(Remainder, Binary(Divide, Constant(4), Constant(5)), Constant(6))), \
-         Alone(Binary(Subtract, Constant(7), Binary(Subtract, Constant(8), Constant(9))))]",
+        "[ExpressionStatement(Binary(Add, Binary(Subtract, Constant(1), Constant(2)), Constant(3))), \
+         ExpressionStatement(Binary(Remainder, Binary(Divide, Constant(4), Constant(5)), Constant(6))), \
+         ExpressionStatement(Binary(Subtract, Constant(7), Binary(Subtract, Constant(8), Constant(9))))]",
     ),
     // each level binds tighter than the one before
     (
         b"main(){1 || 2 && 3 | 4 ^ 5 & 6 == 7 < 8 << 9 + 10 * 11;}",
-        "[Alone(Binary(Or, Constant(1), Binary(And, Constant(2), Binary(BitOr, Constant(3), \
+        "[ExpressionStatement(Binary(Or, Constant(1), Binary(And, Constant(2), Binary(BitOr, Constant(3), \
          Binary(BitXor, Constant(4), Binary(BitAnd, Constant(5), Binary(Equal, Constant(6), \
          Binary(Less, Constant(7), Binary(ShiftLeft, Constant(8), Binary(Add, Constant(9), \
          Binary(Multiply, Constant(10), Constant(11))))))))))))]",
     ),
     (
         b"main(){1 != 2; 3 > 4; 5 <= 6; 7 >= 8; 9 >> 10;}",
-        "[Alone(Binary(NotEqual, Constant(1), Constant(2))), \
-         Alone(Binary(Greater, Constant(3), Constant(4))), \
-         Alone(Binary(LessOrEqual, Constant(5), Constant(6))), \
-         Alone(Binary(GreaterOrEqual, Constant(7), Constant(8))), \
-         Alone(Binary(ShiftRight, Constant(9), Constant(10)))]",
+        "[ExpressionStatement(Binary(NotEqual, Constant(1), Constant(2))), \
+         ExpressionStatement(Binary(Greater, Constant(3), Constant(4))), \
+         ExpressionStatement(Binary(LessOrEqual, Constant(5), Constant(6))), \
+         ExpressionStatement(Binary(GreaterOrEqual, Constant(7), Constant(8))), \
+         ExpressionStatement(Binary(ShiftRight, Constant(9), Constant(10)))]",
     ),
     (
         b"main(){a = b -= 1; a *= 2; a /= 3; a %= 4;}",
-        "[Alone(Assign(Set, Local(0), Assign(Subtract, Local(1), Constant(1)))), \
-         Alone(Assign(Multiply, Local(0), Constant(2))), \
-         Alone(Assign(Divide, Local(0), Constant(3))), \
-         Alone(Assign(Remainder, Local(0), Constant(4)))]",
+        "[ExpressionStatement(Assign(Set, Local(0), Assign(Subtract, Local(1), Constant(1)))), \
+         ExpressionStatement(Assign(Multiply, Local(0), Constant(2))), \
+         ExpressionStatement(Assign(Divide, Local(0), Constant(3))), \
+         ExpressionStatement(Assign(Remainder, Local(0), Constant(4)))]",
     ),
     (
         b"main(){a += 1; a <<= 2; a >>= 3; a &= 4; a ^= 5; a |= 6;}",
-        "[Alone(Assign(Add, Local(0), Constant(1))), \
-         Alone(Assign(ShiftLeft, Local(0), Constant(2))), \
-         Alone(Assign(ShiftRight, Local(0), Constant(3))), \
-         Alone(Assign(BitAnd, Local(0), Constant(4))), \
-         Alone(Assign(BitXor, Local(0), Constant(5))), \
-         Alone(Assign(BitOr, Local(0), Constant(6)))]",
+        "[ExpressionStatement(Assign(Add, Local(0), Constant(1))), \
+         ExpressionStatement(Assign(ShiftLeft, Local(0), Constant(2))), \
+         ExpressionStatement(Assign(ShiftRight, Local(0), Constant(3))), \
+         ExpressionStatement(Assign(BitAnd, Local(0), Constant(4))), \
+         ExpressionStatement(Assign(BitXor, Local(0), Constant(5))), \
+         ExpressionStatement(Assign(BitOr, Local(0), Constant(6)))]",
     ),
     (
         b"main(){scan(1, rand(2), a++); main();}",
-        "[Alone(Call(Intrinsic(Scan), \
+        "[ExpressionStatement(Call(Intrinsic(Scan), \
          [Constant(1), Call(Intrinsic(Rand), [Constant(2)]), Postfix(Add, Local(0))])), \
-         Alone(Call(Function(0), []))]",
+         ExpressionStatement(Call(Function(0), []))]",
     ),
     // an `else` belongs to the nearest `if`
     (
         b"main(){if(1) if(2) 3; else 4;}",
-        "[When(Constant(1), [Choose(Constant(2), [Alone(Constant(3))], [Alone(Constant(4))])])]",
+        "[IfStatement(Constant(1), [IfElseStatement(Constant(2), [ExpressionStatement(Constant(3))], [ExpressionStatement(Constant(4))])])]",
     ),
     (
         b"main(){if(1) {2; {3;} ;} else {} while(a = 4) ;}",
-        "[Choose(Constant(1), [Alone(Constant(2)), Alone(Constant(3))], []), \
+        "[IfElseStatement(Constant(1), [ExpressionStatement(Constant(2)), ExpressionStatement(Constant(3))], []), \
          While(Assign(Set, Local(0), Constant(4)), [])]",
     ),
     (
@@ -101,20 +101,20 @@ const HIDDEN: &[u8] = b"int x; main(){x; {int x; x;} x;}";
 const HIDDEN_MADE: &[&str] = &[
     "externals x",
     "main x: Function { number: 0, parameters: 0, variables: 1, body: [\
-     Alone(Variable(External(0))), Alone(Variable(Local(0))), Alone(Variable(Local(0)))] }",
+     ExpressionStatement(Variable(External(0))), ExpressionStatement(Variable(Local(0))), ExpressionStatement(Variable(Local(0)))] }",
 ];
 
 /// What the parse of `main(){x;} int x;` makes.
 const LATER_MADE: &[&str] = &[
     "externals x",
-    "main x: Function { number: 0, parameters: 0, variables: 1, body: [Alone(Variable(Local(0)))] }",
+    "main x: Function { number: 0, parameters: 0, variables: 1, body: [ExpressionStatement(Variable(Local(0)))] }",
 ];
 
 /// What the parse of `main(){g(); f();} f(){} g(){}` makes.
 const MENTIONED_MADE: &[&str] = &[
     "externals",
     "main: Function { number: 0, parameters: 0, variables: 0, body: [\
-     Alone(Call(Function(1), [])), Alone(Call(Function(2), []))] }",
+     ExpressionStatement(Call(Function(1), [])), ExpressionStatement(Call(Function(2), []))] }",
     "f: Function { number: 2, parameters: 0, variables: 0, body: [] }",
     "g: Function { number: 1, parameters: 0, variables: 0, body: [] }",
 ];

@@ -1,11 +1,12 @@
 -- What a heading derives, call by call.
 use Rattle.std.proofs.Common.{◌≡◌, ℕ, List, [], ◌∷◌, refl, false}
-use Rattle.tokens.specs.declared.lexemes.Mark.TheVariants as mark
-use Rattle.tokens.specs.declared.lexemes.Token.{Token}
-use Rattle.tokens.specs.declared.lexemes.Token.TheVariants as token
-use Rattle.grammar.specs.Grammar.{Item, AName, Defined, Exactly, More, Parameter, ParameterTypes, Parameters, Part, is_fault}
+use Rattle.tokens.specs.declared.located_tokens.Punctuator.TheVariants as punctuator
+use Rattle.tokens.specs.declared.located_tokens.Token.{Token}
+use Rattle.tokens.specs.declared.located_tokens.Token.TheVariants as token
+use Rattle.grammar.specs.Grammar.{AName, Defined, Exactly, More, Parameter, ParameterTypes, Parameters, Part, is_fault}
+use Rattle.parsing.specs.Declarations.{heading_items}
 use Rattle.parsing.specs.Position.{Place, next_at}
-use Rattle.parsing.specs.Stretch.{DerivesItem}
+use Rattle.parsing.specs.Segment.{DerivesItem}
 use Rattle.parsing.proofs.ListLaws.{Gives, Goes, item_on, replaces, starts}
 
 pub parameters_more : (bytes : List ℕ) (t : Token) → t ≡ token.Name bytes → Gives Parameters t (AName Parameter ∷ Part (More Parameter) ∷ [])
@@ -30,25 +31,21 @@ parameter_first at there bytes sound is b =
 pub no_parameters : (at : Place) → is_fault (next_at at).token ≡ false → ((bytes : List ℕ) → (next_at at).token ≡ token.Name bytes → ⊥) → Goes (Part Parameters ∷ []) [] at at
 no_parameters at sound other depth = replaces at depth Parameters [] sound (parameters_end (next_at at).token other)
 
--- what stands in front of a function's block
-abbrev pub heading_items : List Item
-heading_items = AName Defined ∷ Exactly mark.OpenRound ∷ Part Parameters ∷ Exactly mark.CloseRound ∷ Part ParameterTypes ∷ []
-
 pub heading_named : (at there : Place) → DerivesItem (AName Defined) [] [] at there →
-    Goes heading_items (Exactly mark.OpenRound ∷ Part Parameters ∷ Exactly mark.CloseRound ∷ Part ParameterTypes ∷ []) at there
-heading_named at there b = starts (AName Defined) (Exactly mark.OpenRound ∷ Part Parameters ∷ Exactly mark.CloseRound ∷ Part ParameterTypes ∷ []) at there (λ stack. refl) b
+    Goes heading_items (Exactly punctuator.OpenRound ∷ Part Parameters ∷ Exactly punctuator.CloseRound ∷ Part ParameterTypes ∷ []) at there
+heading_named at there b = starts (AName Defined) (Exactly punctuator.OpenRound ∷ Part Parameters ∷ Exactly punctuator.CloseRound ∷ Part ParameterTypes ∷ []) at there (λ stack. refl) b
 
-pub heading_open : (at p q : Place) → DerivesItem (AName Defined) [] [] at p → DerivesItem (Exactly mark.OpenRound) [] [] p q →
-    Goes heading_items (Part Parameters ∷ Exactly mark.CloseRound ∷ Part ParameterTypes ∷ []) at q
+pub heading_open : (at p q : Place) → DerivesItem (AName Defined) [] [] at p → DerivesItem (Exactly punctuator.OpenRound) [] [] p q →
+    Goes heading_items (Part Parameters ∷ Exactly punctuator.CloseRound ∷ Part ParameterTypes ∷ []) at q
 heading_open at p q a b =
-    item_on heading_items (Exactly mark.OpenRound) (Part Parameters ∷ Exactly mark.CloseRound ∷ Part ParameterTypes ∷ []) at p q (λ stack. refl) (heading_named at p a) b
+    item_on heading_items (Exactly punctuator.OpenRound) (Part Parameters ∷ Exactly punctuator.CloseRound ∷ Part ParameterTypes ∷ []) at p q (λ stack. refl) (heading_named at p a) b
 
-pub heading_listed : (at p q r : Place) → DerivesItem (AName Defined) [] [] at p → DerivesItem (Exactly mark.OpenRound) [] [] p q → DerivesItem (Part Parameters) [] [] q r →
-    Goes heading_items (Exactly mark.CloseRound ∷ Part ParameterTypes ∷ []) at r
+pub heading_listed : (at p q r : Place) → DerivesItem (AName Defined) [] [] at p → DerivesItem (Exactly punctuator.OpenRound) [] [] p q → DerivesItem (Part Parameters) [] [] q r →
+    Goes heading_items (Exactly punctuator.CloseRound ∷ Part ParameterTypes ∷ []) at r
 heading_listed at p q r a b d =
-    item_on heading_items (Part Parameters) (Exactly mark.CloseRound ∷ Part ParameterTypes ∷ []) at q r (λ stack. refl) (heading_open at p q a b) d
+    item_on heading_items (Part Parameters) (Exactly punctuator.CloseRound ∷ Part ParameterTypes ∷ []) at q r (λ stack. refl) (heading_open at p q a b) d
 
-pub heading_closed : (at p q r s : Place) → DerivesItem (AName Defined) [] [] at p → DerivesItem (Exactly mark.OpenRound) [] [] p q → DerivesItem (Part Parameters) [] [] q r →
-    DerivesItem (Exactly mark.CloseRound) [] [] r s → Goes heading_items (Part ParameterTypes ∷ []) at s
+pub heading_closed : (at p q r s : Place) → DerivesItem (AName Defined) [] [] at p → DerivesItem (Exactly punctuator.OpenRound) [] [] p q → DerivesItem (Part Parameters) [] [] q r →
+    DerivesItem (Exactly punctuator.CloseRound) [] [] r s → Goes heading_items (Part ParameterTypes ∷ []) at s
 heading_closed at p q r s a b d e =
-    item_on heading_items (Exactly mark.CloseRound) (Part ParameterTypes ∷ []) at r s (λ stack. refl) (heading_listed at p q r a b d) e
+    item_on heading_items (Exactly punctuator.CloseRound) (Part ParameterTypes ∷ []) at r s (λ stack. refl) (heading_listed at p q r a b d) e

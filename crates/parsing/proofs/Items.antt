@@ -2,50 +2,50 @@
 use Rattle.std.proofs.Common.{◌≡◌, ℕ, List, [], ◌∷◌, refl, true, false}
 use Rattle.std.specs.Prelude.{Option, Some}
 use Rattle.tokens.specs.Reading.{Reading}
-use Rattle.tokens.specs.declared.lexemes.Lexeme.{Lexeme}
-use Rattle.tokens.specs.declared.lexemes.Mark.{Mark}
-use Rattle.tokens.specs.declared.lexemes.Token.TheVariants as token
-use Rattle.tokens.specs.declared.lexemes.Word.{Word}
+use Rattle.tokens.specs.declared.located_tokens.LocatedToken.{LocatedToken}
+use Rattle.tokens.specs.declared.located_tokens.Punctuator.{Punctuator}
+use Rattle.tokens.specs.declared.located_tokens.Token.TheVariants as token
+use Rattle.tokens.specs.declared.located_tokens.Word.{Word}
 use Rattle.grammar.specs.declared.diagnostics.Code.{Code}
 use Rattle.grammar.specs.declared.diagnostics.ParseFault.{ParseFault}
 use Rattle.grammar.specs.Compiled.{diagnostic}
 use Rattle.grammar.specs.Derivation.{Value, name_of_token, of_name}
 use Rattle.grammar.specs.Faults.{misfit_code}
-use Rattle.grammar.specs.Grammar.{Exactly, AWord, AName, Role, is_mark, is_word, is_fault}
+use Rattle.grammar.specs.Grammar.{Exactly, AWord, AName, Role, is_punctuator, is_word, is_fault}
 use Rattle.grammar.specs.Naming.{Knows, RefusesName}
 use Rattle.grammar.specs.Scope.{Scope}
-use Rattle.grammar.proofs.Firsts.{name_fails, no_mark, no_name, no_word}
-use Rattle.grammar.proofs.Steps.{mark, name, word}
+use Rattle.grammar.proofs.Firsts.{name_fails, no_punctuator, no_name, no_word}
+use Rattle.grammar.proofs.Steps.{punctuator, name, word}
 use Rattle.parsing.specs.declared.roles.Declared.{Declared}
 use Rattle.parsing.specs.declared.roles.Declared.TheVariants as kind
 use Rattle.parsing.specs.Position.{Place, place, next_at, scope_at}
 use Rattle.parsing.specs.Roles.{role_of}
 use Rattle.parsing.specs.Stopping.{Stop, stop_with}
-use Rattle.parsing.specs.Stretch.{IsNearTo, DerivesItem, FailsItem, GoesPast, IsNoName, Refused, StopsAt}
-use Rattle.parsing.proofs.Stretches.{Leads, fails_at_next, past, stops}
+use Rattle.parsing.specs.Segment.{IsNearTo, DerivesItem, FailsItem, GoesPast, IsNoName, Refused, StopsAt}
+use Rattle.parsing.proofs.Segments.{Leads, fails_at_next, past, stops}
 
-mark_leads : (lexeme : Lexeme) (m : Mark) (depth : ℕ) (known : Scope) (rest : List Lexeme) → is_fault lexeme.token ≡ false → is_mark m lexeme.token ≡ true →
-    Leads depth (Exactly m ∷ []) [] [] [] known known (lexeme ∷ rest) rest
-mark_leads lexeme m depth known rest sound fits = record { passes = λ profile stack values functions depths. mark profile m stack (lexeme ∷ rest) values known functions sound fits }
+punctuator_leads : (located_token : LocatedToken) (m : Punctuator) (depth : ℕ) (known : Scope) (rest : List LocatedToken) → is_fault located_token.token ≡ false → is_punctuator m located_token.token ≡ true →
+    Leads depth (Exactly m ∷ []) [] [] [] known known (located_token ∷ rest) rest
+punctuator_leads located_token m depth known rest sound fits = record { passes = λ profile stack values functions depths. punctuator profile m stack (located_token ∷ rest) values known functions sound fits }
 
-pub mark_derives : (reading : Reading) (known : Scope) (more : Option (List ℕ)) (there : Place) (m : Mark) → is_fault reading.next.token ≡ false → is_mark m reading.next.token ≡ true →
+pub punctuator_derives : (reading : Reading) (known : Scope) (more : Option (List ℕ)) (there : Place) (m : Punctuator) → is_fault reading.next.token ≡ false → is_punctuator m reading.next.token ≡ true →
     GoesPast (place (record { reading = reading; scope = known }) more) there → DerivesItem (Exactly m) [] [] (place (record { reading = reading; scope = known }) more) there
-mark_derives reading known more there m sound fits goes depth =
-    past reading known known more there depth (Exactly m ∷ []) [] [] [] goes (λ rest b. mark_leads reading.next m depth known rest sound fits)
+punctuator_derives reading known more there m sound fits goes depth =
+    past reading known known more there depth (Exactly m ∷ []) [] [] [] goes (λ rest b. punctuator_leads reading.next m depth known rest sound fits)
 
-pub mark_stops : (reading : Reading) (known : Scope) (more : Option (List ℕ)) (m : Mark) → is_fault reading.next.token ≡ false → is_mark m reading.next.token ≡ true → (d : Stop) →
+pub punctuator_stops : (reading : Reading) (known : Scope) (more : Option (List ℕ)) (m : Punctuator) → is_fault reading.next.token ≡ false → is_punctuator m reading.next.token ≡ true → (d : Stop) →
     StopsAt (place (record { reading = reading; scope = known }) more) d → FailsItem (Exactly m) (place (record { reading = reading; scope = known }) more) d
-mark_stops reading known more m sound fits d stop depth =
-    stops reading known known more d depth (Exactly m ∷ []) [] [] [] (λ rest b. mark_leads reading.next m depth known rest sound fits) stop
+punctuator_stops reading known more m sound fits d stop depth =
+    stops reading known known more d depth (Exactly m ∷ []) [] [] [] (λ rest b. punctuator_leads reading.next m depth known rest sound fits) stop
 
-pub mark_misfits : {n : ℕ} (at : Place) (m : Mark) → IsNearTo at n → is_fault (next_at at).token ≡ false → is_mark m (next_at at).token ≡ false →
+pub punctuator_misfits : {n : ℕ} (at : Place) (m : Punctuator) → IsNearTo at n → is_fault (next_at at).token ≡ false → is_punctuator m (next_at at).token ≡ false →
     FailsItem (Exactly m) at (stop_with (Some (diagnostic (next_at at).line (misfit_code (next_at at).token))) n)
-mark_misfits at m near sound misses depth =
-    fails_at_next depth (Exactly m ∷ []) [] at _ _ near (λ tail b profile stack values functions depths. no_mark profile m stack (next_at at ∷ tail) values (scope_at at) functions sound misses)
+punctuator_misfits at m near sound misses depth =
+    fails_at_next depth (Exactly m ∷ []) [] at _ _ near (λ tail b profile stack values functions depths. no_punctuator profile m stack (next_at at ∷ tail) values (scope_at at) functions sound misses)
 
-word_leads : (lexeme : Lexeme) (w : Word) (depth : ℕ) (known : Scope) (rest : List Lexeme) → is_fault lexeme.token ≡ false → is_word w lexeme.token ≡ true →
-    Leads depth (AWord w ∷ []) [] [] [] known known (lexeme ∷ rest) rest
-word_leads lexeme w depth known rest sound fits = record { passes = λ profile stack values functions depths. word profile w stack (lexeme ∷ rest) values known functions sound fits }
+word_leads : (located_token : LocatedToken) (w : Word) (depth : ℕ) (known : Scope) (rest : List LocatedToken) → is_fault located_token.token ≡ false → is_word w located_token.token ≡ true →
+    Leads depth (AWord w ∷ []) [] [] [] known known (located_token ∷ rest) rest
+word_leads located_token w depth known rest sound fits = record { passes = λ profile stack values functions depths. word profile w stack (located_token ∷ rest) values known functions sound fits }
 
 pub word_derives : (reading : Reading) (known : Scope) (more : Option (List ℕ)) (there : Place) (w : Word) → is_fault reading.next.token ≡ false → is_word w reading.next.token ≡ true →
     GoesPast (place (record { reading = reading; scope = known }) more) there → DerivesItem (AWord w) [] [] (place (record { reading = reading; scope = known }) more) there
@@ -64,12 +64,12 @@ word_misfits at w near sound misses depth =
 
 -- Names.
 
-name_leads : (lexeme : Lexeme) (role : Role) (bytes : List ℕ) (depth : ℕ) (known learnt : Scope) (rest : List Lexeme) → lexeme.token ≡ token.Name bytes → Knows role bytes lexeme.line known learnt →
-    Leads depth (AName role ∷ []) [] [] (of_name role bytes known) known learnt (lexeme ∷ rest) rest
-name_leads lexeme role bytes depth known learnt rest is knows = record {
+name_leads : (located_token : LocatedToken) (role : Role) (bytes : List ℕ) (depth : ℕ) (known learnt : Scope) (rest : List LocatedToken) → located_token.token ≡ token.Name bytes → Knows role bytes located_token.line known learnt →
+    Leads depth (AName role ∷ []) [] [] (of_name role bytes known) known learnt (located_token ∷ rest) rest
+name_leads located_token role bytes depth known learnt rest is knows = record {
   passes = λ profile stack values functions depths.
-      let found : name_of_token lexeme.token ≡ Some bytes = rw is refl in
-      rw knows.behind (name profile role bytes stack (lexeme ∷ rest) values known functions (rw is refl) found (knows.clean (lexeme ∷ rest)));
+      let found : name_of_token located_token.token ≡ Some bytes = rw is refl in
+      rw knows.behind (name profile role bytes stack (located_token ∷ rest) values known functions (rw is refl) found (knows.clean (located_token ∷ rest)));
 }
 
 -- a name was matched in its role

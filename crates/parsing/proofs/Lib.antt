@@ -1,4 +1,5 @@
-pub mod Stretches
+pub mod Advances
+pub mod Segments
 pub mod Items
 pub mod Names
 pub mod Parts

@@ -5,7 +5,7 @@ use Rattle.std.proofs.lemmas.List.{length-map, length-append, length-set}
 use Rattle.std.proofs.lemmas.List.Quantifiers.{position-Some}
 use Rattle.std.specs.Str.{bytes_eq}
 use Rattle.std.specs.Prelude.{nat_le, if◌then◌else◌}
-use Rattle.tokens.specs.declared.lexemes.Lexeme.{Lexeme}
+use Rattle.tokens.specs.declared.located_tokens.LocatedToken.{LocatedToken}
 use Rattle.grammar.specs.declared.diagnostics.Code.{Code}
 use Rattle.grammar.specs.declared.diagnostics.Code.TheVariants as code
 use Rattle.grammar.specs.Faults.{Fault, fault, no_room, only_if, most_names}
@@ -19,13 +19,13 @@ use Rattle.parsing.specs.declared.roles.Declared.TheVariants as kind
 use Rattle.parsing.specs.Defining.{IsWithin, StaysAt, StaysIn, StaysInBody}
 use Rattle.parsing.specs.Position.{Position}
 use Rattle.parsing.specs.Roles.{role_of}
-use Rattle.parsing.specs.Stretch.{BeginsDefinition}
+use Rattle.parsing.specs.Segment.{BeginsDefinition}
 
 longer : {A : Type 0} (xs : List A) (x : A) → length (xs ++ x ∷ []) ≡ length xs + 1
 longer xs x = length-append xs (x ∷ [])
 
 -- a new name that has no fault found room
-found_room : (n : ℕ) (c : Code) (rest : List Lexeme) → no_room true n c rest ≡ [] → n < 64
+found_room : (n : ℕ) (c : Code) (rest : List LocatedToken) → no_room true n c rest ≡ [] → n < 64
 unfolding most_names
 found_room n c rest clean = by (nat_le 64 n) refl clean
   where
@@ -33,7 +33,7 @@ found_room n c rest clean = by (nat_le 64 n) refl clean
     by true e h = absurd (cc)
     by false e h = grind (arith, nat_tests)
 
-with_variable_within : (new : Bool) (name : List ℕ) (scope : Scope) (c : Code) (rest : List Lexeme) → no_room new (length scope.current.variables) c rest ≡ [] →
+with_variable_within : (new : Bool) (name : List ℕ) (scope : Scope) (c : Code) (rest : List LocatedToken) → no_room new (length scope.current.variables) c rest ≡ [] →
     IsWithin scope → IsWithin (if new then with_variable name scope else scope)
 with_variable_within false name scope c rest clean w = w
 with_variable_within true name scope c rest clean w =
@@ -41,7 +41,7 @@ with_variable_within true name scope c rest clean w =
     let more : length (scope.current.variables ++ name ∷ []) ≡ length scope.current.variables + 1 = longer _ name in
     record { functions = w.functions; parameters = omega (arith, more, w.parameters); variables = omega (arith, more, small) }
 
-with_parameter_within : (new : Bool) (name : List ℕ) (scope : Scope) (rest : List Lexeme) (d : Fault) →
+with_parameter_within : (new : Bool) (name : List ℕ) (scope : Scope) (rest : List LocatedToken) (d : Fault) →
     (if new then no_room true (length scope.current.variables) code.TooManyVariables rest else d ∷ []) ≡ [] →
     IsWithin scope → IsWithin (if new then with_parameter name scope else scope)
 with_parameter_within false name scope rest d clean w = w
@@ -54,7 +54,7 @@ with_external_within : (new : Bool) (name : List ℕ) (scope : Scope) → IsWith
 with_external_within false name scope w = w
 with_external_within true name scope w = record { functions = w.functions; parameters = w.parameters; variables = w.variables }
 
-functions_within : (new : Bool) (name : List ℕ) (line : ℕ) (scope : Scope) (c : Code) (rest : List Lexeme) → no_room new (length scope.functions) c rest ≡ [] →
+functions_within : (new : Bool) (name : List ℕ) (line : ℕ) (scope : Scope) (c : Code) (rest : List LocatedToken) → no_room new (length scope.functions) c rest ≡ [] →
     IsWithin scope → IsWithin (if new then with_new_function name line scope else scope)
 functions_within false name line scope c rest clean w = w
 functions_within true name line scope c rest clean w =
@@ -88,7 +88,7 @@ mentioned name line scope other = by (function_number name scope) refl
     by (Some n) e = rw (other, e) (number_below name scope n e)
 
 -- the definition of a function that has no fault begins
-begun_within : (own begun new : Bool) (name : List ℕ) (line : ℕ) (scope : Scope) (c : Code) (rest : List Lexeme) (d e : Fault) →
+begun_within : (own begun new : Bool) (name : List ℕ) (line : ℕ) (scope : Scope) (c : Code) (rest : List LocatedToken) (d e : Fault) →
     (if own then d ∷ [] else (if begun then e ∷ [] else no_room new (length scope.functions) c rest)) ≡ [] →
     IsWithin scope → length (if new then with_new_function name line scope else scope).functions ≤ 64
 begun_within own begun new name line scope c rest d e clean w =

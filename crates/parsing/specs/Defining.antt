@@ -1,14 +1,16 @@
 -- What stays true of the names known while a function is defined.
 use Rattle.std.specs.Prelude.{◌≡◌, ◌≤◌, length}
+use Rattle.grammar.specs.declared.pools.TheConstants.{MOST_NAMES}
 use Rattle.grammar.specs.Scope.{Scope}
 use Rattle.parsing.specs.declared.roles.Declared.{Declared}
 use Rattle.parsing.specs.declared.roles.Declared.TheVariants as kind
 
--- the functions mentioned and the variables of the function are within their limits, and its parameters are among its variables
+-- the functions mentioned and the variables of the function are within their limits, and its parameters are among its
+-- variables
 pub record IsWithin (scope : Scope) : Type 0 where
-  pub functions : length scope.functions ≤ 64
+  pub functions : length scope.functions ≤ MOST_NAMES
   pub parameters : scope.current.parameters ≤ length scope.current.variables
-  pub variables : length scope.current.variables ≤ 64
+  pub variables : length scope.current.variables ≤ MOST_NAMES
 
 -- the same function is being defined, none that was mentioned is lost, and limits that were kept are kept
 pub record StaysIn (old new : Scope) : Type 0 where

@@ -2,6 +2,8 @@ pub mod Position
 pub mod Defining
 pub mod Roles
 pub mod Stopping
-pub mod Stretch
+pub mod Segment
 pub mod Room
+pub mod Advancing
+pub mod Matching
 pub mod Declarations

@@ -2,18 +2,23 @@
 use Rattle.std.specs.Prelude.{ℕ, ◌+◌, ◌-◌, ◌*◌, ◌≡◌, ◌≤◌, ◌∷◌, true}
 use Rattle.grammar.specs.Building.{Meaning, StandsOpen}
 use Rattle.grammar.specs.Following.{Open, AValue, Opened, Origin, is_place, open_count}
+use Rattle.parsing.specs.declared.parser.TheConstants.{MOST_LEVELS}
+
+-- the most that may be open at once
+abbrev pub open_limit : ℕ
+open_limit = 200
 
 -- the most that the operators from a level on can open, where so many levels of nesting are taken:
 -- each further level of nesting opens a call and the right sides of && and || at most
 abbrev pub room : (depth level : ℕ) → ℕ
-room depth level = 3 * (64 - depth) + (3 - level)
+room depth level = 3 * (MOST_LEVELS - depth) + (3 - level)
 
 -- a list is stood for that leaves something open, and room for so many more
 pub record HasRoom (before : Meaning) (count : ℕ) : Type 0 where
   pub outer : Open
   pub opened : Opened
   pub stands : StandsOpen before (outer ∷ opened)
-  pub few : open_count (outer ∷ opened) + count ≤ 200
+  pub few : open_count (outer ∷ opened) + count ≤ open_limit
 
 -- the same with a value that is the left side of an operator
 pub record HasLeft (before : Meaning) (count : ℕ) : Type 0 where
@@ -21,11 +26,11 @@ pub record HasLeft (before : Meaning) (count : ℕ) : Type 0 where
   pub outer : Open
   pub opened : Opened
   pub stands : StandsOpen before (AValue origin ∷ outer ∷ opened)
-  pub few : open_count (outer ∷ opened) + count ≤ 200
+  pub few : open_count (outer ∷ opened) + count ≤ open_limit
 
 -- the same where a statement may stand
 pub record HasPlace (before : Meaning) (count : ℕ) : Type 0 where
   pub opened : Opened
   pub place : is_place opened ≡ true
   pub stands : StandsOpen before opened
-  pub few : open_count opened + count ≤ 200
+  pub few : open_count opened + count ≤ open_limit

@@ -1,7 +1,8 @@
 -- Where a derivation stops: at its first fault, or where the device failed.
 use Rattle.std.specs.Prelude.{ℕ, ◌+◌, ◌≡◌, ◌≤◌, List, ◌++◌, Option, Some, None, IfSome, length}
 use Rattle.tokens.specs.Reading.{reach_of}
-use Rattle.tokens.specs.declared.lexemes.Lexeme.{Lexeme}
+use Rattle.tokens.specs.declared.limits.TheConstants.{WINDOW}
+use Rattle.tokens.specs.declared.located_tokens.LocatedToken.{LocatedToken}
 use Rattle.grammar.specs.declared.diagnostics.Diagnostic.{Diagnostic}
 use Rattle.grammar.specs.Derivation.{State}
 use Rattle.grammar.specs.Faults.{Fault}
@@ -18,17 +19,18 @@ stop_with fault taken = record { fault = fault; taken = taken }
 
 -- how many bytes may have been taken past what decides: a window where a fault is told, none where the device failed
 abbrev pub slack : Option Diagnostic → ℕ
-slack (Some d) = 4096
+slack (Some d) = WINDOW
 slack None = 0
 
 -- no fault of the derivation stands before these last tokens of the source
-pub record NoneBefore (profile : Profile) (s : State) (rest : List Lexeme) : Type 0 where
+pub record NoneBefore (profile : Profile) (s : State) (rest : List LocatedToken) : Type 0 where
   pub each : (f : Fault) → IsFault profile s f → length f.rest ≤ length rest
 
--- The derivation from s stops at these of its tokens. The fault that is told is its first, and no more bytes were taken than decide that.
+-- The derivation from s stops at these of its tokens. The fault that is told is its first, and no more bytes were taken
+-- than decide that.
 pub record Stops (profile : Profile) (s : State) (stop : Stop) : Type 0 where
-  pub passed : List Lexeme
-  pub rest : List Lexeme
+  pub passed : List LocatedToken
+  pub rest : List LocatedToken
   pub is : s.rest ≡ passed ++ rest
   pub none_before : NoneBefore profile s rest
   pub fails : IfSome stop.fault (Fails profile s)

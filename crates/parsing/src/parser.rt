@@ -1,11 +1,10 @@
-//! A parser's state: a cursor over the tokens and the names known, with the calls that go past one token.
+//! A parser's state: a cursor over the tokens of a device and the names known, with the calls that consume one token.
 
-ghost use Rattle.std.specs.Prelude.{◌≡◌, ◌-◌, drop, ◌<◌, ◌≤◌, ◌^◌, ◌∷◌, [], ℕ, length, is_some, false, true, OnOk, IfOk, IfErr};
+ghost use Rattle.std.specs.Prelude.{ℕ, ◌≡◌, ◌<◌, ◌≤◌, [], ◌∷◌, drop, length, false, true, is_some, OnOk, IfOk, IfErr};
 ghost use Rattle.std.specs.Option.{option_map};
-ghost use Rattle.tokens.specs.Reading.{IsNear, remaining, taken};
+ghost use Rattle.tokens.specs.Reading.{shown, taken};
 ghost use Rattle.tokens.specs.Tokens.{FitsToken, is_last, tokens};
-ghost use Rattle.tokens.specs.Window.{Takes};
-ghost use Rattle.tokens.specs.declared.lexemes.Token.TheVariants as token;
+ghost use Rattle.tokens.specs.declared.located_tokens.Token.TheVariants as token;
 ghost use Rattle.grammar.specs.Compiled.{diagnostic, main_name};
 ghost use Rattle.grammar.specs.Derivation.{ACall, AVariable, name_of_token};
 ghost use Rattle.grammar.specs.Faults.{misfit_code};
@@ -14,89 +13,118 @@ ghost use Rattle.grammar.specs.Naming.{Knows, RefusesName, line_of_undefined};
 ghost use Rattle.grammar.specs.Resolved.{IsCallable, IsVariable};
 ghost use Rattle.grammar.specs.Scope.{end_definition, function_number, no_names};
 ghost use Rattle.grammar.specs.Tree.{NoMore};
+ghost use Rattle.parsing.specs.Advancing.{IsReadable, most_failures};
+ghost use Rattle.parsing.specs.Position.{with_scope};
 ghost use Rattle.parsing.specs.Roles.{role_of};
+ghost use Rattle.parsing.specs.Segment.{Counts, StopsOpening};
 
 use crate::roles::Declared;
-use crate::tests_of_tokens::{is_mark, is_word};
-use grammar::{Callee, Code, Diagnostic, ParseFault, Pools, Scope, Var, code_of};
+use crate::token_predicates::{is_punctuator, is_word};
+use grammar::{Callee, Code, Diagnostic, MOST_NAMES, ParseFault, Pools, Scope, Var, code_of};
 use std::marker::Model;
-use tokens::{Cursor, Feed, Lexeme, Mark, Name, Token, Word};
+use tokens::{Cursor, Feed, LocatedToken, Name, Punctuator, Token, Word};
 
 /// The most levels that may be open at once.
 pub const MOST_LEVELS: u8 = 64;
 
-/// The next tokens of a source, none of which that was passed or is next is a fault, and the names known there.
+/// The next tokens of a device's bytes, and the names known there. Neither the next token nor one that was consumed is
+/// a lexical error.
 ///
-/// The device is passed beside it at each call. After an `Err` a parser is of no more use.
+/// After an `Err` a parser is of no more use.
 #[derive(Drop)]
-pub struct Parser {
+pub struct Parser<'a, F: Feed> {
     cursor: Cursor,
     scope: Scope,
+    feed: &'a mut F,
 }
 
-impl Model for Parser {
+impl<'a, F: Feed> Model for Parser<'a, F> {
     ghost use Rattle.std.specs.Prelude.{◌≡◌, false};
     ghost use Rattle.grammar.specs.Grammar.{is_fault};
-    ghost use Rattle.parsing.specs.Position.{Position};
+    ghost use Rattle.parsing.specs.Position.{Standing, place};
 
-    ghost Value = { Position };
+    ghost Value = { Standing };
 
-    ghost view = { λ p. record { reading = p.cursor; scope = p.scope } };
+    ghost view = { λ p. record {
+      place = place (record { reading = p.cursor; scope = p.scope }) (F.to_come p.feed.now);
+      failures = F.failures p.feed.now;
+      device = p.feed.ghost_name;
+    } };
 
     ghost invariant = { λ p. is_fault p.cursor.next.token ≡ false };
 }
 
-impl Parser {
-    ghost use Rattle.parsing.specs.Defining.{StaysAt, StaysInBody};
-    ghost use Rattle.parsing.specs.Position.{place, tokens_at};
-    ghost use Rattle.parsing.specs.Stretch.{BeginsDefinition, Counts, DerivesItem, FailsItem, GoesPast, IsNoName, Refused, StopsAt, StopsOpening};
+/// Reads the first tokens of a device's bytes, for a parser.
+///
+/// # Errors
+/// `Source` if the first token is a lexical error, `Device` if the device failed.
+pub fn first<F: Feed>(feed: &mut F) -> Result<Cursor, ParseFault>
+    requires count { F.failures feed.old < most_failures }
+    ensures tokens { IfOk result (λ cursor.
+        shown cursor (F.to_come feed.new) ≡ option_map tokens (F.to_come feed.old)) }
+    ensures ready { IfOk result IsReadable }
+    ensures refused { IfErr result (StopsOpening (F.to_come feed.old) (F.to_come feed.new)) }
+    ensures took { IfOk result (λ cursor.
+        F.to_come feed.new ≡ option_map (drop (taken cursor)) (F.to_come feed.old)) }
+    ensures counted { Counts result (F.failures feed.old) (F.failures feed.new) }
+{
+    let cursor = Cursor::open(feed)?;
+    if let Token::Fault(_) = cursor.next().token {
+        return Err(misfit(cursor.next()));
+    }
+    Ok(cursor)
+}
 
-    /// A parser at the first token of a device's bytes.
-    pub fn open<F: Feed>(feed: &mut F) -> Result<Parser, ParseFault>
-        requires count { F.failures feed.old < 2 ^ 64 - 1 }
-        ensures tokens { IfOk result (λ parser. tokens_at (place parser (F.to_come feed.new)) ≡ option_map tokens (F.to_come feed.old)) }
-        ensures names { IfOk result (λ parser. parser.scope ≡ no_names) }
-        ensures refused { IfErr result (StopsOpening (F.to_come feed.old) (F.to_come feed.new)) }
-        ensures near { IfOk result (λ parser. IsNear parser.reading) }
-        ensures took { IfOk result (λ parser. F.to_come feed.new ≡ option_map (drop (taken parser.reading)) (F.to_come feed.old)) }
-        ensures counted { Counts result (F.failures feed.old) (F.failures feed.new) }
+impl<'a, F: Feed> Parser<'a, F> {
+    ghost use Rattle.parsing.specs.Advancing.{Advances, IsReady};
+    ghost use Rattle.parsing.specs.Defining.{StaysAt, StaysInBody};
+    ghost use Rattle.parsing.specs.Matching.{Consumes, Matches};
+    ghost use Rattle.parsing.specs.Position.{Position, Standing, next_at, place, scope_of, token_after, token_of};
+    ghost use Rattle.parsing.specs.Segment.{BeginsDefinition, IsNoName};
+
+    /// Makes a parser at the first token of a device, which knows no names.
+    ///
+    /// `cursor` is what `first` gave for the same device.
+    pub fn new(cursor: Cursor, feed: &'a mut F) -> Parser<'a, F>
+        requires ready { IsReadable cursor }
+        ensures place { result.place ≡ place (record { reading = cursor; scope = no_names }) (F.to_come feed.old) }
+        ensures failures { result.failures ≡ F.failures feed.old }
+        ensures device { result.device ≡ feed.entry.ghost_name }
     {
-        let cursor = Cursor::open(feed)?;
-        if let Token::Fault(_) = cursor.next().token {
-            return Err(misfit(cursor.next()));
-        }
-        Ok(Parser {
+        Parser {
             cursor,
             scope: Scope::new(),
-        })
+            feed,
+        }
     }
 
-    /// The next token.
-    pub fn next(&self) -> &Lexeme
-        ensures value { result.now ≡ self.now.reading.next }
+    /// Returns the next token.
+    pub fn next(&self) -> &LocatedToken
+        ensures value { result.now ≡ next_at self.now.place }
         ensures fits { FitsToken result.now.token }
         ensures sound { is_fault result.now.token ≡ false }
     {
         self.cursor.next()
     }
 
-    /// The token behind the next one. Where the next is the end, there is none, and what this gives says nothing.
+    /// Returns the token after the next one. If the next is the end, there is none, and the result says nothing.
     pub fn after(&self) -> &Token
-        ensures value { result.now ≡ self.now.reading.after.token }
+        ensures value { result.now ≡ token_after self.now }
     {
         &self.cursor.after().token
     }
 
-    /// The refusal of the next token, which doesn't fit.
+    /// Returns the refusal of the next token, which doesn't fit.
     pub fn misfit(&self) -> ParseFault
-        ensures { result ≡ ParseFault.Source (diagnostic self.now.reading.next.line (misfit_code self.now.reading.next.token)) }
+        ensures { result ≡
+            ParseFault.Source (diagnostic (next_at self.now.place).line (misfit_code (token_of self.now))) }
     {
         misfit(self.cursor.next())
     }
 
-    /// The refusal of the next token for this fault.
+    /// Returns the refusal of the next token for this fault.
     pub fn refusal(&self, code: Code) -> ParseFault
-        ensures { result ≡ ParseFault.Source (diagnostic self.now.reading.next.line code) }
+        ensures { result ≡ ParseFault.Source (diagnostic (next_at self.now.place).line code) }
     {
         ParseFault::Source(Diagnostic {
             line: self.cursor.next().line,
@@ -104,102 +132,75 @@ impl Parser {
         })
     }
 
-    /// Goes past the next token. A fault behind it is refused before the parser stands at it.
-    pub fn advance<F: Feed>(&mut self, feed: &mut F) -> Result<(), ParseFault>
-        requires more { is_last self.old.reading.next.token ≡ false }
-        requires near { IsNear self.old.reading }
-        requires count { F.failures feed.old < 2 ^ 64 - 1 }
-        ensures passed { OnOk result (GoesPast (place self.old (F.to_come feed.old)) (place self.new (F.to_come feed.new))) }
-        ensures sound { OnOk result (is_fault self.new.reading.next.token ≡ false) }
-        ensures falls { OnOk result (remaining self.new.reading < remaining self.old.reading) }
-        ensures refused { IfErr result (λ fault. Refused (StopsAt (place self.old (F.to_come feed.old))) false (taken self.new.reading) fault) }
-        ensures counted { Counts result (F.failures feed.old) (F.failures feed.new) }
-        ensures near { OnOk result (IsNear self.new.reading) }
-        ensures took { Takes (taken self.old.reading) (taken self.new.reading) (F.to_come feed.old) (F.to_come feed.new) }
+    /// Consumes the next token.
+    ///
+    /// # Errors
+    /// `Source` if the token after it is a lexical error, before the parser is at it; `Device` if the device failed.
+    pub fn advance(&mut self) -> Result<(), ParseFault>
+        requires more { is_last (token_of self.old) ≡ false }
+        requires ready { IsReady self.old }
+        ensures consumes { Consumes result self.old self.new }
+        ensures kept { Advances result self.old self.new }
     {
         if let Token::Fault(_) = self.cursor.after().token {
             return Err(misfit(self.cursor.after()));
         }
-        self.cursor.advance(feed)?;
+        self.cursor.advance(self.feed)?;
         Ok(())
     }
 
-    /// Goes past this mark, which has to be the next token.
-    pub fn expect<F: Feed>(&mut self, feed: &mut F, mark: Mark) -> Result<(), ParseFault>
-        requires near { IsNear self.old.reading }
-        requires count { F.failures feed.old < 2 ^ 64 - 1 }
-        ensures passed { OnOk result (DerivesItem (Exactly mark) [] [] (place self.old (F.to_come feed.old)) (place self.new (F.to_come feed.new))) }
-        ensures scope { OnOk result (self.new.scope ≡ self.old.scope) }
-        ensures sound { OnOk result (is_fault self.new.reading.next.token ≡ false) }
-        ensures falls { OnOk result (remaining self.new.reading < remaining self.old.reading) }
-        ensures refused { IfErr result (λ fault. Refused (FailsItem (Exactly mark) (place self.old (F.to_come feed.old))) false (taken self.new.reading) fault) }
-        ensures counted { Counts result (F.failures feed.old) (F.failures feed.new) }
-        ensures near { OnOk result (IsNear self.new.reading) }
-        ensures took { Takes (taken self.old.reading) (taken self.new.reading) (F.to_come feed.old) (F.to_come feed.new) }
+    /// Consumes this punctuator, which has to be the next token.
+    pub fn expect(&mut self, punctuator: Punctuator) -> Result<(), ParseFault>
+        requires ready { IsReady self.old }
+        ensures matches { Matches result (Exactly punctuator ∷ []) (λ _. []) self.old self.new }
+        ensures scope { OnOk result (scope_of self.new ≡ scope_of self.old) }
+        ensures kept { Advances result self.old self.new }
     {
-        if !is_mark(&self.next().token, mark) {
+        if !is_punctuator(&self.next().token, punctuator) {
             return Err(self.misfit());
         }
-        self.advance(feed)?;
+        self.advance()?;
         Ok(())
     }
 
-    /// Goes past this word, which has to be the next token.
-    pub fn expect_word<F: Feed>(&mut self, feed: &mut F, word: Word) -> Result<(), ParseFault>
-        requires near { IsNear self.old.reading }
-        requires count { F.failures feed.old < 2 ^ 64 - 1 }
-        ensures passed { OnOk result (DerivesItem (AWord word) [] [] (place self.old (F.to_come feed.old)) (place self.new (F.to_come feed.new))) }
-        ensures scope { OnOk result (self.new.scope ≡ self.old.scope) }
-        ensures sound { OnOk result (is_fault self.new.reading.next.token ≡ false) }
-        ensures falls { OnOk result (remaining self.new.reading < remaining self.old.reading) }
-        ensures refused { IfErr result (λ fault. Refused (FailsItem (AWord word) (place self.old (F.to_come feed.old))) false (taken self.new.reading) fault) }
-        ensures counted { Counts result (F.failures feed.old) (F.failures feed.new) }
-        ensures near { OnOk result (IsNear self.new.reading) }
-        ensures took { Takes (taken self.old.reading) (taken self.new.reading) (F.to_come feed.old) (F.to_come feed.new) }
+    /// Consumes this word, which has to be the next token.
+    pub fn expect_word(&mut self, word: Word) -> Result<(), ParseFault>
+        requires ready { IsReady self.old }
+        ensures matches { Matches result (AWord word ∷ []) (λ _. []) self.old self.new }
+        ensures scope { OnOk result (scope_of self.new ≡ scope_of self.old) }
+        ensures kept { Advances result self.old self.new }
     {
         if !is_word(&self.next().token, word) {
             return Err(self.misfit());
         }
-        self.advance(feed)?;
+        self.advance()?;
         Ok(())
     }
 
-    /// Goes past the name of a variable that is mentioned, which has to be the next token, and tells the variable.
-    pub fn mention<F: Feed>(&mut self, feed: &mut F) -> Result<Var, ParseFault>
-        requires near { IsNear self.old.reading }
-        requires count { F.failures feed.old < 2 ^ 64 - 1 }
-        ensures passed { IfOk result (λ v. DerivesItem (AName Mentioned) [] (AVariable v ∷ []) (place self.old (F.to_come feed.old)) (place self.new (F.to_come feed.new))) }
-        ensures within { IfOk result (IsVariable 64 64) }
-        ensures stays { OnOk result (StaysInBody self.old.scope self.new.scope) }
-        ensures sound { OnOk result (is_fault self.new.reading.next.token ≡ false) }
-        ensures falls { OnOk result (remaining self.new.reading < remaining self.old.reading) }
-        ensures refused { IfErr result (λ fault. Refused (FailsItem (AName Mentioned) (place self.old (F.to_come feed.old))) false (taken self.new.reading) fault) }
-        ensures counted { Counts result (F.failures feed.old) (F.failures feed.new) }
-        ensures near { OnOk result (IsNear self.new.reading) }
-        ensures took { Takes (taken self.old.reading) (taken self.new.reading) (F.to_come feed.old) (F.to_come feed.new) }
+    /// Consumes the name of a variable that is mentioned, which has to be the next token, and returns the variable.
+    pub fn mention(&mut self) -> Result<Var, ParseFault>
+        requires ready { IsReady self.old }
+        ensures matches { Matches result (AName Mentioned ∷ []) (λ v. AVariable v ∷ []) self.old self.new }
+        ensures within { IfOk result (IsVariable MOST_NAMES MOST_NAMES) }
+        ensures stays { OnOk result (StaysInBody (scope_of self.old) (scope_of self.new)) }
+        ensures kept { Advances result self.old self.new }
     {
         let name = self.name()?;
         let var = match self.scope.mention(name) {
             Ok(var) => var,
             Err(code) => return Err(self.refusal(code)),
         };
-        self.advance(feed)?;
+        self.advance()?;
         Ok(var)
     }
 
-    /// Goes past the name of a function that is called, which has to be the next token, and tells the function.
-    pub fn callee<F: Feed>(&mut self, feed: &mut F) -> Result<Callee, ParseFault>
-        requires near { IsNear self.old.reading }
-        requires count { F.failures feed.old < 2 ^ 64 - 1 }
-        ensures passed { IfOk result (λ f. DerivesItem (AName Called) [] (ACall f NoMore ∷ []) (place self.old (F.to_come feed.old)) (place self.new (F.to_come feed.new))) }
-        ensures within { IfOk result (IsCallable 64) }
-        ensures stays { OnOk result (StaysInBody self.old.scope self.new.scope) }
-        ensures sound { OnOk result (is_fault self.new.reading.next.token ≡ false) }
-        ensures falls { OnOk result (remaining self.new.reading < remaining self.old.reading) }
-        ensures refused { IfErr result (λ fault. Refused (FailsItem (AName Called) (place self.old (F.to_come feed.old))) false (taken self.new.reading) fault) }
-        ensures counted { Counts result (F.failures feed.old) (F.failures feed.new) }
-        ensures near { OnOk result (IsNear self.new.reading) }
-        ensures took { Takes (taken self.old.reading) (taken self.new.reading) (F.to_come feed.old) (F.to_come feed.new) }
+    /// Consumes the name of a function that is called, which has to be the next token, and returns the function.
+    pub fn callee(&mut self) -> Result<Callee, ParseFault>
+        requires ready { IsReady self.old }
+        ensures matches { Matches result (AName Called ∷ []) (λ f. ACall f NoMore ∷ []) self.old self.new }
+        ensures within { IfOk result (IsCallable MOST_NAMES) }
+        ensures stays { OnOk result (StaysInBody (scope_of self.old) (scope_of self.new)) }
+        ensures kept { Advances result self.old self.new }
     {
         let name = self.name()?;
         let line = self.next().line;
@@ -207,22 +208,17 @@ impl Parser {
             Ok(callee) => callee,
             Err(code) => return Err(self.refusal(code)),
         };
-        self.advance(feed)?;
+        self.advance()?;
         Ok(callee)
     }
 
-    /// Goes past the name of a function whose definition begins, which has to be the next token, and tells its number.
-    pub fn define<F: Feed>(&mut self, feed: &mut F) -> Result<u8, ParseFault>
-        requires near { IsNear self.old.reading }
-        requires count { F.failures feed.old < 2 ^ 64 - 1 }
-        ensures passed { OnOk result (DerivesItem (AName Defined) [] [] (place self.old (F.to_come feed.old)) (place self.new (F.to_come feed.new))) }
-        ensures begun { IfOk result (λ number. BeginsDefinition number self.old self.new) }
-        ensures sound { OnOk result (is_fault self.new.reading.next.token ≡ false) }
-        ensures falls { OnOk result (remaining self.new.reading < remaining self.old.reading) }
-        ensures refused { IfErr result (λ fault. Refused (FailsItem (AName Defined) (place self.old (F.to_come feed.old))) false (taken self.new.reading) fault) }
-        ensures counted { Counts result (F.failures feed.old) (F.failures feed.new) }
-        ensures near { OnOk result (IsNear self.new.reading) }
-        ensures took { Takes (taken self.old.reading) (taken self.new.reading) (F.to_come feed.old) (F.to_come feed.new) }
+    /// Consumes the name of a function whose definition begins, which has to be the next token, and returns its number.
+    pub fn define(&mut self) -> Result<u8, ParseFault>
+        requires ready { IsReady self.old }
+        ensures matches { Matches result (AName Defined ∷ []) (λ _. []) self.old self.new }
+        ensures begun { IfOk result (λ number.
+            BeginsDefinition number self.old.place.position self.new.place.position) }
+        ensures kept { Advances result self.old self.new }
     {
         let name = self.name()?;
         let line = self.next().line;
@@ -230,81 +226,79 @@ impl Parser {
             Ok(number) => number,
             Err(code) => return Err(self.refusal(code)),
         };
-        self.advance(feed)?;
+        self.advance()?;
         Ok(number)
     }
 
-    /// Goes past a name that is declared, which has to be the next token.
-    pub fn declare<F: Feed>(&mut self, feed: &mut F, declared: Declared) -> Result<(), ParseFault>
-        requires near { IsNear self.old.reading }
-        requires count { F.failures feed.old < 2 ^ 64 - 1 }
-        ensures passed { OnOk result (DerivesItem (AName (role_of declared)) [] [] (place self.old (F.to_come feed.old)) (place self.new (F.to_come feed.new))) }
-        ensures stays { OnOk result (StaysAt declared self.old.scope self.new.scope) }
-        ensures sound { OnOk result (is_fault self.new.reading.next.token ≡ false) }
-        ensures falls { OnOk result (remaining self.new.reading < remaining self.old.reading) }
-        ensures refused { IfErr result (λ fault. Refused (FailsItem (AName (role_of declared)) (place self.old (F.to_come feed.old))) false (taken self.new.reading) fault) }
-        ensures counted { Counts result (F.failures feed.old) (F.failures feed.new) }
-        ensures near { OnOk result (IsNear self.new.reading) }
-        ensures took { Takes (taken self.old.reading) (taken self.new.reading) (F.to_come feed.old) (F.to_come feed.new) }
+    /// Consumes a name that is declared, which has to be the next token.
+    pub fn declare(&mut self, declared: Declared) -> Result<(), ParseFault>
+        requires ready { IsReady self.old }
+        ensures matches { Matches result (AName (role_of declared) ∷ []) (λ _. []) self.old self.new }
+        ensures stays { OnOk result (StaysAt declared (scope_of self.old) (scope_of self.new)) }
+        ensures kept { Advances result self.old self.new }
     {
         let name = self.name()?;
         if let Err(code) = declare(&mut self.scope, name, declared) {
             return Err(self.refusal(code));
         }
-        self.advance(feed)?;
+        self.advance()?;
         Ok(())
     }
 
-    /// How many parameters the function that is being defined has so far.
+    /// Returns how many parameters the function that is being defined has so far.
     pub fn parameters(&self) -> u8
-        ensures count { result ≡ self.now.scope.current.parameters }
-        ensures most { result ≤ 64 }
+        ensures count { result ≡ (scope_of self.now).current.parameters }
+        ensures most { result ≤ MOST_NAMES }
     {
         self.scope.parameters()
     }
 
-    /// How many variables it has so far, its parameters among them.
+    /// Returns how many variables it has so far, its parameters among them.
     pub fn variables(&self) -> u8
-        ensures count { result ≡ length self.now.scope.current.variables }
-        ensures first { self.now.scope.current.parameters ≤ result }
-        ensures most { result ≤ 64 }
+        ensures count { result ≡ length (scope_of self.now).current.variables }
+        ensures first { (scope_of self.now).current.parameters ≤ result }
+        ensures most { result ≤ MOST_NAMES }
     {
         self.scope.variables()
     }
 
-    /// The function that is being defined ends.
+    /// Ends the function that is being defined.
     pub fn end_definition(&mut self)
-        ensures scope { self.new.scope ≡ end_definition self.old.scope }
-        ensures reading { self.new.reading ≡ self.old.reading }
+        ensures { self.new ≡ with_scope (end_definition (scope_of self.old)) self.old }
     {
         self.scope.end_definition();
     }
 
-    /// The line of the first mention of the earliest mentioned function whose definition didn't begin.
+    /// Returns the line of the first mention of the earliest mentioned function whose definition didn't begin.
     pub fn undefined(&self) -> Option<u32>
-        ensures { result ≡ line_of_undefined 0 self.now.scope.lines self.now.scope.begun }
+        ensures { result ≡ line_of_undefined 0 (scope_of self.now).lines (scope_of self.now).begun }
     {
         self.scope.undefined()
     }
 
-    /// Whether a function main was mentioned.
+    /// Returns whether a function main was mentioned.
     pub fn has_main(&self) -> bool
-        ensures { result ≡ is_some (function_number main_name self.now.scope) }
+        ensures { result ≡ is_some (function_number main_name (scope_of self.now)) }
     {
         self.scope.has_main()
     }
 
-    /// The names of the file.
-    pub fn into_pools(self) -> Pools
-        ensures { result ≡ record { externals = self.scope.externals; functions = self.scope.functions } }
+    /// Takes the parser apart: the names of the file, and the device.
+    pub fn into_parts(self) -> (Pools, &'a mut F)
+        ensures names { result.0 ≡
+            record { externals = (scope_of self.entry).externals; functions = (scope_of self.entry).functions } }
+        ensures device { result.1.ghost_name ≡ self.entry.device }
+        ensures to_come { F.to_come result.1.now ≡ self.entry.place.to_come }
+        ensures failures { F.failures result.1.now ≡ self.entry.failures }
     {
-        self.scope.into_pools()
+        let Parser { scope, feed, .. } = self;
+        (scope.into_pools(), feed)
     }
 
     // The name that the next token has to be.
     fn name(&self) -> Result<Name, ParseFault>
-        ensures found { IfOk result (λ name. self.now.reading.next.token ≡ token.Name name) }
-        ensures other { IfErr result (λ fault. IsNoName self.now.reading.next fault) }
+        ensures found { IfOk result (λ name. token_of self.now ≡ token.Name name) }
+        ensures other { IfErr result (IsNoName (next_at self.now.place)) }
     {
         match self.next().token {
             Token::Name(name) => Ok(name),
@@ -328,16 +322,16 @@ fn declare(scope: &mut Scope, name: Name, declared: Declared) -> Result<(), Code
 }
 
 // The refusal of a token that doesn't fit.
-fn misfit(lexeme: &Lexeme) -> ParseFault
-    ensures { result ≡ ParseFault.Source (diagnostic lexeme.now.line (misfit_code lexeme.now.token)) }
+fn misfit(located_token: &LocatedToken) -> ParseFault
+    ensures { result ≡ ParseFault.Source (diagnostic located_token.now.line (misfit_code located_token.now.token)) }
 {
-    let code = match lexeme.token {
-        Token::Fault(flaw) => code_of(flaw),
+    let code = match located_token.token {
+        Token::Fault(lexical_error) => code_of(lexical_error),
         Token::Word(Word::Refused) => Code::ReservedWord,
         _ => Code::SyntaxError,
     };
     ParseFault::Source(Diagnostic {
-        line: lexeme.line,
+        line: located_token.line,
         code,
     })
 }

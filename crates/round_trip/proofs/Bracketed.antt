@@ -1,7 +1,7 @@
 -- What is spelled, the derivation gives back, wherever the tokens stand.
 use Rattle.std.proofs.Common.{◌≡◌, ℕ, zero, suc, ◌+◌, List, [], ◌∷◌, refl, sym, ap, ◌∙◌, subst, arith}
 use Rattle.std.specs.Prelude.{None}
-use Rattle.tokens.specs.declared.lexemes.Lexeme.{Lexeme}
+use Rattle.tokens.specs.declared.located_tokens.LocatedToken.{LocatedToken}
 use Rattle.grammar.specs.Compiled.{enough, last_state}
 use Rattle.grammar.specs.Derivation.{State, start, step, stepped, run}
 use Rattle.grammar.specs.Laws.{EachDerivationEnds}
@@ -11,7 +11,8 @@ use Rattle.round_trip.specs.Written.{Evaluate}
 use Rattle.round_trip.specs.Spelling.{spell_statement, in_main}
 use Rattle.round_trip.specs.Resolving.{body_of, behind_statement}
 use Rattle.round_trip.specs.Laws.{in_body, main_of, without_lines, GivesBackStatements, GivesBackExpressions}
-use Rattle.round_trip.proofs.Leading.{Leads, run-add, lexemes_of}
+use Rattle.grammar.proofs.Runs.{run-add}
+use Rattle.round_trip.proofs.Leading.{Leads, located_tokens_of}
 use Rattle.round_trip.proofs.Places.{bare, bare_rest, bare_run}
 use Rattle.round_trip.proofs.Mains.{over, derives_main}
 
@@ -29,7 +30,7 @@ one_end : (m n : ℕ) (s : State) → step (run m s) ≡ None → step (run n s)
 one_end m n s ended_m ended_n =
     sym (stays n (run m s) ended_m) ∙ sym (run-add m n s) ∙ ap (λ k. run k s) (turned m n) ∙ run-add n m s ∙ stays m (run n s) ended_n
 
-none_left : (rest : List Lexeme) → bare_rest rest ≡ [] → rest ≡ []
+none_left : (rest : List LocatedToken) → bare_rest rest ≡ [] → rest ≡ []
 none_left [] e = refl
 none_left (l ∷ rest) e = absurd (cc)
 
@@ -52,16 +53,16 @@ ended : (s : State) → s.stack ≡ [] → s.rest ≡ [] → step s ≡ None
 ended s empty none = rw (none, empty) refl
 
 pub statements : EachDerivationEnds → GivesBackStatements
-statements ends s lexemes spelled =
+statements ends s located_tokens spelled =
     let body : Body = body_of s in_body in
     let learnt : Scope = behind_statement s in_body in
-    let l : Leads (start (lexemes_of (in_main (spell_statement s)))) (over body learnt) = derives_main s in
-    let there : bare (run l.steps (start lexemes)) ≡ over body learnt =
-    sym (bare_run l.steps (start lexemes)) ∙ ap (λ ts. run l.steps (start (lexemes_of ts))) spelled ∙ l.leads in
-    let o : IsOver (run l.steps (start lexemes)) body learnt = is_over (run l.steps (start lexemes)) body learnt there in
-    let last : run l.steps (start lexemes) ≡ last_state lexemes =
-    one_end l.steps (enough lexemes) (start lexemes) (ended (run l.steps (start lexemes)) o.stack o.rest) (ends lexemes) in
-    let p : IsOver (last_state lexemes) body learnt = subst (λ (t : State). IsOver t body learnt) last o in
+    let l : Leads (start (located_tokens_of (in_main (spell_statement s)))) (over body learnt) = derives_main s in
+    let there : bare (run l.steps (start located_tokens)) ≡ over body learnt =
+    sym (bare_run l.steps (start located_tokens)) ∙ ap (λ ts. run l.steps (start (located_tokens_of ts))) spelled ∙ l.leads in
+    let o : IsOver (run l.steps (start located_tokens)) body learnt = is_over (run l.steps (start located_tokens)) body learnt there in
+    let last : run l.steps (start located_tokens) ≡ last_state located_tokens =
+    one_end l.steps (enough located_tokens) (start located_tokens) (ended (run l.steps (start located_tokens)) o.stack o.rest) (ends located_tokens) in
+    let p : IsOver (last_state located_tokens) body learnt = subst (λ (t : State). IsOver t body learnt) last o in
     record { nothing_open = p.stack; all_matched = p.rest; functions = p.functions; names = p.scope }
 
 pub expressions : EachDerivationEnds → GivesBackExpressions

@@ -1,21 +1,18 @@
--- Stretches of a derivation one behind another.
-use Rattle.std.proofs.Common.{◌≡◌, ℕ, zero, suc, ◌+◌, List, ◌∷◌, ◌++◌, refl, ap, ◌∙◌, [], zero-add, suc-add, false, map}
+-- Segments of a derivation one behind another.
+use Rattle.std.proofs.Common.{◌≡◌, ℕ, ◌+◌, List, ◌∷◌, ◌++◌, refl, ap, ◌∙◌, [], false, map}
 use Rattle.std.proofs.lemmas.List.{append-nil}
 use Rattle.std.specs.Prelude.{Some}
-use Rattle.tokens.specs.declared.lexemes.Lexeme.{Lexeme}
-use Rattle.tokens.specs.declared.lexemes.Token.{Token}
-use Rattle.grammar.specs.Derivation.{State, state, Value, Definition, stepped, run, next_of, after_of, made, defined, behind_rule}
-use Rattle.grammar.specs.Grammar.{Item, Part, Make, Shut, Symbol, Rule, choice, is_fault}
+use Rattle.tokens.specs.declared.located_tokens.LocatedToken.{LocatedToken}
+use Rattle.tokens.specs.declared.located_tokens.Token.{Token}
+use Rattle.grammar.specs.Derivation.{State, state, Value, Definition, run, next_of, after_of, made, defined, behind_rule}
+use Rattle.grammar.specs.Grammar.{Item, Part, Make, Close, Symbol, SemanticAction, choice, is_fault}
 use Rattle.grammar.specs.Scope.{Scope}
+use Rattle.grammar.proofs.Runs.{run-add}
 
 -- some steps of the derivation lead from s to t
 pub record Leads (s t : State) : Type 0 where
   pub steps : ℕ
   pub leads : run steps s ≡ t
-
-pub run-add : (m n : ℕ) (s : State) → run (m + n) s ≡ run n (run m s)
-run-add zero n s = ap (λ k. run k s) (zero-add n)
-run-add (suc m) n s = ap (λ k. run k s) (suc-add m n) ∙ run-add m n (stepped s)
 
 pub then : (s t u : State) → Leads s t → Leads t u → Leads s u
 then s t u a b = record {
@@ -24,21 +21,21 @@ then s t u a b = record {
 }
 
 -- a token in a place of no meaning
-abbrev pub placed : Token → Lexeme
+abbrev pub placed : Token → LocatedToken
 placed t = record { token = t; line = 0; end = 0 }
 
-abbrev pub lexemes_of : List Token → List Lexeme
-lexemes_of tokens = map placed tokens
+abbrev pub located_tokens_of : List Token → List LocatedToken
+located_tokens_of tokens = map placed tokens
 
 -- a state with these tokens left
 abbrev pub at : List Item → List Token → List Value → Scope → List Definition → State
-at stack tokens values scope functions = state stack (lexemes_of tokens) values scope functions
+at stack tokens values scope functions = state stack (located_tokens_of tokens) values scope functions
 
 abbrev pub first : List Token → Token
-first tokens = next_of (lexemes_of tokens)
+first tokens = next_of (located_tokens_of tokens)
 
 abbrev pub second : List Token → Token
-second tokens = after_of (lexemes_of tokens)
+second tokens = after_of (located_tokens_of tokens)
 
 -- a symbol is replaced
 pub part : (symbol : Symbol) (items stack : List Item) (tokens : List Token) (values : List Value) (scope : Scope) (functions : List Definition) →
@@ -47,12 +44,12 @@ pub part : (symbol : Symbol) (items stack : List Item) (tokens : List Token) (va
 part symbol items stack tokens values scope functions sound chosen = record { steps = 1; leads = rw (sound, chosen) refl }
 
 -- a tree is made; no rule but that of a function's end adds to the functions
-pub make : (rule : Rule) (stack : List Item) (tokens : List Token) (values left : List Value) (scope : Scope) (functions : List Definition) →
+pub make : (rule : SemanticAction) (stack : List Item) (tokens : List Token) (values left : List Value) (scope : Scope) (functions : List Definition) →
     is_fault (first tokens) ≡ false → made rule values ≡ left → defined rule values scope ≡ [] → behind_rule rule scope ≡ scope →
     Leads (at (Make rule ∷ stack) tokens values scope functions) (at stack tokens left scope functions)
 make rule stack tokens values left scope functions sound is quiet same =
     record { steps = 1; leads = rw (sound, is, quiet, same, append-nil functions) refl }
 
-pub shut : (stack : List Item) (tokens : List Token) (values : List Value) (scope : Scope) (functions : List Definition) →
-    is_fault (first tokens) ≡ false → Leads (at (Shut ∷ stack) tokens values scope functions) (at stack tokens values scope functions)
-shut stack tokens values scope functions sound = record { steps = 1; leads = rw sound refl }
+pub close : (stack : List Item) (tokens : List Token) (values : List Value) (scope : Scope) (functions : List Definition) →
+    is_fault (first tokens) ≡ false → Leads (at (Close ∷ stack) tokens values scope functions) (at stack tokens values scope functions)
+close stack tokens values scope functions sound = record { steps = 1; leads = rw sound refl }

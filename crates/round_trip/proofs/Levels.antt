@@ -2,16 +2,16 @@
 use Rattle.std.proofs.Common.{◌≡◌, ℕ, zero, suc, ◌+◌, List, [], ◌∷◌, refl, false, true, arith}
 use Rattle.std.proofs.lemmas.Bool.Decides.{nat_tests}
 use Rattle.std.specs.Prelude.{nat_lt}
-use Rattle.tokens.specs.declared.lexemes.Mark.{Mark}
-use Rattle.tokens.specs.declared.lexemes.Mark.TheVariants as mark
-use Rattle.tokens.specs.declared.lexemes.Token.{Token}
-use Rattle.tokens.specs.declared.lexemes.Token.TheVariants as token
+use Rattle.tokens.specs.declared.located_tokens.Punctuator.{Punctuator}
+use Rattle.tokens.specs.declared.located_tokens.Punctuator.TheVariants as punctuator
+use Rattle.tokens.specs.declared.located_tokens.Token.{Token}
+use Rattle.tokens.specs.declared.located_tokens.Token.TheVariants as token
 use Rattle.grammar.specs.declared.operators.Op.{Op}
 use Rattle.grammar.specs.declared.operators.Op.TheVariants as op
 use Rattle.grammar.specs.Derivation.{Value, Definition}
 use Rattle.grammar.specs.Grammar.{Item, Part, Make, Level, Tail, Unary, Operate, is_fault}
 use Rattle.grammar.specs.Scope.{Scope}
-use Rattle.round_trip.specs.Spelling.{binary_mark}
+use Rattle.round_trip.specs.Spelling.{binary_punctuator}
 use Rattle.round_trip.proofs.Leading.{Leads, then, at, first, part}
 
 -- the tails of m levels from level n on, the tightest in front
@@ -37,36 +37,36 @@ down (suc m) n stack tokens values scope functions sum sound = then _ _ _
     (part (Level n) (Part (Level (n + 1)) ∷ Part (Tail n) ∷ []) stack tokens values scope functions sound (rw (tighter m n sum) refl))
     (down m (n + 1) (Part (Tail n) ∷ stack) tokens values scope functions (next_sum m n sum) sound)
 
--- a mark behind an expression
+-- a punctuator behind an expression
 pub data Closing : Type 0 where
   Round : Closing
   Comma : Closing
   Semicolon : Closing
 
-abbrev pub closing_mark : Closing → Mark
-closing_mark Round = mark.CloseRound
-closing_mark Comma = mark.Comma
-closing_mark Semicolon = mark.Semicolon
+abbrev pub closing_punctuator : Closing → Punctuator
+closing_punctuator Round = punctuator.CloseRound
+closing_punctuator Comma = punctuator.Comma
+closing_punctuator Semicolon = punctuator.Semicolon
 
 no_tail : (n : ℕ) (c : Closing) (stack : List Item) (tokens : List Token) (values : List Value) (scope : Scope) (functions : List Definition) →
-    Leads (at (Part (Tail n) ∷ stack) (token.Mark (closing_mark c) ∷ tokens) values scope functions) (at stack (token.Mark (closing_mark c) ∷ tokens) values scope functions)
+    Leads (at (Part (Tail n) ∷ stack) (token.Punctuator (closing_punctuator c) ∷ tokens) values scope functions) (at stack (token.Punctuator (closing_punctuator c) ∷ tokens) values scope functions)
 no_tail n Round stack tokens values scope functions = record { steps = 1; leads = refl }
 no_tail n c stack tokens values scope functions = record { steps = 1; leads = refl }
 
 pub up : (m n : ℕ) (c : Closing) (stack : List Item) (tokens : List Token) (values : List Value) (scope : Scope) (functions : List Definition) →
-    Leads (at (tails m n stack) (token.Mark (closing_mark c) ∷ tokens) values scope functions) (at stack (token.Mark (closing_mark c) ∷ tokens) values scope functions)
+    Leads (at (tails m n stack) (token.Punctuator (closing_punctuator c) ∷ tokens) values scope functions) (at stack (token.Punctuator (closing_punctuator c) ∷ tokens) values scope functions)
 up zero n c stack tokens values scope functions = record { steps = 0; leads = refl }
 up (suc m) n c stack tokens values scope functions = then _ _ _
     (up m (n + 1) c (Part (Tail n) ∷ stack) tokens values scope functions)
     (no_tail n c stack tokens values scope functions)
 
--- up to the level of an operator, and behind its mark
+-- up to the level of an operator, and behind its punctuator
 pub record Operates (o : Op) : Type 0 where
   pub level : ℕ
   pub above : ℕ
   pub sum : above + (level + 1) ≡ 11
   pub goes : (stack : List Item) (tokens : List Token) (values : List Value) (scope : Scope) (functions : List Definition) →
-      Leads (at (tails 10 1 stack) (token.Mark (binary_mark o) ∷ tokens) values scope functions)
+      Leads (at (tails 10 1 stack) (token.Punctuator (binary_punctuator o) ∷ tokens) values scope functions)
       (at (Part (Level (level + 1)) ∷ Make (Operate o) ∷ tails level 1 stack) tokens values scope functions)
 
 pub operates : (o : Op) → Operates o

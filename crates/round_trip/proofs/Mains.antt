@@ -1,11 +1,11 @@
 -- The derivation of a main function with one statement.
 use Rattle.std.proofs.Common.{◌≡◌, List, [], ◌∷◌, ◌++◌, refl, ap, append_assoc}
-use Rattle.tokens.specs.declared.lexemes.Mark.TheVariants as mark
-use Rattle.tokens.specs.declared.lexemes.Token.{Token}
-use Rattle.tokens.specs.declared.lexemes.Token.TheVariants as token
+use Rattle.tokens.specs.declared.located_tokens.Punctuator.TheVariants as punctuator
+use Rattle.tokens.specs.declared.located_tokens.Token.{Token}
+use Rattle.tokens.specs.declared.located_tokens.Token.TheVariants as token
 use Rattle.grammar.specs.Derivation.{State, state, start, ABody, Definition, definition_of}
 use Rattle.grammar.specs.Grammar as grammar
-use Rattle.grammar.specs.Grammar.{Item, Exactly, Part, Make, Shut, Declarations, Empty, Define}
+use Rattle.grammar.specs.Grammar.{Item, Exactly, Part, Make, Close, Declarations, Empty, Define}
 use Rattle.grammar.specs.Scope.{Scope, end_definition}
 use Rattle.grammar.specs.Tree as tree
 use Rattle.grammar.specs.Tree.{Body}
@@ -13,7 +13,7 @@ use Rattle.round_trip.specs.Written.{Statement}
 use Rattle.round_trip.specs.Spelling.{spell_statement, in_main}
 use Rattle.round_trip.specs.Resolving.{body_of, behind_statement}
 use Rattle.round_trip.specs.Laws.{in_body, main_of}
-use Rattle.round_trip.proofs.Leading.{Leads, then, at, lexemes_of, first, second, part, make}
+use Rattle.round_trip.proofs.Leading.{Leads, then, at, located_tokens_of, first, second, part, make}
 use Rattle.round_trip.proofs.Beginnings.{BeginsStatement, statement_first}
 use Rattle.round_trip.proofs.Mentions.{Keeps, statement_keeps}
 use Rattle.round_trip.proofs.Statements.{added}
@@ -23,10 +23,10 @@ abbrev pub over : Body → Scope → State
 over body learnt = state [] [] [] (end_definition learnt) (main_of learnt.current.variables body ∷ [])
 
 abbrev close : List Token
-close = token.Mark mark.CloseCurly ∷ token.End ∷ []
+close = token.Punctuator punctuator.CloseCurly ∷ token.End ∷ []
 
 abbrev end : List Item
-end = Make Define ∷ Exactly mark.CloseCurly ∷ Shut ∷ Part grammar.Source ∷ []
+end = Make Define ∷ Exactly punctuator.CloseCurly ∷ Close ∷ Part grammar.Source ∷ []
 
 is_main : (body : Body) (learnt : Scope) → Keeps in_body learnt → definition_of learnt body ≡ main_of learnt.current.variables body
 is_main body learnt k = rw (k.number, k.name, k.parameters) refl
@@ -37,12 +37,12 @@ main_ends body learnt k = record {
   leads = ap (λ (d : Definition). state [] [] [] (end_definition learnt) (d ∷ [])) (is_main body learnt k);
 }
 
-pub derives_main : (s : Statement) → Leads (start (lexemes_of (in_main (spell_statement s)))) (over (body_of s in_body) (behind_statement s in_body))
+pub derives_main : (s : Statement) → Leads (start (located_tokens_of (in_main (spell_statement s)))) (over (body_of s in_body) (behind_statement s in_body))
 derives_main s =
     let tokens : List Token = spell_statement s ++ close in
     let b : BeginsStatement (first tokens) = statement_first s close in
     let more : List Item = Part grammar.Statements ∷ end in
-    rw (append_assoc (spell_statement s) (token.Mark mark.CloseCurly ∷ []) (token.End ∷ []))
+    rw (append_assoc (spell_statement s) (token.Punctuator punctuator.CloseCurly ∷ []) (token.End ∷ []))
     (then _ (at (Make Empty ∷ Part Declarations ∷ more) tokens [] in_body []) _
     (record { steps = 8; leads = refl })
     (then _ _ _ (make Empty (Part Declarations ∷ more) tokens [] (ABody tree.Done ∷ []) in_body [] b.sound refl refl refl)

@@ -1,9 +1,9 @@
 -- Expressions and statements with the tokens that spell them, and the trees that they are in a function main.
 use Rattle.std.specs.Prelude.{◌≡◌, ℕ, pos, List, [], ◌∷◌, codes}
-use Rattle.tokens.specs.declared.lexemes.Mark.TheVariants as mark
-use Rattle.tokens.specs.declared.lexemes.Token.{Token}
-use Rattle.tokens.specs.declared.lexemes.Token.TheVariants as token
-use Rattle.tokens.specs.declared.lexemes.Word.TheVariants as word
+use Rattle.tokens.specs.declared.located_tokens.Punctuator.TheVariants as punctuator
+use Rattle.tokens.specs.declared.located_tokens.Token.{Token}
+use Rattle.tokens.specs.declared.located_tokens.Token.TheVariants as token
+use Rattle.tokens.specs.declared.located_tokens.Word.TheVariants as word
 use Rattle.grammar.specs.declared.names.Callee.TheVariants as callee
 use Rattle.grammar.specs.declared.names.Intrinsic.TheVariants as intrinsic
 use Rattle.grammar.specs.declared.names.Var.TheVariants as var
@@ -18,7 +18,7 @@ use Rattle.round_trip.specs.Resolving.{tree_of, body_of}
 use Rattle.round_trip.specs.Laws.{in_body}
 
 abbrev minus : Token
-minus = token.Mark mark.Minus
+minus = token.Punctuator punctuator.Minus
 
 abbrev variable : ℕ → Expr
 variable n = tree.Variable (var.Local n)
@@ -32,7 +32,8 @@ abbrev pub difference_tokens : List Token
 difference_tokens = x ∷ equals ∷ ro ∷ a ∷ minus ∷ ro ∷ b ∷ minus ∷ number 1 ∷ rc ∷ rc ∷ []
 
 abbrev pub difference_tree : Expr
-difference_tree = tree.Assign store.Set (var.Local 0) (tree.Binary op.Subtract (variable 1) (tree.Binary op.Subtract (variable 2) (tree.Constant (pos 1))))
+difference_tree = tree.Assign store.Set (var.Local 0)
+    (tree.Binary op.Subtract (variable 1) (tree.Binary op.Subtract (variable 2) (tree.Constant (pos 1))))
 
 -- f(x, x++) || -scan()
 abbrev pub calls : Expression
@@ -44,13 +45,14 @@ calls =
 -- (f(x, (x++))) || (-(scan()))
 abbrev pub calls_tokens : List Token
 calls_tokens =
-    ro ∷ f ∷ ro ∷ x ∷ comma ∷ ro ∷ x ∷ token.Mark mark.PlusPlus ∷ rc ∷ rc ∷ rc
-    ∷ token.Mark mark.OrOr ∷ ro ∷ minus ∷ ro ∷ scan ∷ ro ∷ rc ∷ rc ∷ rc ∷ []
+    ro ∷ f ∷ ro ∷ x ∷ comma ∷ ro ∷ x ∷ token.Punctuator punctuator.PlusPlus ∷ rc ∷ rc ∷ rc
+    ∷ token.Punctuator punctuator.OrOr ∷ ro ∷ minus ∷ ro ∷ scan ∷ ro ∷ rc ∷ rc ∷ rc ∷ []
 
 abbrev pub calls_tree : Expr
 calls_tree =
     tree.Binary op.Or
-    (tree.Call (callee.Function 1) (tree.Argument (variable 0) (tree.Argument (tree.Postfix store.Add (var.Local 0)) tree.NoMore)))
+    (tree.Call (callee.Function 1) (tree.Argument (variable 0)
+    (tree.Argument (tree.Postfix store.Add (var.Local 0)) tree.NoMore)))
     (tree.Binary op.Subtract (tree.Constant (pos 0)) (tree.Call (callee.Intrinsic intrinsic.Scan) tree.NoMore))
 
 -- if (a < b) { while (a) { } } else { x; return; }
@@ -62,15 +64,15 @@ decision =
 
 abbrev pub decision_tokens : List Token
 decision_tokens =
-    token.Word word.If ∷ ro ∷ a ∷ token.Mark mark.Less ∷ b ∷ rc
+    token.Word word.If ∷ ro ∷ a ∷ token.Punctuator punctuator.Less ∷ b ∷ rc
     ∷ co ∷ token.Word word.While ∷ ro ∷ a ∷ rc ∷ co ∷ cc ∷ cc
     ∷ token.Word word.Else ∷ co ∷ x ∷ end ∷ return ∷ end ∷ cc ∷ []
 
 abbrev pub decision_body : Body
 decision_body =
-    tree.Choose (tree.Binary op.Less (variable 0) (variable 1))
+    tree.IfElseStatement (tree.Binary op.Less (variable 0) (variable 1))
     (tree.While (variable 0) tree.Done tree.Done)
-    (tree.Alone (variable 2) (tree.Return (tree.Constant (pos 0)) tree.Done)) tree.Done
+    (tree.ExpressionStatement (variable 2) (tree.Return (tree.Constant (pos 0)) tree.Done)) tree.Done
 
 -- main() { x; } and the end
 abbrev pub whole_tokens : List Token

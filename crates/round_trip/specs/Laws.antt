@@ -1,7 +1,7 @@
 -- The law on the grammar: what is spelled in brackets and braces, the derivation gives back.
 use Rattle.std.specs.Prelude.{◌≡◌, ℕ, List, [], ◌∷◌, map}
-use Rattle.tokens.specs.declared.lexemes.Lexeme.{Lexeme}
-use Rattle.tokens.specs.declared.lexemes.Token.{Token}
+use Rattle.tokens.specs.declared.located_tokens.LocatedToken.{LocatedToken}
+use Rattle.tokens.specs.declared.located_tokens.Token.{Token}
 use Rattle.grammar.specs.Compiled.{last_state, main_name}
 use Rattle.grammar.specs.Derivation.{Definition}
 use Rattle.grammar.specs.Scope.{Scope, no_names, begin_definition, end_definition}
@@ -12,8 +12,8 @@ use Rattle.round_trip.specs.Spelling.{spell, spell_statement, closed, in_main}
 use Rattle.round_trip.specs.Resolving.{tree_of, behind, body_of, behind_statement}
 
 -- tokens, wherever they stand
-abbrev pub tokens_of : List Lexeme → List Token
-tokens_of lexemes = map (λ (l : Lexeme). l.token) lexemes
+abbrev pub tokens_of : List LocatedToken → List Token
+tokens_of located_tokens = map (λ (l : LocatedToken). l.token) located_tokens
 
 -- the names known, but for the lines on which they were first mentioned
 abbrev pub without_lines : Scope → Scope
@@ -25,21 +25,28 @@ in_body = begin_definition main_name 0 no_names
 
 -- the function main, of number 0, without parameters
 abbrev pub main_of : List (List ℕ) → Body → Definition
-main_of variables body = record { number = 0; function = record { name = main_name; parameters = 0; variables = variables; body = body } }
+main_of variables body = record {
+  number = 0;
+  function = record
+      { name = main_name; parameters = 0; variables = variables; body = body };
+}
 
--- The derivation ends with all tokens matched. Its one function is main, which has this body, and knows these names at its end.
-pub record DerivesMain (lexemes : List Lexeme) (body : Body) (learnt : Scope) : Type 0 where
-  pub nothing_open : (last_state lexemes).stack ≡ []
-  pub all_matched : (last_state lexemes).rest ≡ []
-  pub functions : (last_state lexemes).functions ≡ main_of learnt.current.variables body ∷ []
-  pub names : without_lines (last_state lexemes).scope ≡ without_lines (end_definition learnt)
+-- The derivation ends with all tokens matched. Its one function is main, which has this body, and knows these names at
+-- its end.
+pub record DerivesMain (located_tokens : List LocatedToken) (body : Body) (learnt : Scope) : Type 0 where
+  pub nothing_open : (last_state located_tokens).stack ≡ []
+  pub all_matched : (last_state located_tokens).rest ≡ []
+  pub functions : (last_state located_tokens).functions ≡ main_of learnt.current.variables body ∷ []
+  pub names : without_lines (last_state located_tokens).scope ≡ without_lines (end_definition learnt)
 
 -- each statement
 abbrev pub GivesBackStatements : Type 0
-GivesBackStatements = (s : Statement) (lexemes : List Lexeme) → tokens_of lexemes ≡ in_main (spell_statement s) →
-    DerivesMain lexemes (body_of s in_body) (behind_statement s in_body)
+GivesBackStatements = (s : Statement) (located_tokens : List LocatedToken)
+    → tokens_of located_tokens ≡ in_main (spell_statement s) →
+    DerivesMain located_tokens (body_of s in_body) (behind_statement s in_body)
 
 -- each expression, with ; behind it
 abbrev pub GivesBackExpressions : Type 0
-GivesBackExpressions = (e : Expression) (lexemes : List Lexeme) → tokens_of lexemes ≡ in_main (closed (spell e)) →
-    DerivesMain lexemes (tree.Alone (tree_of e in_body) tree.Done) (behind e in_body)
+GivesBackExpressions = (e : Expression) (located_tokens : List LocatedToken)
+    → tokens_of located_tokens ≡ in_main (closed (spell e)) →
+    DerivesMain located_tokens (tree.ExpressionStatement (tree_of e in_body) tree.Done) (behind e in_body)

@@ -79,10 +79,11 @@ abbrev mutual
 abbrev mutual
   pub body_of : Statement → Scope → Body
   body_of Nothing scope = tree.Done
-  body_of (Evaluate e) scope = tree.Alone (tree_of e scope) tree.Done
-  body_of (If c body) scope = tree.When (tree_of c scope) (bodies_of body (behind c scope)) tree.Done
+  body_of (Evaluate e) scope = tree.ExpressionStatement (tree_of e scope) tree.Done
+  body_of (If c body) scope = tree.IfStatement (tree_of c scope) (bodies_of body (behind c scope)) tree.Done
   body_of (IfElse c body other) scope =
-      tree.Choose (tree_of c scope) (bodies_of body (behind c scope)) (bodies_of other (behind_statements body (behind c scope))) tree.Done
+      tree.IfElseStatement (tree_of c scope) (bodies_of body (behind c scope))
+      (bodies_of other (behind_statements body (behind c scope))) tree.Done
   body_of (While c body) scope = tree.While (tree_of c scope) (bodies_of body (behind c scope)) tree.Done
   body_of Return scope = tree.Return (tree.Constant (pos 0)) tree.Done
   body_of (ReturnValue e) scope = tree.Return (tree_of e scope) tree.Done

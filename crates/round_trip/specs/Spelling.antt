@@ -1,67 +1,67 @@
 -- How expressions and statements are spelled: each compound part in brackets, each body in braces.
 use Rattle.std.specs.Prelude.{List, [], ◌∷◌, ◌++◌, codes}
-use Rattle.tokens.specs.declared.lexemes.Mark.{Mark}
-use Rattle.tokens.specs.declared.lexemes.Mark.TheVariants as mark
-use Rattle.tokens.specs.declared.lexemes.Token.{Token}
-use Rattle.tokens.specs.declared.lexemes.Token.TheVariants as token
-use Rattle.tokens.specs.declared.lexemes.Word.TheVariants as word
+use Rattle.tokens.specs.declared.located_tokens.Punctuator.{Punctuator}
+use Rattle.tokens.specs.declared.located_tokens.Punctuator.TheVariants as punctuator
+use Rattle.tokens.specs.declared.located_tokens.Token.{Token}
+use Rattle.tokens.specs.declared.located_tokens.Token.TheVariants as token
+use Rattle.tokens.specs.declared.located_tokens.Word.TheVariants as word
 use Rattle.grammar.specs.declared.operators.Op.{Op}
 use Rattle.grammar.specs.declared.operators.Op.TheVariants as op
 use Rattle.grammar.specs.declared.operators.StoreOp.{StoreOp}
 use Rattle.grammar.specs.declared.operators.StoreOp.TheVariants as store
 use Rattle.round_trip.specs.Written.{Sign, Minus, Not, Tilde, Step, Up, Down, Expression, Constant, Variable, Binary, Signed, Assign, StepBefore, StepBehind, Call, Arguments, NoMore, Argument, Statement, Nothing, Evaluate, If, IfElse, While, Return, ReturnValue, Block, Statements, Done, Next}
 
--- the mark of a binary operator
-abbrev pub binary_mark : Op → Mark
-binary_mark op.Or = mark.OrOr
-binary_mark op.And = mark.AndAnd
-binary_mark op.BitOr = mark.Or
-binary_mark op.BitXor = mark.Xor
-binary_mark op.BitAnd = mark.And
-binary_mark op.Equal = mark.EqualsEquals
-binary_mark op.NotEqual = mark.NotEquals
-binary_mark op.Less = mark.Less
-binary_mark op.Greater = mark.Greater
-binary_mark op.LessOrEqual = mark.LessEquals
-binary_mark op.GreaterOrEqual = mark.GreaterEquals
-binary_mark op.ShiftLeft = mark.ShiftLeft
-binary_mark op.ShiftRight = mark.ShiftRight
-binary_mark op.Add = mark.Plus
-binary_mark op.Subtract = mark.Minus
-binary_mark op.Multiply = mark.Star
-binary_mark op.Divide = mark.Slash
-binary_mark op.Remainder = mark.Percent
+-- the punctuator of a binary operator
+abbrev pub binary_punctuator : Op → Punctuator
+binary_punctuator op.Or = punctuator.OrOr
+binary_punctuator op.And = punctuator.AndAnd
+binary_punctuator op.BitOr = punctuator.Or
+binary_punctuator op.BitXor = punctuator.Xor
+binary_punctuator op.BitAnd = punctuator.And
+binary_punctuator op.Equal = punctuator.EqualsEquals
+binary_punctuator op.NotEqual = punctuator.NotEquals
+binary_punctuator op.Less = punctuator.Less
+binary_punctuator op.Greater = punctuator.Greater
+binary_punctuator op.LessOrEqual = punctuator.LessEquals
+binary_punctuator op.GreaterOrEqual = punctuator.GreaterEquals
+binary_punctuator op.ShiftLeft = punctuator.ShiftLeft
+binary_punctuator op.ShiftRight = punctuator.ShiftRight
+binary_punctuator op.Add = punctuator.Plus
+binary_punctuator op.Subtract = punctuator.Minus
+binary_punctuator op.Multiply = punctuator.Star
+binary_punctuator op.Divide = punctuator.Slash
+binary_punctuator op.Remainder = punctuator.Percent
 
--- the mark of an assignment
-abbrev pub store_mark : StoreOp → Mark
-store_mark store.Set = mark.Equals
-store_mark store.Add = mark.PlusEquals
-store_mark store.Subtract = mark.MinusEquals
-store_mark store.Multiply = mark.StarEquals
-store_mark store.Divide = mark.SlashEquals
-store_mark store.Remainder = mark.PercentEquals
-store_mark store.ShiftLeft = mark.ShiftLeftEquals
-store_mark store.ShiftRight = mark.ShiftRightEquals
-store_mark store.BitAnd = mark.AndEquals
-store_mark store.BitXor = mark.XorEquals
-store_mark store.BitOr = mark.OrEquals
+-- the punctuator of an assignment
+abbrev pub store_punctuator : StoreOp → Punctuator
+store_punctuator store.Set = punctuator.Equals
+store_punctuator store.Add = punctuator.PlusEquals
+store_punctuator store.Subtract = punctuator.MinusEquals
+store_punctuator store.Multiply = punctuator.StarEquals
+store_punctuator store.Divide = punctuator.SlashEquals
+store_punctuator store.Remainder = punctuator.PercentEquals
+store_punctuator store.ShiftLeft = punctuator.ShiftLeftEquals
+store_punctuator store.ShiftRight = punctuator.ShiftRightEquals
+store_punctuator store.BitAnd = punctuator.AndEquals
+store_punctuator store.BitXor = punctuator.XorEquals
+store_punctuator store.BitOr = punctuator.OrEquals
 
-abbrev pub sign_mark : Sign → Mark
-sign_mark Minus = mark.Minus
-sign_mark Not = mark.Not
-sign_mark Tilde = mark.Tilde
+abbrev pub sign_punctuator : Sign → Punctuator
+sign_punctuator Minus = punctuator.Minus
+sign_punctuator Not = punctuator.Not
+sign_punctuator Tilde = punctuator.Tilde
 
-abbrev pub step_mark : Step → Mark
-step_mark Up = mark.PlusPlus
-step_mark Down = mark.MinusMinus
+abbrev pub step_punctuator : Step → Punctuator
+step_punctuator Up = punctuator.PlusPlus
+step_punctuator Down = punctuator.MinusMinus
 
 -- ( .. )
 abbrev pub brackets : List Token → List Token
-brackets tokens = token.Mark mark.OpenRound ∷ (tokens ++ token.Mark mark.CloseRound ∷ [])
+brackets tokens = token.Punctuator punctuator.OpenRound ∷ (tokens ++ token.Punctuator punctuator.CloseRound ∷ [])
 
 -- { .. }
 abbrev pub braces : List Token → List Token
-braces tokens = token.Mark mark.OpenCurly ∷ (tokens ++ token.Mark mark.CloseCurly ∷ [])
+braces tokens = token.Punctuator punctuator.OpenCurly ∷ (tokens ++ token.Punctuator punctuator.CloseCurly ∷ [])
 
 -- an expression, spelled by these tokens, as a part of a larger one: a constant or a variable stands as it is
 abbrev pub as_part : Expression → List Token → List Token
@@ -74,18 +74,18 @@ abbrev mutual
   pub spell : Expression → List Token
   spell (Constant value) = token.Constant value ∷ []
   spell (Variable name) = token.Name name ∷ []
-  spell (Binary o a b) = as_part a (spell a) ++ token.Mark (binary_mark o) ∷ as_part b (spell b)
-  spell (Signed sign e) = token.Mark (sign_mark sign) ∷ as_part e (spell e)
-  spell (Assign o name e) = token.Name name ∷ token.Mark (store_mark o) ∷ as_part e (spell e)
-  spell (StepBefore step name) = token.Mark (step_mark step) ∷ token.Name name ∷ []
-  spell (StepBehind step name) = token.Name name ∷ token.Mark (step_mark step) ∷ []
+  spell (Binary o a b) = as_part a (spell a) ++ token.Punctuator (binary_punctuator o) ∷ as_part b (spell b)
+  spell (Signed sign e) = token.Punctuator (sign_punctuator sign) ∷ as_part e (spell e)
+  spell (Assign o name e) = token.Name name ∷ token.Punctuator (store_punctuator o) ∷ as_part e (spell e)
+  spell (StepBefore step name) = token.Punctuator (step_punctuator step) ∷ token.Name name ∷ []
+  spell (StepBehind step name) = token.Name name ∷ token.Punctuator (step_punctuator step) ∷ []
   spell (Call name NoMore) = token.Name name ∷ brackets []
   spell (Call name (Argument e rest)) = token.Name name ∷ brackets (as_part e (spell e) ++ spell_more rest)
 
   -- further arguments, a comma before each
   pub spell_more : Arguments → List Token
   spell_more NoMore = []
-  spell_more (Argument e rest) = token.Mark mark.Comma ∷ (as_part e (spell e) ++ spell_more rest)
+  spell_more (Argument e rest) = token.Punctuator punctuator.Comma ∷ (as_part e (spell e) ++ spell_more rest)
 
 -- ( condition )
 abbrev pub condition : Expression → List Token
@@ -93,18 +93,19 @@ condition c = brackets (spell c)
 
 -- .. ;
 abbrev pub closed : List Token → List Token
-closed tokens = tokens ++ token.Mark mark.Semicolon ∷ []
+closed tokens = tokens ++ token.Punctuator punctuator.Semicolon ∷ []
 
 -- a statement's tokens: each body, of one statement too, in braces
 abbrev mutual
   pub spell_statement : Statement → List Token
-  spell_statement Nothing = token.Mark mark.Semicolon ∷ []
+  spell_statement Nothing = token.Punctuator punctuator.Semicolon ∷ []
   spell_statement (Evaluate e) = closed (spell e)
   spell_statement (If c body) = token.Word word.If ∷ (condition c ++ braces (spell_statements body))
   spell_statement (IfElse c body other) =
-      token.Word word.If ∷ (condition c ++ (braces (spell_statements body) ++ token.Word word.Else ∷ braces (spell_statements other)))
+      token.Word word.If ∷ (condition c ++ (braces (spell_statements body)
+      ++ token.Word word.Else ∷ braces (spell_statements other)))
   spell_statement (While c body) = token.Word word.While ∷ (condition c ++ braces (spell_statements body))
-  spell_statement Return = token.Word word.Return ∷ token.Mark mark.Semicolon ∷ []
+  spell_statement Return = token.Word word.Return ∷ token.Punctuator punctuator.Semicolon ∷ []
   spell_statement (ReturnValue e) = token.Word word.Return ∷ closed (spell e)
   spell_statement (Block body) = braces (spell_statements body)
 

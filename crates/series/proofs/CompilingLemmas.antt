@@ -8,7 +8,7 @@ use Rattle.grammar.specs.Profile.{Profile}
 use Rattle.grammar.specs.declared.diagnostics.Diagnostic.{Diagnostic}
 use Rattle.grammar.specs.Compiled.{compiled}
 use Rattle.grammar.specs.Tree.{File}
-use Rattle.code.specs.Generation.{Code, code_of}
+use Rattle.code.specs.Generation.{ObjectCode, code_of}
 use Rattle.settings.specs.declared.settings.Mode.{Mode}
 use Rattle.series.specs.Compiling.{Source, and_file, files_of, codes_of, code_or_fault, compiled_code, pieces_of, source_pieces, compiling}
 use Rattle.series.specs.Pieces.{Taken, Writes, Begins}
@@ -17,7 +17,7 @@ use Rattle.series.proofs.PiecesLemmas.{writes_then, begins_then, begins_more}
 use Rattle.series.proofs.RunsLemmas.{no_source}
 
 -- the codes so far with that of one more file; a faulty file leaves none
-abbrev pub and_code : Option (List Code) → Result Code Diagnostic → Option (List Code)
+abbrev pub and_code : Option (List ObjectCode) → Result ObjectCode Diagnostic → Option (List ObjectCode)
 and_code (Some codes) (Ok code) = Some (codes ++ code ∷ [])
 and_code _ _ = None
 
@@ -25,7 +25,7 @@ and_code _ _ = None
 codes_and_file : (profile : Profile) (files : Option (List File)) (verdict : Result File Diagnostic)
     → option_map (λ files. map (code_of profile) files) (and_file files verdict)
     ≡ and_code (option_map (λ files. map (code_of profile) files) files) (code_or_fault profile verdict)
-codes_and_file profile (Some files) (Ok file) = ap (λ (l : List Code). Some l) (map-append (code_of profile) files (file ∷ []))
+codes_and_file profile (Some files) (Ok file) = ap (λ (l : List ObjectCode). Some l) (map-append (code_of profile) files (file ∷ []))
 codes_and_file profile (Some files) (Err d) = refl
 codes_and_file profile None (Ok file) = refl
 codes_and_file profile None (Err d) = refl
@@ -38,7 +38,7 @@ files_more profile sources file within =
     (fold-append (λ files source. and_file files (compiled profile source.bytes)) (Some []) (take file sources) (get_or sources file no_source ∷ []))
 
 -- what a loop keeps, with one source more
-pub kept_more : (profile : Profile) (sources : List Source) (file : ℕ) (kept : Option (List Code)) (code : Result Code Diagnostic) → file < length sources
+pub kept_more : (profile : Profile) (sources : List Source) (file : ℕ) (kept : Option (List ObjectCode)) (code : Result ObjectCode Diagnostic) → file < length sources
     → kept ≡ codes_of profile (take file sources) → code ≡ compiled_code profile (get_or sources file no_source).bytes
     → and_code kept code ≡ codes_of profile (take (file + 1) sources)
 kept_more profile sources file kept code within so_far is = rw (so_far, is)
@@ -46,7 +46,7 @@ kept_more profile sources file kept code within so_far is = rw (so_far, is)
     ∙ codes_and_file profile (files_of profile (take file sources)) (compiled profile (get_or sources file no_source).bytes)))
 
 -- a good file's code is kept, unless a file was faulty
-pub kept_good : (faulty later : Bool) (codes after : List Code) (code : Code) (r : Result Code Diagnostic) (x : Option (List Code))
+pub kept_good : (faulty later : Bool) (codes after : List ObjectCode) (code : ObjectCode) (r : Result ObjectCode Diagnostic) (x : Option (List ObjectCode))
     → r ≡ Ok code → later ≡ faulty → after ≡ codes ++ code ∷ []
     → and_code (if faulty then None else Some codes) r ≡ x → (if later then None else Some after) ≡ x
 kept_good faulty later codes after code r x is same more kept = rw (same, more) (by_faults faulty ∙ rw is at kept)
@@ -56,11 +56,11 @@ kept_good faulty later codes after code r x is same more kept = rw (same, more) 
     by_faults false = refl
 
 -- a faulty file leaves no code
-pub kept_fault : (kept : Option (List Code)) (later : Bool) (after : List Code) (d : Diagnostic) (r : Result Code Diagnostic) (x : Option (List Code))
+pub kept_fault : (kept : Option (List ObjectCode)) (later : Bool) (after : List ObjectCode) (d : Diagnostic) (r : Result ObjectCode Diagnostic) (x : Option (List ObjectCode))
     → r ≡ Err d → later ≡ true → and_code kept r ≡ x → (if later then None else Some after) ≡ x
 kept_fault kept later after d r x is now more = rw now (by_kept kept ∙ rw is at more)
   where
-    by_kept : (k : Option (List Code)) → None ≡ and_code k (Err d)
+    by_kept : (k : Option (List ObjectCode)) → None ≡ and_code k (Err d)
     by_kept None = refl
     by_kept (Some codes) = refl
 
@@ -74,26 +74,26 @@ compiling_more mode profile sources file within =
     ∙ ap (λ l. compiling mode profile (take file sources) ++ l) (append-nil (source_pieces mode profile (get_or sources file no_source))))
 
 -- one file's pieces more
-pub pieces_more : (mode : Mode) (profile : Profile) (sources : List Source) (file : ℕ) (before now after : Taken) (code : Result Code Diagnostic)
+pub pieces_more : (mode : Mode) (profile : Profile) (sources : List Source) (file : ℕ) (before now after : Taken) (code : Result ObjectCode Diagnostic)
     → file < length sources → Writes before now (compiling mode profile (take file sources))
     → code ≡ compiled_code profile (get_or sources file no_source).bytes
     → Writes now after (pieces_of mode (file_name (get_or sources file no_source).word) code)
     → Writes before after (compiling mode profile (take (file + 1) sources))
 pieces_more mode profile sources file before now after code within so_far is writes =
     let source : Source = get_or sources file no_source in
-    let P : Result Code Diagnostic → Type 0 = λ r. Writes now after (pieces_of mode (file_name source.word) r) in
+    let P : Result ObjectCode Diagnostic → Type 0 = λ r. Writes now after (pieces_of mode (file_name source.word) r) in
     rw (compiling_more mode profile sources file within)
     (writes_then before now after (compiling mode profile (take file sources)) (source_pieces mode profile source) so_far (subst P is writes))
 
 -- the next file's pieces were cut
-pub pieces_cut : (mode : Mode) (profile : Profile) (sources : List Source) (file : ℕ) (before now after : Taken) (code : Result Code Diagnostic)
+pub pieces_cut : (mode : Mode) (profile : Profile) (sources : List Source) (file : ℕ) (before now after : Taken) (code : Result ObjectCode Diagnostic)
     → file < length sources → Writes before now (compiling mode profile (take file sources))
     → code ≡ compiled_code profile (get_or sources file no_source).bytes
     → Begins now after (pieces_of mode (file_name (get_or sources file no_source).word) code)
     → Begins before after (compiling mode profile sources)
 pieces_cut mode profile sources file before now after code within so_far is begins =
     let source : Source = get_or sources file no_source in
-    let P : Result Code Diagnostic → Type 0 = λ r. Begins now after (pieces_of mode (file_name source.word) r) in
+    let P : Result ObjectCode Diagnostic → Type 0 = λ r. Begins now after (pieces_of mode (file_name source.word) r) in
     let split : compiling mode profile sources ≡ compiling mode profile (take (file + 1) sources) ++ compiling mode profile (drop (file + 1) sources) =
     sym (ap (λ l. compiling mode profile l) (take-append-drop (file + 1) sources))
     ∙ flat_map-append (source_pieces mode profile) (take (file + 1) sources) (drop (file + 1) sources) in

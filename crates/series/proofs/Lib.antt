@@ -1,5 +1,6 @@
 pub mod KnownOutputs
 pub mod RunsLemmas
+pub mod ReadingLemmas
 pub mod CompilingLemmas
 pub mod CoursesLemmas
 pub mod OutputLemmas

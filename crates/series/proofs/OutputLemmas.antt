@@ -12,7 +12,7 @@ use Rattle.grammar.specs.Profile.{Profile}
 use Rattle.grammar.specs.Resolved.{IsResolved}
 use Rattle.grammar.specs.Tree.{File}
 use Rattle.code.specs.Codes.{AreCodesOf}
-use Rattle.code.specs.Generation.{Code, code_of}
+use Rattle.code.specs.Generation.{ObjectCode, code_of}
 use Rattle.settings.specs.declared.settings.Mode.{Mode}
 use Rattle.settings.specs.declared.settings.Mode.TheVariants.{Listing, Matches}
 use Rattle.settings.specs.Setup.{Setup}
@@ -42,12 +42,12 @@ faulty_run setup sources before after writes none =
     (rw (ends.0, append-nil (compiling setup.mode setup.profile sources)) writes, ends.1)
 
 -- all files are good
-good_status : (profile : Profile) (kept : List Code) (files : Option (List File)) → Some kept ≡ option_map (λ files. map (code_of profile) files) files
+good_status : (profile : Profile) (kept : List ObjectCode) (files : Option (List File)) → Some kept ≡ option_map (λ files. map (code_of profile) files) files
     → Done ≡ status_of files
 good_status profile kept (Some files) some = refl
 good_status profile kept None some = cc
 
-pub listing_run : (setup : Setup) (sources : List Source) (kept : List Code) (before after : Taken) → setup.mode ≡ Listing
+pub listing_run : (setup : Setup) (sources : List Source) (kept : List ObjectCode) (before after : Taken) → setup.mode ≡ Listing
     → Writes before after (compiling setup.mode setup.profile sources) → Some kept ≡ codes_of setup.profile sources
     → Writes before after (output setup sources).pieces × (Done ≡ (output setup sources).status)
 listing_run setup sources kept before after listing writes some = (
@@ -56,7 +56,7 @@ listing_run setup sources kept before after listing writes some = (
 )
 
 -- the files of the codes that were kept
-kept_files : (profile : Profile) (kept : List Code) (files : Option (List File)) → Some kept ≡ option_map (λ files. map (code_of profile) files) files
+kept_files : (profile : Profile) (kept : List ObjectCode) (files : Option (List File)) → Some kept ≡ option_map (λ files. map (code_of profile) files) files
     → (good : List File) × (files ≡ Some good) × (kept ≡ map (code_of profile) good)
 kept_files profile kept (Some files) some = (files, refl, cc)
 kept_files profile kept None some = cc
@@ -91,7 +91,7 @@ all_resolved law profile (source ∷ sources) so_far files each is =
     by_verdict (Err d) here rest more = let none = none_later sources in cc
 
 -- the programs that were kept are the codes of the files, each resolved
-pub kept_codes : CompiledIsResolved → (profile : Profile) (sources : List Source) (kept : List Code) → Some kept ≡ codes_of profile sources
+pub kept_codes : CompiledIsResolved → (profile : Profile) (sources : List Source) (kept : List ObjectCode) → Some kept ≡ codes_of profile sources
     → (files : List File) × (files_of profile sources ≡ Some files) × AreCodesOf kept profile files
 kept_codes law profile sources kept some =
     let found = kept_files profile kept (files_of profile sources) some in

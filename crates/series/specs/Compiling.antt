@@ -5,7 +5,7 @@ use Rattle.grammar.specs.Compiled.{compiled}
 use Rattle.grammar.specs.Profile.{Profile}
 use Rattle.grammar.specs.Texts.{text_of}
 use Rattle.grammar.specs.Tree.{File}
-use Rattle.code.specs.Generation.{Code, code_of}
+use Rattle.code.specs.Generation.{ObjectCode, code_of}
 use Rattle.code.specs.Listing.{listing_of}
 use Rattle.settings.specs.declared.settings.Mode.{Mode}
 use Rattle.settings.specs.declared.settings.Mode.TheVariants.{Listing, Matches}
@@ -29,7 +29,7 @@ abbrev pub files_of : Profile → List Source → Option (List File)
 files_of profile sources = fold (λ files source. and_file files (compiled profile source.bytes)) (Some []) sources
 
 -- the code of each file
-abbrev pub codes_of : Profile → List Source → Option (List Code)
+abbrev pub codes_of : Profile → List Source → Option (List ObjectCode)
 codes_of profile sources = option_map (λ files. map (code_of profile) files) (files_of profile sources)
 
 -- whether a file had a fault
@@ -38,15 +38,15 @@ status_of (Some files) = Done
 status_of None = Faulty
 
 -- the code of a file, or its fault
-abbrev pub code_or_fault : Profile → Result File Diagnostic → Result Code Diagnostic
+abbrev pub code_or_fault : Profile → Result File Diagnostic → Result ObjectCode Diagnostic
 code_or_fault profile (Ok file) = Ok (code_of profile file)
 code_or_fault profile (Err d) = Err d
 
-abbrev pub compiled_code : Profile → List ℕ → Result Code Diagnostic
+abbrev pub compiled_code : Profile → List ℕ → Result ObjectCode Diagnostic
 compiled_code profile bytes = code_or_fault profile (compiled profile bytes)
 
 -- a good file's listing is a text
-abbrev pub listing_piece : List ℕ → Code → Piece
+abbrev pub listing_piece : List ℕ → ObjectCode → Piece
 listing_piece name code = record { channel = Text; bytes = listing_of name code }
 
 -- a faulty file's diagnostic goes to the channel of faults
@@ -59,7 +59,7 @@ listed Listing listing = listing ∷ []
 listed Matches listing = []
 
 -- what is written of one file, by its name and what it compiles to
-abbrev pub pieces_of : Mode → List ℕ → Result Code Diagnostic → List Piece
+abbrev pub pieces_of : Mode → List ℕ → Result ObjectCode Diagnostic → List Piece
 pieces_of mode name (Ok code) = listed mode (listing_piece name code)
 pieces_of mode name (Err d) = diagnostic_piece name d ∷ []
 

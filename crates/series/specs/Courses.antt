@@ -1,7 +1,7 @@
 -- A series under way: what its next step does and writes.
 use Rattle.std.specs.Prelude.{◌≡◌, ℕ, ◌+◌, ◌<◌, List, [], Bool, nat_lt, if◌then◌else◌, ◌==◌, Result, Ok, Err, get_or}
 use Rattle.grammar.specs.Tree.{File}
-use Rattle.code.specs.Generation.{Code}
+use Rattle.code.specs.Generation.{ObjectCode}
 use Rattle.battles.specs.Battle.{Outcome}
 use Rattle.settings.specs.Setup.{Setup}
 use Rattle.series.specs.declared.endings.SeriesFault.{SeriesFault}
@@ -17,7 +17,8 @@ step_of setup played = if nat_lt played setup.matches then Played (setup.first +
 
 -- that writes the report of the match
 abbrev pub next_text : Setup → List File → ℕ → List ℕ
-next_text setup files played = if nat_lt played setup.matches then report_text setup files (setup.first + played) else []
+next_text setup files played = if nat_lt played setup.matches then report_text setup files (setup.first + played) else
+    []
 
 -- a match counts as played if its report was written
 abbrev pub played_after : Result Step SeriesFault → ℕ → ℕ
@@ -50,12 +51,13 @@ pub record Course : Type 0 where
 -- a series: what it is asked to do, its programs, how many matches were played, and whether a write has failed
 pub record Standing : Type 0 where
   pub setup : Setup
-  pub codes : List Code
+  pub codes : List ObjectCode
   pub played : ℕ
   pub failed : Bool
 
 -- a score with one more match
 abbrev pub with_match : Score → Bool → ℕ → Score
 with_match score alive survivors =
-    if alive then (if survivors == 1 then record score { won = score.won + 1 } else record score { tied = score.tied + 1 })
+    if alive then (if survivors == 1 then record score { won = score.won + 1 } else record score
+    { tied = score.tied + 1 })
     else record score { lost = score.lost + 1 }

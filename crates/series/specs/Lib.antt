@@ -10,6 +10,7 @@ pub mod Totals
 pub mod Playing
 pub mod Output
 pub mod Runs
+pub mod Reading
 pub mod Failures
 pub mod Courses
 pub mod SameReport

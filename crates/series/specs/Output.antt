@@ -29,10 +29,12 @@ output setup sources = record {
   status = status_of (files_of setup.profile sources);
 }
 
--- what the sinks took of a run that a device stopped: after a failed write a beginning of the output, and after a failed
+-- what the sinks took of a run that a device stopped: after a failed write a beginning of the output, and after a
+-- failed
 -- read what the files before it give
 abbrev pub Stops : Setup → List Source → RunFault → Taken → Taken → Type 0
-Stops setup sources (Read file) before after = Writes before after (compiling setup.mode setup.profile (take file sources))
+Stops setup sources (Read file) before after = Writes before after
+    (compiling setup.mode setup.profile (take file sources))
 Stops setup sources Write before after = Begins before after (output setup sources).pieces
 Stops setup sources Memory before after = ⊥
 

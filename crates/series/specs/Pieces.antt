@@ -34,7 +34,8 @@ TakesFrontOn Faults before after bytes = TakesFront before.faults after.faults b
 -- the sinks took these pieces, each whole, in this order, by portions of its own
 abbrev pub Writes : Taken → Taken → List Piece → Type 0
 Writes before after [] = after ≡ before
-Writes before after (piece ∷ pieces) = (between : Taken) × TakesOn piece.channel before between piece.bytes × Writes between after pieces
+Writes before after (piece ∷ pieces) = (between : Taken) × TakesOn piece.channel before between piece.bytes
+    × Writes between after pieces
 
 -- the sinks took a beginning of these pieces: some first ones whole, and perhaps a front of the next
 abbrev pub Begins : Taken → Taken → List Piece → Type 0

@@ -28,7 +28,8 @@ abbrev pub TakesFront : Portions → Portions → List ℕ → Type 0
 TakesFront before after bytes = (left : List ℕ) × TakesAllBut before after bytes left
 
 -- What a call left that was to put these bytes, from a sink that had failed n times to one that has failed m times:
--- if it succeeded, the sink took them and has not failed; if it failed, the sink took a front of them and has failed once.
+-- if it succeeded, the sink took them and has not failed; if it failed, the sink took a front of them and has failed
+-- once.
 abbrev pub Puts : {T E : Type 0} → Result T E → Portions → ℕ → Portions → ℕ → List ℕ → Type 0
 Puts result before n after m bytes = MatchResult result
     (λ _. Takes before after bytes × (m ≡ n))

@@ -19,7 +19,8 @@ robot_line i is_alive damage name =
 
 abbrev pub robot_lines : List (List ℕ) → Outcome → List (List ℕ)
 robot_lines names outcome =
-    map (λ i. robot_line i (alive outcome i) (get_or outcome.damages i 0) (get_or names i [])) (range_with_len 0 (length outcome.damages))
+    map (λ i. robot_line i (alive outcome i) (get_or outcome.damages i 0) (get_or names i []))
+    (range_with_len 0 (length outcome.damages))
 
 -- the line of the match, and one of each robot
 unfoldable pub report : ℕ → List (List ℕ) → Outcome → List ℕ

@@ -1,6 +1,6 @@
 -- What compiling leaves: what the sinks took, and the programs.
 use Rattle.std.specs.Prelude.{◌≡◌, ℕ, List, Option, Some, None, Result, Ok, Err, MatchResult, map, take}
-use Rattle.code.specs.Generation.{Code}
+use Rattle.code.specs.Generation.{ObjectCode}
 use Rattle.settings.specs.Setup.{Setup}
 use Rattle.series.specs.declared.endings.RunFault.{RunFault}
 use Rattle.series.specs.declared.endings.RunFault.TheVariants as fault
@@ -17,22 +17,25 @@ pub record AreSources (sources : List Source) (words : List (List ℕ)) (known :
 -- What the sinks took if a device stopped the compiling: after a failed write a beginning of what compiling writes, and
 -- after a failed read what the files before it give.
 abbrev pub StopsCompiling : Setup → List Source → RunFault → Taken → Taken → Type 0
-StopsCompiling setup sources (fault.Read file) before after = Writes before after (compiling setup.mode setup.profile (take file sources))
+StopsCompiling setup sources (fault.Read file) before after = Writes before after
+    (compiling setup.mode setup.profile (take file sources))
 StopsCompiling setup sources fault.Write before after = Begins before after (compiling setup.mode setup.profile sources)
 StopsCompiling setup sources fault.Memory before after = ⊥
 
 -- the files were compiled: the sinks took what that writes, and the programs are theirs, if none has a fault
-abbrev pub Compiles : Setup → List Source → Result (Option (List Code)) RunFault → Taken → Taken → Type 0
+abbrev pub Compiles : Setup → List Source → Result (Option (List ObjectCode)) RunFault → Taken → Taken → Type 0
 Compiles setup sources result before after = MatchResult result
-    (λ programs. Writes before after (compiling setup.mode setup.profile sources) × (programs ≡ codes_of setup.profile sources))
+    (λ programs. Writes before after (compiling setup.mode setup.profile sources)
+    × (programs ≡ codes_of setup.profile sources))
     (λ fault. StopsCompiling setup sources fault before after)
 
 -- the programs that were kept are answered if no file has a fault
-abbrev pub programs_by : Result Status RunFault → List Code → Result (Option (List Code)) RunFault
+abbrev pub programs_by : Result Status RunFault → List ObjectCode → Result (Option (List ObjectCode)) RunFault
 programs_by (Ok Done) kept = Ok (Some kept)
 programs_by (Ok Faulty) kept = Ok None
 programs_by (Err fault) kept = Err fault
 
 -- the sinks took the pieces, or a beginning of them
 abbrev pub PutsPieces : {T E : Type 0} → Result T E → Taken → Taken → List Piece → Type 0
-PutsPieces result before after pieces = MatchResult result (λ _. Writes before after pieces) (λ _. Begins before after pieces)
+PutsPieces result before after pieces = MatchResult result (λ _. Writes before after pieces)
+    (λ _. Begins before after pieces)

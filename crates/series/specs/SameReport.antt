@@ -22,6 +22,7 @@ with_matches setup first matches = record setup { first = first; matches = match
 
 -- if both series contain a match, its report is the same
 abbrev pub SameReport : Type 0
-SameReport = (setup : Setup) (sources : List Source) (first matches k : ℕ) → setup.mode ≡ Matches → (output setup sources).status ≡ Done
+SameReport = (setup : Setup) (sources : List Source) (first matches k : ℕ) → setup.mode ≡ Matches
+    → (output setup sources).status ≡ Done
     → Contains setup k → Contains (with_matches setup first matches) k
     → report_in setup sources k ≡ report_in (with_matches setup first matches) sources k

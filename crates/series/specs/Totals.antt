@@ -22,7 +22,11 @@ has_lost i outcome = not (has_won i outcome || has_tied i outcome)
 
 -- how often a robot won, tied and lost these matches
 abbrev pub score_of : List Outcome → ℕ → Score
-score_of outcomes i = record { won = count_by (has_won i) outcomes; tied = count_by (has_tied i) outcomes; lost = count_by (has_lost i) outcomes }
+score_of outcomes i = record {
+  won = count_by (has_won i) outcomes;
+  tied = count_by (has_tied i) outcomes;
+  lost = count_by (has_lost i) outcomes;
+}
 
 -- `Totals: {m} matches`
 abbrev pub totals_line : ℕ → List ℕ

@@ -80,7 +80,8 @@ impl<'a> Course<'a> {
         ensures tally { (files : List File) → AreCodesOf programs.now self.old.setup.profile files
             → IsTallyOf self.old.tally (outcomes self.old.setup files self.old.tally.matches)
             → IsTallyOf self.new.tally (outcomes self.old.setup files self.new.tally.matches) }
-        ensures text { self.old.failed ≡ false → (files : List File) → AreCodesOf programs.now self.old.setup.profile files
+        ensures text { self.old.failed ≡ false → (files : List File)
+            → AreCodesOf programs.now self.old.setup.profile files
             → Puts result (S.portions out.old) (S.failures out.old) (S.portions out.new) (S.failures out.new)
             (next_text self.old.setup files self.old.tally.matches) }
         ensures count { self.old.failed ≡ false → CountsSink result (S.failures out.old) (S.failures out.new) }
@@ -118,8 +119,10 @@ impl<'a> Course<'a> {
         requires over { self.old.tally.matches ≡ self.old.setup.matches }
         requires countable { S.failures out.old < 2 ^ 64 - 1 }
         ensures after { self.new ≡ record self.old { failed = is_err result } }
-        ensures text { self.old.failed ≡ false → (files : List File) → IsTallyOf self.old.tally (outcomes self.old.setup files self.old.setup.matches)
-            → Puts result (S.portions out.old) (S.failures out.old) (S.portions out.new) (S.failures out.new) (totals_text self.old.setup files) }
+        ensures text { self.old.failed ≡ false → (files : List File)
+            → IsTallyOf self.old.tally (outcomes self.old.setup files self.old.setup.matches)
+            → Puts result (S.portions out.old) (S.failures out.old) (S.portions out.new) (S.failures out.new)
+            (totals_text self.old.setup files) }
         ensures count { self.old.failed ≡ false → CountsSink result (S.failures out.old) (S.failures out.new) }
         ensures stopped { self.old.failed ≡ true → is_err result ≡ true
             × (S.portions out.new ≡ S.portions out.old) × (S.failures out.new ≡ S.failures out.old) }

@@ -23,7 +23,7 @@ pub use listing::put_listing;
 pub use pen::{PAGE, Pen};
 pub use recorder::Recorder;
 pub use runs::{compile_files, run};
-pub use series::Series;
+pub use series::{HoldsPrograms, Series};
 pub use settings::{
     CYCLES_DEFAULT, CYCLES_MAX, FILES_MAX, FIRST_MAX, MATCHES_MAX, Mode, SEED_DEFAULT, Settings,
 };
@@ -34,8 +34,6 @@ pub use tokens::{DeviceFault, Feed};
 #[cfg(test)]
 mod checks;
 #[cfg(test)]
-mod course_tests;
-#[cfg(test)]
 mod listing_tests;
 #[cfg(test)]
 mod machine_tests;
@@ -45,5 +43,7 @@ mod match_tests;
 mod replay_tests;
 #[cfg(test)]
 mod run_tests;
+#[cfg(test)]
+mod series_tests;
 #[cfg(test)]
 mod tests;

@@ -14,7 +14,8 @@ use tokens::DeviceFault;
 /// Puts the listing of a program: the line of the file's name, and the program's lines.
 pub fn put_listing<S: Sink>(sink: &mut S, name: &[u8], program: &Program) -> Result<(), DeviceFault>
     requires { S.failures sink.old < 2 ^ 64 - 1 }
-    ensures { Puts result (S.portions sink.old) (S.failures sink.old) (S.portions sink.new) (S.failures sink.new) (listing_of name.now program.now) }
+    ensures { Puts result (S.portions sink.old) (S.failures sink.old) (S.portions sink.new) (S.failures sink.new)
+        (listing_of name.now program.now) }
 {
     let mut pen = Pen::new();
     pen.add(sink, b"File ");
@@ -28,7 +29,8 @@ pub fn put_listing<S: Sink>(sink: &mut S, name: &[u8], program: &Program) -> Res
 fn add_lines<S: Sink>(pen: &mut Pen, sink: &mut S, program: &Program)
     requires { MayFail pen.old (S.failures sink.old) }
     ensures countable { MayFail pen.new (S.failures sink.new) }
-    ensures text { Adds (S.portions sink.old) (S.failures sink.old) pen.old (S.portions sink.new) (S.failures sink.new) pen.new (lines_text (lines_of program.now)) }
+    ensures text { Adds (S.portions sink.old) (S.failures sink.old) pen.old (S.portions sink.new)
+        (S.failures sink.new) pen.new (lines_text (lines_of program.now)) }
 {
     let mut line = Line::new();
     for n in 0..program.lines() {

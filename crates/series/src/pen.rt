@@ -43,7 +43,8 @@ impl Pen {
     pub fn add<S: Sink>(&mut self, sink: &mut S, bytes: &[u8])
         requires { MayFail self.old (S.failures sink.old) }
         ensures countable { MayFail self.new (S.failures sink.new) }
-        ensures text { Adds (S.portions sink.old) (S.failures sink.old) self.old (S.portions sink.new) (S.failures sink.new) self.new bytes.now }
+        ensures text { Adds (S.portions sink.old) (S.failures sink.old) self.old (S.portions sink.new)
+            (S.failures sink.new) self.new bytes.now }
     {
         if bytes.len() > self.page.remaining_capacity() {
             self.turn(sink);
@@ -75,7 +76,8 @@ impl Pen {
         requires countable { MayFail self.old (S.failures sink.old) }
         requires empty { self.old.failed ≡ false → self.old.page ≡ [] }
         ensures countable { MayFail self.new (S.failures sink.new) }
-        ensures text { Adds (S.portions sink.old) (S.failures sink.old) self.old (S.portions sink.new) (S.failures sink.new) self.new bytes.now }
+        ensures text { Adds (S.portions sink.old) (S.failures sink.old) self.old (S.portions sink.new)
+            (S.failures sink.new) self.new bytes.now }
     {
         if !self.failed {
             self.failed = put_all(sink, bytes).is_err();

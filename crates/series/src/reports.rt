@@ -44,7 +44,8 @@ fn add_robots<S: Sink>(pen: &mut Pen, sink: &mut S, outcome: &Outcome, words: &[
     requires named { length outcome.now.damages ≡ length (paired words.now) }
     requires countable { MayFail pen.old (S.failures sink.old) }
     ensures countable { MayFail pen.new (S.failures sink.new) }
-    ensures text { Adds (S.portions sink.old) (S.failures sink.old) pen.old (S.portions sink.new) (S.failures sink.new) pen.new
+    ensures text { Adds (S.portions sink.old) (S.failures sink.old) pen.old (S.portions sink.new)
+        (S.failures sink.new) pen.new
         (lines_text (robot_lines (robot_names (map (λ word. word.now) words.now)) outcome.now)) }
 {
     for robot in 0..outcome.damages().len() {
@@ -58,7 +59,8 @@ fn add_robot<S: Sink>(pen: &mut Pen, sink: &mut S, outcome: &Outcome, robot: usi
     requires most { robot < FILES_MAX }
     requires countable { MayFail pen.old (S.failures sink.old) }
     ensures countable { MayFail pen.new (S.failures sink.new) }
-    ensures text { Adds (S.portions sink.old) (S.failures sink.old) pen.old (S.portions sink.new) (S.failures sink.new) pen.new
+    ensures text { Adds (S.portions sink.old) (S.failures sink.old) pen.old (S.portions sink.new)
+        (S.failures sink.new) pen.new
         (ended_line (robot_line robot (alive outcome.now robot) (slice_index outcome.now.damages robot) name.now)) }
 {
     pen.add(sink, b"  ");

@@ -10,12 +10,13 @@ ghost use Rattle.series.specs.Output.{Runs};
 ghost use Rattle.series.specs.Pieces.{taken, Writes, Begins};
 ghost use Rattle.series.specs.Playing.{playing};
 ghost use Rattle.series.specs.Portions.{Portions};
+ghost use Rattle.series.specs.Reading.{Reads, TakesOf};
 ghost use Rattle.series.specs.Runs.{AreSources, Compiles, PutsPieces, programs_by};
 ghost use Rattle.series.specs.Texts.{file_name};
 
-use crate::courses::Course;
 use crate::endings::{RunFault, SeriesFault, Status};
 use crate::listing::put_listing;
+use crate::series::Series;
 use crate::sink::Sink;
 use crate::texts::{name_of, put_diagnostic};
 use battles::Programs;
@@ -28,7 +29,8 @@ use tokens::{DeviceFault, Feed};
 
 /// Runs what the settings ask for: each of their words has the feed of its file, in order.
 ///
-/// `out` takes listings, or the reports of matches and their totals; `err` takes the diagnostics of faulty files. No match
+/// `out` takes listings, or the reports of matches and their totals; `err` takes the diagnostics of faulty files. No
+/// match
 /// is played if a file has a fault.
 ///
 /// # Errors
@@ -45,7 +47,9 @@ pub fn run<F: Feed, O: Sink, E: Sink>(
     requires text { O.failures out.old < 2 ^ 64 - 1 }
     requires faults { E.failures err.old < 2 ^ 64 - 1 }
     ensures output { (sources : List Source) → AreSources sources settings.now.words (map F.to_come feeds.old)
-        → Runs settings.now sources result (taken (O.portions out.old) (E.portions err.old)) (taken (O.portions out.new) (E.portions err.new)) }
+        → Runs settings.now sources result (taken (O.portions out.old) (E.portions err.old))
+        (taken (O.portions out.new) (E.portions err.new)) }
+    ensures read { Reads settings.now.profile result (map F.to_come feeds.old) (map F.to_come feeds.new) }
     ensures failures { Accounts result
         (failures (map F.failures feeds.old) (O.failures out.old) (E.failures err.old))
         (failures (map F.failures feeds.new) (O.failures out.new) (E.failures err.new)) }
@@ -73,17 +77,18 @@ fn play_all<O: Sink>(
     requires manned { length programs.now ≡ length settings.now.words }
     requires countable { O.failures out.old < 2 ^ 64 - 1 }
     ensures output { (files : List File) (faults : Portions) → AreCodesOf programs.now settings.now.profile files
-        → PutsPieces result (taken (O.portions out.old) faults) (taken (O.portions out.new) faults) (playing settings.now files) }
+        → PutsPieces result (taken (O.portions out.old) faults) (taken (O.portions out.new) faults)
+        (playing settings.now files) }
     ensures answer { MatchResult result (λ status. status ≡ Status.Done) (λ fault. fault ≡ RunFault.Write) }
     ensures count { CountsSink result (O.failures out.old) (O.failures out.new) }
 {
-    let mut course = Course::new(settings);
+    let mut series = Series::new(programs, settings);
     for _ in 0..settings.matches() {
-        if let Err(SeriesFault::Write) = course.next(programs, out) {
+        if let Err(SeriesFault::Write) = series.next(out) {
             return Err(RunFault::Write);
         }
     }
-    match course.finish(out) {
+    match series.finish(out) {
         Ok(()) => Ok(Status::Done),
         Err(SeriesFault::Write) => Err(RunFault::Write),
     }
@@ -101,8 +106,11 @@ pub fn compile_files<F: Feed, O: Sink, E: Sink>(
     requires text { O.failures out.old < 2 ^ 64 - 1 }
     requires faults { E.failures err.old < 2 ^ 64 - 1 }
     ensures output { (sources : List Source) → AreSources sources settings.now.words (map F.to_come feeds.old)
-        → Compiles settings.now sources result (taken (O.portions out.old) (E.portions err.old)) (taken (O.portions out.new) (E.portions err.new)) }
-    ensures manned { IfOk result (λ programs. IfSome programs (λ programs. length programs ≡ length settings.now.words)) }
+        → Compiles settings.now sources result (taken (O.portions out.old) (E.portions err.old))
+        (taken (O.portions out.new) (E.portions err.new)) }
+    ensures manned { IfOk result (λ programs. IfSome programs
+        (λ programs. length programs ≡ length settings.now.words)) }
+    ensures read { Reads settings.now.profile result (map F.to_come feeds.old) (map F.to_come feeds.new) }
     ensures failures { Accounts result
         (failures (map F.failures feeds.old) (O.failures out.old) (E.failures err.old))
         (failures (map F.failures feeds.new) (O.failures out.new) (E.failures err.new)) }
@@ -131,8 +139,10 @@ pub(crate) fn compile_into<F: Feed, O: Sink, E: Sink>(
     requires text { O.failures out.old < 2 ^ 64 - 1 }
     requires faults { E.failures err.old < 2 ^ 64 - 1 }
     ensures output { (sources : List Source) → AreSources sources settings.now.words (map F.to_come feeds.old)
-        → Compiles settings.now sources (programs_by result programs.new) (taken (O.portions out.old) (E.portions err.old)) (taken (O.portions out.new) (E.portions err.new)) }
+        → Compiles settings.now sources (programs_by result programs.new)
+        (taken (O.portions out.old) (E.portions err.old)) (taken (O.portions out.new) (E.portions err.new)) }
     ensures manned { IfOk result (λ status. status ≡ Status.Done → length programs.new ≡ length settings.now.words) }
+    ensures read { Reads settings.now.profile result (map F.to_come feeds.old) (map F.to_come feeds.new) }
     ensures failures { Accounts result
         (failures (map F.failures feeds.old) (O.failures out.old) (E.failures err.old))
         (failures (map F.failures feeds.new) (O.failures out.new) (E.failures err.new)) }
@@ -173,8 +183,10 @@ fn put_compiled<O: Sink, E: Sink>(
     requires text { O.failures out.old < 2 ^ 64 - 1 }
     requires faults { E.failures err.old < 2 ^ 64 - 1 }
     ensures taken { PutsPieces result
-        (taken (O.portions out.old) (E.portions err.old)) (taken (O.portions out.new) (E.portions err.new)) (pieces_of mode name.now compiled.now) }
-    ensures failures { CountsSinks result (O.failures out.old) (E.failures err.old) (O.failures out.new) (E.failures err.new) }
+        (taken (O.portions out.old) (E.portions err.old)) (taken (O.portions out.new) (E.portions err.new))
+        (pieces_of mode name.now compiled.now) }
+    ensures failures { CountsSinks result (O.failures out.old) (E.failures err.old) (O.failures out.new)
+        (E.failures err.new) }
 {
     match compiled {
         Ok(program) => match mode {
@@ -191,7 +203,10 @@ pub(crate) fn compile<F: Feed>(
     feed: &mut F,
 ) -> Result<Result<Program, Diagnostic>, DeviceFault>
     requires { F.failures feed.old < 2 ^ 64 - 1 }
-    ensures file { IfOk result (λ compiled. (bytes : List ℕ) → F.to_come feed.old ≡ Some bytes → compiled ≡ compiled_code profile bytes) }
+    ensures file { IfOk result (λ compiled. (bytes : List ℕ) → F.to_come feed.old ≡ Some bytes
+        → compiled ≡ compiled_code profile bytes) }
+    ensures taken { OnOk result (TakesOf profile (F.to_come feed.old) (F.to_come feed.new) 4096) }
+    ensures stopped { OnErr result (TakesOf profile (F.to_come feed.old) (F.to_come feed.new) 0) }
     ensures count { Counts result (F.failures feed.old) (F.failures feed.new) }
 {
     let mut maker = Maker::new(profile);

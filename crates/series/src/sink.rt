@@ -20,7 +20,8 @@ pub trait Sink {
         requires countable { failures self.old < 2 ^ 64 - 1 }
         ensures some { IfOk result (λ n. 0 < n) }
         ensures front { IfOk result (λ n. n ≤ length bytes.now) }
-        ensures taken { IfOk result (λ n. portions self.new ≡ and_portions (portions self.old) (take n bytes.now ∷ [])) }
+        ensures taken { IfOk result (λ n. portions self.new
+            ≡ and_portions (portions self.old) (take n bytes.now ∷ [])) }
         ensures calm { OnOk result (failures self.new ≡ failures self.old) }
         ensures kept { OnErr result (portions self.new ≡ portions self.old) }
         ensures counted { OnErr result (failures self.new ≡ failures self.old + 1) };
@@ -29,7 +30,8 @@ pub trait Sink {
 /// Writes all of `bytes`, by as many calls as the sink needs; fails where the sink does.
 pub fn put_all<S: Sink>(sink: &mut S, bytes: &[u8]) -> Result<(), DeviceFault>
     requires countable { S.failures sink.old < 2 ^ 64 - 1 }
-    ensures { Puts result (S.portions sink.old) (S.failures sink.old) (S.portions sink.new) (S.failures sink.new) bytes.now }
+    ensures { Puts result (S.portions sink.old) (S.failures sink.old) (S.portions sink.new) (S.failures sink.new)
+        bytes.now }
 {
     let mut rest = bytes;
     while !rest.is_empty() {

@@ -38,7 +38,8 @@ impl Model for Tally {
 
     ghost view = { λ t. record { matches = t.matches; scores = t.scores } };
 
-    ghost invariant = { λ t. (length t.scores ≡ 4) × All (λ score. score.won + score.tied + score.lost ≡ t.matches) t.scores };
+    ghost invariant = { λ t. (length t.scores ≡ 4)
+        × All (λ score. score.won + score.tied + score.lost ≡ t.matches) t.scores };
 }
 
 impl Tally {
@@ -68,7 +69,8 @@ impl Tally {
     pub(crate) fn count(&mut self, outcome: &Outcome)
         requires { self.old.matches < 2 ^ 32 - 1 }
         ensures matches { self.new.matches ≡ self.old.matches + 1 }
-        ensures tally { (outcomes : List Ended) → IsTallyOf self.old outcomes → IsTallyOf self.new (outcomes ++ outcome.now ∷ []) }
+        ensures tally { (outcomes : List Ended) → IsTallyOf self.old outcomes
+            → IsTallyOf self.new (outcomes ++ outcome.now ∷ []) }
     {
         self.matches += 1;
         let survivors = survivor_count(outcome);
@@ -147,7 +149,8 @@ fn add_scores<S: Sink>(pen: &mut Pen, sink: &mut S, tally: &Tally, words: &[&str
     requires most { length words.now ≤ FILES_MAX }
     requires countable { MayFail pen.old (S.failures sink.old) }
     ensures countable { MayFail pen.new (S.failures sink.new) }
-    ensures text { Adds (S.portions sink.old) (S.failures sink.old) pen.old (S.portions sink.new) (S.failures sink.new) pen.new
+    ensures text { Adds (S.portions sink.old) (S.failures sink.old) pen.old (S.portions sink.new)
+        (S.failures sink.new) pen.new
         (lines_text (score_lines (robot_names (map (λ word. word.now) words.now)) (score_at tally.now))) }
 {
     for robot in 0..words.len().max(2) {
@@ -166,7 +169,8 @@ fn add_score<S: Sink>(pen: &mut Pen, sink: &mut S, robot: usize, score: Score, n
     requires there { robot < FILES_MAX }
     requires countable { MayFail pen.old (S.failures sink.old) }
     ensures countable { MayFail pen.new (S.failures sink.new) }
-    ensures text { Adds (S.portions sink.old) (S.failures sink.old) pen.old (S.portions sink.new) (S.failures sink.new) pen.new
+    ensures text { Adds (S.portions sink.old) (S.failures sink.old) pen.old (S.portions sink.new)
+        (S.failures sink.new) pen.new
         (ended_line (score_line robot score name.now)) }
 {
     pen.add(sink, b"  ");

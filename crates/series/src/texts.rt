@@ -14,7 +14,8 @@ impl Pen {
     pub fn number<S: Sink>(&mut self, sink: &mut S, n: u32)
         requires { MayFail self.old (S.failures sink.old) }
         ensures countable { MayFail self.new (S.failures sink.new) }
-        ensures text { Adds (S.portions sink.old) (S.failures sink.old) self.old (S.portions sink.new) (S.failures sink.new) self.new (decimal n) }
+        ensures text { Adds (S.portions sink.old) (S.failures sink.old) self.old (S.portions sink.new)
+            (S.failures sink.new) self.new (decimal n) }
     {
         if n >= 10 {
             self.number(sink, n / 10);
@@ -26,7 +27,8 @@ impl Pen {
     pub fn column<S: Sink>(&mut self, sink: &mut S, width: usize, n: u32)
         requires { MayFail self.old (S.failures sink.old) }
         ensures countable { MayFail self.new (S.failures sink.new) }
-        ensures text { Adds (S.portions sink.old) (S.failures sink.old) self.old (S.portions sink.new) (S.failures sink.new) self.new (column width n) }
+        ensures text { Adds (S.portions sink.old) (S.failures sink.old) self.old (S.portions sink.new)
+            (S.failures sink.new) self.new (column width n) }
     {
         if n >= 10 {
             self.column(sink, width.saturating_sub(1), n / 10);
@@ -39,7 +41,8 @@ impl Pen {
     fn spaces<S: Sink>(&mut self, sink: &mut S, count: usize)
         requires { MayFail self.old (S.failures sink.old) }
         ensures countable { MayFail self.new (S.failures sink.new) }
-        ensures text { Adds (S.portions sink.old) (S.failures sink.old) self.old (S.portions sink.new) (S.failures sink.new) self.new (replicate count 32) }
+        ensures text { Adds (S.portions sink.old) (S.failures sink.old) self.old (S.portions sink.new)
+            (S.failures sink.new) self.new (replicate count 32) }
     {
         for _ in 0..count {
             self.add(sink, b" ");
@@ -66,7 +69,8 @@ pub fn put_diagnostic<S: Sink>(
     text: &[u8],
 ) -> Result<(), DeviceFault>
     requires { S.failures sink.old < 2 ^ 64 - 1 }
-    ensures { Puts result (S.portions sink.old) (S.failures sink.old) (S.portions sink.new) (S.failures sink.new) (diagnostic_line name.now line text.now) }
+    ensures { Puts result (S.portions sink.old) (S.failures sink.old) (S.portions sink.new) (S.failures sink.new)
+        (diagnostic_line name.now line text.now) }
 {
     let mut pen = Pen::new();
     pen.add(sink, name);

@@ -74,10 +74,12 @@ setup_of numbers mode files = record {
   words = files;
 }
 
--- the settings, with these numbers and this mode, or the first fault: a value, then how many files there are, then the mode
+-- the settings, with these numbers and this mode, or the first fault: a value, then how many files there are, then the
+-- mode
 abbrev pub settled_by : List (List ℕ) → Option Numbers → Option Mode → Result Setup UseFault
 settled_by files None mode = Err Number
-settled_by files (Some numbers) mode = if nat_lt files_max (length files) then Err TooMany else ok_or (option_map (λ m. setup_of numbers m files) mode) NoMode
+settled_by files (Some numbers) mode = if nat_lt files_max (length files) then Err TooMany else ok_or
+    (option_map (λ m. setup_of numbers m files) mode) NoMode
 
 -- the settings that are asked for, or the first fault
 abbrev pub settled : Given → Result Setup UseFault

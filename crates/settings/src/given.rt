@@ -84,9 +84,21 @@ impl Model for Numbers {
 
     ghost Value = { Numbers };
 
-    ghost view = { λ n. record { matches = n.matches; limit = n.limit; seed = n.seed; profile = n.profile; first = n.first } };
+    ghost view = { λ n. record {
+      matches = n.matches;
+      limit = n.limit;
+      seed = n.seed;
+      profile = n.profile;
+      first = n.first;
+    } };
 
-    ghost invariant = { λ n. AreWithin (record { matches = n.matches; limit = n.limit; seed = n.seed; profile = n.profile; first = n.first }) };
+    ghost invariant = { λ n. AreWithin (record {
+      matches = n.matches;
+      limit = n.limit;
+      seed = n.seed;
+      profile = n.profile;
+      first = n.first;
+    }) };
 }
 
 impl Numbers {

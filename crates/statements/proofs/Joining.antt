@@ -3,21 +3,21 @@ use Rattle.std.proofs.Common.{◌≡◌, ℕ, ◌≤◌, List, ◌∷◌, ◌++�
 use Rattle.grammar.specs.Actions.{Action, BeginWhile, Chop, ElsePart, EndIf, EndWhile, GiveBack, IfTest, WhileTest, body_actions, expr_actions}
 use Rattle.grammar.specs.Nesting.{body_nesting}
 use Rattle.grammar.specs.Resolved.{InBody}
-use Rattle.grammar.specs.Tree.{Alone, Body, Choose, Done, Return, When, While, join}
+use Rattle.grammar.specs.Tree.{ExpressionStatement, Body, IfElseStatement, Done, Return, IfStatement, While, join}
 
 pub join-done : (b : Body) → join b Done ≡ b
 join-done Done = refl
-join-done (Alone e rest) = ap (λ (r : Body). Alone e r) (join-done rest)
-join-done (When c s rest) = ap (λ (r : Body). When c s r) (join-done rest)
-join-done (Choose c s t rest) = ap (λ (r : Body). Choose c s t r) (join-done rest)
+join-done (ExpressionStatement e rest) = ap (λ (r : Body). ExpressionStatement e r) (join-done rest)
+join-done (IfStatement c s rest) = ap (λ (r : Body). IfStatement c s r) (join-done rest)
+join-done (IfElseStatement c s t rest) = ap (λ (r : Body). IfElseStatement c s t r) (join-done rest)
 join-done (While c s rest) = ap (λ (r : Body). While c s r) (join-done rest)
 join-done (Return e rest) = ap (λ (r : Body). Return e r) (join-done rest)
 
 pub join_assoc : (a b c : Body) → join (join a b) c ≡ join a (join b c)
 join_assoc Done b c = refl
-join_assoc (Alone e rest) b c = ap (λ (r : Body). Alone e r) (join_assoc rest b c)
-join_assoc (When x s rest) b c = ap (λ (r : Body). When x s r) (join_assoc rest b c)
-join_assoc (Choose x s t rest) b c = ap (λ (r : Body). Choose x s t r) (join_assoc rest b c)
+join_assoc (ExpressionStatement e rest) b c = ap (λ (r : Body). ExpressionStatement e r) (join_assoc rest b c)
+join_assoc (IfStatement x s rest) b c = ap (λ (r : Body). IfStatement x s r) (join_assoc rest b c)
+join_assoc (IfElseStatement x s t rest) b c = ap (λ (r : Body). IfElseStatement x s t r) (join_assoc rest b c)
 join_assoc (While x s rest) b c = ap (λ (r : Body). While x s r) (join_assoc rest b c)
 join_assoc (Return e rest) b c = ap (λ (r : Body). Return e r) (join_assoc rest b c)
 
@@ -26,10 +26,10 @@ deeper xs a ys zs tail e = append_assoc xs (a ∷ ys) zs ∙ ap (λ (ts : List A
 
 pub actions_join : (a b : Body) → body_actions a ++ body_actions b ≡ body_actions (join a b)
 actions_join Done b = refl
-actions_join (Alone e rest) b = deeper (expr_actions e) Chop _ _ _ (actions_join rest b)
-actions_join (When c s rest) b =
+actions_join (ExpressionStatement e rest) b = deeper (expr_actions e) Chop _ _ _ (actions_join rest b)
+actions_join (IfStatement c s rest) b =
     deeper (expr_actions c) IfTest _ _ _ (deeper (body_actions s) EndIf _ _ _ (actions_join rest b))
-actions_join (Choose c s t rest) b =
+actions_join (IfElseStatement c s t rest) b =
     deeper (expr_actions c) IfTest _ _ _ (deeper (body_actions s) ElsePart _ _ _ (deeper (body_actions t) EndIf _ _ _ (actions_join rest b)))
 actions_join (While c s rest) b =
     ap (λ (ts : List Action). BeginWhile ∷ ts) (deeper (expr_actions c) WhileTest _ _ _ (deeper (body_actions s) EndWhile _ _ _ (actions_join rest b)))
@@ -37,16 +37,16 @@ actions_join (Return e rest) b = deeper (expr_actions e) GiveBack _ _ _ (actions
 
 pub join_numbered : (a b : Body) → InBody 64 64 64 a → InBody 64 64 64 b → InBody 64 64 64 (join a b)
 join_numbered Done b h k = k
-join_numbered (Alone e rest) b h k = (h.0, join_numbered rest b h.1 k)
-join_numbered (When c s rest) b h k = (h.0, h.1, join_numbered rest b h.2 k)
-join_numbered (Choose c s t rest) b h k = (h.0, h.1, h.2, join_numbered rest b h.3 k)
+join_numbered (ExpressionStatement e rest) b h k = (h.0, join_numbered rest b h.1 k)
+join_numbered (IfStatement c s rest) b h k = (h.0, h.1, join_numbered rest b h.2 k)
+join_numbered (IfElseStatement c s t rest) b h k = (h.0, h.1, h.2, join_numbered rest b h.3 k)
 join_numbered (While c s rest) b h k = (h.0, h.1, join_numbered rest b h.2 k)
 join_numbered (Return e rest) b h k = (h.0, join_numbered rest b h.1 k)
 
 pub join_narrow : (a b : Body) (n : ℕ) → body_nesting a ≤ n → body_nesting b ≤ n → body_nesting (join a b) ≤ n
 join_narrow Done b n h k = k
-join_narrow (Alone e rest) b n h k = omega (arith, join_narrow rest b n (omega arith) k)
-join_narrow (When c s rest) b n h k = omega (arith, join_narrow rest b n (omega arith) k)
-join_narrow (Choose c s t rest) b n h k = omega (arith, join_narrow rest b n (omega arith) k)
+join_narrow (ExpressionStatement e rest) b n h k = omega (arith, join_narrow rest b n (omega arith) k)
+join_narrow (IfStatement c s rest) b n h k = omega (arith, join_narrow rest b n (omega arith) k)
+join_narrow (IfElseStatement c s t rest) b n h k = omega (arith, join_narrow rest b n (omega arith) k)
 join_narrow (While c s rest) b n h k = omega (arith, join_narrow rest b n (omega arith) k)
 join_narrow (Return e rest) b n h k = omega (arith, join_narrow rest b n (omega arith) k)

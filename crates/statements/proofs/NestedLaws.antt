@@ -1,30 +1,30 @@
 -- What the parse functions of blocks, branches, loops and rows of statements derive.
 use Rattle.std.proofs.Common.{◌≡◌, ℕ, ◌+◌, ◌<◌, ◌≤◌, List, [], ◌∷◌, ◌++◌, refl, sym, ap, ◌∙◌, subst, true, false, arith}
 use Rattle.std.specs.Prelude.{Option, Some, None}
-use Rattle.tokens.specs.declared.lexemes.Mark.TheVariants as mark
-use Rattle.tokens.specs.declared.lexemes.Word.TheVariants as word
+use Rattle.tokens.specs.declared.located_tokens.Punctuator.TheVariants as punctuator
+use Rattle.tokens.specs.declared.located_tokens.Word.TheVariants as word
 use Rattle.grammar.specs.declared.diagnostics.Code.TheVariants as code
 use Rattle.grammar.specs.Actions.{Action, BeginWhile, ElsePart as BetweenBranches, EndIf, EndWhile, IfTest, WhileTest, body_actions, expr_actions}
 use Rattle.grammar.specs.Building.{Appends, AppendsAll, Meaning}
 use Rattle.grammar.specs.Compiled.{diagnostic}
 use Rattle.grammar.specs.Derivation.{ABody, AnExpr}
 use Rattle.grammar.specs.Faults.{levels}
-use Rattle.grammar.specs.Grammar.{Block, Decide, DecideElse, Declarations, ElsePart, Empty, Exactly, Item, Make, Part, Repeat, Shut, Statement, Statements, is_fault, is_mark, is_word}
+use Rattle.grammar.specs.Grammar.{Block, Decide, DecideElse, Declarations, ElsePart, Empty, Exactly, Item, Make, Part, Repeat, Close, Statement, Statements, is_fault, is_punctuator, is_word}
 use Rattle.grammar.specs.Nesting.{body_nesting, nesting}
 use Rattle.grammar.specs.Resolved.{InBody, InExpr}
-use Rattle.grammar.specs.Tree.{Body, Choose, Done, Expr, When, While, join}
+use Rattle.grammar.specs.Tree.{Body, IfElseStatement, Done, Expr, IfStatement, While, join}
 use Rattle.parsing.specs.Position.{Place, next_at}
 use Rattle.parsing.specs.Room.{room}
 use Rattle.parsing.specs.Stopping.{Stop, stop_with}
-use Rattle.parsing.specs.Stretch.{IsNearTo, Derives, DerivesItem, FailsAt, FailsItem, GoesPast, StopsAt}
-use Rattle.parsing.proofs.Stretches.{fails_behind, joined, stay}
+use Rattle.parsing.specs.Segment.{IsNearTo, Derives, DerivesItem, FailsAt, FailsItem, GoesPast, StopsAt}
+use Rattle.parsing.proofs.Segments.{fails_behind, joined, stay}
 use Rattle.statements.specs.Branches.{AddsElse, FailsElse, IsElseNumbered, before_else, decided, else_actions, else_nesting}
 use Rattle.expressions.specs.Expressions.{AddsExpr}
 use Rattle.statements.specs.Forms.{in_brackets}
 use Rattle.statements.specs.Statements.{AddsBody, FailsBody}
 use Rattle.statements.proofs.Forms.{BeginsBlock, begins_block, behind_if, behind_while, else_chosen, end_chosen, if_chosen, if_opens, in_braces, more_chosen, no_else_chosen, while_chosen, while_opens}
 use Rattle.statements.proofs.Joining.{actions_join, join-done, join_assoc, join_narrow, join_numbered}
-use Rattle.parsing.proofs.Parts.{free_below, free_of, make_stands, mark_past, mark_stops, mark_too_deep, part_stands, shut_stands, word_past, word_stops, word_too_deep}
+use Rattle.parsing.proofs.Parts.{free_below, free_of, make_stands, punctuator_past, punctuator_stops, punctuator_too_deep, part_stands, close_stands, word_past, word_stops, word_too_deep}
 use Rattle.expressions.proofs.TellingLaws.{appends_then}
 use Rattle.statements.proofs.Rules.{choose_makes, decide_makes, empty_makes, repeat_makes}
 use Rattle.statements.proofs.SimpleLaws.{nothing_told}
@@ -35,78 +35,78 @@ deeper depth stack same = ap (λ n. n + 1) same
 
 -- Blocks.
 
-braces_past : (at now : Place) (depth : ℕ) (b : Body) → is_fault (next_at at).token ≡ false → is_mark mark.OpenCurly (next_at at).token ≡ true → depth < 64 → GoesPast at now →
+braces_past : (at now : Place) (depth : ℕ) (b : Body) → is_fault (next_at at).token ≡ false → is_punctuator punctuator.OpenCurly (next_at at).token ≡ true → depth < 64 → GoesPast at now →
     Derives depth (Part Statement ∷ []) in_braces (ABody b ∷ []) (ABody b ∷ []) at now
 braces_past at now depth b sound is shallow goes =
     let begins : BeginsBlock (next_at at).token = begins_block _ is in
     joined depth depth (Part Statement ∷ []) (Part Block ∷ []) in_braces [] (ABody b ∷ []) (ABody b ∷ []) (ABody b ∷ []) [] at at now
     (part_stands at depth Statement (Part Block ∷ []) (ABody b ∷ []) sound begins.statement (free_of depth Statement (next_at at) begins.shallow))
-    (mark_past at now depth Block mark.OpenCurly in_braces (ABody b ∷ []) sound begins.chosen is (free_below depth Block (next_at at) shallow) goes) (λ stack same. same)
+    (punctuator_past at now depth Block punctuator.OpenCurly in_braces (ABody b ∷ []) sound begins.chosen is (free_below depth Block (next_at at) shallow) goes) (λ stack same. same)
 
-block_fails : (at : Place) (depth : ℕ) (b : Body) → is_fault (next_at at).token ≡ false → is_mark mark.OpenCurly (next_at at).token ≡ true → (d : Stop) →
+block_fails : (at : Place) (depth : ℕ) (b : Body) → is_fault (next_at at).token ≡ false → is_punctuator punctuator.OpenCurly (next_at at).token ≡ true → (d : Stop) →
     FailsAt depth (Part Block ∷ []) (ABody b ∷ []) at d → FailsAt depth (Part Statement ∷ []) (ABody b ∷ []) at d
 block_fails at depth b sound is d fails =
     let begins : BeginsBlock (next_at at).token = begins_block _ is in
     fails_behind depth depth (Part Statement ∷ []) (Part Block ∷ []) [] (ABody b ∷ []) (ABody b ∷ []) [] at at d
     (part_stands at depth Statement (Part Block ∷ []) (ABody b ∷ []) sound begins.statement (free_of depth Statement (next_at at) begins.shallow)) (λ stack same. same) fails
 
-pub block_too_deep : (at : Place) (used : ℕ) (near : IsNearTo at used) (depth : ℕ) → is_fault (next_at at).token ≡ false → is_mark mark.OpenCurly (next_at at).token ≡ true → 64 ≤ depth →
+pub block_too_deep : (at : Place) (used : ℕ) (near : IsNearTo at used) (depth : ℕ) → is_fault (next_at at).token ≡ false → is_punctuator punctuator.OpenCurly (next_at at).token ≡ true → 64 ≤ depth →
     FailsBody depth (Part Statement ∷ []) at (stop_with (Some (diagnostic (next_at at).line code.NestedTooDeeply)) used)
 block_too_deep at used near depth sound is deep b =
     let begins : BeginsBlock (next_at at).token = begins_block _ is in
-    block_fails at depth b sound is _ (mark_too_deep at used near depth Block mark.OpenCurly in_braces (ABody b ∷ []) sound begins.chosen is begins.opened deep)
+    block_fails at depth b sound is _ (punctuator_too_deep at used near depth Block punctuator.OpenCurly in_braces (ABody b ∷ []) sound begins.chosen is begins.opened deep)
 
-pub brace_stops : (at : Place) (depth : ℕ) → is_fault (next_at at).token ≡ false → is_mark mark.OpenCurly (next_at at).token ≡ true → depth < 64 → (d : Stop) → StopsAt at d →
+pub brace_stops : (at : Place) (depth : ℕ) → is_fault (next_at at).token ≡ false → is_punctuator punctuator.OpenCurly (next_at at).token ≡ true → depth < 64 → (d : Stop) → StopsAt at d →
     FailsBody depth (Part Statement ∷ []) at d
 brace_stops at depth sound is shallow d stop b =
     let begins : BeginsBlock (next_at at).token = begins_block _ is in
-    block_fails at depth b sound is d (mark_stops at d depth Block mark.OpenCurly in_braces (ABody b ∷ []) sound begins.chosen is (free_below depth Block (next_at at) shallow) stop)
+    block_fails at depth b sound is d (punctuator_stops at d depth Block punctuator.OpenCurly in_braces (ABody b ∷ []) sound begins.chosen is (free_below depth Block (next_at at) shallow) stop)
 
-pub declarations_fail : (at now : Place) (depth : ℕ) → is_fault (next_at at).token ≡ false → is_mark mark.OpenCurly (next_at at).token ≡ true → depth < 64 → GoesPast at now → (d : Stop) →
+pub declarations_fail : (at now : Place) (depth : ℕ) → is_fault (next_at at).token ≡ false → is_punctuator punctuator.OpenCurly (next_at at).token ≡ true → depth < 64 → GoesPast at now → (d : Stop) →
     ((n : ℕ) → FailsAt n (Part Declarations ∷ []) [] now d) → FailsBody depth (Part Statement ∷ []) at d
 declarations_fail at now depth sound is shallow goes d fails b =
-    fails_behind depth (depth + 1) (Part Statement ∷ []) (Part Declarations ∷ []) (Part Statements ∷ Exactly mark.CloseCurly ∷ Shut ∷ []) (ABody b ∷ []) [] (ABody b ∷ []) at now d
+    fails_behind depth (depth + 1) (Part Statement ∷ []) (Part Declarations ∷ []) (Part Statements ∷ Exactly punctuator.CloseCurly ∷ Close ∷ []) (ABody b ∷ []) [] (ABody b ∷ []) at now d
     (braces_past at now depth b sound is shallow goes) (deeper depth) (fails (depth + 1))
 
-declarations_past : (at now later : Place) (depth : ℕ) (b : Body) → is_fault (next_at at).token ≡ false → is_mark mark.OpenCurly (next_at at).token ≡ true → depth < 64 → GoesPast at now →
+declarations_past : (at now later : Place) (depth : ℕ) (b : Body) → is_fault (next_at at).token ≡ false → is_punctuator punctuator.OpenCurly (next_at at).token ≡ true → depth < 64 → GoesPast at now →
     ((n : ℕ) → Derives n (Part Declarations ∷ []) [] [] [] now later) →
-    Derives depth (Part Statement ∷ []) (Part Statements ∷ Exactly mark.CloseCurly ∷ Shut ∷ []) (ABody b ∷ []) (ABody b ∷ []) at later
+    Derives depth (Part Statement ∷ []) (Part Statements ∷ Exactly punctuator.CloseCurly ∷ Close ∷ []) (ABody b ∷ []) (ABody b ∷ []) at later
 declarations_past at now later depth b sound is shallow goes declared =
-    joined depth (depth + 1) (Part Statement ∷ []) (Part Declarations ∷ []) [] (Part Statements ∷ Exactly mark.CloseCurly ∷ Shut ∷ []) (ABody b ∷ []) [] [] (ABody b ∷ []) at now later
+    joined depth (depth + 1) (Part Statement ∷ []) (Part Declarations ∷ []) [] (Part Statements ∷ Exactly punctuator.CloseCurly ∷ Close ∷ []) (ABody b ∷ []) [] [] (ABody b ∷ []) at now later
     (braces_past at now depth b sound is shallow goes) (declared (depth + 1)) (deeper depth)
 
-pub within_fails : (at now later : Place) (depth : ℕ) → is_fault (next_at at).token ≡ false → is_mark mark.OpenCurly (next_at at).token ≡ true → depth < 64 → GoesPast at now →
+pub within_fails : (at now later : Place) (depth : ℕ) → is_fault (next_at at).token ≡ false → is_punctuator punctuator.OpenCurly (next_at at).token ≡ true → depth < 64 → GoesPast at now →
     ((n : ℕ) → Derives n (Part Declarations ∷ []) [] [] [] now later) → (d : Stop) → FailsBody (depth + 1) (Part Statements ∷ []) later d → FailsBody depth (Part Statement ∷ []) at d
 within_fails at now later depth sound is shallow goes declared d fails b =
-    fails_behind depth (depth + 1) (Part Statement ∷ []) (Part Statements ∷ []) (Exactly mark.CloseCurly ∷ Shut ∷ []) (ABody b ∷ []) (ABody b ∷ []) [] at later d
+    fails_behind depth (depth + 1) (Part Statement ∷ []) (Part Statements ∷ []) (Exactly punctuator.CloseCurly ∷ Close ∷ []) (ABody b ∷ []) (ABody b ∷ []) [] at later d
     (declarations_past at now later depth b sound is shallow goes declared) (deeper depth) (fails b)
 
-within_past : (at now later behind : Place) (before after : Meaning) (depth : ℕ) (b : Body) → is_fault (next_at at).token ≡ false → is_mark mark.OpenCurly (next_at at).token ≡ true → depth < 64 → GoesPast at now →
+within_past : (at now later behind : Place) (before after : Meaning) (depth : ℕ) (b : Body) → is_fault (next_at at).token ≡ false → is_punctuator punctuator.OpenCurly (next_at at).token ≡ true → depth < 64 → GoesPast at now →
     ((n : ℕ) → Derives n (Part Declarations ∷ []) [] [] [] now later) → (h : AddsBody before after (depth + 1) (Part Statements ∷ []) [] later behind) →
-    Derives depth (Part Statement ∷ []) (Exactly mark.CloseCurly ∷ Shut ∷ []) (ABody b ∷ []) (ABody (join b h.tree) ∷ []) at behind
+    Derives depth (Part Statement ∷ []) (Exactly punctuator.CloseCurly ∷ Close ∷ []) (ABody b ∷ []) (ABody (join b h.tree) ∷ []) at behind
 within_past at now later behind before after depth b sound is shallow goes declared h =
-    joined depth (depth + 1) (Part Statement ∷ []) (Part Statements ∷ []) [] (Exactly mark.CloseCurly ∷ Shut ∷ []) (ABody b ∷ []) (ABody b ∷ []) (ABody (join b h.tree) ∷ []) [] at later behind
+    joined depth (depth + 1) (Part Statement ∷ []) (Part Statements ∷ []) [] (Exactly punctuator.CloseCurly ∷ Close ∷ []) (ABody b ∷ []) (ABody b ∷ []) (ABody (join b h.tree) ∷ []) [] at later behind
     (declarations_past at now later depth b sound is shallow goes declared) (h.derives b) (deeper depth)
 
-pub brace_fails : (at now later behind : Place) (before after : Meaning) (depth : ℕ) → is_fault (next_at at).token ≡ false → is_mark mark.OpenCurly (next_at at).token ≡ true → depth < 64 → GoesPast at now →
+pub brace_fails : (at now later behind : Place) (before after : Meaning) (depth : ℕ) → is_fault (next_at at).token ≡ false → is_punctuator punctuator.OpenCurly (next_at at).token ≡ true → depth < 64 → GoesPast at now →
     ((n : ℕ) → Derives n (Part Declarations ∷ []) [] [] [] now later) → AddsBody before after (depth + 1) (Part Statements ∷ []) [] later behind → (d : Stop) →
-    FailsItem (Exactly mark.CloseCurly) behind d → FailsBody depth (Part Statement ∷ []) at d
+    FailsItem (Exactly punctuator.CloseCurly) behind d → FailsBody depth (Part Statement ∷ []) at d
 brace_fails at now later behind before after depth sound is shallow goes declared h d fails b =
-    fails_behind depth (depth + 1) (Part Statement ∷ []) (Exactly mark.CloseCurly ∷ []) (Shut ∷ []) (ABody b ∷ []) [] (ABody (join b h.tree) ∷ []) at behind d
+    fails_behind depth (depth + 1) (Part Statement ∷ []) (Exactly punctuator.CloseCurly ∷ []) (Close ∷ []) (ABody b ∷ []) [] (ABody (join b h.tree) ∷ []) at behind d
     (within_past at now later behind before after depth b sound is shallow goes declared h) (deeper depth) (fails (depth + 1))
 
-pub block_adds : (at now later behind there : Place) (before after : Meaning) (depth : ℕ) → is_fault (next_at at).token ≡ false → is_mark mark.OpenCurly (next_at at).token ≡ true → depth < 64 → GoesPast at now →
+pub block_adds : (at now later behind there : Place) (before after : Meaning) (depth : ℕ) → is_fault (next_at at).token ≡ false → is_punctuator punctuator.OpenCurly (next_at at).token ≡ true → depth < 64 → GoesPast at now →
     ((n : ℕ) → Derives n (Part Declarations ∷ []) [] [] [] now later) → AddsBody before after (depth + 1) (Part Statements ∷ []) [] later behind →
-    DerivesItem (Exactly mark.CloseCurly) [] [] behind there → is_fault (next_at there).token ≡ false → AddsBody before after depth (Part Statement ∷ []) [] at there
+    DerivesItem (Exactly punctuator.CloseCurly) [] [] behind there → is_fault (next_at there).token ≡ false → AddsBody before after depth (Part Statement ∷ []) [] at there
 block_adds at now later behind there before after depth sound is shallow goes declared h closed sound_behind = record {
   tree = h.tree;
   numbered = h.numbered;
   narrow = omega (arith, h.narrow, shallow);
   added = h.added;
-  derives = λ b. joined depth depth (Part Statement ∷ []) (Shut ∷ []) [] [] (ABody b ∷ []) (ABody (join b h.tree) ∷ []) (ABody (join b h.tree) ∷ []) [] at there there
-      (joined depth (depth + 1) (Part Statement ∷ []) (Exactly mark.CloseCurly ∷ []) [] (Shut ∷ []) (ABody b ∷ []) [] [] (ABody (join b h.tree) ∷ []) at behind there
+  derives = λ b. joined depth depth (Part Statement ∷ []) (Close ∷ []) [] [] (ABody b ∷ []) (ABody (join b h.tree) ∷ []) (ABody (join b h.tree) ∷ []) [] at there there
+      (joined depth (depth + 1) (Part Statement ∷ []) (Exactly punctuator.CloseCurly ∷ []) [] (Close ∷ []) (ABody b ∷ []) [] [] (ABody (join b h.tree) ∷ []) at behind there
       (within_past at now later behind before after depth b sound is shallow goes declared h) (closed (depth + 1)) (deeper depth))
-      (shut_stands there depth (ABody (join b h.tree) ∷ []) sound_behind) (λ stack same. same);
+      (close_stands there depth (ABody (join b h.tree) ∷ []) sound_behind) (λ stack same. same);
 }
 
 -- The condition of an `if` or a `while`, and its first statement.
@@ -115,11 +115,11 @@ block_adds at now later behind there before after depth sound is shallow goes de
 abbrev pub Conditioned : ℕ → List Item → Place → Place → Type 0
 Conditioned depth items at now = (b : Body) → Derives depth (Part Statement ∷ []) (in_brackets ++ (Make Empty ∷ Part Statement ∷ items)) (ABody b ∷ []) (ABody b ∷ []) at now
 
-pub if_past : (at now : Place) (depth : ℕ) → is_fault (next_at at).token ≡ false → is_word word.If (next_at at).token ≡ true → depth < 64 → GoesPast at now → Conditioned depth (Part ElsePart ∷ Shut ∷ []) at now
+pub if_past : (at now : Place) (depth : ℕ) → is_fault (next_at at).token ≡ false → is_word word.If (next_at at).token ≡ true → depth < 64 → GoesPast at now → Conditioned depth (Part ElsePart ∷ Close ∷ []) at now
 if_past at now depth sound is shallow goes b =
     word_past at now depth Statement word.If (in_brackets ++ behind_if) (ABody b ∷ []) sound (if_chosen _ is) is (free_below depth Statement (next_at at) shallow) goes
 
-pub while_past : (at now : Place) (depth : ℕ) → is_fault (next_at at).token ≡ false → is_word word.While (next_at at).token ≡ true → depth < 64 → GoesPast at now → Conditioned depth (Make Repeat ∷ Shut ∷ []) at now
+pub while_past : (at now : Place) (depth : ℕ) → is_fault (next_at at).token ≡ false → is_word word.While (next_at at).token ≡ true → depth < 64 → GoesPast at now → Conditioned depth (Make Repeat ∷ Close ∷ []) at now
 while_past at now depth sound is shallow goes b =
     word_past at now depth Statement word.While (in_brackets ++ behind_while) (ABody b ∷ []) sound (while_chosen _ is) is (free_below depth Statement (next_at at) shallow) goes
 
@@ -142,49 +142,49 @@ while_too_deep at used near depth sound is deep b =
     word_too_deep at used near depth Statement word.While (in_brackets ++ behind_while) (ABody b ∷ []) sound (while_chosen _ is) is (while_opens _ is) deep
 
 -- the items behind the first statement keep one level open
-abbrev pub ShutsOne : List Item → Type 0
-ShutsOne items = (stack : List Item) → levels (items ++ stack) ≡ levels stack + 1
+abbrev pub ClosesOne : List Item → Type 0
+ClosesOne items = (stack : List Item) → levels (items ++ stack) ≡ levels stack + 1
 
-pub test_fails : (at now : Place) (depth : ℕ) (items : List Item) → ShutsOne items → Conditioned depth items at now → (d : Stop) → FailsAt (depth + 1) in_brackets [] now d → FailsBody depth (Part Statement ∷ []) at d
-test_fails at now depth items shuts begun d fails b =
+pub test_fails : (at now : Place) (depth : ℕ) (items : List Item) → ClosesOne items → Conditioned depth items at now → (d : Stop) → FailsAt (depth + 1) in_brackets [] now d → FailsBody depth (Part Statement ∷ []) at d
+test_fails at now depth items closes begun d fails b =
     fails_behind depth (depth + 1) (Part Statement ∷ []) in_brackets (Make Empty ∷ Part Statement ∷ items) (ABody b ∷ []) [] (ABody b ∷ []) at now d (begun b)
-    (λ stack same. shuts stack ∙ deeper depth stack same) fails
+    (λ stack same. closes stack ∙ deeper depth stack same) fails
 
 -- the condition, and an empty body behind it
-test_past : (at now later : Place) (before after : Meaning) (depth : ℕ) (items : List Item) (b : Body) → ShutsOne items → Conditioned depth items at now →
+test_past : (at now later : Place) (before after : Meaning) (depth : ℕ) (items : List Item) (b : Body) → ClosesOne items → Conditioned depth items at now →
     (c : AddsExpr before after (depth + 1) 1 in_brackets [] now later) → is_fault (next_at later).token ≡ false →
     Derives depth (Part Statement ∷ []) (Part Statement ∷ items) (ABody b ∷ []) (ABody Done ∷ AnExpr c.tree ∷ ABody b ∷ []) at later
-test_past at now later before after depth items b shuts begun c sound =
+test_past at now later before after depth items b closes begun c sound =
     joined depth (depth + 1) (Part Statement ∷ []) (Make Empty ∷ []) [] (Part Statement ∷ items) (ABody b ∷ []) [] (ABody Done ∷ []) (AnExpr c.tree ∷ ABody b ∷ []) at later later
     (joined depth (depth + 1) (Part Statement ∷ []) in_brackets [] (Make Empty ∷ Part Statement ∷ items) (ABody b ∷ []) [] (AnExpr c.tree ∷ []) (ABody b ∷ []) at now later
-    (begun b) c.derives (λ stack same. shuts stack ∙ deeper depth stack same))
-    (make_stands later (depth + 1) Empty [] (ABody Done ∷ []) sound empty_makes) (λ stack same. shuts stack ∙ deeper depth stack same)
+    (begun b) c.derives (λ stack same. closes stack ∙ deeper depth stack same))
+    (make_stands later (depth + 1) Empty [] (ABody Done ∷ []) sound empty_makes) (λ stack same. closes stack ∙ deeper depth stack same)
 
-pub first_fails : (at now later : Place) (before after : Meaning) (depth : ℕ) (items : List Item) → ShutsOne items → Conditioned depth items at now →
+pub first_fails : (at now later : Place) (before after : Meaning) (depth : ℕ) (items : List Item) → ClosesOne items → Conditioned depth items at now →
     AddsExpr before after (depth + 1) 1 in_brackets [] now later → is_fault (next_at later).token ≡ false → (d : Stop) →
     FailsBody (depth + 1) (Part Statement ∷ []) later d → FailsBody depth (Part Statement ∷ []) at d
-first_fails at now later before after depth items shuts begun c sound d fails b =
+first_fails at now later before after depth items closes begun c sound d fails b =
     fails_behind depth (depth + 1) (Part Statement ∷ []) (Part Statement ∷ []) items (ABody b ∷ []) (ABody Done ∷ []) (AnExpr c.tree ∷ ABody b ∷ []) at later d
-    (test_past at now later before after depth items b shuts begun c sound) (λ stack same. shuts stack ∙ deeper depth stack same) (fails Done)
+    (test_past at now later before after depth items b closes begun c sound) (λ stack same. closes stack ∙ deeper depth stack same) (fails Done)
 
-first_past : (at now later behind : Place) (before after inside first : Meaning) (depth : ℕ) (items : List Item) (b : Body) → ShutsOne items → Conditioned depth items at now →
+first_past : (at now later behind : Place) (before after inside first : Meaning) (depth : ℕ) (items : List Item) (b : Body) → ClosesOne items → Conditioned depth items at now →
     (c : AddsExpr before after (depth + 1) 1 in_brackets [] now later) → is_fault (next_at later).token ≡ false → (s : AddsBody inside first (depth + 1) (Part Statement ∷ []) [] later behind) →
     Derives depth (Part Statement ∷ []) items (ABody b ∷ []) (before_else s.tree c.tree b) at behind
-first_past at now later behind before after inside first depth items b shuts begun c sound s =
+first_past at now later behind before after inside first depth items b closes begun c sound s =
     joined depth (depth + 1) (Part Statement ∷ []) (Part Statement ∷ []) [] items (ABody b ∷ []) (ABody Done ∷ []) (ABody s.tree ∷ []) (AnExpr c.tree ∷ ABody b ∷ []) at later behind
-    (test_past at now later before after depth items b shuts begun c sound) (s.derives Done) (λ stack same. shuts stack ∙ deeper depth stack same)
+    (test_past at now later before after depth items b closes begun c sound) (s.derives Done) (λ stack same. closes stack ∙ deeper depth stack same)
 
 -- Branches.
 
-pub if_shuts : ShutsOne (Part ElsePart ∷ Shut ∷ [])
-if_shuts stack = refl
+pub if_closes : ClosesOne (Part ElsePart ∷ Close ∷ [])
+if_closes stack = refl
 
-pub second_fails : (at now later behind : Place) (before after inside first : Meaning) (depth : ℕ) → Conditioned depth (Part ElsePart ∷ Shut ∷ []) at now →
+pub second_fails : (at now later behind : Place) (before after inside first : Meaning) (depth : ℕ) → Conditioned depth (Part ElsePart ∷ Close ∷ []) at now →
     AddsExpr before after (depth + 1) 1 in_brackets [] now later → is_fault (next_at later).token ≡ false → AddsBody inside first (depth + 1) (Part Statement ∷ []) [] later behind →
     (d : Stop) → FailsElse (depth + 1) behind d → FailsBody depth (Part Statement ∷ []) at d
 second_fails at now later behind before after inside first depth begun c sound s d fails b =
-    fails_behind depth (depth + 1) (Part Statement ∷ []) (Part ElsePart ∷ []) (Shut ∷ []) (ABody b ∷ []) (before_else s.tree c.tree b) [] at behind d
-    (first_past at now later behind before after inside first depth (Part ElsePart ∷ Shut ∷ []) b if_shuts begun c sound s) (deeper depth) (fails s.tree c.tree b)
+    fails_behind depth (depth + 1) (Part Statement ∷ []) (Part ElsePart ∷ []) (Close ∷ []) (ABody b ∷ []) (before_else s.tree c.tree b) [] at behind d
+    (first_past at now later behind before after inside first depth (Part ElsePart ∷ Close ∷ []) b if_closes begun c sound s) (deeper depth) (fails s.tree c.tree b)
 
 decided_numbered : (c : Expr) (s : Body) (t : Option Body) → InExpr 64 64 64 c → InBody 64 64 64 s → IsElseNumbered t → InBody 64 64 64 (decided c s t)
 decided_numbered c s None p q r = (p, q, tt)
@@ -198,7 +198,7 @@ decided_actions : (c : Expr) (s : Body) (t : Option Body) → expr_actions c ++ 
 decided_actions c s None = refl
 decided_actions c s (Some t) = refl
 
-pub branch_adds : (at now later behind there : Place) (before m1 m2 m3 m4 after : Meaning) (depth : ℕ) → depth < 64 → Conditioned depth (Part ElsePart ∷ Shut ∷ []) at now →
+pub branch_adds : (at now later behind there : Place) (before m1 m2 m3 m4 after : Meaning) (depth : ℕ) → depth < 64 → Conditioned depth (Part ElsePart ∷ Close ∷ []) at now →
     AddsExpr before m1 (depth + 1) 1 in_brackets [] now later → is_fault (next_at later).token ≡ false → Appends m1 m2 IfTest → AddsBody m2 m3 (depth + 1) (Part Statement ∷ []) [] later behind →
     AddsElse m3 m4 (depth + 1) behind there → is_fault (next_at there).token ≡ false → Appends m4 after EndIf → AddsBody before after depth (Part Statement ∷ []) [] at there
 branch_adds at now later behind there before m1 m2 m3 m4 after depth shallow begun c sound tested s e sound_behind ended = record {
@@ -210,10 +210,10 @@ branch_adds at now later behind there before m1 m2 m3 m4 after depth shallow beg
       (appends_then m1 m2 after (IfTest ∷ []) _ tested
       (appends_then m2 m3 after (body_actions s.tree) _ s.added
       (appends_then m3 m4 after (else_actions e.tree) (EndIf ∷ []) e.added ended))));
-  derives = λ b. joined depth depth (Part Statement ∷ []) (Shut ∷ []) [] [] (ABody b ∷ []) (ABody (join b (decided c.tree s.tree e.tree)) ∷ []) (ABody (join b (decided c.tree s.tree e.tree)) ∷ []) [] at there there
-      (joined depth (depth + 1) (Part Statement ∷ []) (Part ElsePart ∷ []) [] (Shut ∷ []) (ABody b ∷ []) (before_else s.tree c.tree b) (ABody (join b (decided c.tree s.tree e.tree)) ∷ []) [] at behind there
-      (first_past at now later behind before m1 m2 m3 depth (Part ElsePart ∷ Shut ∷ []) b if_shuts begun c sound s) (e.derives s.tree c.tree b) (deeper depth))
-      (shut_stands there depth (ABody (join b (decided c.tree s.tree e.tree)) ∷ []) sound_behind) (λ stack same. same);
+  derives = λ b. joined depth depth (Part Statement ∷ []) (Close ∷ []) [] [] (ABody b ∷ []) (ABody (join b (decided c.tree s.tree e.tree)) ∷ []) (ABody (join b (decided c.tree s.tree e.tree)) ∷ []) [] at there there
+      (joined depth (depth + 1) (Part Statement ∷ []) (Part ElsePart ∷ []) [] (Close ∷ []) (ABody b ∷ []) (before_else s.tree c.tree b) (ABody (join b (decided c.tree s.tree e.tree)) ∷ []) [] at behind there
+      (first_past at now later behind before m1 m2 m3 depth (Part ElsePart ∷ Close ∷ []) b if_closes begun c sound s) (e.derives s.tree c.tree b) (deeper depth))
+      (close_stands there depth (ABody (join b (decided c.tree s.tree e.tree)) ∷ []) sound_behind) (λ stack same. same);
 }
 
 -- Second branches.
@@ -224,9 +224,9 @@ no_else_adds at before depth sound other = record {
   numbered = tt;
   narrow = omega arith;
   added = nothing_told before;
-  derives = λ s c b. joined depth depth (Part ElsePart ∷ []) (Make Decide ∷ []) [] [] (before_else s c b) (before_else s c b) (ABody (join b (When c s Done)) ∷ []) [] at at at
+  derives = λ s c b. joined depth depth (Part ElsePart ∷ []) (Make Decide ∷ []) [] [] (before_else s c b) (before_else s c b) (ABody (join b (IfStatement c s Done)) ∷ []) [] at at at
       (part_stands at depth ElsePart (Make Decide ∷ []) (before_else s c b) sound (no_else_chosen _ other) (free_of depth ElsePart (next_at at) (λ after. refl)))
-      (make_stands at depth Decide (before_else s c b) (ABody (join b (When c s Done)) ∷ []) sound (decide_makes s c b)) (λ stack same. same);
+      (make_stands at depth Decide (before_else s c b) (ABody (join b (IfStatement c s Done)) ∷ []) sound (decide_makes s c b)) (λ stack same. same);
 }
 
 pub else_stops : (at : Place) (depth : ℕ) → is_fault (next_at at).token ≡ false → is_word word.Else (next_at at).token ≡ true → (d : Stop) → StopsAt at d → FailsElse depth at d
@@ -254,18 +254,18 @@ else_adds at now there before mid after depth sound is goes sound_behind told t 
   numbered = t.numbered;
   narrow = t.narrow;
   added = appends_then before mid after (BetweenBranches ∷ []) (body_actions t.tree) told t.added;
-  derives = λ s c b. joined depth depth (Part ElsePart ∷ []) (Make DecideElse ∷ []) [] [] (before_else s c b) (ABody t.tree ∷ before_else s c b) (ABody (join b (Choose c s t.tree Done)) ∷ []) [] at there there
+  derives = λ s c b. joined depth depth (Part ElsePart ∷ []) (Make DecideElse ∷ []) [] [] (before_else s c b) (ABody t.tree ∷ before_else s c b) (ABody (join b (IfElseStatement c s t.tree Done)) ∷ []) [] at there there
       (joined depth depth (Part ElsePart ∷ []) (Part Statement ∷ []) [] (Make DecideElse ∷ []) (before_else s c b) (ABody Done ∷ []) (ABody t.tree ∷ []) (before_else s c b) at now there
       (else_past at now depth s c b sound is goes sound_behind) (t.derives Done) (λ stack same. same))
-      (make_stands there depth DecideElse (ABody t.tree ∷ before_else s c b) (ABody (join b (Choose c s t.tree Done)) ∷ []) sound_there (choose_makes t.tree s c b)) (λ stack same. same);
+      (make_stands there depth DecideElse (ABody t.tree ∷ before_else s c b) (ABody (join b (IfElseStatement c s t.tree Done)) ∷ []) sound_there (choose_makes t.tree s c b)) (λ stack same. same);
 }
 
 -- Loops.
 
-pub while_shuts : ShutsOne (Make Repeat ∷ Shut ∷ [])
-while_shuts stack = refl
+pub while_closes : ClosesOne (Make Repeat ∷ Close ∷ [])
+while_closes stack = refl
 
-pub repetition_adds : (at now later there : Place) (before m1 m2 m3 m4 after : Meaning) (depth : ℕ) → depth < 64 → Conditioned depth (Make Repeat ∷ Shut ∷ []) at now →
+pub repetition_adds : (at now later there : Place) (before m1 m2 m3 m4 after : Meaning) (depth : ℕ) → depth < 64 → Conditioned depth (Make Repeat ∷ Close ∷ []) at now →
     Appends before m1 BeginWhile → AddsExpr m1 m2 (depth + 1) 1 in_brackets [] now later → is_fault (next_at later).token ≡ false → Appends m2 m3 WhileTest →
     AddsBody m3 m4 (depth + 1) (Part Statement ∷ []) [] later there → is_fault (next_at there).token ≡ false → Appends m4 after EndWhile → AddsBody before after depth (Part Statement ∷ []) [] at there
 repetition_adds at now later there before m1 m2 m3 m4 after depth shallow begun told c sound tested s sound_behind ended = record {
@@ -276,11 +276,11 @@ repetition_adds at now later there before m1 m2 m3 m4 after depth shallow begun 
       (appends_then m1 m2 after (expr_actions c.tree) _ c.added
       (appends_then m2 m3 after (WhileTest ∷ []) _ tested
       (appends_then m3 m4 after (body_actions s.tree) (EndWhile ∷ []) s.added ended)));
-  derives = λ b. joined depth depth (Part Statement ∷ []) (Shut ∷ []) [] [] (ABody b ∷ []) (ABody (join b (While c.tree s.tree Done)) ∷ []) (ABody (join b (While c.tree s.tree Done)) ∷ []) [] at there there
-      (joined depth (depth + 1) (Part Statement ∷ []) (Make Repeat ∷ []) [] (Shut ∷ []) (ABody b ∷ []) (before_else s.tree c.tree b) (ABody (join b (While c.tree s.tree Done)) ∷ []) [] at there there
-      (first_past at now later there m1 m2 m3 m4 depth (Make Repeat ∷ Shut ∷ []) b while_shuts begun c sound s)
+  derives = λ b. joined depth depth (Part Statement ∷ []) (Close ∷ []) [] [] (ABody b ∷ []) (ABody (join b (While c.tree s.tree Done)) ∷ []) (ABody (join b (While c.tree s.tree Done)) ∷ []) [] at there there
+      (joined depth (depth + 1) (Part Statement ∷ []) (Make Repeat ∷ []) [] (Close ∷ []) (ABody b ∷ []) (before_else s.tree c.tree b) (ABody (join b (While c.tree s.tree Done)) ∷ []) [] at there there
+      (first_past at now later there m1 m2 m3 m4 depth (Make Repeat ∷ Close ∷ []) b while_closes begun c sound s)
       (make_stands there (depth + 1) Repeat (before_else s.tree c.tree b) (ABody (join b (While c.tree s.tree Done)) ∷ []) sound_behind (repeat_makes s.tree c.tree b)) (deeper depth))
-      (shut_stands there depth (ABody (join b (While c.tree s.tree Done)) ∷ []) sound_behind) (λ stack same. same);
+      (close_stands there depth (ABody (join b (While c.tree s.tree Done)) ∷ []) sound_behind) (λ stack same. same);
 }
 
 -- Statements, one behind another.
@@ -295,7 +295,7 @@ statements_begin at before depth = record {
       (stay at depth (Part Statements ∷ []) (ABody b ∷ []));
 }
 
-more_past : (at now : Place) (before mid : Meaning) (depth : ℕ) (b : Body) → is_fault (next_at now).token ≡ false → is_mark mark.CloseCurly (next_at now).token ≡ false →
+more_past : (at now : Place) (before mid : Meaning) (depth : ℕ) (b : Body) → is_fault (next_at now).token ≡ false → is_punctuator punctuator.CloseCurly (next_at now).token ≡ false →
     (h : AddsBody before mid depth (Part Statements ∷ []) (Part Statements ∷ []) at now) →
     Derives depth (Part Statements ∷ []) (Part Statement ∷ Part Statements ∷ []) (ABody b ∷ []) (ABody (join b h.tree) ∷ []) at now
 more_past at now before mid depth b sound other h =
@@ -303,7 +303,7 @@ more_past at now before mid depth b sound other h =
     (h.derives b)
     (part_stands now depth Statements (Part Statement ∷ Part Statements ∷ []) (ABody (join b h.tree) ∷ []) sound (more_chosen _ other) (free_of depth Statements (next_at now) (λ after. refl))) (λ stack same. same)
 
-pub statements_more : (at now there : Place) (before mid after : Meaning) (depth : ℕ) → is_fault (next_at now).token ≡ false → is_mark mark.CloseCurly (next_at now).token ≡ false →
+pub statements_more : (at now there : Place) (before mid after : Meaning) (depth : ℕ) → is_fault (next_at now).token ≡ false → is_punctuator punctuator.CloseCurly (next_at now).token ≡ false →
     AddsBody before mid depth (Part Statements ∷ []) (Part Statements ∷ []) at now → AddsBody mid after depth (Part Statement ∷ []) [] now there →
     AddsBody before after depth (Part Statements ∷ []) (Part Statements ∷ []) at there
 statements_more at now there before mid after depth sound other h s = record {
@@ -316,14 +316,14 @@ statements_more at now there before mid after depth sound other h s = record {
       (more_past at now before mid depth b sound other h) (s.derives (join b h.tree)) (λ stack same. same));
 }
 
-pub statements_fail : (at now : Place) (before mid : Meaning) (depth : ℕ) → is_fault (next_at now).token ≡ false → is_mark mark.CloseCurly (next_at now).token ≡ false →
+pub statements_fail : (at now : Place) (before mid : Meaning) (depth : ℕ) → is_fault (next_at now).token ≡ false → is_punctuator punctuator.CloseCurly (next_at now).token ≡ false →
     AddsBody before mid depth (Part Statements ∷ []) (Part Statements ∷ []) at now → (d : Stop) →
     FailsBody depth (Part Statement ∷ []) now d → FailsBody depth (Part Statements ∷ []) at d
 statements_fail at now before mid depth sound other h d fails b =
     fails_behind depth depth (Part Statements ∷ []) (Part Statement ∷ []) (Part Statements ∷ []) (ABody b ∷ []) (ABody (join b h.tree) ∷ []) [] at now d
     (more_past at now before mid depth b sound other h) (λ stack same. same) (fails (join b h.tree))
 
-pub statements_end : (at now : Place) (before after : Meaning) (depth : ℕ) → is_fault (next_at now).token ≡ false → is_mark mark.CloseCurly (next_at now).token ≡ true →
+pub statements_end : (at now : Place) (before after : Meaning) (depth : ℕ) → is_fault (next_at now).token ≡ false → is_punctuator punctuator.CloseCurly (next_at now).token ≡ true →
     AddsBody before after depth (Part Statements ∷ []) (Part Statements ∷ []) at now → AddsBody before after depth (Part Statements ∷ []) [] at now
 statements_end at now before after depth sound is h = record {
   tree = h.tree;

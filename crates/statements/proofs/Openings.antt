@@ -1,12 +1,12 @@
 -- What is open behind the actions of statements so far, and which actions may follow.
 use Rattle.std.proofs.Common.{◌≡◌, ℕ, pos, ◌+◌, ◌≤◌, [], ◌∷◌, refl, ap, ◌∙◌, Bool, true, false, arith}
 use Rattle.std.specs.Prelude.{Option, Some, None}
-use Rattle.grammar.specs.Actions.{Action, BeginWhile, Chop, ElsePart, EndIf, Push, WhileTest, body_actions, expr_actions}
+use Rattle.grammar.specs.Actions.{Action, BeginWhile, Chop, ElsePart, EndIf, PushConstant, WhileTest, body_actions, expr_actions}
 use Rattle.grammar.specs.Building.{Appends, AppendsAll, MayFollow, Meaning, StandsOpen}
 use Rattle.grammar.specs.Following.{AValue, BeforeTest, InBranch, InElse, InTurn, Number, Open, Opened, Origin, counts, follow, is_number, is_place, open_count, statement_done}
 use Rattle.grammar.specs.Nesting.{body_nesting, nesting}
 use Rattle.grammar.specs.Resolved.{InBody, InExpr}
-use Rattle.grammar.specs.Tree.{Alone, Body, Choose, Done, Expr, Return, When, While}
+use Rattle.grammar.specs.Tree.{ExpressionStatement, Body, IfElseStatement, Done, Expr, Return, IfStatement, While}
 use Rattle.grammar.proofs.FollowingLaws.{Leads, act, also, behind_body, body_leads, chop_settles, done_settles, expr_leads, inside, origin_of, settled, settled_count, settled_place}
 use Rattle.grammar.proofs.StandingLaws.{may_follow, stands_then}
 use Rattle.parsing.specs.Room.{HasPlace, HasRoom}
@@ -26,9 +26,9 @@ keeps_behind returned rest o e again =
 
 keeps : (b : Body) (o : Opened) → is_place o ≡ true → Keeps b o
 keeps Done o e = record { place = e; count = refl }
-keeps (Alone x rest) o e = let k = keeps_behind false rest o e (λ p. keeps rest (settled false o) p) in record { place = k.0; count = k.1 }
-keeps (When c s rest) o e = let k = keeps_behind false rest o e (λ p. keeps rest (settled false o) p) in record { place = k.0; count = k.1 }
-keeps (Choose c s t rest) o e = let k = keeps_behind false rest o e (λ p. keeps rest (settled false o) p) in record { place = k.0; count = k.1 }
+keeps (ExpressionStatement x rest) o e = let k = keeps_behind false rest o e (λ p. keeps rest (settled false o) p) in record { place = k.0; count = k.1 }
+keeps (IfStatement c s rest) o e = let k = keeps_behind false rest o e (λ p. keeps rest (settled false o) p) in record { place = k.0; count = k.1 }
+keeps (IfElseStatement c s t rest) o e = let k = keeps_behind false rest o e (λ p. keeps rest (settled false o) p) in record { place = k.0; count = k.1 }
 keeps (While c s rest) o e = let k = keeps_behind false rest o e (λ p. keeps rest (settled false o) p) in record { place = k.0; count = k.1 }
 keeps (Return x rest) o e =
     let k = keeps_behind (is_number 0 (origin_of x)) rest o e (λ p. keeps rest (settled (is_number 0 (origin_of x)) o) p) in record { place = k.0; count = k.1 }
@@ -58,9 +58,9 @@ value_at before now [] e n place s few numbered narrow added = absurd (cc)
 value_at before now (x ∷ o) e n place s few numbered narrow added =
     stands_then before now (expr_actions e) (x ∷ o) _ added s (expr_leads e x o numbered (omega (arith, few, narrow))).is
 
-pub may_push : (before : Meaning) (n : ℕ) → HasRoom before n → MayFollow before (Push (pos 0))
+pub may_push : (before : Meaning) (n : ℕ) → HasRoom before n → MayFollow before (PushConstant (pos 0))
 may_push before n h =
-    may_follow before (h.outer ∷ h.opened) (AValue (Number (pos 0)) ∷ h.outer ∷ h.opened) (Push (pos 0)) h.stands refl (omega (arith, h.few))
+    may_follow before (h.outer ∷ h.opened) (AValue (Number (pos 0)) ∷ h.outer ∷ h.opened) (PushConstant (pos 0)) h.stands refl (omega (arith, h.few))
 
 -- behind an expression at a statement's place
 pub value_inside : (before now : Meaning) (n : ℕ) (e : Expr) → HasPlace before n → InExpr 64 64 64 e → nesting e ≤ n → AppendsAll before now (expr_actions e) →

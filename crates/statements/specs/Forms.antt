@@ -1,15 +1,20 @@
 -- Which tokens begin a statement of a form of its own, and what stands behind `if` and `while`.
-use Rattle.std.specs.Prelude.{List, [], ◌∷◌, Bool, true, false}
-use Rattle.tokens.specs.declared.lexemes.Mark.TheVariants as mark
-use Rattle.tokens.specs.declared.lexemes.Token.{Token}
-use Rattle.tokens.specs.declared.lexemes.Token.TheVariants as token
-use Rattle.tokens.specs.declared.lexemes.Word.TheVariants as word
+use Rattle.std.specs.Prelude.{ℕ, List, [], ◌∷◌, Bool, true, false, Result, Ok, Err}
+use Rattle.tokens.specs.declared.located_tokens.Punctuator.TheVariants as punctuator
+use Rattle.tokens.specs.declared.located_tokens.Token.{Token}
+use Rattle.tokens.specs.declared.located_tokens.Token.TheVariants as token
+use Rattle.tokens.specs.declared.located_tokens.Word.TheVariants as word
+use Rattle.grammar.specs.declared.diagnostics.ParseFault.{ParseFault}
+use Rattle.grammar.specs.Building.{Meaning}
 use Rattle.grammar.specs.Grammar.{Item, Exactly, Expression, Part}
+use Rattle.parsing.specs.Position.{Standing, taken_at}
+use Rattle.parsing.specs.Segment.{FailsAt, Refused}
+use Rattle.expressions.specs.Expressions.{AddsExpr}
 
 -- ; { if while return: any other token begins an expression, for its effect
 abbrev pub opens_statement : Token → Bool
-opens_statement (token.Mark mark.Semicolon) = true
-opens_statement (token.Mark mark.OpenCurly) = true
+opens_statement (token.Punctuator punctuator.Semicolon) = true
+opens_statement (token.Punctuator punctuator.OpenCurly) = true
 opens_statement (token.Word word.If) = true
 opens_statement (token.Word word.While) = true
 opens_statement (token.Word word.Return) = true
@@ -17,4 +22,12 @@ opens_statement next = false
 
 -- a condition
 abbrev pub in_brackets : List Item
-in_brackets = Exactly mark.OpenRound ∷ Part Expression ∷ Exactly mark.CloseRound ∷ []
+in_brackets = Exactly punctuator.OpenRound ∷ Part Expression ∷ Exactly punctuator.CloseRound ∷ []
+
+-- What a parse of a condition says by its result: it was read, or the derivation stops within it, as the refusal says.
+abbrev pub ParsesCondition : {A : Type 0} → Result A ParseFault → Bool → (before after : Meaning) → ℕ →
+    (old new : Standing) → Type 0
+ParsesCondition (Ok x) allocates before after depth old new =
+    AddsExpr before after depth 1 in_brackets [] old.place new.place
+ParsesCondition (Err fault) allocates before after depth old new =
+    Refused (FailsAt depth in_brackets [] old.place) allocates (taken_at new.place) fault

@@ -1,21 +1,24 @@
--- What the parse of statements did: the builder was told their actions, and the derivation put them behind the body so far.
-use Rattle.std.specs.Prelude.{ℕ, ◌≤◌, List, [], ◌∷◌}
+-- What the parse of statements did: the builder was told their actions, and the derivation put them behind the body so
+-- far.
+use Rattle.std.specs.Prelude.{ℕ, ◌≤◌, List, [], ◌∷◌, Bool, Result, Ok, Err}
 use Rattle.parsing.specs.Stopping.{Stop}
 use Rattle.grammar.specs.Actions.{body_actions}
 use Rattle.grammar.specs.Building.{Meaning, AppendsAll}
 use Rattle.grammar.specs.Derivation.{ABody}
-use Rattle.grammar.specs.Grammar.{Item}
+use Rattle.grammar.specs.declared.pools.TheConstants.{MOST_NAMES}
+use Rattle.grammar.specs.declared.diagnostics.ParseFault.{ParseFault}
+use Rattle.grammar.specs.Grammar.{Item, Part, Symbol}
 use Rattle.grammar.specs.Nesting.{body_nesting}
 use Rattle.grammar.specs.Resolved.{InBody}
 use Rattle.grammar.specs.Tree.{Body, join}
-use Rattle.parsing.specs.Position.{Place}
+use Rattle.parsing.specs.Position.{Place, Standing, taken_at}
 use Rattle.parsing.specs.Room.{room}
-use Rattle.parsing.specs.Stretch.{Derives, FailsAt}
+use Rattle.parsing.specs.Segment.{Derives, FailsAt, Refused}
 
 -- Statements were read, by the items in front, with so many levels of nesting open, whatever the body is so far.
 pub record AddsBody (before after : Meaning) (depth : ℕ) (front pending : List Item) (here there : Place) : Type 0 where
   pub tree : Body
-  pub numbered : InBody 64 64 64 tree
+  pub numbered : InBody MOST_NAMES MOST_NAMES MOST_NAMES tree
   pub narrow : body_nesting tree ≤ room depth 1
   pub added : AppendsAll before after (body_actions tree)
   pub derives : (body : Body) → Derives depth front pending (ABody body ∷ []) (ABody (join body tree) ∷ []) here there
@@ -23,3 +26,12 @@ pub record AddsBody (before after : Meaning) (depth : ℕ) (front pending : List
 -- The first fault from there on, whatever the body is so far.
 abbrev pub FailsBody : ℕ → List Item → Place → Stop → Type 0
 FailsBody depth front here d = (body : Body) → FailsAt depth front (ABody body ∷ []) here d
+
+-- What a parse of statements says by its result: they were read, or the derivation stops within them, as the refusal
+-- says.
+abbrev pub ParsesBody : {A : Type 0} → Result A ParseFault → Bool → (before after : Meaning) → ℕ → Symbol →
+    (old new : Standing) → Type 0
+ParsesBody (Ok x) allocates before after depth symbol old new =
+    AddsBody before after depth (Part symbol ∷ []) [] old.place new.place
+ParsesBody (Err fault) allocates before after depth symbol old new =
+    Refused (FailsBody depth (Part symbol ∷ []) old.place) allocates (taken_at new.place) fault

@@ -5,14 +5,14 @@ use Rattle.std.specs.List.{prefix_len}
 use Rattle.std.specs.Option.{option_map, option_eq}
 use Rattle.std.proofs.lemmas.Bool.{eqb-true}
 use Rattle.tokens.specs.Front.{begins_with, up_to_close}
-use Rattle.tokens.specs.Tokens.{Ahead, behind_byte, last_lexeme, lexemes}
+use Rattle.tokens.specs.Tokens.{Ahead, behind_byte, last_located_token, located_tokens}
 use Rattle.tokens.specs.Window.{Held, ahead, behind, behind_first, behind_plain, IsAtHandOrEnd}
 use Rattle.tokens.specs.Lexing.{to_read, in_comment, after_comment, closed_at}
-use Rattle.tokens.specs.declared.lexemes.Flaw.TheVariants.{CommentNotClosed}
-use Rattle.tokens.specs.declared.lexemes.Token.TheVariants as variant
+use Rattle.tokens.specs.declared.located_tokens.LexicalError.TheVariants.{CommentNotClosed}
+use Rattle.tokens.specs.declared.located_tokens.Token.TheVariants as variant
 use Rattle.tokens.specs.declared.windows.Beyond.{Beyond}
 use Rattle.tokens.specs.declared.windows.Beyond.TheVariants.{Unread}
-use Rattle.tokens.specs.declared.lexemes.Lexeme.{Lexeme}
+use Rattle.tokens.specs.declared.located_tokens.LocatedToken.{LocatedToken}
 use Rattle.tokens.proofs.WindowLemmas.{held}
 use Rattle.tokens.proofs.ToRead.{to_read-here, to_read-pass, first-ahead, none-ahead}
 
@@ -20,8 +20,8 @@ abbrev here : ℕ → ℕ → List ℕ → Bool → Ahead
 here line place bytes too_long = record { line = line; place = place; bytes = bytes; too_long = too_long }
 
 -- behind a `*` inside a comment
-unfoldable pub in_star : ℕ → Ahead → List Lexeme
-in_star line a = cond (begins_with 47 a.bytes) (lexemes (behind_byte a)) (in_comment line a)
+unfoldable pub in_star : ℕ → Ahead → List LocatedToken
+in_star line a = cond (begins_with 47 a.bytes) (located_tokens (behind_byte a)) (in_comment line a)
 
 goes_on : (close : Option ℕ) (began line place b : ℕ) (rest : List ℕ) (too_long : Bool) → closed_at close began (behind_byte (here line place (b ∷ rest) too_long)) ≡ closed_at (option_map suc close) began (here line place (b ∷ rest) too_long)
 goes_on None began line place b rest t = refl
@@ -45,7 +45,7 @@ star-passes-here : (began line place : ℕ) (rest : List ℕ) (too_long : Bool) 
 unfolding in_star in_comment
 star-passes-here began line place rest t = by (begins_with 47 rest)
   where
-    by : (s : Bool) → cond s (lexemes (behind_byte (behind_byte (here line place (42 ∷ rest) t)))) (in_comment began (behind_byte (here line place (42 ∷ rest) t))) ≡ closed_at (cond s (Some 2) (option_map suc (up_to_close rest))) began (here line place (42 ∷ rest) t)
+    by : (s : Bool) → cond s (located_tokens (behind_byte (behind_byte (here line place (42 ∷ rest) t)))) (in_comment began (behind_byte (here line place (42 ∷ rest) t))) ≡ closed_at (cond s (Some 2) (option_map suc (up_to_close rest))) began (here line place (42 ∷ rest) t)
     by true = refl
     by false = goes_on (up_to_close rest) began line place 42 rest t
 
@@ -55,14 +55,14 @@ star-passes began a rest e =
     (star-passes-here began a.line a.place rest a.too_long)
 
 -- a `/` behind the `*` closes the comment
-pub slash-closes : (began : ℕ) (a : Ahead) (rest : List ℕ) → a.bytes ≡ 47 ∷ rest → lexemes (behind_byte a) ≡ in_star began a
+pub slash-closes : (began : ℕ) (a : Ahead) (rest : List ℕ) → a.bytes ≡ 47 ∷ rest → located_tokens (behind_byte a) ≡ in_star began a
 unfolding in_star
-slash-closes began a rest e = sym (ap (λ s. cond s (lexemes (behind_byte a)) (in_comment began a)) (ap (begins_with 47) e))
+slash-closes began a rest e = sym (ap (λ s. cond s (located_tokens (behind_byte a)) (in_comment began a)) (ap (begins_with 47) e))
 
 -- another byte, or none, leaves the comment open
 pub star-open : (began : ℕ) (here : Held) (told : Option (List ℕ)) (first : Option ℕ) → IsAtHandOrEnd here → first ≡ slice_get here.at_hand 0 → option_eq eqb first (Some 47) ≡ false → to_read (in_comment began) here told ≡ to_read (in_star began) here told
 unfolding in_star
-star-open began here told first ready f e = to_read-here (in_comment began) (in_star began) here told (λ to_come. sym (ap (λ s. cond s (lexemes (behind_byte (ahead here to_come))) (in_comment began (ahead here to_come))) (by first f e to_come)))
+star-open began here told first ready f e = to_read-here (in_comment began) (in_star began) here told (λ to_come. sym (ap (λ s. cond s (located_tokens (behind_byte (ahead here to_come))) (in_comment began (ahead here to_come))) (by first f e to_come)))
   where
     by : (o : Option ℕ) → o ≡ slice_get here.at_hand 0 → option_eq eqb o (Some 47) ≡ false → (to_come : List ℕ) → begins_with 47 (ahead here to_come).bytes ≡ false
     by None f e to_come = ap (begins_with 47) (none-ahead here to_come ready (sym f))
@@ -92,9 +92,9 @@ pub comment-ended : (began : ℕ) (here : Held) (told : Option (List ℕ)) (firs
 unfolding in_comment
 comment-ended began here told first ready f e = to_read-here (after_comment false began) (in_comment began) here told (λ to_come.
     let a = ahead here to_come in
-    subst (λ (xs : List ℕ). last_lexeme (variant.Fault CommentNotClosed) began a ∷ [] ≡ closed_at (up_to_close xs) began (record { line = a.line; place = a.place; bytes = xs; too_long = a.too_long }))
+    subst (λ (xs : List ℕ). last_located_token (variant.Fault CommentNotClosed) began a ∷ [] ≡ closed_at (up_to_close xs) began (record { line = a.line; place = a.place; bytes = xs; too_long = a.too_long }))
     (sym (none-ahead here to_come ready (sym f ∙ e)))
-    (subst (λ (xs : List ℕ). last_lexeme (variant.Fault CommentNotClosed) began (record { line = a.line; place = a.place; bytes = xs; too_long = a.too_long }) ∷ [] ≡ last_lexeme (variant.Fault CommentNotClosed) began (record { line = a.line; place = a.place; bytes = []; too_long = a.too_long }) ∷ []) (sym (none-ahead here to_come ready (sym f ∙ e))) refl))
+    (subst (λ (xs : List ℕ). last_located_token (variant.Fault CommentNotClosed) began (record { line = a.line; place = a.place; bytes = xs; too_long = a.too_long }) ∷ [] ≡ last_located_token (variant.Fault CommentNotClosed) began (record { line = a.line; place = a.place; bytes = []; too_long = a.too_long }) ∷ []) (sym (none-ahead here to_come ready (sym f ∙ e))) refl))
 
 pub ended-beyond : (here : Held) (first : Option ℕ) → IsAtHandOrEnd here → first ≡ slice_get here.at_hand 0 → first ≡ None → here.beyond ≢ Unread
 ended-beyond here first ready f e = by here.at_hand ready (sym f ∙ e)

@@ -6,17 +6,17 @@ use Rattle.std.proofs.lemmas.List.Sums.{prefix_len-le-length}
 use Rattle.std.proofs.lemmas.Bool.{ltb-true}
 use Rattle.tokens.specs.Source.{source}
 use Rattle.tokens.specs.Characters.{is_blank, is_letter, is_digit, is_name_byte}
-use Rattle.tokens.specs.Marks.{mark_of, spelling, longest_mark}
-use Rattle.tokens.specs.Front.{Front, Nothing, Space, Unclosed, Sign, front, comment, mark, up_to_close, begins_with}
-use Rattle.tokens.specs.Tokens.{Ahead, behind_byte, passed, at_end, last_lexeme, is_last, cut, cut_front, lexemes, from_start, tokens}
+use Rattle.tokens.specs.Punctuators.{punctuator_of, spelling, longest_punctuator}
+use Rattle.tokens.specs.Front.{Front, Nothing, Space, Unclosed, Sign, front, comment, punctuator, up_to_close, begins_with}
+use Rattle.tokens.specs.Tokens.{Ahead, behind_byte, passed, at_end, last_located_token, is_last, cut, cut_front, located_tokens, from_start, tokens}
 use Rattle.tokens.specs.Ends.{IsRising, AllEndBy}
-use Rattle.tokens.specs.declared.lexemes.Mark.{Mark}
-use Rattle.tokens.specs.declared.lexemes.Flaw.TheVariants.{CommentNotClosed}
-use Rattle.tokens.specs.declared.lexemes.Token.{Token}
-use Rattle.tokens.specs.declared.lexemes.Token.TheVariants as variant
-use Rattle.tokens.specs.declared.lexemes.Lexeme.{Lexeme}
-use Rattle.tokens.proofs.MarkLemmas.{mark_of-spelled}
-use Rattle.tokens.proofs.LexemesLemmas.{IsPiece, front-is_piece, length-passed}
+use Rattle.tokens.specs.declared.located_tokens.Punctuator.{Punctuator}
+use Rattle.tokens.specs.declared.located_tokens.LexicalError.TheVariants.{CommentNotClosed}
+use Rattle.tokens.specs.declared.located_tokens.Token.{Token}
+use Rattle.tokens.specs.declared.located_tokens.Token.TheVariants as variant
+use Rattle.tokens.specs.declared.located_tokens.LocatedToken.{LocatedToken}
+use Rattle.tokens.proofs.PunctuatorLemmas.{punctuator_of-spelled}
+use Rattle.tokens.proofs.LocatedTokensLemmas.{IsPiece, front-is_piece, length-passed}
 use Rattle.tokens.proofs.TakenLemmas.{place-passed, last-behind}
 
 abbrev here : ℕ → ℕ → List ℕ → Bool → Ahead
@@ -37,16 +37,16 @@ comment-inside : (bytes : List ℕ) (n : Option ℕ) → IsInside bytes (comment
 comment-inside bytes None = tt
 comment-inside bytes (Some n) = tt
 
-spelling-inside : (n : ℕ) (bytes : List ℕ) (m : Mark) → mark_of (take n bytes) ≡ Some m → length (spelling m) ≤ length bytes
-spelling-inside n bytes m e = omega (arith, ap length (mark_of-spelled (take n bytes) m e), length-take n bytes)
+spelling-inside : (n : ℕ) (bytes : List ℕ) (m : Punctuator) → punctuator_of (take n bytes) ≡ Some m → length (spelling m) ≤ length bytes
+spelling-inside n bytes m e = omega (arith, ap length (punctuator_of-spelled (take n bytes) m e), length-take n bytes)
 
-or-inside : (bytes : List ℕ) (x y : Option Mark) → ((m : Mark) → x ≡ Some m → length (spelling m) ≤ length bytes) → ((m : Mark) → y ≡ Some m → length (spelling m) ≤ length bytes) → (m : Mark) → option_or x y ≡ Some m → length (spelling m) ≤ length bytes
+or-inside : (bytes : List ℕ) (x y : Option Punctuator) → ((m : Punctuator) → x ≡ Some m → length (spelling m) ≤ length bytes) → ((m : Punctuator) → y ≡ Some m → length (spelling m) ≤ length bytes) → (m : Punctuator) → option_or x y ≡ Some m → length (spelling m) ≤ length bytes
 or-inside bytes None y f g m e = g m e
 or-inside bytes (Some x) y f g m e = f m e
 
-mark-inside : (b : ℕ) (rest : List ℕ) (o : Option Mark) → ((m : Mark) → o ≡ Some m → length (spelling m) ≤ length (b ∷ rest)) → IsInside (b ∷ rest) (mark o)
-mark-inside b rest None f = omega arith
-mark-inside b rest (Some m) f = f m refl
+punctuator-inside : (b : ℕ) (rest : List ℕ) (o : Option Punctuator) → ((m : Punctuator) → o ≡ Some m → length (spelling m) ≤ length (b ∷ rest)) → IsInside (b ∷ rest) (punctuator o)
+punctuator-inside b rest None f = omega arith
+punctuator-inside b rest (Some m) f = f m refl
 
 front-inside : (bytes : List ℕ) → IsInside bytes (front bytes)
 front-inside [] = tt
@@ -56,7 +56,7 @@ front-inside (b ∷ rest) =
     either-inside (is_letter b) xs _ _ (prefix_len-le-length is_name_byte xs) (
     either-inside (is_digit b) xs _ _ (prefix_len-le-length is_digit xs) (
     either-inside (eqb b 47 && begins_with 42 rest) xs _ _ (comment-inside xs (up_to_close (drop 1 rest)))
-    (mark-inside b rest (longest_mark xs) (or-inside xs _ _ (spelling-inside 3 xs) (or-inside xs _ _ (spelling-inside 2 xs) (spelling-inside 1 xs)))))))
+    (punctuator-inside b rest (longest_punctuator xs) (or-inside xs _ _ (spelling-inside 3 xs) (or-inside xs _ _ (spelling-inside 2 xs) (spelling-inside 1 xs)))))))
 
 place-here : (n line place : ℕ) (bytes : List ℕ) (too_long : Bool) → n ≤ length bytes → (passed n (here line place bytes too_long)).place ≡ place + n
 place-here zero line place xs t h = omega arith
@@ -88,7 +88,7 @@ sum-passed : (n : ℕ) (a : Ahead) → (passed n a).place + length (passed n a).
 sum-passed zero a = refl
 sum-passed (suc n) a = sum-passed n (behind_byte a) ∙ sum-behind_byte a
 
-rising-sooner : (p q : ℕ) (xs : List Lexeme) → q ≤ p → IsRising p xs → IsRising q xs
+rising-sooner : (p q : ℕ) (xs : List LocatedToken) → q ≤ p → IsRising p xs → IsRising q xs
 rising-sooner p q [] h r = tt
 rising-sooner p q (x ∷ xs) h r = (omega (arith, h, r.0), r.1)
 
@@ -96,7 +96,7 @@ cut-rising : (n : ℕ) (a : Ahead) → IsRising a.place (cut n a)
 cut-rising zero a = tt
 cut-rising (suc n) a = by (front a.bytes) (front-inside a.bytes) (λ count. cut-rising n (passed count a))
   where
-    rest : (t : Bool) (p : ℕ) (xs : List Lexeme) → IsRising p xs → IsRising p (cond t [] xs)
+    rest : (t : Bool) (p : ℕ) (xs : List LocatedToken) → IsRising p xs → IsRising p (cond t [] xs)
     rest true p xs r = tt
     rest false p xs r = r
 
@@ -110,10 +110,10 @@ abbrev over : Bool → ℕ
 over true = 1
 over false = 0
 
-last-by : (limit line : ℕ) (token : Token) (a : Ahead) → a.place + length a.bytes + over a.too_long ≤ limit → (last_lexeme token line (at_end a)).end ≤ limit
+last-by : (limit line : ℕ) (token : Token) (a : Ahead) → a.place + length a.bytes + over a.too_long ≤ limit → (last_located_token token line (at_end a)).end ≤ limit
 last-by limit line token a h = by (at_end a).too_long (long-passed (length a.bytes) a)
   where
-    by : (t : Bool) → t ≡ a.too_long → (last_lexeme token line (here (at_end a).line (at_end a).place (at_end a).bytes t)).end ≤ limit
+    by : (t : Bool) → t ≡ a.too_long → (last_located_token token line (here (at_end a).line (at_end a).place (at_end a).bytes t)).end ≤ limit
     by true e = omega (arith, place-inside (length a.bytes) a (omega arith), ap over e, h)
     by false e = omega (arith, place-inside (length a.bytes) a (omega arith), h)
 
@@ -121,7 +121,7 @@ cut-by : (n limit : ℕ) (a : Ahead) → a.place + length a.bytes + over a.too_l
 cut-by zero limit a h = tt
 cut-by (suc n) limit a h = by (front a.bytes) (front-inside a.bytes) (λ count further. cut-by n limit (passed count a) further)
   where
-    rest : (t : Bool) (xs : List Lexeme) → AllEndBy limit xs → AllEndBy limit (cond t [] xs)
+    rest : (t : Bool) (xs : List LocatedToken) → AllEndBy limit xs → AllEndBy limit (cond t [] xs)
     rest true xs r = tt
     rest false xs r = r
 
@@ -135,7 +135,7 @@ cut-by (suc n) limit a h = by (front a.bytes) (front-inside a.bytes) (λ count f
     by (Sign sign count) i g = (omega (arith, h, i), rest (is_last sign) _ (g count (further count)))
 
 -- there is a first token
-cut-nonempty : (n line place : ℕ) (bytes : List ℕ) (too_long : Bool) → length bytes < n → (first : Lexeme) × (others : List Lexeme) × (cut n (here line place bytes too_long) ≡ first ∷ others)
+cut-nonempty : (n line place : ℕ) (bytes : List ℕ) (too_long : Bool) → length bytes < n → (first : LocatedToken) × (others : List LocatedToken) × (cut n (here line place bytes too_long) ≡ first ∷ others)
 cut-nonempty zero line place xs t h = absurd (omega (arith, h))
 cut-nonempty (suc n) line place [] t h = (_, _, refl)
 cut-nonempty (suc n) line place (b ∷ xs) t h = by (front (b ∷ xs)) (front-is_piece (b ∷ xs)) (λ count c.
@@ -146,26 +146,26 @@ cut-nonempty (suc n) line place (b ∷ xs) t h = by (front (b ∷ xs)) (front-is
     a : Ahead
     a = here line place (b ∷ xs) t
 
-    by : (f : Front) → IsPiece f → ((count : ℕ) → 0 < count → (first : Lexeme) × (others : List Lexeme) × (cut n (passed count a) ≡ first ∷ others)) → (first : Lexeme) × (others : List Lexeme) × (cut_front f a (cut n) ≡ first ∷ others)
+    by : (f : Front) → IsPiece f → ((count : ℕ) → 0 < count → (first : LocatedToken) × (others : List LocatedToken) × (cut n (passed count a) ≡ first ∷ others)) → (first : LocatedToken) × (others : List LocatedToken) × (cut_front f a (cut n) ≡ first ∷ others)
     by Nothing p g = (_, _, refl)
     by Unclosed p g = (_, _, refl)
     by (Space count) p g = g count p
     by (Sign sign count) p g = (_, _, refl)
 
-pub lexemes-nonempty : (a : Ahead) → (first : Lexeme) × (others : List Lexeme) × (lexemes a ≡ first ∷ others)
-unfolding lexemes
-lexemes-nonempty a = cut-nonempty (suc (length a.bytes)) a.line a.place a.bytes a.too_long (omega arith)
+pub located_tokens-nonempty : (a : Ahead) → (first : LocatedToken) × (others : List LocatedToken) × (located_tokens a ≡ first ∷ others)
+unfolding located_tokens
+located_tokens-nonempty a = cut-nonempty (suc (length a.bytes)) a.line a.place a.bytes a.too_long (omega arith)
 
-pub lexemes-rising : (a : Ahead) → IsRising a.place (lexemes a)
-unfolding lexemes
-lexemes-rising a = cut-rising (suc (length a.bytes)) a
+pub located_tokens-rising : (a : Ahead) → IsRising a.place (located_tokens a)
+unfolding located_tokens
+located_tokens-rising a = cut-rising (suc (length a.bytes)) a
 
 pub tokens-rising : (bytes : List ℕ) → IsRising 0 (tokens bytes)
 unfolding tokens
-tokens-rising bytes = lexemes-rising (from_start (source bytes))
+tokens-rising bytes = located_tokens-rising (from_start (source bytes))
 
 pub tokens-by : (bytes : List ℕ) → AllEndBy (length (source bytes)) (tokens bytes)
-unfolding tokens lexemes
+unfolding tokens located_tokens
 tokens-by bytes = cut-by (suc (length (take 1048576 (source bytes)))) (length (source bytes)) (from_start (source bytes)) (by (ltb 1048576 (length (source bytes))) refl)
   where
     by : (t : Bool) → ltb 1048576 (length (source bytes)) ≡ t → 0 + length (take 1048576 (source bytes)) + over t ≤ length (source bytes)

@@ -1,12 +1,12 @@
 -- The known tokens, worked out.
 use Rattle.std.proofs.Common.{refl}
 use Rattle.tokens.specs.KnownTokens.{KnownTokens}
-use Rattle.tokens.specs.Marks.{mark_of}
-use Rattle.tokens.specs.Tokens.{lexemes, tokens}
+use Rattle.tokens.specs.Punctuators.{punctuator_of}
+use Rattle.tokens.specs.Tokens.{located_tokens, tokens}
 use Rattle.tokens.specs.Words.{word_of}
 
 pub known : KnownTokens
-unfolding tokens lexemes word_of mark_of
+unfolding tokens located_tokens word_of punctuator_of
 known = record {
   nothing = refl;
   longest_match = refl;

@@ -1,11 +1,12 @@
 pub mod KnownTokens
+pub mod NameLemmas
 pub mod SourceLemmas
-pub mod BlockLemmas
+pub mod RunLemmas
 pub mod WindowLemmas
 pub mod TakenLemmas
 pub mod ToRead
-pub mod LexemesLemmas
-pub mod MarkLemmas
+pub mod LocatedTokensLemmas
+pub mod PunctuatorLemmas
 pub mod TokenLemmas
 pub mod CommentLemmas
 pub mod BeginLemmas

@@ -3,47 +3,47 @@ use Rattle.std.proofs.Common.{◌≡◌, ℕ, ◌+◌, ◌-◌, ◌<◌, ◌≤�
 use Rattle.std.specs.Option.{option_map}
 use Rattle.std.proofs.lemmas.Option.{same_Some}
 use Rattle.tokens.specs.Source.{source}
-use Rattle.tokens.specs.Tokens.{is_last, followed_by, lexemes, from_start, tokens}
+use Rattle.tokens.specs.Tokens.{is_last, followed_by, located_tokens, from_start, tokens}
 use Rattle.tokens.specs.Ends.{IsRising}
 use Rattle.tokens.specs.Window.{Held, ahead, untouched}
 use Rattle.tokens.specs.Lexing.{to_read, followed}
 use Rattle.tokens.specs.Reading.{Reading, shown, unread, remaining, reach_of}
-use Rattle.tokens.specs.declared.lexemes.Lexeme.{Lexeme}
-use Rattle.tokens.proofs.EndLemmas.{lexemes-nonempty, lexemes-rising}
+use Rattle.tokens.specs.declared.located_tokens.LocatedToken.{LocatedToken}
+use Rattle.tokens.proofs.EndLemmas.{located_tokens-nonempty, located_tokens-rising}
 
-abbrev reading : Lexeme → Lexeme → Held → Reading
+abbrev reading : LocatedToken → LocatedToken → Held → Reading
 reading next after behind = record { next = next; after = after; behind = behind }
 
 -- the token behind the next one was read
-pub shown-read : (next after : Lexeme) (new old : Held) (told' told : Option (List ℕ)) → to_read (followed after) new told' ≡ to_read lexemes old told → shown (reading next after new) told' ≡ to_read (followed next) old told
+pub shown-read : (next after : LocatedToken) (new old : Held) (told' told : Option (List ℕ)) → to_read (followed after) new told' ≡ to_read located_tokens old told → shown (reading next after new) told' ≡ to_read (followed next) old told
 unfolding to_read followed unread
 shown-read next after new old None None e = refl
 shown-read next after new old None (Some t) e = absurd cc
 shown-read next after new old (Some t') None e = absurd cc
 shown-read next after new old (Some t') (Some t) e =
-    ap (λ xs. Some (followed_by next xs)) (same_Some (followed_by after (lexemes (ahead new t'))) (lexemes (ahead old t)) e)
+    ap (λ xs. Some (followed_by next xs)) (same_Some (followed_by after (located_tokens (ahead new t'))) (located_tokens (ahead old t)) e)
 
 -- there is none
-pub shown-last : (next after : Lexeme) (behind : Held) (told : Option (List ℕ)) → is_last next.token ≡ true → shown (reading next after behind) told ≡ to_read (followed next) behind told
+pub shown-last : (next after : LocatedToken) (behind : Held) (told : Option (List ℕ)) → is_last next.token ≡ true → shown (reading next after behind) told ≡ to_read (followed next) behind told
 unfolding to_read followed unread
 shown-last next after behind None e = refl
 shown-last next after behind (Some t) e =
-    ap (λ s. Some (next ∷ cond s [] (followed_by after (lexemes (ahead behind t))))) e ∙ sym (ap (λ s. Some (next ∷ cond s [] (lexemes (ahead behind t)))) e)
+    ap (λ s. Some (next ∷ cond s [] (followed_by after (located_tokens (ahead behind t))))) e ∙ sym (ap (λ s. Some (next ∷ cond s [] (located_tokens (ahead behind t)))) e)
 
 -- at the begin
-pub shown-opened : (told : Option (List ℕ)) → to_read lexemes untouched told ≡ option_map tokens told
+pub shown-opened : (told : Option (List ℕ)) → to_read located_tokens untouched told ≡ option_map tokens told
 unfolding to_read tokens
 shown-opened None = refl
 shown-opened (Some bytes) = refl
 
 -- behind the next token
-pub shown-advanced : (next after lexeme : Lexeme) (new old : Held) (told' told : Option (List ℕ)) → is_last next.token ≡ false → to_read (followed lexeme) new told' ≡ to_read lexemes old told → shown (reading after lexeme new) told' ≡ option_map (drop 1) (shown (reading next after old) told)
+pub shown-advanced : (next after located_token : LocatedToken) (new old : Held) (told' told : Option (List ℕ)) → is_last next.token ≡ false → to_read (followed located_token) new told' ≡ to_read located_tokens old told → shown (reading after located_token new) told' ≡ option_map (drop 1) (shown (reading next after old) told)
 unfolding to_read followed unread
-shown-advanced next after lexeme new old told' told not_last e = shown-read after lexeme new old told' told e ∙ by told
+shown-advanced next after located_token new old told' told not_last e = shown-read after located_token new old told' told e ∙ by told
   where
     by : (told : Option (List ℕ)) → to_read (followed after) old told ≡ option_map (drop 1) (shown (reading next after old) told)
     by None = refl
-    by (Some t) = sym (ap (λ s. Some (cond s [] (followed_by after (lexemes (ahead old t))))) not_last)
+    by (Some t) = sym (ap (λ s. Some (cond s [] (followed_by after (located_tokens (ahead old t))))) not_last)
 
 abbrev left : Bool → Bool → ℕ → ℕ
 left next_last after_last place = cond next_last 0 (cond after_last 1 (2 + (1048576 - place)))
@@ -57,9 +57,9 @@ remaining-bounded r = by (is_last r.next.token) (is_last r.after.token)
     by false true = omega arith
     by false false = omega arith
 
-pub remaining-advanced : (next after lexeme : Lexeme) (new old : Held) → is_last next.token ≡ false → is_last after.token ≡ false → (is_last lexeme.token ≡ false → old.place < new.place) → new.place ≤ 1048576 → remaining (reading after lexeme new) < remaining (reading next after old)
+pub remaining-advanced : (next after located_token : LocatedToken) (new old : Held) → is_last next.token ≡ false → is_last after.token ≡ false → (is_last located_token.token ≡ false → old.place < new.place) → new.place ≤ 1048576 → remaining (reading after located_token new) < remaining (reading next after old)
 unfolding remaining
-remaining-advanced next after lexeme new old n a further within = by (is_last next.token) (is_last after.token) (is_last lexeme.token) n a further
+remaining-advanced next after located_token new old n a further within = by (is_last next.token) (is_last after.token) (is_last located_token.token) n a further
   where
     by : (s t u : Bool) → s ≡ false → t ≡ false → (u ≡ false → old.place < new.place) → left t u new.place < left s t old.place
     by true t u n a f = absurd cc
@@ -67,7 +67,7 @@ remaining-advanced next after lexeme new old n a further within = by (is_last ne
     by false false true n a f = omega arith
     by false false false n a f = omega (arith, f refl)
 
-pub remaining-ended : (next after after' : Lexeme) (new old : Held) → is_last next.token ≡ false → is_last after.token ≡ true → remaining (reading after after' new) < remaining (reading next after old)
+pub remaining-ended : (next after after' : LocatedToken) (new old : Held) → is_last next.token ≡ false → is_last after.token ≡ true → remaining (reading after after' new) < remaining (reading next after old)
 unfolding remaining
 remaining-ended next after after' new old n a = by (is_last next.token) (is_last after.token) n a
   where
@@ -77,38 +77,38 @@ remaining-ended next after after' new old n a = by (is_last next.token) (is_last
     by false false n a = absurd cc
 
 -- where a read stopped that failed
-reach-first : (place : ℕ) (first : Lexeme) (others : List Lexeme) → IsRising place (first ∷ others) → first.end ≤ reach_of (first ∷ others)
+reach-first : (place : ℕ) (first : LocatedToken) (others : List LocatedToken) → IsRising place (first ∷ others) → first.end ≤ reach_of (first ∷ others)
 reach-first place first [] r = omega arith
 reach-first place first (x ∷ others) r = r.1.0
 
-pub opened-stopped : (bytes : List ℕ) (n : ℕ) (window : Held) (told : Option (List ℕ)) → window ≡ untouched → told ≡ Some bytes → ((first : Lexeme) (others : List Lexeme) → to_read lexemes window told ≡ Some (first ∷ others) → n ≤ first.end) → n ≤ reach_of (tokens bytes)
+pub opened-stopped : (bytes : List ℕ) (n : ℕ) (window : Held) (told : Option (List ℕ)) → window ≡ untouched → told ≡ Some bytes → ((first : LocatedToken) (others : List LocatedToken) → to_read located_tokens window told ≡ Some (first ∷ others) → n ≤ first.end) → n ≤ reach_of (tokens bytes)
 unfolding tokens
 opened-stopped bytes n window told w t f =
-    let some = lexemes-nonempty (from_start (source bytes)) in
-    let here = ap (λ h. to_read lexemes h told) w ∙ ap (to_read lexemes untouched) t ∙ shown-opened (Some bytes) in
-    let rising = subst (IsRising 0) some.2 (lexemes-rising (from_start (source bytes))) in
-    subst (λ (xs : List Lexeme). n ≤ reach_of xs) (sym some.2)
+    let some = located_tokens-nonempty (from_start (source bytes)) in
+    let here = ap (λ h. to_read located_tokens h told) w ∙ ap (to_read located_tokens untouched) t ∙ shown-opened (Some bytes) in
+    let rising = subst (IsRising 0) some.2 (located_tokens-rising (from_start (source bytes))) in
+    subst (λ (xs : List LocatedToken). n ≤ reach_of xs) (sym some.2)
     (omega (arith, f some.0 some.1 (here ∙ ap Some some.2), reach-first 0 some.0 some.1 rising))
 
-pub second-stopped : (bytes : List ℕ) (n : ℕ) (next : Lexeme) (first second : Held) (told told' : Option (List ℕ)) → first ≡ untouched → told ≡ Some bytes → is_last next.token ≡ false → to_read (followed next) second told' ≡ to_read lexemes first told → ((x : Lexeme) (others : List Lexeme) → to_read lexemes second told' ≡ Some (x ∷ others) → n ≤ x.end) → n ≤ reach_of (tokens bytes)
+pub second-stopped : (bytes : List ℕ) (n : ℕ) (next : LocatedToken) (first second : Held) (told told' : Option (List ℕ)) → first ≡ untouched → told ≡ Some bytes → is_last next.token ≡ false → to_read (followed next) second told' ≡ to_read located_tokens first told → ((x : LocatedToken) (others : List LocatedToken) → to_read located_tokens second told' ≡ Some (x ∷ others) → n ≤ x.end) → n ≤ reach_of (tokens bytes)
 unfolding to_read followed
 second-stopped bytes n next first second told told' w t last e f =
-    by told' (e ∙ ap (λ h. to_read lexemes h told) w ∙ ap (to_read lexemes untouched) t ∙ shown-opened (Some bytes)) f
+    by told' (e ∙ ap (λ h. to_read located_tokens h told) w ∙ ap (to_read located_tokens untouched) t ∙ shown-opened (Some bytes)) f
   where
-    by : (told' : Option (List ℕ)) → to_read (followed next) second told' ≡ Some (tokens bytes) → ((x : Lexeme) (others : List Lexeme) → to_read lexemes second told' ≡ Some (x ∷ others) → n ≤ x.end) → n ≤ reach_of (tokens bytes)
+    by : (told' : Option (List ℕ)) → to_read (followed next) second told' ≡ Some (tokens bytes) → ((x : LocatedToken) (others : List LocatedToken) → to_read located_tokens second told' ≡ Some (x ∷ others) → n ≤ x.end) → n ≤ reach_of (tokens bytes)
     by None e f = absurd cc
     by (Some to_come) e f =
-        let some = lexemes-nonempty (ahead second to_come) in
-        let is : tokens bytes ≡ next ∷ some.0 ∷ some.1 = sym (same_Some _ _ e) ∙ ap (λ s. next ∷ cond s [] (lexemes (ahead second to_come))) last ∙ ap (λ xs. next ∷ xs) some.2 in
-        subst (λ (xs : List Lexeme). n ≤ reach_of xs) (sym is) (f some.0 some.1 (ap Some some.2))
+        let some = located_tokens-nonempty (ahead second to_come) in
+        let is : tokens bytes ≡ next ∷ some.0 ∷ some.1 = sym (same_Some _ _ e) ∙ ap (λ s. next ∷ cond s [] (located_tokens (ahead second to_come))) last ∙ ap (λ xs. next ∷ xs) some.2 in
+        subst (λ (xs : List LocatedToken). n ≤ reach_of xs) (sym is) (f some.0 some.1 (ap Some some.2))
 
-pub advanced-stopped : (n : ℕ) (next after : Lexeme) (window : Held) (told : Option (List ℕ)) → is_last next.token ≡ false → is_last after.token ≡ false → ((first : Lexeme) (others : List Lexeme) → to_read lexemes window told ≡ Some (first ∷ others) → n ≤ first.end) → (x : Lexeme) (others : List Lexeme) → shown (reading next after window) told ≡ Some (x ∷ others) → n ≤ reach_of others
+pub advanced-stopped : (n : ℕ) (next after : LocatedToken) (window : Held) (told : Option (List ℕ)) → is_last next.token ≡ false → is_last after.token ≡ false → ((first : LocatedToken) (others : List LocatedToken) → to_read located_tokens window told ≡ Some (first ∷ others) → n ≤ first.end) → (x : LocatedToken) (others : List LocatedToken) → shown (reading next after window) told ≡ Some (x ∷ others) → n ≤ reach_of others
 unfolding to_read unread
 advanced-stopped n next after window None l m f x others e = absurd cc
 advanced-stopped n next after window (Some to_come) l m f x others e =
-    let some = lexemes-nonempty (ahead window to_come) in
+    let some = located_tokens-nonempty (ahead window to_come) in
     let is : next ∷ after ∷ some.0 ∷ some.1 ≡ x ∷ others =
-    sym (ap (λ s. next ∷ cond s [] (after ∷ cond (is_last after.token) [] (lexemes (ahead window to_come)))) l ∙ ap (λ s. next ∷ after ∷ cond s [] (lexemes (ahead window to_come))) m ∙ ap (λ xs. next ∷ after ∷ xs) some.2)
+    sym (ap (λ s. next ∷ cond s [] (after ∷ cond (is_last after.token) [] (located_tokens (ahead window to_come)))) l ∙ ap (λ s. next ∷ after ∷ cond s [] (located_tokens (ahead window to_come))) m ∙ ap (λ xs. next ∷ after ∷ xs) some.2)
     ∙ same_Some _ _ e in
     let rest : after ∷ some.0 ∷ some.1 ≡ others = cc in
-    subst (λ (xs : List Lexeme). n ≤ reach_of xs) rest (f some.0 some.1 (ap Some some.2))
+    subst (λ (xs : List LocatedToken). n ≤ reach_of xs) rest (f some.0 some.1 (ap Some some.2))

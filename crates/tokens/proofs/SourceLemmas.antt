@@ -1,7 +1,5 @@
 -- The source in a piece of bytes, and in two pieces one behind the other.
-use Rattle.std.proofs.Common.{◌≡◌, ℕ, ◌+◌, ◌<◌, ◌≤◌, Bool, true, false, cond, eqb, List, [], ◌∷◌, ◌++◌, length, get_or, take, drop, refl, ap, arith}
-use Rattle.std.proofs.lemmas.Bool.Decides.{nat_tests}
-use Rattle.std.proofs.lemmas.List.{at_drop_more}
+use Rattle.std.proofs.Common.{◌≡◌, ℕ, ◌+◌, ◌<◌, ◌≤◌, Bool, true, false, cond, eqb, List, [], ◌∷◌, ◌++◌, length, take, drop, refl, ap, arith}
 use Rattle.tokens.specs.Source.{source}
 
 pub length-source-le : (xs : List ℕ) → length (source xs) ≤ length xs
@@ -43,10 +41,4 @@ take-source (b ∷ xs) = by (eqb b 26) (take-source xs)
     by true e = refl
     by false e = ap (λ zs. b ∷ zs) e
 
--- one byte further on
-pub source-drop : (xs : List ℕ) (i b : ℕ) → i < length xs → length (source (drop i xs)) ≡ length (cond (eqb (get_or xs i b) 26) [] (get_or xs i b ∷ source (drop (i + 1) xs)))
-source-drop xs i b h = at_drop_more (λ ys. length (source ys)) xs i b h
-
 pub ruleset cutting = (source-whole, length-source-le)
-
-pub ruleset steps = (source-drop, nat_tests)

@@ -3,17 +3,17 @@ use Rattle.std.proofs.Common.{◌≡◌, ℕ, zero, suc, ◌+◌, ◌≤◌, Boo
 use Rattle.std.specs.Prelude.{OnErr}
 use Rattle.std.specs.List.{prefix_len}
 use Rattle.std.proofs.lemmas.Option.{same_Some}
-use Rattle.tokens.specs.Marks.{mark_of, spelling}
+use Rattle.tokens.specs.Punctuators.{punctuator_of, spelling}
 use Rattle.tokens.specs.Front.{Front, Nothing, Space, Unclosed, Sign, front, up_to_close, begins_with}
-use Rattle.tokens.specs.Tokens.{Ahead, behind_byte, passed, at_end, placed, last_lexeme, cut, cut_front, lexemes}
+use Rattle.tokens.specs.Tokens.{Ahead, behind_byte, passed, at_end, placed, last_located_token, cut, cut_front, located_tokens}
 use Rattle.tokens.specs.Window.{Held, Takes, ahead}
-use Rattle.tokens.specs.Lexing.{to_read, followed, ending, in_run, in_mark, grown, in_comment, closed_at, StopsWithin}
-use Rattle.tokens.specs.declared.lexemes.Mark.{Mark}
-use Rattle.tokens.specs.declared.lexemes.Mark.TheVariants.{Slash}
-use Rattle.tokens.specs.declared.lexemes.Flaw.TheVariants.{CommentNotClosed, SourceTooLong}
-use Rattle.tokens.specs.declared.lexemes.Token.{Token}
-use Rattle.tokens.specs.declared.lexemes.Token.TheVariants as variant
-use Rattle.tokens.specs.declared.lexemes.Lexeme.{Lexeme}
+use Rattle.tokens.specs.Lexing.{to_read, followed, ending, in_run, in_punctuator, grown, in_comment, closed_at, StopsWithin}
+use Rattle.tokens.specs.declared.located_tokens.Punctuator.{Punctuator}
+use Rattle.tokens.specs.declared.located_tokens.Punctuator.TheVariants.{Slash}
+use Rattle.tokens.specs.declared.located_tokens.LexicalError.TheVariants.{CommentNotClosed, SourceTooLong}
+use Rattle.tokens.specs.declared.located_tokens.Token.{Token}
+use Rattle.tokens.specs.declared.located_tokens.Token.TheVariants as variant
+use Rattle.tokens.specs.declared.located_tokens.LocatedToken.{LocatedToken}
 use Rattle.tokens.proofs.CommentLemmas.{in_star}
 use Rattle.tokens.proofs.BeginLemmas.{in_slash}
 
@@ -30,13 +30,13 @@ on_err-from (Ok x) p = tt
 on_err-from (Err x) p = p
 
 -- the first token ends no sooner than it begins
-pub record EndsBehind (made : Ahead → List Lexeme) : Type 0 where
-  pub ends : (a : Ahead) (first : Lexeme) (others : List Lexeme) → made a ≡ first ∷ others → a.place ≤ first.end
+pub record EndsBehind (made : Ahead → List LocatedToken) : Type 0 where
+  pub ends : (a : Ahead) (first : LocatedToken) (others : List LocatedToken) → made a ≡ first ∷ others → a.place ≤ first.end
 
-same_first : (x first : Lexeme) (xs others : List Lexeme) → x ∷ xs ≡ first ∷ others → x ≡ first
+same_first : (x first : LocatedToken) (xs others : List LocatedToken) → x ∷ xs ≡ first ∷ others → x ≡ first
 same_first x first xs others e = cc
 
-at_most : (place : ℕ) (x first : Lexeme) (xs others : List Lexeme) → place ≤ x.end → x ∷ xs ≡ first ∷ others → place ≤ first.end
+at_most : (place : ℕ) (x first : LocatedToken) (xs others : List LocatedToken) → place ≤ x.end → x ∷ xs ≡ first ∷ others → place ≤ first.end
 at_most place x first xs others h e = omega (arith, ap (λ y. y.end) (same_first x first xs others e))
 
 place-behind_byte : (a : Ahead) → a.place ≤ (behind_byte a).place
@@ -50,17 +50,17 @@ pub place-passed : (n : ℕ) (a : Ahead) → a.place ≤ (passed n a).place
 place-passed zero a = omega arith
 place-passed (suc n) a = omega (arith, place-behind_byte a, place-passed n (behind_byte a))
 
-pub last-behind : (token : Token) (line : ℕ) (end : Ahead) → end.place ≤ (last_lexeme token line end).end
+pub last-behind : (token : Token) (line : ℕ) (end : Ahead) → end.place ≤ (last_located_token token line end).end
 last-behind token line end = by end.too_long
   where
-    by : (t : Bool) → end.place ≤ (cond t (let x : Lexeme = record { token = variant.Fault SourceTooLong; line = end.line; end = end.place + 1 } in x) (let x : Lexeme = record { token = token; line = line; end = end.place } in x)).end
+    by : (t : Bool) → end.place ≤ (cond t (let x : LocatedToken = record { token = variant.Fault SourceTooLong; line = end.line; end = end.place + 1 } in x) (let x : LocatedToken = record { token = token; line = line; end = end.place } in x)).end
     by true = omega arith
     by false = omega arith
 
-last-ends : (place : ℕ) (token : Token) (line : ℕ) (a : Ahead) (first : Lexeme) (others : List Lexeme) → place ≤ a.place → last_lexeme token line (at_end a) ∷ [] ≡ first ∷ others → place ≤ first.end
+last-ends : (place : ℕ) (token : Token) (line : ℕ) (a : Ahead) (first : LocatedToken) (others : List LocatedToken) → place ≤ a.place → last_located_token token line (at_end a) ∷ [] ≡ first ∷ others → place ≤ first.end
 last-ends place token line a first others h e = at_most place _ first [] others (omega (arith, last-behind token line (at_end a), place-passed (length a.bytes) a)) e
 
-cut-ends : (n : ℕ) (a : Ahead) (first : Lexeme) (others : List Lexeme) → cut n a ≡ first ∷ others → a.place ≤ first.end
+cut-ends : (n : ℕ) (a : Ahead) (first : LocatedToken) (others : List LocatedToken) → cut n a ≡ first ∷ others → a.place ≤ first.end
 cut-ends zero a first others e = absurd cc
 cut-ends (suc n) a first others e = by (front a.bytes) (λ count. cut-ends n (passed count a) first others) e
   where
@@ -70,36 +70,36 @@ cut-ends (suc n) a first others e = by (front a.bytes) (λ count. cut-ends n (pa
     by (Space count) h e = omega (arith, h count e, place-passed count a)
     by (Sign sign count) h e = at_most a.place (placed sign count a) first _ others (omega arith) e
 
-pub lexemes-end : EndsBehind lexemes
-unfolding lexemes
-lexemes-end = record { ends = λ a. cut-ends (suc (length a.bytes)) a }
+pub located_tokens-end : EndsBehind located_tokens
+unfolding located_tokens
+located_tokens-end = record { ends = λ a. cut-ends (suc (length a.bytes)) a }
 
 pub in_run-ends : (test : ℕ → Bool) (token_of : List ℕ → Token) → EndsBehind (in_run test token_of)
 unfolding in_run followed
 in_run-ends test token_of = record { ends = λ a first others e. at_most a.place (placed (token_of (take (prefix_len test a.bytes) a.bytes)) (prefix_len test a.bytes) a) first _ others (omega arith) e }
 
-grown-ends : (mark : Mark) (bytes : List ℕ) (a : Ahead) (first : Lexeme) (others : List Lexeme) → grown mark bytes a ≡ first ∷ others → a.place ≤ first.end
+grown-ends : (punctuator : Punctuator) (bytes : List ℕ) (a : Ahead) (first : LocatedToken) (others : List LocatedToken) → grown punctuator bytes a ≡ first ∷ others → a.place ≤ first.end
 unfolding followed
-grown-ends mark [] a first others e = at_most a.place (ending (variant.Mark mark) a) first _ others (omega arith) e
-grown-ends mark (b ∷ rest) a first others e = by (mark_of (spelling mark ++ b ∷ [])) (λ longer. grown-ends longer rest (behind_byte a) first others) e
+grown-ends punctuator [] a first others e = at_most a.place (ending (variant.Punctuator punctuator) a) first _ others (omega arith) e
+grown-ends punctuator (b ∷ rest) a first others e = by (punctuator_of (spelling punctuator ++ b ∷ [])) (λ longer. grown-ends longer rest (behind_byte a) first others) e
   where
-    by : (o : Option Mark) → ((longer : Mark) → grown longer rest (behind_byte a) ≡ first ∷ others → (behind_byte a).place ≤ first.end) → elim o [ None ↦ followed (ending (variant.Mark mark) a) a | Some longer ↦ grown longer rest (behind_byte a) ] ≡ first ∷ others → a.place ≤ first.end
-    by None h e = at_most a.place (ending (variant.Mark mark) a) first _ others (omega arith) e
+    by : (o : Option Punctuator) → ((longer : Punctuator) → grown longer rest (behind_byte a) ≡ first ∷ others → (behind_byte a).place ≤ first.end) → elim o [ None ↦ followed (ending (variant.Punctuator punctuator) a) a | Some longer ↦ grown longer rest (behind_byte a) ] ≡ first ∷ others → a.place ≤ first.end
+    by None h e = at_most a.place (ending (variant.Punctuator punctuator) a) first _ others (omega arith) e
     by (Some longer) h e = omega (arith, h longer e, place-behind_byte a)
 
-pub in_mark-ends : (mark : Mark) → EndsBehind (in_mark mark)
-unfolding in_mark
-in_mark-ends mark = record { ends = λ a. grown-ends mark a.bytes a }
+pub in_punctuator-ends : (punctuator : Punctuator) → EndsBehind (in_punctuator punctuator)
+unfolding in_punctuator
+in_punctuator-ends punctuator = record { ends = λ a. grown-ends punctuator a.bytes a }
 
 pub in_comment-ends : (line : ℕ) → EndsBehind (in_comment line)
 unfolding in_comment
 in_comment-ends line = record { ends = λ a first others. by a first others (up_to_close a.bytes) }
   where
-    by : (a : Ahead) (first : Lexeme) (others : List Lexeme) (o : Option ℕ) → closed_at o line a ≡ first ∷ others → a.place ≤ first.end
+    by : (a : Ahead) (first : LocatedToken) (others : List LocatedToken) (o : Option ℕ) → closed_at o line a ≡ first ∷ others → a.place ≤ first.end
     by a first others None e = last-ends a.place (variant.Fault CommentNotClosed) line a first others (omega arith) e
-    by a first others (Some count) e = omega (arith, lexemes-end.ends (passed count a) first others e, place-passed count a)
+    by a first others (Some count) e = omega (arith, located_tokens-end.ends (passed count a) first others e, place-passed count a)
 
-either-ends : (t : Bool) (place : ℕ) (xs ys : List Lexeme) (first : Lexeme) (others : List Lexeme) → (xs ≡ first ∷ others → place ≤ first.end) → (ys ≡ first ∷ others → place ≤ first.end) → cond t xs ys ≡ first ∷ others → place ≤ first.end
+either-ends : (t : Bool) (place : ℕ) (xs ys : List LocatedToken) (first : LocatedToken) (others : List LocatedToken) → (xs ≡ first ∷ others → place ≤ first.end) → (ys ≡ first ∷ others → place ≤ first.end) → cond t xs ys ≡ first ∷ others → place ≤ first.end
 either-ends true place xs ys first others f g e = f e
 either-ends false place xs ys first others f g e = g e
 
@@ -107,21 +107,21 @@ pub in_star-ends : (line : ℕ) → EndsBehind (in_star line)
 unfolding in_star
 in_star-ends line = record {
   ends = λ a first others. either-ends (begins_with 47 a.bytes) a.place _ _ first others
-      (λ e. omega (arith, lexemes-end.ends (behind_byte a) first others e, place-behind_byte a)) ((in_comment-ends line).ends a first others);
+      (λ e. omega (arith, located_tokens-end.ends (behind_byte a) first others e, place-behind_byte a)) ((in_comment-ends line).ends a first others);
 }
 
 pub in_slash-ends : (line : ℕ) → EndsBehind (in_slash line)
 unfolding in_slash
 in_slash-ends line = record {
   ends = λ a first others. either-ends (begins_with 42 a.bytes) a.place _ _ first others
-      (λ e. omega (arith, (in_comment-ends line).ends (behind_byte a) first others e, place-behind_byte a)) ((in_mark-ends Slash).ends a first others);
+      (λ e. omega (arith, (in_comment-ends line).ends (behind_byte a) first others e, place-behind_byte a)) ((in_punctuator-ends Slash).ends a first others);
 }
 
 -- a read that failed took nothing behind the place that was reached
-pub stops : (made : Ahead → List Lexeme) → EndsBehind made → (here new : Held) (told : Option (List ℕ)) → new.taken ≡ new.place → new.place ≡ here.place → StopsWithin made here new told
+pub stops : (made : Ahead → List LocatedToken) → EndsBehind made → (here new : Held) (told : Option (List ℕ)) → new.taken ≡ new.place → new.place ≡ here.place → StopsWithin made here new told
 unfolding to_read
 stops made ends here new None t p = λ first others e. absurd cc
 stops made ends here new (Some to_come) t p = λ first others e. omega (arith, ends.ends (ahead here to_come) first others (same_Some _ _ e))
 
-pub stops-from : (made made' : Ahead → List Lexeme) (here old new : Held) (told told' : Option (List ℕ)) → to_read made here told' ≡ to_read made' old told → StopsWithin made here new told' → StopsWithin made' old new told
+pub stops-from : (made made' : Ahead → List LocatedToken) (here old new : Held) (told told' : Option (List ℕ)) → to_read made here told' ≡ to_read made' old told → StopsWithin made here new told' → StopsWithin made' old new told
 stops-from made made' here old new told told' s f = λ first others e. f first others (s ∙ e)

@@ -1,21 +1,23 @@
--- Blanks, comments, names, constants and marks, a byte at a time.
-use Rattle.std.proofs.Common.{◌≡◌, ℕ, suc, ◌+◌, ◌-◌, ◌*◌, ◌<◌, ◌≤◌, Bool, true, false, cond, eqb, leb, Option, Some, None, List, [], ◌∷◌, ◌++◌, length, take, fold, min, ◌⊎◌, inl, inr, refl, sym, ap, ◌∙◌, subst, arith, append_assoc, length-append}
+-- Blanks, comments, names, constants and punctuators, a byte at a time.
+use Rattle.std.proofs.Common.{◌≡◌, ℕ, zero, suc, ◌+◌, ◌-◌, ◌*◌, ◌<◌, ◌≤◌, Bool, true, false, cond, eqb, leb, Option, Some, None, List, [], ◌∷◌, ◌++◌, length, take, fold, min, ◌⊎◌, inl, inr, refl, sym, ap, ◌∙◌, subst, arith, append_assoc, length-append}
 use Rattle.std.specs.Prelude.{slice_get}
 use Rattle.std.specs.List.{prefix_len}
 use Rattle.std.specs.Option.{option_and_then}
 use Rattle.std.proofs.lemmas.Bool.{eqb-true, lt-leb, cases_lt}
 use Rattle.tokens.specs.Characters.{is_blank, is_digit, is_name_byte}
-use Rattle.tokens.specs.Marks.{spelling, mark_of}
+use Rattle.tokens.specs.Punctuators.{spelling, punctuator_of}
 use Rattle.tokens.specs.Front.{front, name_token}
-use Rattle.tokens.specs.Tokens.{Ahead, behind_byte, line_behind, passed, placed, last_lexeme, followed_by, cut_front, lexemes}
-use Rattle.tokens.specs.Window.{Held, ahead, behind_first, IsAtHandOrEnd}
-use Rattle.tokens.specs.Lexing.{to_read, followed, ending, in_run, in_name, name_going_on, in_constant, constant_going_on, value_token, in_mark, grown}
-use Rattle.tokens.specs.declared.lexemes.Mark.{Mark}
-use Rattle.tokens.specs.declared.lexemes.Flaw.TheVariants.{NameTooLong}
-use Rattle.tokens.specs.declared.lexemes.Token.{Token}
-use Rattle.tokens.specs.declared.lexemes.Token.TheVariants as variant
-use Rattle.tokens.specs.declared.lexemes.Lexeme.{Lexeme}
-use Rattle.tokens.proofs.LexemesLemmas.{lexemes-front}
+use Rattle.tokens.specs.Tokens.{Ahead, behind_byte, line_behind, passed, placed, last_located_token, followed_by, cut_front, located_tokens}
+use Rattle.tokens.specs.Window.{Held, ahead, behind, behind_first, behind_blanks, IsAtHandOrEnd}
+use Rattle.tokens.specs.Lexing.{to_read, followed, ending, in_run, in_name, name_going_on, in_constant, constant_going_on, value_token, in_punctuator, grown}
+use Rattle.tokens.specs.declared.located_tokens.Punctuator.{Punctuator}
+use Rattle.tokens.specs.declared.located_tokens.LexicalError.TheVariants.{NameTooLong}
+use Rattle.tokens.specs.declared.located_tokens.Token.{Token}
+use Rattle.tokens.specs.declared.located_tokens.Token.TheVariants as variant
+use Rattle.tokens.specs.declared.located_tokens.LocatedToken.{LocatedToken}
+use Rattle.tokens.specs.declared.windows.Beyond.{Beyond}
+use Rattle.tokens.proofs.LocatedTokensLemmas.{located_tokens-front}
+use Rattle.tokens.proofs.WindowLemmas.{held}
 use Rattle.tokens.proofs.ToRead.{to_read-here, to_read-pass, first-ahead, none-ahead}
 
 abbrev here : ℕ → ℕ → List ℕ → Bool → Ahead
@@ -30,21 +32,36 @@ other true x y e = absurd cc
 other false x y e = refl
 
 -- a blank is skipped
-pub blank-skipped : (b : ℕ) → is_blank b ≡ true → (a : Ahead) (rest : List ℕ) → a.bytes ≡ b ∷ rest → lexemes (behind_byte a) ≡ lexemes a
+pub blank-skipped : (b : ℕ) → is_blank b ≡ true → (a : Ahead) (rest : List ℕ) → a.bytes ≡ b ∷ rest → located_tokens (behind_byte a) ≡ located_tokens a
 blank-skipped b blank a rest e =
-    sym (lexemes-front a ∙ ap (λ f. cut_front f a lexemes) (ap front e ∙ chosen (is_blank b) _ _ blank))
+    sym (located_tokens-front a ∙ ap (λ f. cut_front f a located_tokens) (ap front e ∙ chosen (is_blank b) _ _ blank))
+
+blanks-here : (told : Option (List ℕ)) (n line place taken : ℕ) (xs : List ℕ) (beyond : Beyond) → n ≤ prefix_len is_blank xs → to_read located_tokens (behind n (held line place xs taken beyond)) told ≡ to_read located_tokens (held line place xs taken beyond) told
+blanks-here told zero line place taken xs beyond h = refl
+blanks-here told (suc n) line place taken [] beyond h = absurd (omega (arith, h))
+blanks-here told (suc n) line place taken (b ∷ xs) beyond h =
+    let next = behind_first (held line place (b ∷ xs) taken beyond) in
+    by (is_blank b) refl h (blanks-here told n next.line next.place next.taken xs beyond)
+  where
+    by : (s : Bool) → is_blank b ≡ s → suc n ≤ cond s (1 + prefix_len is_blank xs) 0 → (n ≤ prefix_len is_blank xs → to_read located_tokens (behind n (behind_first (held line place (b ∷ xs) taken beyond))) told ≡ to_read located_tokens (behind_first (held line place (b ∷ xs) taken beyond)) told) → to_read located_tokens (behind (suc n) (held line place (b ∷ xs) taken beyond)) told ≡ to_read located_tokens (held line place (b ∷ xs) taken beyond) told
+    by true e h f = f (omega (arith, h)) ∙ to_read-pass located_tokens located_tokens (behind_first (held line place (b ∷ xs) taken beyond)) (held line place (b ∷ xs) taken beyond) told (Some b) b refl refl refl (blank-skipped b e)
+    by false e h f = absurd (omega (arith, h))
+
+-- the blanks at hand are skipped
+pub blanks-pass : (new here : Held) (told : Option (List ℕ)) → new ≡ behind_blanks here → to_read located_tokens new told ≡ to_read located_tokens here told
+blanks-pass new here told n = ap (λ h. to_read located_tokens h told) n ∙ blanks-here told (prefix_len is_blank here.at_hand) here.line here.place here.taken here.at_hand here.beyond (omega arith)
 
 -- nothing is left
-pub nothing-left : (a : Ahead) → a.bytes ≡ [] → followed (last_lexeme variant.End a.line a) a ≡ lexemes a
+pub nothing-left : (a : Ahead) → a.bytes ≡ [] → followed (last_located_token variant.End a.line a) a ≡ located_tokens a
 unfolding followed
 nothing-left a e =
-    by a.too_long ∙ subst (λ (xs : List ℕ). last_lexeme variant.End a.line a ∷ [] ≡ cut_front (front xs) (here a.line a.place xs a.too_long) lexemes) (sym e) same ∙ sym (lexemes-front a)
+    by a.too_long ∙ subst (λ (xs : List ℕ). last_located_token variant.End a.line a ∷ [] ≡ cut_front (front xs) (here a.line a.place xs a.too_long) located_tokens) (sym e) same ∙ sym (located_tokens-front a)
   where
-    by : (t : Bool) → followed_by (last_lexeme variant.End a.line (here a.line a.place a.bytes t)) (lexemes a) ≡ last_lexeme variant.End a.line (here a.line a.place a.bytes t) ∷ []
+    by : (t : Bool) → followed_by (last_located_token variant.End a.line (here a.line a.place a.bytes t)) (located_tokens a) ≡ last_located_token variant.End a.line (here a.line a.place a.bytes t) ∷ []
     by true = refl
     by false = refl
 
-    same : last_lexeme variant.End a.line a ∷ [] ≡ cut_front (front []) (here a.line a.place [] a.too_long) lexemes
+    same : last_located_token variant.End a.line a ∷ [] ≡ cut_front (front []) (here a.line a.place [] a.too_long) located_tokens
     same = refl
 
 prefix_len-passes : (test : ℕ → Bool) (b : ℕ) (rest : List ℕ) → test b ≡ true → prefix_len test (b ∷ rest) ≡ suc (prefix_len test rest)
@@ -126,9 +143,9 @@ abbrev pub StopsAt : (ℕ → Bool) → Option ℕ → Type 0
 StopsAt test None = Unit {0}
 StopsAt test (Some b) = test b ≡ false
 
-pub run-stops : (test : ℕ → Bool) (token_of : List ℕ → Token) (lexeme : Lexeme) (token : Token) (here : Held) (told : Option (List ℕ)) (first : Option ℕ) → IsAtHandOrEnd here → first ≡ slice_get here.at_hand 0 → StopsAt test first → ((to_come : List ℕ) → lexeme ≡ ending token (ahead here to_come)) → token ≡ token_of [] → to_read (followed lexeme) here told ≡ to_read (in_run test token_of) here told
-run-stops test token_of lexeme token here told first ready f stops x t =
-    to_read-here (followed lexeme) (in_run test token_of) here told (λ to_come.
+pub run-stops : (test : ℕ → Bool) (token_of : List ℕ → Token) (located_token : LocatedToken) (token : Token) (here : Held) (told : Option (List ℕ)) (first : Option ℕ) → IsAtHandOrEnd here → first ≡ slice_get here.at_hand 0 → StopsAt test first → ((to_come : List ℕ) → located_token ≡ ending token (ahead here to_come)) → token ≡ token_of [] → to_read (followed located_token) here told ≡ to_read (in_run test token_of) here told
+run-stops test token_of located_token token here told first ready f stops x t =
+    to_read-here (followed located_token) (in_run test token_of) here told (λ to_come.
     let a = ahead here to_come in
     ap (λ l. followed l a) (x to_come ∙ ap (λ k. ending k a) t) ∙ run-ends test token_of a (none_passes first f stops to_come))
   where
@@ -138,41 +155,50 @@ run-stops test token_of lexeme token here told first ready f stops x t =
         let r = first-ahead here b to_come (sym f) in
         ap (prefix_len test) r.1 ∙ other (test b) _ _ stops
 
--- a mark takes one byte more
-mark-grows-here : (old longer : Mark) (line place b : ℕ) (rest : List ℕ) (too_long : Bool) → mark_of (spelling old ++ b ∷ []) ≡ Some longer → in_mark longer (behind_byte (here line place (b ∷ rest) too_long)) ≡ in_mark old (here line place (b ∷ rest) too_long)
-unfolding in_mark
-mark-grows-here old longer line place b rest t e = by (mark_of (spelling old ++ b ∷ [])) e
+-- a punctuator takes one byte more
+punctuator-grows-here : (old longer : Punctuator) (line place b : ℕ) (rest : List ℕ) (too_long : Bool) → punctuator_of (spelling old ++ b ∷ []) ≡ Some longer → in_punctuator longer (behind_byte (here line place (b ∷ rest) too_long)) ≡ in_punctuator old (here line place (b ∷ rest) too_long)
+unfolding in_punctuator
+punctuator-grows-here old longer line place b rest t e = by (punctuator_of (spelling old ++ b ∷ [])) e
   where
-    by : (o : Option Mark) → o ≡ Some longer → grown longer rest (behind_byte (here line place (b ∷ rest) t)) ≡ elim o [ None ↦ followed (ending (variant.Mark old) (here line place (b ∷ rest) t)) (here line place (b ∷ rest) t) | Some longer ↦ grown longer rest (behind_byte (here line place (b ∷ rest) t)) ]
+    by : (o : Option Punctuator) → o ≡ Some longer → grown longer rest (behind_byte (here line place (b ∷ rest) t)) ≡ elim o [ None ↦ followed (ending (variant.Punctuator old) (here line place (b ∷ rest) t)) (here line place (b ∷ rest) t) | Some longer ↦ grown longer rest (behind_byte (here line place (b ∷ rest) t)) ]
     by None e = absurd cc
     by (Some m) e = let d : m ≡ longer = cc in ap (λ k. grown k rest (behind_byte (here line place (b ∷ rest) t))) (sym d)
 
-pub mark-grows : (old longer : Mark) (b : ℕ) → mark_of (spelling old ++ b ∷ []) ≡ Some longer → (a : Ahead) (rest : List ℕ) → a.bytes ≡ b ∷ rest → in_mark longer (behind_byte a) ≡ in_mark old a
-mark-grows old longer b h a rest e =
-    subst (λ (xs : List ℕ). in_mark longer (behind_byte (here a.line a.place xs a.too_long)) ≡ in_mark old (here a.line a.place xs a.too_long)) (sym e)
-    (mark-grows-here old longer a.line a.place b rest a.too_long h)
+pub punctuator-grows : (old longer : Punctuator) (b : ℕ) → punctuator_of (spelling old ++ b ∷ []) ≡ Some longer → (a : Ahead) (rest : List ℕ) → a.bytes ≡ b ∷ rest → in_punctuator longer (behind_byte a) ≡ in_punctuator old a
+punctuator-grows old longer b h a rest e =
+    subst (λ (xs : List ℕ). in_punctuator longer (behind_byte (here a.line a.place xs a.too_long)) ≡ in_punctuator old (here a.line a.place xs a.too_long)) (sym e)
+    (punctuator-grows-here old longer a.line a.place b rest a.too_long h)
 
-mark-ends-none : (old : Mark) (a : Ahead) → a.bytes ≡ [] → followed (ending (variant.Mark old) a) a ≡ in_mark old a
-unfolding in_mark
-mark-ends-none old a e = ap (λ xs. grown old xs a) (sym e)
+punctuator-ends-none : (old : Punctuator) (a : Ahead) → a.bytes ≡ [] → followed (ending (variant.Punctuator old) a) a ≡ in_punctuator old a
+unfolding in_punctuator
+punctuator-ends-none old a e = ap (λ xs. grown old xs a) (sym e)
 
-mark-ends-at : (old : Mark) (a : Ahead) (b : ℕ) (rest : List ℕ) → a.bytes ≡ b ∷ rest → mark_of (spelling old ++ b ∷ []) ≡ None → followed (ending (variant.Mark old) a) a ≡ in_mark old a
-unfolding in_mark
-mark-ends-at old a b rest e h = by (mark_of (spelling old ++ b ∷ [])) h ∙ ap (λ xs. grown old xs a) (sym e)
+punctuator-ends-at : (old : Punctuator) (a : Ahead) (b : ℕ) (rest : List ℕ) → a.bytes ≡ b ∷ rest → punctuator_of (spelling old ++ b ∷ []) ≡ None → followed (ending (variant.Punctuator old) a) a ≡ in_punctuator old a
+unfolding in_punctuator
+punctuator-ends-at old a b rest e h = by (punctuator_of (spelling old ++ b ∷ [])) h ∙ ap (λ xs. grown old xs a) (sym e)
   where
-    by : (o : Option Mark) → o ≡ None → followed (ending (variant.Mark old) a) a ≡ elim o [ None ↦ followed (ending (variant.Mark old) a) a | Some longer ↦ grown longer rest (behind_byte a) ]
+    by : (o : Option Punctuator) → o ≡ None → followed (ending (variant.Punctuator old) a) a ≡ elim o [ None ↦ followed (ending (variant.Punctuator old) a) a | Some longer ↦ grown longer rest (behind_byte a) ]
     by None h = refl
     by (Some m) h = absurd cc
 
--- a mark stops at the end, and at a byte that makes no longer one
-pub mark-stops : (old : Mark) (lexeme : Lexeme) (here : Held) (told : Option (List ℕ)) (first : Option ℕ) → IsAtHandOrEnd here → first ≡ slice_get here.at_hand 0 → option_and_then (λ b. mark_of (spelling old ++ b ∷ [])) first ≡ None → ((to_come : List ℕ) → lexeme ≡ ending (variant.Mark old) (ahead here to_come)) → to_read (followed lexeme) here told ≡ to_read (in_mark old) here told
-mark-stops old lexeme here told first ready f stops x =
-    to_read-here (followed lexeme) (in_mark old) here told (λ to_come. ap (λ l. followed l (ahead here to_come)) (x to_come) ∙ by first f stops to_come)
+-- a punctuator stops at the end, and at a byte that makes no longer one
+pub punctuator-stops : (old : Punctuator) (located_token : LocatedToken) (here : Held) (told : Option (List ℕ)) (first : Option ℕ) → IsAtHandOrEnd here → first ≡ slice_get here.at_hand 0 → option_and_then (λ b. punctuator_of (spelling old ++ b ∷ [])) first ≡ None → ((to_come : List ℕ) → located_token ≡ ending (variant.Punctuator old) (ahead here to_come)) → to_read (followed located_token) here told ≡ to_read (in_punctuator old) here told
+punctuator-stops old located_token here told first ready f stops x =
+    to_read-here (followed located_token) (in_punctuator old) here told (λ to_come. ap (λ l. followed l (ahead here to_come)) (x to_come) ∙ by first f stops to_come)
   where
-    by : (o : Option ℕ) → o ≡ slice_get here.at_hand 0 → option_and_then (λ b. mark_of (spelling old ++ b ∷ [])) o ≡ None → (to_come : List ℕ) → followed (ending (variant.Mark old) (ahead here to_come)) (ahead here to_come) ≡ in_mark old (ahead here to_come)
-    by None f stops to_come = mark-ends-none old (ahead here to_come) (none-ahead here to_come ready (sym f))
-    by (Some b) f stops to_come = let r = first-ahead here b to_come (sym f) in mark-ends-at old (ahead here to_come) b r.0 r.1 stops
+    by : (o : Option ℕ) → o ≡ slice_get here.at_hand 0 → option_and_then (λ b. punctuator_of (spelling old ++ b ∷ [])) o ≡ None → (to_come : List ℕ) → followed (ending (variant.Punctuator old) (ahead here to_come)) (ahead here to_come) ≡ in_punctuator old (ahead here to_come)
+    by None f stops to_come = punctuator-ends-none old (ahead here to_come) (none-ahead here to_come ready (sym f))
+    by (Some b) f stops to_come = let r = first-ahead here b to_come (sym f) in punctuator-ends-at old (ahead here to_come) b r.0 r.1 stops
 
-pub mark-passes : (old longer : Mark) (new here : Held) (told : Option (List ℕ)) (first : Option ℕ) → new ≡ behind_first here → first ≡ slice_get here.at_hand 0 → option_and_then (λ b. mark_of (spelling old ++ b ∷ [])) first ≡ Some longer → to_read (in_mark longer) new told ≡ to_read (in_mark old) here told
-mark-passes old longer new here told None n f h = absurd cc
-mark-passes old longer new here told (Some b) n f h = to_read-pass (in_mark longer) (in_mark old) new here told (Some b) b n f refl (mark-grows old longer b h)
+pub punctuator-passes : (old longer : Punctuator) (new here : Held) (told : Option (List ℕ)) (first : Option ℕ) → new ≡ behind_first here → first ≡ slice_get here.at_hand 0 → option_and_then (λ b. punctuator_of (spelling old ++ b ∷ [])) first ≡ Some longer → to_read (in_punctuator longer) new told ≡ to_read (in_punctuator old) here told
+punctuator-passes old longer new here told None n f h = absurd cc
+punctuator-passes old longer new here told (Some b) n f h = to_read-pass (in_punctuator longer) (in_punctuator old) new here told (Some b) b n f refl (punctuator-grows old longer b h)
+
+-- a punctuator with which no longer one begins
+pub punctuator-whole : (old : Punctuator) (located_token : LocatedToken) (here : Held) (told : Option (List ℕ)) → ((b : ℕ) → punctuator_of (spelling old ++ b ∷ []) ≡ None) → ((to_come : List ℕ) → located_token ≡ ending (variant.Punctuator old) (ahead here to_come)) → to_read (followed located_token) here told ≡ to_read (in_punctuator old) here told
+punctuator-whole old located_token here told whole x =
+    to_read-here (followed located_token) (in_punctuator old) here told (λ to_come. ap (λ l. followed l (ahead here to_come)) (x to_come) ∙ by (ahead here to_come) (ahead here to_come).bytes refl)
+  where
+    by : (a : Ahead) (bytes : List ℕ) → a.bytes ≡ bytes → followed (ending (variant.Punctuator old) a) a ≡ in_punctuator old a
+    by a [] e = punctuator-ends-none old a e
+    by a (b ∷ rest) e = punctuator-ends-at old a b rest e (whole b)

@@ -11,7 +11,7 @@ use Rattle.std.specs.List.{count_by, between, prefix_len}
 use Rattle.tokens.specs.Feed.{Gives}
 use Rattle.tokens.specs.Source.{source}
 use Rattle.tokens.specs.Tokens.{line_behind}
-use Rattle.tokens.specs.Window.{Held, seen, behind, behind_plain, later, goes_on, Cuts}
+use Rattle.tokens.specs.Window.{Held, seen, behind, later, goes_on, Cuts}
 use Rattle.tokens.specs.declared.windows.Beyond.{Beyond}
 use Rattle.tokens.specs.declared.windows.Beyond.TheVariants.{Unread, Nothing, TooMuch}
 use Rattle.tokens.proofs.SourceLemmas.{source-append, source-ended, take-source, length-source-le}
@@ -42,11 +42,12 @@ behind-is line place taken beyond (suc n) (b ∷ xs) h =
 pub between-further : (xs : List ℕ) (i n j : ℕ) → between (i + n) j xs ≡ drop n (between i j xs)
 between-further xs i n j = rw (between_is, between_is, drop-drop) refl
 
--- behind the plain bytes at hand
-pub plain-passed : (line start taken next filled count lines : ℕ) (beyond : Beyond) (bytes : List ℕ) → count ≡ prefix_len (λ b. not (eqb b 42)) (between next filled bytes) → lines ≡ count_by (λ b. eqb b 10) (take count (between next filled bytes)) → held (line + lines) (start + (next + count)) (between (next + count) filled bytes) taken beyond ≡ behind_plain (held line (start + next) (between next filled bytes) taken beyond)
-plain-passed line start taken next filled count lines beyond bytes e f =
+-- behind a run of the bytes at hand
+pub run-passed : (q : ℕ → Bool) (line start taken next filled count lines : ℕ) (beyond : Beyond) (bytes : List ℕ) → count ≡ prefix_len q (between next filled bytes) → lines ≡ count_by (λ b. eqb b 10) (take count (between next filled bytes))
+    → held (line + lines) (start + (next + count)) (between (next + count) filled bytes) taken beyond ≡ behind (prefix_len q (between next filled bytes)) (held line (start + next) (between next filled bytes) taken beyond)
+run-passed q line start taken next filled count lines beyond bytes e f =
     let at_hand = between next filled bytes in
-    let within : count ≤ length at_hand = rw e (prefix_len-le-length (λ b. not (eqb b 42)) at_hand) in
+    let within : count ≤ length at_hand = rw e (prefix_len-le-length q at_hand) in
     let b = behind-is line (start + next) taken beyond count at_hand within in
     let d = between-further bytes next count filled in
     let p : start + (next + count) ≡ start + next + count = omega arith in

@@ -4,12 +4,12 @@ use Rattle.std.specs.List.{prefix_len}
 use Rattle.std.specs.Option.{option_map}
 use Rattle.tokens.specs.Characters.{is_blank, is_letter, is_digit, is_name_byte}
 use Rattle.tokens.specs.Words.{word_of}
-use Rattle.tokens.specs.Marks.{longest_mark, spelling}
-use Rattle.tokens.specs.declared.lexemes.Word.{Word}
-use Rattle.tokens.specs.declared.lexemes.Mark.{Mark}
-use Rattle.tokens.specs.declared.lexemes.Flaw.TheVariants.{BadCharacter, NameTooLong, ConstantTooLarge}
-use Rattle.tokens.specs.declared.lexemes.Token.{Token}
-use Rattle.tokens.specs.declared.lexemes.Token.TheVariants as variant
+use Rattle.tokens.specs.Punctuators.{longest_punctuator, spelling}
+use Rattle.tokens.specs.declared.located_tokens.Word.{Word}
+use Rattle.tokens.specs.declared.located_tokens.Punctuator.{Punctuator}
+use Rattle.tokens.specs.declared.located_tokens.LexicalError.TheVariants.{BadCharacter, NameTooLong, ConstantTooLarge}
+use Rattle.tokens.specs.declared.located_tokens.Token.{Token}
+use Rattle.tokens.specs.declared.located_tokens.Token.TheVariants as variant
 
 -- nothing, a blank or a comment of so many bytes, a comment that isn't closed, or a token of so many bytes
 pub data Front : Type 0 where
@@ -46,12 +46,13 @@ abbrev pub number : List ℕ → ℕ
 number digits = fold (λ value digit. 10 * value + (digit - 48)) 0 digits
 
 abbrev pub constant_token : List ℕ → Token
-constant_token digits = if nat_le (number digits) 2147483647 then variant.Constant (number digits) else variant.Fault ConstantTooLarge
+constant_token digits = if nat_le (number digits) 2147483647 then variant.Constant (number digits) else variant.Fault
+    ConstantTooLarge
 
--- the longest mark, or else a byte that no token begins with
-abbrev pub mark : Option Mark → Front
-mark None = Sign (variant.Fault BadCharacter) 1
-mark (Some m) = Sign (variant.Mark m) (length (spelling m))
+-- the longest punctuator, or else a byte that no token begins with
+abbrev pub punctuator : Option Punctuator → Front
+punctuator None = Sign (variant.Fault BadCharacter) 1
+punctuator (Some m) = Sign (variant.Punctuator m) (length (spelling m))
 
 -- the longest run of bytes at the front that pass a test, as a token
 abbrev pub run : (ℕ → Bool) → (List ℕ → Token) → List ℕ → Front
@@ -64,4 +65,4 @@ front (b ∷ rest) =
     else (if is_letter b then run is_name_byte name_token (b ∷ rest)
     else (if is_digit b then run is_digit constant_token (b ∷ rest)
     else (if (b == 47) && begins_with 42 rest then comment (up_to_close (drop 1 rest))
-    else mark (longest_mark (b ∷ rest)))))
+    else punctuator (longest_punctuator (b ∷ rest)))))

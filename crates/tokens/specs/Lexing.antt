@@ -3,43 +3,44 @@ use Rattle.std.specs.Prelude.{ℕ, Bool, true, false, List, [], ◌∷◌, ◌++
 use Rattle.std.specs.List.{prefix_len}
 use Rattle.std.specs.Option.{option_map}
 use Rattle.tokens.specs.Characters.{is_name_byte, is_digit}
-use Rattle.tokens.specs.Marks.{mark_of, spelling}
+use Rattle.tokens.specs.Punctuators.{punctuator_of, spelling}
 use Rattle.tokens.specs.Front.{up_to_close, name_token}
-use Rattle.tokens.specs.Tokens.{Ahead, behind_byte, passed, at_end, placed, last_lexeme, followed_by, lexemes}
+use Rattle.tokens.specs.Tokens.{Ahead, behind_byte, passed, at_end, placed, last_located_token, followed_by, located_tokens}
 use Rattle.tokens.specs.Window.{Held, seen}
-use Rattle.tokens.specs.declared.lexemes.Mark.{Mark}
-use Rattle.tokens.specs.declared.lexemes.Flaw.TheVariants.{CommentNotClosed, NameTooLong, ConstantTooLarge}
-use Rattle.tokens.specs.declared.lexemes.Token.{Token}
-use Rattle.tokens.specs.declared.lexemes.Token.TheVariants as variant
-use Rattle.tokens.specs.declared.lexemes.Lexeme.{Lexeme}
+use Rattle.tokens.specs.declared.located_tokens.Punctuator.{Punctuator}
+use Rattle.tokens.specs.declared.located_tokens.LexicalError.TheVariants.{CommentNotClosed, NameTooLong, ConstantTooLarge}
+use Rattle.tokens.specs.declared.located_tokens.Token.{Token}
+use Rattle.tokens.specs.declared.located_tokens.Token.TheVariants as variant
+use Rattle.tokens.specs.declared.located_tokens.LocatedToken.{LocatedToken}
 
 -- what is made of what a window shows, where the device tells its bytes to come
-unfoldable pub to_read : (Ahead → List Lexeme) → Held → Option (List ℕ) → Option (List Lexeme)
+unfoldable pub to_read : (Ahead → List LocatedToken) → Held → Option (List ℕ) → Option (List LocatedToken)
 to_read made held told = option_map made (seen held told)
 
 -- a token, and those that lie ahead behind it
-unfoldable pub followed : Lexeme → Ahead → List Lexeme
-followed lexeme ahead = followed_by lexeme (lexemes ahead)
+unfoldable pub followed : LocatedToken → Ahead → List LocatedToken
+followed located_token ahead = followed_by located_token (located_tokens ahead)
 
 -- behind a comment, or behind the token that stands there
-abbrev pub after_slash : Option Lexeme → Ahead → List Lexeme
-after_slash None ahead = lexemes ahead
-after_slash (Some lexeme) ahead = followed lexeme ahead
+abbrev pub after_slash : Option LocatedToken → Ahead → List LocatedToken
+after_slash None ahead = located_tokens ahead
+after_slash (Some located_token) ahead = followed located_token ahead
 
 -- a token that ends here
-abbrev pub ending : Token → Ahead → Lexeme
+abbrev pub ending : Token → Ahead → LocatedToken
 ending token ahead = record { token = token; line = ahead.line; end = ahead.place }
 
 -- inside a run of bytes that pass a test: the token is made of those ahead
-unfoldable pub in_run : (ℕ → Bool) → (List ℕ → Token) → Ahead → List Lexeme
+unfoldable pub in_run : (ℕ → Bool) → (List ℕ → Token) → Ahead → List LocatedToken
 in_run test token_of ahead =
-    followed (placed (token_of (take (prefix_len test ahead.bytes) ahead.bytes)) (prefix_len test ahead.bytes) ahead) (passed (prefix_len test ahead.bytes) ahead)
+    followed (placed (token_of (take (prefix_len test ahead.bytes) ahead.bytes)) (prefix_len test ahead.bytes) ahead)
+    (passed (prefix_len test ahead.bytes) ahead)
 
 -- the token of a name that goes on, of which these bytes were read and perhaps others left out
 abbrev pub name_going_on : List ℕ → Bool → List ℕ → Token
 name_going_on name too_long more = if too_long then variant.Fault NameTooLong else name_token (name ++ more)
 
-abbrev pub in_name : List ℕ → Bool → Ahead → List Lexeme
+abbrev pub in_name : List ℕ → Bool → Ahead → List LocatedToken
 in_name name too_long = in_run is_name_byte (name_going_on name too_long)
 
 -- the token of a constant of this value
@@ -50,30 +51,35 @@ value_token value = if nat_le value 2147483647 then variant.Constant value else 
 abbrev pub constant_going_on : ℕ → List ℕ → Token
 constant_going_on value more = value_token (fold (λ value digit. 10 * value + (digit - 48)) value more)
 
-abbrev pub in_constant : ℕ → Ahead → List Lexeme
+abbrev pub in_constant : ℕ → Ahead → List LocatedToken
 in_constant value = in_run is_digit (constant_going_on value)
 
--- inside a mark, which may grow by the bytes ahead
-abbrev pub grown : Mark → List ℕ → Ahead → List Lexeme
-grown mark [] ahead = followed (ending (variant.Mark mark) ahead) ahead
-grown mark (b ∷ rest) ahead = elim (mark_of (spelling mark ++ b ∷ [])) [ None ↦ followed (ending (variant.Mark mark) ahead) ahead | Some longer ↦ grown longer rest (behind_byte ahead) ]
+-- inside a punctuator, which may grow by the bytes ahead
+abbrev pub grown : Punctuator → List ℕ → Ahead → List LocatedToken
+grown punctuator [] ahead = followed (ending (variant.Punctuator punctuator) ahead) ahead
+grown punctuator (b ∷ rest) ahead = elim (punctuator_of (spelling punctuator ++ b ∷ [])) [
+  | None ↦ followed (ending (variant.Punctuator punctuator) ahead) ahead
+  | Some longer ↦ grown longer rest
+      (behind_byte ahead)
+]
 
-unfoldable pub in_mark : Mark → Ahead → List Lexeme
-in_mark mark ahead = grown mark ahead.bytes ahead
+unfoldable pub in_punctuator : Punctuator → Ahead → List LocatedToken
+in_punctuator punctuator ahead = grown punctuator ahead.bytes ahead
 
 -- inside a comment that began on this line
-abbrev pub closed_at : Option ℕ → ℕ → Ahead → List Lexeme
-closed_at None line ahead = last_lexeme (variant.Fault CommentNotClosed) line (at_end ahead) ∷ []
-closed_at (Some count) line ahead = lexemes (passed count ahead)
+abbrev pub closed_at : Option ℕ → ℕ → Ahead → List LocatedToken
+closed_at None line ahead = last_located_token (variant.Fault CommentNotClosed) line (at_end ahead) ∷ []
+closed_at (Some count) line ahead = located_tokens (passed count ahead)
 
-unfoldable pub in_comment : ℕ → Ahead → List Lexeme
+unfoldable pub in_comment : ℕ → Ahead → List LocatedToken
 in_comment line ahead = closed_at (up_to_close ahead.bytes) line ahead
 
 -- behind a comment, or where the source ended within it
-abbrev pub after_comment : Bool → ℕ → Ahead → List Lexeme
-after_comment true line ahead = lexemes ahead
-after_comment false line ahead = last_lexeme (variant.Fault CommentNotClosed) line ahead ∷ []
+abbrev pub after_comment : Bool → ℕ → Ahead → List LocatedToken
+after_comment true line ahead = located_tokens ahead
+after_comment false line ahead = last_located_token (variant.Fault CommentNotClosed) line ahead ∷ []
 
 -- no more was taken than there is up to the end of the first token that is to be read
-abbrev pub StopsWithin : (Ahead → List Lexeme) → Held → Held → Option (List ℕ) → Type 0
-StopsWithin made old new told = (first : Lexeme) (others : List Lexeme) → to_read made old told ≡ Some (first ∷ others) → new.taken ≤ first.end
+abbrev pub StopsWithin : (Ahead → List LocatedToken) → Held → Held → Option (List ℕ) → Type 0
+StopsWithin made old new told = (first : LocatedToken) (others : List LocatedToken)
+    → to_read made old told ≡ Some (first ∷ others) → new.taken ≤ first.end

@@ -4,7 +4,7 @@ pub mod Characters
 pub mod Pieces
 pub mod Source
 pub mod Words
-pub mod Marks
+pub mod Punctuators
 pub mod Front
 pub mod Tokens
 pub mod Window

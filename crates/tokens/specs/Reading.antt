@@ -1,22 +1,23 @@
 -- What a cursor stands for: the next token, the one behind it, and what was read behind that.
 use Rattle.std.specs.Prelude.{ℕ, ◌+◌, ◌-◌, ◌≤◌, List, [], ◌∷◌, Option, if◌then◌else◌}
 use Rattle.std.specs.Option.{option_map}
-use Rattle.tokens.specs.Tokens.{is_last, lexemes, followed_by}
+use Rattle.tokens.specs.Tokens.{is_last, located_tokens, followed_by}
 use Rattle.tokens.specs.Window.{Held, ahead}
-use Rattle.tokens.specs.declared.lexemes.Lexeme.{Lexeme}
+use Rattle.tokens.specs.declared.located_tokens.LocatedToken.{LocatedToken}
 
 pub record Reading : Type 0 where
-  pub next : Lexeme
-  pub after : Lexeme
+  pub next : LocatedToken
+  pub after : LocatedToken
   pub behind : Held
 
 -- the tokens behind those two, by the device's bytes to come
-unfoldable pub unread : Held → List ℕ → List Lexeme
-unread behind to_come = lexemes (ahead behind to_come)
+unfoldable pub unread : Held → List ℕ → List LocatedToken
+unread behind to_come = located_tokens (ahead behind to_come)
 
 -- the tokens from the next one on, where the device tells its bytes to come
-abbrev pub shown : Reading → Option (List ℕ) → Option (List Lexeme)
-shown reading told = option_map (λ to_come. followed_by reading.next (followed_by reading.after (unread reading.behind to_come))) told
+abbrev pub shown : Reading → Option (List ℕ) → Option (List LocatedToken)
+shown reading told = option_map (λ to_come. followed_by reading.next
+    (followed_by reading.after (unread reading.behind to_come))) told
 
 -- how many more tokens can come at most, whatever the device gives
 unfoldable pub remaining : Reading → ℕ
@@ -37,7 +38,7 @@ abbrev pub IsNear : Reading → Type 0
 IsNear reading = taken reading ≤ reach reading + 4096
 
 -- where the second of these tokens ends, or the first, where it is the last
-abbrev pub reach_of : List Lexeme → ℕ
+abbrev pub reach_of : List LocatedToken → ℕ
 reach_of [] = 0
 reach_of (next ∷ []) = next.end
 reach_of (next ∷ after ∷ others) = after.end

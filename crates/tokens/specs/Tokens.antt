@@ -2,28 +2,28 @@
 use Rattle.std.specs.Prelude.{ℕ, zero, suc, ◌+◌, ◌≤◌, Bool, true, false, List, [], ◌∷◌, length, take, if◌then◌else◌, ◌==◌, nat_lt}
 use Rattle.tokens.specs.Source.{source}
 use Rattle.tokens.specs.Front.{Front, Nothing, Space, Unclosed, Sign, front}
-use Rattle.tokens.specs.declared.lexemes.Flaw.TheVariants.{CommentNotClosed, SourceTooLong}
-use Rattle.tokens.specs.declared.lexemes.Token.{Token}
-use Rattle.tokens.specs.declared.lexemes.Token.TheVariants as variant
-use Rattle.tokens.specs.declared.lexemes.Lexeme.{Lexeme}
+use Rattle.tokens.specs.declared.located_tokens.LexicalError.TheVariants.{CommentNotClosed, SourceTooLong}
+use Rattle.tokens.specs.declared.located_tokens.Token.{Token}
+use Rattle.tokens.specs.declared.located_tokens.Token.TheVariants as variant
+use Rattle.tokens.specs.declared.located_tokens.LocatedToken.{LocatedToken}
 
 -- a fault is the last token; else the end is
 abbrev pub is_last : Token → Bool
 is_last variant.End = true
-is_last (variant.Fault flaw) = true
+is_last (variant.Fault lexical_error) = true
 is_last (variant.Name name) = false
 is_last (variant.Word word) = false
 is_last (variant.Constant value) = false
-is_last (variant.Mark mark) = false
+is_last (variant.Punctuator punctuator) = false
 
 -- a constant is within its limit
 abbrev pub FitsToken : Token → Type 0
 FitsToken (variant.Constant value) = value ≤ 2147483647
 FitsToken (variant.Name name) = Unit {0}
 FitsToken (variant.Word word) = Unit {0}
-FitsToken (variant.Mark mark) = Unit {0}
+FitsToken (variant.Punctuator punctuator) = Unit {0}
 FitsToken variant.End = Unit {0}
-FitsToken (variant.Fault flaw) = Unit {0}
+FitsToken (variant.Fault lexical_error) = Unit {0}
 
 -- what lies ahead in a source: the line that it begins on, how many bytes stand before it,
 -- its bytes up to the limit, and whether the source goes on behind that
@@ -43,7 +43,12 @@ behind_byte ahead = go ahead.bytes
   where
     go : List ℕ → Ahead
     go [] = ahead
-    go (b ∷ rest) = record { line = line_behind b ahead.line; place = ahead.place + 1; bytes = rest; too_long = ahead.too_long }
+    go (b ∷ rest) = record {
+      line = line_behind b ahead.line;
+      place = ahead.place + 1;
+      bytes = rest;
+      too_long = ahead.too_long;
+    }
 
 -- so many bytes further
 abbrev pub passed : ℕ → Ahead → Ahead
@@ -55,43 +60,43 @@ abbrev pub at_end : Ahead → Ahead
 at_end ahead = passed (length ahead.bytes) ahead
 
 -- the last token, at the end of what lies ahead: this one, unless the source is too long
-abbrev pub last_lexeme : Token → ℕ → Ahead → Lexeme
-last_lexeme token line end =
+abbrev pub last_located_token : Token → ℕ → Ahead → LocatedToken
+last_located_token token line end =
     if end.too_long then record { token = variant.Fault SourceTooLong; line = end.line; end = end.place + 1 }
     else record { token = token; line = line; end = end.place }
 
 -- the last token where no other is left
-abbrev pub closing : Token → Ahead → Lexeme
-closing token ahead = last_lexeme token ahead.line (at_end ahead)
+abbrev pub closing : Token → Ahead → LocatedToken
+closing token ahead = last_located_token token ahead.line (at_end ahead)
 
 -- a token of so many bytes, with its place
-abbrev pub placed : Token → ℕ → Ahead → Lexeme
+abbrev pub placed : Token → ℕ → Ahead → LocatedToken
 placed token count ahead = record { token = token; line = ahead.line; end = ahead.place + count }
 
 -- a token, and where it isn't the last, those behind it
-abbrev pub followed_by : Lexeme → List Lexeme → List Lexeme
-followed_by lexeme others = lexeme ∷ (if is_last lexeme.token then [] else others)
+abbrev pub followed_by : LocatedToken → List LocatedToken → List LocatedToken
+followed_by located_token others = located_token ∷ (if is_last located_token.token then [] else others)
 
 -- what a front gives, and then what is made of the rest
-abbrev pub cut_front : Front → Ahead → (Ahead → List Lexeme) → List Lexeme
+abbrev pub cut_front : Front → Ahead → (Ahead → List LocatedToken) → List LocatedToken
 cut_front Nothing ahead others = closing variant.End ahead ∷ []
 cut_front Unclosed ahead others = closing (variant.Fault CommentNotClosed) ahead ∷ []
 cut_front (Space count) ahead others = others (passed count ahead)
 cut_front (Sign sign count) ahead others = followed_by (placed sign count ahead) (others (passed count ahead))
 
 -- what lies ahead is cut into at most so many pieces
-abbrev pub cut : ℕ → Ahead → List Lexeme
+abbrev pub cut : ℕ → Ahead → List LocatedToken
 cut zero ahead = []
 cut (suc n) ahead = cut_front (front ahead.bytes) ahead (cut n)
 
 -- each piece has a byte at least
-unfoldable pub lexemes : Ahead → List Lexeme
-lexemes ahead = cut (suc (length ahead.bytes)) ahead
+unfoldable pub located_tokens : Ahead → List LocatedToken
+located_tokens ahead = cut (suc (length ahead.bytes)) ahead
 
 -- the whole of a source
 abbrev pub from_start : List ℕ → Ahead
 from_start bytes = record { line = 1; place = 0; bytes = take 1048576 bytes; too_long = nat_lt 1048576 (length bytes) }
 
 -- the tokens of a file's bytes
-unfoldable pub tokens : List ℕ → List Lexeme
-tokens bytes = lexemes (from_start (source bytes))
+unfoldable pub tokens : List ℕ → List LocatedToken
+tokens bytes = located_tokens (from_start (source bytes))

@@ -2,6 +2,7 @@
 use Rattle.std.specs.Prelude.{◌≡◌, ◌≢◌, ℕ, zero, suc, ◌+◌, ◌-◌, ◌<◌, ◌≤◌, Bool, true, false, not, List, [], ◌∷◌, ◌++◌, length, take, drop, Option, nat_lt, ◌==◌}
 use Rattle.std.specs.List.{prefix_len}
 use Rattle.std.specs.Option.{option_map}
+use Rattle.tokens.specs.Characters.{is_blank}
 use Rattle.tokens.specs.Source.{source}
 use Rattle.tokens.specs.Tokens.{Ahead, line_behind}
 use Rattle.tokens.specs.declared.windows.Beyond.{Beyond}
@@ -62,11 +63,17 @@ behind (suc n) held = behind n (behind_first held)
 abbrev pub behind_plain : Held → Held
 behind_plain held = behind (prefix_len (λ b. not (b == 42)) held.at_hand) held
 
+-- behind the blanks at hand
+abbrev pub behind_blanks : Held → Held
+behind_blanks held = behind (prefix_len is_blank held.at_hand) held
+
 -- how many of these bytes belong to a source for which there is so much room, and what follows them
 abbrev pub Cuts : List ℕ → ℕ → ℕ → Beyond → Type 0
-Cuts bytes room kept Unread = (source bytes ≡ bytes) × (kept ≡ length bytes) × (0 < length bytes) × (length bytes ≤ room)
+Cuts bytes room kept Unread = (source bytes ≡ bytes) × (kept ≡ length bytes) × (0 < length bytes)
+    × (length bytes ≤ room)
 Cuts bytes room kept TooMuch = (source bytes ≡ bytes) × (kept ≡ room) × (room < length bytes)
-Cuts bytes room kept Nothing = (kept ≡ length (source bytes)) × (length (source bytes) ≤ room) × (0 < length bytes → length (source bytes) < length bytes)
+Cuts bytes room kept Nothing = (kept ≡ length (source bytes)) × (length (source bytes) ≤ room)
+    × (0 < length bytes → length (source bytes) < length bytes)
 
 -- the same line and place
 pub record IsAtSamePlace (old new : Held) : Type 0 where

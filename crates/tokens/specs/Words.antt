@@ -1,8 +1,8 @@
 -- The names that the language keeps for itself.
 use Rattle.std.specs.Prelude.{ℕ, Bool, ◌||◌, List, Option, Some, None, codes, if◌then◌else◌}
 use Rattle.std.specs.Str.{bytes_eq}
-use Rattle.tokens.specs.declared.lexemes.Word.{Word}
-use Rattle.tokens.specs.declared.lexemes.Word.TheVariants as word
+use Rattle.tokens.specs.declared.located_tokens.Word.{Word}
+use Rattle.tokens.specs.declared.located_tokens.Word.TheVariants as word
 
 -- a name of a type
 abbrev pub is_type_word : List ℕ → Bool

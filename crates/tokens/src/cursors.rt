@@ -5,11 +5,11 @@ ghost use Rattle.std.specs.Option.{option_map};
 ghost use Rattle.tokens.specs.Feed.{Counts};
 ghost use Rattle.tokens.specs.Tokens.{FitsToken, tokens, is_last};
 ghost use Rattle.tokens.specs.Window.{Takes};
-ghost use Rattle.tokens.specs.declared.lexemes.Lexeme.{Lexeme};
+ghost use Rattle.tokens.specs.declared.located_tokens.LocatedToken.{LocatedToken};
 ghost use Rattle.tokens.specs.Reading.{shown, remaining, taken, IsNear, reach_of};
 
 use crate::devices::{DeviceFault, Feed};
-use crate::lexemes::Lexeme;
+use crate::located_tokens::LocatedToken;
 use crate::windows::Window;
 use std::marker::Model;
 
@@ -19,8 +19,8 @@ use std::marker::Model;
 #[derive(Drop)]
 pub struct Cursor {
     window: Window,
-    next: Lexeme,
-    after: Lexeme,
+    next: LocatedToken,
+    after: LocatedToken,
 }
 
 impl Model for Cursor {
@@ -38,11 +38,13 @@ impl Cursor {
     /// A cursor at the first token of a device's bytes. The only error is that of the device.
     pub fn open<F: Feed>(feed: &mut F) -> Result<Cursor, DeviceFault>
         requires { F.failures feed.old < 2 ^ 64 - 1 }
-        ensures tokens { IfOk result (λ cursor. shown cursor (F.to_come feed.new) ≡ option_map tokens (F.to_come feed.old)) }
+        ensures tokens { IfOk result (λ cursor. shown cursor (F.to_come feed.new)
+            ≡ option_map tokens (F.to_come feed.old)) }
         ensures bounded { IfOk result (λ cursor. remaining cursor ≤ 1048578) }
 
         // The bytes taken: at an `Ok` no more than a window behind the two tokens, at an `Err` none behind them.
-        ensures took { IfOk result (λ cursor. F.to_come feed.new ≡ option_map (drop (taken cursor)) (F.to_come feed.old)) }
+        ensures took { IfOk result (λ cursor. F.to_come feed.new
+            ≡ option_map (drop (taken cursor)) (F.to_come feed.old)) }
         ensures near { IfOk result IsNear }
         ensures limited { IfOk result (λ cursor. taken cursor ≤ 1048577) }
         ensures stopped { OnErr result ((bytes : List ℕ) → F.to_come feed.old ≡ Some bytes →
@@ -65,7 +67,7 @@ impl Cursor {
     }
 
     /// The next token.
-    pub fn next(&self) -> &Lexeme
+    pub fn next(&self) -> &LocatedToken
         ensures value { result.now ≡ self.now.next }
         ensures fits { FitsToken result.now.token }
     {
@@ -73,7 +75,7 @@ impl Cursor {
     }
 
     /// The token behind the next one. Where the next is the last, there is none, and what this gives says nothing.
-    pub fn after(&self) -> &Lexeme
+    pub fn after(&self) -> &LocatedToken
         ensures value { result.now ≡ self.now.after }
         ensures fits { FitsToken result.now.token }
     {
@@ -85,14 +87,16 @@ impl Cursor {
         requires not_last { is_last self.old.next.token ≡ false }
         requires countable { F.failures feed.old < 2 ^ 64 - 1 }
         ensures next { self.new.next ≡ self.old.after }
-        ensures tokens { OnOk result (shown self.new (F.to_come feed.new) ≡ option_map (drop 1) (shown self.old (F.to_come feed.old))) }
+        ensures tokens { OnOk result (shown self.new (F.to_come feed.new)
+            ≡ option_map (drop 1) (shown self.old (F.to_come feed.old))) }
         ensures progress { OnOk result (remaining self.new < remaining self.old) }
 
         // The bytes taken since the cursor was opened, as of `open`.
         ensures took { Takes (taken self.old) (taken self.new) (F.to_come feed.old) (F.to_come feed.new) }
         ensures near { OnOk result (IsNear self.old → IsNear self.new) }
         ensures limited { taken self.old ≤ 1048577 → taken self.new ≤ 1048577 }
-        ensures stopped { OnErr result ((next : Lexeme) (others : List Lexeme) → shown self.old (F.to_come feed.old) ≡ Some (next ∷ others) →
+        ensures stopped { OnErr result ((next : LocatedToken) (others : List LocatedToken)
+            → shown self.old (F.to_come feed.old) ≡ Some (next ∷ others) →
             taken self.new ≤ reach_of others) }
 
         ensures count { Counts result (F.failures feed.old) (F.failures feed.new) }

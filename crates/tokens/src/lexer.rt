@@ -3,39 +3,40 @@
 ghost use Rattle.std.specs.Prelude.{◌≡◌, ◌≢◌, ◌∷◌, [], ◌+◌, ◌-◌, ◌^◌, ◌<◌, ◌≤◌, ℕ, List, Some, true, false, slice_get, IfOk, IfSome, OnOk, OnErr};
 ghost use Rattle.tokens.specs.Characters.{is_digit, is_blank};
 ghost use Rattle.tokens.specs.Feed.{Counts};
-ghost use Rattle.tokens.specs.Tokens.{FitsToken, is_last, lexemes, last_lexeme};
+ghost use Rattle.tokens.specs.Tokens.{FitsToken, is_last, located_tokens, last_located_token};
 ghost use Rattle.tokens.specs.Window.{IsAtHandOrEnd, Takes, ahead};
-ghost use Rattle.tokens.specs.Lexing.{to_read, StopsWithin, followed, after_slash, after_comment, in_name, in_constant, in_mark, in_comment, name_going_on, value_token};
+ghost use Rattle.tokens.specs.Lexing.{to_read, StopsWithin, followed, after_slash, after_comment, in_name, in_constant, in_punctuator, in_comment, name_going_on, value_token};
 
 use crate::characters::{is_blank, is_digit, is_letter, is_name_byte};
 use crate::devices::{DeviceFault, Feed};
-use crate::lexemes::{Flaw, Lexeme, Mark, Token, Word};
 use crate::limits::CONSTANT_MAX;
+use crate::located_tokens::{LexicalError, LocatedToken, Punctuator, Token, Word};
 use crate::names::Name;
 use crate::windows::{Beyond, Window};
 
 impl Window {
     /// The next token.
-    pub fn read<F: Feed>(&mut self, feed: &mut F) -> Result<Lexeme, DeviceFault>
+    pub fn read<F: Feed>(&mut self, feed: &mut F) -> Result<LocatedToken, DeviceFault>
         requires { F.failures feed.old < 2 ^ 64 - 1 }
-        ensures tokens { IfOk result (λ lexeme. to_read (followed lexeme) self.new (F.to_come feed.new)
-            ≡ to_read lexemes self.old (F.to_come feed.old)) }
-        ensures progress { IfOk result (λ lexeme. is_last lexeme.token ≡ false → self.old.place < self.new.place) }
-        ensures stopped { OnErr result (StopsWithin lexemes self.old self.new (F.to_come feed.old)) }
-        ensures reached { IfOk result (λ lexeme. self.new.place ≤ lexeme.end) }
+        ensures tokens { IfOk result (λ located_token. to_read (followed located_token) self.new (F.to_come feed.new)
+            ≡ to_read located_tokens self.old (F.to_come feed.old)) }
+        ensures progress { IfOk result (λ located_token. is_last located_token.token ≡ false
+            → self.old.place < self.new.place) }
+        ensures stopped { OnErr result (StopsWithin located_tokens self.old self.new (F.to_come feed.old)) }
+        ensures reached { IfOk result (λ located_token. self.new.place ≤ located_token.end) }
         ensures took { Takes self.old.taken self.new.taken (F.to_come feed.old) (F.to_come feed.new) }
         ensures near { self.new.taken ≤ self.new.place + 4096 }
         ensures limited { self.new.taken ≤ 1048577 }
         ensures within { self.new.place ≤ 1048576 }
-        ensures fits { IfOk result (λ lexeme. FitsToken lexeme.token) }
+        ensures fits { IfOk result (λ located_token. FitsToken located_token.token) }
         ensures count { Counts result (F.failures feed.old) (F.failures feed.new) }
     {
         loop {
             match self.skip_blanks(feed)? {
                 None => return Ok(self.last(Token::End, self.line())),
                 Some(b'/') => {
-                    if let Some(lexeme) = self.slash(feed)? {
-                        return Ok(lexeme);
+                    if let Some(located_token) = self.slash(feed)? {
+                        return Ok(located_token);
                     }
                 }
                 Some(b) => return self.token(b, feed),
@@ -46,13 +47,13 @@ impl Window {
     /// Skips blanks. Answers the byte behind them, or `None` at the end.
     fn skip_blanks<F: Feed>(&mut self, feed: &mut F) -> Result<Option<u8>, DeviceFault>
         requires { F.failures feed.old < 2 ^ 64 - 1 }
-        ensures tokens { OnOk result (to_read lexemes self.new (F.to_come feed.new)
-            ≡ to_read lexemes self.old (F.to_come feed.old)) }
+        ensures tokens { OnOk result (to_read located_tokens self.new (F.to_come feed.new)
+            ≡ to_read located_tokens self.old (F.to_come feed.old)) }
         ensures first { IfOk result (λ first. first ≡ slice_get self.new.at_hand 0) }
         ensures ready { OnOk result (IsAtHandOrEnd self.new) }
         ensures no_blank { IfOk result (λ first. IfSome first (λ b. is_blank b ≡ false)) }
         ensures forward { self.old.place ≤ self.new.place }
-        ensures stopped { OnErr result (StopsWithin lexemes self.old self.new (F.to_come feed.old)) }
+        ensures stopped { OnErr result (StopsWithin located_tokens self.old self.new (F.to_come feed.old)) }
         ensures took { Takes self.old.taken self.new.taken (F.to_come feed.old) (F.to_come feed.new) }
         ensures near { self.new.taken ≤ self.new.place + 4096 }
         ensures limited { self.new.taken ≤ 1048577 }
@@ -61,50 +62,55 @@ impl Window {
     {
         loop {
             match self.peek(feed)? {
-                Some(b) if is_blank(b) => self.pass(),
+                Some(b) if is_blank(b) => {
+                    self.pass();
+                    self.pass_blanks();
+                }
                 first => return Ok(first),
             }
         }
     }
 
     /// At a `/`, skips a comment, or reads the token that begins there.
-    fn slash<F: Feed>(&mut self, feed: &mut F) -> Result<Option<Lexeme>, DeviceFault>
+    fn slash<F: Feed>(&mut self, feed: &mut F) -> Result<Option<LocatedToken>, DeviceFault>
         requires countable { F.failures feed.old < 2 ^ 64 - 1 }
         requires slash { slice_get self.old.at_hand 0 ≡ Some 47 }
         ensures tokens { IfOk result (λ found. to_read (after_slash found) self.new (F.to_come feed.new)
-            ≡ to_read lexemes self.old (F.to_come feed.old)) }
+            ≡ to_read located_tokens self.old (F.to_come feed.old)) }
         ensures forward { self.old.place < self.new.place }
-        ensures stopped { OnErr result (StopsWithin lexemes self.old self.new (F.to_come feed.old)) }
-        ensures reached { IfOk result (λ found. IfSome found (λ lexeme. self.new.place ≤ lexeme.end)) }
+        ensures stopped { OnErr result (StopsWithin located_tokens self.old self.new (F.to_come feed.old)) }
+        ensures reached { IfOk result (λ found. IfSome found (λ located_token. self.new.place ≤ located_token.end)) }
         ensures took { Takes self.old.taken self.new.taken (F.to_come feed.old) (F.to_come feed.new) }
         ensures near { self.new.taken ≤ self.new.place + 4096 }
         ensures limited { self.new.taken ≤ 1048577 }
         ensures within { self.new.place ≤ 1048576 }
-        ensures fits { IfOk result (λ found. IfSome found (λ lexeme. FitsToken lexeme.token)) }
+        ensures fits { IfOk result (λ found. IfSome found (λ located_token. FitsToken located_token.token)) }
         ensures count { Counts result (F.failures feed.old) (F.failures feed.new) }
     {
         let line = self.line();
         self.pass();
         if self.peek(feed)? != Some(b'*') {
-            let lexeme = self.mark(Mark::Slash, feed)?;
-            return Ok(Some(lexeme));
+            let located_token = self.punctuator(Punctuator::Slash, feed)?;
+            return Ok(Some(located_token));
         }
         self.pass();
         if self.skip_comment(feed)? {
             Ok(None)
         } else {
-            Ok(Some(self.last(Token::Fault(Flaw::CommentNotClosed), line)))
+            Ok(Some(self.last(Token::Fault(LexicalError::CommentNotClosed), line)))
         }
     }
 
     /// Inside a comment, goes behind its `*/`. Answers `false` where there is none.
     fn skip_comment<F: Feed>(&mut self, feed: &mut F) -> Result<bool, DeviceFault>
         requires { F.failures feed.old < 2 ^ 64 - 1 }
-        ensures tokens { IfOk result (λ closed. (line : ℕ) → to_read (after_comment closed line) self.new (F.to_come feed.new)
+        ensures tokens { IfOk result (λ closed. (line : ℕ)
+            → to_read (after_comment closed line) self.new (F.to_come feed.new)
             ≡ to_read (in_comment line) self.old (F.to_come feed.old)) }
         ensures ended { IfOk result (λ closed. closed ≡ false → self.new.beyond ≢ Beyond.Unread) }
         ensures forward { self.old.place ≤ self.new.place }
-        ensures stopped { OnErr result ((line : ℕ) → StopsWithin (in_comment line) self.old self.new (F.to_come feed.old)) }
+        ensures stopped { OnErr result ((line : ℕ)
+            → StopsWithin (in_comment line) self.old self.new (F.to_come feed.old)) }
         ensures took { Takes self.old.taken self.new.taken (F.to_come feed.old) (F.to_come feed.new) }
         ensures near { self.new.taken ≤ self.new.place + 4096 }
         ensures limited { self.new.taken ≤ 1048577 }
@@ -128,21 +134,21 @@ impl Window {
     }
 
     /// The token that begins with this byte, which is the next one, no blank and no `/`.
-    fn token<F: Feed>(&mut self, first: u8, feed: &mut F) -> Result<Lexeme, DeviceFault>
+    fn token<F: Feed>(&mut self, first: u8, feed: &mut F) -> Result<LocatedToken, DeviceFault>
         requires countable { F.failures feed.old < 2 ^ 64 - 1 }
         requires first { slice_get self.old.at_hand 0 ≡ Some first }
         requires no_blank { is_blank first ≡ false }
         requires no_slash { first ≢ 47 }
-        ensures tokens { IfOk result (λ lexeme. to_read (followed lexeme) self.new (F.to_come feed.new)
-            ≡ to_read lexemes self.old (F.to_come feed.old)) }
+        ensures tokens { IfOk result (λ located_token. to_read (followed located_token) self.new (F.to_come feed.new)
+            ≡ to_read located_tokens self.old (F.to_come feed.old)) }
         ensures forward { self.old.place < self.new.place }
-        ensures stopped { OnErr result (StopsWithin lexemes self.old self.new (F.to_come feed.old)) }
-        ensures reached { IfOk result (λ lexeme. self.new.place ≤ lexeme.end) }
+        ensures stopped { OnErr result (StopsWithin located_tokens self.old self.new (F.to_come feed.old)) }
+        ensures reached { IfOk result (λ located_token. self.new.place ≤ located_token.end) }
         ensures took { Takes self.old.taken self.new.taken (F.to_come feed.old) (F.to_come feed.new) }
         ensures near { self.new.taken ≤ self.new.place + 4096 }
         ensures limited { self.new.taken ≤ 1048577 }
         ensures within { self.new.place ≤ 1048576 }
-        ensures fits { IfOk result (λ lexeme. FitsToken lexeme.token) }
+        ensures fits { IfOk result (λ located_token. FitsToken located_token.token) }
         ensures count { Counts result (F.failures feed.old) (F.failures feed.new) }
     {
         self.pass();
@@ -150,26 +156,31 @@ impl Window {
             self.name(first, feed)
         } else if is_digit(first) {
             self.constant(first, feed)
-        } else if let Some(mark) = Mark::of_byte(first) {
-            self.mark(mark, feed)
+        } else if let Some(punctuator) = Punctuator::of_byte(first) {
+            if punctuator.is_whole() {
+                return Ok(self.ending(Token::Punctuator(punctuator)));
+            }
+            self.punctuator(punctuator, feed)
         } else {
-            Ok(self.ending(Token::Fault(Flaw::BadCharacter)))
+            Ok(self.ending(Token::Fault(LexicalError::BadCharacter)))
         }
     }
 
     /// The name of which the first byte was passed.
-    fn name<F: Feed>(&mut self, first: u8, feed: &mut F) -> Result<Lexeme, DeviceFault>
+    #[inline(never)]
+    fn name<F: Feed>(&mut self, first: u8, feed: &mut F) -> Result<LocatedToken, DeviceFault>
         requires { F.failures feed.old < 2 ^ 64 - 1 }
-        ensures tokens { IfOk result (λ lexeme. to_read (followed lexeme) self.new (F.to_come feed.new)
+        ensures tokens { IfOk result (λ located_token. to_read (followed located_token) self.new (F.to_come feed.new)
             ≡ to_read (in_name (first ∷ []) false) self.old (F.to_come feed.old)) }
         ensures forward { self.old.place ≤ self.new.place }
-        ensures stopped { OnErr result (StopsWithin (in_name (first ∷ []) false) self.old self.new (F.to_come feed.old)) }
-        ensures reached { IfOk result (λ lexeme. self.new.place ≤ lexeme.end) }
+        ensures stopped { OnErr result (StopsWithin (in_name (first ∷ []) false) self.old self.new
+            (F.to_come feed.old)) }
+        ensures reached { IfOk result (λ located_token. self.new.place ≤ located_token.end) }
         ensures took { Takes self.old.taken self.new.taken (F.to_come feed.old) (F.to_come feed.new) }
         ensures near { self.new.taken ≤ self.new.place + 4096 }
         ensures limited { self.new.taken ≤ 1048577 }
         ensures within { self.new.place ≤ 1048576 }
-        ensures fits { IfOk result (λ lexeme. FitsToken lexeme.token) }
+        ensures fits { IfOk result (λ located_token. FitsToken located_token.token) }
         ensures count { Counts result (F.failures feed.old) (F.failures feed.new) }
     {
         let mut name = Name::new();
@@ -191,19 +202,20 @@ impl Window {
     }
 
     /// The constant of which the first digit was passed.
-    fn constant<F: Feed>(&mut self, first: u8, feed: &mut F) -> Result<Lexeme, DeviceFault>
+    #[inline(never)]
+    fn constant<F: Feed>(&mut self, first: u8, feed: &mut F) -> Result<LocatedToken, DeviceFault>
         requires countable { F.failures feed.old < 2 ^ 64 - 1 }
         requires digit { is_digit first ≡ true }
-        ensures tokens { IfOk result (λ lexeme. to_read (followed lexeme) self.new (F.to_come feed.new)
+        ensures tokens { IfOk result (λ located_token. to_read (followed located_token) self.new (F.to_come feed.new)
             ≡ to_read (in_constant (first - 48)) self.old (F.to_come feed.old)) }
         ensures forward { self.old.place ≤ self.new.place }
         ensures stopped { OnErr result (StopsWithin (in_constant (first - 48)) self.old self.new (F.to_come feed.old)) }
-        ensures reached { IfOk result (λ lexeme. self.new.place ≤ lexeme.end) }
+        ensures reached { IfOk result (λ located_token. self.new.place ≤ located_token.end) }
         ensures took { Takes self.old.taken self.new.taken (F.to_come feed.old) (F.to_come feed.new) }
         ensures near { self.new.taken ≤ self.new.place + 4096 }
         ensures limited { self.new.taken ≤ 1048577 }
         ensures within { self.new.place ≤ 1048576 }
-        ensures fits { IfOk result (λ lexeme. FitsToken lexeme.token) }
+        ensures fits { IfOk result (λ located_token. FitsToken located_token.token) }
         ensures count { Counts result (F.failures feed.old) (F.failures feed.new) }
     {
         let mut value = u64::from(first - b'0');
@@ -218,38 +230,42 @@ impl Window {
         }
     }
 
-    /// The longest mark that begins with this one, which was passed.
-    fn mark<F: Feed>(&mut self, mut mark: Mark, feed: &mut F) -> Result<Lexeme, DeviceFault>
+    /// The longest punctuator that begins with this one, which was passed.
+    fn punctuator<F: Feed>(
+        &mut self,
+        mut punctuator: Punctuator,
+        feed: &mut F,
+    ) -> Result<LocatedToken, DeviceFault>
         requires { F.failures feed.old < 2 ^ 64 - 1 }
-        ensures tokens { IfOk result (λ lexeme. to_read (followed lexeme) self.new (F.to_come feed.new)
-            ≡ to_read (in_mark mark) self.old (F.to_come feed.old)) }
+        ensures tokens { IfOk result (λ located_token. to_read (followed located_token) self.new (F.to_come feed.new)
+            ≡ to_read (in_punctuator punctuator) self.old (F.to_come feed.old)) }
         ensures forward { self.old.place ≤ self.new.place }
-        ensures stopped { OnErr result (StopsWithin (in_mark mark) self.old self.new (F.to_come feed.old)) }
-        ensures reached { IfOk result (λ lexeme. self.new.place ≤ lexeme.end) }
+        ensures stopped { OnErr result (StopsWithin (in_punctuator punctuator) self.old self.new (F.to_come feed.old)) }
+        ensures reached { IfOk result (λ located_token. self.new.place ≤ located_token.end) }
         ensures took { Takes self.old.taken self.new.taken (F.to_come feed.old) (F.to_come feed.new) }
         ensures near { self.new.taken ≤ self.new.place + 4096 }
         ensures limited { self.new.taken ≤ 1048577 }
         ensures within { self.new.place ≤ 1048576 }
-        ensures fits { IfOk result (λ lexeme. FitsToken lexeme.token) }
+        ensures fits { IfOk result (λ located_token. FitsToken located_token.token) }
         ensures count { Counts result (F.failures feed.old) (F.failures feed.new) }
     {
         loop {
             let next = self.peek(feed)?;
-            match mark.longer(next) {
+            match punctuator.longer(next) {
                 Some(longer) => {
-                    mark = longer;
+                    punctuator = longer;
                     self.pass();
                 }
-                None => return Ok(self.ending(Token::Mark(mark))),
+                None => return Ok(self.ending(Token::Punctuator(punctuator))),
             }
         }
     }
 
     /// A token that ends before the next byte, on the same line.
-    fn ending(&self, token: Token) -> Lexeme
+    fn ending(&self, token: Token) -> LocatedToken
         ensures { result ≡ record { token = token; line = self.now.line; end = self.now.place } }
     {
-        Lexeme {
+        LocatedToken {
             token,
             line: self.line(),
             end: self.place(),
@@ -257,19 +273,19 @@ impl Window {
     }
 
     /// The last token, at the end of what can be read: this one, unless the source is too long.
-    fn last(&self, token: Token, line: u32) -> Lexeme
+    fn last(&self, token: Token, line: u32) -> LocatedToken
         requires { self.now.beyond ≢ Beyond.Unread }
-        ensures value { (to_come : List ℕ) → result ≡ last_lexeme token line (ahead self.now to_come) }
+        ensures value { (to_come : List ℕ) → result ≡ last_located_token token line (ahead self.now to_come) }
         ensures reached { self.now.place ≤ result.end }
     {
         if self.beyond() == Beyond::TooMuch {
-            Lexeme {
-                token: Token::Fault(Flaw::SourceTooLong),
+            LocatedToken {
+                token: Token::Fault(LexicalError::SourceTooLong),
                 line: self.line(),
                 end: self.place() + 1,
             }
         } else {
-            Lexeme {
+            LocatedToken {
                 token,
                 line,
                 end: self.place(),
@@ -287,7 +303,7 @@ fn name_token(name: Name, is_too_long: bool) -> Token
     ensures fits { FitsToken result }
 {
     if is_too_long {
-        Token::Fault(Flaw::NameTooLong)
+        Token::Fault(LexicalError::NameTooLong)
     } else if let Some(word) = Word::of_name(name.as_bytes()) {
         Token::Word(word)
     } else {
@@ -303,6 +319,6 @@ fn constant_token(value: u64) -> Token
     if value < TOO_LARGE {
         Token::Constant(value as u32)
     } else {
-        Token::Fault(Flaw::ConstantTooLarge)
+        Token::Fault(LexicalError::ConstantTooLarge)
     }
 }

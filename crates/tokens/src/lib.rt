@@ -5,19 +5,20 @@ mod characters;
 mod cursors;
 mod devices;
 pub mod laws;
-mod lexemes;
 mod lexer;
 mod limits;
-mod marks;
+mod located_tokens;
 mod memory;
 mod names;
+mod punctuators;
+mod runs;
 mod windows;
 mod words;
 
 pub use cursors::Cursor;
 pub use devices::{DeviceFault, Feed};
-pub use lexemes::{Flaw, Lexeme, Mark, Token, Word};
 pub use limits::{CONSTANT_MAX, NAME_BYTES, SOURCE_BYTES, WINDOW};
+pub use located_tokens::{LexicalError, LocatedToken, Punctuator, Token, Word};
 pub use memory::Pieces;
 pub use names::Name;
 

@@ -22,7 +22,12 @@ impl<'a> Model for Pieces<'a> {
 
     ghost Value = { Supply };
 
-    ghost view = { λ p. record { to_come = drop p.place p.bytes.now; taken = p.place; failures = p.failures; reads_left = p.reads_left } };
+    ghost view = { λ p. record {
+      to_come = drop p.place p.bytes.now;
+      taken = p.place;
+      failures = p.failures;
+      reads_left = p.reads_left;
+    } };
 
     ghost invariant = { λ p. (p.place ≤ length p.bytes.now) × (0 < p.most) };
 }

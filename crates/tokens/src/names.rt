@@ -1,6 +1,6 @@
 //! Names, of fixed size.
 
-ghost use Rattle.std.specs.Prelude.{◌≡◌, ◌∷◌, [], ◌++◌, ◌<◌, ◌≤◌, ◌↔◌, IsTrue, length};
+ghost use Rattle.std.specs.Prelude.{◌≡◌, ◌∷◌, [], ◌++◌, ◌<◌, ◌≤◌, ◌↔◌, IsTrue, true, length};
 ghost use Rattle.std.specs.Str.{bytes_eq};
 
 use crate::limits::NAME_BYTES;
@@ -81,6 +81,24 @@ impl Name {
         ensures { result.now ≡ self.now }
     {
         &self.bytes[..self.len as usize]
+    }
+
+    /// Whether it is this name. Most others differ in their length or in one of their first bytes.
+    #[inline(always)]
+    #[tactic(auto, using(crate::proofs::NameLemmas::other_name))]
+    pub fn same(&self, other: &Name) -> bool
+        ensures { result ≡ bytes_eq self.now other.now }
+    {
+        self.begins_as(other) && self.as_bytes() == other.as_bytes()
+    }
+
+    // Whether the length and the first two bytes are those of a name: a short name has zeros there.
+    #[inline(always)]
+    #[tactic(auto, using(crate::proofs::NameLemmas::same_kept))]
+    fn begins_as(&self, other: &Name) -> bool
+        ensures { self.now ≡ other.now → result ≡ true }
+    {
+        self.len == other.len && self.bytes[0] == other.bytes[0] && self.bytes[1] == other.bytes[1]
     }
 
     /// Whether it has these bytes.

@@ -36,12 +36,12 @@ fn check_pieces(
     let mut feed = Pieces::new(source, most);
     let mut cursor = Cursor::open(&mut feed)?;
     for (i, (token, line, end)) in wanted.iter().enumerate() {
-        let lexeme = Lexeme {
+        let located_token = LocatedToken {
             token: *token,
             line: *line,
             end: *end,
         };
-        assert_eq!(rt; *cursor.next(), lexeme);
+        assert_eq!(rt; *cursor.next(), located_token);
         assert_eq!(rt; token.is_last(), i + 1 == wanted.len());
         if !cursor.next().token.is_last() {
             cursor.advance(&mut feed)?;
@@ -64,8 +64,8 @@ fn longest_match(rt: HostRuntime) -> Result<(), Fail> {
         b"a+++b",
         &[
             (name(b"a"), 1, 1),
-            (Token::Mark(Mark::PlusPlus), 1, 3),
-            (Token::Mark(Mark::Plus), 1, 4),
+            (Token::Punctuator(Punctuator::PlusPlus), 1, 3),
+            (Token::Punctuator(Punctuator::Plus), 1, 4),
             (name(b"b"), 1, 5),
             (Token::End, 1, 5),
         ],
@@ -74,12 +74,12 @@ fn longest_match(rt: HostRuntime) -> Result<(), Fail> {
         &rt,
         b"<<= << <\n<=!==",
         &[
-            (Token::Mark(Mark::ShiftLeftEquals), 1, 3),
-            (Token::Mark(Mark::ShiftLeft), 1, 6),
-            (Token::Mark(Mark::Less), 1, 8),
-            (Token::Mark(Mark::LessEquals), 2, 11),
-            (Token::Mark(Mark::NotEquals), 2, 13),
-            (Token::Mark(Mark::Equals), 2, 14),
+            (Token::Punctuator(Punctuator::ShiftLeftEquals), 1, 3),
+            (Token::Punctuator(Punctuator::ShiftLeft), 1, 6),
+            (Token::Punctuator(Punctuator::Less), 1, 8),
+            (Token::Punctuator(Punctuator::LessEquals), 2, 11),
+            (Token::Punctuator(Punctuator::NotEquals), 2, 13),
+            (Token::Punctuator(Punctuator::Equals), 2, 14),
             (Token::End, 2, 14),
         ],
     )?;
@@ -94,7 +94,7 @@ fn comments(rt: HostRuntime) -> Result<(), Fail> {
         &[
             (name(b"a"), 1, 1),
             (name(b"b"), 2, 14),
-            (Token::Mark(Mark::Slash), 2, 15),
+            (Token::Punctuator(Punctuator::Slash), 2, 15),
             (name(b"c"), 2, 16),
             (Token::End, 2, 21),
         ],
@@ -104,17 +104,17 @@ fn comments(rt: HostRuntime) -> Result<(), Fail> {
         b"main(){}\n/* x",
         &[
             (name(b"main"), 1, 4),
-            (Token::Mark(Mark::OpenRound), 1, 5),
-            (Token::Mark(Mark::CloseRound), 1, 6),
-            (Token::Mark(Mark::OpenCurly), 1, 7),
-            (Token::Mark(Mark::CloseCurly), 1, 8),
-            (Token::Fault(Flaw::CommentNotClosed), 2, 13),
+            (Token::Punctuator(Punctuator::OpenRound), 1, 5),
+            (Token::Punctuator(Punctuator::CloseRound), 1, 6),
+            (Token::Punctuator(Punctuator::OpenCurly), 1, 7),
+            (Token::Punctuator(Punctuator::CloseCurly), 1, 8),
+            (Token::Fault(LexicalError::CommentNotClosed), 2, 13),
         ],
     )?;
     check(
         &rt,
         b"\n/*/\n",
-        &[(Token::Fault(Flaw::CommentNotClosed), 2, 5)],
+        &[(Token::Fault(LexicalError::CommentNotClosed), 2, 5)],
     )?;
     Ok(())
 }
@@ -152,7 +152,7 @@ fn names(rt: HostRuntime) -> Result<(), Fail> {
     check(
         &rt,
         b"_2345678901234567890123456789012345;",
-        &[(Token::Fault(Flaw::NameTooLong), 1, 35)],
+        &[(Token::Fault(LexicalError::NameTooLong), 1, 35)],
     )?;
     Ok(())
 }
@@ -164,7 +164,7 @@ fn constants(rt: HostRuntime) -> Result<(), Fail> {
         b"0002147483647,08x",
         &[
             (Token::Constant(2147483647), 1, 13),
-            (Token::Mark(Mark::Comma), 1, 14),
+            (Token::Punctuator(Punctuator::Comma), 1, 14),
             (Token::Constant(8), 1, 16),
             (name(b"x"), 1, 17),
             (Token::End, 1, 17),
@@ -173,21 +173,33 @@ fn constants(rt: HostRuntime) -> Result<(), Fail> {
     check(
         &rt,
         b"2147483648;",
-        &[(Token::Fault(Flaw::ConstantTooLarge), 1, 10)],
+        &[(Token::Fault(LexicalError::ConstantTooLarge), 1, 10)],
     )?;
     check(
         &rt,
         b"99999999999999999999999999999999999999990;",
-        &[(Token::Fault(Flaw::ConstantTooLarge), 1, 41)],
+        &[(Token::Fault(LexicalError::ConstantTooLarge), 1, 41)],
     )?;
     Ok(())
 }
 
 #[test]
 fn bad_characters(rt: HostRuntime) -> Result<(), Fail> {
-    check(&rt, b" \x00", &[(Token::Fault(Flaw::BadCharacter), 1, 2)])?;
-    check(&rt, b"\n\xc8x", &[(Token::Fault(Flaw::BadCharacter), 2, 2)])?;
-    check(&rt, b"\"", &[(Token::Fault(Flaw::BadCharacter), 1, 1)])?;
+    check(
+        &rt,
+        b" \x00",
+        &[(Token::Fault(LexicalError::BadCharacter), 1, 2)],
+    )?;
+    check(
+        &rt,
+        b"\n\xc8x",
+        &[(Token::Fault(LexicalError::BadCharacter), 2, 2)],
+    )?;
+    check(
+        &rt,
+        b"\"",
+        &[(Token::Fault(LexicalError::BadCharacter), 1, 1)],
+    )?;
     Ok(())
 }
 
@@ -197,7 +209,7 @@ fn byte_26(rt: HostRuntime) -> Result<(), Fail> {
     check(
         &rt,
         b"/*\n\x1a*/",
-        &[(Token::Fault(Flaw::CommentNotClosed), 1, 3)],
+        &[(Token::Fault(LexicalError::CommentNotClosed), 1, 3)],
     )?;
     Ok(())
 }
@@ -241,13 +253,13 @@ fn behind_lines(left: u32, last: Option<u8>) -> Result<(Token, u32, u32), Device
         last,
     };
     let cursor = Cursor::open(&mut feed)?;
-    let Lexeme { token, line, end } = *cursor.next();
+    let LocatedToken { token, line, end } = *cursor.next();
     Ok((token, line, end))
 }
 
 #[test]
 fn limit(rt: HostRuntime) -> Result<(), Fail> {
-    let long = Token::Fault(Flaw::SourceTooLong);
+    let long = Token::Fault(LexicalError::SourceTooLong);
     assert_eq!(rt;
         behind_lines(1_048_576, None)?,
         (Token::End, 1_048_577, 1_048_576)
@@ -266,7 +278,11 @@ fn limit(rt: HostRuntime) -> Result<(), Fail> {
     );
     assert_eq!(rt;
         behind_lines(1_048_575, Some(b'"'))?,
-        (Token::Fault(Flaw::BadCharacter), 1_048_576, 1_048_576)
+        (
+            Token::Fault(LexicalError::BadCharacter),
+            1_048_576,
+            1_048_576
+        )
     );
     Ok(())
 }

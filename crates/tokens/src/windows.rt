@@ -1,23 +1,14 @@
 //! The window of fixed size through which a source is read.
 
-ghost use Rattle.std.specs.Prelude.{◌≡◌, ◌≢◌, ℕ, ◌+◌, ◌-◌, ◌^◌, ◌<◌, ◌≤◌, List, [], length, take, slice_get, OnOk, OnErr, IfOk, count_by, ◌==◌, not, false};
-ghost use Rattle.std.specs.List.{prefix_len, list_any};
+ghost use Rattle.std.specs.Prelude.{◌≡◌, ◌≢◌, ℕ, ◌+◌, ◌-◌, ◌^◌, ◌<◌, ◌≤◌, List, [], length, slice_get, OnOk, OnErr, IfOk};
 ghost use Rattle.tokens.specs.Source.{source};
 ghost use Rattle.tokens.specs.Feed.{Counts};
-ghost use Rattle.tokens.specs.Window.{seen, untouched, behind_first, behind_plain, Cuts, IsAtSamePlace, IsAtHandOrEnd, Takes};
+ghost use Rattle.tokens.specs.Window.{seen, untouched, behind_first, behind_blanks, behind_plain, Cuts, IsAtSamePlace, IsAtHandOrEnd, Takes};
 
 use crate::devices::{DeviceFault, Feed};
 use crate::limits::{SOURCE_BYTES, WINDOW};
+use crate::runs::{End, Ink, LINE_FEED, Star, run_before};
 use std::marker::Model;
-
-/// The byte that ends a source.
-const END_BYTE: u8 = 26;
-
-/// The byte that ends a line.
-const LINE_FEED: u8 = 10;
-
-/// How many bytes are looked at together.
-const BLOCK: usize = 32;
 
 /// What is known of the source behind the bytes at hand.
 #[derive(Clone, Copy, Debug, PartialEq, Eq)]
@@ -48,7 +39,13 @@ impl Model for Window {
 
     ghost Value = { Held };
 
-    ghost view = { λ w. record { line = w.line; place = w.start + w.next; at_hand = slice_range w.bytes w.next w.filled; taken = w.taken; beyond = w.beyond } };
+    ghost view = { λ w. record {
+      line = w.line;
+      place = w.start + w.next;
+      at_hand = slice_range w.bytes w.next w.filled;
+      taken = w.taken;
+      beyond = w.beyond;
+    } };
 
     ghost invariant = { λ w. IsWindow w.next w.filled w.start w.taken w.line w.beyond };
 }
@@ -138,7 +135,21 @@ impl Window {
         ensures near { self.new.taken ≤ self.new.place + 4096 }
         ensures limited { self.new.taken ≤ 1048577 }
     {
-        let (count, lines) = plain(&self.bytes[self.next..self.filled]);
+        let (count, lines) = run_before::<Star>(&self.bytes[self.next..self.filled]);
+        self.next += count;
+        self.line += lines;
+    }
+
+    /// Goes behind the blanks at hand.
+    pub fn pass_blanks(&mut self)
+        ensures value { self.new ≡ behind_blanks self.old }
+        ensures forward { self.old.place ≤ self.new.place }
+        ensures kept { self.new.taken ≡ self.old.taken }
+        ensures within { self.new.place ≤ 1048576 }
+        ensures near { self.new.taken ≤ self.new.place + 4096 }
+        ensures limited { self.new.taken ≤ 1048577 }
+    {
+        let (count, lines) = run_before::<Ink>(&self.bytes[self.next..self.filled]);
         self.next += count;
         self.line += lines;
     }
@@ -185,7 +196,8 @@ impl Window {
 /// How many of these bytes belong to the source, of which there is room for so many, and what follows them.
 #[tactic(auto, using(crate::proofs::SourceLemmas::cutting))]
 fn cut(bytes: &[u8], room: usize) -> (usize, Beyond)
-    requires { length bytes.now ≤ room + 1 }
+    requires room { length bytes.now ≤ room + 1 }
+    requires few { length bytes.now ≤ 4096 }
     ensures { Cuts bytes.now room result.0 result.1 }
 {
     let length = source_len(bytes);
@@ -201,86 +213,10 @@ fn cut(bytes: &[u8], room: usize) -> (usize, Beyond)
 }
 
 /// How many bytes there are before the first that ends a source.
+#[tactic(auto, using(crate::proofs::RunLemmas::ends_source))]
 fn source_len(bytes: &[u8]) -> usize
+    requires { length bytes.now ≤ 4096 }
     ensures { result ≡ length (source bytes.now) }
 {
-    let skipped = blocks_without(bytes, END_BYTE);
-    skipped + first_end(&bytes[skipped..])
-}
-
-/// The same, a byte at a time.
-#[tactic(auto, using(crate::proofs::SourceLemmas::steps))]
-fn first_end(bytes: &[u8]) -> usize
-    ensures { result ≡ length (source bytes.now) }
-{
-    for (i, b) in bytes.iter().enumerate() {
-        if *b == END_BYTE {
-            return i;
-        }
-    }
-    bytes.len()
-}
-
-/// How many bytes there are before the first `*`, and how many of them end a line.
-fn plain(bytes: &[u8]) -> (usize, u32)
-    requires { length bytes.now ≤ 4096 }
-    ensures count { result.0 ≡ prefix_len (λ b. not (b == 42)) bytes.now }
-    ensures lines { result.1 ≡ count_by (λ b. b == 10) (take result.0 bytes.now) }
-{
-    let skipped = blocks_without(bytes, b'*');
-    let (count, lines) = first_star(&bytes[skipped..]);
-    (skipped + count, lines_in(&bytes[..skipped]) + lines)
-}
-
-/// The same, a byte at a time.
-fn first_star(bytes: &[u8]) -> (usize, u32)
-    requires { length bytes.now ≤ 4096 }
-    ensures count { result.0 ≡ prefix_len (λ b. not (b == 42)) bytes.now }
-    ensures lines { result.1 ≡ count_by (λ b. b == 10) (take result.0 bytes.now) }
-{
-    let mut lines = 0;
-    for (i, b) in bytes.iter().enumerate() {
-        if *b == b'*' {
-            return (i, lines);
-        }
-        if *b == LINE_FEED {
-            lines += 1;
-        }
-    }
-    (bytes.len(), lines)
-}
-
-/// How many bytes whole blocks without this byte have at the front.
-fn blocks_without(bytes: &[u8], byte: u8) -> usize
-    ensures within { result ≤ length bytes.now }
-    ensures none { list_any (λ b. b == byte) (take result bytes.now) ≡ false }
-{
-    let mut count = 0;
-    while bytes.len() - count >= BLOCK && !has(&bytes[count..count + BLOCK], byte) {
-        count += BLOCK;
-    }
-    count
-}
-
-/// Whether one of these bytes is this one.
-fn has(bytes: &[u8], byte: u8) -> bool
-    ensures { result ≡ list_any (λ b. b == byte) bytes.now }
-{
-    let mut found = false;
-    for b in bytes {
-        found |= *b == byte;
-    }
-    found
-}
-
-/// How many of these bytes end a line.
-fn lines_in(bytes: &[u8]) -> u32
-    requires { length bytes.now ≤ 4096 }
-    ensures { result ≡ count_by (λ b. b == 10) bytes.now }
-{
-    let mut lines = 0;
-    for b in bytes {
-        lines += u32::from(*b == LINE_FEED);
-    }
-    lines
+    run_before::<End>(bytes).0
 }

@@ -1,71 +1,64 @@
 //! The names that the language keeps for itself.
 
-ghost use Rattle.std.specs.Prelude.{◌≡◌};
+ghost use Rattle.std.specs.Prelude.{◌≡◌, ◌||◌, codes, Some, None, if◌then◌else◌};
 ghost use Rattle.std.specs.Str.{bytes_eq};
-ghost use Rattle.tokens.specs.Words.{word_of, is_type_word, is_refused_statement, is_refused_type, is_refused_prefix};
+ghost use Rattle.tokens.specs.Words.{word_of};
 
-use crate::lexemes::Word;
+use crate::located_tokens::Word;
 
 impl Word {
-    /// The word that a name is, if it is one.
+    /// The word that a name is, if it is one. Its first byte leaves few to compare it with.
     #[tactic(auto, unfolding(crate::specs::Words::word_of))]
     pub(crate) fn of_name(name: &[u8]) -> Option<Word>
         ensures { result ≡ word_of name.now }
     {
-        if is(name, b"if") {
-            Some(Word::If)
-        } else if is(name, b"else") {
-            Some(Word::Else)
-        } else if is(name, b"while") {
-            Some(Word::While)
-        } else if is(name, b"return") {
-            Some(Word::Return)
-        } else if is_type_word(name) {
-            Some(Word::Type)
-        } else if is_refused_statement(name) || is_refused_type(name) || is_refused_prefix(name) {
-            Some(Word::Refused)
-        } else {
-            None
+        match name.first()? {
+            b'a' => Word::Type.when(is(name, b"auto")),
+            b'b' => Word::Refused.when(is(name, b"break")),
+            b'c' => Word::Refused.when(
+                is(name, b"case") || is(name, b"char") || is(name, b"continue"),
+            ),
+            b'd' => Word::Refused.when(
+                is(name, b"do") || is(name, b"double") || is(name, b"default"),
+            ),
+            b'e' => Word::Else
+                .when(is(name, b"else"))
+                .or(Word::Refused.when(is(name, b"extern"))),
+            b'f' => Word::Refused.when(is(name, b"for") || is(name, b"float")),
+            b'g' => Word::Refused.when(is(name, b"goto")),
+            b'i' => Word::If
+                .when(is(name, b"if"))
+                .or(Word::Type.when(is(name, b"int"))),
+            b'l' => Word::Type.when(is(name, b"long")),
+            b'r' => Word::Return
+                .when(is(name, b"return"))
+                .or(Word::Type.when(is(name, b"register"))),
+            b's' => Word::Refused.when(is_refused_with_s(name)),
+            b't' => Word::Refused.when(is(name, b"typedef")),
+            b'u' => Word::Refused.when(is(name, b"union") || is(name, b"unsigned")),
+            b'v' => Word::Refused.when(is(name, b"void")),
+            b'w' => Word::While.when(is(name, b"while")),
+            _ => None,
         }
+    }
+
+    // This word, where a name is it.
+    fn when(self, is: bool) -> Option<Word>
+        ensures { result ≡ (if is then Some self else None) }
+    {
+        if is { Some(self) } else { None }
     }
 }
 
-fn is_type_word(name: &[u8]) -> bool
-    ensures { result ≡ is_type_word name.now }
+fn is_refused_with_s(name: &[u8]) -> bool
+    ensures { result ≡ (bytes_eq name.now (codes "switch") || bytes_eq name.now (codes "struct") || bytes_eq name.now (codes "sizeof")
+        || bytes_eq name.now (codes "static") || bytes_eq name.now (codes "short")) }
 {
-    is(name, b"int") || is(name, b"long") || is(name, b"auto") || is(name, b"register")
-}
-
-fn is_refused_statement(name: &[u8]) -> bool
-    ensures { result ≡ is_refused_statement name.now }
-{
-    is(name, b"for")
-        || is(name, b"do")
-        || is(name, b"break")
-        || is(name, b"continue")
-        || is(name, b"switch")
-        || is(name, b"case")
-        || is(name, b"default")
-        || is(name, b"goto")
-}
-
-fn is_refused_type(name: &[u8]) -> bool
-    ensures { result ≡ is_refused_type name.now }
-{
-    is(name, b"struct")
-        || is(name, b"union")
-        || is(name, b"typedef")
-        || is(name, b"char")
-        || is(name, b"float")
-        || is(name, b"double")
-        || is(name, b"void")
+    is(name, b"switch")
+        || is(name, b"struct")
         || is(name, b"sizeof")
-}
-
-fn is_refused_prefix(name: &[u8]) -> bool
-    ensures { result ≡ is_refused_prefix name.now }
-{
-    is(name, b"static") || is(name, b"extern") || is(name, b"short") || is(name, b"unsigned")
+        || is(name, b"static")
+        || is(name, b"short")
 }
 
 fn is(name: &[u8], word: &[u8]) -> bool

@@ -1,4 +1,5 @@
-//! Plays one match, and writes a picture of it as SVG on standard output: the robots' paths, their shots, and how it ended.
+//! Plays one match, and writes a picture of it as SVG on standard output: the robots' paths, their shots, and how it
+//! ended.
 #![tactic(auto)]
 
 mod feeds;
@@ -18,7 +19,7 @@ use crate::pilots::pilots;
 use crate::sources::{SourceFault, programs};
 use crate::words::{Wish, read_words};
 use std::alloc::AllocError;
-use std::io::Write;
+use std::io::{ErrorKind, Write};
 use std::process::ExitCode;
 use std::{env, io};
 
@@ -55,9 +56,13 @@ fn main(rt: HostRuntime) -> ExitCode {
     ExitCode::from(status)
 }
 
-/// Reads the words, plays the match, and writes its picture at once when it is whole.
+/// Reads the words, plays the match, and writes its picture at once when it is whole. The lines about sources are
+/// written.
 fn run(rt: &HostRuntime) -> Result<(), Fault> {
-    let words = arguments(rt).map_err(|_| Fault::Usage)?;
+    let words = arguments(rt).map_err(|fault| match fault.kind() {
+        ErrorKind::OutOfMemory => Fault::Memory,
+        _ => Fault::Usage,
+    })?;
     let words = borrowed(rt, words.as_slice()).map_err(|_| Fault::Memory)?;
     let Some(wish) = read_words(words.as_slice()) else {
         return Err(Fault::Usage);

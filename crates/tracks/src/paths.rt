@@ -1,6 +1,8 @@
 //! Paths of robots, thinned so that their memory is bounded.
 
-ghost use Rattle.std.specs.Prelude.{◌≡◌, ℕ, ◌*◌, ◌/◌, ◌≤◌, ◌<◌, [], length, slice_get};
+ghost use Rattle.std.specs.Prelude.{◌≡◌, ℕ, ◌*◌, ◌/◌, ◌≤◌, ◌<◌, List, [], ◌∷◌, ◌++◌, length, slice_get};
+ghost use Rattle.tracks.specs.Path.{Keeps};
+ghost use Rattle.tracks.specs.Spot.{Spot};
 
 use crate::places::Place;
 use arrayvec::ArrayVec;
@@ -12,7 +14,8 @@ pub const MOST_PLACES: usize = 2000;
 /// The greatest stride: a path that is full with it takes no more places.
 const MOST_STRIDE: u32 = 1 << 20;
 
-/// The places of a robot over time. Each is kept until there are 2,000; then each second one is dropped, and of those to come
+/// The places of a robot over time. Each is kept until there are 2,000; then each second one is dropped, and of those
+/// to come
 /// only each second one is kept; and so on.
 #[derive(Drop)]
 pub struct Path {
@@ -41,7 +44,8 @@ impl Default for Path {
 impl Path {
     /// Makes a path without places.
     pub fn new() -> Path
-        ensures { result ≡ record { places = []; stride = 1; skip = 0 } }
+        ensures value { result ≡ record { places = []; stride = 1; skip = 0 } }
+        ensures keeps { Keeps result [] }
     {
         Path {
             places: ArrayVec::new(),
@@ -51,7 +55,10 @@ impl Path {
     }
 
     /// Adds the robot's next place, and keeps it if it is due.
-    pub fn add(&mut self, place: Place) {
+    pub fn add(&mut self, place: Place)
+        ensures { (places : List Spot) → self.old.stride ≤ MOST_STRIDE / 2 → Keeps self.old places
+            → Keeps self.new (places ++ place ∷ []) }
+    {
         if self.skip > 0 {
             self.skip -= 1;
             return;
@@ -69,7 +76,8 @@ impl Path {
     /// Drops each second place, and doubles the stride.
     fn thin(&mut self)
         requires { self.old.stride ≤ MOST_STRIDE / 2 }
-        ensures each { (n : ℕ) → n < length self.old.places / 2 → slice_get self.new.places n ≡ slice_get self.old.places (2 * n) }
+        ensures each { (n : ℕ) → n < length self.old.places / 2
+            → slice_get self.new.places n ≡ slice_get self.old.places (2 * n) }
         ensures half { length self.new.places ≡ length self.old.places / 2 }
         ensures stride { self.new.stride ≡ 2 * self.old.stride }
         ensures skip { self.new.skip ≡ self.old.skip }

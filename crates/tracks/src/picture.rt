@@ -23,10 +23,10 @@ const GRID: u32 = 100;
 
 /// What stands before the field: the picture's size, and a burst, whose three rings are 40, 20 and 5 metres from it.
 const HEAD: &str =
-    "<svg xmlns=\"http://www.w3.org/2000/svg\" viewBox=\"0 0 1420 1100\" font-family=\"sans-serif\" font-size=\"18\">
+    "<svg xmlns=\"http://www.w3.org/2000/svg\" viewBox=\"0 0 1500 1100\" font-family=\"sans-serif\" font-size=\"18\">
 <defs><g id=\"burst\" stroke-width=\"1\"><circle r=\"40\" fill=\"#ffe9a8\" fill-opacity=\".35\" stroke=\"#e0b040\"/>\
 <circle r=\"20\" fill=\"#ffc266\" fill-opacity=\".45\" stroke=\"#e08a30\"/><circle r=\"5\" fill=\"#e2471f\" stroke=\"#a02c10\"/></g></defs>
-<rect width=\"1420\" height=\"1100\" fill=\"#ffffff\"/>
+<rect width=\"1500\" height=\"1100\" fill=\"#ffffff\"/>
 ";
 
 /// What explains the signs of the picture.
@@ -89,7 +89,7 @@ fn add_shots(text: &mut String, recording: &Recording) -> Result<(), AllocError>
             add_burst(text, shot, updates)?;
         }
     }
-    text.push_str("<g fill=\"none\" stroke-width=\"2\">\n")?;
+    text.push_str("<g fill=\"none\" stroke-width=\"1.5\">\n")?;
     for shot in recording.shots.as_slice() {
         add_line(text, shot, updates)?;
     }
@@ -134,7 +134,7 @@ fn add_track(text: &mut String, robot: usize, track: &Track, updates: u32) -> Re
     let colour = COLOURS[robot];
     write!(
         text,
-        "<g fill=\"none\" stroke=\"{colour}\" stroke-width=\"3\">\n"
+        "<g fill=\"none\" stroke=\"{colour}\" stroke-width=\"4\">\n"
     )?;
     add_path(text, track, updates)?;
     if let [start, ..] = track.path.places() {
@@ -261,19 +261,18 @@ fn add_entry(text: &mut String, robot: usize, track: &Track, name: &str) -> Resu
     )?;
     write!(
         text,
-        "<text x=\"1116\" y=\"{y}\">{number}) {state} damage {damage}% "
+        "<text x=\"1116\" y=\"{y}\" font-weight=\"bold\">{number}) "
     )?;
     add_name(text, name)?;
-    text.push_str("</text>\n")?;
+    write!(
+        text,
+        "</text><text x=\"1116\" y=\"{}\">{state} damage {damage}%",
+        y + 24
+    )?;
     if let Some(update) = track.death {
-        let cycle = u64::from(update) * 15;
-        write!(
-            text,
-            "<text x=\"1116\" y=\"{}\" fill=\"#777777\">died after cycle {cycle}</text>\n",
-            y + 24
-        )?;
+        write!(text, " after cycle {}", u64::from(update) * 15)?;
     }
-    Ok(())
+    text.push_str("</text>\n")
 }
 
 /// Returns the word for how a robot ended.

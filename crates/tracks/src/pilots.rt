@@ -1,6 +1,6 @@
 //! Pilots: a robot's program with the machine that runs it.
 
-ghost use Rattle.std.specs.Prelude.{◌≡◌, ◌<◌, ◌≤◌, IfOk, length};
+ghost use Rattle.std.specs.Prelude.{◌≡◌, ◌==◌, ◌<◌, ◌≤◌, if◌then◌else◌, IfOk, length};
 
 use crate::places::Place;
 use crate::shots::{Shot, Shots};
@@ -67,8 +67,8 @@ impl<'a> Pilot<'a> {
 pub fn pilots(alloc: Global, programs: &[Program]) -> Result<Vec<Pilot<'_>>, AllocError>
     requires some { 0 < length programs.now }
     requires most { length programs.now ≤ 4 }
-    ensures some { IfOk result (λ pilots. 2 ≤ length pilots.items) }
-    ensures most { IfOk result (λ pilots. length pilots.items ≤ 4) }
+    ensures { IfOk result (λ pilots. length pilots.items
+        ≡ (if length programs.now == 1 then 2 else length programs.now)) }
 {
     let mut pilots = Vec::new(alloc);
     for program in programs {

@@ -83,7 +83,8 @@ fn flight(range: u16) -> u32
     u32::from(range.div_ceil(FLIGHT).max(1))
 }
 
-/// Returns where a missile bursts on an axis, from a place in tenths of a metre and at a range in metres, by the part of the
+/// Returns where a missile bursts on an axis, from a place in tenths of a metre and at a range in metres, by the part
+/// of the
 /// range that lies on the axis.
 fn aimed(from: u16, range: u16, part: i32) -> u16
     requires from { from ≤ LAST_PLACE }
@@ -145,7 +146,8 @@ impl Shots {
 
     /// Keeps a shot, in place of the oldest one if they are full.
     pub fn add(&mut self, shot: Shot)
-        ensures room { length self.old.shots < MOST_SHOTS → self.new ≡ record { shots = self.old.shots ++ shot ∷ []; oldest = self.old.oldest } }
+        ensures room { length self.old.shots < MOST_SHOTS
+            → self.new ≡ record { shots = self.old.shots ++ shot ∷ []; oldest = self.old.oldest } }
         ensures full { length self.old.shots ≡ MOST_SHOTS → self.new ≡ record {
           shots = slice_set self.old.shots self.old.oldest shot;
           oldest = (self.old.oldest + 1) % MOST_SHOTS;

@@ -8,9 +8,10 @@ use code::{Maker, Profile, Program};
 use grammar::{Diagnostic, ParseFault};
 use lang::parse;
 use std::fs::File;
+use std::io::ErrorKind;
 use tokens::{DeviceFault, Feed};
 
-/// Why there are no programs; the lines that say so were written.
+/// Why there are no programs. The lines about files were written.
 #[derive(Clone, Copy, Debug, PartialEq, Eq)]
 pub enum SourceFault {
     /// A file has a fault.
@@ -21,7 +22,8 @@ pub enum SourceFault {
     Memory,
 }
 
-/// Compiles the files of a wish, and writes the diagnostic of each faulty one, or a line about the first that can't be opened or read.
+/// Compiles the files of a wish, and writes the diagnostic of each faulty one, or a line about the first that can't be
+/// opened or read.
 pub fn programs(rt: &HostRuntime, wish: &Wish<'_>) -> Result<Vec<Program>, SourceFault>
     ensures each { IfOk result (λ programs. length programs.items ≡ length wish.now.files) }
     ensures some { IfOk result (λ programs. 0 < length programs.items) }
@@ -30,9 +32,15 @@ pub fn programs(rt: &HostRuntime, wish: &Wish<'_>) -> Result<Vec<Program>, Sourc
     let mut programs = Vec::new(rt.alloc());
     let mut is_faulty = false;
     for word in wish.files() {
-        let Ok(file) = File::open(rt, *word) else {
-            let _ = eprintln!(rt; "tracks: cannot open {word}");
-            return Err(SourceFault::Read);
+        let file = match File::open(rt, *word) {
+            Ok(file) => file,
+            Err(fault) if fault.kind() == ErrorKind::OutOfMemory => {
+                return Err(SourceFault::Memory);
+            }
+            Err(_) => {
+                let _ = eprintln!(rt; "tracks: cannot open {word}");
+                return Err(SourceFault::Read);
+            }
         };
         match compile(wish.profile(), &mut FileFeed::new(file)) {
             Ok(Ok(program)) => programs.push(program).map_err(|_| SourceFault::Memory)?,

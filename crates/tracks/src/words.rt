@@ -75,7 +75,8 @@ impl<'a> Wish<'a> {
     }
 }
 
-/// Reads the words after the program's name: options, each with its value attached or as the next word, and one to four files, in any order.
+/// Reads the words after the program's name: options, each with its value attached or as the next word, and one to
+/// four files, in any order.
 /// Returns `None` if the words are wrong.
 pub fn read_words<'a>(words: &[&'a str]) -> Option<Wish<'a>> {
     let mut given = Given::default();
@@ -121,6 +122,7 @@ impl<'a> Given<'a> {
     /// Takes a word. Returns the letter of an option whose value is the next word, if it is one.
     fn take(&mut self, word: &'a str) -> Option<Option<u8>> {
         match word.as_bytes() {
+            [b'-'] => None,
             [b'-', letter] => Some(Some(*letter)),
             [b'-', letter, ..] => {
                 self.set(*letter, word.get(2..)?)?;

@@ -10,7 +10,7 @@ use Rattle.grammar.specs.declared.names.Var.TheVariants as var
 use Rattle.grammar.specs.declared.operators.Op.{Op}
 use Rattle.grammar.specs.declared.operators.Op.TheVariants as op
 use Rattle.grammar.specs.declared.operators.StoreOp.{StoreOp}
-use Rattle.grammar.specs.Actions.{Action, Apply, Middle, BeginCall, EndCall, EndIf, EndWhile, GiveBack, Chop, Finish, body_actions, args_actions, expr_actions}
+use Rattle.grammar.specs.Actions.{Action, ApplyBinop, LogicMiddle, BeginCall, EndCall, EndIf, EndWhile, GiveBack, Chop, Finish, body_actions, args_actions, expr_actions}
 use Rattle.grammar.specs.Following.{InFunction, AValue, BeforeRight, Opened, Origin, Stepped, Computed, follow, only_on, statement_done, call_done, is_number, is_step, stored, same_var, same_op, is_callee_numbered}
 use Rattle.grammar.specs.Operators.{is_logic}
 use Rattle.grammar.specs.Tree.{Args, Body, Done}
@@ -28,7 +28,7 @@ use Rattle.trees.specs.declared.tree.Expr.{Expr}
 use Rattle.trees.specs.declared.tree.Expr.TheVariants as expr
 use Rattle.trees.specs.declared.tree.Statement.{Statement}
 use Rattle.trees.specs.declared.tree.Statement.TheVariants as statement
-use Rattle.trees.proofs.TreeLaws.{tree-Binary, tree-Assign, tree-Postfix, tree-Call, tree-Alone, tree-When, tree-Choose, tree-While, tree-Return, returns_zero, body_adds, body_ends, last_returns, arguments_add, number_is}
+use Rattle.trees.proofs.TreeLaws.{tree-Binary, tree-Assign, tree-Postfix, tree-Call, tree-ExpressionStatement, tree-IfStatement, tree-IfElseStatement, tree-While, tree-Return, returns_zero, body_adds, body_ends, last_returns, arguments_add, number_is}
 
 -- The last statement is left.
 
@@ -75,11 +75,11 @@ chop_place (heading.First c) b origin o = refl
 chop_place (heading.Second c t) b origin o = refl
 chop_place (heading.Loop c) b origin o = refl
 
-pub alone_continues : (e : Expr) (xs ys : List entry.Open) → AddsTo (statement.Alone e) xs ys → Continues Chop (Value e ∷ xs) ys
+pub alone_continues : (e : Expr) (xs ys : List entry.Open) → AddsTo (statement.ExpressionStatement e) xs ys → Continues Chop (Value e ∷ xs) ys
 alone_continues e xs ys a =
-    statement_continues Chop (statement.Alone e) (Value e ∷ xs) xs ys a
-    (rw (a.was, tree-Alone e) (chop_place a.body.heading (body_tree a.body.statements.items) (origin_of (expr_tree e)) (opened a.rest)))
-    (rw (tree-Alone e) (append_assoc (open_actions xs) (expr_actions (expr_tree e)) (Chop ∷ [])))
+    statement_continues Chop (statement.ExpressionStatement e) (Value e ∷ xs) xs ys a
+    (rw (a.was, tree-ExpressionStatement e) (chop_place a.body.heading (body_tree a.body.statements.items) (origin_of (expr_tree e)) (opened a.rest)))
+    (rw (tree-ExpressionStatement e) (append_assoc (open_actions xs) (expr_actions (expr_tree e)) (Chop ∷ [])))
 
 pub return_continues : (e : Expr) (xs ys : List entry.Open) → AddsTo (statement.Return e) xs ys → Continues GiveBack (Value e ∷ xs) ys
 return_continues e xs ys a =
@@ -87,19 +87,19 @@ return_continues e xs ys a =
     (rw (tree-Return e) refl)
     (rw (tree-Return e) (append_assoc (open_actions xs) (expr_actions (expr_tree e)) (GiveBack ∷ [])))
 
-pub when_continues : (b : body_type.Body) (c : Expr) (xs ys : List entry.Open) → b.heading ≡ heading.First c → AddsTo (statement.When c b.statements) xs ys →
+pub when_continues : (b : body_type.Body) (c : Expr) (xs ys : List entry.Open) → b.heading ≡ heading.First c → AddsTo (statement.IfStatement c b.statements) xs ys →
     Continues EndIf (entry_of.Body b ∷ xs) ys
 when_continues b c xs ys is a =
-    statement_continues EndIf (statement.When c b.statements) (entry_of.Body b ∷ xs) xs ys a
-    (rw (is, tree-When c b.statements) refl)
-    (rw (is, tree-When c b.statements) (simp append_assoc refl))
+    statement_continues EndIf (statement.IfStatement c b.statements) (entry_of.Body b ∷ xs) xs ys a
+    (rw (is, tree-IfStatement c b.statements) refl)
+    (rw (is, tree-IfStatement c b.statements) (simp append_assoc refl))
 
-pub choose_continues : (b : body_type.Body) (c : Expr) (s : Vec Statement Global) (xs ys : List entry.Open) → b.heading ≡ heading.Second c s → AddsTo (statement.Choose c s b.statements) xs ys →
+pub choose_continues : (b : body_type.Body) (c : Expr) (s : Vec Statement Global) (xs ys : List entry.Open) → b.heading ≡ heading.Second c s → AddsTo (statement.IfElseStatement c s b.statements) xs ys →
     Continues EndIf (entry_of.Body b ∷ xs) ys
 choose_continues b c s xs ys is a =
-    statement_continues EndIf (statement.Choose c s b.statements) (entry_of.Body b ∷ xs) xs ys a
-    (rw (is, tree-Choose c s b.statements) refl)
-    (rw (is, tree-Choose c s b.statements) (simp append_assoc refl))
+    statement_continues EndIf (statement.IfElseStatement c s b.statements) (entry_of.Body b ∷ xs) xs ys a
+    (rw (is, tree-IfElseStatement c s b.statements) refl)
+    (rw (is, tree-IfElseStatement c s b.statements) (simp append_assoc refl))
 
 pub while_continues : (b : body_type.Body) (c : Expr) (xs ys : List entry.Open) → b.heading ≡ heading.Loop c → AddsTo (statement.While c b.statements) xs ys →
     Continues EndWhile (entry_of.Body b ∷ xs) ys
@@ -135,7 +135,7 @@ only_true : (b : Bool) (o : Opened) → IsTrue (is_some (only_on b o)) → b ≡
 only_true true o h = refl
 only_true false o h = absurd (cc)
 
-pub middle_continues : (o : Op) (xs : List entry.Open) → IsAllowed (Middle o) xs → Continues (Middle o) xs (RightSide o ∷ xs)
+pub middle_continues : (o : Op) (xs : List entry.Open) → IsAllowed (LogicMiddle o) xs → Continues (LogicMiddle o) xs (RightSide o ∷ xs)
 middle_continues o [] h = absurd (cc)
 middle_continues o (Value left ∷ xs) h =
     let logic : is_logic o ≡ true = only_true (is_logic o) (BeforeRight o ∷ AValue (origin_of (expr_tree left)) ∷ opened xs) h in
@@ -145,7 +145,7 @@ middle_continues o (Call ∷ xs) h = absurd (cc)
 middle_continues o (Test ∷ xs) h = absurd (cc)
 middle_continues o (entry_of.Body b ∷ xs) h = at_place b.heading h
   where
-    at_place : (g : Heading) → IsTrue (is_some (follow (Middle o) (place_of g (body_tree b.statements.items) ∷ opened xs))) → Continues (Middle o) (entry_of.Body b ∷ xs) (RightSide o ∷ entry_of.Body b ∷ xs)
+    at_place : (g : Heading) → IsTrue (is_some (follow (LogicMiddle o) (place_of g (body_tree b.statements.items) ∷ opened xs))) → Continues (LogicMiddle o) (entry_of.Body b ∷ xs) (RightSide o ∷ entry_of.Body b ∷ xs)
     at_place (heading.Function n p) k = absurd (cc)
     at_place (heading.First c) k = absurd (cc)
     at_place (heading.Second c t) k = absurd (cc)
@@ -169,19 +169,19 @@ value_is_left (Test ∷ xs) h = refl
 value_is_left (entry_of.Body b ∷ xs) h = refl
 
 -- no operator is applied right in a body
-apply_place : (o : Op) (origin : Origin) (g : Heading) (b : Body) (q : Opened) → IsTrue (is_some (follow (Apply o) (AValue origin ∷ place_of g b ∷ q))) → ⊥
+apply_place : (o : Op) (origin : Origin) (g : Heading) (b : Body) (q : Opened) → IsTrue (is_some (follow (ApplyBinop o) (AValue origin ∷ place_of g b ∷ q))) → ⊥
 apply_place o origin (heading.Function n p) b q k = absurd (cc)
 apply_place o origin (heading.First c) b q k = absurd (cc)
 apply_place o origin (heading.Second c t) b q k = absurd (cc)
 apply_place o origin (heading.Loop c) b q k = absurd (cc)
 
-apply_right : (o p : Op) (origin : Origin) (g : Heading) (b : Body) (q : Opened) → IsTrue (is_some (follow (Apply o) (AValue origin ∷ BeforeRight p ∷ place_of g b ∷ q))) → ⊥
+apply_right : (o p : Op) (origin : Origin) (g : Heading) (b : Body) (q : Opened) → IsTrue (is_some (follow (ApplyBinop o) (AValue origin ∷ BeforeRight p ∷ place_of g b ∷ q))) → ⊥
 apply_right o p origin (heading.Function n m) b q k = absurd (cc)
 apply_right o p origin (heading.First c) b q k = absurd (cc)
 apply_right o p origin (heading.Second c t) b q k = absurd (cc)
 apply_right o p origin (heading.Loop c) b q k = absurd (cc)
 
-pub left_allowed : (o : Op) (right : Expr) (xs : List entry.Open) → IsAllowed (Apply o) (Value right ∷ xs) → ends_in_value (past_middle xs) ≡ true
+pub left_allowed : (o : Op) (right : Expr) (xs : List entry.Open) → IsAllowed (ApplyBinop o) (Value right ∷ xs) → ends_in_value (past_middle xs) ≡ true
 left_allowed o right [] h = absurd (cc)
 left_allowed o right (Value left ∷ xs) h = refl
 left_allowed o right (RightSide p ∷ []) h = absurd (cc)
@@ -199,8 +199,8 @@ plain_sides o true q h = absurd (cc)
 plain_sides o false q h = refl
 
 -- without a middle
-plain_continues : (o : Op) (right left : Expr) (a b : Box Expr Global) (xs : List entry.Open) → IsAllowed (Apply o) (Value right ∷ Value left ∷ xs) → a.value ≡ left → b.value ≡ right →
-    Continues (Apply o) (Value right ∷ Value left ∷ xs) (Value (expr.Binary o a b) ∷ xs)
+plain_continues : (o : Op) (right left : Expr) (a b : Box Expr Global) (xs : List entry.Open) → IsAllowed (ApplyBinop o) (Value right ∷ Value left ∷ xs) → a.value ≡ left → b.value ≡ right →
+    Continues (ApplyBinop o) (Value right ∷ Value left ∷ xs) (Value (expr.Binary o a b) ∷ xs)
 plain_continues o right left a b xs h is_left is_right =
     let plain : is_logic o ≡ false = plain_sides o (is_logic o) (AValue Computed ∷ opened xs) h in
     record {
@@ -209,8 +209,8 @@ plain_continues o right left a b xs h is_left is_right =
     }
 
 -- with one
-logic_continues : (o p : Op) (right left : Expr) (a b : Box Expr Global) (xs : List entry.Open) → IsAllowed (Apply o) (Value right ∷ RightSide p ∷ Value left ∷ xs) → a.value ≡ left → b.value ≡ right →
-    Continues (Apply o) (Value right ∷ RightSide p ∷ Value left ∷ xs) (Value (expr.Binary o a b) ∷ xs)
+logic_continues : (o p : Op) (right left : Expr) (a b : Box Expr Global) (xs : List entry.Open) → IsAllowed (ApplyBinop o) (Value right ∷ RightSide p ∷ Value left ∷ xs) → a.value ≡ left → b.value ≡ right →
+    Continues (ApplyBinop o) (Value right ∷ RightSide p ∷ Value left ∷ xs) (Value (expr.Binary o a b) ∷ xs)
 logic_continues o p right left a b xs h is_left is_right =
     let same : same_op o p ≡ true = only_true (same_op o p) (AValue Computed ∷ opened xs) h in
     let is : o ≡ p = same_op_is o p same in
@@ -219,16 +219,16 @@ logic_continues o p right left a b xs h is_left is_right =
       adds = rw (tree-Binary o a b, is_left, is_right, is) (simp append_assoc refl);
     }
 
-pub binop_continues : (o : Op) (right left : Expr) (a b : Box Expr Global) (xs ys : List entry.Open) → IsAllowed (Apply o) (Value right ∷ xs) → past_middle xs ≡ Value left ∷ ys → a.value ≡ left → b.value ≡ right →
-    Continues (Apply o) (Value right ∷ xs) (Value (expr.Binary o a b) ∷ ys)
+pub binop_continues : (o : Op) (right left : Expr) (a b : Box Expr Global) (xs ys : List entry.Open) → IsAllowed (ApplyBinop o) (Value right ∷ xs) → past_middle xs ≡ Value left ∷ ys → a.value ≡ left → b.value ≡ right →
+    Continues (ApplyBinop o) (Value right ∷ xs) (Value (expr.Binary o a b) ∷ ys)
 binop_continues o right left a b [] ys h e is_left is_right = absurd (cc)
 binop_continues o right left a b (Value l ∷ xs) ys h e is_left is_right =
     let same : l ≡ left = cc in
     let below : xs ≡ ys = cc in
-    subst (λ zs. Continues (Apply o) (Value right ∷ Value l ∷ xs) (Value (expr.Binary o a b) ∷ zs)) below (plain_continues o right l a b xs h (is_left ∙ sym same) is_right)
+    subst (λ zs. Continues (ApplyBinop o) (Value right ∷ Value l ∷ xs) (Value (expr.Binary o a b) ∷ zs)) below (plain_continues o right l a b xs h (is_left ∙ sym same) is_right)
 binop_continues o right left a b (RightSide p ∷ xs) ys h e is_left is_right =
-    subst (λ zs. Continues (Apply o) (Value right ∷ RightSide p ∷ zs) (Value (expr.Binary o a b) ∷ ys)) (sym e)
-    (logic_continues o p right left a b ys (subst (λ zs. IsAllowed (Apply o) (Value right ∷ RightSide p ∷ zs)) e h) is_left is_right)
+    subst (λ zs. Continues (ApplyBinop o) (Value right ∷ RightSide p ∷ zs) (Value (expr.Binary o a b) ∷ ys)) (sym e)
+    (logic_continues o p right left a b ys (subst (λ zs. IsAllowed (ApplyBinop o) (Value right ∷ RightSide p ∷ zs)) e h) is_left is_right)
 binop_continues o right left a b (Call ∷ xs) ys h e is_left is_right = absurd (cc)
 binop_continues o right left a b (Test ∷ xs) ys h e is_left is_right = absurd (cc)
 binop_continues o right left a b (entry_of.Body c ∷ xs) ys h e is_left is_right = absurd (cc)

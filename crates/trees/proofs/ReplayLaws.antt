@@ -7,7 +7,7 @@ use Rattle.grammar.specs.declared.names.Callee.{Callee}
 use Rattle.grammar.specs.declared.names.Var.{Var}
 use Rattle.grammar.specs.declared.operators.Op.{Op}
 use Rattle.grammar.specs.declared.operators.StoreOp.{StoreOp}
-use Rattle.grammar.specs.Actions.{Action, Push, Put, Apply, BeginCall, EndCall, IfTest, ElsePart, EndIf, BeginWhile, WhileTest, EndWhile, GiveBack, Begin, Finish, last_return, args_actions, body_actions, expr_actions, function_actions, middle, code_length}
+use Rattle.grammar.specs.Actions.{Action, PushConstant, StoreVariable, ApplyBinop, BeginCall, EndCall, IfTest, ElsePart, EndIf, BeginWhile, WhileTest, EndWhile, GiveBack, Begin, Finish, last_return, args_actions, body_actions, expr_actions, function_actions, middle, code_length}
 use Rattle.grammar.specs.Building.{Meaning, MayFollow, StandsOpen, AppendsAll, Appends, IsOver}
 use Rattle.grammar.specs.Following.{Opened, few_open, follow, follow_all, then_follow, IsBeginning}
 use Rattle.grammar.specs.Profile.{Profile}
@@ -23,7 +23,7 @@ use Rattle.trees.specs.declared.tree.Function.{Function}
 use Rattle.trees.specs.declared.tree.Statement.{Statement}
 use Rattle.trees.specs.declared.tree.Statement.TheVariants as statement
 use Rattle.trees.proofs.StandingLaws.{follow_inside, code_length-append}
-use Rattle.trees.proofs.TreeLaws.{Tells, tells_arguments, tells_functions, tells_last, tells_split, tells_statements, tree-Binary, tree-Assign, tree-Call, tree-When, tree-Choose, tree-While}
+use Rattle.trees.proofs.TreeLaws.{Tells, tells_arguments, tells_functions, tells_last, tells_split, tells_statements, tree-Binary, tree-Assign, tree-Call, tree-IfStatement, tree-IfElseStatement, tree-While}
 
 -- what begins actions that may follow may follow
 begins_front : (xs ys : List Action) (o : Opened) → IsTrue (is_some (follow_all (xs ++ ys) o)) → IsTrue (is_some (follow_all xs o))
@@ -72,8 +72,8 @@ over_then before behind xs ys added over p acts s =
 pub may_next : (before behind : Meaning) (x : Action) (xs : List Action) → Appends before behind x → MayFollowAll before (x ∷ xs) → MayFollowAll behind xs
 may_next before behind x xs added may = may_then before behind (x ∷ []) xs added may
 
-pub may_return : (before : Meaning) → MayFollowAll before last_return → MayFollow before (Push (pos 0))
-may_return before may = may_first before (Push (pos 0)) (GiveBack ∷ []) may
+pub may_return : (before : Meaning) → MayFollowAll before last_return → MayFollow before (PushConstant (pos 0))
+may_return before may = may_first before (PushConstant (pos 0)) (GiveBack ∷ []) may
 
 pub over_finish : (before : Meaning) (v : ℕ) → IsOver before → IsOverWith before (Finish v ∷ [])
 over_finish before v over p acts s = omega (arith, over p acts s, code_length-append p acts (Finish v ∷ []))
@@ -81,26 +81,26 @@ over_finish before v over p acts s = omega (arith, over p acts s, code_length-ap
 -- The actions of each kind of expression and statement.
 
 pub actions-Binary : (e : Expr) (op : Op) (a b : Box Expr Global) → e ≡ expr.Binary op a b →
-    expr_actions (expr_tree e) ≡ expr_actions (expr_tree a.value) ++ (middle op ++ (expr_actions (expr_tree b.value) ++ Apply op ∷ []))
+    expr_actions (expr_tree e) ≡ expr_actions (expr_tree a.value) ++ (middle op ++ (expr_actions (expr_tree b.value) ++ ApplyBinop op ∷ []))
 actions-Binary e op a b is = ap (λ e. expr_actions (expr_tree e)) is ∙ ap expr_actions (tree-Binary op a b)
 
 pub actions-Assign : (e : Expr) (op : StoreOp) (v : Var) (a : Box Expr Global) → e ≡ expr.Assign op v a →
-    expr_actions (expr_tree e) ≡ expr_actions (expr_tree a.value) ++ Put v op ∷ []
+    expr_actions (expr_tree e) ≡ expr_actions (expr_tree a.value) ++ StoreVariable v op ∷ []
 actions-Assign e op v a is = ap (λ e. expr_actions (expr_tree e)) is ∙ ap expr_actions (tree-Assign op v a)
 
 pub actions-Call : (e : Expr) (callee : Callee) (es : Vec Expr Global) → e ≡ expr.Call callee es →
     expr_actions (expr_tree e) ≡ BeginCall ∷ (args_actions (arguments (map expr_tree es.items)) ++ EndCall callee ∷ [])
 actions-Call e callee es is = ap (λ e. expr_actions (expr_tree e)) is ∙ ap expr_actions (tree-Call callee es)
 
-pub actions-When : (s : Statement) (c : Expr) (t : Vec Statement Global) → s ≡ statement.When c t →
+pub actions-IfStatement : (s : Statement) (c : Expr) (t : Vec Statement Global) → s ≡ statement.IfStatement c t →
     statement_actions s ≡ (expr_actions (expr_tree c) ++ IfTest ∷ []) ++ (body_actions (body_tree t.items) ++ EndIf ∷ [])
-actions-When s c t is =
-    ap statement_actions is ∙ ap (λ f. body_actions (f Done)) (tree-When c t) ∙ sym (append_assoc (expr_actions (expr_tree c)) (IfTest ∷ []) (body_actions (body_tree t.items) ++ EndIf ∷ []))
+actions-IfStatement s c t is =
+    ap statement_actions is ∙ ap (λ f. body_actions (f Done)) (tree-IfStatement c t) ∙ sym (append_assoc (expr_actions (expr_tree c)) (IfTest ∷ []) (body_actions (body_tree t.items) ++ EndIf ∷ []))
 
-pub actions-Choose : (s : Statement) (c : Expr) (t u : Vec Statement Global) → s ≡ statement.Choose c t u →
+pub actions-IfElseStatement : (s : Statement) (c : Expr) (t u : Vec Statement Global) → s ≡ statement.IfElseStatement c t u →
     statement_actions s ≡ (expr_actions (expr_tree c) ++ IfTest ∷ []) ++ (body_actions (body_tree t.items) ++ ElsePart ∷ (body_actions (body_tree u.items) ++ EndIf ∷ []))
-actions-Choose s c t u is =
-    ap statement_actions is ∙ ap (λ f. body_actions (f Done)) (tree-Choose c t u)
+actions-IfElseStatement s c t u is =
+    ap statement_actions is ∙ ap (λ f. body_actions (f Done)) (tree-IfElseStatement c t u)
     ∙ sym (append_assoc (expr_actions (expr_tree c)) (IfTest ∷ []) (body_actions (body_tree t.items) ++ ElsePart ∷ (body_actions (body_tree u.items) ++ EndIf ∷ [])))
 
 pub actions-While : (s : Statement) (c : Expr) (t : Vec Statement Global) → s ≡ statement.While c t →

@@ -4,7 +4,7 @@ use Rattle.std.proofs.lemmas.Bool.Decides.{nat_tests}
 use Rattle.std.proofs.lemmas.Result.{on_ok_weaker}
 use Rattle.std.specs.Prelude.{if◌then◌else◌, Option, Some, None, IsTrue, is_some, nat_lt, nat_le, Result, OnOk}
 use Rattle.grammar.specs.declared.build.BuildFault.{BuildFault}
-use Rattle.grammar.specs.Actions.{Action, Push, Get, Put, Apply, Middle, BeginCall, EndCall, IfTest, ElsePart, EndIf, BeginWhile, WhileTest, EndWhile, GiveBack, Chop, Begin, Finish, instructions, code_length}
+use Rattle.grammar.specs.Actions.{Action, PushConstant, FetchVariable, StoreVariable, ApplyBinop, LogicMiddle, BeginCall, EndCall, IfTest, ElsePart, EndIf, BeginWhile, WhileTest, EndWhile, GiveBack, Chop, Begin, Finish, instructions, code_length}
 use Rattle.grammar.specs.Building.{MayFollow, Appends, FitsWithin, IsOver}
 use Rattle.grammar.specs.Following.{Open, InFunction, AValue, BeforeRight, InCall, InBranch, InElse, BeforeTest, InTurn, Opened, Computed, few_open, follow, follow_all, then_follow, within, only_on, is_place, statement_done, call_done, is_var_numbered, is_callee_numbered}
 use Rattle.grammar.specs.Operators.{is_logic}
@@ -99,15 +99,15 @@ done_open returned (x ∷ o) p e = only_open (is_place (x ∷ o)) (x ∷ o) p e 
 
 -- an action that ends no function leaves one open
 stays_open : (a : Action) (o p : Opened) → in_function true (a ∷ []) ≡ true → follow a o ≡ Some p → is_open p ≡ true
-stays_open (Push value) o p h e = within_open _ o p e
-stays_open (Get v) o p h e = within_open _ o p (guarded_is (is_var_numbered v) _ p e)
-stays_open (Put v op) (AValue origin ∷ o) p h e = only_open _ _ p e refl
-stays_open (Put v op) o p h e = absurd (cc)
-stays_open (Apply op) (AValue right ∷ AValue left ∷ o) p h e = some_open _ p (unless_is (is_logic op) _ p e) refl
-stays_open (Apply op) (AValue right ∷ BeforeRight q ∷ AValue left ∷ o) p h e = only_open _ _ p e refl
-stays_open (Apply op) o p h e = absurd (cc)
-stays_open (Middle op) (AValue left ∷ o) p h e = only_open _ _ p e refl
-stays_open (Middle op) o p h e = absurd (cc)
+stays_open (PushConstant value) o p h e = within_open _ o p e
+stays_open (FetchVariable v) o p h e = within_open _ o p (guarded_is (is_var_numbered v) _ p e)
+stays_open (StoreVariable v op) (AValue origin ∷ o) p h e = only_open _ _ p e refl
+stays_open (StoreVariable v op) o p h e = absurd (cc)
+stays_open (ApplyBinop op) (AValue right ∷ AValue left ∷ o) p h e = some_open _ p (unless_is (is_logic op) _ p e) refl
+stays_open (ApplyBinop op) (AValue right ∷ BeforeRight q ∷ AValue left ∷ o) p h e = only_open _ _ p e refl
+stays_open (ApplyBinop op) o p h e = absurd (cc)
+stays_open (LogicMiddle op) (AValue left ∷ o) p h e = only_open _ _ p e refl
+stays_open (LogicMiddle op) o p h e = absurd (cc)
 stays_open BeginCall o p h e = within_open _ o p e
 stays_open (EndCall callee) o p h e = call_open o p (guarded_is (is_callee_numbered callee) _ p e)
 stays_open IfTest (AValue condition ∷ o) p h e = only_open _ _ p e refl
@@ -134,19 +134,19 @@ stays_open (Finish variables) o p h e = absurd (cc)
 -- where nothing is open only a function begins
 opens_first : (a : Action) (p : Opened) → follow a [] ≡ Some p → (in_function false (a ∷ []) ≡ true) × (in_function true (a ∷ []) ≡ true)
 opens_first (Begin number parameters) p e = (refl, refl)
-opens_first (Get v) p e = let no : None ≡ Some p = guarded_is (is_var_numbered v) None p e in absurd (cc)
+opens_first (FetchVariable v) p e = let no : None ≡ Some p = guarded_is (is_var_numbered v) None p e in absurd (cc)
 opens_first (EndCall callee) p e = let no : None ≡ Some p = guarded_is (is_callee_numbered callee) None p e in absurd (cc)
 opens_first a p e = absurd (cc)
 
 -- an action that ends a function leaves nothing open
-shuts : (a : Action) (o p : Opened) → in_function true (a ∷ []) ≡ false → follow a o ≡ Some p → is_open p ≡ false
-shuts (Finish variables) (InFunction parameters true ∷ []) p h e = nothing _ e
+closes : (a : Action) (o p : Opened) → in_function true (a ∷ []) ≡ false → follow a o ≡ Some p → is_open p ≡ false
+closes (Finish variables) (InFunction parameters true ∷ []) p h e = nothing _ e
   where
     nothing : (b : Bool) → only_on b [] ≡ Some p → is_open p ≡ false
     nothing true k = let same : [] ≡ p = cc in subst (λ o. is_open o ≡ false) same refl
     nothing false k = absurd (cc)
-shuts (Finish variables) o p h e = absurd (cc)
-shuts a o p h e = absurd (cc)
+closes (Finish variables) o p h e = absurd (cc)
+closes a o p h e = absurd (cc)
 
 action_inside : (a : Action) (o p : Opened) → follow a o ≡ Some p → in_function (is_open o) (a ∷ []) ≡ is_open p
 action_inside a [] p e = let first = opens_first a p e in first.0 ∙ sym (stays_open a [] p first.1 e)
@@ -154,7 +154,7 @@ action_inside a (x ∷ o) p e = by_end (in_function true (a ∷ [])) refl
   where
     by_end : (b : Bool) → in_function true (a ∷ []) ≡ b → b ≡ is_open p
     by_end true h = sym (stays_open a (x ∷ o) p h e)
-    by_end false h = sym (shuts a (x ∷ o) p h e)
+    by_end false h = sym (closes a (x ∷ o) p h e)
 
 inside_cons : (b : Bool) (a : Action) (acts : List Action) → in_function b (a ∷ acts) ≡ in_function (in_function b (a ∷ [])) acts
 inside_cons b (Begin number parameters) acts = refl
@@ -248,8 +248,8 @@ ends m n v f by k same counted fits may p acts s =
     let before : Fits m = omega (arith, few_code, counted, fits) in
     let b : Builds m acts = s.builds before in
     let next : Next (Finish v) (opened m.stack) = next_of m (Finish v) before may in
-    let shut : is_open next.behind ≡ false = shuts (Finish v) (opened m.stack) next.behind refl next.is in
-    let nothing : next.behind ≡ opened n.stack = rw k.nothing (shut_is next.behind shut) in
+    let close : is_open next.behind ≡ false = closes (Finish v) (opened m.stack) next.behind refl next.is in
+    let nothing : next.behind ≡ opened n.stack = rw k.nothing (close_is next.behind close) in
     let limit = ap (λ (p : Profile). p.instructions) by in
     record {
       profile = s.profile ∙ sym by;
@@ -262,9 +262,9 @@ ends m n v f by k same counted fits may p acts s =
       passed = λ over. absurd (omega (arith, limit, over, fits));
     }
   where
-    shut_is : (o : Opened) → is_open o ≡ false → o ≡ []
-    shut_is [] h = refl
-    shut_is (x ∷ o) h = absurd (cc)
+    close_is : (o : Opened) → is_open o ≡ false → o ≡ []
+    close_is [] h = refl
+    close_is (x ∷ o) h = absurd (cc)
 
 pub fits_within : (m : Kept) → m.code < m.profile.instructions → FitsWithin (λ p acts. Stands m p acts)
 fits_within m fits p acts s =

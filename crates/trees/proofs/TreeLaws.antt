@@ -32,14 +32,14 @@ tree-Postfix op v = ap expr_tree (sym (expr.rolls-Postfix op v)) ∙ fold-roll-E
 pub tree-Call : (callee : Callee) (es : Vec Expr Global) → expr_tree (expr.Call callee es) ≡ tree.Call callee (arguments (map expr_tree es.items))
 tree-Call callee es = ap expr_tree (sym (expr.rolls-Call callee es)) ∙ fold-roll-Expr tree.Expr expr_node (Expr-F.Call callee es)
 
-pub tree-Alone : (e : Expr) → statement_tree (statement.Alone e) ≡ (λ rest. tree.Alone (expr_tree e) rest)
-tree-Alone e = ap statement_tree (sym (statement.rolls-Alone e)) ∙ fold-roll-Statement (Body → Body) statement_node (Statement-F.Alone e)
+pub tree-ExpressionStatement : (e : Expr) → statement_tree (statement.ExpressionStatement e) ≡ (λ rest. tree.ExpressionStatement (expr_tree e) rest)
+tree-ExpressionStatement e = ap statement_tree (sym (statement.rolls-ExpressionStatement e)) ∙ fold-roll-Statement (Body → Body) statement_node (Statement-F.ExpressionStatement e)
 
-pub tree-When : (c : Expr) (s : Vec Statement Global) → statement_tree (statement.When c s) ≡ (λ rest. tree.When (expr_tree c) (body_tree s.items) rest)
-tree-When c s = ap statement_tree (sym (statement.rolls-When c s)) ∙ fold-roll-Statement (Body → Body) statement_node (Statement-F.When c s)
+pub tree-IfStatement : (c : Expr) (s : Vec Statement Global) → statement_tree (statement.IfStatement c s) ≡ (λ rest. tree.IfStatement (expr_tree c) (body_tree s.items) rest)
+tree-IfStatement c s = ap statement_tree (sym (statement.rolls-IfStatement c s)) ∙ fold-roll-Statement (Body → Body) statement_node (Statement-F.IfStatement c s)
 
-pub tree-Choose : (c : Expr) (s t : Vec Statement Global) → statement_tree (statement.Choose c s t) ≡ (λ rest. tree.Choose (expr_tree c) (body_tree s.items) (body_tree t.items) rest)
-tree-Choose c s t = ap statement_tree (sym (statement.rolls-Choose c s t)) ∙ fold-roll-Statement (Body → Body) statement_node (Statement-F.Choose c s t)
+pub tree-IfElseStatement : (c : Expr) (s t : Vec Statement Global) → statement_tree (statement.IfElseStatement c s t) ≡ (λ rest. tree.IfElseStatement (expr_tree c) (body_tree s.items) (body_tree t.items) rest)
+tree-IfElseStatement c s t = ap statement_tree (sym (statement.rolls-IfElseStatement c s t)) ∙ fold-roll-Statement (Body → Body) statement_node (Statement-F.IfElseStatement c s t)
 
 pub tree-While : (c : Expr) (s : Vec Statement Global) → statement_tree (statement.While c s) ≡ (λ rest. tree.While (expr_tree c) (body_tree s.items) rest)
 tree-While c s = ap statement_tree (sym (statement.rolls-While c s)) ∙ fold-roll-Statement (Body → Body) statement_node (Statement-F.While c s)
@@ -72,10 +72,10 @@ tells_last acts told tells (y ∷ xs) x =
 -- The first of some statements.
 
 node_first : (x : Statement-F (Body → Body)) (rest : Body) → body_actions (statement_node x rest) ≡ body_actions (statement_node x Done) ++ body_actions rest
-node_first (Statement-F.Alone e) rest = sym (append_assoc (expr_actions (expr_tree e)) (Chop ∷ []) (body_actions rest))
-node_first (Statement-F.When c s) rest =
+node_first (Statement-F.ExpressionStatement e) rest = sym (append_assoc (expr_actions (expr_tree e)) (Chop ∷ []) (body_actions rest))
+node_first (Statement-F.IfStatement c s) rest =
     simp append_assoc refl
-node_first (Statement-F.Choose c s t) rest =
+node_first (Statement-F.IfElseStatement c s t) rest =
     simp append_assoc refl
 node_first (Statement-F.While c s) rest =
     simp append_assoc refl
@@ -115,9 +115,9 @@ abbrev pub returns_zero : Statement → Bool
 returns_zero s = ends_in_return false (statement_tree s Done)
 
 node_ends : (x : Statement-F (Body → Body)) (b c : Bool) (rest : Body) → ends_in_return b (statement_node x rest) ≡ ends_in_return (ends_in_return c (statement_node x Done)) rest
-node_ends (Statement-F.Alone e) b c rest = refl
-node_ends (Statement-F.When e s) b c rest = refl
-node_ends (Statement-F.Choose e s t) b c rest = refl
+node_ends (Statement-F.ExpressionStatement e) b c rest = refl
+node_ends (Statement-F.IfStatement e s) b c rest = refl
+node_ends (Statement-F.IfElseStatement e s t) b c rest = refl
 node_ends (Statement-F.While e s) b c rest = refl
 node_ends (Statement-F.Return e) b c rest = refl
 
@@ -146,9 +146,9 @@ number_is n (tree.Postfix op v) h = absurd (cc)
 number_is n (tree.Call f es) h = absurd (cc)
 
 node_returns : (x : Statement-F (Body → Body)) → ends_in_return false (statement_node x Done) ≡ true → body_actions (statement_node x Done) ≡ last_return
-node_returns (Statement-F.Alone e) h = absurd (cc)
-node_returns (Statement-F.When e s) h = absurd (cc)
-node_returns (Statement-F.Choose e s t) h = absurd (cc)
+node_returns (Statement-F.ExpressionStatement e) h = absurd (cc)
+node_returns (Statement-F.IfStatement e s) h = absurd (cc)
+node_returns (Statement-F.IfElseStatement e s t) h = absurd (cc)
 node_returns (Statement-F.While e s) h = absurd (cc)
 node_returns (Statement-F.Return e) h = ap (λ t. expr_actions t ++ GiveBack ∷ []) (number_is 0 (expr_tree e) h)
 

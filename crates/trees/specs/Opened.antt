@@ -2,7 +2,7 @@
 use Rattle.std.specs.Prelude.{ℕ, ◌≡◌, List, [], ◌∷◌, ◌++◌, Bool, false, Some, is_some, IsTrue}
 use Rattle.grammar.specs.Actions.{Action, BeginCall, IfTest, ElsePart, BeginWhile, WhileTest, Begin, Finish, expr_actions, body_actions, function_actions, middle}
 use Rattle.grammar.specs.Following.{Open, InFunction, AValue, BeforeRight, InCall, InBranch, InElse, BeforeTest, InTurn, Opened, Origin, Number, Fetched, Computed, stored, is_number, follow}
-use Rattle.grammar.specs.Tree.{Expr, Constant, Variable, Binary, Assign, Postfix, Call, Body, Done, Alone, When, Choose, While, Return}
+use Rattle.grammar.specs.Tree.{Expr, Constant, Variable, Binary, Assign, Postfix, Call, Body, Done, ExpressionStatement, IfStatement, IfElseStatement, While, Return}
 use Rattle.trees.specs.Trees.{expr_tree, body_tree, function_tree}
 use Rattle.trees.specs.declared.tree.Function.{Function}
 use Rattle.trees.specs.declared.stack.Heading.{Heading}
@@ -22,9 +22,9 @@ origin_of (Call f args) = Computed
 -- whether the last of these statements is `return 0;`
 abbrev pub ends_in_return : Bool → Body → Bool
 ends_in_return before Done = before
-ends_in_return before (Alone e rest) = ends_in_return false rest
-ends_in_return before (When c s rest) = ends_in_return false rest
-ends_in_return before (Choose c s t rest) = ends_in_return false rest
+ends_in_return before (ExpressionStatement e rest) = ends_in_return false rest
+ends_in_return before (IfStatement c s rest) = ends_in_return false rest
+ends_in_return before (IfElseStatement c s t rest) = ends_in_return false rest
 ends_in_return before (While c s rest) = ends_in_return false rest
 ends_in_return before (Return e rest) = ends_in_return (is_number 0 (origin_of e)) rest
 
@@ -51,7 +51,8 @@ opened (x ∷ xs) = open_of x ∷ opened xs
 abbrev pub heading_actions : Heading → List Action
 heading_actions (heading.Function number parameters) = Begin number parameters ∷ []
 heading_actions (heading.First c) = expr_actions (expr_tree c) ++ IfTest ∷ []
-heading_actions (heading.Second c s) = expr_actions (expr_tree c) ++ IfTest ∷ (body_actions (body_tree s.items) ++ ElsePart ∷ [])
+heading_actions (heading.Second c s) = expr_actions (expr_tree c)
+    ++ IfTest ∷ (body_actions (body_tree s.items) ++ ElsePart ∷ [])
 heading_actions (heading.Loop c) = BeginWhile ∷ (expr_actions (expr_tree c) ++ WhileTest ∷ [])
 
 abbrev pub entry_actions : entry.Open → List Action

@@ -20,12 +20,15 @@ pub record StandsForNone (before : Meaning) : Type 0 where
 
 -- behind these actions the code and the last NOP pass the profile's limit
 abbrev pub IsOverWith : Meaning → List Action → Type 0
-IsOverWith before more = (profile : Profile) (acts : List Action) → before profile acts → profile.instructions < code_length profile (acts ++ more) + 1
+IsOverWith before more = (profile : Profile) (acts : List Action) → before profile acts
+    → profile.instructions < code_length profile (acts ++ more) + 1
 
 -- each list stood for before is stood for with the actions that the maker stands for
 abbrev pub AppendsThose : Kept → Meaning → Meaning → Type 0
-AppendsThose maker before behind = (profile : Profile) (acts : List Action) → Stands maker profile acts → AppendsAll before behind acts
+AppendsThose maker before behind = (profile : Profile) (acts : List Action) → Stands maker profile acts
+    → AppendsAll before behind acts
 
 -- with the actions that the maker stands for, the code passes the limit
 abbrev pub IsOverWithThose : Kept → Meaning → Type 0
-IsOverWithThose maker before = (profile : Profile) (acts : List Action) → Stands maker profile acts → IsOverWith before acts
+IsOverWithThose maker before = (profile : Profile) (acts : List Action) → Stands maker profile acts
+    → IsOverWith before acts

@@ -8,7 +8,8 @@ use Rattle.trees.specs.Trees.{made_actions}
 use Rattle.trees.specs.declared.stack.Open.{Open}
 use Rattle.trees.specs.declared.tree.Function.{Function}
 
--- what a maker keeps: its profile, the functions that are done, what is open, the innermost first, and how many instructions
+-- what a maker keeps: its profile, the functions that are done, what is open, the innermost first, and how many
+-- instructions
 -- it counted
 pub record Kept : Type 0 where
   pub profile : Profile
@@ -38,7 +39,8 @@ pub record Passed (p : Profile) (acts : List Action) : Type 0 where
   pub over : p.instructions < code_length p acts + 1
   pub inside : in_function false acts ≡ true
 
--- A maker represents these actions by its profile: within the limit its trees have them, and past it only the code counts.
+-- A maker represents these actions by its profile: within the limit its trees have them, and past it only the code
+-- counts.
 pub record Stands (m : Kept) (p : Profile) (acts : List Action) : Type 0 where
   pub profile : p ≡ m.profile
   pub known : IsProfile m.profile

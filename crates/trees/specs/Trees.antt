@@ -31,9 +31,10 @@ in_order [] = Done
 in_order (s ∷ ss) = s (in_order ss)
 
 abbrev pub statement_node : Statement-F (Body → Body) → Body → Body
-statement_node (Statement-F.Alone e) rest = tree.Alone (expr_tree e) rest
-statement_node (Statement-F.When c s) rest = tree.When (expr_tree c) (in_order s.items) rest
-statement_node (Statement-F.Choose c s t) rest = tree.Choose (expr_tree c) (in_order s.items) (in_order t.items) rest
+statement_node (Statement-F.ExpressionStatement e) rest = tree.ExpressionStatement (expr_tree e) rest
+statement_node (Statement-F.IfStatement c s) rest = tree.IfStatement (expr_tree c) (in_order s.items) rest
+statement_node (Statement-F.IfElseStatement c s t) rest = tree.IfElseStatement (expr_tree c) (in_order s.items)
+    (in_order t.items) rest
 statement_node (Statement-F.While c s) rest = tree.While (expr_tree c) (in_order s.items) rest
 statement_node (Statement-F.Return e) rest = tree.Return (expr_tree e) rest
 
@@ -51,7 +52,12 @@ body_tree ss = in_order (map statement_tree ss)
 
 -- the tree of a function, whose names aren't known
 abbrev pub function_tree : Function → tree.Function
-function_tree f = record { name = []; parameters = f.parameters; variables = replicate f.variables []; body = body_tree f.body.items }
+function_tree f = record {
+  name = [];
+  parameters = f.parameters;
+  variables = replicate f.variables [];
+  body = body_tree f.body.items;
+}
 
 -- the actions of functions, one behind another
 abbrev pub made_actions : List Function → List Action

@@ -1,7 +1,7 @@
 //! The builder that makes trees.
 
 ghost use Rattle.std.specs.Prelude.{◌≡◌, ◌+◌, [], min, nat_le, true};
-ghost use Rattle.grammar.specs.Actions.{Apply, Middle, instructions};
+ghost use Rattle.grammar.specs.Actions.{ApplyBinop, LogicMiddle, instructions};
 ghost use Rattle.trees.specs.Standing.{Stands};
 
 use crate::memory::put;
@@ -14,7 +14,8 @@ use std::marker::Model;
 /// Makes the tree of each function that it is told.
 ///
 /// It asks its allocator for memory, and answers `Memory` where a request is refused.
-/// Once the code and the final NOP pass the profile's instructions, it makes no more trees, and the end of that function
+/// Once the code and the final NOP pass the profile's instructions, it makes no more trees, and the end of that
+/// function
 /// answers `Full`.
 #[derive(Drop)]
 pub struct TreeMaker {
@@ -73,7 +74,7 @@ impl TreeMaker {
 
 // How many instructions stand between the sides of an operator.
 fn middle_length(profile: Profile, op: Op) -> u16
-    ensures { result ≡ instructions profile (Middle op) }
+    ensures { result ≡ instructions profile (LogicMiddle op) }
 {
     if !profile.short_circuit() {
         return 0;
@@ -87,7 +88,7 @@ fn middle_length(profile: Profile, op: Op) -> u16
 
 // How many stand at the end of its right side.
 fn end_length(profile: Profile, op: Op) -> u16
-    ensures { result ≡ instructions profile (Apply op) }
+    ensures { result ≡ instructions profile (ApplyBinop op) }
 {
     if !profile.short_circuit() {
         return 1;

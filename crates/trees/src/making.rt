@@ -1,7 +1,7 @@
 //! The trees that each action makes of what is open.
 
 ghost use Rattle.std.specs.Prelude.{◌≡◌, OnOk, true};
-ghost use Rattle.grammar.specs.Actions.{Push, Get, Put, Apply, Middle, BeginCall, EndCall, IfTest, ElsePart, EndIf, BeginWhile, WhileTest, EndWhile, GiveBack, Chop, Begin, Finish};
+ghost use Rattle.grammar.specs.Actions.{PushConstant, FetchVariable, StoreVariable, ApplyBinop, LogicMiddle, BeginCall, EndCall, IfTest, ElsePart, EndIf, BeginWhile, WhileTest, EndWhile, GiveBack, Chop, Begin, Finish};
 ghost use Rattle.grammar.specs.Building.{Refuses};
 ghost use Rattle.trees.specs.Opened.{Continues, Ends, IsAllowed};
 ghost use Rattle.trees.specs.Stacks.{without_last};
@@ -14,8 +14,8 @@ use grammar::{BuildFault, Callee, Op, StoreOp, Var};
 impl Stack {
     /// A constant is the next value.
     pub fn constant(&mut self, value: i32) -> Result<(), BuildFault>
-        requires { IsAllowed (Push value) self.old }
-        ensures ok { OnOk result (Continues (Push value) self.old self.new) }
+        requires { IsAllowed (PushConstant value) self.old }
+        ensures ok { OnOk result (Continues (PushConstant value) self.old self.new) }
         ensures memory { Refuses result true }
     {
         self.push(Open::Value(Expr::Constant(value)))
@@ -23,8 +23,8 @@ impl Stack {
 
     /// The value of a variable is the next value.
     pub fn fetch(&mut self, var: Var) -> Result<(), BuildFault>
-        requires { IsAllowed (Get var) self.old }
-        ensures ok { OnOk result (Continues (Get var) self.old self.new) }
+        requires { IsAllowed (FetchVariable var) self.old }
+        ensures ok { OnOk result (Continues (FetchVariable var) self.old self.new) }
         ensures memory { Refuses result true }
     {
         self.push(Open::Value(Expr::Variable(var)))
@@ -32,8 +32,8 @@ impl Stack {
 
     /// The last value is stored in a variable.
     pub fn store(&mut self, var: Var, op: StoreOp) -> Result<(), BuildFault>
-        requires { IsAllowed (Put var op) self.old }
-        ensures ok { OnOk result (Continues (Put var op) self.old self.new) }
+        requires { IsAllowed (StoreVariable var op) self.old }
+        ensures ok { OnOk result (Continues (StoreVariable var op) self.old self.new) }
         ensures memory { Refuses result true }
     {
         let right = self.value();
@@ -43,8 +43,8 @@ impl Stack {
 
     /// The last two values are the sides of an operator.
     pub fn binop(&mut self, op: Op) -> Result<(), BuildFault>
-        requires { IsAllowed (Apply op) self.old }
-        ensures ok { OnOk result (Continues (Apply op) self.old self.new) }
+        requires { IsAllowed (ApplyBinop op) self.old }
+        ensures ok { OnOk result (Continues (ApplyBinop op) self.old self.new) }
         ensures memory { Refuses result true }
     {
         let right = self.value();
@@ -56,8 +56,8 @@ impl Stack {
 
     /// The right side of `&&` or `||` follows.
     pub fn logic_middle(&mut self, op: Op) -> Result<(), BuildFault>
-        requires { IsAllowed (Middle op) self.old }
-        ensures ok { OnOk result (Continues (Middle op) self.old self.new) }
+        requires { IsAllowed (LogicMiddle op) self.old }
+        ensures ok { OnOk result (Continues (LogicMiddle op) self.old self.new) }
         ensures memory { Refuses result true }
     {
         self.push(Open::RightSide(op))
@@ -119,9 +119,9 @@ impl Stack {
             statements,
         } = self.body();
         match heading {
-            Heading::First(condition) => self.add(Statement::When(condition, statements)),
+            Heading::First(condition) => self.add(Statement::IfStatement(condition, statements)),
             Heading::Second(condition, first) => {
-                self.add(Statement::Choose(condition, first, statements))
+                self.add(Statement::IfElseStatement(condition, first, statements))
             }
             _ => unreachable!(),
         }
@@ -173,7 +173,8 @@ impl Stack {
         self.add(Statement::Return(value))
     }
 
-    /// The last value is dropped: that of a statement, or, where two values stand open side by side, the new one of `v++` or `v--`.
+    /// The last value is dropped: that of a statement, or, where two values stand open side by side, the new one of
+    /// `v++` or `v--`.
     pub fn chop(&mut self) -> Result<(), BuildFault>
         requires { IsAllowed Chop self.old }
         ensures ok { OnOk result (Continues Chop self.old self.new) }
@@ -181,7 +182,7 @@ impl Stack {
     {
         let value = self.value();
         if !self.ends_in_value() {
-            return self.add(Statement::Alone(value));
+            return self.add(Statement::ExpressionStatement(value));
         }
         let Expr::Assign(op, var, _) = value else {
             unreachable!()

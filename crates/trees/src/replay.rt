@@ -1,7 +1,7 @@
 //! Tells the trees to a builder, action by action.
 
 ghost use Rattle.std.specs.Prelude.{ℤ, pos, [], ◌∷◌, ◌++◌, IsErrOf, IsTrue, OnOk, map};
-ghost use Rattle.grammar.specs.Actions.{BeginWhile, Chop, Get, GiveBack, IfTest, Push, Put, WhileTest, args_actions, body_actions, expr_actions, function_actions, last_return, middle};
+ghost use Rattle.grammar.specs.Actions.{BeginWhile, Chop, FetchVariable, GiveBack, IfTest, PushConstant, StoreVariable, WhileTest, args_actions, body_actions, expr_actions, function_actions, last_return, middle};
 ghost use Rattle.grammar.specs.Building.{AppendsAll, Refuses, StandsOpen};
 ghost use Rattle.trees.specs.Replaying.{AppendsThose, IsOverWith, IsOverWithThose, MayFollowAll, StandsForNone};
 ghost use Rattle.trees.specs.Standing.{Stands};
@@ -34,8 +34,10 @@ impl TreeMaker {
 // Tells a function, with the `return 0;` at its end.
 fn tell_function<B: Build>(function: &Function, build: &mut B) -> Result<(), BuildFault>
     requires { MayFollowAll (B.stands build.old) (function_actions function.now.number (function_tree function.now)) }
-    ensures ok { OnOk result (AppendsAll (B.stands build.old) (B.stands build.new) (function_actions function.now.number (function_tree function.now))) }
-    ensures full { IsErrOf result BuildFault.Full → IsOverWith (B.stands build.old) (function_actions function.now.number (function_tree function.now)) }
+    ensures ok { OnOk result (AppendsAll (B.stands build.old) (B.stands build.new)
+        (function_actions function.now.number (function_tree function.now))) }
+    ensures full { IsErrOf result BuildFault.Full
+        → IsOverWith (B.stands build.old) (function_actions function.now.number (function_tree function.now)) }
     ensures memory { IsErrOf result BuildFault.Memory → IsTrue B.allocates }
 {
     build.begin_function(function.number, function.parameters)?;
@@ -59,7 +61,8 @@ fn tell_last_return<B: Build>(build: &mut B) -> Result<(), BuildFault>
 #[cycle(statements)]
 fn tell_statements<B: Build>(statements: &[Statement], build: &mut B) -> Result<(), BuildFault>
     requires { MayFollowAll (B.stands build.old) (body_actions (body_tree statements.now)) }
-    ensures ok { OnOk result (AppendsAll (B.stands build.old) (B.stands build.new) (body_actions (body_tree statements.now))) }
+    ensures ok { OnOk result (AppendsAll (B.stands build.old) (B.stands build.new)
+        (body_actions (body_tree statements.now))) }
     ensures memory { Refuses result B.allocates }
 {
     for statement in statements {
@@ -76,13 +79,13 @@ fn tell_statement<B: Build>(statement: &Statement, build: &mut B) -> Result<(), 
     ensures memory { Refuses result B.allocates }
 {
     match statement {
-        Statement::Alone(expr) => tell_alone(expr, build),
-        Statement::When(condition, branch) => {
+        Statement::ExpressionStatement(expr) => tell_alone(expr, build),
+        Statement::IfStatement(condition, branch) => {
             tell_test(condition, build)?;
             tell_statements(branch, build)?;
             build.end_if()
         }
-        Statement::Choose(condition, first, second) => {
+        Statement::IfElseStatement(condition, first, second) => {
             tell_test(condition, build)?;
             tell_statements(first, build)?;
             build.else_part()?;
@@ -101,7 +104,8 @@ fn tell_statement<B: Build>(statement: &Statement, build: &mut B) -> Result<(), 
 // Tells an expression whose value is dropped.
 fn tell_alone<B: Build>(expr: &Expr, build: &mut B) -> Result<(), BuildFault>
     requires { MayFollowAll (B.stands build.old) (expr_actions (expr_tree expr.now) ++ Chop ∷ []) }
-    ensures ok { OnOk result (AppendsAll (B.stands build.old) (B.stands build.new) (expr_actions (expr_tree expr.now) ++ Chop ∷ [])) }
+    ensures ok { OnOk result (AppendsAll (B.stands build.old) (B.stands build.new)
+        (expr_actions (expr_tree expr.now) ++ Chop ∷ [])) }
     ensures memory { Refuses result B.allocates }
 {
     tell_expr(expr, build)?;
@@ -111,7 +115,8 @@ fn tell_alone<B: Build>(expr: &Expr, build: &mut B) -> Result<(), BuildFault>
 // Tells the condition of an `if`.
 fn tell_test<B: Build>(condition: &Expr, build: &mut B) -> Result<(), BuildFault>
     requires { MayFollowAll (B.stands build.old) (expr_actions (expr_tree condition.now) ++ IfTest ∷ []) }
-    ensures ok { OnOk result (AppendsAll (B.stands build.old) (B.stands build.new) (expr_actions (expr_tree condition.now) ++ IfTest ∷ [])) }
+    ensures ok { OnOk result (AppendsAll (B.stands build.old) (B.stands build.new)
+        (expr_actions (expr_tree condition.now) ++ IfTest ∷ [])) }
     ensures memory { Refuses result B.allocates }
 {
     tell_expr(condition, build)?;
@@ -120,8 +125,10 @@ fn tell_test<B: Build>(condition: &Expr, build: &mut B) -> Result<(), BuildFault
 
 // Tells the condition of a `while`.
 fn tell_loop_test<B: Build>(condition: &Expr, build: &mut B) -> Result<(), BuildFault>
-    requires { MayFollowAll (B.stands build.old) (BeginWhile ∷ (expr_actions (expr_tree condition.now) ++ WhileTest ∷ [])) }
-    ensures ok { OnOk result (AppendsAll (B.stands build.old) (B.stands build.new) (BeginWhile ∷ (expr_actions (expr_tree condition.now) ++ WhileTest ∷ []))) }
+    requires { MayFollowAll (B.stands build.old)
+        (BeginWhile ∷ (expr_actions (expr_tree condition.now) ++ WhileTest ∷ [])) }
+    ensures ok { OnOk result (AppendsAll (B.stands build.old) (B.stands build.new)
+        (BeginWhile ∷ (expr_actions (expr_tree condition.now) ++ WhileTest ∷ []))) }
     ensures memory { Refuses result B.allocates }
 {
     build.begin_while()?;
@@ -132,7 +139,8 @@ fn tell_loop_test<B: Build>(condition: &Expr, build: &mut B) -> Result<(), Build
 // Tells a `return` with its value.
 fn tell_return<B: Build>(expr: &Expr, build: &mut B) -> Result<(), BuildFault>
     requires { MayFollowAll (B.stands build.old) (expr_actions (expr_tree expr.now) ++ GiveBack ∷ []) }
-    ensures ok { OnOk result (AppendsAll (B.stands build.old) (B.stands build.new) (expr_actions (expr_tree expr.now) ++ GiveBack ∷ [])) }
+    ensures ok { OnOk result (AppendsAll (B.stands build.old) (B.stands build.new)
+        (expr_actions (expr_tree expr.now) ++ GiveBack ∷ [])) }
     ensures memory { Refuses result B.allocates }
 {
     tell_expr(expr, build)?;
@@ -143,7 +151,8 @@ fn tell_return<B: Build>(expr: &Expr, build: &mut B) -> Result<(), BuildFault>
 #[cycle(expressions)]
 fn tell_expr<B: Build>(expr: &Expr, build: &mut B) -> Result<(), BuildFault>
     requires { MayFollowAll (B.stands build.old) (expr_actions (expr_tree expr.now)) }
-    ensures ok { OnOk result (AppendsAll (B.stands build.old) (B.stands build.new) (expr_actions (expr_tree expr.now))) }
+    ensures ok { OnOk result (AppendsAll (B.stands build.old) (B.stands build.new)
+        (expr_actions (expr_tree expr.now))) }
     ensures memory { Refuses result B.allocates }
 {
     match expr {
@@ -172,7 +181,8 @@ fn tell_expr<B: Build>(expr: &Expr, build: &mut B) -> Result<(), BuildFault>
 #[cycle(expressions)]
 fn tell_arguments<B: Build>(exprs: &[Expr], build: &mut B) -> Result<(), BuildFault>
     requires { MayFollowAll (B.stands build.old) (args_actions (arguments (map expr_tree exprs.now))) }
-    ensures ok { OnOk result (AppendsAll (B.stands build.old) (B.stands build.new) (args_actions (arguments (map expr_tree exprs.now)))) }
+    ensures ok { OnOk result (AppendsAll (B.stands build.old) (B.stands build.new)
+        (args_actions (arguments (map expr_tree exprs.now)))) }
     ensures memory { Refuses result B.allocates }
 {
     for expr in exprs {
@@ -195,8 +205,10 @@ fn tell_middle<B: Build>(op: Op, build: &mut B) -> Result<(), BuildFault>
 
 // Tells `v++` or `v--`, by the operator that steps the variable.
 fn tell_step<B: Build>(op: StoreOp, var: Var, build: &mut B) -> Result<(), BuildFault>
-    requires { MayFollowAll (B.stands build.old) (Get var ∷ Push (pos 1) ∷ Put var op ∷ Chop ∷ []) }
-    ensures ok { OnOk result (AppendsAll (B.stands build.old) (B.stands build.new) (Get var ∷ Push (pos 1) ∷ Put var op ∷ Chop ∷ [])) }
+    requires { MayFollowAll (B.stands build.old)
+        (FetchVariable var ∷ PushConstant (pos 1) ∷ StoreVariable var op ∷ Chop ∷ []) }
+    ensures ok { OnOk result (AppendsAll (B.stands build.old) (B.stands build.new)
+        (FetchVariable var ∷ PushConstant (pos 1) ∷ StoreVariable var op ∷ Chop ∷ [])) }
     ensures memory { Refuses result B.allocates }
 {
     build.fetch(var)?;

@@ -26,11 +26,11 @@ pub enum Expr {
 #[derive(Debug, Drop)]
 pub enum Statement {
     /// An expression whose value is dropped.
-    Alone(Expr),
+    ExpressionStatement(Expr),
     /// An `if` without `else`: its condition and its branch.
-    When(Expr, Vec<Statement>),
+    IfStatement(Expr, Vec<Statement>),
     /// An `if` with `else`: its condition and both branches.
-    Choose(Expr, Vec<Statement>, Vec<Statement>),
+    IfElseStatement(Expr, Vec<Statement>, Vec<Statement>),
     /// A `while`: its condition and its body.
     While(Expr, Vec<Statement>),
     /// A `return` with its value.

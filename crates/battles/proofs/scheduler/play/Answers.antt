@@ -1,6 +1,6 @@
 use Rattle.std.proofs.Common.{◌≡◌, ◌<◌, ◌/◌, ◌*◌, sym, arith}
 use Rattle.battles.proofs.Cycles.{stage_none, first_begins}
-use Rattle.battles.proofs.Spans.{stage_stretch, stage_rest, first_decided, first_undecided, first_limit}
+use Rattle.battles.proofs.Spans.{stage_segment, stage_rest, first_decided, first_undecided, first_limit}
 use Rattle.battles.proofs.scheduler.play.Goals as goal
 
 pub loop-number-init : goal.loop-number-init
@@ -12,32 +12,32 @@ loop-number-init c = record {
   cycles = λ robots s are reached. first_begins robots s c.args.limit;
 }
 
-pub returns-then-stretch-clause-stage : goal.returns-then-stretch-clause-stage
-returns-then-stretch-clause-stage c = λ robots s are reached.
-    rw (stage_stretch robots s c.loop-number.number)
-    (c.stretch.ensures.stage robots _ are (c.loop-number.invariant.stage robots s are reached))
+pub returns-then-segment-clause-stage : goal.returns-then-segment-clause-stage
+returns-then-segment-clause-stage c = λ robots s are reached.
+    rw (stage_segment robots s c.loop-number.number)
+    (c.segment.ensures.stage robots _ are (c.loop-number.invariant.stage robots s are reached))
 
-pub returns-then-stretch-clause-cycles : goal.returns-then-stretch-clause-cycles
-returns-then-stretch-clause-cycles c = λ robots s are reached.
+pub returns-then-segment-clause-cycles : goal.returns-then-segment-clause-cycles
+returns-then-segment-clause-cycles c = λ robots s are reached.
     let within : c.loop-number.number < c.args.limit / 15 = c.loop-number-test.true in
     let now = c.loop-number.invariant.stage robots s are reached in
     first_decided robots s c.loop-number.number c.args.limit _ (omega arith)
-    (c.loop-number.invariant.cycles robots s are reached) (sym (c.if-stretch.ensures.decided robots _ are now))
+    (c.loop-number.invariant.cycles robots s are reached) (sym (c.if-segment.ensures.decided robots _ are now))
 
 pub loop-number-preserved : goal.loop-number-preserved
 loop-number-preserved c =
     let within : c.loop-number.number < c.args.limit / 15 = c.loop-number-test.true in
     record {
-      manned = c.stretch.ensures.manned;
-      updates = omega (arith, c.stretch.ensures.updates, c.loop-number.invariant.updates);
-      fits = c.stretch.ensures.fits;
+      manned = c.segment.ensures.manned;
+      updates = omega (arith, c.segment.ensures.updates, c.loop-number.invariant.updates);
+      fits = c.segment.ensures.fits;
       stage = λ robots s are reached.
-          rw (stage_stretch robots s c.loop-number.number)
-          (c.stretch.ensures.stage robots _ are (c.loop-number.invariant.stage robots s are reached));
+          rw (stage_segment robots s c.loop-number.number)
+          (c.segment.ensures.stage robots _ are (c.loop-number.invariant.stage robots s are reached));
       cycles = λ robots s are reached.
           let now = c.loop-number.invariant.stage robots s are reached in
           first_undecided robots s c.loop-number.number c.args.limit _ (omega arith)
-          (c.loop-number.invariant.cycles robots s are reached) (sym (c.if-stretch.ensures.decided robots _ are now));
+          (c.loop-number.invariant.cycles robots s are reached) (sym (c.if-segment.ensures.decided robots _ are now));
     }
 
 pub returns-clause-stage : goal.returns-clause-stage

@@ -1,5 +1,5 @@
 use Rattle.std.proofs.Common.{refl, pos}
-use Rattle.grammar.specs.Actions.{Begin, Push, GiveBack, Finish}
+use Rattle.grammar.specs.Actions.{Begin, PushConstant, GiveBack, Finish}
 use Rattle.grammar.specs.Following.{most_open, most_numbers}
 use Rattle.code.proofs.Told.{follows}
 use Rattle.battles.proofs.TestFiles.{main_alone, resting_file, resting_resolved}
@@ -11,7 +11,7 @@ begin_function-requires c = record { follows = follows (Begin 0 0) c.new-maker.e
 
 pub constant-requires : goal.constant-requires
 unfolding most_open most_numbers
-constant-requires c = record { follows = follows (Push (pos 0)) (c.in_ok-begin_function.ensures.ok _ _ c.new-maker.ensures) refl }
+constant-requires c = record { follows = follows (PushConstant (pos 0)) (c.in_ok-begin_function.ensures.ok _ _ c.new-maker.ensures) refl }
 
 pub give_back-requires : goal.give_back-requires
 unfolding most_open most_numbers

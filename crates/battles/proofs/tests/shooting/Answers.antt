@@ -1,5 +1,5 @@
 use Rattle.std.proofs.Common.{refl, pos}
-use Rattle.grammar.specs.Actions.{Begin, BeginCall, Push, EndCall, Chop, GiveBack, Finish}
+use Rattle.grammar.specs.Actions.{Begin, BeginCall, PushConstant, EndCall, Chop, GiveBack, Finish}
 use Rattle.grammar.specs.declared.names.Callee.TheVariants as callee
 use Rattle.grammar.specs.declared.names.Intrinsic.TheVariants as intrinsic
 use Rattle.grammar.specs.Following.{most_open, most_numbers}
@@ -17,11 +17,11 @@ begin_call-requires c = record { follows = follows BeginCall (c.in_ok-begin_func
 
 pub constant-requires : goal.constant-requires
 unfolding most_open most_numbers
-constant-requires c = record { follows = follows (Push (pos 0)) (c.in_ok-begin_call.ensures.ok _ _ (c.in_ok-begin_function.ensures.ok _ _ c.new-maker.ensures)) refl }
+constant-requires c = record { follows = follows (PushConstant (pos 0)) (c.in_ok-begin_call.ensures.ok _ _ (c.in_ok-begin_function.ensures.ok _ _ c.new-maker.ensures)) refl }
 
 pub constant-requires-2 : goal.constant-requires-2
 unfolding most_open most_numbers
-constant-requires-2 c = record { follows = follows (Push (pos 0)) (c.in_ok-constant.ensures.ok _ _ (c.in_ok-begin_call.ensures.ok _ _ (c.in_ok-begin_function.ensures.ok _ _ c.new-maker.ensures))) refl }
+constant-requires-2 c = record { follows = follows (PushConstant (pos 0)) (c.in_ok-constant.ensures.ok _ _ (c.in_ok-begin_call.ensures.ok _ _ (c.in_ok-begin_function.ensures.ok _ _ c.new-maker.ensures))) refl }
 
 pub end_call-requires : goal.end_call-requires
 unfolding most_open most_numbers
@@ -33,7 +33,7 @@ chop-requires c = record { follows = follows Chop (c.in_ok-end_call.ensures.ok _
 
 pub constant-requires-3 : goal.constant-requires-3
 unfolding most_open most_numbers
-constant-requires-3 c = record { follows = follows (Push (pos 0)) (c.in_ok-chop.ensures.ok _ _ (c.in_ok-end_call.ensures.ok _ _ (c.in_ok-constant-2.ensures.ok _ _ (c.in_ok-constant.ensures.ok _ _ (c.in_ok-begin_call.ensures.ok _ _ (c.in_ok-begin_function.ensures.ok _ _ c.new-maker.ensures)))))) refl }
+constant-requires-3 c = record { follows = follows (PushConstant (pos 0)) (c.in_ok-chop.ensures.ok _ _ (c.in_ok-end_call.ensures.ok _ _ (c.in_ok-constant-2.ensures.ok _ _ (c.in_ok-constant.ensures.ok _ _ (c.in_ok-begin_call.ensures.ok _ _ (c.in_ok-begin_function.ensures.ok _ _ c.new-maker.ensures)))))) refl }
 
 pub give_back-requires : goal.give_back-requires
 unfolding most_open most_numbers

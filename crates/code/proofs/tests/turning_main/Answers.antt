@@ -1,5 +1,5 @@
 use Rattle.std.proofs.Common.{refl, pos}
-use Rattle.grammar.specs.Actions.{Begin, BeginWhile, Push, WhileTest, IfTest, Chop, ElsePart, EndIf, EndWhile, GiveBack, Finish}
+use Rattle.grammar.specs.Actions.{Begin, BeginWhile, PushConstant, WhileTest, IfTest, Chop, ElsePart, EndIf, EndWhile, GiveBack, Finish}
 use Rattle.grammar.specs.Following.{most_open, most_numbers}
 use Rattle.code.proofs.Told.{follows}
 use Rattle.code.proofs.TestFiles.{main_alone, turning_file, turning_resolved}
@@ -15,7 +15,7 @@ begin_while-requires c = record { follows = follows BeginWhile (c.in_ok-begin_fu
 
 pub constant-requires : goal.constant-requires
 unfolding most_open most_numbers
-constant-requires c = record { follows = follows (Push (pos 1)) (c.in_ok-begin_while.ensures.ok _ _ (c.in_ok-begin_function.ensures.ok _ _ c.new-maker.ensures)) refl }
+constant-requires c = record { follows = follows (PushConstant (pos 1)) (c.in_ok-begin_while.ensures.ok _ _ (c.in_ok-begin_function.ensures.ok _ _ c.new-maker.ensures)) refl }
 
 pub while_test-requires : goal.while_test-requires
 unfolding most_open most_numbers
@@ -23,7 +23,7 @@ while_test-requires c = record { follows = follows WhileTest (c.in_ok-constant.e
 
 pub constant-requires-2 : goal.constant-requires-2
 unfolding most_open most_numbers
-constant-requires-2 c = record { follows = follows (Push (pos 0)) (c.in_ok-while_test.ensures.ok _ _ (c.in_ok-constant.ensures.ok _ _ (c.in_ok-begin_while.ensures.ok _ _ (c.in_ok-begin_function.ensures.ok _ _ c.new-maker.ensures)))) refl }
+constant-requires-2 c = record { follows = follows (PushConstant (pos 0)) (c.in_ok-while_test.ensures.ok _ _ (c.in_ok-constant.ensures.ok _ _ (c.in_ok-begin_while.ensures.ok _ _ (c.in_ok-begin_function.ensures.ok _ _ c.new-maker.ensures)))) refl }
 
 pub if_test-requires : goal.if_test-requires
 unfolding most_open most_numbers
@@ -31,7 +31,7 @@ if_test-requires c = record { follows = follows IfTest (c.in_ok-constant-2.ensur
 
 pub constant-requires-3 : goal.constant-requires-3
 unfolding most_open most_numbers
-constant-requires-3 c = record { follows = follows (Push (pos 2)) (c.in_ok-if_test.ensures.ok _ _ (c.in_ok-constant-2.ensures.ok _ _ (c.in_ok-while_test.ensures.ok _ _ (c.in_ok-constant.ensures.ok _ _ (c.in_ok-begin_while.ensures.ok _ _ (c.in_ok-begin_function.ensures.ok _ _ c.new-maker.ensures)))))) refl }
+constant-requires-3 c = record { follows = follows (PushConstant (pos 2)) (c.in_ok-if_test.ensures.ok _ _ (c.in_ok-constant-2.ensures.ok _ _ (c.in_ok-while_test.ensures.ok _ _ (c.in_ok-constant.ensures.ok _ _ (c.in_ok-begin_while.ensures.ok _ _ (c.in_ok-begin_function.ensures.ok _ _ c.new-maker.ensures)))))) refl }
 
 pub chop-requires : goal.chop-requires
 unfolding most_open most_numbers
@@ -43,7 +43,7 @@ else_part-requires c = record { follows = follows ElsePart (c.in_ok-chop.ensures
 
 pub constant-requires-4 : goal.constant-requires-4
 unfolding most_open most_numbers
-constant-requires-4 c = record { follows = follows (Push (pos 3)) (c.in_ok-else_part.ensures.ok _ _ (c.in_ok-chop.ensures.ok _ _ (c.in_ok-constant-3.ensures.ok _ _ (c.in_ok-if_test.ensures.ok _ _ (c.in_ok-constant-2.ensures.ok _ _ (c.in_ok-while_test.ensures.ok _ _ (c.in_ok-constant.ensures.ok _ _ (c.in_ok-begin_while.ensures.ok _ _ (c.in_ok-begin_function.ensures.ok _ _ c.new-maker.ensures))))))))) refl }
+constant-requires-4 c = record { follows = follows (PushConstant (pos 3)) (c.in_ok-else_part.ensures.ok _ _ (c.in_ok-chop.ensures.ok _ _ (c.in_ok-constant-3.ensures.ok _ _ (c.in_ok-if_test.ensures.ok _ _ (c.in_ok-constant-2.ensures.ok _ _ (c.in_ok-while_test.ensures.ok _ _ (c.in_ok-constant.ensures.ok _ _ (c.in_ok-begin_while.ensures.ok _ _ (c.in_ok-begin_function.ensures.ok _ _ c.new-maker.ensures))))))))) refl }
 
 pub chop-requires-2 : goal.chop-requires-2
 unfolding most_open most_numbers
@@ -59,7 +59,7 @@ end_while-requires c = record { follows = follows EndWhile (c.in_ok-end_if.ensur
 
 pub constant-requires-5 : goal.constant-requires-5
 unfolding most_open most_numbers
-constant-requires-5 c = record { follows = follows (Push (pos 0)) (c.in_ok-end_while.ensures.ok _ _ (c.in_ok-end_if.ensures.ok _ _ (c.in_ok-chop-2.ensures.ok _ _ (c.in_ok-constant-4.ensures.ok _ _ (c.in_ok-else_part.ensures.ok _ _ (c.in_ok-chop.ensures.ok _ _ (c.in_ok-constant-3.ensures.ok _ _ (c.in_ok-if_test.ensures.ok _ _ (c.in_ok-constant-2.ensures.ok _ _ (c.in_ok-while_test.ensures.ok _ _ (c.in_ok-constant.ensures.ok _ _ (c.in_ok-begin_while.ensures.ok _ _ (c.in_ok-begin_function.ensures.ok _ _ c.new-maker.ensures))))))))))))) refl }
+constant-requires-5 c = record { follows = follows (PushConstant (pos 0)) (c.in_ok-end_while.ensures.ok _ _ (c.in_ok-end_if.ensures.ok _ _ (c.in_ok-chop-2.ensures.ok _ _ (c.in_ok-constant-4.ensures.ok _ _ (c.in_ok-else_part.ensures.ok _ _ (c.in_ok-chop.ensures.ok _ _ (c.in_ok-constant-3.ensures.ok _ _ (c.in_ok-if_test.ensures.ok _ _ (c.in_ok-constant-2.ensures.ok _ _ (c.in_ok-while_test.ensures.ok _ _ (c.in_ok-constant.ensures.ok _ _ (c.in_ok-begin_while.ensures.ok _ _ (c.in_ok-begin_function.ensures.ok _ _ c.new-maker.ensures))))))))))))) refl }
 
 pub give_back-requires : goal.give_back-requires
 unfolding most_open most_numbers

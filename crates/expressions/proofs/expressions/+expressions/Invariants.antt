@@ -1,9 +1,9 @@
-use Rattle.std.proofs.Common.{◌≡◌, ◌+◌, ◌-◌, ◌*◌, ◌<◌, ◌≤◌, [], ◌∷◌, false}
-use Rattle.tokens.specs.Reading.{IsNear, remaining, taken}
-use Rattle.tokens.specs.Window.{Takes}
-use Rattle.grammar.specs.Grammar.{Arguments, Level, MoreArguments, Part, Tail, is_fault}
-use Rattle.parsing.specs.Position.{place}
-use Rattle.expressions.specs.Expressions.{AddsArgs, AddsExpr}
+use Rattle.std.proofs.Common.{◌+◌, ◌-◌, ◌*◌, [], ◌∷◌}
+use Rattle.grammar.specs.Grammar.{Arguments, MoreArguments, Part}
+use Rattle.parsing.specs.Advancing.{StayedOrWentOn, WentOn}
+use Rattle.parsing.specs.Position.{to_go}
+use Rattle.expressions.specs.Expressions.{AddsArgs}
+use Rattle.expressions.proofs.ClimbingLaws.{Climbs}
 use Rattle.expressions.proofs.expressions.+expressions.Given as goal
 
 abbrev pub decreases-expression : goal.decreases-expression
@@ -16,7 +16,7 @@ abbrev pub decreases-levels : goal.decreases-levels
 decreases-levels g l = (64 - l.depth) * 64 + 20 + 2 * (11 - l.level)
 
 abbrev pub decreases-operand : goal.decreases-operand
-decreases-operand g l = (64 - l.depth) * 64 + 19 + 2 * (11 - l.level)
+decreases-operand g l = (64 - l.depth) * 64 + 19 + 2 * (11 - l.binary.level)
 
 abbrev pub decreases-unary : goal.decreases-unary
 decreases-unary g l = (64 - l.depth) * 64 + 15
@@ -36,27 +36,20 @@ decreases-bracketed g l = (64 - l.depth) * 64 + 13
 abbrev pub decreases-arguments : goal.decreases-arguments
 decreases-arguments g l = (64 - l.depth) * 64 + 61
 
-abbrev pub invariant-levels-loop-op : goal.invariant-levels-loop-op
-invariant-levels-loop-op g l = record {
-  parsed : AddsExpr (g.B.Build.stands l.fn.build) (g.B.Build.stands l.build) l.depth l.level (Part (Level l.level) ∷ []) (Part (Tail l.level) ∷ []) (place l.fn.parser (g.F.Feed.to_come l.fn.feed)) (place l.parser (g.F.Feed.to_come l.feed));
-  sound : is_fault l.parser.reading.next.token ≡ false;
-  falls : remaining l.parser.reading < remaining l.fn.parser.reading;
-  counted : g.F.Feed.failures l.feed ≡ g.F.Feed.failures l.fn.feed;
-  near : IsNear l.parser.reading;
-  took : Takes (taken l.fn.parser.reading) (taken l.parser.reading) (g.F.Feed.to_come l.fn.feed) (g.F.Feed.to_come l.feed);
+abbrev pub invariant-levels-loop-binary : goal.invariant-levels-loop-binary
+invariant-levels-loop-binary g l = record {
+  climbs : Climbs (g.B.Build.stands l.fn.build) (g.B.Build.stands l.build) l.depth l.level l.fn.parser.place l.parser.place;
+  kept : WentOn l.fn.parser l.parser;
 }
 
-abbrev pub decreases-levels-loop-op : goal.decreases-levels-loop-op
-decreases-levels-loop-op g l = remaining l.parser.reading
+abbrev pub decreases-levels-loop-binary : goal.decreases-levels-loop-binary
+decreases-levels-loop-binary g l = to_go l.parser
 
 abbrev pub invariant-arguments-loop-parser : goal.invariant-arguments-loop-parser
 invariant-arguments-loop-parser g l = record {
-  parsed : AddsArgs (g.B.Build.stands l.fn.build) (g.B.Build.stands l.build) l.depth (Part Arguments ∷ []) (Part MoreArguments ∷ []) (place l.fn.parser (g.F.Feed.to_come l.fn.feed)) (place l.parser (g.F.Feed.to_come l.feed));
-  falls : remaining l.parser.reading ≤ remaining l.fn.parser.reading;
-  counted : g.F.Feed.failures l.feed ≡ g.F.Feed.failures l.fn.feed;
-  near : IsNear l.parser.reading;
-  took : Takes (taken l.fn.parser.reading) (taken l.parser.reading) (g.F.Feed.to_come l.fn.feed) (g.F.Feed.to_come l.feed);
+  parsed : AddsArgs (g.B.Build.stands l.fn.build) (g.B.Build.stands l.build) l.depth (Part Arguments ∷ []) (Part MoreArguments ∷ []) l.fn.parser.place l.parser.place;
+  kept : StayedOrWentOn l.fn.parser l.parser;
 }
 
 abbrev pub decreases-arguments-loop-parser : goal.decreases-arguments-loop-parser
-decreases-arguments-loop-parser g l = remaining l.parser.reading
+decreases-arguments-loop-parser g l = to_go l.parser

@@ -1,19 +1,18 @@
 use Rattle.std.proofs.Common.{[], ◌∷◌, ◌++◌, subst, ℤ, arith, to_z, w32}
 use Rattle.std.proofs.lemmas.Int.{to_z_pos}
 use Rattle.std.proofs.lemmas.Result.{err_from_is_err_and}
-use Rattle.grammar.specs.Actions.{Push}
-use Rattle.parsing.specs.Position.{place}
+use Rattle.grammar.specs.Actions.{PushConstant}
 use Rattle.expressions.proofs.VariableLaws.{constant_adds, constant_ends, constant_follows}
 use Rattle.expressions.proofs.variables.constant.Goals as goal
 
 pub constant-requires : goal.constant-requires
 constant-requires g c = record { follows = constant_follows _ 0 (to_z w32 c.args.value) c.requires.open }
 
-pub returns-in_err-advance-clause-refused : goal.returns-in_err-advance-clause-refused
-returns-in_err-advance-clause-refused g c =
+pub returns-in_err-advance-clause-parses : goal.returns-in_err-advance-clause-parses
+returns-in_err-advance-clause-parses g c =
     let p = err_from_is_err_and c.from_residual-in_err-advance.result c.from_residual-in_err-advance.ensures.1 in
-    rw (p.1, p.2) (constant_ends _ (place c.args.parser.now (g.F.Feed.to_come c.args.feed.now)) c.args.value _ c.in_err-advance.field-0.0 c.requires.is c.in_err-advance.ensures.refused)
+    rw (p.1, p.2) (constant_ends _ c.args.parser.now.place c.args.value _ c.in_err-advance.field-0.0 c.requires.is c.in_err-advance.ensures.consumes)
 
-pub returns-clause-parsed : goal.returns-clause-parsed
-returns-clause-parsed g c = constant_adds _ _ (place c.args.parser.now (g.F.Feed.to_come c.args.feed.now)) _ c.args.value c.requires.is c.in_ok-advance.ensures.passed
-    (λ profile acts start. subst (λ (v : ℤ). g.B.Build.stands c.constant.new.self profile (acts ++ Push v ∷ [])) (to_z_pos w32 c.args.value (omega arith)) (c.in_ok-constant.ensures.ok profile acts start))
+pub returns-clause-parses : goal.returns-clause-parses
+returns-clause-parses g c = constant_adds _ _ c.args.parser.now.place _ c.args.value c.requires.is c.in_ok-advance.ensures.consumes
+    (λ profile acts start. subst (λ (v : ℤ). g.B.Build.stands c.constant.new.self profile (acts ++ PushConstant v ∷ [])) (to_z_pos w32 c.args.value (omega arith)) (c.in_ok-constant.ensures.ok profile acts start))

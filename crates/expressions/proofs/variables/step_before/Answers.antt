@@ -1,22 +1,22 @@
 use Rattle.std.proofs.Common.{pos, [], ◌∷◌, arith}
 use Rattle.std.proofs.lemmas.Result.{err_from_is_err_and}
-use Rattle.grammar.specs.Actions.{Push, Put}
+use Rattle.grammar.specs.Actions.{PushConstant, StoreVariable}
 use Rattle.grammar.specs.Tree.{Assign, Constant}
-use Rattle.parsing.specs.Position.{place}
+use Rattle.parsing.proofs.Advances.{on, on_then}
 use Rattle.expressions.specs.Signs.{step_store}
 use Rattle.expressions.proofs.TellingLaws.{next_follows}
-use Rattle.expressions.proofs.VariableLaws.{before_adds, before_mark_ends, before_name_ends, constant_follows, tree_follows}
+use Rattle.expressions.proofs.VariableLaws.{before_adds, before_punctuator_ends, before_name_ends, constant_follows, tree_follows}
 use Rattle.expressions.proofs.variables.step_before.Goals as goal
 
-pub returns-in_err-advance-clause-refused : goal.returns-in_err-advance-clause-refused
-returns-in_err-advance-clause-refused g c =
+pub returns-in_err-advance-clause-parses : goal.returns-in_err-advance-clause-parses
+returns-in_err-advance-clause-parses g c =
     let p = err_from_is_err_and c.from_residual.result c.from_residual.ensures.1 in
-    rw (p.1, p.2) (before_mark_ends _ (place c.args.parser.now (g.F.Feed.to_come c.args.feed.now)) c.args.step _ c.in_err-advance.field-0.0 c.requires.is c.in_err-advance.ensures.refused)
+    rw (p.1, p.2) (before_punctuator_ends _ c.args.parser.now.place c.args.step _ c.in_err-advance.field-0.0 c.requires.is c.in_err-advance.ensures.consumes)
 
-pub returns-in_err-var-clause-refused : goal.returns-in_err-var-clause-refused
-returns-in_err-var-clause-refused g c =
+pub returns-in_err-var-clause-parses : goal.returns-in_err-var-clause-parses
+returns-in_err-var-clause-parses g c =
     let p = err_from_is_err_and c.from_residual-in_err-var.result c.from_residual-in_err-var.ensures.1 in
-    rw (p.1, p.2) (before_name_ends _ (place c.args.parser.now (g.F.Feed.to_come c.args.feed.now)) _ c.args.step _ c.in_err-var.field-0.0 c.requires.is c.in_ok-advance.ensures.passed c.in_err-var.ensures.refused)
+    rw (p.1, p.2) (before_name_ends _ c.args.parser.now.place _ c.args.step _ c.in_err-var.field-0.0 c.requires.is c.in_ok-advance.ensures.consumes c.in_err-var.ensures.matches)
 
 pub constant-requires : goal.constant-requires
 constant-requires g c = record { follows = constant_follows _ 0 (pos 1) c.requires.open }
@@ -24,11 +24,14 @@ constant-requires g c = record { follows = constant_follows _ 0 (pos 1) c.requir
 pub store-requires-2 : goal.store-requires-2
 store-requires-2 g c = record {
   follows = rw c.store.ensures
-      (next_follows _ _ (Push (pos 1) ∷ []) (Put c.in_ok-var.var (step_store c.args.step)) []
+      (next_follows _ _ (PushConstant (pos 1) ∷ []) (StoreVariable c.in_ok-var.var (step_store c.args.step)) []
       (tree_follows _ 0 (Assign (step_store c.args.step) c.in_ok-var.var (Constant (pos 1))) c.requires.open (c.in_ok-var.ensures.within, tt) (omega arith)) c.in_ok-constant.ensures.ok);
 }
 
-pub returns-clause-parsed : goal.returns-clause-parsed
-returns-clause-parsed g c =
-    before_adds _ _ _ (place c.args.parser.now (g.F.Feed.to_come c.args.feed.now)) _ _ c.args.step c.in_ok-var.var c.requires.is c.in_ok-advance.ensures.passed c.in_ok-var.ensures.passed c.in_ok-var.ensures.within c.in_ok-var.ensures.sound
+pub returns-clause-parses : goal.returns-clause-parses
+returns-clause-parses g c =
+    before_adds _ _ _ c.args.parser.now.place _ _ c.args.step c.in_ok-var.var c.requires.is c.in_ok-advance.ensures.consumes c.in_ok-var.ensures.matches c.in_ok-var.ensures.within c.in_ok-var.ensures.kept.ready.sound
     c.in_ok-constant.ensures.ok (rw c.store.ensures at c.in_ok-store.ensures.ok)
+
+pub returns-clause-kept : goal.returns-clause-kept
+returns-clause-kept g c = on_then _ _ _ c.in_ok-advance.ensures.kept (on _ _ c.in_ok-var.ensures.kept)

@@ -1,46 +1,71 @@
-use Rattle.std.proofs.lemmas.Result.{IfErr-weaker, IfOk-weaker, err_from_is_err_and}
-use Rattle.lang.proofs.Wholes.{first_refused, first_taking, has_taken, lacking, lacks_taking, stopped, stops_taking, whole_file, whole_takes}
+use Rattle.std.proofs.Common.{rules, ◌≡◌, drop, refl}
+use Rattle.std.proofs.lemmas.Result.{err_from_is_err_and}
+use Rattle.std.specs.Option.{option_map}
+use Rattle.tokens.specs.Tokens.{tokens}
+use Rattle.grammar.specs.Scope.{no_names}
+use Rattle.parsing.specs.Position.{scope_at, taken_at, tokens_at}
+use Rattle.lang.proofs.Wholes.{IsWhole, first_refused, first_taking, has_taken, lacking, lacks_taking, stopped, stops_taking, whole_file, whole_takes}
 use Rattle.lang.proofs.files.parse.Goals as goal
 
-pub returns-in_err-parser-clause-refused : goal.returns-in_err-parser-clause-refused
-returns-in_err-parser-clause-refused g c =
+pub returns-in_err-cursor-clause-refused : goal.returns-in_err-cursor-clause-refused
+returns-in_err-cursor-clause-refused g c =
     let p = err_from_is_err_and c.from_residual.result c.from_residual.ensures.1 in
-    rw (p.1, p.2) (first_refused (g.B.Build.stands c.args.build.now) _ _ c.in_err-parser.field-0.0 _ c.in_err-parser.ensures.refused)
+    rw (p.1, p.2) (first_refused (g.B.Build.stands c.args.build.now) _ _ c.in_err-cursor.field-0.0 _ c.in_err-cursor.ensures.refused)
 
-pub returns-in_err-parser-clause-stopped : goal.returns-in_err-parser-clause-stopped
-returns-in_err-parser-clause-stopped g c =
+pub returns-in_err-cursor-clause-stopped : goal.returns-in_err-cursor-clause-stopped
+returns-in_err-cursor-clause-stopped g c =
     let p = err_from_is_err_and c.from_residual.result c.from_residual.ensures.1 in
-    rw (p.1, p.2) (first_taking (g.B.Build.stands c.args.build.now) _ _ c.in_err-parser.field-0.0 c.in_err-parser.ensures.refused)
+    rw (p.1, p.2) (first_taking (g.B.Build.stands c.args.build.now) _ _ c.in_err-cursor.field-0.0 c.in_err-cursor.ensures.refused)
 
-pub returns-in_err-source-clause-refused : goal.returns-in_err-source-clause-refused
-returns-in_err-source-clause-refused g c =
-    let p = err_from_is_err_and c.from_residual-in_err-source.result c.from_residual-in_err-source.ensures.1 in
-    rw (p.1, p.2) (stopped _ (g.B.Build.stands c.args.build.now) _ _ c.in_err-source.field-0.0 _ c.in_ok-parser.ensures.names c.in_ok-parser.ensures.tokens c.in_err-source.ensures.refused)
+pub returns-in_err-read-clause-refused : goal.returns-in_err-read-clause-refused
+returns-in_err-read-clause-refused g c =
+    let nothing : scope_at c.new-parser.result.place ≡ no_names = rw c.new-parser.ensures.place refl in
+    let tells : tokens_at c.new-parser.result.place ≡ option_map tokens (g.F.Feed.to_come c.args.feed.now) = rw c.new-parser.ensures.place c.in_ok-cursor.ensures.tokens in
+    let p = err_from_is_err_and c.from_residual-in_err-read.result c.from_residual-in_err-read.ensures.1 in
+    rw (p.1, p.2) (stopped _ (g.B.Build.stands c.args.build.now) _ c.new-parser.result.place c.in_err-read.field-0.0 _ nothing tells c.in_err-read.ensures.reads)
 
-pub returns-in_err-source-clause-stopped : goal.returns-in_err-source-clause-stopped
-returns-in_err-source-clause-stopped g c =
-    let p = err_from_is_err_and c.from_residual-in_err-source.result c.from_residual-in_err-source.ensures.1 in
-    rw (p.1, p.2) (stops_taking _ (g.B.Build.stands c.args.build.now) _ _ _ c.in_err-source.field-0.0 _ c.in_ok-parser.ensures.names c.in_ok-parser.ensures.tokens
-    (has_taken _ _ _ _ _ c.in_ok-parser.ensures.took c.in_err-source.ensures.took) c.in_err-source.ensures.refused)
+pub returns-in_err-read-clause-stopped : goal.returns-in_err-read-clause-stopped
+returns-in_err-read-clause-stopped g c =
+    let nothing : scope_at c.new-parser.result.place ≡ no_names = rw c.new-parser.ensures.place refl in
+    let tells : tokens_at c.new-parser.result.place ≡ option_map tokens (g.F.Feed.to_come c.args.feed.now) = rw c.new-parser.ensures.place c.in_ok-cursor.ensures.tokens in
+    let opened : c.new-parser.result.place.to_come ≡ option_map (drop (taken_at c.new-parser.result.place)) (g.F.Feed.to_come c.args.feed.now) = rw c.new-parser.ensures.place c.in_ok-cursor.ensures.took in
+    let p = err_from_is_err_and c.from_residual-in_err-read.result c.from_residual-in_err-read.ensures.1 in
+    rw (p.1, p.2) (stops_taking _ (g.B.Build.stands c.args.build.now) _ _ c.new-parser.result.place c.in_err-read.field-0.0 _ nothing tells
+    (has_taken _ _ _ _ _ _ opened c.in_err-read.ensures.kept.took (search rules)) c.in_err-read.ensures.reads)
+
+pub returns-in_err-checked-clause-refused : goal.returns-in_err-checked-clause-refused
+returns-in_err-checked-clause-refused g c =
+    let nothing : scope_at c.new-parser.result.place ≡ no_names = rw c.new-parser.ensures.place refl in
+    let tells : tokens_at c.new-parser.result.place ≡ option_map tokens (g.F.Feed.to_come c.args.feed.now) = rw c.new-parser.ensures.place c.in_ok-cursor.ensures.tokens in
+    let whole : IsWhole (g.B.Build.stands c.args.build.now) (g.B.Build.stands c.source-read.new.build) (g.F.Feed.to_come c.args.feed.now) c.new-parser.result.place c.source-read.new.parser.place =
+    record { reads = c.in_ok-read.ensures.reads; nothing = nothing; tells = tells; ends = c.in_ok-read.ensures.ended } in
+    let p = err_from_is_err_and c.from_residual-in_err-checked.result c.from_residual-in_err-checked.ensures.1 in
+    rw (p.1, p.2) (lacking _ _ _ _ _ c.in_err-checked.field-0.0 _ whole c.in_err-checked.ensures.lacks)
+
+pub returns-in_err-checked-clause-stopped : goal.returns-in_err-checked-clause-stopped
+returns-in_err-checked-clause-stopped g c =
+    let nothing : scope_at c.new-parser.result.place ≡ no_names = rw c.new-parser.ensures.place refl in
+    let tells : tokens_at c.new-parser.result.place ≡ option_map tokens (g.F.Feed.to_come c.args.feed.now) = rw c.new-parser.ensures.place c.in_ok-cursor.ensures.tokens in
+    let opened : c.new-parser.result.place.to_come ≡ option_map (drop (taken_at c.new-parser.result.place)) (g.F.Feed.to_come c.args.feed.now) = rw c.new-parser.ensures.place c.in_ok-cursor.ensures.took in
+    let whole : IsWhole (g.B.Build.stands c.args.build.now) (g.B.Build.stands c.source-read.new.build) (g.F.Feed.to_come c.args.feed.now) c.new-parser.result.place c.source-read.new.parser.place =
+    record { reads = c.in_ok-read.ensures.reads; nothing = nothing; tells = tells; ends = c.in_ok-read.ensures.ended } in
+    let p = err_from_is_err_and c.from_residual-in_err-checked.result c.from_residual-in_err-checked.ensures.1 in
+    rw (p.1, p.2) (lacks_taking _ _ _ _ _ _ _ c.in_err-checked.field-0.0 whole c.in_err-checked.ensures.lacks
+    c.in_ok-read.ensures.kept.ready.near (has_taken _ _ _ _ _ _ opened c.in_ok-read.ensures.kept.took (search rules)))
 
 pub returns-clause-file : goal.returns-clause-file
-returns-clause-file g c = IfOk-weaker c.finish.result _ _
-    (λ pools lists. whole_file (g.B.Build.stands c.args.build.now) (g.B.Build.stands c.source.new.build) _ _ _ _ c.requires.new
-    (record { reads = c.in_ok-source.ensures.parsed; nothing = c.in_ok-parser.ensures.names; tells = c.in_ok-parser.ensures.tokens; ends = c.in_ok-source.ensures.ended }) lists) c.finish.ensures.names
+returns-clause-file g c =
+    let nothing : scope_at c.new-parser.result.place ≡ no_names = rw c.new-parser.ensures.place refl in
+    let tells : tokens_at c.new-parser.result.place ≡ option_map tokens (g.F.Feed.to_come c.args.feed.now) = rw c.new-parser.ensures.place c.in_ok-cursor.ensures.tokens in
+    let whole : IsWhole (g.B.Build.stands c.args.build.now) (g.B.Build.stands c.source-read.new.build) (g.F.Feed.to_come c.args.feed.now) c.new-parser.result.place c.source-read.new.parser.place =
+    record { reads = c.in_ok-read.ensures.reads; nothing = nothing; tells = tells; ends = c.in_ok-read.ensures.ended } in
+    whole_file _ _ _ _ _ c.into_parts-pools.result.0 c.requires.new whole c.in_ok-checked.ensures.complete c.into_parts-pools.ensures.names
 
 pub returns-clause-taken : goal.returns-clause-taken
-returns-clause-taken g c = IfOk-weaker c.finish.result _ _
-    (λ pools lists. whole_takes _ (g.B.Build.stands c.args.build.now) (g.B.Build.stands c.source.new.build) _ _ _ _
-    (record { reads = c.in_ok-source.ensures.parsed; nothing = c.in_ok-parser.ensures.names; tells = c.in_ok-parser.ensures.tokens; ends = c.in_ok-source.ensures.ended })
-    c.in_ok-source.ensures.near (has_taken _ _ _ _ _ c.in_ok-parser.ensures.took c.in_ok-source.ensures.took)) c.finish.ensures.names
-
-pub returns-clause-refused : goal.returns-clause-refused
-returns-clause-refused g c = IfErr-weaker c.finish.result _ _
-    (λ f lacks. lacking (g.B.Build.stands c.args.build.now) (g.B.Build.stands c.source.new.build) _ _ _ f _
-    (record { reads = c.in_ok-source.ensures.parsed; nothing = c.in_ok-parser.ensures.names; tells = c.in_ok-parser.ensures.tokens; ends = c.in_ok-source.ensures.ended }) lacks) c.finish.ensures.lacks
-
-pub returns-clause-stopped : goal.returns-clause-stopped
-returns-clause-stopped g c = IfErr-weaker c.finish.result _ _
-    (λ f lacks. lacks_taking _ (g.B.Build.stands c.args.build.now) (g.B.Build.stands c.source.new.build) _ _ _ _ f
-    (record { reads = c.in_ok-source.ensures.parsed; nothing = c.in_ok-parser.ensures.names; tells = c.in_ok-parser.ensures.tokens; ends = c.in_ok-source.ensures.ended }) lacks
-    c.in_ok-source.ensures.near (has_taken _ _ _ _ _ c.in_ok-parser.ensures.took c.in_ok-source.ensures.took)) c.finish.ensures.lacks
+returns-clause-taken g c =
+    let nothing : scope_at c.new-parser.result.place ≡ no_names = rw c.new-parser.ensures.place refl in
+    let tells : tokens_at c.new-parser.result.place ≡ option_map tokens (g.F.Feed.to_come c.args.feed.now) = rw c.new-parser.ensures.place c.in_ok-cursor.ensures.tokens in
+    let opened : c.new-parser.result.place.to_come ≡ option_map (drop (taken_at c.new-parser.result.place)) (g.F.Feed.to_come c.args.feed.now) = rw c.new-parser.ensures.place c.in_ok-cursor.ensures.took in
+    let whole : IsWhole (g.B.Build.stands c.args.build.now) (g.B.Build.stands c.source-read.new.build) (g.F.Feed.to_come c.args.feed.now) c.new-parser.result.place c.source-read.new.parser.place =
+    record { reads = c.in_ok-read.ensures.reads; nothing = nothing; tells = tells; ends = c.in_ok-read.ensures.ended } in
+    whole_takes _ _ _ _ _ _ _ whole c.in_ok-read.ensures.kept.ready.near (has_taken _ _ _ _ _ _ opened c.in_ok-read.ensures.kept.took (search rules))

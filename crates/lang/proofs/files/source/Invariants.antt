@@ -1,19 +1,16 @@
-use Rattle.std.proofs.Common.{◌≡◌, []}
-use Rattle.tokens.specs.Reading.{IsNear, remaining, taken}
-use Rattle.tokens.specs.Window.{Takes}
+use Rattle.std.proofs.Common.{[]}
 use Rattle.grammar.specs.Building.{StandsOpen}
-use Rattle.parsing.specs.Position.{place}
-use Rattle.lang.specs.Progress.{Advances, at_source}
+use Rattle.parsing.specs.Advancing.{StayedOrWentOn}
+use Rattle.parsing.specs.Position.{to_go}
+use Rattle.lang.specs.Progress.{ReadsOn, at_source}
 use Rattle.lang.proofs.files.source.Given as goal
 
 abbrev pub invariant-loop-parser : goal.invariant-loop-parser
 invariant-loop-parser g l = record {
-  parsed : Advances (g.B.Build.stands l.fn.build) (g.B.Build.stands l.build) at_source at_source (place l.fn.parser (g.F.Feed.to_come l.fn.feed)) (place l.parser (g.F.Feed.to_come l.feed));
+  reads : ReadsOn (g.B.Build.stands l.fn.build) (g.B.Build.stands l.build) at_source at_source l.fn.parser.place l.parser.place;
   stands : StandsOpen (g.B.Build.stands l.build) [];
-  counted : g.F.Feed.failures l.feed ≡ g.F.Feed.failures l.fn.feed;
-  near : IsNear l.parser.reading;
-  took : Takes (taken l.fn.parser.reading) (taken l.parser.reading) (g.F.Feed.to_come l.fn.feed) (g.F.Feed.to_come l.feed);
+  kept : StayedOrWentOn l.fn.parser l.parser;
 }
 
 abbrev pub decreases-loop-parser : goal.decreases-loop-parser
-decreases-loop-parser g l = remaining l.parser.reading
+decreases-loop-parser g l = to_go l.parser

@@ -4,6 +4,7 @@ use Rattle.std.proofs.lemmas.List.{length-map}
 use Rattle.std.proofs.lemmas.List.Elements.{All-get_or}
 use Rattle.series.specs.Runs.{AreSources}
 use Rattle.series.proofs.CompilingLemmas.{pieces_more, pieces_cut, kept_more, kept_good, kept_fault}
+use Rattle.series.proofs.ReadingLemmas.{fails_at, reads_first, reads_more}
 use Rattle.series.proofs.RunsLemmas.{feed_here, told_here, name_here, length_sources, none_failed, rest_more}
 use Rattle.series.proofs.runs.compile_into.Goals as goal
 use Rattle.series.proofs.runs.compile_into.Goals.{in-Ok-compiled, in-Err-compiled}
@@ -72,4 +73,20 @@ loop-file-preserved g c = (
               w.in-Err-compiled.field-0 c.in-Ok.compiled _ w.in-Err-compiled.is w.faulty-is more
         ],
       ),
+  reads_more g.F.Feed.to_come c.args.settings.now.profile c.args.feeds.now c.loop-file.feeds c.loop-file.file c.index-feeds-file.result c.compile.new.feed
+      (omega arith) c.loop-file.invariant.0 c.loop-file.invariant.4 (rw c.profile-profile.ensures.value at c.in-Ok.ensures.taken),
+)
+
+pub returns-in-Err-clause-read : goal.returns-in-Err-clause-read
+returns-in-Err-clause-read g c =
+    fails_at g.F.Feed.to_come c.args.settings.now.profile c.args.feeds.now c.loop-file.feeds c.loop-file.file c.index-feeds-file.result c.compile.new.feed
+    (omega arith) c.loop-file.invariant.0 c.loop-file.invariant.4 (rw c.profile-profile.ensures.value at c.in-Err.ensures.stopped)
+
+pub returns-in-Err-put_compiled-clause-read : goal.returns-in-Err-put_compiled-clause-read
+returns-in-Err-put_compiled-clause-read g c = (
+  c.loop-file.file + 1,
+  reads_first g.F.Feed.to_come c.args.settings.now.profile c.args.feeds.now _ (c.loop-file.file + 1)
+      (rest_more c.args.feeds.now c.loop-file.feeds c.loop-file.file c.compile.new.feed c.loop-file.invariant.0)
+      (reads_more g.F.Feed.to_come c.args.settings.now.profile c.args.feeds.now c.loop-file.feeds c.loop-file.file c.index-feeds-file.result c.compile.new.feed
+      (omega arith) c.loop-file.invariant.0 c.loop-file.invariant.4 (rw c.profile-profile.ensures.value at c.in-Ok.ensures.taken)),
 )

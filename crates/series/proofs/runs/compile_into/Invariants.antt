@@ -3,12 +3,13 @@ use Rattle.std.specs.Prelude.{if◌then◌else◌}
 use Rattle.series.specs.Compiling.{Source, compiling, codes_of}
 use Rattle.series.specs.Failures.{failures}
 use Rattle.series.specs.Pieces.{taken, Writes}
+use Rattle.series.specs.Reading.{TakesOfFirst}
 use Rattle.series.specs.Runs.{AreSources}
 use Rattle.series.proofs.runs.compile_into.Given as goal
 
 -- The feeds of the files to come are as they were, nothing failed, there is a program for each file so far
 -- unless one was faulty,
--- and the files so far are compiled.
+-- the files so far are compiled, and of each no more is taken than decides it and a window.
 abbrev pub invariant-loop-file : goal.invariant-loop-file
 invariant-loop-file g l =
     (drop l.file l.feeds ≡ drop l.file l.fn.feeds)
@@ -19,3 +20,4 @@ invariant-loop-file g l =
     → Writes (taken (g.O.Sink.portions l.fn.out) (g.E.Sink.portions l.fn.err)) (taken (g.O.Sink.portions l.out) (g.E.Sink.portions l.err))
     (compiling l.settings.mode l.settings.profile (take l.file sources))
     × ((if l.faulty then None else Some l.programs) ≡ codes_of l.settings.profile (take l.file sources)))
+    × TakesOfFirst l.settings.profile (map g.F.Feed.to_come l.fn.feeds) (map g.F.Feed.to_come l.feeds) l.file

@@ -1,20 +1,16 @@
 use Rattle.std.proofs.Common.{◌≡◌, List, false}
 use Rattle.grammar.specs.Tree.{File}
 use Rattle.code.specs.Codes.{AreCodesOf}
-use Rattle.series.specs.Courses.{IsTallyOf}
 use Rattle.series.specs.Pieces.{taken, Writes}
-use Rattle.series.specs.Playing.{outcomes, reports}
+use Rattle.series.specs.Playing.{reports}
 use Rattle.series.specs.Portions.{Portions}
 use Rattle.series.proofs.runs.play_all.Given as goal
 
 -- so many matches were played, and their reports written; no write has failed
 abbrev pub invariant-loop : goal.invariant-loop
 invariant-loop g l = record {
-  setup : l.course.setup ≡ l.fn.settings;
-  played : l.course.tally.matches ≡ l.counter;
-  going : l.course.failed ≡ false;
+  standing : l.series ≡ record { setup = l.fn.settings; codes = l.programs; played = l.counter; failed = false };
   calm : g.O.Sink.failures l.out ≡ g.O.Sink.failures l.fn.out;
-  counts : (files : List File) → AreCodesOf l.programs l.fn.settings.profile files → IsTallyOf l.course.tally (outcomes l.fn.settings files l.counter);
   writes : (files : List File) (faults : Portions) → AreCodesOf l.programs l.fn.settings.profile files
       → Writes (taken (g.O.Sink.portions l.fn.out) faults) (taken (g.O.Sink.portions l.out) faults) (reports l.fn.settings files l.counter);
 }

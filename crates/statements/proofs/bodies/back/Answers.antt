@@ -1,8 +1,9 @@
 use Rattle.std.proofs.Common.{◌≡◌, true, false}
 use Rattle.std.proofs.lemmas.Result.{err_from_is_err_and}
-use Rattle.tokens.specs.declared.lexemes.Mark.TheVariants as mark
-use Rattle.grammar.specs.Grammar.{is_fault, is_mark}
-use Rattle.parsing.proofs.Stretches.{refused_map}
+use Rattle.tokens.specs.declared.located_tokens.Punctuator.TheVariants as punctuator
+use Rattle.grammar.specs.Grammar.{is_fault, is_punctuator}
+use Rattle.parsing.proofs.Advances.{on, stays_ready}
+use Rattle.parsing.proofs.Segments.{refused_map}
 use Rattle.parsing.specs.Room.{room}
 use Rattle.statements.proofs.Openings.{may_push}
 use Rattle.statements.proofs.SimpleLaws.{back_adds, back_fails, zero_adds}
@@ -11,21 +12,27 @@ use Rattle.statements.proofs.bodies.back.Goals as goal
 pub constant-requires : goal.constant-requires
 constant-requires g c = record { follows = may_push _ (room c.args.depth 1) c.requires.open }
 
-pub returns-then-is_mark-clause-parsed : goal.returns-then-is_mark-clause-parsed
-returns-then-is_mark-clause-parsed g c =
-    let sound : is_fault c.args.parser.now.reading.next.token ≡ false = cc in
-    let is : is_mark mark.Semicolon c.args.parser.now.reading.next.token ≡ true = cc in
+pub returns-then-is_punctuator-clause-parses : goal.returns-then-is_punctuator-clause-parses
+returns-then-is_punctuator-clause-parses g c =
+    let sound : is_fault c.args.parser.now.place.position.reading.next.token ≡ false = cc in
+    let is : is_punctuator punctuator.Semicolon c.args.parser.now.place.position.reading.next.token ≡ true = cc in
     zero_adds _ _ _ c.args.depth sound is c.in_ok-constant.ensures.ok
 
-pub returns-in_err-expression-clause-refused : goal.returns-in_err-expression-clause-refused
-returns-in_err-expression-clause-refused g c =
-    let sound : is_fault c.args.parser.now.reading.next.token ≡ false = cc in
-    let other : is_mark mark.Semicolon c.args.parser.now.reading.next.token ≡ false = cc in
+pub returns-in_err-expression-clause-parses : goal.returns-in_err-expression-clause-parses
+returns-in_err-expression-clause-parses g c =
+    let sound : is_fault c.args.parser.now.place.position.reading.next.token ≡ false = cc in
+    let other : is_punctuator punctuator.Semicolon c.args.parser.now.place.position.reading.next.token ≡ false = cc in
     let p = err_from_is_err_and c.from_residual-in_err-expression.result c.from_residual-in_err-expression.ensures.1 in
-    rw (p.1, p.2) (refused_map _ _ _ _ _ c.in_err-expression.field-0.0 (back_fails _ c.args.depth sound other) (λ same. same) c.in_err-expression.ensures.refused)
+    rw (p.1, p.2) (refused_map _ _ _ _ _ c.in_err-expression.field-0.0 (back_fails _ c.args.depth sound other) (λ same. same) c.in_err-expression.ensures.parses)
 
-pub returns-clause-parsed : goal.returns-clause-parsed
-returns-clause-parsed g c =
-    let sound : is_fault c.args.parser.now.reading.next.token ≡ false = cc in
-    let other : is_mark mark.Semicolon c.args.parser.now.reading.next.token ≡ false = cc in
-    back_adds _ _ _ _ c.args.depth sound other c.in_ok-expression.ensures.parsed
+pub returns-clause-parses : goal.returns-clause-parses
+returns-clause-parses g c =
+    let sound : is_fault c.args.parser.now.place.position.reading.next.token ≡ false = cc in
+    let other : is_punctuator punctuator.Semicolon c.args.parser.now.place.position.reading.next.token ≡ false = cc in
+    back_adds _ _ _ _ c.args.depth sound other c.in_ok-expression.ensures.parses
+
+pub returns-then-is_punctuator-clause-kept : goal.returns-then-is_punctuator-clause-kept
+returns-then-is_punctuator-clause-kept g c = stays_ready c.args.parser.now c.requires.ready
+
+pub returns-clause-kept : goal.returns-clause-kept
+returns-clause-kept g c = on _ _ c.in_ok-expression.ensures.kept

@@ -1,26 +1,30 @@
 use Rattle.std.proofs.Common.{false}
 use Rattle.std.proofs.lemmas.Result.{err_from_is_err_and}
-use Rattle.parsing.proofs.Stretches.{refused_map}
+use Rattle.parsing.proofs.Advances.{on, on_then}
+use Rattle.parsing.proofs.Segments.{refused_map}
 use Rattle.parsing.specs.Room.{room}
 use Rattle.statements.proofs.Openings.{may_chop, value_inside}
 use Rattle.statements.proofs.SimpleLaws.{evaluation_adds, semicolon_fails, value_fails}
 use Rattle.statements.proofs.bodies.evaluation.Goals as goal
 
-pub returns-in_err-expression-clause-refused : goal.returns-in_err-expression-clause-refused
-returns-in_err-expression-clause-refused g c =
+pub returns-in_err-expression-clause-parses : goal.returns-in_err-expression-clause-parses
+returns-in_err-expression-clause-parses g c =
     let p = err_from_is_err_and c.from_residual.result c.from_residual.ensures.1 in
-    rw (p.1, p.2) (refused_map _ _ _ _ _ c.in_err-expression.field-0.0 (value_fails _ c.args.depth c.requires.sound c.requires.plain) (λ same. same) c.in_err-expression.ensures.refused)
+    rw (p.1, p.2) (refused_map _ _ _ _ _ c.in_err-expression.field-0.0 (value_fails _ c.args.depth c.requires.ready.sound c.requires.plain) (λ same. same) c.in_err-expression.ensures.parses)
 
-pub returns-in_err-expect-clause-refused : goal.returns-in_err-expect-clause-refused
-returns-in_err-expect-clause-refused g c =
+pub returns-in_err-expect-clause-parses : goal.returns-in_err-expect-clause-parses
+returns-in_err-expect-clause-parses g c =
     let p = err_from_is_err_and c.from_residual-in_err-expect.result c.from_residual-in_err-expect.ensures.1 in
-    rw (p.1, p.2) (refused_map _ _ _ false _ c.in_err-expect.field-0.0 (semicolon_fails _ _ _ _ c.args.depth c.requires.sound c.requires.plain c.in_ok-expression.ensures.parsed) (λ never. absurd (cc)) c.in_err-expect.ensures.refused)
+    rw (p.1, p.2) (refused_map _ _ _ false _ c.in_err-expect.field-0.0 (semicolon_fails _ _ _ _ c.args.depth c.requires.ready.sound c.requires.plain c.in_ok-expression.ensures.parses) (λ never. absurd (cc)) c.in_err-expect.ensures.matches)
 
 pub chop-requires : goal.chop-requires
 chop-requires g c =
-    let e = c.in_ok-expression.ensures.parsed in
+    let e = c.in_ok-expression.ensures.parses in
     record { follows = may_chop _ _ (room c.args.depth 1) (value_inside _ _ (room c.args.depth 1) e.tree c.requires.open e.numbered e.narrow e.added) }
 
-pub returns-clause-parsed : goal.returns-clause-parsed
-returns-clause-parsed g c =
-    evaluation_adds _ _ _ _ _ _ c.args.depth c.requires.sound c.requires.plain c.in_ok-expression.ensures.parsed c.in_ok-expect.ensures.passed c.in_ok-expect.ensures.sound c.in_ok-chop.ensures.ok
+pub returns-clause-parses : goal.returns-clause-parses
+returns-clause-parses g c =
+    evaluation_adds _ _ _ _ _ _ c.args.depth c.requires.ready.sound c.requires.plain c.in_ok-expression.ensures.parses c.in_ok-expect.ensures.matches c.in_ok-expect.ensures.kept.ready.sound c.in_ok-chop.ensures.ok
+
+pub returns-clause-kept : goal.returns-clause-kept
+returns-clause-kept g c = on_then _ _ _ c.in_ok-expression.ensures.kept (on _ _ c.in_ok-expect.ensures.kept)

@@ -3,32 +3,37 @@ use Rattle.std.proofs.lemmas.Result.{err_from_is_err_and}
 use Rattle.grammar.specs.Actions.{GiveBack}
 use Rattle.grammar.specs.Following.{AValue, is_number}
 use Rattle.grammar.proofs.FollowingLaws.{origin_of}
-use Rattle.parsing.proofs.Stretches.{refused_map}
+use Rattle.parsing.proofs.Advances.{kept_then, on, on_then}
+use Rattle.parsing.proofs.Segments.{refused_map}
 use Rattle.parsing.specs.Room.{room}
 use Rattle.statements.proofs.Openings.{may_end, value_inside}
 use Rattle.statements.proofs.SimpleLaws.{given_fails, return_adds, return_stops, return_unended}
 use Rattle.statements.proofs.bodies.give_back.Goals as goal
 
-pub returns-in_err-advance-clause-refused : goal.returns-in_err-advance-clause-refused
-returns-in_err-advance-clause-refused g c =
+pub returns-in_err-advance-clause-parses : goal.returns-in_err-advance-clause-parses
+returns-in_err-advance-clause-parses g c =
     let p = err_from_is_err_and c.from_residual.result c.from_residual.ensures.1 in
-    rw (p.1, p.2) (refused_map _ _ _ false _ c.in_err-advance.field-0.0 (return_stops _ c.args.depth c.requires.sound c.requires.is) (λ never. absurd (cc)) c.in_err-advance.ensures.refused)
+    rw (p.1, p.2) (refused_map _ _ _ false _ c.in_err-advance.field-0.0 (return_stops _ c.args.depth c.requires.ready.sound c.requires.is) (λ never. absurd (cc)) c.in_err-advance.ensures.consumes)
 
-pub returns-in_err-back-clause-refused : goal.returns-in_err-back-clause-refused
-returns-in_err-back-clause-refused g c =
+pub returns-in_err-back-clause-parses : goal.returns-in_err-back-clause-parses
+returns-in_err-back-clause-parses g c =
     let p = err_from_is_err_and c.from_residual-in_err-back.result c.from_residual-in_err-back.ensures.1 in
-    rw (p.1, p.2) (refused_map _ _ _ _ _ c.in_err-back.field-0.0 (given_fails _ _ c.args.depth c.requires.sound c.requires.is c.in_ok-advance.ensures.passed) (λ same. same) c.in_err-back.ensures.refused)
+    rw (p.1, p.2) (refused_map _ _ _ _ _ c.in_err-back.field-0.0 (given_fails _ _ c.args.depth c.requires.ready.sound c.requires.is c.in_ok-advance.ensures.consumes) (λ same. same) c.in_err-back.ensures.parses)
 
-pub returns-in_err-expect-clause-refused : goal.returns-in_err-expect-clause-refused
-returns-in_err-expect-clause-refused g c =
+pub returns-in_err-expect-clause-parses : goal.returns-in_err-expect-clause-parses
+returns-in_err-expect-clause-parses g c =
     let p = err_from_is_err_and c.from_residual-in_err-expect.result c.from_residual-in_err-expect.ensures.1 in
-    rw (p.1, p.2) (refused_map _ _ _ false _ c.in_err-expect.field-0.0 (return_unended _ _ _ _ _ c.args.depth c.requires.sound c.requires.is c.in_ok-advance.ensures.passed c.in_ok-back.ensures.parsed) (λ never. absurd (cc)) c.in_err-expect.ensures.refused)
+    rw (p.1, p.2) (refused_map _ _ _ false _ c.in_err-expect.field-0.0 (return_unended _ _ _ _ _ c.args.depth c.requires.ready.sound c.requires.is c.in_ok-advance.ensures.consumes c.in_ok-back.ensures.parses) (λ never. absurd (cc)) c.in_err-expect.ensures.matches)
 
 pub give_back-requires : goal.give_back-requires
 give_back-requires g c =
-    let e = c.in_ok-back.ensures.parsed in
+    let e = c.in_ok-back.ensures.parses in
     record { follows = may_end GiveBack (AValue (origin_of e.tree)) (is_number 0 (origin_of e.tree)) _ (room c.args.depth 1) (λ o. refl) (value_inside _ _ (room c.args.depth 1) e.tree c.requires.open e.numbered e.narrow e.added) }
 
-pub returns-clause-parsed : goal.returns-clause-parsed
-returns-clause-parsed g c =
-    return_adds _ _ _ _ _ _ _ c.args.depth c.requires.sound c.requires.is c.in_ok-advance.ensures.passed c.in_ok-back.ensures.parsed c.in_ok-expect.ensures.passed c.in_ok-expect.ensures.sound c.in_ok-give_back.ensures.ok
+pub returns-clause-parses : goal.returns-clause-parses
+returns-clause-parses g c =
+    return_adds _ _ _ _ _ _ _ c.args.depth c.requires.ready.sound c.requires.is c.in_ok-advance.ensures.consumes c.in_ok-back.ensures.parses c.in_ok-expect.ensures.matches c.in_ok-expect.ensures.kept.ready.sound c.in_ok-give_back.ensures.ok
+
+pub returns-clause-kept : goal.returns-clause-kept
+returns-clause-kept g c =
+    on_then _ _ _ c.in_ok-advance.ensures.kept (kept_then _ _ _ c.in_ok-back.ensures.kept (on _ _ c.in_ok-expect.ensures.kept))

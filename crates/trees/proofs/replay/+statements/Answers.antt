@@ -6,98 +6,98 @@ use Rattle.grammar.specs.Building.{AppendsAll}
 use Rattle.trees.specs.Replaying.{MayFollowAll}
 use Rattle.trees.specs.Trees.{body_tree, expr_tree}
 use Rattle.trees.specs.declared.tree.Statement.{the_lemmas}
-use Rattle.trees.proofs.ReplayLaws.{actions-Choose, actions-When, actions-While, appends_both, appends_none, may_first, may_front, may_next, may_then, statement_may, statements_more}
+use Rattle.trees.proofs.ReplayLaws.{actions-IfElseStatement, actions-IfStatement, actions-While, appends_both, appends_none, may_first, may_front, may_next, may_then, statement_may, statements_more}
 use Rattle.trees.proofs.replay.+statements.Goals as goal
 
 -- Ifs without a second branch.
 
 pub tell_statement-tell_test-requires : goal.tell_statement-tell_test-requires
 tell_statement-tell_test-requires g t c =
-    may_front _ _ _ (subst (MayFollowAll (g.B.Build.stands c.args.build.now)) (actions-When _ _ _ c.in-When.is) c.requires)
+    may_front _ _ _ (subst (MayFollowAll (g.B.Build.stands c.args.build.now)) (actions-IfStatement _ _ _ c.in-IfStatement.is) c.requires)
 
 pub tell_statement-tell_statements-requires : goal.tell_statement-tell_statements-requires
 tell_statement-tell_statements-requires g t c κs within =
     let at = g.B.Build.stands in
-    let whole = subst (MayFollowAll (at c.args.build.now)) (actions-When _ _ _ c.in-When.is) c.requires in
-    let rest = may_then _ (at c.tell_test.new.build) (expr_actions (expr_tree c.in-When.condition) ++ IfTest ∷ []) _ c.in_ok-tell_test-in-When.ensures.ok whole in
+    let whole = subst (MayFollowAll (at c.args.build.now)) (actions-IfStatement _ _ _ c.in-IfStatement.is) c.requires in
+    let rest = may_then _ (at c.tell_test.new.build) (expr_actions (expr_tree c.in-IfStatement.condition) ++ IfTest ∷ []) _ c.in_ok-tell_test-in-IfStatement.ensures.ok whole in
     let may : MayFollowAll (at c.tell_test.new.build) (body_actions (body_tree c.deref.result.now)) = rw c.deref.ensures.value (may_front _ _ _ rest) in
     (grind (arith, the_lemmas), (within, may))
 
 pub tell_statement-end_if-requires : goal.tell_statement-end_if-requires
 tell_statement-end_if-requires g t c =
     let at = g.B.Build.stands in
-    let whole = subst (MayFollowAll (at c.args.build.now)) (actions-When _ _ _ c.in-When.is) c.requires in
-    let rest = may_then _ (at c.tell_test.new.build) (expr_actions (expr_tree c.in-When.condition) ++ IfTest ∷ []) _ c.in_ok-tell_test-in-When.ensures.ok whole in
-    let told : AppendsAll (at c.tell_test.new.build) (at c.tell_statements.new.build) (body_actions (body_tree c.in-When.branch.items)) = rw c.deref.ensures.value at c.in_ok-tell_statements-in-When.ensures.ok in
+    let whole = subst (MayFollowAll (at c.args.build.now)) (actions-IfStatement _ _ _ c.in-IfStatement.is) c.requires in
+    let rest = may_then _ (at c.tell_test.new.build) (expr_actions (expr_tree c.in-IfStatement.condition) ++ IfTest ∷ []) _ c.in_ok-tell_test-in-IfStatement.ensures.ok whole in
+    let told : AppendsAll (at c.tell_test.new.build) (at c.tell_statements.new.build) (body_actions (body_tree c.in-IfStatement.branch.items)) = rw c.deref.ensures.value at c.in_ok-tell_statements-in-IfStatement.ensures.ok in
     record { follows = may_first _ _ _ (may_then _ (at c.tell_statements.new.build) _ _ told rest) }
 
-pub tell_statement-returns-in_ok-tell_statements-in-When-clause-ok : goal.tell_statement-returns-in_ok-tell_statements-in-When-clause-ok
-tell_statement-returns-in_ok-tell_statements-in-When-clause-ok g t c =
+pub tell_statement-returns-in_ok-tell_statements-in-IfStatement-clause-ok : goal.tell_statement-returns-in_ok-tell_statements-in-IfStatement-clause-ok
+tell_statement-returns-in_ok-tell_statements-in-IfStatement-clause-ok g t c =
     let at = g.B.Build.stands in
     let first = at c.args.build.now in
     let second = at c.tell_test.new.build in
     let third = at c.tell_statements.new.build in
     let last = at c.end_if.new.self in
-    let told : AppendsAll second third (body_actions (body_tree c.in-When.branch.items)) = rw c.deref.ensures.value at c.in_ok-tell_statements-in-When.ensures.ok in
-    on_ok_weaker _ (λ ended. subst (AppendsAll first last) (sym (actions-When _ _ _ c.in-When.is))
-    (appends_both first second last _ _ c.in_ok-tell_test-in-When.ensures.ok (appends_both second third last _ (EndIf ∷ []) told ended))) c.end_if.ensures.ok
+    let told : AppendsAll second third (body_actions (body_tree c.in-IfStatement.branch.items)) = rw c.deref.ensures.value at c.in_ok-tell_statements-in-IfStatement.ensures.ok in
+    on_ok_weaker _ (λ ended. subst (AppendsAll first last) (sym (actions-IfStatement _ _ _ c.in-IfStatement.is))
+    (appends_both first second last _ _ c.in_ok-tell_test-in-IfStatement.ensures.ok (appends_both second third last _ (EndIf ∷ []) told ended))) c.end_if.ensures.ok
 
 -- Ifs with both branches.
 
-pub tell_statement-tell_test-requires-in-Choose : goal.tell_statement-tell_test-requires-in-Choose
-tell_statement-tell_test-requires-in-Choose g t c =
-    may_front _ _ _ (subst (MayFollowAll (g.B.Build.stands c.args.build.now)) (actions-Choose _ _ _ _ c.in-Choose.is) c.requires)
+pub tell_statement-tell_test-requires-in-IfElseStatement : goal.tell_statement-tell_test-requires-in-IfElseStatement
+tell_statement-tell_test-requires-in-IfElseStatement g t c =
+    may_front _ _ _ (subst (MayFollowAll (g.B.Build.stands c.args.build.now)) (actions-IfElseStatement _ _ _ _ c.in-IfElseStatement.is) c.requires)
 
-pub tell_statement-tell_statements-requires-in-Choose : goal.tell_statement-tell_statements-requires-in-Choose
-tell_statement-tell_statements-requires-in-Choose g t c κs within =
+pub tell_statement-tell_statements-requires-in-IfElseStatement : goal.tell_statement-tell_statements-requires-in-IfElseStatement
+tell_statement-tell_statements-requires-in-IfElseStatement g t c κs within =
     let at = g.B.Build.stands in
-    let whole = subst (MayFollowAll (at c.args.build.now)) (actions-Choose _ _ _ _ c.in-Choose.is) c.requires in
-    let rest = may_then _ (at c.tell_test-in-Choose.new.build) (expr_actions (expr_tree c.in-Choose.condition) ++ IfTest ∷ []) _ c.in_ok-tell_test-in-Choose.ensures.ok whole in
-    let may : MayFollowAll (at c.tell_test-in-Choose.new.build) (body_actions (body_tree c.deref-in-Choose.result.now)) = rw c.deref-in-Choose.ensures.value (may_front _ _ _ rest) in
+    let whole = subst (MayFollowAll (at c.args.build.now)) (actions-IfElseStatement _ _ _ _ c.in-IfElseStatement.is) c.requires in
+    let rest = may_then _ (at c.tell_test-in-IfElseStatement.new.build) (expr_actions (expr_tree c.in-IfElseStatement.condition) ++ IfTest ∷ []) _ c.in_ok-tell_test-in-IfElseStatement.ensures.ok whole in
+    let may : MayFollowAll (at c.tell_test-in-IfElseStatement.new.build) (body_actions (body_tree c.deref-in-IfElseStatement.result.now)) = rw c.deref-in-IfElseStatement.ensures.value (may_front _ _ _ rest) in
     (grind (arith, the_lemmas), (within, may))
 
 pub tell_statement-else_part-requires : goal.tell_statement-else_part-requires
 tell_statement-else_part-requires g t c =
     let at = g.B.Build.stands in
-    let whole = subst (MayFollowAll (at c.args.build.now)) (actions-Choose _ _ _ _ c.in-Choose.is) c.requires in
-    let rest = may_then _ (at c.tell_test-in-Choose.new.build) (expr_actions (expr_tree c.in-Choose.condition) ++ IfTest ∷ []) _ c.in_ok-tell_test-in-Choose.ensures.ok whole in
-    let one : AppendsAll (at c.tell_test-in-Choose.new.build) (at c.tell_statements-in-Choose.new.build) (body_actions (body_tree c.in-Choose.first.items)) = rw c.deref-in-Choose.ensures.value at c.in_ok-tell_statements-in-Choose.ensures.ok in
-    record { follows = may_first _ _ _ (may_then _ (at c.tell_statements-in-Choose.new.build) _ _ one rest) }
+    let whole = subst (MayFollowAll (at c.args.build.now)) (actions-IfElseStatement _ _ _ _ c.in-IfElseStatement.is) c.requires in
+    let rest = may_then _ (at c.tell_test-in-IfElseStatement.new.build) (expr_actions (expr_tree c.in-IfElseStatement.condition) ++ IfTest ∷ []) _ c.in_ok-tell_test-in-IfElseStatement.ensures.ok whole in
+    let one : AppendsAll (at c.tell_test-in-IfElseStatement.new.build) (at c.tell_statements-in-IfElseStatement.new.build) (body_actions (body_tree c.in-IfElseStatement.first.items)) = rw c.deref-in-IfElseStatement.ensures.value at c.in_ok-tell_statements-in-IfElseStatement.ensures.ok in
+    record { follows = may_first _ _ _ (may_then _ (at c.tell_statements-in-IfElseStatement.new.build) _ _ one rest) }
 
-pub tell_statement-tell_statements-requires-in-Choose-2 : goal.tell_statement-tell_statements-requires-in-Choose-2
-tell_statement-tell_statements-requires-in-Choose-2 g t c κs within =
+pub tell_statement-tell_statements-requires-in-IfElseStatement-2 : goal.tell_statement-tell_statements-requires-in-IfElseStatement-2
+tell_statement-tell_statements-requires-in-IfElseStatement-2 g t c κs within =
     let at = g.B.Build.stands in
-    let whole = subst (MayFollowAll (at c.args.build.now)) (actions-Choose _ _ _ _ c.in-Choose.is) c.requires in
-    let rest = may_then _ (at c.tell_test-in-Choose.new.build) (expr_actions (expr_tree c.in-Choose.condition) ++ IfTest ∷ []) _ c.in_ok-tell_test-in-Choose.ensures.ok whole in
-    let one : AppendsAll (at c.tell_test-in-Choose.new.build) (at c.tell_statements-in-Choose.new.build) (body_actions (body_tree c.in-Choose.first.items)) = rw c.deref-in-Choose.ensures.value at c.in_ok-tell_statements-in-Choose.ensures.ok in
-    let other = may_next _ (at c.else_part.new.self) ElsePart _ c.in_ok-else_part-in-Choose.ensures.ok (may_then _ (at c.tell_statements-in-Choose.new.build) _ _ one rest) in
-    let may : MayFollowAll (at c.else_part.new.self) (body_actions (body_tree c.deref-in-Choose-2.result.now)) = rw c.deref-in-Choose-2.ensures.value (may_front _ _ _ other) in
+    let whole = subst (MayFollowAll (at c.args.build.now)) (actions-IfElseStatement _ _ _ _ c.in-IfElseStatement.is) c.requires in
+    let rest = may_then _ (at c.tell_test-in-IfElseStatement.new.build) (expr_actions (expr_tree c.in-IfElseStatement.condition) ++ IfTest ∷ []) _ c.in_ok-tell_test-in-IfElseStatement.ensures.ok whole in
+    let one : AppendsAll (at c.tell_test-in-IfElseStatement.new.build) (at c.tell_statements-in-IfElseStatement.new.build) (body_actions (body_tree c.in-IfElseStatement.first.items)) = rw c.deref-in-IfElseStatement.ensures.value at c.in_ok-tell_statements-in-IfElseStatement.ensures.ok in
+    let other = may_next _ (at c.else_part.new.self) ElsePart _ c.in_ok-else_part-in-IfElseStatement.ensures.ok (may_then _ (at c.tell_statements-in-IfElseStatement.new.build) _ _ one rest) in
+    let may : MayFollowAll (at c.else_part.new.self) (body_actions (body_tree c.deref-in-IfElseStatement-2.result.now)) = rw c.deref-in-IfElseStatement-2.ensures.value (may_front _ _ _ other) in
     (grind (arith, the_lemmas), (within, may))
 
-pub tell_statement-end_if-requires-in-Choose : goal.tell_statement-end_if-requires-in-Choose
-tell_statement-end_if-requires-in-Choose g t c =
+pub tell_statement-end_if-requires-in-IfElseStatement : goal.tell_statement-end_if-requires-in-IfElseStatement
+tell_statement-end_if-requires-in-IfElseStatement g t c =
     let at = g.B.Build.stands in
-    let whole = subst (MayFollowAll (at c.args.build.now)) (actions-Choose _ _ _ _ c.in-Choose.is) c.requires in
-    let rest = may_then _ (at c.tell_test-in-Choose.new.build) (expr_actions (expr_tree c.in-Choose.condition) ++ IfTest ∷ []) _ c.in_ok-tell_test-in-Choose.ensures.ok whole in
-    let one : AppendsAll (at c.tell_test-in-Choose.new.build) (at c.tell_statements-in-Choose.new.build) (body_actions (body_tree c.in-Choose.first.items)) = rw c.deref-in-Choose.ensures.value at c.in_ok-tell_statements-in-Choose.ensures.ok in
-    let other = may_next _ (at c.else_part.new.self) ElsePart _ c.in_ok-else_part-in-Choose.ensures.ok (may_then _ (at c.tell_statements-in-Choose.new.build) _ _ one rest) in
-    let two : AppendsAll (at c.else_part.new.self) (at c.tell_statements-in-Choose-2.new.build) (body_actions (body_tree c.in-Choose.second.items)) = rw c.deref-in-Choose-2.ensures.value at c.in_ok-tell_statements-in-Choose-2.ensures.ok in
-    record { follows = may_first _ _ _ (may_then _ (at c.tell_statements-in-Choose-2.new.build) _ _ two other) }
+    let whole = subst (MayFollowAll (at c.args.build.now)) (actions-IfElseStatement _ _ _ _ c.in-IfElseStatement.is) c.requires in
+    let rest = may_then _ (at c.tell_test-in-IfElseStatement.new.build) (expr_actions (expr_tree c.in-IfElseStatement.condition) ++ IfTest ∷ []) _ c.in_ok-tell_test-in-IfElseStatement.ensures.ok whole in
+    let one : AppendsAll (at c.tell_test-in-IfElseStatement.new.build) (at c.tell_statements-in-IfElseStatement.new.build) (body_actions (body_tree c.in-IfElseStatement.first.items)) = rw c.deref-in-IfElseStatement.ensures.value at c.in_ok-tell_statements-in-IfElseStatement.ensures.ok in
+    let other = may_next _ (at c.else_part.new.self) ElsePart _ c.in_ok-else_part-in-IfElseStatement.ensures.ok (may_then _ (at c.tell_statements-in-IfElseStatement.new.build) _ _ one rest) in
+    let two : AppendsAll (at c.else_part.new.self) (at c.tell_statements-in-IfElseStatement-2.new.build) (body_actions (body_tree c.in-IfElseStatement.second.items)) = rw c.deref-in-IfElseStatement-2.ensures.value at c.in_ok-tell_statements-in-IfElseStatement-2.ensures.ok in
+    record { follows = may_first _ _ _ (may_then _ (at c.tell_statements-in-IfElseStatement-2.new.build) _ _ two other) }
 
-pub tell_statement-returns-in_ok-tell_statements-in-Choose-2-clause-ok : goal.tell_statement-returns-in_ok-tell_statements-in-Choose-2-clause-ok
-tell_statement-returns-in_ok-tell_statements-in-Choose-2-clause-ok g t c =
+pub tell_statement-returns-in_ok-tell_statements-in-IfElseStatement-2-clause-ok : goal.tell_statement-returns-in_ok-tell_statements-in-IfElseStatement-2-clause-ok
+tell_statement-returns-in_ok-tell_statements-in-IfElseStatement-2-clause-ok g t c =
     let at = g.B.Build.stands in
     let first = at c.args.build.now in
-    let second = at c.tell_test-in-Choose.new.build in
-    let third = at c.tell_statements-in-Choose.new.build in
+    let second = at c.tell_test-in-IfElseStatement.new.build in
+    let third = at c.tell_statements-in-IfElseStatement.new.build in
     let fourth = at c.else_part.new.self in
-    let fifth = at c.tell_statements-in-Choose-2.new.build in
-    let last = at c.end_if-in-Choose.new.self in
-    let one : AppendsAll (at c.tell_test-in-Choose.new.build) (at c.tell_statements-in-Choose.new.build) (body_actions (body_tree c.in-Choose.first.items)) = rw c.deref-in-Choose.ensures.value at c.in_ok-tell_statements-in-Choose.ensures.ok in
-    let two : AppendsAll (at c.else_part.new.self) (at c.tell_statements-in-Choose-2.new.build) (body_actions (body_tree c.in-Choose.second.items)) = rw c.deref-in-Choose-2.ensures.value at c.in_ok-tell_statements-in-Choose-2.ensures.ok in
-    on_ok_weaker _ (λ ended. subst (AppendsAll first last) (sym (actions-Choose _ _ _ _ c.in-Choose.is))
-    (appends_both first second last _ _ c.in_ok-tell_test-in-Choose.ensures.ok (appends_both second third last _ _ one
-    (appends_both third fourth last (ElsePart ∷ []) _ c.in_ok-else_part-in-Choose.ensures.ok (appends_both fourth fifth last _ (EndIf ∷ []) two ended))))) c.end_if-in-Choose.ensures.ok
+    let fifth = at c.tell_statements-in-IfElseStatement-2.new.build in
+    let last = at c.end_if-in-IfElseStatement.new.self in
+    let one : AppendsAll (at c.tell_test-in-IfElseStatement.new.build) (at c.tell_statements-in-IfElseStatement.new.build) (body_actions (body_tree c.in-IfElseStatement.first.items)) = rw c.deref-in-IfElseStatement.ensures.value at c.in_ok-tell_statements-in-IfElseStatement.ensures.ok in
+    let two : AppendsAll (at c.else_part.new.self) (at c.tell_statements-in-IfElseStatement-2.new.build) (body_actions (body_tree c.in-IfElseStatement.second.items)) = rw c.deref-in-IfElseStatement-2.ensures.value at c.in_ok-tell_statements-in-IfElseStatement-2.ensures.ok in
+    on_ok_weaker _ (λ ended. subst (AppendsAll first last) (sym (actions-IfElseStatement _ _ _ _ c.in-IfElseStatement.is))
+    (appends_both first second last _ _ c.in_ok-tell_test-in-IfElseStatement.ensures.ok (appends_both second third last _ _ one
+    (appends_both third fourth last (ElsePart ∷ []) _ c.in_ok-else_part-in-IfElseStatement.ensures.ok (appends_both fourth fifth last _ (EndIf ∷ []) two ended))))) c.end_if-in-IfElseStatement.ensures.ok
 
 -- Loops.
 

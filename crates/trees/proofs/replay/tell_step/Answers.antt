@@ -1,6 +1,6 @@
 use Rattle.std.proofs.Common.{pos, [], ◌∷◌}
 use Rattle.std.proofs.lemmas.Result.{on_ok_weaker}
-use Rattle.grammar.specs.Actions.{Chop, Get, Push, Put}
+use Rattle.grammar.specs.Actions.{Chop, FetchVariable, PushConstant, StoreVariable}
 use Rattle.trees.proofs.ReplayLaws.{appends_both, may_first, may_next}
 use Rattle.trees.proofs.replay.tell_step.Goals as goal
 
@@ -28,9 +28,9 @@ chop-requires g c =
 pub returns-clause-ok : goal.returns-clause-ok
 returns-clause-ok g c =
     let at = g.B.Build.stands in
-    let get = Get c.args.var ∷ [] in
-    let one = Push (pos 1) ∷ [] in
-    let put = Put c.args.var c.args.op ∷ [] in
+    let get = FetchVariable c.args.var ∷ [] in
+    let one = PushConstant (pos 1) ∷ [] in
+    let put = StoreVariable c.args.var c.args.op ∷ [] in
     let two = appends_both (at c.args.build.now) (at c.fetch.new.self) (at c.constant.new.self) get one c.in_ok-fetch.ensures.ok c.in_ok-constant.ensures.ok in
-    let three = appends_both (at c.args.build.now) (at c.constant.new.self) (at c.store.new.self) (Get c.args.var ∷ one) put two c.in_ok-store.ensures.ok in
-    on_ok_weaker _ (appends_both (at c.args.build.now) (at c.store.new.self) (at c.chop.new.self) (Get c.args.var ∷ Push (pos 1) ∷ put) (Chop ∷ []) three) c.chop.ensures.ok
+    let three = appends_both (at c.args.build.now) (at c.constant.new.self) (at c.store.new.self) (FetchVariable c.args.var ∷ one) put two c.in_ok-store.ensures.ok in
+    on_ok_weaker _ (appends_both (at c.args.build.now) (at c.store.new.self) (at c.chop.new.self) (FetchVariable c.args.var ∷ PushConstant (pos 1) ∷ put) (Chop ∷ []) three) c.chop.ensures.ok

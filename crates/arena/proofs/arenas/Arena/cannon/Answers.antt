@@ -25,7 +25,7 @@ invariant_of-self c =
     let i = c.self.invariant in
     let len = c.fire.auto.slots ∙ ap length c.as_mut_slice.ensures.value in
     let slots = refill_is c.self.inside.slots.items c.fire.new.slots len in
-    rw slots (i.0, len ∙ i.1, i.2, i.3, c.fire.ensures.two (rw c.as_mut_slice.ensures.value i.4))
+    rw slots (i.0, len ∙ i.1, i.2, i.3, c.fire.ensures.two (rw c.as_mut_slice.ensures.value i.4), λ e. absurd (cc))
 
 pub returns-clause-reply : goal.returns-clause-reply
 returns-clause-reply c = λ f s.

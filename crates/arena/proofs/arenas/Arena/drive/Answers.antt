@@ -22,7 +22,7 @@ invariant_of-self c =
     let new : P c.wanting-wanting.result = rw (way.0, way.1) old in
     let size = length-set items c.args.robot c.wanting-wanting.result in
     rw (put_is items c.deref_mut.result.now c.args.robot c.wanting-wanting.result c.deref_mut.ensures.value)
-    (i.0, i.1 ∙ sym size, omega (arith, size), All-set P items c.args.robot c.wanting-wanting.result new i.3, i.4)
+    (i.0, i.1 ∙ sym size, omega (arith, size), All-set P items c.args.robot c.wanting-wanting.result new i.3, i.4, λ e. absurd (cc))
 
 pub returns-clause-stands : goal.returns-clause-stands
 returns-clause-stands c = λ f s.

@@ -1,7 +1,7 @@
 use Rattle.std.proofs.Common.{arith, ap, length}
-use Rattle.code.specs.Generation.{Code}
+use Rattle.code.specs.Generation.{ObjectCode}
 use Rattle.code.proofs.Programs.{main_is_known}
 use Rattle.code.proofs.program.Program.main.Goals as goal
 
 pub returns-clause-known : goal.returns-clause-known
-returns-clause-known c = omega (arith, main_is_known _ c.self.invariant.1, ap (λ (code : Code). length code.names.functions) c.self.view_is)
+returns-clause-known c = omega (arith, main_is_known _ c.self.invariant.1, ap (λ (code : ObjectCode). length code.names.functions) c.self.view_is)

@@ -1,8 +1,8 @@
 use Rattle.std.proofs.Common.{◌≡◌, ◌∙◌, sym, ap, refl, [], true, None, arith}
-use Rattle.tokens.specs.Tokens.{is_last, lexemes, last_lexeme}
+use Rattle.tokens.specs.Tokens.{is_last, located_tokens, last_located_token}
 use Rattle.tokens.specs.Window.{ahead}
 use Rattle.tokens.specs.Lexing.{to_read, followed, after_slash}
-use Rattle.tokens.specs.declared.lexemes.Token.TheVariants as variant
+use Rattle.tokens.specs.declared.located_tokens.Token.TheVariants as variant
 use Rattle.tokens.proofs.ToRead.{to_read-here, none-ahead}
 use Rattle.tokens.proofs.TokenLemmas.{nothing-left}
 use Rattle.tokens.proofs.BeginLemmas.{last-is_last, last-fits}
@@ -13,9 +13,9 @@ pub returns-in-None-clause-tokens : goal.returns-in-None-clause-tokens
 returns-in-None-clause-tokens g c =
     let here = c.skip_blanks.new.self in
     let found = c.in_ok-skip_blanks.ensures in
-    to_read-here (followed c.last.result) lexemes here _ (λ to_come.
+    to_read-here (followed c.last.result) located_tokens here _ (λ to_come.
     let a = ahead here to_come in
-    ap (λ x. followed x a) (c.last.ensures.value to_come ∙ ap (λ line. last_lexeme variant.End line a) c.line.ensures)
+    ap (λ x. followed x a) (c.last.ensures.value to_come ∙ ap (λ line. last_located_token variant.End line a) c.line.ensures)
     ∙ nothing-left a (none-ahead here to_come found.ready (sym found.first ∙ c.in-None.is)))
     ∙ found.tokens ∙ c.loop-self.invariant.tokens
 
@@ -27,9 +27,9 @@ returns-in-None-clause-progress g c = λ e.
 pub loop-self-preserved : goal.loop-self-preserved
 loop-self-preserved g c =
     let blanks = c.in_ok-skip_blanks.ensures in
-    let slash = c.in_ok-lexeme-in-Some-eq47.ensures in
+    let slash = c.in_ok-located_token-in-Some-eq47.ensures in
     record {
-      tokens = to_read-here lexemes (after_slash None) c.slash.new.self _ (λ to_come. refl)
+      tokens = to_read-here located_tokens (after_slash None) c.slash.new.self _ (λ to_come. refl)
           ∙ ap (λ found. to_read (after_slash found) c.slash.new.self (g.F.Feed.to_come c.slash.new.feed)) (sym c.in_default.is)
           ∙ slash.tokens ∙ blanks.tokens ∙ c.loop-self.invariant.tokens;
       took = Takes-then (Takes-then c.loop-self.invariant.took blanks.took) slash.took;

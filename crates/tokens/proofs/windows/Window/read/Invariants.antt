@@ -1,12 +1,12 @@
 use Rattle.std.proofs.Common.{◌≡◌, ◌-◌, ◌≤◌}
-use Rattle.tokens.specs.Tokens.{lexemes}
+use Rattle.tokens.specs.Tokens.{located_tokens}
 use Rattle.tokens.specs.Window.{Takes}
 use Rattle.tokens.specs.Lexing.{to_read}
 use Rattle.tokens.proofs.windows.Window.read.Given as goal
 
 abbrev pub invariant-loop-self : goal.invariant-loop-self
 invariant-loop-self g l = record {
-  tokens : to_read lexemes l.self (g.F.Feed.to_come l.feed) ≡ to_read lexemes l.initial.self (g.F.Feed.to_come l.initial.feed);
+  tokens : to_read located_tokens l.self (g.F.Feed.to_come l.feed) ≡ to_read located_tokens l.initial.self (g.F.Feed.to_come l.initial.feed);
   took : Takes l.initial.self.taken l.self.taken (g.F.Feed.to_come l.initial.feed) (g.F.Feed.to_come l.feed);
   forward : l.initial.self.place ≤ l.self.place;
   count : g.F.Feed.failures l.feed ≡ g.F.Feed.failures l.initial.feed;

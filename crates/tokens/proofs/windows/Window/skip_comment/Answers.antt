@@ -1,6 +1,6 @@
 use Rattle.std.proofs.Common.{◌∙◌, sym, arith, ap, Some}
 use Rattle.std.proofs.lemmas.Bool.{ne_eqb}
-use Rattle.tokens.specs.Tokens.{lexemes}
+use Rattle.tokens.specs.Tokens.{located_tokens}
 use Rattle.tokens.specs.Lexing.{in_comment}
 use Rattle.tokens.proofs.ToRead.{to_read-pass, to_read-seen}
 use Rattle.tokens.proofs.CommentLemmas.{in_star, comment-passes, star-passes, star-open, slash-closes, slash-found, plain-passes, comment-ended, ended-beyond}
@@ -20,7 +20,7 @@ pub returns-then-eq-clause-tokens : goal.returns-then-eq-clause-tokens
 returns-then-eq-clause-tokens g c = λ line.
     let seen = c.in_ok-peek.ensures in
     let next = c.in_ok-peek-in-Some-eq42.ensures in
-    to_read-pass lexemes (in_star line) _ _ _ _ 47 c.pass-then-eq.ensures.value next.first (slash-found _ (sym c.if-eq.ensures)) (slash-closes line)
+    to_read-pass located_tokens (in_star line) _ _ _ _ 47 c.pass-then-eq.ensures.value next.first (slash-found _ (sym c.if-eq.ensures)) (slash-closes line)
     ∙ to_read-seen (in_star line) _ _ _ _ next.seen
     ∙ to_read-pass (in_star line) (in_comment line) _ _ _ _ 42 c.pass.ensures.value seen.first (c.in-Some-eq42.is ∙ ap Some c.in-Some-eq42.field-0-test) (star-passes line)
     ∙ to_read-seen (in_comment line) _ _ _ _ seen.seen ∙ plain-passes line _ _ _ c.pass_plain.ensures.value ∙ c.loop-self.invariant.tokens line

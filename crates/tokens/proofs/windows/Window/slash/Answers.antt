@@ -1,10 +1,10 @@
 use Rattle.std.proofs.Common.{[], ◌∙◌, sym, ap, refl, Some, None, true, false}
-use Rattle.tokens.specs.Tokens.{lexemes}
-use Rattle.tokens.specs.Lexing.{to_read, followed, in_mark, in_comment, after_comment, after_slash}
+use Rattle.tokens.specs.Tokens.{located_tokens}
+use Rattle.tokens.specs.Lexing.{to_read, followed, in_punctuator, in_comment, after_comment, after_slash}
 use Rattle.tokens.specs.Window.{ahead}
-use Rattle.tokens.specs.declared.lexemes.Mark.TheVariants.{Slash}
-use Rattle.tokens.specs.declared.lexemes.Flaw.TheVariants.{CommentNotClosed}
-use Rattle.tokens.specs.declared.lexemes.Token.TheVariants as variant
+use Rattle.tokens.specs.declared.located_tokens.Punctuator.TheVariants.{Slash}
+use Rattle.tokens.specs.declared.located_tokens.LexicalError.TheVariants.{CommentNotClosed}
+use Rattle.tokens.specs.declared.located_tokens.Token.TheVariants as variant
 use Rattle.tokens.proofs.ToRead.{to_read-pass, to_read-pass_line, to_read-seen, to_read-here}
 use Rattle.tokens.proofs.BeginLemmas.{in_slash, slash-begins, star-begins, slash-stays, star-found, not_true, not_false, last-followed, last-fits}
 use Rattle.tokens.proofs.TakenLemmas.{on_err-from, stops, stops-from, in_slash-ends}
@@ -14,9 +14,9 @@ pub returns-then-ne-clause-tokens : goal.returns-then-ne-clause-tokens
 returns-then-ne-clause-tokens g c =
     let line = c.line-line.result in
     let seen = c.in_ok-peek.ensures in
-    c.in_ok-lexeme.ensures.tokens ∙ slash-stays line _ _ _ seen.ready seen.first (not_true _ c.if-ne.ensures)
+    c.in_ok-located_token.ensures.tokens ∙ slash-stays line _ _ _ seen.ready seen.first (not_true _ c.if-ne.ensures)
     ∙ to_read-seen (in_slash line) _ _ _ _ seen.seen
-    ∙ to_read-pass_line (in_slash line) lexemes _ _ _ 47 line c.pass.ensures.value c.requires.slash c.line-line.ensures (slash-begins line)
+    ∙ to_read-pass_line (in_slash line) located_tokens _ _ _ 47 line c.pass.ensures.value c.requires.slash c.line-line.ensures (slash-begins line)
 
 pub returns-then-branch-clause-tokens : goal.returns-then-branch-clause-tokens
 returns-then-branch-clause-tokens g c =
@@ -27,7 +27,7 @@ returns-then-branch-clause-tokens g c =
     ∙ c.in_ok-skip_comment.ensures.tokens line
     ∙ to_read-pass (in_comment line) (in_slash line) _ _ _ _ 42 c.pass-2.ensures.value seen.first (star-found _ (not_false _ c.if-ne.ensures)) (star-begins line)
     ∙ to_read-seen (in_slash line) _ _ _ _ seen.seen
-    ∙ to_read-pass_line (in_slash line) lexemes _ _ _ 47 line c.pass.ensures.value c.requires.slash c.line-line.ensures (slash-begins line)
+    ∙ to_read-pass_line (in_slash line) located_tokens _ _ _ 47 line c.pass.ensures.value c.requires.slash c.line-line.ensures (slash-begins line)
 
 pub returns-else-branch-clause-tokens : goal.returns-else-branch-clause-tokens
 returns-else-branch-clause-tokens g c =
@@ -39,34 +39,34 @@ returns-else-branch-clause-tokens g c =
     ∙ c.in_ok-skip_comment.ensures.tokens line
     ∙ to_read-pass (in_comment line) (in_slash line) _ _ _ _ 42 c.pass-2.ensures.value seen.first (star-found _ (not_false _ c.if-ne.ensures)) (star-begins line)
     ∙ to_read-seen (in_slash line) _ _ _ _ seen.seen
-    ∙ to_read-pass_line (in_slash line) lexemes _ _ _ 47 line c.pass.ensures.value c.requires.slash c.line-line.ensures (slash-begins line)
+    ∙ to_read-pass_line (in_slash line) located_tokens _ _ _ 47 line c.pass.ensures.value c.requires.slash c.line-line.ensures (slash-begins line)
 
 pub returns-in_err-peek-clause-stopped : goal.returns-in_err-peek-clause-stopped
 returns-in_err-peek-clause-stopped g c =
     let line = c.line-line.result in
     let seen = c.in_err-peek.ensures in
-    on_err-from c.from_residual.result (stops-from (in_slash line) lexemes _ _ c.peek.new.self _ _
-    (to_read-pass_line (in_slash line) lexemes _ _ _ 47 line c.pass.ensures.value c.requires.slash c.line-line.ensures (slash-begins line))
+    on_err-from c.from_residual.result (stops-from (in_slash line) located_tokens _ _ c.peek.new.self _ _
+    (to_read-pass_line (in_slash line) located_tokens _ _ _ 47 line c.pass.ensures.value c.requires.slash c.line-line.ensures (slash-begins line))
     (stops (in_slash line) (in_slash-ends line) c.pass.new.self c.peek.new.self _ seen.failed seen.place.place))
 
-pub returns-in_err-lexeme-clause-stopped : goal.returns-in_err-lexeme-clause-stopped
-returns-in_err-lexeme-clause-stopped g c =
+pub returns-in_err-located_token-clause-stopped : goal.returns-in_err-located_token-clause-stopped
+returns-in_err-located_token-clause-stopped g c =
     let line = c.line-line.result in
     let seen = c.in_ok-peek.ensures in
-    on_err-from c.from_residual-in_err-lexeme.result (stops-from (in_mark Slash) lexemes _ _ c.mark.new.self _ _
+    on_err-from c.from_residual-in_err-located_token.result (stops-from (in_punctuator Slash) located_tokens _ _ c.punctuator.new.self _ _
     (slash-stays line _ _ _ seen.ready seen.first (not_true _ c.if-ne.ensures)
     ∙ to_read-seen (in_slash line) _ _ _ _ seen.seen
-    ∙ to_read-pass_line (in_slash line) lexemes _ _ _ 47 line c.pass.ensures.value c.requires.slash c.line-line.ensures (slash-begins line))
-    c.in_err-lexeme.ensures.stopped)
+    ∙ to_read-pass_line (in_slash line) located_tokens _ _ _ 47 line c.pass.ensures.value c.requires.slash c.line-line.ensures (slash-begins line))
+    c.in_err-located_token.ensures.stopped)
 
 pub returns-in_err-skip_comment-clause-stopped : goal.returns-in_err-skip_comment-clause-stopped
 returns-in_err-skip_comment-clause-stopped g c =
     let line = c.line-line.result in
     let seen = c.in_ok-peek.ensures in
-    on_err-from c.from_residual-in_err-skip_comment.result (stops-from (in_comment line) lexemes _ _ c.skip_comment.new.self _ _
+    on_err-from c.from_residual-in_err-skip_comment.result (stops-from (in_comment line) located_tokens _ _ c.skip_comment.new.self _ _
     (to_read-pass (in_comment line) (in_slash line) _ _ _ _ 42 c.pass-2.ensures.value seen.first (star-found _ (not_false _ c.if-ne.ensures)) (star-begins line)
     ∙ to_read-seen (in_slash line) _ _ _ _ seen.seen
-    ∙ to_read-pass_line (in_slash line) lexemes _ _ _ 47 line c.pass.ensures.value c.requires.slash c.line-line.ensures (slash-begins line))
+    ∙ to_read-pass_line (in_slash line) located_tokens _ _ _ 47 line c.pass.ensures.value c.requires.slash c.line-line.ensures (slash-begins line))
     (c.in_err-skip_comment.ensures.stopped line))
 
 pub returns-else-branch-clause-fits : goal.returns-else-branch-clause-fits

@@ -1,55 +1,62 @@
 use Rattle.std.proofs.Common.{◌∙◌, ◌-◌, ◌∷◌, [], sym, ap, refl, Some, false, List}
 use Rattle.std.proofs.lemmas.Result.{IfOk-weaker, on_err_weaker}
-use Rattle.tokens.specs.Tokens.{Ahead, lexemes}
+use Rattle.tokens.specs.Tokens.{Ahead, located_tokens}
 use Rattle.tokens.specs.Window.{ahead}
-use Rattle.tokens.specs.declared.lexemes.Flaw.TheVariants.{BadCharacter}
-use Rattle.tokens.specs.declared.lexemes.Token.TheVariants as variant
-use Rattle.tokens.specs.declared.lexemes.Lexeme.{Lexeme}
-use Rattle.tokens.specs.Lexing.{followed, ending, in_name, in_constant, in_mark}
+use Rattle.tokens.specs.declared.located_tokens.LexicalError.TheVariants.{BadCharacter}
+use Rattle.tokens.specs.declared.located_tokens.Token.TheVariants as variant
+use Rattle.tokens.specs.declared.located_tokens.LocatedToken.{LocatedToken}
+use Rattle.tokens.specs.Lexing.{followed, ending, in_name, in_constant, in_punctuator}
 use Rattle.tokens.proofs.ToRead.{to_read-pass, to_read-here}
 use Rattle.tokens.proofs.BeginLemmas.{name-begins, constant-begins, other-begins, bad-begins}
 use Rattle.tokens.proofs.TakenLemmas.{stops-from}
+use Rattle.tokens.proofs.TokenLemmas.{punctuator-whole}
 use Rattle.tokens.proofs.windows.Window.token.Goals as goal
 
 pub returns-then-is_letter-clause-tokens : goal.returns-then-is_letter-clause-tokens
 returns-then-is_letter-clause-tokens g c =
     let b = c.args.first in
-    let begins = to_read-pass (in_name (b ∷ []) false) lexemes _ _ (g.F.Feed.to_come c.args.feed.now) (Some b) b c.pass.ensures.value (sym c.requires.first) refl (name-begins b c.requires.no_blank (sym c.if-is_letter.ensures)) in
-    IfOk-weaker c.name.result _ _ (λ lexeme h. h ∙ begins) c.name.ensures.tokens
+    let begins = to_read-pass (in_name (b ∷ []) false) located_tokens _ _ (g.F.Feed.to_come c.args.feed.now) (Some b) b c.pass.ensures.value (sym c.requires.first) refl (name-begins b c.requires.no_blank (sym c.if-is_letter.ensures)) in
+    IfOk-weaker c.name.result _ _ (λ located_token h. h ∙ begins) c.name.ensures.tokens
 
 pub returns-then-is_digit-clause-tokens : goal.returns-then-is_digit-clause-tokens
 returns-then-is_digit-clause-tokens g c =
     let b = c.args.first in
-    let begins = to_read-pass (in_constant (b - 48)) lexemes _ _ (g.F.Feed.to_come c.args.feed.now) (Some b) b c.pass.ensures.value (sym c.requires.first) refl (constant-begins b c.requires.no_blank (sym c.if-is_letter.ensures) (sym c.if-is_digit.ensures)) in
-    IfOk-weaker c.constant.result _ _ (λ lexeme h. h ∙ begins) c.constant.ensures.tokens
+    let begins = to_read-pass (in_constant (b - 48)) located_tokens _ _ (g.F.Feed.to_come c.args.feed.now) (Some b) b c.pass.ensures.value (sym c.requires.first) refl (constant-begins b c.requires.no_blank (sym c.if-is_letter.ensures) (sym c.if-is_digit.ensures)) in
+    IfOk-weaker c.constant.result _ _ (λ located_token h. h ∙ begins) c.constant.ensures.tokens
 
-pub returns-in-Some-clause-tokens : goal.returns-in-Some-clause-tokens
-returns-in-Some-clause-tokens g c =
+pub returns-else-is_whole-clause-tokens : goal.returns-else-is_whole-clause-tokens
+returns-else-is_whole-clause-tokens g c =
     let b = c.args.first in
-    let begins = to_read-pass (in_mark c.in-Some.mark) lexemes _ _ (g.F.Feed.to_come c.args.feed.now) (Some b) b c.pass.ensures.value (sym c.requires.first) refl (other-begins c.in-Some.mark b c.requires.no_blank (sym c.if-is_letter.ensures) (sym c.if-is_digit.ensures) c.requires.no_slash (sym c.in-Some.ensures)) in
-    IfOk-weaker c.mark.result _ _ (λ lexeme h. h ∙ begins) c.mark.ensures.tokens
+    let begins = to_read-pass (in_punctuator c.in-Some.punctuator) located_tokens _ _ (g.F.Feed.to_come c.args.feed.now) (Some b) b c.pass.ensures.value (sym c.requires.first) refl (other-begins c.in-Some.punctuator b c.requires.no_blank (sym c.if-is_letter.ensures) (sym c.if-is_digit.ensures) c.requires.no_slash (sym c.in-Some.ensures)) in
+    IfOk-weaker c.punctuator.result _ _ (λ located_token h. h ∙ begins) c.punctuator.ensures.tokens
+
+pub returns-then-is_whole-clause-tokens : goal.returns-then-is_whole-clause-tokens
+returns-then-is_whole-clause-tokens g c =
+    let b = c.args.first in
+    punctuator-whole c.in-Some.punctuator c.ending.result c.pass.new.self _ (c.is_whole.ensures (sym (sym c.if-is_whole.true))) (λ _. c.ending.ensures)
+    ∙ to_read-pass (in_punctuator c.in-Some.punctuator) located_tokens _ _ (g.F.Feed.to_come c.args.feed.now) (Some b) b c.pass.ensures.value (sym c.requires.first) refl (other-begins c.in-Some.punctuator b c.requires.no_blank (sym c.if-is_letter.ensures) (sym c.if-is_digit.ensures) c.requires.no_slash (sym c.in-Some.ensures))
 
 pub returns-in_default-clause-tokens : goal.returns-in_default-clause-tokens
 returns-in_default-clause-tokens g c =
     let b = c.args.first in
-    let bad : Ahead → List Lexeme = λ a. followed (ending (variant.Fault BadCharacter) a) a in
-    to_read-here (followed c.ending.result) bad c.pass.new.self _ (λ to_come. ap (λ x. followed x (ahead c.pass.new.self to_come)) c.ending.ensures)
-    ∙ to_read-pass bad lexemes _ _ (g.F.Feed.to_come c.args.feed.now) (Some b) b c.pass.ensures.value (sym c.requires.first) refl (bad-begins b c.requires.no_blank (sym c.if-is_letter.ensures) (sym c.if-is_digit.ensures) c.requires.no_slash (sym c.in_default.ensures))
+    let bad : Ahead → List LocatedToken = λ a. followed (ending (variant.Fault BadCharacter) a) a in
+    to_read-here (followed c.ending-in_default.result) bad c.pass.new.self _ (λ to_come. ap (λ x. followed x (ahead c.pass.new.self to_come)) c.ending-in_default.ensures)
+    ∙ to_read-pass bad located_tokens _ _ (g.F.Feed.to_come c.args.feed.now) (Some b) b c.pass.ensures.value (sym c.requires.first) refl (bad-begins b c.requires.no_blank (sym c.if-is_letter.ensures) (sym c.if-is_digit.ensures) c.requires.no_slash (sym c.in_default.ensures))
 
 pub returns-then-is_letter-clause-stopped : goal.returns-then-is_letter-clause-stopped
 returns-then-is_letter-clause-stopped g c =
     let b = c.args.first in
-    let begins = to_read-pass (in_name (b ∷ []) false) lexemes _ _ (g.F.Feed.to_come c.args.feed.now) (Some b) b c.pass.ensures.value (sym c.requires.first) refl (name-begins b c.requires.no_blank (sym c.if-is_letter.ensures)) in
-    on_err_weaker c.name.result (stops-from (in_name (b ∷ []) false) lexemes _ _ c.name.new.self _ _ begins) c.name.ensures.stopped
+    let begins = to_read-pass (in_name (b ∷ []) false) located_tokens _ _ (g.F.Feed.to_come c.args.feed.now) (Some b) b c.pass.ensures.value (sym c.requires.first) refl (name-begins b c.requires.no_blank (sym c.if-is_letter.ensures)) in
+    on_err_weaker c.name.result (stops-from (in_name (b ∷ []) false) located_tokens _ _ c.name.new.self _ _ begins) c.name.ensures.stopped
 
 pub returns-then-is_digit-clause-stopped : goal.returns-then-is_digit-clause-stopped
 returns-then-is_digit-clause-stopped g c =
     let b = c.args.first in
-    let begins = to_read-pass (in_constant (b - 48)) lexemes _ _ (g.F.Feed.to_come c.args.feed.now) (Some b) b c.pass.ensures.value (sym c.requires.first) refl (constant-begins b c.requires.no_blank (sym c.if-is_letter.ensures) (sym c.if-is_digit.ensures)) in
-    on_err_weaker c.constant.result (stops-from (in_constant (b - 48)) lexemes _ _ c.constant.new.self _ _ begins) c.constant.ensures.stopped
+    let begins = to_read-pass (in_constant (b - 48)) located_tokens _ _ (g.F.Feed.to_come c.args.feed.now) (Some b) b c.pass.ensures.value (sym c.requires.first) refl (constant-begins b c.requires.no_blank (sym c.if-is_letter.ensures) (sym c.if-is_digit.ensures)) in
+    on_err_weaker c.constant.result (stops-from (in_constant (b - 48)) located_tokens _ _ c.constant.new.self _ _ begins) c.constant.ensures.stopped
 
-pub returns-in-Some-clause-stopped : goal.returns-in-Some-clause-stopped
-returns-in-Some-clause-stopped g c =
+pub returns-else-is_whole-clause-stopped : goal.returns-else-is_whole-clause-stopped
+returns-else-is_whole-clause-stopped g c =
     let b = c.args.first in
-    let begins = to_read-pass (in_mark c.in-Some.mark) lexemes _ _ (g.F.Feed.to_come c.args.feed.now) (Some b) b c.pass.ensures.value (sym c.requires.first) refl (other-begins c.in-Some.mark b c.requires.no_blank (sym c.if-is_letter.ensures) (sym c.if-is_digit.ensures) c.requires.no_slash (sym c.in-Some.ensures)) in
-    on_err_weaker c.mark.result (stops-from (in_mark c.in-Some.mark) lexemes _ _ c.mark.new.self _ _ begins) c.mark.ensures.stopped
+    let begins = to_read-pass (in_punctuator c.in-Some.punctuator) located_tokens _ _ (g.F.Feed.to_come c.args.feed.now) (Some b) b c.pass.ensures.value (sym c.requires.first) refl (other-begins c.in-Some.punctuator b c.requires.no_blank (sym c.if-is_letter.ensures) (sym c.if-is_digit.ensures) c.requires.no_slash (sym c.in-Some.ensures)) in
+    on_err_weaker c.punctuator.result (stops-from (in_punctuator c.in-Some.punctuator) located_tokens _ _ c.punctuator.new.self _ _ begins) c.punctuator.ensures.stopped

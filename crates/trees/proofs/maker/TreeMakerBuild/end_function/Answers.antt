@@ -25,3 +25,6 @@ returns-clause-ok c =
 pub returns-clause-fits : goal.returns-clause-fits
 returns-clause-fits c =
     on_ok_weaker c.put.result (λ _. fits_at_end c.args.self.now c.passes.new.self c.passes.result c.requires.follows.stood.known c.passes.ensures.code c.passes.ensures.passes c.if-passes.false) c.put.ensures.ok
+
+pub returns-clause-within : goal.returns-clause-within
+returns-clause-within c = λ refused. fits_at_end c.args.self.now c.passes.new.self c.passes.result c.requires.follows.stood.known c.passes.ensures.code c.passes.ensures.passes c.if-passes.false

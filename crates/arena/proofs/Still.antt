@@ -1,0 +1,116 @@
+-- An update of a still field leaves its robots as they are.
+use Rattle.std.proofs.Common.{◌≡◌, ℕ, suc, zero, ◌+◌, ◌<◌, ◌≤◌, Bool, true, false, not, ◌&&◌, ◌==◌, List, [], ◌∷◌, ◌++◌, length, take, drop, map, get_or, filter, sum, cond, add-one, refl, sym, ap, subst, ◌∙◌, arith}
+use Rattle.std.specs.List.{All, range_with_len}
+use Rattle.std.proofs.lemmas.Bool.{eq-eqb}
+use Rattle.std.proofs.lemmas.List.{map_more, get_or-map, length-map, take_all}
+use Rattle.std.proofs.lemmas.List.Elements.{All-get_or, All-append, All-take, All-drop}
+use Rattle.std.proofs.lemmas.List.FromFn.{map-range_with_len_more}
+use Rattle.std.proofs.lemmas.List.Sums.{length-filter}
+use Rattle.arena.specs.Leg.{Leg, place_x, place_y, tried, driven, walled, hits_wall}
+use Rattle.arena.specs.Field.{Shot, Robot, Field, damage_of, is_alive, no_robot, robot_at}
+use Rattle.arena.specs.Collisions.{Mover, candidate, mover, moves, is_close, is_no_further, collides, others, touches}
+use Rattle.arena.specs.Shots.{bursts}
+use Rattle.arena.specs.Moved.{settled, moved_robot, moved}
+use Rattle.arena.specs.Ground.{Ground, track_of, body_of}
+use Rattle.arena.specs.Standing.{StandsFor}
+use Rattle.arena.specs.Rest.{Rests, Stays, IsStill}
+use Rattle.arena.proofs.Loops.{after_at, after_all}
+use Rattle.arena.proofs.SlotLaws.{none_hurt, holds_still}
+use Rattle.arena.proofs.Wear.{dead_is, alive_is}
+use Rattle.arena.proofs.Represents.{updates}
+
+driven_is : (leg : Leg) → Rests leg → driven leg ≡ leg
+unfolding driven walled
+driven_is leg r = ap walled r.stands ∙ rw r.free refl
+
+candidate_is : (robot : Robot) → Stays (body_of robot) → candidate robot ≡ robot.leg
+unfolding candidate
+candidate_is robot stays = by_life (is_alive robot) refl
+  where
+    by_life : (live : Bool) → is_alive robot ≡ live → cond live (driven robot.leg) robot.leg ≡ robot.leg
+    by_life true e = driven_is robot.leg (stays robot refl e)
+    by_life false e = refl
+
+-- so as collisions see it the robot doesn't move
+same_is : (n m : ℕ) → n ≡ m → not (n == m) ≡ false
+same_is n m e = rw (eq-eqb n m e) refl
+
+moves_not : (robot : Robot) → Stays (body_of robot) → moves (mover robot) ≡ false
+unfolding moves mover
+moves_not robot stays =
+    let still = candidate_is robot stays in
+    rw (same_is (place_x (candidate robot)) (place_x robot.leg) (ap place_x still), same_is (place_y (candidate robot)) (place_y robot.leg) (ap place_y still)) refl
+
+-- and it touches none that doesn't move either
+blocked : (a b c d : Bool) → (a && b && c && false && d) ≡ false
+blocked false b c d = refl
+blocked true false c d = refl
+blocked true true false d = refl
+blocked true true true d = refl
+
+collides_not : (a b : Mover) → moves a ≡ false → moves b ≡ false → collides a b ≡ false
+unfolding collides
+collides_not a b p q = rw (p, q) (blocked a.live b.live (is_close a b) (is_no_further a b))
+
+none_passes : {X : Type 0} (p : X → Bool) (xs : List X) → All (λ x. p x ≡ false) xs → filter p xs ≡ []
+none_passes p [] h = refl
+none_passes p (x ∷ xs) h = rw (h 0 x (omega arith)) (none_passes p xs (λ k d l. h (suc k) d (omega arith)))
+
+touches_none : (movers : List Mover) (i : ℕ) → i < length movers → All (λ m. moves m ≡ false) movers → touches movers i ≡ 0
+unfolding touches others
+touches_none movers i inside still =
+    let Still : Mover → Type 0 = λ m. moves m ≡ false in
+    let here = All-get_or Still movers i (mover no_robot) inside still in
+    let rest = All-append Still (take i movers) (drop (i + 1) movers) (All-take Still i movers still) (All-drop Still (i + 1) movers still) in
+    let p = collides (get_or movers i (mover no_robot)) in
+    let xs = take i movers ++ drop (i + 1) movers in
+    sym (length-filter p xs) ∙ ap length (none_passes p xs (λ k d l. collides_not (get_or movers i (mover no_robot)) (get_or xs k d) here (rest k d l)))
+
+-- the robot after the update
+stays_as_is : (robot : Robot) (update : ℕ) (shots : List Shot) → Stays (body_of robot) → ((x y : ℕ) → sum (bursts update shots x y) ≡ 0) → body_of robot ≡ body_of (moved_robot update shots 0 robot)
+unfolding body_of settled damage_of
+stays_as_is robot update shots stays none = by_life (is_alive robot) refl
+  where
+    live_stays : is_alive robot ≡ true → Rests robot.leg → body_of robot ≡ body_of (moved_robot update shots 0 robot)
+    live_stays live r =
+        let motion : track_of robot.leg ≡ track_of (settled robot.leg 0) = sym (ap track_of (driven_is robot.leg r)) in
+        let free : hits_wall (tried robot.leg) ≡ false = ap hits_wall r.stands ∙ r.free in
+        let walled : false ≡ (is_alive robot && hits_wall (tried robot.leg)) = rw (live, free) refl in
+        let t = track_of robot.leg in
+        alive_is robot t false update shots 0 (damage_of robot) 0 (damage_of robot) live motion walled refl (sym (none t.x t.y)) (omega arith)
+
+    by_life : (live : Bool) → is_alive robot ≡ live → body_of robot ≡ body_of (moved_robot update shots 0 robot)
+    by_life true e = live_stays e (stays robot refl e)
+    by_life false e = ap body_of (dead_is robot update shots 0 e)
+
+-- all robots
+robot_stays : (robots : List Robot) (i : ℕ) → i < length robots → All Stays (map body_of robots) → Stays (body_of (get_or robots i no_robot))
+robot_stays robots i inside all =
+    subst Stays (get_or-map body_of robots i no_robot (body_of no_robot) inside) (all i (body_of no_robot) (omega (arith, length-map robots body_of)))
+
+movers_still : (robots : List Robot) → All Stays (map body_of robots) → All (λ m. moves m ≡ false) (map mover robots)
+movers_still robots all k d l =
+    let inside : k < length robots = omega (arith, length-map robots mover) in
+    rw (get_or-map mover robots k no_robot d inside) (moves_not (get_or robots k no_robot) (robot_stays robots k inside all))
+
+each_stays : (f : Field) (i : ℕ) → i < length f.robots → All Stays (map body_of f.robots) → ((x y : ℕ) → sum (bursts (f.updates + 1) f.shots x y) ≡ 0) → body_of (get_or f.robots i no_robot) ≡ after_at f i
+unfolding robot_at
+each_stays f i inside all none =
+    let untouched = touches_none (map mover f.robots) i (omega (arith, length-map f.robots mover)) (movers_still f.robots all) in
+    rw untouched (stays_as_is (get_or f.robots i no_robot) (f.updates + 1) f.shots (robot_stays f.robots i inside all) none)
+
+all_stay : (f : Field) → ((i : ℕ) → i < length f.robots → body_of (get_or f.robots i no_robot) ≡ after_at f i) → (n : ℕ) → n ≤ length f.robots → map body_of (take n f.robots) ≡ map (after_at f) (range_with_len 0 n)
+all_stay f each zero h = refl
+all_stay f each (suc n) h =
+    let Same : ℕ → Type 0 = λ k. map body_of (take k f.robots) ≡ map (after_at f) (range_with_len 0 k) in
+    subst Same (add-one n)
+    (map_more body_of f.robots n no_robot h ∙ ap (λ bs. bs ++ body_of (get_or f.robots n no_robot) ∷ []) (all_stay f each n (omega arith)) ∙
+    ap (λ b. map (after_at f) (range_with_len 0 n) ++ b ∷ []) (each n h) ∙ sym (map-range_with_len_more (after_at f) 0 n n (omega arith)))
+
+-- the arena that only counts represents the field after the update
+pub only_counts : (g : Ground) (f : Field) → StandsFor g f → IsStill g.robots g.slots → StandsFor (record g { updates = g.updates + 1 }) (moved f)
+only_counts g f s still =
+    let stay = subst (λ bs. All Stays bs) s.robots still.stay in
+    let none = λ (x y : ℕ). none_hurt f.updates (f.updates + 1) x y g.slots f.shots refl s.missiles still.none_flies in
+    let robots = ap (map body_of) (sym (take_all (length f.robots) f.robots (omega arith))) ∙ all_stay f (λ i l. each_stays f i l stay none) (length f.robots) (omega arith) ∙ after_all f in
+    updates g (record g { updates = g.updates + 1 }) f s refl refl (s.robots ∙ robots) (holds_still f.updates (f.updates + 1) g.slots f.shots refl s.missiles still.none_flies)

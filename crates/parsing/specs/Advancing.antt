@@ -1,0 +1,59 @@
+-- What each call of a parser needs and keeps. Every contract of the front end cites these facts.
+use Rattle.std.specs.Prelude.{ℕ, ◌-◌, ◌^◌, ◌≡◌, ◌<◌, ◌≤◌, false, Result, Ok, Err}
+use Rattle.tokens.specs.Reading.{IsNear, Reading}
+use Rattle.tokens.specs.Window.{Takes}
+use Rattle.grammar.specs.declared.diagnostics.ParseFault.{ParseFault}
+use Rattle.grammar.specs.Grammar.{is_fault}
+use Rattle.parsing.specs.Position.{Standing, taken_at, to_go, token_of}
+use Rattle.parsing.specs.Segment.{counted}
+
+-- how many failures of a device can be counted
+abbrev pub most_failures : ℕ
+most_failures = 2 ^ 64 - 1
+
+-- A cursor that a parser can be made of: its next token is no lexical error, and no more bytes were taken than a window
+-- past the two tokens that it holds.
+pub record IsReadable (reading : Reading) : Type 0 where
+  pub sound : is_fault reading.next.token ≡ false
+  pub near : IsNear reading
+
+-- A parser is ready for a call: its next token is no lexical error, no more bytes were taken than a window past the
+-- two tokens that it holds, and a further failure of the device can be counted.
+pub record IsReady (at : Standing) : Type 0 where
+  pub sound : is_fault (token_of at) ≡ false
+  pub near : IsNear at.place.position.reading
+  pub count : at.failures < most_failures
+
+-- A parser went on: it reads the same device, which did not fail, the device still has all but the bytes taken, fewer
+-- tokens can come, and the parser is ready for the next call.
+pub record WentOn (old new : Standing) : Type 0 where
+  pub device : new.device ≡ old.device
+  pub failures : new.failures ≡ old.failures
+  pub took : Takes (taken_at old.place) (taken_at new.place) old.place.to_come new.place.to_come
+  pub falls : to_go new < to_go old
+  pub ready : IsReady new
+
+-- The same where it may have consumed no token.
+pub record StayedOrWentOn (old new : Standing) : Type 0 where
+  pub device : new.device ≡ old.device
+  pub failures : new.failures ≡ old.failures
+  pub took : Takes (taken_at old.place) (taken_at new.place) old.place.to_come new.place.to_come
+  pub falls : to_go new ≤ to_go old
+  pub ready : IsReady new
+
+-- What a refusal leaves: the same device, one failure more if it is the device that failed, and all but the bytes taken
+-- still to come. The parser is of no more use.
+pub record Stopped (fault : ParseFault) (old new : Standing) : Type 0 where
+  pub device : new.device ≡ old.device
+  pub failures : new.failures ≡ counted old.failures fault
+  pub took : Takes (taken_at old.place) (taken_at new.place) old.place.to_come new.place.to_come
+
+-- a call that consumes at least one token if it succeeds
+abbrev pub Advances : {A : Type 0} → Result A ParseFault → Standing → Standing → Type 0
+Advances (Ok x) old new = WentOn old new
+Advances (Err fault) old new = Stopped fault old new
+
+-- a call that may consume none
+abbrev pub Keeps : {A : Type 0} → Result A ParseFault → Standing → Standing → Type 0
+Keeps (Ok x) old new = StayedOrWentOn old new
+Keeps (Err fault) old new = Stopped fault old new

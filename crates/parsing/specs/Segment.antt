@@ -1,0 +1,122 @@
+-- What a part of the parser did: a segment of the derivation without a fault, or one that stops.
+use Rattle.std.specs.Prelude.{ℕ, ◌+◌, ◌≡◌, ◌<◌, ◌≤◌, List, [], ◌∷◌, ◌++◌, drop, length, Bool, true, false, IsTrue}
+use Rattle.std.specs.Prelude.{Option, Some, None, IfSome, Result, Ok, Err}
+use Rattle.std.specs.Option.{option_map}
+use Rattle.tokens.specs.Reading.{reach, reach_of}
+use Rattle.tokens.specs.Tokens.{is_last, tokens}
+use Rattle.tokens.specs.declared.limits.TheConstants.{WINDOW}
+use Rattle.tokens.specs.declared.located_tokens.LocatedToken.{LocatedToken}
+use Rattle.grammar.specs.declared.diagnostics.Diagnostic.{Diagnostic}
+use Rattle.grammar.specs.declared.diagnostics.ParseFault.{ParseFault}
+use Rattle.grammar.specs.declared.diagnostics.ParseFault.TheVariants as refusal
+use Rattle.grammar.specs.declared.pools.TheConstants.{MOST_NAMES}
+use Rattle.grammar.specs.Compiled.{diagnostic}
+use Rattle.grammar.specs.Derivation.{state, Value, Definition, line_of, name_of_token, next_of}
+use Rattle.grammar.specs.Faults.{levels, misfit_code}
+use Rattle.grammar.specs.Grammar.{Item, is_fault}
+use Rattle.grammar.specs.Parsing.{Passes}
+use Rattle.grammar.specs.Profile.{Profile}
+use Rattle.parsing.specs.Defining.{IsWithin}
+use Rattle.parsing.specs.Position.{Place, Position, GoesOn, tokens_at, next_at, scope_at}
+use Rattle.parsing.specs.Stopping.{Stop, Stops, slack, stop_with}
+
+-- the tokens told at a place are those that a segment took, and then those told behind it
+pub record Takes (consumed located_tokens : List LocatedToken) (there : Place) : Type 0 where
+  pub rest : List LocatedToken
+  pub is : located_tokens ≡ consumed ++ rest
+  pub shows : tokens_at there ≡ Some rest
+
+-- From one place to another the derivation goes from these items in front to those, with so many levels open below
+-- them, and leaves these trees in the place of those. It takes the same tokens whether the device tells them or not.
+pub record Derives (depth : ℕ) (front pending : List Item) (taken left : List Value) (here there : Place) : Type 0 where
+  pub consumed : List LocatedToken
+  pub told : (located_tokens : List LocatedToken) → tokens_at here ≡ Some located_tokens
+      → Takes consumed located_tokens there
+  pub follows : (rest : List LocatedToken) → GoesOn there rest → GoesOn here (consumed ++ rest)
+  pub passes : (rest : List LocatedToken) → GoesOn there rest →
+      (profile : Profile) (stack : List Item) (values : List Value) (functions : List Definition) →
+      levels stack ≡ depth →
+      Passes profile (state (front ++ stack) (consumed ++ rest) (taken ++ values) (scope_at here) functions)
+      (state (pending ++ stack) rest (left ++ values) (scope_at there) functions)
+
+-- where the tokens are told, the derivation from these items on stops so, with so many levels open
+abbrev pub FailsAt : ℕ → List Item → List Value → Place → Stop → Type 0
+FailsAt depth front taken here stop =
+    (located_tokens : List LocatedToken) → tokens_at here ≡ Some located_tokens →
+    (profile : Profile) (stack : List Item) (values : List Value) (functions : List Definition) → levels stack ≡ depth →
+    Stops profile (state (front ++ stack) located_tokens (taken ++ values) (scope_at here) functions) stop
+
+-- one item was matched or replaced, however many levels are open
+abbrev pub DerivesItem : Item → List Item → List Value → Place → Place → Type 0
+DerivesItem item pending left here there = (depth : ℕ) → Derives depth (item ∷ []) pending [] left here there
+
+abbrev pub FailsItem : Item → Place → Stop → Type 0
+FailsItem item here stop = (depth : ℕ) → FailsAt depth (item ∷ []) [] here stop
+
+-- one token was passed, and no name became known
+pub record GoesPast (here there : Place) : Type 0 where
+  pub more : is_last (next_at here).token ≡ false
+  pub next : next_at there ≡ here.position.reading.after
+  pub told : (first : LocatedToken) (rest : List LocatedToken) → tokens_at here ≡ Some (first ∷ rest)
+      → tokens_at there ≡ Some rest
+  pub scope : scope_at there ≡ scope_at here
+
+-- the token behind the next is a fault, which stops any derivation
+pub record HasLexicalError (here : Place) (d : Diagnostic) : Type 0 where
+  pub lexical_error : is_fault here.position.reading.after.token ≡ true
+  pub is : d ≡ diagnostic here.position.reading.after.line (misfit_code here.position.reading.after.token)
+
+-- the next token fits, and behind it a fault is the next, or the device failed
+pub record StopsAt (here : Place) (stop : Stop) : Type 0 where
+  pub more : is_last (next_at here).token ≡ false
+  pub lexical_error : IfSome stop.fault (HasLexicalError here)
+  pub taken : (next : LocatedToken) (others : List LocatedToken) → tokens_at here ≡ Some (next ∷ others) →
+      stop.taken ≤ reach_of others + slack stop.fault
+
+-- the first token is a fault, or the device failed
+pub record StopsFirst (told : Option (List LocatedToken)) (stop : Stop) : Type 0 where
+  pub lexical_error : (located_tokens : List LocatedToken) → told ≡ Some located_tokens → IfSome stop.fault (λ d.
+      (is_fault (next_of located_tokens) ≡ true)
+      × (d ≡ diagnostic (line_of located_tokens) (misfit_code (next_of located_tokens))))
+  pub taken : (located_tokens : List LocatedToken) → told ≡ Some located_tokens
+      → stop.taken ≤ reach_of located_tokens + slack stop.fault
+
+-- no more bytes were taken than a window behind the two tokens that are held
+abbrev pub IsNearTo : Place → ℕ → Type 0
+IsNearTo here taken = taken ≤ reach here.position.reading + WINDOW
+
+-- the token is no name, and is refused for that
+pub record IsNoName (next : LocatedToken) (fault : ParseFault) : Type 0 where
+  pub sound : is_fault next.token ≡ false
+  pub other : name_of_token next.token ≡ None
+  pub is : fault ≡ refusal.Source (diagnostic next.line (misfit_code next.token))
+
+-- the definition of the function of this number began
+pub record BeginsDefinition (number : ℕ) (old new : Position) : Type 0 where
+  pub is : new.scope.number ≡ number
+  pub few : number < MOST_NAMES
+  pub mentioned : number < length new.scope.functions
+  pub within : IsWithin old.scope → IsWithin new.scope
+
+-- what a refusal says, with so many bytes taken: of a source its fault, of the device how far it had to be read, of
+-- memory that the builder asks for it
+abbrev pub Refused : (Stop → Type 0) → Bool → ℕ → ParseFault → Type 0
+Refused stops allocates taken (refusal.Source d) = stops (stop_with (Some d) taken)
+Refused stops allocates taken refusal.Device = stops (stop_with None taken)
+Refused stops allocates taken refusal.Memory = IsTrue allocates
+
+-- what a refusal at the first token says, by the bytes to come before and behind
+pub record StopsOpening (told told' : Option (List ℕ)) (fault : ParseFault) : Type 0 where
+  pub taken : ℕ
+  pub took : (bytes : List ℕ) → told ≡ Some bytes → told' ≡ Some (drop taken bytes)
+  pub refused : Refused (StopsFirst (option_map tokens told)) false taken fault
+
+-- failures of a device, before and behind: one more where it is the device that is answered
+abbrev pub counted : ℕ → ParseFault → ℕ
+counted failures refusal.Device = failures + 1
+counted failures (refusal.Source d) = failures
+counted failures refusal.Memory = failures
+
+abbrev pub Counts : {A : Type 0} → Result A ParseFault → ℕ → ℕ → Type 0
+Counts (Ok x) before behind = behind ≡ before
+Counts (Err e) before behind = behind ≡ counted before e

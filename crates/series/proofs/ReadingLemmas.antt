@@ -1,0 +1,72 @@
+-- How much was read, file by file.
+use Rattle.std.proofs.Common.{◌≡◌, ◌≢◌, ℕ, ◌+◌, ◌-◌, ◌<◌, List, Option, None, length, drop, get_or, map, set, sym, ap, ◌∙◌, subst, arith, below_more, get_or-set_other, get_or-set_same}
+use Rattle.std.proofs.lemmas.List.{get_or-map, drop-map, length-drop, length-map, map-set}
+use Rattle.grammar.specs.Profile.{Profile}
+use Rattle.series.specs.Reading.{FailsAt, ReadsFirst, TakesOf, TakesOfFirst}
+use Rattle.series.proofs.RunsLemmas.{feed_here, rest_more}
+
+module _ {X : Type 0} where
+  -- what a feed tells, and what it told at the start
+  told_there : (tells : X → Option (List ℕ)) (start feeds : List X) (file : ℕ) (x : X) → file < length start → drop file feeds ≡ drop file start
+      → get_or (map tells start) file None ≡ tells (get_or feeds file x)
+  told_there tells start feeds file x within same =
+      get_or-map tells start file x None within ∙ ap tells (sym (feed_here start feeds file x same))
+
+  same_length : (start feeds : List X) (file : ℕ) → file < length start → drop file feeds ≡ drop file start → file < length feeds
+  same_length start feeds file within same =
+      let rests : length feeds - file ≡ length start - file = sym (length-drop file feeds) ∙ ap length same ∙ length-drop file start in
+      omega (arith, rests)
+
+  -- what the file that was read tells then
+  told_then : (tells : X → Option (List ℕ)) (feeds : List X) (file : ℕ) (y : X) → file < length feeds
+      → get_or (map tells (set feeds file y)) file None ≡ tells y
+  told_then tells feeds file y within =
+      let inside : file < length (map tells feeds) = rw (length-map feeds tells) within in
+      ap (λ l. get_or l file None) (map-set tells feeds file y) ∙ get_or-set_same (map tells feeds) file (tells y) None inside
+
+  told_others : (tells : X → Option (List ℕ)) (feeds : List X) (file i : ℕ) (y : X) → i ≢ file
+      → get_or (map tells (set feeds file y)) i None ≡ get_or (map tells feeds) i None
+  told_others tells feeds file i y other = ap (λ l. get_or l i None) (map-set tells feeds file y) ∙ get_or-set_other (map tells feeds) file i (tells y) None other
+
+  -- the files before the one that was read
+  pub reads_before : (tells : X → Option (List ℕ)) (profile : Profile) (start feeds : List X) (file : ℕ) (y : X)
+      → TakesOfFirst profile (map tells start) (map tells feeds) file → TakesOfFirst profile (map tells start) (map tells (set feeds file y)) file
+  reads_before tells profile start feeds file y read i below =
+      let Takes : Option (List ℕ) → Type 0 = λ later. TakesOf profile (get_or (map tells start) i None) later 4096 in
+      let other : i ≢ file = omega arith in
+      subst Takes (sym (told_others tells feeds file i y other)) (read i below)
+
+  -- the file that was read
+  pub reads_here : (tells : X → Option (List ℕ)) (profile : Profile) (start feeds : List X) (file more : ℕ) (x y : X) → file < length start
+      → drop file feeds ≡ drop file start → TakesOf profile (tells (get_or feeds file x)) (tells y) more
+      → TakesOf profile (get_or (map tells start) file None) (get_or (map tells (set feeds file y)) file None) more
+  reads_here tells profile start feeds file more x y within same takes =
+      rw (told_there tells start feeds file x within same, told_then tells feeds file y (same_length start feeds file within same)) takes
+
+  -- one file more was read
+  pub reads_more : (tells : X → Option (List ℕ)) (profile : Profile) (start feeds : List X) (file : ℕ) (x y : X) → file < length start
+      → drop file feeds ≡ drop file start → TakesOfFirst profile (map tells start) (map tells feeds) file
+      → TakesOf profile (tells (get_or feeds file x)) (tells y) 4096
+      → TakesOfFirst profile (map tells start) (map tells (set feeds file y)) (file + 1)
+  reads_more tells profile start feeds file x y within same read takes =
+      below_more _ _ (reads_before tells profile start feeds file y read) (reads_here tells profile start feeds file 4096 x y within same takes)
+
+  unread_of : (tells : X → Option (List ℕ)) (start feeds : List X) (count : ℕ) → drop count feeds ≡ drop count start
+      → drop count (map tells feeds) ≡ drop count (map tells start)
+  unread_of tells start feeds count same = drop-map tells count feeds ∙ ap (map tells) same ∙ sym (drop-map tells count start)
+
+  -- so many files were read
+  pub reads_first : (tells : X → Option (List ℕ)) (profile : Profile) (start feeds : List X) (count : ℕ) → drop count feeds ≡ drop count start
+      → TakesOfFirst profile (map tells start) (map tells feeds) count → ReadsFirst profile (map tells start) (map tells feeds) count
+  reads_first tells profile start feeds count same read = record { read = read; unread = unread_of tells start feeds count same }
+
+  -- the read of a file failed
+  pub fails_at : (tells : X → Option (List ℕ)) (profile : Profile) (start feeds : List X) (file : ℕ) (x y : X) → file < length start
+      → drop file feeds ≡ drop file start → TakesOfFirst profile (map tells start) (map tells feeds) file
+      → TakesOf profile (tells (get_or feeds file x)) (tells y) 0
+      → FailsAt profile (map tells start) (map tells (set feeds file y)) file
+  fails_at tells profile start feeds file x y within same read takes = record {
+    before = reads_before tells profile start feeds file y read;
+    here = reads_here tells profile start feeds file 0 x y within same takes;
+    unread = unread_of tells start (set feeds file y) (file + 1) (rest_more start feeds file y same);
+  }

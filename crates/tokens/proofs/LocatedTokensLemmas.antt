@@ -1,0 +1,97 @@
+-- The laws of the tokens of what lies ahead: a blank or a comment is skipped, a token is given.
+use Rattle.std.proofs.Common.{◌≡◌, ℕ, zero, suc, ◌+◌, ◌-◌, ◌<◌, Bool, true, false, cond, Option, Some, None, List, [], ◌∷◌, length, drop, refl, ap, arith, lit<}
+use Rattle.std.specs.Prelude.{◌||◌}
+use Rattle.std.specs.List.{prefix_len}
+use Rattle.tokens.specs.Characters.{is_blank, is_letter, is_digit, is_name_byte}
+use Rattle.tokens.specs.Punctuators.{longest_punctuator}
+use Rattle.tokens.specs.Front.{Front, Nothing, Space, Unclosed, Sign, front, run, comment, punctuator, up_to_close, name_token, constant_token}
+use Rattle.tokens.specs.Tokens.{Ahead, behind_byte, passed, placed, followed_by, cut, cut_front, located_tokens}
+use Rattle.tokens.specs.declared.located_tokens.Punctuator.{Punctuator}
+use Rattle.tokens.specs.declared.located_tokens.Token.{Token}
+use Rattle.tokens.specs.declared.located_tokens.LocatedToken.{LocatedToken}
+use Rattle.tokens.proofs.PunctuatorLemmas.{spelling-nonempty}
+
+abbrev here : ℕ → ℕ → List ℕ → Bool → Ahead
+here line place bytes too_long = record { line = line; place = place; bytes = bytes; too_long = too_long }
+
+-- a piece has at least one byte
+abbrev pub IsPiece : Front → Type 0
+IsPiece Nothing = Unit {0}
+IsPiece Unclosed = Unit {0}
+IsPiece (Space count) = 0 < count
+IsPiece (Sign sign count) = 0 < count
+
+punctuator-is_piece : (m : Option Punctuator) → IsPiece (punctuator m)
+punctuator-is_piece None = lit< tt
+punctuator-is_piece (Some m) = spelling-nonempty m
+
+comment-is_piece : (n : Option ℕ) → IsPiece (comment n)
+comment-is_piece None = tt
+comment-is_piece (Some n) = omega arith
+
+run-is_piece : (test : ℕ → Bool) (f : List ℕ → Token) (b : ℕ) (rest : List ℕ) → test b ≡ true → IsPiece (run test f (b ∷ rest))
+run-is_piece test f b rest e = by (test b) e
+  where
+    by : (t : Bool) → t ≡ true → 0 < cond t (1 + prefix_len test rest) 0
+    by true e = omega arith
+    by false e = absurd cc
+
+either-is_piece : (t : Bool) (x y : Front) → (t ≡ true → IsPiece x) → (t ≡ false → IsPiece y) → IsPiece (cond t x y)
+either-is_piece true x y f g = f refl
+either-is_piece false x y f g = g refl
+
+pub letter-is_name_byte : (b : ℕ) → is_letter b ≡ true → is_name_byte b ≡ true
+letter-is_name_byte b e = by (is_letter b) e
+  where
+    by : (t : Bool) → t ≡ true → (t || is_digit b) ≡ true
+    by true e = refl
+    by false e = absurd cc
+
+pub front-is_piece : (bytes : List ℕ) → IsPiece (front bytes)
+front-is_piece [] = tt
+front-is_piece (b ∷ rest) =
+    either-is_piece (is_blank b) _ _ (λ e. lit< tt) (λ n.
+    either-is_piece (is_letter b) _ _ (λ e. run-is_piece is_name_byte name_token b rest (letter-is_name_byte b e)) (λ n.
+    either-is_piece (is_digit b) _ _ (λ e. run-is_piece is_digit constant_token b rest e) (λ n.
+    either-is_piece _ _ _ (λ e. comment-is_piece (up_to_close (drop 1 rest))) (λ n. punctuator-is_piece (longest_punctuator (b ∷ rest))))))
+
+length-behind_byte : (a : Ahead) → length (behind_byte a).bytes ≡ length a.bytes - 1
+length-behind_byte a = by a.line a.place a.bytes a.too_long
+  where
+    by : (line place : ℕ) (xs : List ℕ) (t : Bool) → length (behind_byte (here line place xs t)).bytes ≡ length xs - 1
+    by line place [] t = omega arith
+    by line place (x ∷ xs) t = omega arith
+
+pub length-passed : (n : ℕ) (a : Ahead) → length (passed n a).bytes ≡ length a.bytes - n
+length-passed zero a = omega arith
+length-passed (suc n) a = omega (arith, length-passed n (behind_byte a), length-behind_byte a)
+
+cut_front-same : (f : Front) (a : Ahead) (others others' : Ahead → List LocatedToken) → IsPiece f → ((count : ℕ) → 0 < count → others (passed count a) ≡ others' (passed count a)) → cut_front f a others ≡ cut_front f a others'
+cut_front-same Nothing a others others' p h = refl
+cut_front-same Unclosed a others others' p h = refl
+cut_front-same (Space count) a others others' p h = h count p
+cut_front-same (Sign sign count) a others others' p h = ap (followed_by (placed sign count a)) (h count p)
+
+-- more pieces than bytes make no difference
+cut-enough : (m n line place : ℕ) (bytes : List ℕ) (too_long : Bool) → length bytes < m → length bytes < n → cut m (here line place bytes too_long) ≡ cut n (here line place bytes too_long)
+cut-enough zero n line place xs t h k = absurd (omega (arith, h))
+cut-enough (suc m) zero line place xs t h k = absurd (omega (arith, k))
+cut-enough (suc m) (suc n) line place [] t h k = refl
+cut-enough (suc m) (suc n) line place (b ∷ xs) t h k =
+    cut_front-same (front (b ∷ xs)) (here line place (b ∷ xs) t) (cut m) (cut n) (front-is_piece (b ∷ xs)) (λ count c.
+    let p = passed count (here line place (b ∷ xs) t) in
+    let e = length-passed count (here line place (b ∷ xs) t) in
+    cut-enough m n p.line p.place p.bytes p.too_long (omega (arith, e, h, c)) (omega (arith, e, k, c)))
+
+located_tokens-here : (line place : ℕ) (bytes : List ℕ) (too_long : Bool) → located_tokens (here line place bytes too_long) ≡ cut_front (front bytes) (here line place bytes too_long) located_tokens
+unfolding located_tokens
+located_tokens-here line place [] t = refl
+located_tokens-here line place (b ∷ xs) t =
+    cut_front-same (front (b ∷ xs)) (here line place (b ∷ xs) t) (cut (length (b ∷ xs))) located_tokens (front-is_piece (b ∷ xs)) (λ count c.
+    let p = passed count (here line place (b ∷ xs) t) in
+    let e = length-passed count (here line place (b ∷ xs) t) in
+    cut-enough (length (b ∷ xs)) (suc (length p.bytes)) p.line p.place p.bytes p.too_long (omega (arith, e, c)) (omega arith))
+
+-- the law of which all others are cases
+pub located_tokens-front : (a : Ahead) → located_tokens a ≡ cut_front (front a.bytes) a located_tokens
+located_tokens-front a = located_tokens-here a.line a.place a.bytes a.too_long

@@ -1,0 +1,267 @@
+-- The punctuators by their spellings: a punctuator's beginnings are punctuators.
+use Rattle.std.proofs.Common.{◌≡◌, ◌∙◌, ℕ, ◌+◌, ◌<◌, ◌≤◌, Bool, true, false, cond, Option, Some, None, List, [], ◌∷◌, map, ◌++◌, length, refl, sym, ap, subst, arith, lit<, lit≤}
+use Rattle.std.specs.Str.{bytes_eq}
+use Rattle.std.proofs.lemmas.Slice.Eq.{bytes_eq-Decides}
+use Rattle.tokens.specs.Punctuators.{spelling, row, entry, all_punctuators, punctuator_of}
+use Rattle.tokens.specs.Tokens.{Ahead, placed, passed}
+use Rattle.tokens.specs.Lexing.{ending}
+use Rattle.tokens.specs.declared.located_tokens.Token.TheVariants as variant
+use Rattle.tokens.specs.declared.located_tokens.Punctuator.{Punctuator}
+use Rattle.tokens.specs.declared.located_tokens.Punctuator.TheVariants.{Plus, Minus, Star, Slash, Percent, And, Or, Xor, Tilde, Not, Less, Greater, Equals, ShiftLeft, ShiftRight, LessEquals, GreaterEquals, EqualsEquals, NotEquals, AndAnd, OrOr, PlusPlus, MinusMinus, PlusEquals, MinusEquals, StarEquals, SlashEquals, PercentEquals, ShiftLeftEquals, ShiftRightEquals, AndEquals, XorEquals, OrEquals, OpenRound, CloseRound, OpenCurly, CloseCurly, Comma, Semicolon}
+
+entry-spelled : (bytes : List ℕ) (punctuator : Punctuator) (punctuators : List Punctuator) → entry bytes (map row punctuators) ≡ Some punctuator → bytes ≡ spelling punctuator
+entry-spelled bytes punctuator [] e = absurd cc
+entry-spelled bytes punctuator (m ∷ punctuators) e = by (bytes_eq bytes (spelling m)) refl (entry-spelled bytes punctuator punctuators) e
+  where
+    by : (t : Bool) → bytes_eq bytes (spelling m) ≡ t → (entry bytes (map row punctuators) ≡ Some punctuator → bytes ≡ spelling punctuator) → cond t (Some m) (entry bytes (map row punctuators)) ≡ Some punctuator → bytes ≡ spelling punctuator
+    by true q f e = let d : m ≡ punctuator = cc in (bytes_eq-Decides bytes (spelling m)).0 q ∙ ap spelling d
+    by false q f e = f e
+
+pub punctuator_of-spelled : (bytes : List ℕ) (punctuator : Punctuator) → punctuator_of bytes ≡ Some punctuator → bytes ≡ spelling punctuator
+unfolding punctuator_of
+punctuator_of-spelled bytes punctuator e = entry-spelled bytes punctuator all_punctuators e
+
+pub spelling-nonempty : (m : Punctuator) → 0 < length (spelling m)
+spelling-nonempty Plus = lit< tt
+spelling-nonempty Minus = lit< tt
+spelling-nonempty Star = lit< tt
+spelling-nonempty Slash = lit< tt
+spelling-nonempty Percent = lit< tt
+spelling-nonempty And = lit< tt
+spelling-nonempty Or = lit< tt
+spelling-nonempty Xor = lit< tt
+spelling-nonempty Tilde = lit< tt
+spelling-nonempty Not = lit< tt
+spelling-nonempty Less = lit< tt
+spelling-nonempty Greater = lit< tt
+spelling-nonempty Equals = lit< tt
+spelling-nonempty ShiftLeft = lit< tt
+spelling-nonempty ShiftRight = lit< tt
+spelling-nonempty LessEquals = lit< tt
+spelling-nonempty GreaterEquals = lit< tt
+spelling-nonempty EqualsEquals = lit< tt
+spelling-nonempty NotEquals = lit< tt
+spelling-nonempty AndAnd = lit< tt
+spelling-nonempty OrOr = lit< tt
+spelling-nonempty PlusPlus = lit< tt
+spelling-nonempty MinusMinus = lit< tt
+spelling-nonempty PlusEquals = lit< tt
+spelling-nonempty MinusEquals = lit< tt
+spelling-nonempty StarEquals = lit< tt
+spelling-nonempty SlashEquals = lit< tt
+spelling-nonempty PercentEquals = lit< tt
+spelling-nonempty ShiftLeftEquals = lit< tt
+spelling-nonempty ShiftRightEquals = lit< tt
+spelling-nonempty AndEquals = lit< tt
+spelling-nonempty XorEquals = lit< tt
+spelling-nonempty OrEquals = lit< tt
+spelling-nonempty OpenRound = lit< tt
+spelling-nonempty CloseRound = lit< tt
+spelling-nonempty OpenCurly = lit< tt
+spelling-nonempty CloseCurly = lit< tt
+spelling-nonempty Comma = lit< tt
+spelling-nonempty Semicolon = lit< tt
+
+pub spelling-short : (m : Punctuator) → length (spelling m) ≤ 3
+spelling-short Plus = lit≤ tt
+spelling-short Minus = lit≤ tt
+spelling-short Star = lit≤ tt
+spelling-short Slash = lit≤ tt
+spelling-short Percent = lit≤ tt
+spelling-short And = lit≤ tt
+spelling-short Or = lit≤ tt
+spelling-short Xor = lit≤ tt
+spelling-short Tilde = lit≤ tt
+spelling-short Not = lit≤ tt
+spelling-short Less = lit≤ tt
+spelling-short Greater = lit≤ tt
+spelling-short Equals = lit≤ tt
+spelling-short ShiftLeft = lit≤ tt
+spelling-short ShiftRight = lit≤ tt
+spelling-short LessEquals = lit≤ tt
+spelling-short GreaterEquals = lit≤ tt
+spelling-short EqualsEquals = lit≤ tt
+spelling-short NotEquals = lit≤ tt
+spelling-short AndAnd = lit≤ tt
+spelling-short OrOr = lit≤ tt
+spelling-short PlusPlus = lit≤ tt
+spelling-short MinusMinus = lit≤ tt
+spelling-short PlusEquals = lit≤ tt
+spelling-short MinusEquals = lit≤ tt
+spelling-short StarEquals = lit≤ tt
+spelling-short SlashEquals = lit≤ tt
+spelling-short PercentEquals = lit≤ tt
+spelling-short ShiftLeftEquals = lit≤ tt
+spelling-short ShiftRightEquals = lit≤ tt
+spelling-short AndEquals = lit≤ tt
+spelling-short XorEquals = lit≤ tt
+spelling-short OrEquals = lit≤ tt
+spelling-short OpenRound = lit≤ tt
+spelling-short CloseRound = lit≤ tt
+spelling-short OpenCurly = lit≤ tt
+spelling-short CloseCurly = lit≤ tt
+spelling-short Comma = lit≤ tt
+spelling-short Semicolon = lit≤ tt
+
+some-none : (m : Punctuator) → Some m ≡ None → ⊥
+some-none m e = absurd cc
+
+-- the first byte of a punctuator of two bytes is a punctuator
+first-of-two : (m : Punctuator) (b c : ℕ) → b ∷ c ∷ [] ≡ spelling m → punctuator_of (b ∷ []) ≡ None → ⊥
+unfolding punctuator_of
+first-of-two Plus b c e h = absurd (omega (arith, ap length e))
+first-of-two Minus b c e h = absurd (omega (arith, ap length e))
+first-of-two Star b c e h = absurd (omega (arith, ap length e))
+first-of-two Slash b c e h = absurd (omega (arith, ap length e))
+first-of-two Percent b c e h = absurd (omega (arith, ap length e))
+first-of-two And b c e h = absurd (omega (arith, ap length e))
+first-of-two Or b c e h = absurd (omega (arith, ap length e))
+first-of-two Xor b c e h = absurd (omega (arith, ap length e))
+first-of-two Tilde b c e h = absurd (omega (arith, ap length e))
+first-of-two Not b c e h = absurd (omega (arith, ap length e))
+first-of-two Less b c e h = absurd (omega (arith, ap length e))
+first-of-two Greater b c e h = absurd (omega (arith, ap length e))
+first-of-two Equals b c e h = absurd (omega (arith, ap length e))
+first-of-two ShiftLeft b c e h = let d : b ≡ 60 = cc in (some-none Less (rw d at h))
+first-of-two ShiftRight b c e h = let d : b ≡ 62 = cc in (some-none Greater (rw d at h))
+first-of-two LessEquals b c e h = let d : b ≡ 60 = cc in (some-none Less (rw d at h))
+first-of-two GreaterEquals b c e h = let d : b ≡ 62 = cc in (some-none Greater (rw d at h))
+first-of-two EqualsEquals b c e h = let d : b ≡ 61 = cc in (some-none Equals (rw d at h))
+first-of-two NotEquals b c e h = let d : b ≡ 33 = cc in (some-none Not (rw d at h))
+first-of-two AndAnd b c e h = let d : b ≡ 38 = cc in (some-none And (rw d at h))
+first-of-two OrOr b c e h = let d : b ≡ 124 = cc in (some-none Or (rw d at h))
+first-of-two PlusPlus b c e h = let d : b ≡ 43 = cc in (some-none Plus (rw d at h))
+first-of-two MinusMinus b c e h = let d : b ≡ 45 = cc in (some-none Minus (rw d at h))
+first-of-two PlusEquals b c e h = let d : b ≡ 43 = cc in (some-none Plus (rw d at h))
+first-of-two MinusEquals b c e h = let d : b ≡ 45 = cc in (some-none Minus (rw d at h))
+first-of-two StarEquals b c e h = let d : b ≡ 42 = cc in (some-none Star (rw d at h))
+first-of-two SlashEquals b c e h = let d : b ≡ 47 = cc in (some-none Slash (rw d at h))
+first-of-two PercentEquals b c e h = let d : b ≡ 37 = cc in (some-none Percent (rw d at h))
+first-of-two ShiftLeftEquals b c e h = absurd (omega (arith, ap length e))
+first-of-two ShiftRightEquals b c e h = absurd (omega (arith, ap length e))
+first-of-two AndEquals b c e h = let d : b ≡ 38 = cc in (some-none And (rw d at h))
+first-of-two XorEquals b c e h = let d : b ≡ 94 = cc in (some-none Xor (rw d at h))
+first-of-two OrEquals b c e h = let d : b ≡ 124 = cc in (some-none Or (rw d at h))
+first-of-two OpenRound b c e h = absurd (omega (arith, ap length e))
+first-of-two CloseRound b c e h = absurd (omega (arith, ap length e))
+first-of-two OpenCurly b c e h = absurd (omega (arith, ap length e))
+first-of-two CloseCurly b c e h = absurd (omega (arith, ap length e))
+first-of-two Comma b c e h = absurd (omega (arith, ap length e))
+first-of-two Semicolon b c e h = absurd (omega (arith, ap length e))
+
+-- the first two bytes of a punctuator of three are a punctuator
+two-of-three : (m : Punctuator) (b c d : ℕ) → b ∷ c ∷ d ∷ [] ≡ spelling m → punctuator_of (b ∷ c ∷ []) ≡ None → ⊥
+unfolding punctuator_of
+two-of-three Plus b c d e h = absurd (omega (arith, ap length e))
+two-of-three Minus b c d e h = absurd (omega (arith, ap length e))
+two-of-three Star b c d e h = absurd (omega (arith, ap length e))
+two-of-three Slash b c d e h = absurd (omega (arith, ap length e))
+two-of-three Percent b c d e h = absurd (omega (arith, ap length e))
+two-of-three And b c d e h = absurd (omega (arith, ap length e))
+two-of-three Or b c d e h = absurd (omega (arith, ap length e))
+two-of-three Xor b c d e h = absurd (omega (arith, ap length e))
+two-of-three Tilde b c d e h = absurd (omega (arith, ap length e))
+two-of-three Not b c d e h = absurd (omega (arith, ap length e))
+two-of-three Less b c d e h = absurd (omega (arith, ap length e))
+two-of-three Greater b c d e h = absurd (omega (arith, ap length e))
+two-of-three Equals b c d e h = absurd (omega (arith, ap length e))
+two-of-three ShiftLeft b c d e h = absurd (omega (arith, ap length e))
+two-of-three ShiftRight b c d e h = absurd (omega (arith, ap length e))
+two-of-three LessEquals b c d e h = absurd (omega (arith, ap length e))
+two-of-three GreaterEquals b c d e h = absurd (omega (arith, ap length e))
+two-of-three EqualsEquals b c d e h = absurd (omega (arith, ap length e))
+two-of-three NotEquals b c d e h = absurd (omega (arith, ap length e))
+two-of-three AndAnd b c d e h = absurd (omega (arith, ap length e))
+two-of-three OrOr b c d e h = absurd (omega (arith, ap length e))
+two-of-three PlusPlus b c d e h = absurd (omega (arith, ap length e))
+two-of-three MinusMinus b c d e h = absurd (omega (arith, ap length e))
+two-of-three PlusEquals b c d e h = absurd (omega (arith, ap length e))
+two-of-three MinusEquals b c d e h = absurd (omega (arith, ap length e))
+two-of-three StarEquals b c d e h = absurd (omega (arith, ap length e))
+two-of-three SlashEquals b c d e h = absurd (omega (arith, ap length e))
+two-of-three PercentEquals b c d e h = absurd (omega (arith, ap length e))
+two-of-three ShiftLeftEquals b c d e h = let p : b ≡ 60 = cc in let q : c ≡ 60 = cc in (some-none ShiftLeft (rw (p, q) at h))
+two-of-three ShiftRightEquals b c d e h = let p : b ≡ 62 = cc in let q : c ≡ 62 = cc in (some-none ShiftRight (rw (p, q) at h))
+two-of-three AndEquals b c d e h = absurd (omega (arith, ap length e))
+two-of-three XorEquals b c d e h = absurd (omega (arith, ap length e))
+two-of-three OrEquals b c d e h = absurd (omega (arith, ap length e))
+two-of-three OpenRound b c d e h = absurd (omega (arith, ap length e))
+two-of-three CloseRound b c d e h = absurd (omega (arith, ap length e))
+two-of-three OpenCurly b c d e h = absurd (omega (arith, ap length e))
+two-of-three CloseCurly b c d e h = absurd (omega (arith, ap length e))
+two-of-three Comma b c d e h = absurd (omega (arith, ap length e))
+two-of-three Semicolon b c d e h = absurd (omega (arith, ap length e))
+
+pub none-of-two : (b c : ℕ) → punctuator_of (b ∷ []) ≡ None → punctuator_of (b ∷ c ∷ []) ≡ None
+none-of-two b c h = by (punctuator_of (b ∷ c ∷ [])) refl
+  where
+    by : (o : Option Punctuator) → punctuator_of (b ∷ c ∷ []) ≡ o → punctuator_of (b ∷ c ∷ []) ≡ None
+    by None e = e
+    by (Some m) e = absurd (first-of-two m b c (punctuator_of-spelled _ m e) h)
+
+pub none-of-three : (b c d : ℕ) → punctuator_of (b ∷ c ∷ []) ≡ None → punctuator_of (b ∷ c ∷ d ∷ []) ≡ None
+none-of-three b c d h = by (punctuator_of (b ∷ c ∷ d ∷ [])) refl
+  where
+    by : (o : Option Punctuator) → punctuator_of (b ∷ c ∷ d ∷ []) ≡ o → punctuator_of (b ∷ c ∷ d ∷ []) ≡ None
+    by None e = e
+    by (Some m) e = absurd (two-of-three m b c d (punctuator_of-spelled _ m e) h)
+
+pub none-of-four : (b c d x : ℕ) → punctuator_of (b ∷ c ∷ d ∷ x ∷ []) ≡ None
+none-of-four b c d x = by (punctuator_of (b ∷ c ∷ d ∷ x ∷ [])) refl
+  where
+    by : (o : Option Punctuator) → punctuator_of (b ∷ c ∷ d ∷ x ∷ []) ≡ o → punctuator_of (b ∷ c ∷ d ∷ x ∷ []) ≡ None
+    by None e = e
+    by (Some m) e = absurd (omega (arith, ap length (punctuator_of-spelled _ m e), spelling-short m))
+
+further2 : (place : ℕ) → place + 2 ≡ place + 1 + 1
+further2 place = omega arith
+
+further3 : (place : ℕ) → place + 3 ≡ place + 1 + 1 + 1
+further3 place = omega arith
+
+-- no punctuator has the byte that ends a line
+located_token-here : (m : Punctuator) (line place : ℕ) (rest : List ℕ) (too_long : Bool) → let a : Ahead = record { line = line; place = place; bytes = spelling m ++ rest; too_long = too_long } in placed (variant.Punctuator m) (length (spelling m)) a ≡ ending (variant.Punctuator m) (passed (length (spelling m)) a)
+located_token-here Plus line place rest t = refl
+located_token-here Minus line place rest t = refl
+located_token-here Star line place rest t = refl
+located_token-here Slash line place rest t = refl
+located_token-here Percent line place rest t = refl
+located_token-here And line place rest t = refl
+located_token-here Or line place rest t = refl
+located_token-here Xor line place rest t = refl
+located_token-here Tilde line place rest t = refl
+located_token-here Not line place rest t = refl
+located_token-here Less line place rest t = refl
+located_token-here Greater line place rest t = refl
+located_token-here Equals line place rest t = refl
+located_token-here ShiftLeft line place rest t = ap (λ p. record { token = variant.Punctuator ShiftLeft; line = line; end = p }) (further2 place)
+located_token-here ShiftRight line place rest t = ap (λ p. record { token = variant.Punctuator ShiftRight; line = line; end = p }) (further2 place)
+located_token-here LessEquals line place rest t = ap (λ p. record { token = variant.Punctuator LessEquals; line = line; end = p }) (further2 place)
+located_token-here GreaterEquals line place rest t = ap (λ p. record { token = variant.Punctuator GreaterEquals; line = line; end = p }) (further2 place)
+located_token-here EqualsEquals line place rest t = ap (λ p. record { token = variant.Punctuator EqualsEquals; line = line; end = p }) (further2 place)
+located_token-here NotEquals line place rest t = ap (λ p. record { token = variant.Punctuator NotEquals; line = line; end = p }) (further2 place)
+located_token-here AndAnd line place rest t = ap (λ p. record { token = variant.Punctuator AndAnd; line = line; end = p }) (further2 place)
+located_token-here OrOr line place rest t = ap (λ p. record { token = variant.Punctuator OrOr; line = line; end = p }) (further2 place)
+located_token-here PlusPlus line place rest t = ap (λ p. record { token = variant.Punctuator PlusPlus; line = line; end = p }) (further2 place)
+located_token-here MinusMinus line place rest t = ap (λ p. record { token = variant.Punctuator MinusMinus; line = line; end = p }) (further2 place)
+located_token-here PlusEquals line place rest t = ap (λ p. record { token = variant.Punctuator PlusEquals; line = line; end = p }) (further2 place)
+located_token-here MinusEquals line place rest t = ap (λ p. record { token = variant.Punctuator MinusEquals; line = line; end = p }) (further2 place)
+located_token-here StarEquals line place rest t = ap (λ p. record { token = variant.Punctuator StarEquals; line = line; end = p }) (further2 place)
+located_token-here SlashEquals line place rest t = ap (λ p. record { token = variant.Punctuator SlashEquals; line = line; end = p }) (further2 place)
+located_token-here PercentEquals line place rest t = ap (λ p. record { token = variant.Punctuator PercentEquals; line = line; end = p }) (further2 place)
+located_token-here ShiftLeftEquals line place rest t = ap (λ p. record { token = variant.Punctuator ShiftLeftEquals; line = line; end = p }) (further3 place)
+located_token-here ShiftRightEquals line place rest t = ap (λ p. record { token = variant.Punctuator ShiftRightEquals; line = line; end = p }) (further3 place)
+located_token-here AndEquals line place rest t = ap (λ p. record { token = variant.Punctuator AndEquals; line = line; end = p }) (further2 place)
+located_token-here XorEquals line place rest t = ap (λ p. record { token = variant.Punctuator XorEquals; line = line; end = p }) (further2 place)
+located_token-here OrEquals line place rest t = ap (λ p. record { token = variant.Punctuator OrEquals; line = line; end = p }) (further2 place)
+located_token-here OpenRound line place rest t = refl
+located_token-here CloseRound line place rest t = refl
+located_token-here OpenCurly line place rest t = refl
+located_token-here CloseCurly line place rest t = refl
+located_token-here Comma line place rest t = refl
+located_token-here Semicolon line place rest t = refl
+
+pub punctuator-located_token : (m : Punctuator) (a : Ahead) (rest : List ℕ) → a.bytes ≡ spelling m ++ rest → placed (variant.Punctuator m) (length (spelling m)) a ≡ ending (variant.Punctuator m) (passed (length (spelling m)) a)
+punctuator-located_token m a rest e =
+    subst (λ (xs : List ℕ). let b : Ahead = record { line = a.line; place = a.place; bytes = xs; too_long = a.too_long } in placed (variant.Punctuator m) (length (spelling m)) b ≡ ending (variant.Punctuator m) (passed (length (spelling m)) b)) (sym e)
+    (located_token-here m a.line a.place rest a.too_long)

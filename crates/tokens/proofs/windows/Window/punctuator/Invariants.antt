@@ -1,0 +1,15 @@
+use Rattle.std.proofs.Common.{◌≡◌, ◌-◌, ◌≤◌}
+use Rattle.tokens.specs.Window.{Takes}
+use Rattle.tokens.specs.Lexing.{to_read, in_punctuator}
+use Rattle.tokens.proofs.windows.Window.punctuator.Given as goal
+
+abbrev pub invariant-loop-next : goal.invariant-loop-next
+invariant-loop-next g l = record {
+  tokens : to_read (in_punctuator l.punctuator) l.self (g.F.Feed.to_come l.feed) ≡ to_read (in_punctuator l.initial.punctuator) l.initial.self (g.F.Feed.to_come l.initial.feed);
+  took : Takes l.initial.self.taken l.self.taken (g.F.Feed.to_come l.initial.feed) (g.F.Feed.to_come l.feed);
+  forward : l.initial.self.place ≤ l.self.place;
+  count : g.F.Feed.failures l.feed ≡ g.F.Feed.failures l.initial.feed;
+}
+
+abbrev pub decreases-loop-next : goal.decreases-loop-next
+decreases-loop-next g l = 1048576 - l.self.place

@@ -1,9 +1,0 @@
-use Rattle.std.proofs.Common.{◌≡◌, ◌+◌, take, drop, not, ◌==◌}
-use Rattle.std.specs.List.{prefix_len, count_by}
-use Rattle.tokens.proofs.windows.first_star.Given as goal
-
-abbrev pub invariant-loop-i : goal.invariant-loop-i
-invariant-loop-i l = record {
-  count : prefix_len (λ b. not (b == 42)) l.bytes ≡ l.i + prefix_len (λ b. not (b == 42)) (drop l.i l.bytes);
-  lines : l.lines ≡ count_by (λ b. b == 10) (take l.i l.bytes);
-}

@@ -1,0 +1,159 @@
+//! Tokens, with their places in the source.
+
+ghost use Rattle.std.specs.Prelude.{◌≡◌};
+
+use crate::names::Name;
+
+/// An operator or a punctuation punctuator.
+#[derive(Clone, Copy, Debug, PartialEq, Eq)]
+pub enum Punctuator {
+    /// `+`
+    Plus,
+    /// `-`
+    Minus,
+    /// `*`
+    Star,
+    /// `/`
+    Slash,
+    /// `%`
+    Percent,
+    /// `&`
+    And,
+    /// `|`
+    Or,
+    /// `^`
+    Xor,
+    /// `~`
+    Tilde,
+    /// `!`
+    Not,
+    /// `<`
+    Less,
+    /// `>`
+    Greater,
+    /// `=`
+    Equals,
+    /// `<<`
+    ShiftLeft,
+    /// `>>`
+    ShiftRight,
+    /// `<=`
+    LessEquals,
+    /// `>=`
+    GreaterEquals,
+    /// `==`
+    EqualsEquals,
+    /// `!=`
+    NotEquals,
+    /// `&&`
+    AndAnd,
+    /// `||`
+    OrOr,
+    /// `++`
+    PlusPlus,
+    /// `--`
+    MinusMinus,
+    /// `+=`
+    PlusEquals,
+    /// `-=`
+    MinusEquals,
+    /// `*=`
+    StarEquals,
+    /// `/=`
+    SlashEquals,
+    /// `%=`
+    PercentEquals,
+    /// `<<=`
+    ShiftLeftEquals,
+    /// `>>=`
+    ShiftRightEquals,
+    /// `&=`
+    AndEquals,
+    /// `^=`
+    XorEquals,
+    /// `|=`
+    OrEquals,
+    /// `(`
+    OpenRound,
+    /// `)`
+    CloseRound,
+    /// `{`
+    OpenCurly,
+    /// `}`
+    CloseCurly,
+    /// `,`
+    Comma,
+    /// `;`
+    Semicolon,
+}
+
+/// A name that the language keeps for itself.
+#[derive(Clone, Copy, Debug, PartialEq, Eq)]
+pub enum Word {
+    /// `if`
+    If,
+    /// `else`
+    Else,
+    /// `while`
+    While,
+    /// `return`
+    Return,
+    /// `int`, `long`, `auto` or `register`
+    Type,
+    /// A word that is reserved and has no use, as `for`.
+    Refused,
+}
+
+/// What is wrong with a source that can't be cut into tokens to its end.
+#[derive(Clone, Copy, Debug, PartialEq, Eq)]
+pub enum LexicalError {
+    /// A byte that no token begins with.
+    BadCharacter,
+    /// A `/*` with no `*/` behind it.
+    CommentNotClosed,
+    /// A name of more than `NAME_BYTES` bytes.
+    NameTooLong,
+    /// A constant above `CONSTANT_MAX`.
+    ConstantTooLarge,
+    /// A source of more than `SOURCE_BYTES` bytes.
+    SourceTooLong,
+}
+
+/// A token.
+#[derive(Clone, Copy, Debug, PartialEq, Eq)]
+pub enum Token {
+    /// A name that isn't a `Word`.
+    Name(Name),
+    /// A keyword, a type word or a refused word.
+    Word(Word),
+    /// A constant, at most `CONSTANT_MAX`.
+    Constant(u32),
+    /// An operator or a punctuation punctuator.
+    Punctuator(Punctuator),
+    /// The end of the source, the last token.
+    End,
+    /// A lexical fault, the last token.
+    Fault(LexicalError),
+}
+
+/// A token with its place.
+#[derive(Clone, Copy, Debug, PartialEq, Eq)]
+pub struct LocatedToken {
+    /// What it is.
+    pub token: Token,
+    /// The line that it begins on, from 1.
+    pub line: u32,
+    /// How many bytes of the source there are up to its last one.
+    pub end: u32,
+}
+
+impl Token {
+    ghost use Rattle.tokens.specs.Tokens.{is_last};
+
+    /// Whether no token is behind this one: a fault is the last token, or else the end is.
+    pub fn is_last(&self) -> bool
+        ensures { result ≡ is_last self.now }
+    {
+        matches!(self, Token::End | Token::Fault(_))
+    }
+}

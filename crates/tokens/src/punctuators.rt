@@ -1,0 +1,101 @@
+//! The punctuators by their bytes.
+
+ghost use Rattle.std.specs.Prelude.{◌≡◌, ℕ, [], ◌∷◌, ◌++◌, None, true};
+ghost use Rattle.std.specs.Option.{option_and_then};
+ghost use Rattle.tokens.specs.Punctuators.{punctuator_of, spelling};
+
+use crate::located_tokens::Punctuator;
+
+impl Punctuator {
+    /// The punctuator of one byte.
+    #[tactic(auto, unfolding(crate::specs::Punctuators::punctuator_of))]
+    pub(crate) fn of_byte(b: u8) -> Option<Punctuator>
+        ensures { result ≡ punctuator_of (b ∷ []) }
+    {
+        Some(match b {
+            b'+' => Punctuator::Plus,
+            b'-' => Punctuator::Minus,
+            b'*' => Punctuator::Star,
+            b'/' => Punctuator::Slash,
+            b'%' => Punctuator::Percent,
+            b'&' => Punctuator::And,
+            b'|' => Punctuator::Or,
+            b'^' => Punctuator::Xor,
+            b'~' => Punctuator::Tilde,
+            b'!' => Punctuator::Not,
+            b'<' => Punctuator::Less,
+            b'>' => Punctuator::Greater,
+            b'=' => Punctuator::Equals,
+            b'(' => Punctuator::OpenRound,
+            b')' => Punctuator::CloseRound,
+            b'{' => Punctuator::OpenCurly,
+            b'}' => Punctuator::CloseCurly,
+            b',' => Punctuator::Comma,
+            b';' => Punctuator::Semicolon,
+            _ => return None,
+        })
+    }
+
+    /// Whether no longer punctuator begins with this one, so that the next byte is of no account.
+    #[inline(always)]
+    #[tactic(auto, unfolding(crate::specs::Punctuators::punctuator_of))]
+    pub(crate) fn is_whole(self) -> bool
+        ensures { result ≡ true → (b : ℕ) → punctuator_of (spelling self ++ b ∷ []) ≡ None }
+    {
+        matches!(
+            self,
+            Punctuator::OpenRound
+                | Punctuator::CloseRound
+                | Punctuator::OpenCurly
+                | Punctuator::CloseCurly
+                | Punctuator::Comma
+                | Punctuator::Semicolon
+        )
+    }
+
+    /// The punctuator that is spelled as this one and the next byte, if there is one.
+    pub(crate) fn longer(self, next: Option<u8>) -> Option<Punctuator>
+        ensures { result ≡ option_and_then (λ b. punctuator_of (spelling self ++ b ∷ [])) next }
+    {
+        self.with_byte(next?)
+    }
+
+    #[tactic(auto, unfolding(crate::specs::Punctuators::punctuator_of))]
+    fn with_byte(self, b: u8) -> Option<Punctuator>
+        ensures { result ≡ punctuator_of (spelling self ++ b ∷ []) }
+    {
+        match b {
+            b'=' => self.with_equals(),
+            b'+' if self == Punctuator::Plus => Some(Punctuator::PlusPlus),
+            b'-' if self == Punctuator::Minus => Some(Punctuator::MinusMinus),
+            b'&' if self == Punctuator::And => Some(Punctuator::AndAnd),
+            b'|' if self == Punctuator::Or => Some(Punctuator::OrOr),
+            b'<' if self == Punctuator::Less => Some(Punctuator::ShiftLeft),
+            b'>' if self == Punctuator::Greater => Some(Punctuator::ShiftRight),
+            _ => None,
+        }
+    }
+
+    #[tactic(auto, unfolding(crate::specs::Punctuators::punctuator_of))]
+    fn with_equals(self) -> Option<Punctuator>
+        ensures { result ≡ punctuator_of (spelling self ++ 61 ∷ []) }
+    {
+        Some(match self {
+            Punctuator::Less => Punctuator::LessEquals,
+            Punctuator::Greater => Punctuator::GreaterEquals,
+            Punctuator::Equals => Punctuator::EqualsEquals,
+            Punctuator::Not => Punctuator::NotEquals,
+            Punctuator::Plus => Punctuator::PlusEquals,
+            Punctuator::Minus => Punctuator::MinusEquals,
+            Punctuator::Star => Punctuator::StarEquals,
+            Punctuator::Slash => Punctuator::SlashEquals,
+            Punctuator::Percent => Punctuator::PercentEquals,
+            Punctuator::ShiftLeft => Punctuator::ShiftLeftEquals,
+            Punctuator::ShiftRight => Punctuator::ShiftRightEquals,
+            Punctuator::And => Punctuator::AndEquals,
+            Punctuator::Xor => Punctuator::XorEquals,
+            Punctuator::Or => Punctuator::OrEquals,
+            _ => return None,
+        })
+    }
+}

@@ -1,0 +1,139 @@
+//! Runs of bytes up to the first of a kind, a block at a time.
+
+ghost use Rattle.std.specs.Prelude.{◌≡◌, ℕ, ◌≤◌, Bool, not, ◌==◌, length, map, take};
+ghost use Rattle.std.specs.List.{prefix_len, count_by};
+ghost use Rattle.std.specs.Simd.Lanes.{mask_l};
+ghost use Rattle.tokens.specs.Characters.{is_blank};
+
+use crate::characters::is_blank;
+use std::simd::prelude::*;
+
+/// The byte that ends a source.
+const END_BYTE: u8 = 26;
+
+/// The byte that ends a line.
+pub const LINE_FEED: u8 = 10;
+
+/// How many bytes are looked at together.
+const BLOCK: usize = 16;
+
+/// A kind of bytes that ends a run of others.
+pub trait Stop {
+    // whether a byte is of the kind
+    ghost stops: { ℕ → Bool };
+
+    /// Whether a byte is of the kind.
+    fn is(b: u8) -> bool
+        ensures { result ≡ stops b };
+
+    /// The same of each byte of a block, as a bit.
+    fn bits(block: u8x16) -> u64
+        ensures { result ≡ mask_l (map stops block) };
+}
+
+/// A `*`, which may close a comment.
+pub struct Star;
+
+impl Stop for Star {
+    ghost stops = { λ b. b == 42 };
+
+    #[inline(always)]
+    fn is(b: u8) -> bool {
+        b == b'*'
+    }
+
+    #[inline(always)]
+    fn bits(block: u8x16) -> u64 {
+        block.simd_eq(u8x16::splat(b'*')).to_bitmask()
+    }
+}
+
+/// The byte 26, which ends a source.
+pub struct End;
+
+impl Stop for End {
+    ghost stops = { λ b. b == 26 };
+
+    #[inline(always)]
+    fn is(b: u8) -> bool {
+        b == END_BYTE
+    }
+
+    #[inline(always)]
+    fn bits(block: u8x16) -> u64 {
+        block.simd_eq(u8x16::splat(END_BYTE)).to_bitmask()
+    }
+}
+
+/// Any byte that is no blank.
+pub struct Ink;
+
+impl Stop for Ink {
+    ghost stops = { λ b. not (is_blank b) };
+
+    #[inline(always)]
+    fn is(b: u8) -> bool {
+        !is_blank(b)
+    }
+
+    #[inline(always)]
+    fn bits(block: u8x16) -> u64 {
+        let no_space = block.simd_ne(u8x16::splat(b' '));
+        let no_control = (block - u8x16::splat(9)).simd_gt(u8x16::splat(4));
+        (no_space & no_control).to_bitmask()
+    }
+}
+
+/// How many bytes there are before the first of this kind, and how many of them end a line.
+pub fn run_before<S: Stop>(bytes: &[u8]) -> (usize, u32)
+    requires { length bytes.now ≤ 4096 }
+    ensures count { result.0 ≡ prefix_len (λ b. not (S.stops b)) bytes.now }
+    ensures lines { result.1 ≡ count_by (λ b. b == 10) (take result.0 bytes.now) }
+{
+    let mut count = 0;
+    let mut lines = 0;
+    while bytes.len() - count >= BLOCK {
+        let (run, ended) = run_in_block::<S>(u8x16::from_slice(&bytes[count..]));
+        count += run;
+        lines += ended;
+        if run < BLOCK {
+            return (count, lines);
+        }
+    }
+    let (run, ended) = run_by_one::<S>(&bytes[count..]);
+    (count + run, lines + ended)
+}
+
+/// The same of a block.
+#[inline(always)]
+fn run_in_block<S: Stop>(block: u8x16) -> (usize, u32)
+    ensures count { result.0 ≡ prefix_len (λ b. not (S.stops b)) block }
+    ensures lines { result.1 ≡ count_by (λ b. b == 10) (take result.0 block) }
+    ensures within { result.0 ≤ 16 }
+{
+    let stops = S::bits(block);
+    let feeds = block.simd_eq(u8x16::splat(LINE_FEED)).to_bitmask();
+    if stops == 0 {
+        return (BLOCK, feeds.count_ones());
+    }
+    let run = stops.trailing_zeros();
+    (run as usize, (feeds % (1 << run)).count_ones())
+}
+
+/// The same, a byte at a time.
+fn run_by_one<S: Stop>(bytes: &[u8]) -> (usize, u32)
+    requires { length bytes.now ≤ 4096 }
+    ensures count { result.0 ≡ prefix_len (λ b. not (S.stops b)) bytes.now }
+    ensures lines { result.1 ≡ count_by (λ b. b == 10) (take result.0 bytes.now) }
+{
+    let mut lines = 0;
+    for (i, b) in bytes.iter().enumerate() {
+        if S::is(*b) {
+            return (i, lines);
+        }
+        if *b == LINE_FEED {
+            lines += 1;
+        }
+    }
+    (bytes.len(), lines)
+}
