@@ -1,9 +1,9 @@
 -- How far the robots of a window have come.
-use Rattle.std.proofs.Common.{◌≡◌, ◌≢◌, ℕ, ◌+◌, ◌*◌, ◌-◌, ◌%◌, ◌<◌, ◌≤◌, zero, suc, Bool, true, false, ℤ, List, [], ◌∷◌, length, set, get_or, Some, ◌⊎◌, inl, inr, refl, sym, ap, ◌∙◌, arith, add-one}
+use Rattle.std.proofs.Common.{◌≡◌, ◌≢◌, ℕ, ◌+◌, ◌*◌, ◌-◌, ◌%◌, ◌<◌, ◌≤◌, zero, suc, ℤ, List, [], ◌∷◌, length, set, get_or, Some, inl, inr, refl, sym, ap, ◌∙◌, arith}
 use Rattle.std.specs.Prelude.{slice_get}
-use Rattle.std.proofs.lemmas.List.{get_or-set_same, get_or-set_other, set-set, set-get_or, length-set}
+use Rattle.std.proofs.lemmas.List.{get_or-set_same, get_or-set_other, set-set, set-get_or}
 use Rattle.std.proofs.lemmas.Bool.{cases_lt}
-use Rattle.arena.specs.Field.{Field, is_live}
+use Rattle.arena.specs.Field.{Field}
 use Rattle.arena.specs.Ground.{Ground}
 use Rattle.arena.specs.Standing.{StandsFor as IsGroundOf}
 use Rattle.code.specs.declared.want.Want.TheVariants.{Quiet}

@@ -4,7 +4,7 @@ use Rattle.std.proofs.lemmas.Bool.{cases_lt, false≢true}
 use Rattle.std.proofs.lemmas.List.{replicate_more, append-nil}
 use Rattle.arena.specs.Field.{Field, is_live}
 use Rattle.code.specs.declared.want.Want.{Want}
-use Rattle.code.specs.declared.want.Want.TheVariants.{Quiet, Ask, Restart}
+use Rattle.code.specs.declared.want.Want.TheVariants.{Quiet}
 use Rattle.grammar.specs.Profile.{Profile}
 use Rattle.grammar.specs.Resolved.{IsResolved}
 use Rattle.grammar.specs.Tree.{File}

@@ -1,19 +1,19 @@
 -- Between updates, a turn that doesn't change the field commutes with the turns of the other robots.
-use Rattle.std.proofs.Common.{◌≡◌, ◌≢◌, ℕ, ◌+◌, zero, suc, Bool, true, false, ℤ, List, [], ◌∷◌, ◌++◌, map, take, drop, length, set, get_or, inl, inr, refl, sym, ap, ◌∙◌, arith}
-use Rattle.std.specs.Prelude.{filter, flat_map, nat_lt, nat_le, if◌then◌else◌, pos}
+use Rattle.std.proofs.Common.{◌≡◌, ◌≢◌, ℕ, ◌+◌, zero, suc, Bool, true, false, ℤ, List, [], ◌∷◌, ◌++◌, map, take, drop, length, set, get_or, inl, inr, refl, sym, ap, ◌∙◌}
+use Rattle.std.specs.Prelude.{filter, flat_map, nat_lt, if◌then◌else◌, pos}
 use Rattle.std.proofs.lemmas.Bool.{cases_Bool, false≢true}
 use Rattle.std.proofs.lemmas.List.{get_or-set_other, take-map, drop-map, map-append}
 use Rattle.grammar.specs.declared.names.Intrinsic.{Intrinsic}
-use Rattle.grammar.specs.declared.names.Intrinsic.TheVariants.{Scan, Cannon, Drive, Damage, Speed, LocX, LocY, Rand, Sqrt, Sin, Cos, Tan, Atan}
+use Rattle.grammar.specs.declared.names.Intrinsic.TheVariants.{Scan, Cannon, Drive, Damage, Speed, LocX, LocY, Rand}
 use Rattle.arena.specs.Answer.{answer, argument, fired, directed, wanting}
 use Rattle.arena.specs.Collisions.{others}
 use Rattle.arena.specs.Field.{Field, Robot as Body, no_robot, robot_at, is_live, is_alive, damage_of, metres_x, metres_y}
-use Rattle.arena.specs.Leg.{brought, along, way_east, way_north, candidate_x, candidate_y, place_x, place_y}
+use Rattle.arena.specs.Leg.{brought, way_east, way_north, candidate_x, candidate_y, place_x, place_y}
 use Rattle.arith.specs.Degree.{degree_of}
 use Rattle.arena.specs.Shots.{in_air}
-use Rattle.arena.specs.Scan.{apart, east_to, north_to, in_arc, sees, range_of, nearest, scanned}
+use Rattle.arena.specs.Scan.{east_to, north_to, in_arc, sees, range_of, nearest, scanned}
 use Rattle.code.specs.declared.want.Want.{Want}
-use Rattle.code.specs.declared.want.Want.TheVariants.{Quiet, Ask, Restart}
+use Rattle.code.specs.declared.want.Want.TheVariants.{Ask}
 use Rattle.battles.specs.Battle.{Robot, Stage, granted, step, robot_of, turn}
 use Rattle.battles.specs.Windows.{IsAlone, StepsAlone, changes_field}
 

@@ -1,12 +1,12 @@
 -- The slots of a window: robot i has its turn of cycle c, counted from 0, in slot 4 * c + i.
-use Rattle.std.proofs.Common.{◌≡◌, ◌≢◌, ℕ, ◌+◌, ◌*◌, ◌%◌, ◌<◌, ◌≤◌, zero, suc, Bool, true, false, ℤ, List, [], ◌∷◌, length, set, get_or, ◌⊎◌, inl, inr, refl, sym, ap, ◌∙◌, arith, add-one}
+use Rattle.std.proofs.Common.{◌≡◌, ◌≢◌, ℕ, ◌+◌, ◌*◌, ◌%◌, ◌<◌, ◌≤◌, zero, suc, Bool, true, false, List, [], ◌∷◌, length, set, get_or, ◌⊎◌, inl, inr, refl, sym, ap, ◌∙◌, arith}
 use Rattle.std.specs.Prelude.{nat_lt, nat_le, min, if◌then◌else◌}
 use Rattle.std.proofs.lemmas.Bool.{cases_Bool, cases_eq, cases_lt, false≢true}
 use Rattle.std.proofs.lemmas.List.{get_or-set_same, get_or-set_other, length-set}
 use Rattle.std.proofs.lemmas.Bool.Decides.{nat_tests}
-use Rattle.battles.specs.Battle.{Robot, Stage, turn, turns, robot_of}
-use Rattle.battles.specs.Windows.{rounds, AreSlots, alone, RunsAlone}
-use Rattle.battles.proofs.Commuting.{TurnsAlone, stage_of, turn_alone, alone_stays, commutes}
+use Rattle.battles.specs.Battle.{Robot, Stage, turn, turns}
+use Rattle.battles.specs.Windows.{rounds, AreSlots, alone}
+use Rattle.battles.proofs.Commuting.{TurnsAlone, alone_stays, commutes}
 
 -- the turns that are left in so many slots from this one on
 pub rest : List Robot → (ℕ → Bool) → (slot count : ℕ) → Stage → Stage

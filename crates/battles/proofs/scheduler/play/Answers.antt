@@ -1,5 +1,4 @@
-use Rattle.std.proofs.Common.{◌≡◌, ◌≤◌, ◌<◌, ◌/◌, ◌*◌, sym, ap, ◌∙◌, add-one, arith}
-use Rattle.battles.specs.Battle.{stage_after, is_over}
+use Rattle.std.proofs.Common.{◌≡◌, ◌<◌, ◌/◌, ◌*◌, sym, arith}
 use Rattle.battles.proofs.Cycles.{stage_none, first_begins}
 use Rattle.battles.proofs.Spans.{stage_segment, stage_rest, first_decided, first_undecided, first_limit}
 use Rattle.battles.proofs.scheduler.play.Goals as goal
