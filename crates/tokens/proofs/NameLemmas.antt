@@ -1,5 +1,5 @@
 -- What two names that are the same have alike.
-use Rattle.std.proofs.Common.{◌≡◌, ℕ, List, Bool, true, false, length, take, refl, sym, ap, ◌∙◌, arith}
+use Rattle.std.proofs.Common.{◌≡◌, ℕ, List, Bool, true, false, length, take, refl, sym, ap, ◌∙◌}
 use Rattle.std.specs.Str.{bytes_eq}
 use Rattle.std.proofs.lemmas.Slice.Eq.{bytes_eq-Decides}
 use Rattle.tokens.specs.Name.{IsPadded, padded, padded-kept, length-kept}

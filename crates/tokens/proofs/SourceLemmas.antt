@@ -1,5 +1,5 @@
 -- The source in a piece of bytes, and in two pieces one behind the other.
-use Rattle.std.proofs.Common.{◌≡◌, ℕ, ◌+◌, ◌<◌, ◌≤◌, Bool, true, false, cond, eqb, List, [], ◌∷◌, ◌++◌, length, take, drop, refl, ap, arith}
+use Rattle.std.proofs.Common.{◌≡◌, ℕ, ◌<◌, ◌≤◌, Bool, true, false, cond, eqb, List, [], ◌∷◌, ◌++◌, length, take, refl, ap, arith}
 use Rattle.tokens.specs.Source.{source}
 
 pub length-source-le : (xs : List ℕ) → length (source xs) ≤ length xs

@@ -1,9 +1,7 @@
-use Rattle.std.proofs.Common.{◌≤◌, ◌<◌, ◌∙◌, eqb, not, sym, ap, arith, w8}
-use Rattle.std.specs.List.{prefix_len}
+use Rattle.std.proofs.Common.{◌∙◌, eqb, not, sym, ap, arith, w8}
 use Rattle.std.proofs.lemmas.List.Sums.{prefix_len-le-length}
 use Rattle.std.proofs.lemmas.Simd.{bitmask_splat, leading_from_mask_l, trailing_mask_l}
 use lib.Count.{count_trailing_zeros}
-use lib.Lanes.{mask_l}
 use Rattle.tokens.proofs.RunLemmas.{ones_whole, ones_below}
 use Rattle.tokens.proofs.runs.run_in_block.Goals as goal
 
