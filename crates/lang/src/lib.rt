@@ -1,4 +1,5 @@
-//! Parses a robot program in one pass: it reads the bytes of a device, reports to a builder, and returns the names of the file or the first diagnostic.
+//! Parses a robot program in one pass: it reads the bytes of a device, reports to a builder, and returns the names of
+//! the file or the first diagnostic.
 //! It hands on the trees of programs with their builder, and the round-trip law.
 #![tactic(auto)]
 
