@@ -215,7 +215,7 @@ fn call<F: Feed, B: Build>(
     Ok(())
 }
 
-/// `args → expr moreargs` and empty at the bracket; `moreargs → , expr moreargs`
+/// `args → expr moreargs`, and empty at the closing bracket; `moreargs → , expr moreargs`
 #[cycle(expressions)]
 fn arguments<F: Feed, B: Build>(
     parser: &mut Parser<'_, F>,
@@ -262,7 +262,7 @@ fn bracketed<F: Feed, B: Build>(
     Ok(())
 }
 
-/// The operator of an assignment, where the next token is a name and the one behind it is such an operator.
+/// Returns the operator of an assignment, if the next token is a name and the one after it is such an operator.
 fn assignment_operator<F: Feed>(parser: &Parser<'_, F>) -> Option<StoreOp>
     ensures starts { IfSome result (λ op. StartsAssignment op parser.now) }
     ensures none { IfNone result (StartsNoAssignment parser.now) }
@@ -273,7 +273,7 @@ fn assignment_operator<F: Feed>(parser: &Parser<'_, F>) -> Option<StoreOp>
     }
 }
 
-/// The middle between the sides of `&&` and `||`.
+/// Reports the middle between the sides of `&&` and `||` to the builder, and nothing for other operators.
 fn tell_middle<B: Build>(build: &mut B, op: Op) -> Result<(), BuildFault>
     requires follow { MayFollowAll (B.stands build.old) (middle op) }
     ensures told { OnOk result (AppendsAll (B.stands build.old) (B.stands build.new) (middle op)) }

@@ -21,7 +21,7 @@ pub enum Sign {
     Complement,
 }
 
-/// What goes a variable up or down by one.
+/// What moves a variable up or down by one.
 #[derive(Clone, Copy, Debug, PartialEq, Eq)]
 pub enum Step {
     /// `++`
@@ -30,7 +30,7 @@ pub enum Step {
     Down,
 }
 
-/// The operator before an operand that a token spells.
+/// Returns the operator before an operand that a token spells.
 pub fn sign_of(token: &Token) -> Option<Sign>
     ensures spelled { IfSome result (λ sign. is_punctuator (sign_punctuator sign) token.now ≡ true) }
     ensures none { IfNone result ((sign : Sign) → is_punctuator (sign_punctuator sign) token.now ≡ false) }
@@ -43,7 +43,7 @@ pub fn sign_of(token: &Token) -> Option<Sign>
     }
 }
 
-/// Whether a token is `++` or `--`, and which.
+/// Returns whether a token is `++` or `--`, and which.
 pub fn step_of(token: &Token) -> Option<Step>
     ensures spelled { IfSome result (λ step. is_punctuator (step_punctuator step) token.now ≡ true) }
     ensures none { IfNone result ((step : Step) → is_punctuator (step_punctuator step) token.now ≡ false) }
@@ -56,7 +56,7 @@ pub fn step_of(token: &Token) -> Option<Step>
 }
 
 impl Step {
-    /// How the step is spelled.
+    /// Returns how the step is spelled.
     pub fn punctuator(self) -> Punctuator
         ensures { result ≡ step_punctuator self }
     {
@@ -66,7 +66,7 @@ impl Step {
         }
     }
 
-    /// The store of 1 that makes the step.
+    /// Returns the store of 1 that makes the step.
     pub fn store(self) -> StoreOp
         ensures { result ≡ step_store self }
     {
@@ -78,7 +78,7 @@ impl Step {
 }
 
 impl Sign {
-    /// Tells the builder what stands before the operand.
+    /// Reports what comes before the operand to the builder.
     pub fn begin<B: Build>(self, build: &mut B) -> Result<(), BuildFault>
         requires follow { MayFollowAll (B.stands build.old) (before_operand self) }
         ensures told { OnOk result (AppendsAll (B.stands build.old) (B.stands build.new) (before_operand self)) }
@@ -90,7 +90,7 @@ impl Sign {
         Ok(())
     }
 
-    /// Tells the builder what stands behind the operand.
+    /// Reports what comes after the operand to the builder.
     pub fn end<B: Build>(self, build: &mut B) -> Result<(), BuildFault>
         requires follow { MayFollowAll (B.stands build.old) (behind_operand self) }
         ensures told { OnOk result (AppendsAll (B.stands build.old) (B.stands build.new) (behind_operand self)) }
@@ -104,7 +104,7 @@ impl Sign {
     }
 }
 
-/// A constant, and the operator of the last value and it.
+/// Reports a constant, and the operator of the last value and it.
 fn compare<B: Build>(build: &mut B, value: i32, op: Op) -> Result<(), BuildFault>
     requires follow { MayFollowAll (B.stands build.old) (PushConstant value ∷ ApplyBinop op ∷ []) }
     ensures told { OnOk result (AppendsAll (B.stands build.old) (B.stands build.new)

@@ -53,7 +53,7 @@ fn block<F: Feed, B: Build>(parser: &mut Parser<'_, F>, build: &mut B) -> Result
     Ok(())
 }
 
-/// The return at the end of a function with so many variables, judged at its closing brace, which is the next token.
+/// Ends a function with so many variables, with a return, and judges its length at the closing brace, the next token.
 fn close<F: Feed, B: Build>(
     parser: &Parser<'_, F>,
     build: &mut B,
