@@ -6,7 +6,7 @@ pub mod Commuting
 pub mod Turns
 pub mod Ahead
 pub mod Spans
-pub mod ExpressionStatement
+pub mod Alone
 pub mod Beginnings
 pub mod TestFiles
 pub mod KnownBattles

@@ -17,7 +17,7 @@ pub struct FileFeed<F> {
 impl<F> FileFeed<F> {
     /// A file that has not failed.
     pub fn new(file: F) -> FileFeed<F>
-        ensures { result.failures ≡ 0 }
+        ensures { result ≡ record { file = file; failures = 0 } }
     {
         FileFeed { file, failures: 0 }
     }
@@ -60,7 +60,7 @@ pub struct StreamSink<W> {
 impl<W> StreamSink<W> {
     /// A stream that has not failed.
     pub fn new(stream: W) -> StreamSink<W>
-        ensures { result.failures ≡ 0 }
+        ensures { result ≡ record { stream = stream; failures = 0 } }
     {
         StreamSink {
             stream,

@@ -42,7 +42,9 @@ pub struct Disk<'r, R> {
 
 impl<'r, R> Disk<'r, R> {
     /// The files that this runtime opens.
-    pub fn new(rt: &'r R) -> Disk<'r, R> {
+    pub fn new(rt: &'r R) -> Disk<'r, R>
+        ensures { result.rt ≡ rt.entry }
+    {
         Disk { rt }
     }
 }

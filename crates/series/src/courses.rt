@@ -127,7 +127,7 @@ impl<'a> Course<'a> {
         ensures stopped { self.old.failed ≡ true → is_err result ≡ true
             × (S.portions out.new ≡ S.portions out.old) × (S.failures out.new ≡ S.failures out.old) }
     {
-        if self.failed {
+        if self.has_failed() {
             return Err(SeriesFault::Write);
         }
         match put_totals(out, &self.tally, self.settings.words()) {

@@ -1,8 +1,10 @@
 //! Runs over several files, and over devices that fail: what the sinks hold, and how a run ends.
 
+ghost use Rattle.std.specs.Prelude.{◌<◌};
+
 use crate::checks::{
-    EMPTY_MAIN, Game, ONE_MATCH, game_of_one, game_of_two, listing_of_one, listing_of_three, taken,
-    text_of,
+    EMPTY_MAIN, Ended, Game, ONE_MATCH, game_of_one, game_of_two, listing_of_one, listing_of_three,
+    taken, text_of,
 };
 use crate::{Recorder, RunFault, Status, run};
 use std::process::Abort;
@@ -74,6 +76,88 @@ fn a_failed_write_leaves_a_beginning(rt: HostRuntime) -> Result<(), Fail> {
             &whole.as_slice()[..room]
         );
         assert_eq!(rt; out.failures(), 1);
+    }
+    Ok(())
+}
+
+/// The sources of three files, of which the second has a fault.
+const GOOD_FAULTY_GOOD: [&[u8]; 3] = [b"main(){}", b"main(){ f(); }", b"main(){}"];
+
+/// What a run of them took, whose sinks have room for so many bytes.
+fn list_within(
+    rt: &(impl Abort + AllocGlobal),
+    most: usize,
+    room: usize,
+    faults_room: usize,
+) -> Result<Ended, Fail>
+    requires { 0 < most }
+{
+    let mut out = Recorder::new(rt.alloc()).with_most(most).with_room(room);
+    let mut err = Recorder::new(rt.alloc())
+        .with_most(most)
+        .with_room(faults_room);
+    let [first, second, third] = GOOD_FAULTY_GOOD;
+    let mut feeds = [
+        Pieces::new(first, most),
+        Pieces::new(second, most),
+        Pieces::new(third, most),
+    ];
+    let answer = run(&listing_of_three(), &mut feeds, &mut out, &mut err);
+    Ok(Ended {
+        answer,
+        text: taken(rt.alloc(), &out)?,
+        faults: taken(rt.alloc(), &err)?,
+    })
+}
+
+#[test]
+fn a_failed_write_leaves_a_beginning_of_two_listings(rt: HostRuntime) -> Result<(), Fail> {
+    let mut whole = text_of(rt.alloc(), EMPTY_MAIN)?;
+    whole.extend_from_slice(b"File c.r\n")?;
+    whole.extend_from_slice(text_of(rt.alloc(), &EMPTY_MAIN[1..])?.as_slice())?;
+    // 187 sizes of room, of which those below 93 end in the first listing
+    assert_eq!(rt; whole.len(), 186);
+    for most in [4096, 1] {
+        for room in 0..=186 {
+            let ended = list_within(&rt, most, room, usize::MAX)?;
+            let faults = if room < 93 {
+                b"".as_slice()
+            } else {
+                b"b.r:1: function not defined\n".as_slice()
+            };
+            let wanted = if room < 186 {
+                Err(RunFault::Write)
+            } else {
+                Ok(Status::Faulty)
+            };
+            assert_eq!(rt; ended.answer, wanted, "{room}");
+            assert_eq!(rt;
+                Some(ended.text.as_slice()),
+                whole.as_slice().get(..room),
+                "{room}"
+            );
+            assert_eq!(rt; ended.faults.as_slice(), faults, "{room}");
+        }
+    }
+    Ok(())
+}
+
+#[test]
+fn a_failed_write_leaves_a_beginning_of_a_diagnostic(rt: HostRuntime) -> Result<(), Fail> {
+    let faults = b"b.r:1: function not defined\n".as_slice();
+    // 28 sizes of room that are too small
+    assert_eq!(rt; faults.len(), 28);
+    for most in [4096, 1] {
+        for room in 0..28 {
+            let ended = list_within(&rt, most, usize::MAX, room)?;
+            assert_eq!(rt; ended.answer, Err(RunFault::Write), "{room}");
+            assert_eq!(rt;
+                ended.text.as_slice(),
+                text_of(rt.alloc(), EMPTY_MAIN)?.as_slice(),
+                "{room}"
+            );
+            assert_eq!(rt; Some(ended.faults.as_slice()), faults.get(..room), "{room}");
+        }
     }
     Ok(())
 }
