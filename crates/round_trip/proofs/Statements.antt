@@ -52,8 +52,8 @@ block : (body : Statements) → AreAdded body → (rest : List Token) → is_fau
     Leads (at (Part grammar.Statement ∷ stack) (braces (spell_statements body) ++ rest) (ABody before ∷ values) scope functions)
     (at stack rest (ABody (join before (bodies_of body scope)) ∷ values) (behind_statements body scope) functions)
 block body added rest sound stack before values scope functions =
-    let close : List Token = token.Punctuator punctuator.CloseCurly ∷ rest in
-    let inner : List Token = spell_statements body ++ close in
+    let closing : List Token = token.Punctuator punctuator.CloseCurly ∷ rest in
+    let inner : List Token = spell_statements body ++ closing in
     let end : List Item = Exactly punctuator.CloseCurly ∷ Close ∷ stack in
     let all : Body = join before (bodies_of body scope) in
     let f : Follows inner = follows body rest in
