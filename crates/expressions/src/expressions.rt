@@ -3,7 +3,7 @@
 ghost use Rattle.std.specs.Prelude.{◌≡◌, ◌+◌, Some, None, IfNone, IfSome, OnOk, true};
 ghost use Rattle.tokens.specs.declared.located_tokens.Punctuator.TheVariants as punctuator;
 ghost use Rattle.grammar.specs.Actions.{middle};
-ghost use Rattle.grammar.specs.Building.{AppendsAll, MayFollow, Refuses};
+ghost use Rattle.grammar.specs.Building.{AppendsAll, MayFollow, MayFollowAll, Refuses};
 ghost use Rattle.grammar.specs.Grammar.{Expression, Level, Primary, Unary, is_punctuator};
 ghost use Rattle.grammar.specs.Operators.{operator_from, operator_of};
 ghost use Rattle.parsing.specs.Advancing.{Advances, IsReady, Keeps};
@@ -12,7 +12,6 @@ ghost use Rattle.parsing.specs.Room.{HasLeft, HasRoom, room};
 ghost use Rattle.expressions.specs.Expressions.{Parses, ParsesArgs, ParsesOperand};
 ghost use Rattle.expressions.specs.Signs.{sign_punctuator};
 ghost use Rattle.expressions.specs.Starts.{StartsAssignment, StartsCall, StartsNoAssignment};
-ghost use Rattle.expressions.specs.Telling.{MayFollowAll};
 
 use crate::signs::{Sign, sign_of, step_of};
 use crate::variables::{constant, step_before, variable};
