@@ -60,7 +60,7 @@ StopsTaking before told to_come refusal.Device = TakesNoMore before told to_come
 StopsTaking before told to_come refusal.Memory = Unit {0}
 
 -- From a device that tells its bytes so many were taken, and the builder stands for the actions of the functions that
--- lie so far ahead of these, and further ones.
+-- these decide for certain, and further ones.
 pub record HasBuilt (after : Meaning) (profile : Profile) (bytes : List ℕ) (to_come : Option (List ℕ)) : Type 0 where
   pub count : ℕ
   pub took : to_come ≡ Some (drop count bytes)
