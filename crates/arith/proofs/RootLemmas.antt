@@ -1,6 +1,8 @@
 -- The root by quarters is the whole root: there is one number whose square fits and whose next square does not.
-use Rattle.std.proofs.Common.{◌≡◌, ℕ, zero, suc, ◌+◌, ◌*◌, ◌/◌, ◌^◌, ◌<◌, ◌≤◌, nat_le, cond, ℤ, pos, unsigned_abs, ap, arith, inl, inr}
-use Rattle.std.proofs.lemmas.Nat.{mul-le}
+use Rattle.std.proofs.Common.{◌≡◌, ℕ, zero, suc, ◌+◌, ◌*◌, ◌/◌, ◌^◌, ◌-◌, ◌<◌, ◌≤◌, nat_le, cond, ℤ, pos, unsigned_abs, ap, arith, inl, inr}
+use Rattle.std.proofs.lemmas.Nat.{mul-le, pow-add}
+use Rattle.std.proofs.lemmas.Grind.{pow_more}
+use Rattle.std.proofs.Math.Nat.{lt-div-mul-add, div-mul-le_self, pow-le-pow_right}
 use Rattle.std.proofs.lemmas.Bool.{cases_lt}
 use Rattle.std.proofs.lemmas.Bool.Decides.{leb_tells}
 use Rattle.std.proofs.lemmas.Int.{to_z-of_z, to_z_pos}
@@ -48,3 +50,43 @@ root_gives a r small square next_square =
     (one_root r _ (unsigned_abs a) (record { square = square; next_square = next_square }) (root_by_quarters_is 16 (unsigned_abs a) (omega arith)))
 
 pub ruleset root_steps = (to_z-of_z, to_z_pos, root_gives)
+
+-- four times a product is at most the square of the sum
+sum_squared : (a b : ℕ) → 4 * (a * b) ≤ (a + b) * (a + b)
+sum_squared a b = elim (cases_lt a b) [
+  | inl h ↦ let d = b - a in let e : b ≡ a + d = omega arith in rw e (omega arith)
+  | inr h ↦ let d = a - b in let e : a ≡ b + d = omega arith in rw e (omega arith)
+]
+
+-- Newton's step from a guess that isn't 0 isn't below the root, nor below a guess that isn't above the root
+pub step_above : (n guess : ℕ) → 0 < guess → n < ((guess + n / guess) / 2 + 1) * ((guess + n / guess) / 2 + 1)
+step_above n guess some =
+    let q = n / guess in
+    let y = (guess + n / guess) / 2 in
+    let less : n < q * guess + guess = lt-div-mul-add {a = n} {b = guess} some in
+    let mean = sum_squared guess (q + 1) in
+    let half : guess + (q + 1) ≤ 2 * (y + 1) = omega arith in
+    let squares = mul-le (guess + (q + 1)) (guess + (q + 1)) (2 * (y + 1)) (2 * (y + 1)) half half in
+    omega arith
+
+pub step_reached : (n guess : ℕ) → guess ≤ (guess + n / guess) / 2 → guess * guess ≤ n
+step_reached n guess h =
+    let q = n / guess in
+    let less : q * guess ≤ n = div-mul-le_self n guess in
+    let up : guess ≤ q = omega arith in
+    let product = mul-le guess guess q guess up (omega arith) in
+    omega arith
+
+-- a number above 0 has a root above 0
+pub some_root : (n root : ℕ) → 0 < n → n < (root + 1) * (root + 1) → 0 < root
+some_root n zero some above = absurd (omega arith)
+some_root n (suc root) some above = omega arith
+
+-- the power of 2 from half of the digits
+pub power_above : (n log : ℕ) → n < 2 * 2 ^ log → n < 2 ^ (log / 2 + 1) * 2 ^ (log / 2 + 1)
+power_above n log h =
+    let k = log / 2 + 1 in
+    let twice : 2 ^ (k + k) ≡ 2 ^ k * 2 ^ k = pow-add 2 k k in
+    let more : 2 ^ (log + 1) ≡ 2 ^ log * 2 = pow_more 2 log in
+    let up : 2 ^ (log + 1) ≤ 2 ^ (k + k) = pow-le-pow_right {n = 2} (omega arith) {i = log + 1} {j = k + k} (omega arith) in
+    omega arith

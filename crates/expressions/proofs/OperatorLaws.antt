@@ -10,7 +10,7 @@ use Rattle.grammar.specs.declared.diagnostics.ParseFault.{ParseFault}
 use Rattle.grammar.specs.declared.operators.Op.{Op}
 use Rattle.grammar.specs.declared.operators.Op.TheVariants as op
 use Rattle.grammar.specs.Actions.{ApplyBinop, LogicMiddle, expr_actions, middle}
-use Rattle.grammar.specs.Building.{Meaning, AppendsAll, MayFollow}
+use Rattle.grammar.specs.Building.{Meaning, AppendsAll, MayFollow, MayFollowAll}
 use Rattle.grammar.specs.Derivation.{AnExpr}
 use Rattle.grammar.specs.Following.{Open, AValue, BeforeRight, Computed, Opened, Origin, open_count}
 use Rattle.grammar.specs.Grammar.{Exactly, Level, Make, Operate, Part, Tail, choice, is_fault, is_punctuator}
@@ -25,7 +25,6 @@ use Rattle.parsing.specs.Room.{HasLeft, HasRoom, room}
 use Rattle.parsing.specs.Segment.{Derives, FailsAt, FailsItem, GoesPast, Refused, StopsAt}
 use Rattle.parsing.proofs.Segments.{fails_behind, joined, refused_map}
 use Rattle.expressions.specs.Expressions.{AddsExpr, AddsOperand, FailsOperand}
-use Rattle.expressions.specs.Telling.{MayFollowAll}
 use Rattle.parsing.proofs.Parts.{MakesOnly, make_stands}
 use Rattle.expressions.proofs.Productions.{chosen, item_done, punctuator_ends, punctuator_past, punctuator_sound, same_self}
 use Rattle.expressions.proofs.TellingLaws.{all_follow, appends_then, first_follows, others_follow, room_behind}

@@ -6,7 +6,7 @@ use Rattle.tokens.specs.declared.located_tokens.Token.TheVariants as token
 use Rattle.grammar.specs.declared.diagnostics.Code.TheVariants as code
 use Rattle.grammar.specs.declared.diagnostics.ParseFault.{ParseFault}
 use Rattle.grammar.specs.Actions.{Action, PushConstant, expr_actions}
-use Rattle.grammar.specs.Building.{Meaning, AppendsAll}
+use Rattle.grammar.specs.Building.{Meaning, AppendsAll, MayFollowAll}
 use Rattle.grammar.specs.Compiled.{diagnostic}
 use Rattle.grammar.specs.Derivation.{AnExpr}
 use Rattle.grammar.specs.Following.{AValue, Number, open_count}
@@ -24,7 +24,6 @@ use Rattle.expressions.specs.declared.signs.Sign.{Sign}
 use Rattle.expressions.specs.declared.signs.Sign.TheVariants as sign
 use Rattle.expressions.specs.Expressions.{AddsExpr}
 use Rattle.expressions.specs.Signs.{before_operand, behind_operand, sign_punctuator, sign_rule, signed}
-use Rattle.expressions.specs.Telling.{MayFollowAll}
 use Rattle.parsing.proofs.Parts.{MakesOnly, punctuator_is}
 use Rattle.expressions.proofs.Productions.{Chooses, OpensLevel, chosen_within, item_done, makes_and_closes, punctuator_ends, punctuator_past, punctuator_sound, punctuator_too_deep}
 use Rattle.expressions.proofs.TellingLaws.{all_follow, appends_then, others_follow, room_behind}

@@ -2,13 +2,12 @@
 use Rattle.std.proofs.Common.{ℕ, ◌+◌, ◌≤◌, List, [], ◌∷◌, ◌++◌, refl, sym, ◌∙◌, subst, Bool, true, false, arith, append_assoc}
 use Rattle.std.specs.Prelude.{Option, Some, None, is_some, IsTrue, if◌then◌else◌}
 use Rattle.grammar.specs.Actions.{Action}
-use Rattle.grammar.specs.Building.{Meaning, AppendsAll, MayFollow, StandsOpen}
+use Rattle.grammar.specs.Building.{Meaning, AppendsAll, MayFollow, MayFollowAll, StandsOpen}
 use Rattle.grammar.specs.Following.{Open, AValue, Opened, IsBeginning, few_open, follow, follow_all, then_follow, open_count}
 use Rattle.grammar.specs.Tree.{Args, NoMore, Argument}
 use Rattle.grammar.proofs.FollowingLaws.{Leads, follow_append, origin_of, pushed}
 use Rattle.grammar.proofs.StandingLaws.{stands_then}
 use Rattle.parsing.specs.Room.{HasRoom}
-use Rattle.expressions.specs.Telling.{MayFollowAll}
 
 -- what stands in front of others in a beginning is one too
 

@@ -10,7 +10,7 @@ use Rattle.grammar.specs.declared.diagnostics.ParseFault.{ParseFault}
 use Rattle.grammar.specs.declared.names.Var.{Var}
 use Rattle.grammar.specs.declared.operators.StoreOp.{StoreOp}
 use Rattle.grammar.specs.Actions.{Chop, FetchVariable, PushConstant, StoreVariable, expr_actions}
-use Rattle.grammar.specs.Building.{Meaning, AppendsAll, MayFollow}
+use Rattle.grammar.specs.Building.{Meaning, AppendsAll, MayFollow, MayFollowAll}
 use Rattle.grammar.specs.Derivation.{AnExpr, AVariable, constant_value, name_of_token}
 use Rattle.grammar.specs.Following.{AValue, Number, open_count}
 use Rattle.grammar.specs.Grammar.{AConstant, AName, Exactly, Fetch, Make, Mentioned, Part, Primary, StepBefore, StepBehind, Unary, choice, is_fault, is_punctuator, opens}
@@ -28,7 +28,6 @@ use Rattle.expressions.specs.declared.signs.Step.{Step}
 use Rattle.expressions.specs.declared.signs.Step.TheVariants as step
 use Rattle.expressions.specs.Expressions.{AddsExpr}
 use Rattle.expressions.specs.Signs.{step_punctuator, step_store}
-use Rattle.expressions.specs.Telling.{MayFollowAll}
 use Rattle.parsing.proofs.Parts.{MakesOnly, make_stands, punctuator_is}
 use Rattle.expressions.proofs.Productions.{Chooses, OpensNone, chosen, item_done, item_exit, punctuator_ends, punctuator_past, punctuator_sound}
 use Rattle.expressions.proofs.TellingLaws.{all_follow, appends_then, first_follows}

@@ -1,4 +1,3 @@
-pub mod Telling
 pub mod Signs
 pub mod Starts
 pub mod Expressions

@@ -3,16 +3,16 @@
 ghost use Rattle.std.specs.Prelude.{◌≡◌, ◌+◌, Some, None, IfNone, IfSome, OnOk, true};
 ghost use Rattle.tokens.specs.declared.located_tokens.Punctuator.TheVariants as punctuator;
 ghost use Rattle.grammar.specs.Actions.{middle};
-ghost use Rattle.grammar.specs.Building.{AppendsAll, MayFollow, Refuses};
+ghost use Rattle.grammar.specs.Building.{AppendsAll, MayFollow, MayFollowAll, Refuses};
 ghost use Rattle.grammar.specs.Grammar.{Expression, Level, Primary, Unary, is_punctuator};
 ghost use Rattle.grammar.specs.Operators.{operator_from, operator_of};
 ghost use Rattle.parsing.specs.Advancing.{Advances, IsReady, Keeps};
+ghost use Rattle.parsing.specs.Growing.{Grows};
 ghost use Rattle.parsing.specs.Position.{token_of};
 ghost use Rattle.parsing.specs.Room.{HasLeft, HasRoom, room};
 ghost use Rattle.expressions.specs.Expressions.{Parses, ParsesArgs, ParsesOperand};
 ghost use Rattle.expressions.specs.Signs.{sign_punctuator};
 ghost use Rattle.expressions.specs.Starts.{StartsAssignment, StartsCall, StartsNoAssignment};
-ghost use Rattle.expressions.specs.Telling.{MayFollowAll};
 
 use crate::signs::{Sign, sign_of, step_of};
 use crate::variables::{constant, step_before, variable};
@@ -33,6 +33,7 @@ pub fn expression<F: Feed, B: Build>(
     requires ready { IsReady parser.old }
     ensures parses { Parses result B.allocates (B.stands build.old) (B.stands build.new)
         depth 1 Expression parser.old parser.new }
+    ensures grown { Grows result (B.stands build.old) (B.stands build.new) }
     ensures kept { Advances result parser.old parser.new }
 {
     if let Some(op) = assignment_operator(parser) {
@@ -56,6 +57,7 @@ fn assignment<F: Feed, B: Build>(
     requires ready { IsReady parser.old }
     ensures parses { Parses result B.allocates (B.stands build.old) (B.stands build.new)
         depth 1 Expression parser.old parser.new }
+    ensures grown { Grows result (B.stands build.old) (B.stands build.new) }
     ensures kept { Advances result parser.old parser.new }
 {
     if depth >= MOST_LEVELS {
@@ -81,6 +83,7 @@ fn levels<F: Feed, B: Build>(
     requires ready { IsReady parser.old }
     ensures parses { Parses result B.allocates (B.stands build.old) (B.stands build.new)
         depth level (Level level) parser.old parser.new }
+    ensures grown { Grows result (B.stands build.old) (B.stands build.new) }
     ensures none { OnOk result (operator_from level (token_of parser.new) ≡ None) }
     ensures kept { Advances result parser.old parser.new }
 {
@@ -104,6 +107,7 @@ fn operand<F: Feed, B: Build>(
     requires ready { IsReady parser.old }
     ensures parses { ParsesOperand result B.allocates (B.stands build.old) (B.stands build.new)
         depth binary parser.old parser.new }
+    ensures grown { Grows result (B.stands build.old) (B.stands build.new) }
     ensures none { OnOk result (operator_from (binary.level + 1) (token_of parser.new) ≡ None) }
     ensures kept { Advances result parser.old parser.new }
 {
@@ -125,6 +129,7 @@ fn unary<F: Feed, B: Build>(
     requires ready { IsReady parser.old }
     ensures parses { Parses result B.allocates (B.stands build.old) (B.stands build.new)
         depth 11 Unary parser.old parser.new }
+    ensures grown { Grows result (B.stands build.old) (B.stands build.new) }
     ensures kept { Advances result parser.old parser.new }
 {
     if let Some(sign) = sign_of(&parser.next().token) {
@@ -150,6 +155,7 @@ fn signed<F: Feed, B: Build>(
     requires ready { IsReady parser.old }
     ensures parses { Parses result B.allocates (B.stands build.old) (B.stands build.new)
         depth 11 Unary parser.old parser.new }
+    ensures grown { Grows result (B.stands build.old) (B.stands build.new) }
     ensures kept { Advances result parser.old parser.new }
 {
     if depth >= MOST_LEVELS {
@@ -173,6 +179,7 @@ fn primary<F: Feed, B: Build>(
     requires ready { IsReady parser.old }
     ensures parses { Parses result B.allocates (B.stands build.old) (B.stands build.new)
         depth 11 Primary parser.old parser.new }
+    ensures grown { Grows result (B.stands build.old) (B.stands build.new) }
     ensures kept { Advances result parser.old parser.new }
 {
     match parser.next().token {
@@ -201,6 +208,7 @@ fn call<F: Feed, B: Build>(
     requires ready { IsReady parser.old }
     ensures parses { Parses result B.allocates (B.stands build.old) (B.stands build.new)
         depth 11 Primary parser.old parser.new }
+    ensures grown { Grows result (B.stands build.old) (B.stands build.new) }
     ensures kept { Advances result parser.old parser.new }
 {
     if depth >= MOST_LEVELS {
@@ -226,6 +234,7 @@ fn arguments<F: Feed, B: Build>(
     requires ready { IsReady parser.old }
     ensures parses { ParsesArgs result B.allocates (B.stands build.old) (B.stands build.new)
         depth parser.old parser.new }
+    ensures grown { Grows result (B.stands build.old) (B.stands build.new) }
     ensures kept { Keeps result parser.old parser.new }
 {
     if is_punctuator(&parser.next().token, Punctuator::CloseRound) {
@@ -251,6 +260,7 @@ fn bracketed<F: Feed, B: Build>(
     requires ready { IsReady parser.old }
     ensures parses { Parses result B.allocates (B.stands build.old) (B.stands build.new)
         depth 11 Primary parser.old parser.new }
+    ensures grown { Grows result (B.stands build.old) (B.stands build.new) }
     ensures kept { Advances result parser.old parser.new }
 {
     if depth >= MOST_LEVELS {

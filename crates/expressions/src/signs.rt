@@ -2,10 +2,9 @@
 
 ghost use Rattle.std.specs.Prelude.{◌≡◌, [], ◌∷◌, IfNone, IfSome, OnOk, false, true};
 ghost use Rattle.grammar.specs.Actions.{ApplyBinop, PushConstant};
-ghost use Rattle.grammar.specs.Building.{AppendsAll, Refuses};
+ghost use Rattle.grammar.specs.Building.{AppendsAll, MayFollowAll, Refuses};
 ghost use Rattle.grammar.specs.Grammar.{is_punctuator};
 ghost use Rattle.expressions.specs.Signs.{before_operand, behind_operand, sign_punctuator, step_punctuator, step_store};
-ghost use Rattle.expressions.specs.Telling.{MayFollowAll};
 
 use grammar::{Build, BuildFault, Op, StoreOp};
 use tokens::{Punctuator, Token};

@@ -5,6 +5,7 @@ ghost use Rattle.tokens.specs.Tokens.{FitsToken};
 ghost use Rattle.tokens.specs.declared.located_tokens.Token.TheVariants as token;
 ghost use Rattle.grammar.specs.Grammar.{Primary, Unary, is_punctuator};
 ghost use Rattle.parsing.specs.Advancing.{Advances, IsReady};
+ghost use Rattle.parsing.specs.Growing.{Grows};
 ghost use Rattle.parsing.specs.Position.{token_of};
 ghost use Rattle.parsing.specs.Room.{HasRoom};
 ghost use Rattle.expressions.specs.Expressions.{ParsesOperandAlone};
@@ -28,6 +29,7 @@ pub fn constant<F: Feed, B: Build>(
     requires ready { IsReady parser.old }
     ensures parses { ParsesOperandAlone result B.allocates (B.stands build.old) (B.stands build.new)
         Primary parser.old parser.new }
+    ensures grown { Grows result (B.stands build.old) (B.stands build.new) }
     ensures kept { Advances result parser.old parser.new }
 {
     build.constant(value as i32)?;
@@ -45,6 +47,7 @@ pub fn variable<F: Feed, B: Build>(
     requires ready { IsReady parser.old }
     ensures parses { ParsesOperandAlone result B.allocates (B.stands build.old) (B.stands build.new)
         Primary parser.old parser.new }
+    ensures grown { Grows result (B.stands build.old) (B.stands build.new) }
     ensures kept { Advances result parser.old parser.new }
 {
     if let Some(step) = step_of(parser.after()) {
@@ -67,6 +70,7 @@ fn step_behind<F: Feed, B: Build>(
     requires ready { IsReady parser.old }
     ensures parses { ParsesOperandAlone result B.allocates (B.stands build.old) (B.stands build.new)
         Primary parser.old parser.new }
+    ensures grown { Grows result (B.stands build.old) (B.stands build.new) }
     ensures kept { Advances result parser.old parser.new }
 {
     let var = parser.mention()?;
@@ -89,6 +93,7 @@ pub fn step_before<F: Feed, B: Build>(
     requires ready { IsReady parser.old }
     ensures parses { ParsesOperandAlone result B.allocates (B.stands build.old) (B.stands build.new)
         Unary parser.old parser.new }
+    ensures grown { Grows result (B.stands build.old) (B.stands build.new) }
     ensures kept { Advances result parser.old parser.new }
 {
     parser.advance()?;

@@ -110,7 +110,7 @@ actions_there functions (d ∷ ds) h = ap₂ (λ a b. a ++ b) (ap (numbered_acti
 
 -- The names of a file.
 
-named_at : (functions : List FunctionNames) (k : ℕ) (f : Function) (ds : List Definition) → AreNamed functions ds → defined_as k ds ≡ Some f → slice_get functions k ≡ Some (names_of_function f)
+pub named_at : (functions : List FunctionNames) (k : ℕ) (f : Function) (ds : List Definition) → AreNamed functions ds → defined_as k ds ≡ Some f → slice_get functions k ≡ Some (names_of_function f)
 named_at functions k f [] h is = absurd (cc)
 named_at functions k f (d ∷ ds) h is = at_test (λ g. named_at functions k f ds h.1 g) (d.number == k) refl is
   where

@@ -92,6 +92,28 @@ logic_itself op.Or e = refl
 logic_itself op.And e = refl
 logic_itself o e = absurd (cc)
 
+-- operators that are tested to be the same are
+pub same_op_is : (o p : Op) → same_op o p ≡ true → o ≡ p
+same_op_is op.Or op.Or h = refl
+same_op_is op.And op.And h = refl
+same_op_is op.BitOr op.BitOr h = refl
+same_op_is op.BitXor op.BitXor h = refl
+same_op_is op.BitAnd op.BitAnd h = refl
+same_op_is op.Equal op.Equal h = refl
+same_op_is op.NotEqual op.NotEqual h = refl
+same_op_is op.Less op.Less h = refl
+same_op_is op.Greater op.Greater h = refl
+same_op_is op.LessOrEqual op.LessOrEqual h = refl
+same_op_is op.GreaterOrEqual op.GreaterOrEqual h = refl
+same_op_is op.ShiftLeft op.ShiftLeft h = refl
+same_op_is op.ShiftRight op.ShiftRight h = refl
+same_op_is op.Add op.Add h = refl
+same_op_is op.Subtract op.Subtract h = refl
+same_op_is op.Multiply op.Multiply h = refl
+same_op_is op.Divide op.Divide h = refl
+same_op_is op.Remainder op.Remainder h = refl
+same_op_is o p h = absurd (cc)
+
 -- the actions lead from what is open to this
 pub record Leads (acts : List Action) (o p : Opened) : Type 0 where
   pub is : follow_all acts o ≡ Some p

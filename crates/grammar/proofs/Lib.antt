@@ -12,6 +12,7 @@ pub mod Keeping
 pub mod Widening
 pub mod FollowingLaws
 pub mod StandingLaws
+pub mod Lengths
 pub mod Phases
 pub mod Soundness
 pub mod ResolvedLaws

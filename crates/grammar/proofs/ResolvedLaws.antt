@@ -299,10 +299,10 @@ order_below e n k (d ∷ ds) h (inl same) = subst (λ (x : ℕ). x < n) (sym sam
 order_below e n k (d ∷ ds) h (inr i) = order_below e n k ds h.2 i
 
 -- the functions are those defined, by number
-record AreDefined (number : ℕ) (lines : List ℕ) (ds : List Definition) (functions : List Function) : Type 0 where
-  count : length functions ≡ length lines
-  each : (k : ℕ) (f : Function) → slice_get functions k ≡ Some f → defined_as (number + k) ds ≡ Some f
-  all : (k : ℕ) → k < length lines → IsAmong (number + k) (order_of ds)
+pub record AreDefined (number : ℕ) (lines : List ℕ) (ds : List Definition) (functions : List Function) : Type 0 where
+  pub count : length functions ≡ length lines
+  pub each : (k : ℕ) (f : Function) → slice_get functions k ≡ Some f → defined_as (number + k) ds ≡ Some f
+  pub all : (k : ℕ) → k < length lines → IsAmong (number + k) (order_of ds)
 
 record InFront (number : ℕ) (ds : List Definition) (functions : List Function) (others : Result (List Function) ℕ) : Type 0 where
   first : Function
@@ -343,24 +343,24 @@ one_more number line lines ds first rest here more = record {
     all zero h = subst (λ (n : ℕ). IsAmong n (order_of ds)) (sym at_zero) (defined_among number first ds here)
     all (suc k) h = subst (λ (n : ℕ). IsAmong n (order_of ds)) (sym (at_suc k)) (more.all k (omega arith))
 
-are_defined : (number : ℕ) (lines : List ℕ) (ds : List Definition) (functions : List Function) → all_defined number lines ds ≡ Ok functions → AreDefined number lines ds functions
+pub are_defined : (number : ℕ) (lines : List ℕ) (ds : List Definition) (functions : List Function) → all_defined number lines ds ≡ Ok functions → AreDefined number lines ds functions
 are_defined number [] ds functions e = none_there number ds functions (cc)
 are_defined number (line ∷ lines) ds functions e =
     let i : InFront number ds functions (all_defined (number + 1) lines ds) = in_front_of number line ds functions (defined_as number ds) (all_defined (number + 1) lines ds) refl e in
     subst (λ (fs : List Function). AreDefined number (line ∷ lines) ds fs) (sym i.is)
     (one_more number line lines ds i.first i.rest i.here (are_defined (number + 1) lines ds i.rest i.further))
 
-abbrev made_file : Scope → List ℕ → List Function → ℕ → File
+abbrev pub made_file : Scope → List ℕ → List Function → ℕ → File
 made_file scope order functions main = record { externals = scope.externals; functions = functions; order = order; main = main }
 
-record IsMade (scope : Scope) (order : List ℕ) (functions : Result (List Function) ℕ) (main : Option ℕ) (file : File) : Type 0 where
-  all : List Function
-  place : ℕ
-  found : functions ≡ Ok all
-  named : main ≡ Some place
-  is : made_file scope order all place ≡ file
+pub record IsMade (scope : Scope) (order : List ℕ) (functions : Result (List Function) ℕ) (main : Option ℕ) (file : File) : Type 0 where
+  pub all : List Function
+  pub place : ℕ
+  pub found : functions ≡ Ok all
+  pub named : main ≡ Some place
+  pub is : made_file scope order all place ≡ file
 
-is_made : (last : ℕ) (scope : Scope) (order : List ℕ) (functions : Result (List Function) ℕ) (main : Option ℕ) (file : File) → file_of last scope order functions main ≡ Ok file →
+pub is_made : (last : ℕ) (scope : Scope) (order : List ℕ) (functions : Result (List Function) ℕ) (main : Option ℕ) (file : File) → file_of last scope order functions main ≡ Ok file →
     IsMade scope order functions main file
 is_made last scope order (Err line) main file e = absurd (cc)
 is_made last scope order (Ok fs) None file e = absurd (cc)
@@ -397,11 +397,11 @@ resolved_of s all place h found named =
     from_zero k = omega arith
 
 -- where the verdict is a file, no fault was gathered
-record IsClean (located_tokens : List LocatedToken) (faults : List Fault) (scope : Scope) (ds : List Definition) (file : File) : Type 0 where
-  clean : faults ≡ []
-  is : resolved located_tokens scope ds ≡ Ok file
+pub record IsClean (located_tokens : List LocatedToken) (faults : List Fault) (scope : Scope) (ds : List Definition) (file : File) : Type 0 where
+  pub clean : faults ≡ []
+  pub is : resolved located_tokens scope ds ≡ Ok file
 
-is_clean : (located_tokens : List LocatedToken) (faults : List Fault) (scope : Scope) (ds : List Definition) (file : File) → verdict located_tokens faults scope ds ≡ Ok file → IsClean located_tokens faults scope ds file
+pub is_clean : (located_tokens : List LocatedToken) (faults : List Fault) (scope : Scope) (ds : List Definition) (file : File) → verdict located_tokens faults scope ds ≡ Ok file → IsClean located_tokens faults scope ds file
 is_clean located_tokens [] scope ds file e = record { clean = refl; is = e }
 is_clean located_tokens (f ∷ faults) scope ds file e = absurd (cc)
 

@@ -17,6 +17,13 @@ pub record MayFollow (before : Meaning) (action : Action) : Type 0 where
   pub stood : before profile acts
   pub begins : IsBeginning (acts ++ action ∷ [])
 
+-- a list is stood for behind which these actions may follow, one behind another
+pub record MayFollowAll (before : Meaning) (more : List Action) : Type 0 where
+  pub profile : Profile
+  pub acts : List Action
+  pub stood : before profile acts
+  pub begins : IsBeginning (acts ++ more)
+
 -- a list is stood for that leaves this open
 pub record StandsOpen (before : Meaning) (opened : Opened) : Type 0 where
   pub profile : Profile

@@ -5,18 +5,19 @@ use Rattle.grammar.specs.declared.diagnostics.Diagnostic.{Diagnostic}
 use Rattle.grammar.specs.declared.diagnostics.ParseFault.{ParseFault}
 use Rattle.grammar.specs.Actions.{Action, function_actions}
 use Rattle.grammar.specs.Building.{Meaning}
-use Rattle.grammar.specs.Derivation.{Definition, state}
+use Rattle.grammar.specs.Derivation.{Definition, State, state}
 use Rattle.grammar.specs.Faults.{definitions_actions, levels}
 use Rattle.grammar.specs.Grammar.{Item}
 use Rattle.grammar.specs.Parsing.{Passes, Fails}
 use Rattle.grammar.proofs.Runs.{here, then}
 use Rattle.parsing.specs.Position.{GoesOn, Place, scope_at, next_at}
-use Rattle.parsing.specs.Stopping.{Stop, stop_with}
-use Rattle.std.specs.Prelude.{Some}
+use Rattle.parsing.specs.Growing.{HasGrown}
+use Rattle.parsing.specs.Stopping.{Stop, StopsInside, stop_with}
+use Rattle.std.specs.Prelude.{Option, Some, None, IfNone}
 use Rattle.grammar.specs.Profile.{Profile}
 use Rattle.parsing.specs.Segment.{Derives, FailsAt, Refused, Takes, IsNearTo}
-use Rattle.parsing.proofs.Segments.{refused_map, told_goes, Begins, near_told, stops_back, stops_here, told_begins}
-use Rattle.lang.specs.Progress.{ReadsOn, StopsReading}
+use Rattle.parsing.proofs.Segments.{refused_map, told_goes, Begins, functions_back, near_told, stops_back, stops_here, told_begins}
+use Rattle.lang.specs.Progress.{IsTold, ReadsOn, StopsReading, StopsTelling}
 
 pub definitions_actions-append : (ds es : List Definition) → definitions_actions (ds ++ es) ≡ definitions_actions ds ++ definitions_actions es
 definitions_actions-append [] es = refl
@@ -55,13 +56,39 @@ advances_then before mid after front between pending at now there a b = record {
       (then profile _ _ _ (a.passes (b.consumed ++ rest) (b.follows rest g) profile functions h) (b.passes rest g profile (functions ++ a.more) told));
 }
 
+-- Where a reading stops.
+
+-- where it stops goes back along a segment without faults
+pub telling_back : (after : Meaning) (profile : Profile) (s t : State) (stop : Stop) (consumed : List LocatedToken) → s.rest ≡ consumed ++ t.rest → Passes profile s t →
+    StopsTelling after profile t stop → StopsTelling after profile s stop
+telling_back after profile s t stop consumed is p h = record {
+  stops = stops_back profile s t stop consumed is p h.stops;
+  told = subst (λ (fs : List Definition). IfNone stop.fault (IsTold after profile fs)) (sym (functions_back profile s t stop consumed is p h.stops)) h.told;
+}
+
+-- before a further function is defined
+pub telling_inside : (after : Meaning) (profile : Profile) (s : State) (stop : Stop) → IfNone stop.fault (IsTold after profile s.functions) → StopsInside profile s stop → StopsTelling after profile s stop
+telling_inside after profile s stop told h = record {
+  stops = h.stops;
+  told = subst (λ (fs : List Definition). IfNone stop.fault (IsTold after profile fs)) (sym h.functions) told;
+}
+
+pub told_alone : (o : Option Diagnostic) (after : Meaning) (profile : Profile) (functions : List Definition) → after profile (definitions_actions functions) → IfNone o (IsTold after profile functions)
+told_alone (Some d) after profile functions h = tt
+told_alone None after profile functions h = record { more = []; stands = subst (λ (xs : List Action). after profile xs) (sym (append-nil (definitions_actions functions))) h }
+
+pub told_grown : (o : Option Diagnostic) (before after : Meaning) (profile : Profile) (functions : List Definition) → IfNone o (HasGrown before after) → before profile (definitions_actions functions) →
+    IfNone o (IsTold after profile functions)
+told_grown (Some d) before after profile functions grown h = tt
+told_grown None before after profile functions grown h = record { more = grown.more; stands = grown.added profile _ h }
+
 -- a fault behind a reading
-pub stops_then : (before mid : Meaning) (front between : List Item) (at now : Place) (d : Stop) →
-    ReadsOn before mid front between at now → StopsReading mid between now d → StopsReading before front at d
-stops_then before mid front between at now d a stops located_tokens is profile functions h =
+pub stops_then : (before mid after : Meaning) (front between : List Item) (at now : Place) (d : Stop) →
+    ReadsOn before mid front between at now → StopsReading mid after between now d → StopsReading before after front at d
+stops_then before mid after front between at now d a stops located_tokens is profile functions h =
     let t : Takes a.consumed located_tokens now = a.told located_tokens is in
     let told : mid profile (definitions_actions (functions ++ a.more)) = subst (λ (xs : List Action). mid profile xs) (sym (definitions_actions-append functions a.more)) (a.added profile _ h) in
-    rw t.is (stops_back profile _ _ d a.consumed refl (a.passes t.rest (told_goes now t.rest t.shows) profile functions h) (stops t.rest t.shows profile (functions ++ a.more) told))
+    rw t.is (telling_back after profile _ _ d a.consumed refl (a.passes t.rest (told_goes now t.rest t.shows) profile functions h) (stops t.rest t.shows profile (functions ++ a.more) told))
 
 -- a segment between functions
 pub segment_advances : (before : Meaning) (front pending stack : List Item) (at there : Place) → levels stack ≡ 0 → Derives 0 front pending [] [] at there →
@@ -78,24 +105,25 @@ segment_advances before front pending stack at there depths a = record {
 }
 
 -- a fault within one
-pub segment_stops : (before : Meaning) (front stack : List Item) (at : Place) (d : Stop) → levels stack ≡ 0 → FailsAt 0 front [] at d → StopsReading before (front ++ stack) at d
-segment_stops before front stack at d depths fails located_tokens is profile functions h = fails located_tokens is profile stack [] functions depths
+pub segment_stops : (before : Meaning) (front stack : List Item) (at : Place) (d : Stop) → levels stack ≡ 0 → FailsAt 0 front [] at d → StopsReading before before (front ++ stack) at d
+segment_stops before front stack at d depths fails located_tokens is profile functions h =
+    telling_inside before profile _ d (told_alone d.fault before profile functions h) (fails located_tokens is profile stack [] functions depths)
 
 -- a refusal behind a reading
-pub leave : (used : ℕ) (before mid : Meaning) (front between : List Item) (at now : Place) (allocates more : Bool) (f : ParseFault) → ReadsOn before mid front between at now →
-    ((allocates ≡ true) → more ≡ true) → Refused (StopsReading mid between now) allocates used f → Refused (StopsReading before front at) more used f
-leave used before mid front between at now allocates more f a memory = refused_map used _ _ allocates more f (λ d. stops_then before mid front between at now d a) memory
+pub leave : (used : ℕ) (before mid after : Meaning) (front between : List Item) (at now : Place) (allocates more : Bool) (f : ParseFault) → ReadsOn before mid front between at now →
+    ((allocates ≡ true) → more ≡ true) → Refused (StopsReading mid after between now) allocates used f → Refused (StopsReading before after front at) more used f
+leave used before mid after front between at now allocates more f a memory = refused_map used _ _ allocates more f (λ d. stops_then before mid after front between at now d a) memory
 
 -- a refusal of a callee within a segment
 pub leave_segment : (used : ℕ) (before : Meaning) (front stack : List Item) (at : Place) (allocates more : Bool) (f : ParseFault) → levels stack ≡ 0 →
-    ((allocates ≡ true) → more ≡ true) → Refused (FailsAt 0 front [] at) allocates used f → Refused (StopsReading before (front ++ stack) at) more used f
+    ((allocates ≡ true) → more ≡ true) → Refused (FailsAt 0 front [] at) allocates used f → Refused (StopsReading before before (front ++ stack) at) more used f
 leave_segment used before front stack at allocates more f depths memory = refused_map used _ _ allocates more f (λ d. segment_stops before front stack at d depths) memory
 
 -- the first fault stands at the next token
-pub reading_fails_at_next : (before : Meaning) (front : List Item) (at : Place) (d : Diagnostic) (used : ℕ) → IsNearTo at used →
+pub reading_fails_at_next : (before after : Meaning) (front : List Item) (at : Place) (d : Diagnostic) (used : ℕ) → IsNearTo at used →
     ((tail : List LocatedToken) (profile : Profile) (functions : List Definition) → Fails profile (state front (next_at at ∷ tail) [] (scope_at at) functions) d) →
-    StopsReading before front at (stop_with (Some d) used)
-reading_fails_at_next before front at d used near fails located_tokens is profile functions h =
+    StopsReading before after front at (stop_with (Some d) used)
+reading_fails_at_next before after front at d used near fails located_tokens is profile functions h =
     let b : Begins at.position.reading located_tokens = told_begins at located_tokens is in
     let here : Fails profile (state front located_tokens [] (scope_at at) functions) d = rw b.is (fails b.tail profile functions) in
-    stops_here profile (state front located_tokens [] (scope_at at) functions) (stop_with (Some d) used) here (near_told at located_tokens used is near)
+    record { stops = stops_here profile (state front located_tokens [] (scope_at at) functions) (stop_with (Some d) used) here (near_told at located_tokens used is near); told = tt }

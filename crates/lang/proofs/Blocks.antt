@@ -1,12 +1,13 @@
 -- What the reading of a function derives.
 use Rattle.std.proofs.Common.{◌≡◌, ℕ, ◌+◌, ◌<◌, ◌≤◌, List, [], ◌∷◌, ◌++◌, refl, sym, ap, ◌∙◌, subst, Bool, true, false, arith, append_assoc, append-nil, le_refl}
 use Rattle.std.proofs.lemmas.Bool.Decides.{nat_tests}
-use Rattle.std.specs.Prelude.{length, nat_lt, Some, None}
+use Rattle.std.specs.Prelude.{length, nat_lt, Option, Some, None, IfNone}
 use Rattle.tokens.specs.declared.located_tokens.LocatedToken.{LocatedToken}
 use Rattle.tokens.specs.declared.located_tokens.Punctuator.TheVariants as punctuator
 use Rattle.tokens.specs.declared.located_tokens.Token.{Token}
 use Rattle.tokens.specs.declared.located_tokens.Token.TheVariants as token
 use Rattle.grammar.specs.declared.diagnostics.Code.TheVariants as code
+use Rattle.grammar.specs.declared.diagnostics.Diagnostic.{Diagnostic}
 use Rattle.grammar.specs.declared.diagnostics.ParseFault.{ParseFault}
 use Rattle.grammar.specs.declared.diagnostics.ParseFault.TheVariants as refusal
 use Rattle.grammar.specs.Actions.{Action, Begin, Finish, body_actions, code_length, function_actions, last_return}
@@ -22,14 +23,16 @@ use Rattle.grammar.proofs.Firsts.{too_long}
 use Rattle.grammar.proofs.Runs.{then}
 use Rattle.grammar.proofs.Steps.{make, close}
 use Rattle.parsing.specs.Advancing.{IsReady, StayedOrWentOn, Stopped}
+use Rattle.parsing.specs.Growing.{HasGrown}
 use Rattle.parsing.specs.Position.{GoesOn, Place, Standing, next_at, scope_at, scope_of, tokens_at, with_scope}
 use Rattle.parsing.specs.Stopping.{Stop, Stops, stop_with}
 use Rattle.grammar.specs.Compiled.{diagnostic}
 use Rattle.parsing.specs.Segment.{Derives, DerivesItem, FailsAt, FailsItem, Refused, Takes, IsNearTo}
 use Rattle.parsing.specs.Declarations.{heading_items}
-use Rattle.parsing.proofs.Segments.{Begins, fails_then, goes_begins, joined, refused_map, stay, told_begins, told_goes, near_told, stops_back, stops_here}
+use Rattle.parsing.proofs.Growing.{grown_behind}
+use Rattle.parsing.proofs.Segments.{Begins, fails_then, goes_begins, joined, refused_map, stay, told_begins, told_goes, near_told, stops_here}
 use Rattle.lang.specs.Progress.{AddsBlock, ReadsOn, ClosesFunction, IsTooMuch, StopsReading, at_brace, at_definition, at_source}
-use Rattle.lang.proofs.Advancing.{definitions_actions-append}
+use Rattle.lang.proofs.Advancing.{definitions_actions-append, telling_back, telling_inside, told_alone, told_grown}
 
 abbrev pub definition_items : List Item
 definition_items = AName Defined ∷ Exactly punctuator.OpenRound ∷ Part Parameters ∷ Exactly punctuator.CloseRound ∷ Part ParameterTypes ∷ Part FunctionBlock ∷ []
@@ -166,23 +169,37 @@ function_advances first second third fourth at now brace ended there number para
 
 -- Where the reading of a function stops.
 
-heading_stops : (before : Meaning) (at : Place) (d : Stop) → FailsAt 0 heading_items [] at d → StopsReading before at_definition at d
-heading_stops before at d fails located_tokens is profile functions h = fails located_tokens is profile (Part FunctionBlock ∷ at_source) [] functions refl
+heading_stops : (before : Meaning) (at : Place) (d : Stop) → FailsAt 0 heading_items [] at d → StopsReading before before at_definition at d
+heading_stops before at d fails located_tokens is profile functions h =
+    telling_inside before profile _ d (told_alone d.fault before profile functions h) (fails located_tokens is profile (Part FunctionBlock ∷ at_source) [] functions refl)
 
-pub heading_refused : (used : ℕ) (before : Meaning) (at : Place) (f : ParseFault) (more : Bool) → Refused (FailsAt 0 heading_items [] at) false used f → Refused (StopsReading before at_definition at) more used f
+pub heading_refused : (used : ℕ) (before : Meaning) (at : Place) (f : ParseFault) (more : Bool) → Refused (FailsAt 0 heading_items [] at) false used f → Refused (StopsReading before before at_definition at) more used f
 heading_refused used before at f more = refused_map used _ _ false more f (λ d. heading_stops before at d) (λ never. absurd (cc))
 
-block_stops : (before : Meaning) (at now : Place) (d : Stop) → Derives 0 heading_items [] [] [] at now → FailsAt 0 (Part FunctionBlock ∷ []) [] now d → StopsReading before at_definition at d
-block_stops before at now d h fails located_tokens is profile functions k =
-    fails_then 0 definition_items (Part FunctionBlock ∷ []) [] [] at now d (headed at now h) fails located_tokens is profile at_source [] functions refl
+block_stops : (before after : Meaning) (at now : Place) (d : Stop) → Derives 0 heading_items [] [] [] at now → IfNone d.fault (HasGrown before after) → FailsAt 0 (Part FunctionBlock ∷ []) [] now d →
+    StopsReading before after at_definition at d
+block_stops before after at now d h grown fails located_tokens is profile functions k =
+    telling_inside after profile _ d (told_grown d.fault before after profile functions grown k)
+    (fails_then 0 definition_items (Part FunctionBlock ∷ []) [] [] at now d (headed at now h) fails located_tokens is profile at_source [] functions refl)
 
-pub block_refused : (used : ℕ) (before : Meaning) (at now : Place) (f : ParseFault) (allocates : Bool) → Derives 0 heading_items [] [] [] at now → Refused (FailsAt 0 (Part FunctionBlock ∷ []) [] now) allocates used f →
-    Refused (StopsReading before at_definition at) allocates used f
-block_refused used before at now f allocates h = refused_map used _ _ allocates allocates f (λ d. block_stops before at now d h) (λ same. same)
+pub block_refused : (used : ℕ) (before second after : Meaning) (at now : Place) (number parameters : ℕ) (f : ParseFault) (allocates : Bool) → Derives 0 heading_items [] [] [] at now →
+    AppendsAll before second (Begin number parameters ∷ []) → (refusal.Device ≡ f → HasGrown second after) → Refused (FailsAt 0 (Part FunctionBlock ∷ []) [] now) allocates used f →
+    Refused (StopsReading before after at_definition at) allocates used f
+block_refused used before second after at now number parameters f allocates h told = by_fault f
+  where
+    by_fault : (f : ParseFault) → (refusal.Device ≡ f → HasGrown second after) → Refused (FailsAt 0 (Part FunctionBlock ∷ []) [] now) allocates used f → Refused (StopsReading before after at_definition at) allocates used f
+    by_fault (refusal.Source d) grown fails = block_stops before after at now (stop_with (Some d) used) h tt fails
+    by_fault refusal.Device grown fails = block_stops before after at now (stop_with None used) h (grown_behind before second after _ told (grown refl)) fails
+    by_fault refusal.Memory grown fails = fails
 
-too_much_stops : (first second third : Meaning) (at now brace : Place) (number parameters : ℕ) (d : Stop) → IsNearTo brace d.taken → Derives 0 heading_items [] [] [] at now → (b : AddsBlock second third now brace) →
-    AppendsAll first second (Begin number parameters ∷ []) → is_fault (next_at brace).token ≡ false → is_punctuator punctuator.CloseCurly (next_at brace).token ≡ true → IsTooMuch third (next_at brace).line d → StopsReading first at_definition at d
-too_much_stops first second third at now brace number parameters d near h b told sound closed much located_tokens is profile functions k =
+-- where a fault is told, nothing is said of the builder
+fault_told : (o : Option Diagnostic) (d : Diagnostic) (told : Type 0) → o ≡ Some d → IfNone o told
+fault_told (Some e) d told is = tt
+fault_told None d told is = absurd (cc)
+
+too_much_stops : (first second third after : Meaning) (at now brace : Place) (number parameters : ℕ) (d : Stop) → IsNearTo brace d.taken → Derives 0 heading_items [] [] [] at now → (b : AddsBlock second third now brace) →
+    AppendsAll first second (Begin number parameters ∷ []) → is_fault (next_at brace).token ≡ false → is_punctuator punctuator.CloseCurly (next_at brace).token ≡ true → IsTooMuch third (next_at brace).line d → StopsReading first after at_definition at d
+too_much_stops first second third after at now brace number parameters d near h b told sound closed much located_tokens is profile functions k =
     let s : Derives 0 definition_items at_brace [] (ABody b.tree ∷ []) at brace = braced second third at now brace h b in
     let t : Takes s.consumed located_tokens brace = s.told located_tokens is in
     let x : Begins brace.position.reading t.rest = told_begins brace t.rest t.shows in
@@ -192,41 +209,46 @@ too_much_stops first second third at now brace number parameters d near h b told
     let stop : Stops profile (state (at_brace ++ at_source) t.rest (ABody b.tree ∷ []) (scope_at brace) functions) d =
     stops_here profile (state (at_brace ++ at_source) t.rest (ABody b.tree ∷ []) (scope_at brace) functions) d (rw much.is fails) (rw much.is (near_told brace t.rest d.taken t.shows near)) in
     rw t.is
-    (stops_back profile _ _ d s.consumed refl (s.passes t.rest (told_goes brace t.rest t.shows) profile at_source [] functions refl) stop)
+    (telling_back after profile _ _ d s.consumed refl (s.passes t.rest (told_goes brace t.rest t.shows) profile at_source [] functions refl) (record { stops = stop; told = fault_told d.fault _ _ much.is }))
 
-pub too_much_refused : (used : ℕ) (first second third : Meaning) (at now brace : Place) (number parameters : ℕ) (f : ParseFault) (allocates : Bool) → IsNearTo brace used → Derives 0 heading_items [] [] [] at now → AddsBlock second third now brace →
+pub too_much_refused : (used : ℕ) (first second third after : Meaning) (at now brace : Place) (number parameters : ℕ) (f : ParseFault) (allocates : Bool) → IsNearTo brace used → Derives 0 heading_items [] [] [] at now → AddsBlock second third now brace →
     AppendsAll first second (Begin number parameters ∷ []) → is_fault (next_at brace).token ≡ false → is_punctuator punctuator.CloseCurly (next_at brace).token ≡ true → Refused (IsTooMuch third (next_at brace).line) allocates used f →
-    Refused (StopsReading first at_definition at) allocates used f
-too_much_refused used first second third at now brace number parameters f allocates near h b told sound closed =
+    Refused (StopsReading first after at_definition at) allocates used f
+too_much_refused used first second third after at now brace number parameters f allocates near h b told sound closed =
     by_fault f
   where
-    by_fault : (f : ParseFault) → Refused (IsTooMuch third (next_at brace).line) allocates used f → Refused (StopsReading first at_definition at) allocates used f
-    by_fault (refusal.Source d) much = too_much_stops first second third at now brace number parameters (stop_with (Some d) used) near h b told sound closed much
-    by_fault refusal.Device much = too_much_stops first second third at now brace number parameters (stop_with None used) near h b told sound closed much
+    by_fault : (f : ParseFault) → Refused (IsTooMuch third (next_at brace).line) allocates used f → Refused (StopsReading first after at_definition at) allocates used f
+    by_fault (refusal.Source d) much = too_much_stops first second third after at now brace number parameters (stop_with (Some d) used) near h b told sound closed much
+    by_fault refusal.Device much = too_much_stops first second third after at now brace number parameters (stop_with None used) near h b told sound closed much
     by_fault refusal.Memory much = much
 
--- the closing brace itself is always there, but the token behind it may be a fault
+-- the closing brace itself is always there, but the token behind it may be a fault; the builder was told the function
 brace_stops : (first second third fourth : Meaning) (at now brace ended : Place) (number parameters variables : ℕ) (d : Stop) →
-    Derives 0 heading_items [] [] [] at now → AddsBlock second third now brace → IsEnded brace ended →
+    Derives 0 heading_items [] [] [] at now → AddsBlock second third now brace → IsSame number parameters variables (scope_at brace) → IsEnded brace ended →
     AppendsAll first second (Begin number parameters ∷ []) → ClosesFunction third fourth variables → is_fault (next_at brace).token ≡ false →
-    FailsItem (Exactly punctuator.CloseCurly) ended d → StopsReading first at_definition at d
-brace_stops first second third fourth at now brace ended number parameters variables d h b s told c sound fails located_tokens is profile functions k =
+    FailsItem (Exactly punctuator.CloseCurly) ended d → StopsReading first fourth at_definition at d
+brace_stops first second third fourth at now brace ended number parameters variables d h b same s told c sound fails located_tokens is profile functions k =
     let x : Derives 0 definition_items at_brace [] (ABody b.tree ∷ []) at brace = braced second third at now brace h b in
     let t : Takes x.consumed located_tokens brace = x.told located_tokens is in
     let y : Begins brace.position.reading t.rest = told_begins brace t.rest t.shows in
     let f : Definition = definition_of (scope_at brace) b.tree in
     let short : is_too_long profile (functions ++ f ∷ []) ≡ false = short_enough profile second third fourth functions (scope_at brace) b.tree number parameters variables b.added c (told profile _ k) in
+    let all : fourth profile (definitions_actions (functions ++ f ∷ [])) =
+    subst (λ (xs : List Action). fourth profile xs)
+    (ap (λ (xs : List Action). definitions_actions functions ++ xs) (sym (function_told number parameters variables (scope_at brace) b.tree same)) ∙ sym (definitions_actions-append functions (f ∷ [])))
+    (told_function first second third fourth number parameters variables b.tree told b.added c.added profile _ k) in
     rw t.is
-    (stops_back profile _ _ _ x.consumed refl (x.passes t.rest (told_goes brace t.rest t.shows) profile at_source [] functions refl)
-    (stops_back profile _ _ _ [] refl (define_step profile t.rest (scope_at brace) (scope_at ended) functions b.tree (Exactly punctuator.CloseCurly ∷ Close ∷ at_source) (next_at brace) y.tail y.is sound s.scope short)
-    (fails 1 t.rest (tokens_ended brace ended s ∙ t.shows) profile (Close ∷ at_source) [] (functions ++ f ∷ []) refl)))
+    (telling_back fourth profile _ _ _ x.consumed refl (x.passes t.rest (told_goes brace t.rest t.shows) profile at_source [] functions refl)
+    (telling_back fourth profile _ _ _ [] refl (define_step profile t.rest (scope_at brace) (scope_at ended) functions b.tree (Exactly punctuator.CloseCurly ∷ Close ∷ at_source) (next_at brace) y.tail y.is sound s.scope short)
+    (telling_inside fourth profile _ d (told_alone d.fault fourth profile (functions ++ f ∷ []) all)
+    (fails 1 t.rest (tokens_ended brace ended s ∙ t.shows) profile (Close ∷ at_source) [] (functions ++ f ∷ []) refl))))
 
 pub brace_refused : (used : ℕ) (first second third fourth : Meaning) (at now brace ended : Place) (number parameters variables : ℕ) (f : ParseFault) (more : Bool) →
-    Derives 0 heading_items [] [] [] at now → AddsBlock second third now brace → IsEnded brace ended →
+    Derives 0 heading_items [] [] [] at now → AddsBlock second third now brace → IsSame number parameters variables (scope_at brace) → IsEnded brace ended →
     AppendsAll first second (Begin number parameters ∷ []) → ClosesFunction third fourth variables → is_fault (next_at brace).token ≡ false →
-    Refused (FailsItem (Exactly punctuator.CloseCurly) ended) false used f → Refused (StopsReading first at_definition at) more used f
-brace_refused used first second third fourth at now brace ended number parameters variables f more h b s told c sound =
-    refused_map used _ _ false more f (λ d. brace_stops first second third fourth at now brace ended number parameters variables d h b s told c sound) (λ never. absurd (cc))
+    Refused (FailsItem (Exactly punctuator.CloseCurly) ended) false used f → Refused (StopsReading first fourth at_definition at) more used f
+brace_refused used first second third fourth at now brace ended number parameters variables f more h b same s told c sound =
+    refused_map used _ _ false more f (λ d. brace_stops first second third fourth at now brace ended number parameters variables d h b same s told c sound) (λ never. absurd (cc))
 
 -- A closing brace is no fault.
 pub closing_sound : (t : Token) → is_punctuator punctuator.CloseCurly t ≡ true → is_fault t ≡ false

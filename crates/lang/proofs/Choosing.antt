@@ -57,9 +57,9 @@ source_none (token.Constant value) after end type name = refl
 source_none (token.Fault lexical_error) after end type name = refl
 
 pub source_misfits : (before : Meaning) (at : Place) (used : ℕ) (near : IsNearTo at used) → is_fault (next_at at).token ≡ false → ((next_at at).token ≡ token.End → ⊥) → is_word word.Type (next_at at).token ≡ false → ((name : List ℕ) → (next_at at).token ≡ token.Name name → ⊥) →
-    StopsReading before at_source at (stop_with (Some (diagnostic (next_at at).line (misfit_code (next_at at).token))) used)
+    StopsReading before before at_source at (stop_with (Some (diagnostic (next_at at).line (misfit_code (next_at at).token))) used)
 source_misfits before at used near sound end type name =
-    reading_fails_at_next before at_source at _ used near (λ tail profile functions. no_part profile Source [] (next_at at ∷ tail) [] (scope_at at) functions sound (source_none (next_at at).token _ end type name) refl)
+    reading_fails_at_next before before at_source at _ used near (λ tail profile functions. no_part profile Source [] (next_at at ∷ tail) [] (scope_at at) functions sound (source_none (next_at at).token _ end type name) refl)
 
 -- Behind the type words.
 
@@ -79,14 +79,14 @@ typed_head before at now behind is d e =
     advances_then before before before at_source (Part Types ∷ at_head) at_head at now behind
     (advances_then before before before at_source typed_items (Part Types ∷ at_head) at at now (source_typed before at is) (type_word before at now d)) (more_types before now behind e)
 
-pub word_refused : (used : ℕ) (before : Meaning) (at : Place) (f : ParseFault) (more : Bool) → is_word word.Type (next_at at).token ≡ true → Refused (FailsItem (AWord word.Type) at) false used f → Refused (StopsReading before at_source at) more used f
-word_refused used before at f more is = refused_map used (FailsItem (AWord word.Type) at) (StopsReading before at_source at) false more f
-    (λ d fails. stops_then before before at_source typed_items at at d (source_typed before at is) (segment_stops before (AWord word.Type ∷ []) (Part Types ∷ at_head) at d refl (fails 0))) (λ never. absurd (cc))
+pub word_refused : (used : ℕ) (before : Meaning) (at : Place) (f : ParseFault) (more : Bool) → is_word word.Type (next_at at).token ≡ true → Refused (FailsItem (AWord word.Type) at) false used f → Refused (StopsReading before before at_source at) more used f
+word_refused used before at f more is = refused_map used (FailsItem (AWord word.Type) at) (StopsReading before before at_source at) false more f
+    (λ d fails. stops_then before before before at_source typed_items at at d (source_typed before at is) (segment_stops before (AWord word.Type ∷ []) (Part Types ∷ at_head) at d refl (fails 0))) (λ never. absurd (cc))
 
 pub types_refused : (used : ℕ) (before : Meaning) (at now : Place) (f : ParseFault) (more : Bool) → is_word word.Type (next_at at).token ≡ true → DerivesItem (AWord word.Type) [] [] at now →
-    Refused (λ d. (depth : ℕ) → FailsAt depth (Part Types ∷ []) [] now d) false used f → Refused (StopsReading before at_source at) more used f
-types_refused used before at now f more is passed = refused_map used (λ d. (depth : ℕ) → FailsAt depth (Part Types ∷ []) [] now d) (StopsReading before at_source at) false more f
-    (λ d fails. stops_then before before at_source (Part Types ∷ at_head) at now d
+    Refused (λ d. (depth : ℕ) → FailsAt depth (Part Types ∷ []) [] now d) false used f → Refused (StopsReading before before at_source at) more used f
+types_refused used before at now f more is passed = refused_map used (λ d. (depth : ℕ) → FailsAt depth (Part Types ∷ []) [] now d) (StopsReading before before at_source at) false more f
+    (λ d fails. stops_then before before before at_source (Part Types ∷ at_head) at now d
     (advances_then before before before at_source typed_items (Part Types ∷ at_head) at at now (source_typed before at is) (type_word before at now passed))
     (segment_stops before (Part Types ∷ []) at_head now d refl (fails 0))) (λ never. absurd (cc))
 
@@ -145,9 +145,9 @@ head_none (token.Constant value) after name = refl
 head_none (token.Fault lexical_error) after name = refl
 
 pub head_misfits : (before : Meaning) (at : Place) (used : ℕ) (near : IsNearTo at used) → is_fault (next_at at).token ≡ false → ((name : List ℕ) → (next_at at).token ≡ token.Name name → ⊥) →
-    StopsReading before at_head at (stop_with (Some (diagnostic (next_at at).line (misfit_code (next_at at).token))) used)
+    StopsReading before before at_head at (stop_with (Some (diagnostic (next_at at).line (misfit_code (next_at at).token))) used)
 head_misfits before at used near sound name =
-    reading_fails_at_next before at_head at _ used near (λ tail profile functions. no_part profile Head at_source (next_at at ∷ tail) [] (scope_at at) functions sound (head_none (next_at at).token _ name) refl)
+    reading_fails_at_next before before at_head at _ used near (λ tail profile functions. no_part profile Head at_source (next_at at ∷ tail) [] (scope_at at) functions sound (head_none (next_at at).token _ name) refl)
 
 -- externals were declared
 pub externals_read : (before : Meaning) (at now : Place) (name : List ℕ) → (next_at at).token ≡ token.Name name → is_punctuator punctuator.OpenRound (after_at at) ≡ false → Derives 0 external_items [] [] [] at now → ReadsOn before before at_head at_source at now
@@ -155,13 +155,14 @@ externals_read before at now name same other d =
     advances_then before before before at_head (external_items ++ at_source) at_source at at now (head_external before at name same other) (segment_advances before external_items [] at_source at now refl d)
 
 pub externals_refused : (used : ℕ) (before : Meaning) (at : Place) (name : List ℕ) (f : ParseFault) (more : Bool) → (next_at at).token ≡ token.Name name → is_punctuator punctuator.OpenRound (after_at at) ≡ false →
-    Refused (λ d. (depth : ℕ) → FailsAt depth external_items [] at d) false used f → Refused (StopsReading before at_head at) more used f
-externals_refused used before at name f more same other = refused_map used (λ d. (depth : ℕ) → FailsAt depth external_items [] at d) (StopsReading before at_head at) false more f
-    (λ d fails. stops_then before before at_head (external_items ++ at_source) at at d (head_external before at name same other) (segment_stops before external_items at_source at d refl (fails 0))) (λ never. absurd (cc))
+    Refused (λ d. (depth : ℕ) → FailsAt depth external_items [] at d) false used f → Refused (StopsReading before before at_head at) more used f
+externals_refused used before at name f more same other = refused_map used (λ d. (depth : ℕ) → FailsAt depth external_items [] at d) (StopsReading before before at_head at) false more f
+    (λ d fails. stops_then before before before at_head (external_items ++ at_source) at at d (head_external before at name same other) (segment_stops before external_items at_source at d refl (fails 0))) (λ never. absurd (cc))
 
 -- a function was read behind what leads to it
 pub function_read : (before after : Meaning) (front : List Item) (at there : Place) → ReadsOn before before front at_definition at at → ReadsOn before after at_definition at_source at there → ReadsOn before after front at_source at there
 function_read before after front at there a b = advances_then before before after front at_definition at_source at at there a b
 
-pub function_refused : (used : ℕ) (before : Meaning) (front : List Item) (at : Place) (f : ParseFault) (allocates : Bool) → ReadsOn before before front at_definition at at → Refused (StopsReading before at_definition at) allocates used f → Refused (StopsReading before front at) allocates used f
-function_refused used before front at f allocates a = leave used before before front at_definition at at allocates allocates f a (λ same. same)
+pub function_refused : (used : ℕ) (before after : Meaning) (front : List Item) (at : Place) (f : ParseFault) (allocates : Bool) → ReadsOn before before front at_definition at at →
+    Refused (StopsReading before after at_definition at) allocates used f → Refused (StopsReading before after front at) allocates used f
+function_refused used before after front at f allocates a = leave used before before after front at_definition at at allocates allocates f a (λ same. same)

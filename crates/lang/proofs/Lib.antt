@@ -4,3 +4,5 @@ pub mod Closing
 pub mod Blocks
 pub mod Choosing
 pub mod Wholes
+pub mod StrictEnds
+pub mod Built

@@ -1,5 +1,5 @@
 -- What a file is whose reading came to its end.
-use Rattle.std.proofs.Common.{◌≡◌, ℕ, List, [], ◌∷◌, ◌++◌, refl, sym, ap, ◌∙◌, subst, Bool, true, false, drop, ◌+◌, ◌≤◌, arith}
+use Rattle.std.proofs.Common.{◌≡◌, ℕ, List, [], ◌∷◌, ◌++◌, refl, sym, ap, ◌∙◌, subst, Bool, true, false, drop, ◌+◌, ◌≤◌, append_assoc, arith}
 use Rattle.std.specs.Option.{option_map}
 use Rattle.std.specs.Prelude.{Option, Some, None, Ok, Err, Result, is_some}
 use Rattle.tokens.specs.Reading.{reach_of}
@@ -15,11 +15,11 @@ use Rattle.grammar.specs.declared.diagnostics.ParseFault.TheVariants as refusal
 use Rattle.grammar.specs.Actions.{Action}
 use Rattle.grammar.specs.Building.{Meaning}
 use Rattle.grammar.specs.Compiled.{compiled, compiled_tokens, diagnostic, last_line, main_name, resolved}
-use Rattle.grammar.specs.Derivation.{start, Definition, is_end, next_of, line_of, state}
+use Rattle.grammar.specs.Derivation.{run, start, Definition, is_end, next_of, line_of, state}
 use Rattle.grammar.specs.Faults.{misfit_code}
 use Rattle.grammar.specs.Grammar.{AnEnd, Source, is_fault}
 use Rattle.grammar.specs.Naming.{line_of_undefined}
-use Rattle.grammar.specs.Need.{need}
+use Rattle.grammar.specs.Need.{built, need}
 use Rattle.grammar.specs.Parsing.{Passes}
 use Rattle.grammar.specs.Pools.{Names}
 use Rattle.grammar.specs.Profile.{Profile}
@@ -32,12 +32,13 @@ use Rattle.grammar.proofs.Steps.{last, part}
 use Rattle.grammar.proofs.Verdicts.{clean_verdict, fault_verdict}
 use Rattle.grammar.specs.Finished.{IsFinished, PassesAll}
 use Rattle.grammar.proofs.FileLaws.{finished, undefined, without_main}
-use Rattle.parsing.specs.Position.{GoesOn, Place, next_at, scope_at, tokens_at}
+use Rattle.parsing.specs.Position.{GoesOn, Place, Position, next_at, scope_at, tokens_at}
 use Rattle.parsing.specs.Stopping.{NoneBefore, Stops, slack as slack_of, stop_with}
 use Rattle.parsing.specs.Segment.{IsNearTo, Refused, StopsFirst, StopsOpening, Takes}
-use Rattle.parsing.proofs.Segments.{near_told, none_back, none_before, told_goes}
-use Rattle.lang.specs.Files.{FailsBytes, IsFile, IsNew, Says, StopsTaking, TakesNoMore, TakesUpTo}
-use Rattle.lang.specs.Progress.{ADefinition, AMain, IsComplete, Lacks, ReadsOn, StopsReading, at_source}
+use Rattle.parsing.proofs.Segments.{functions_here, near_told, none_back, none_before, stops_here, told_goes}
+use Rattle.lang.specs.Files.{BuildsAhead, FailsBytes, HasBuilt, IsFile, IsNew, Says, StopsTaking, TakesNoMore, TakesUpTo}
+use Rattle.lang.specs.Progress.{ADefinition, AMain, IsComplete, IsTold, Lacks, ReadsOn, StopsReading, StopsTelling, at_source}
+use Rattle.lang.proofs.Built.{IsAmongDefined, built_by_stop}
 
 end_is : (t : Token) → is_end t ≡ true → t ≡ token.End
 end_is token.End is = refl
@@ -139,16 +140,16 @@ lacking before after told at there f allocates w (AMain defined none same) = rw 
 
 -- Where the reading stops, the file's first fault is there.
 
-stops_bytes : (before : Meaning) (told : Option (List ℕ)) (at : Place) (d : Diagnostic) (used : ℕ) → scope_at at ≡ no_names → tokens_at at ≡ option_map tokens told → StopsReading before at_source at (stop_with (Some d) used) → FailsBytes before told d
-stops_bytes before told at d used nothing tells stops bytes shows profile h =
+stops_bytes : (before after : Meaning) (told : Option (List ℕ)) (at : Place) (d : Diagnostic) (used : ℕ) → scope_at at ≡ no_names → tokens_at at ≡ option_map tokens told → StopsReading before after at_source at (stop_with (Some d) used) → FailsBytes before told d
+stops_bytes before after told at d used nothing tells stops bytes shows profile h =
     compiled_as profile bytes (tokens bytes) (Err d) refl
-    (fault_verdict profile (tokens bytes) d (rw (sym nothing) (stops (tokens bytes) (tells ∙ ap (option_map tokens) shows) profile [] h).fails))
+    (fault_verdict profile (tokens bytes) d (rw (sym nothing) (stops (tokens bytes) (tells ∙ ap (option_map tokens) shows) profile [] h).stops.fails))
 
-pub stopped : (used : ℕ) (before : Meaning) (told : Option (List ℕ)) (at : Place) (f : ParseFault) (allocates : Bool) → scope_at at ≡ no_names → tokens_at at ≡ option_map tokens told →
-    Refused (StopsReading before at_source at) allocates used f → Says (FailsBytes before told) allocates f
-stopped used before told at (refusal.Source d) allocates nothing tells h = stops_bytes before told at d used nothing tells h
-stopped used before told at refusal.Device allocates nothing tells h = tt
-stopped used before told at refusal.Memory allocates nothing tells h = h
+pub stopped : (used : ℕ) (before after : Meaning) (told : Option (List ℕ)) (at : Place) (f : ParseFault) (allocates : Bool) → scope_at at ≡ no_names → tokens_at at ≡ option_map tokens told →
+    Refused (StopsReading before after at_source at) allocates used f → Says (FailsBytes before told) allocates f
+stopped used before after told at (refusal.Source d) allocates nothing tells h = stops_bytes before after told at d used nothing tells h
+stopped used before after told at refusal.Device allocates nothing tells h = tt
+stopped used before after told at refusal.Memory allocates nothing tells h = h
 
 first_fails : (before : Meaning) (told told' : Option (List ℕ)) (d : Diagnostic) → StopsOpening told told' (refusal.Source d) → FailsBytes before told d
 first_fails before told told' d stops bytes shows profile h =
@@ -177,18 +178,18 @@ pub has_taken : (first used : ℕ) (told between there to_come : Option (List �
     HasTaken used told to_come
 has_taken first used told between there to_come opened took same bytes is = same ∙ (took.rest told opened ∙ rw is refl)
 
-reading_takes : (used slack : ℕ) (before : Meaning) (told to_come : Option (List ℕ)) (at : Place) (o : Option Diagnostic) → slack ≡ slack_of o → scope_at at ≡ no_names → tokens_at at ≡ option_map tokens told →
-    HasTaken used told to_come → StopsReading before at_source at (stop_with o used) → TakesNoMore before told to_come slack
-reading_takes used slack before told to_come at o same nothing tells taken stops bytes shows profile h =
+reading_takes : (used slack : ℕ) (before after : Meaning) (told to_come : Option (List ℕ)) (at : Place) (o : Option Diagnostic) → slack ≡ slack_of o → scope_at at ≡ no_names → tokens_at at ≡ option_map tokens told →
+    HasTaken used told to_come → StopsReading before after at_source at (stop_with o used) → TakesNoMore before told to_come slack
+reading_takes used slack before after told to_come at o same nothing tells taken stops bytes shows profile h =
     let s : Stops profile (state at_source (tokens bytes) [] no_names []) (stop_with o used) =
-    subst (λ (known : Scope). Stops profile (state at_source (tokens bytes) [] known []) (stop_with o used)) nothing (stops (tokens bytes) (tells ∙ ap (option_map tokens) shows) profile [] h) in
+    subst (λ (known : Scope). Stops profile (state at_source (tokens bytes) [] known []) (stop_with o used)) nothing (stops (tokens bytes) (tells ∙ ap (option_map tokens) shows) profile [] h).stops in
     takes_up_to profile bytes to_come used slack s.passed s.rest s.is s.none_before (taken bytes shows) (rw same s.taken)
 
-pub stops_taking : (used : ℕ) (before : Meaning) (told to_come : Option (List ℕ)) (at : Place) (f : ParseFault) (allocates : Bool) → scope_at at ≡ no_names → tokens_at at ≡ option_map tokens told →
-    HasTaken used told to_come → Refused (StopsReading before at_source at) allocates used f → StopsTaking before told to_come f
-stops_taking used before told to_come at (refusal.Source d) allocates nothing tells taken h = reading_takes used 4096 before told to_come at (Some d) refl nothing tells taken h
-stops_taking used before told to_come at refusal.Device allocates nothing tells taken h = reading_takes used 0 before told to_come at None refl nothing tells taken h
-stops_taking used before told to_come at refusal.Memory allocates nothing tells taken h = tt
+pub stops_taking : (used : ℕ) (before after : Meaning) (told to_come : Option (List ℕ)) (at : Place) (f : ParseFault) (allocates : Bool) → scope_at at ≡ no_names → tokens_at at ≡ option_map tokens told →
+    HasTaken used told to_come → Refused (StopsReading before after at_source at) allocates used f → StopsTaking before told to_come f
+stops_taking used before after told to_come at (refusal.Source d) allocates nothing tells taken h = reading_takes used 4096 before after told to_come at (Some d) refl nothing tells taken h
+stops_taking used before after told to_come at refusal.Device allocates nothing tells taken h = reading_takes used 0 before after told to_come at None refl nothing tells taken h
+stops_taking used before after told to_come at refusal.Memory allocates nothing tells taken h = tt
 
 opening_takes : (slack : ℕ) (before : Meaning) (told to_come : Option (List ℕ)) (o : Option Diagnostic) (used : ℕ) → slack ≡ slack_of o → HasTaken used told to_come →
     StopsFirst (option_map tokens told) (stop_with o used) → TakesNoMore before told to_come slack
@@ -218,3 +219,51 @@ pub lacks_taking : (used : ℕ) (before after : Meaning) (told to_come : Option 
     StopsTaking before told to_come f
 lacks_taking used before after told to_come at there f w (ADefinition line is same) near taken = rw same (whole_takes used before after told to_come at there w near taken)
 lacks_taking used before after told to_come at there f w (AMain defined none same) near taken = rw same (whole_takes used before after told to_come at there w near taken)
+
+-- What was built where the device failed.
+
+builds_by : (after : Meaning) (profile : Profile) (bytes : List ℕ) (to_come : Option (List ℕ)) (used : ℕ) (s : Stops profile (start (tokens bytes)) (stop_with None used)) →
+    to_come ≡ Some (drop used bytes) → IsTold after profile (run s.steps (start (tokens bytes))).functions → HasBuilt after profile bytes to_come
+builds_by after profile bytes to_come used s took told =
+    let defined : IsAmongDefined bytes used s.steps = built_by_stop bytes used s.steps (subst (λ (ls : List LocatedToken). used ≤ reach_of ls) (sym s.comes) (omega (arith, s.taken))) in
+    record {
+      count = used;
+      took = took;
+      more = defined.more ++ told.more;
+      stands = subst (λ (xs : List Action). after profile xs)
+          (ap (λ (xs : List Action). xs ++ told.more) defined.is ∙ append_assoc (built bytes used) defined.more told.more) told.stands;
+    }
+
+stops_building : (used : ℕ) (before after : Meaning) (told to_come : Option (List ℕ)) (at : Place) → scope_at at ≡ no_names → tokens_at at ≡ option_map tokens told →
+    HasTaken used told to_come → StopsReading before after at_source at (stop_with None used) → BuildsAhead before after told to_come
+stops_building used before after told to_come at nothing tells taken stops bytes shows profile h =
+    let s : StopsTelling after profile (start (tokens bytes)) (stop_with None used) =
+    subst (λ (known : Scope). StopsTelling after profile (state at_source (tokens bytes) [] known []) (stop_with None used)) nothing (stops (tokens bytes) (tells ∙ ap (option_map tokens) shows) profile [] h) in
+    builds_by after profile bytes to_come used s.stops (taken bytes shows) s.told
+
+pub reading_builds : (used : ℕ) (before after : Meaning) (told to_come : Option (List ℕ)) (at : Place) (f : ParseFault) (allocates : Bool) → refusal.Device ≡ f → scope_at at ≡ no_names →
+    tokens_at at ≡ option_map tokens told → HasTaken used told to_come → Refused (StopsReading before after at_source at) allocates used f → BuildsAhead before after told to_come
+reading_builds used before after told to_come at (refusal.Source d) allocates device nothing tells taken h = absurd (cc)
+reading_builds used before after told to_come at refusal.Device allocates device nothing tells taken h = stops_building used before after told to_come at nothing tells taken h
+reading_builds used before after told to_come at refusal.Memory allocates device nothing tells taken h = absurd (cc)
+
+opening_builds : (before : Meaning) (told to_come : Option (List ℕ)) (used : ℕ) → HasTaken used told to_come → StopsFirst (option_map tokens told) (stop_with None used) → BuildsAhead before before told to_come
+opening_builds before told to_come used taken stops bytes shows profile h =
+    let some : used ≤ reach_of (tokens bytes) + 0 = stops.taken (tokens bytes) (ap (option_map tokens) shows) in
+    let s : Stops profile (start (tokens bytes)) (stop_with None used) = stops_here profile (start (tokens bytes)) (stop_with None used) tt some in
+    builds_by before profile bytes to_come used s (taken bytes shows) (first_told before profile bytes used some h)
+  where
+    first_told : (before : Meaning) (profile : Profile) (bytes : List ℕ) (used : ℕ) (some : used ≤ reach_of (tokens bytes) + 0) → before profile [] →
+        IsTold before profile (run (stops_here profile (start (tokens bytes)) (stop_with None used) tt some).steps (start (tokens bytes))).functions
+    first_told before profile bytes used some h = rw (functions_here profile (start (tokens bytes)) (stop_with None used) tt some) (record { more = []; stands = h })
+
+-- at the first token nothing was told
+pub first_builds : (before : Meaning) (told to_come : Option (List ℕ)) (f : ParseFault) → refusal.Device ≡ f → StopsOpening told to_come f → BuildsAhead before before told to_come
+first_builds before told to_come (refusal.Source d) device stops = absurd (cc)
+first_builds before told to_come refusal.Device device stops = opening_builds before told to_come stops.taken stops.took stops.refused
+first_builds before told to_come refusal.Memory device stops = absurd (cc)
+
+-- what a file lacks is no failed device
+pub lacks_no_device : (position : Position) (f : ParseFault) → refusal.Device ≡ f → Lacks position f → ⊥
+lacks_no_device position f device (ADefinition line is same) = cc
+lacks_no_device position f device (AMain defined none same) = cc

@@ -1,12 +1,12 @@
 -- What a parse gives: a file, or its first fault.
-use Rattle.std.specs.Prelude.{ℕ, ◌+◌, ◌≡◌, ◌≤◌, List, [], drop, map, Bool, IsTrue, Option, Some, Ok, Err}
+use Rattle.std.specs.Prelude.{ℕ, ◌+◌, ◌≡◌, ◌≤◌, List, [], ◌++◌, drop, map, Bool, IsTrue, Option, Some, Ok, Err}
 use Rattle.grammar.specs.declared.diagnostics.Diagnostic.{Diagnostic}
 use Rattle.grammar.specs.declared.diagnostics.ParseFault.{ParseFault}
 use Rattle.grammar.specs.declared.diagnostics.ParseFault.TheVariants as refusal
-use Rattle.grammar.specs.Actions.{actions}
+use Rattle.grammar.specs.Actions.{Action, actions}
 use Rattle.grammar.specs.Building.{Meaning}
 use Rattle.grammar.specs.Compiled.{compiled, main_name}
-use Rattle.grammar.specs.Need.{need}
+use Rattle.grammar.specs.Need.{built, need}
 use Rattle.grammar.specs.Pools.{FunctionNames, Names, names_of}
 use Rattle.grammar.specs.Profile.{Profile}
 use Rattle.grammar.specs.Resolved.{IsResolved}
@@ -58,3 +58,17 @@ abbrev pub StopsTaking : Meaning → (told to_come : Option (List ℕ)) → Pars
 StopsTaking before told to_come (refusal.Source d) = TakesNoMore before told to_come 4096
 StopsTaking before told to_come refusal.Device = TakesNoMore before told to_come 0
 StopsTaking before told to_come refusal.Memory = Unit {0}
+
+-- From a device that tells its bytes so many were taken, and the builder stands for the actions of the functions that
+-- these decide for certain, and further ones.
+pub record HasBuilt (after : Meaning) (profile : Profile) (bytes : List ℕ) (to_come : Option (List ℕ)) : Type 0 where
+  pub count : ℕ
+  pub took : to_come ≡ Some (drop count bytes)
+  pub more : List Action
+  pub stands : after profile (built bytes count ++ more)
+
+-- the same of each profile that the builder goes by, where the device tells its bytes
+abbrev pub BuildsAhead : (before after : Meaning) (told to_come : Option (List ℕ)) → Type 0
+BuildsAhead before after told to_come =
+    (bytes : List ℕ) → told ≡ Some bytes → (profile : Profile) → before profile [] →
+    HasBuilt after profile bytes to_come

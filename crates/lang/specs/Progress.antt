@@ -1,5 +1,5 @@
 -- How far a file was read: the functions defined, the builder's actions, and the derivation from the file's start.
-use Rattle.std.specs.Prelude.{ℕ, ◌+◌, ◌<◌, ◌≤◌, ◌≡◌, List, [], ◌∷◌, ◌++◌, Bool, true, false, Some, None, is_some}
+use Rattle.std.specs.Prelude.{ℕ, ◌+◌, ◌<◌, ◌≤◌, ◌≡◌, List, [], ◌∷◌, ◌++◌, Bool, true, false, Some, None, IfNone, is_some}
 use Rattle.std.specs.Prelude.{Result, Ok, Err}
 use Rattle.tokens.specs.declared.located_tokens.LocatedToken.{LocatedToken}
 use Rattle.tokens.specs.declared.located_tokens.Punctuator.TheVariants as punctuator
@@ -10,7 +10,7 @@ use Rattle.grammar.specs.declared.diagnostics.ParseFault.{ParseFault}
 use Rattle.grammar.specs.declared.diagnostics.ParseFault.TheVariants as refusal
 use Rattle.grammar.specs.declared.pools.TheConstants.{MOST_NAMES}
 use Rattle.grammar.specs.Compiled.{diagnostic, main_name}
-use Rattle.grammar.specs.Derivation.{ABody, Definition, state}
+use Rattle.grammar.specs.Derivation.{ABody, Definition, State, run, state}
 use Rattle.grammar.specs.Faults.{definitions_actions}
 use Rattle.grammar.specs.Following.{InFunction}
 use Rattle.grammar.specs.Grammar.{Item, AName, Define, Defined, Exactly, FunctionBlock, Make, ParameterTypes}
@@ -42,13 +42,23 @@ pub record ReadsOn (before after : Meaning) (front pending : List Item) (here th
       Passes profile (state front (consumed ++ rest) [] (scope_at here) functions)
       (state pending rest [] (scope_at there) (functions ++ more))
 
+-- the builder stands for the actions of these functions, and further ones
+pub record IsTold (after : Meaning) (profile : Profile) (functions : List Definition) : Type 0 where
+  pub more : List Action
+  pub stands : after profile (definitions_actions functions ++ more)
+
+-- The derivation from s stops so. Where the device failed, the builder was told the functions defined up to there.
+pub record StopsTelling (after : Meaning) (profile : Profile) (s : State) (stop : Stop) : Type 0 where
+  pub stops : Stops profile s stop
+  pub told : IfNone stop.fault (IsTold after profile (run stops.steps s).functions)
+
 -- where the tokens are told, the derivation from these items on stops so
-abbrev pub StopsReading : Meaning → List Item → Place → Stop → Type 0
-StopsReading before front here stop =
+abbrev pub StopsReading : (before after : Meaning) → List Item → Place → Stop → Type 0
+StopsReading before after front here stop =
     (located_tokens : List LocatedToken) → tokens_at here ≡ Some located_tokens
     → (profile : Profile) (functions : List Definition) →
     before profile (definitions_actions functions) →
-    Stops profile (state front located_tokens [] (scope_at here) functions) stop
+    StopsTelling after profile (state front located_tokens [] (scope_at here) functions) stop
 
 -- between the parts of a file
 abbrev pub at_source : List Item
@@ -115,7 +125,7 @@ abbrev pub ReadsParts : {A : Type 0} → Result A ParseFault → (allocates : Bo
     List Item → (old new : Standing) → Type 0
 ReadsParts (Ok x) allocates before after front old new = ReadsOn before after front at_source old.place new.place
 ReadsParts (Err fault) allocates before after front old new =
-    Refused (StopsReading before front old.place) allocates (taken_at new.place) fault
+    Refused (StopsReading before after front old.place) allocates (taken_at new.place) fault
 
 -- the same of a function's block, up to its closing brace
 abbrev pub ParsesBlock : {A : Type 0} → Result A ParseFault → (allocates : Bool) (before after : Meaning) →

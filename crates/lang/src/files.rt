@@ -9,7 +9,7 @@ ghost use Rattle.grammar.specs.Grammar.{Head, Part, is_word};
 ghost use Rattle.parsing.specs.Advancing.{Advances, IsReady, Keeps};
 ghost use Rattle.parsing.specs.Position.{scope_of, token_of};
 ghost use Rattle.parsing.specs.Segment.{Counts};
-ghost use Rattle.lang.specs.Files.{FailsBytes, IsFile, IsNew, Says, StopsTaking, TakesNoMore};
+ghost use Rattle.lang.specs.Files.{BuildsAhead, FailsBytes, IsFile, IsNew, Says, StopsTaking, TakesNoMore};
 ghost use Rattle.lang.specs.Progress.{IsComplete, Lacks, ReadsParts, at_source};
 
 use crate::functions::function;
@@ -28,7 +28,9 @@ use tokens::{Feed, Punctuator, Token, Word};
 ///
 /// # Errors
 /// `Source` with the first fault; `Device` where the device failed before that, or the end, was known; `Memory` where
-/// the builder was refused memory. Then the builder is given up.
+/// the builder was refused memory. With `Device` the builder stands for the actions of each function after whose closing
+/// brace three more tokens were read, and perhaps for further ones. Of a builder that refused an action nothing is
+/// promised: it is given up.
 pub fn parse<F: Feed, B: Build>(feed: &mut F, build: &mut B) -> Result<Pools, ParseFault>
     requires new { IsNew (B.stands build.old) }
     requires count { F.failures feed.old < 2 ^ 64 - 1 }
@@ -38,6 +40,8 @@ pub fn parse<F: Feed, B: Build>(feed: &mut F, build: &mut B) -> Result<Pools, Pa
         Says (FailsBytes (B.stands build.old) (F.to_come feed.old)) B.allocates fault) }
     ensures taken { OnOk result (TakesNoMore (B.stands build.old) (F.to_come feed.old) (F.to_come feed.new) 4096) }
     ensures stopped { IfErr result (StopsTaking (B.stands build.old) (F.to_come feed.old) (F.to_come feed.new)) }
+    ensures built { IfErr result (λ fault. ParseFault.Device ≡ fault →
+        BuildsAhead (B.stands build.old) (B.stands build.new) (F.to_come feed.old) (F.to_come feed.new)) }
     ensures counted { Counts result (F.failures feed.old) (F.failures feed.new) }
 {
     let cursor = first(feed)?;

@@ -5,6 +5,7 @@ ghost use Rattle.tokens.specs.declared.located_tokens.Punctuator.TheVariants as 
 ghost use Rattle.grammar.specs.Building.{StandsOpen};
 ghost use Rattle.grammar.specs.Grammar.{is_punctuator};
 ghost use Rattle.parsing.specs.Advancing.{Advances, IsReady};
+ghost use Rattle.parsing.specs.Growing.{Grows};
 ghost use Rattle.parsing.specs.Position.{next_at, taken_at, token_of};
 ghost use Rattle.parsing.specs.Room.{HasPlace, room};
 ghost use Rattle.parsing.specs.Segment.{Refused};
@@ -41,6 +42,7 @@ fn block<F: Feed, B: Build>(parser: &mut Parser<'_, F>, build: &mut B) -> Result
     requires open { HasPlace (B.stands build.old) (room 1 1) }
     requires ready { IsReady parser.old }
     ensures parses { ParsesBlock result B.allocates (B.stands build.old) (B.stands build.new) parser.old parser.new }
+    ensures grown { Grows result (B.stands build.old) (B.stands build.new) }
     ensures closed { OnOk result (is_punctuator punctuator.CloseCurly (token_of parser.new) ≡ true) }
     ensures kept { Advances result parser.old parser.new }
 {

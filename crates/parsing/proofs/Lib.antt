@@ -5,3 +5,4 @@ pub mod Names
 pub mod Parts
 pub mod ListLaws
 pub mod HeadingLaws
+pub mod Growing

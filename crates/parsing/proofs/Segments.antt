@@ -16,10 +16,10 @@ use Rattle.grammar.specs.Grammar.{Item, is_fault}
 use Rattle.grammar.specs.Parsing.{Fails, IsFault, Passes}
 use Rattle.grammar.specs.Profile.{Profile}
 use Rattle.grammar.specs.Scope.{Scope, no_names}
-use Rattle.grammar.proofs.Runs.{then, back, here, later}
+use Rattle.grammar.proofs.Runs.{then, back, here, later, run-add}
 use Rattle.grammar.proofs.Firsts.{at_fault, at_rest, run_keeps}
 use Rattle.parsing.specs.Position.{Position, Place, place, GoesOn, tokens_at, next_at, scope_at}
-use Rattle.parsing.specs.Stopping.{NoneBefore, Stop, Stops, slack, stop_with}
+use Rattle.parsing.specs.Stopping.{NoneBefore, Stop, Stops, StopsInside, slack, stop_with}
 use Rattle.parsing.specs.Segment.{Derives, FailsAt, FailsItem, GoesPast, HasLexicalError, IsNearTo, Refused, StopsAt, StopsOpening, Takes}
 
 -- The tokens at a place.
@@ -144,6 +144,8 @@ stops_here profile s stop fails taken = record {
   passed = [];
   rest = s.rest;
   is = refl;
+  steps = 0;
+  comes = refl;
   none_before = none_before profile s;
   fails = fails;
   taken = taken;
@@ -158,15 +160,44 @@ none_back profile s t rest p h = record {
   each = λ f from. h.each f (subst (λ (v : State). IsFault profile v f) p.leads (later profile p.steps s f p.clean from.steps from.here));
 }
 
+-- the state so many steps behind a segment
+pub run_behind : (profile : Profile) (s t : State) (n : ℕ) (p : Passes profile s t) → run (p.steps + n) s ≡ run n t
+run_behind profile s t n p = run-add p.steps n s ∙ ap (λ (v : State). run n v) p.leads
+
 -- where it stops goes back along a segment without faults
 pub stops_back : (profile : Profile) (s t : State) (stop : Stop) (consumed : List LocatedToken) → s.rest ≡ consumed ++ t.rest → Passes profile s t → Stops profile t stop → Stops profile s stop
 stops_back profile s t stop consumed is p h = record {
   passed = consumed ++ h.passed;
   rest = h.rest;
   is = is ∙ ap (λ (ls : List LocatedToken). consumed ++ ls) h.is ∙ sym (append_assoc consumed h.passed h.rest);
+  steps = p.steps + h.steps;
+  comes = ap (λ (v : State). v.rest) (run_behind profile s t h.steps p) ∙ h.comes;
   none_before = none_back profile s t h.rest p h.none_before;
   fails = fails_back profile s t stop.fault p h.fails;
   taken = h.taken;
+}
+
+-- The same before a further function is defined.
+
+pub functions_here : (profile : Profile) (s : State) (stop : Stop) (fails : IfSome stop.fault (Fails profile s)) (few : stop.taken ≤ reach_of s.rest + slack stop.fault) →
+    (run (stops_here profile s stop fails few).steps s).functions ≡ s.functions
+unfolding stops_here
+functions_here profile s stop fails few = refl
+
+pub inside_here : (profile : Profile) (s : State) (stop : Stop) → IfSome stop.fault (Fails profile s) → stop.taken ≤ reach_of s.rest + slack stop.fault → StopsInside profile s stop
+inside_here profile s stop fails few = record { stops = stops_here profile s stop fails few; functions = functions_here profile s stop fails few }
+
+-- the functions defined there are the same
+pub functions_back : (profile : Profile) (s t : State) (stop : Stop) (consumed : List LocatedToken) (is : s.rest ≡ consumed ++ t.rest) (p : Passes profile s t) (h : Stops profile t stop) →
+    (run (stops_back profile s t stop consumed is p h).steps s).functions ≡ (run h.steps t).functions
+unfolding stops_back
+functions_back profile s t stop consumed is p h = ap (λ (v : State). v.functions) (run_behind profile s t h.steps p)
+
+pub inside_back : (profile : Profile) (s t : State) (stop : Stop) (consumed : List LocatedToken) → s.rest ≡ consumed ++ t.rest → t.functions ≡ s.functions → Passes profile s t →
+    StopsInside profile t stop → StopsInside profile s stop
+inside_back profile s t stop consumed is same p h = record {
+  stops = stops_back profile s t stop consumed is p h.stops;
+  functions = functions_back profile s t stop consumed is p h.stops ∙ h.functions ∙ same;
 }
 
 -- the two tokens that a place holds end where those told end
@@ -193,7 +224,7 @@ fails_at_next depth front taken at d n near fails located_tokens is profile stac
     let bound : n ≤ reach_of located_tokens + 4096 = near_told at located_tokens n is near in
     let here : Fails profile (state (front ++ stack) located_tokens (taken ++ values) (scope_at at) functions) d =
     rw b.is (fails b.tail b.behind profile stack values functions depths) in
-    stops_here profile (state (front ++ stack) located_tokens (taken ++ values) (scope_at at) functions) (stop_with (Some d) n) here bound
+    inside_here profile (state (front ++ stack) located_tokens (taken ++ values) (scope_at at) functions) (stop_with (Some d) n) here bound
 
 -- the token behind the one that was passed is a fault, or the device failed
 pub stops : (reading : Reading) (known learnt : Scope) (more : Option (List ℕ)) (d : Stop) (depth : ℕ) (front pending : List Item) (taken left : List Value) →
@@ -205,8 +236,8 @@ stops reading known learnt more d depth front pending taken left leads stop loca
     let t : State = state (pending ++ stack) b.tail (left ++ values) learnt functions in
     let fails : IfSome d.fault (Fails profile t) = lexical_error_fails d.fault b.tail b.behind.others behind stop.lexical_error in
     let last : d.taken ≤ reach_of b.tail + slack d.fault = stop.taken reading.next b.tail (is ∙ ap Some b.is) in
-    rw b.is (stops_back profile (state (front ++ stack) (reading.next ∷ b.tail) (taken ++ values) known functions) t d (reading.next ∷ []) refl
-    ((leads b.tail b.behind).passes profile stack values functions depths) (stops_here profile t d fails last))
+    rw b.is (inside_back profile (state (front ++ stack) (reading.next ∷ b.tail) (taken ++ values) known functions) t d (reading.next ∷ []) refl refl
+    ((leads b.tail b.behind).passes profile stack values functions depths) (inside_here profile t d fails last))
   where
     lexical_error_fails : (o : Option Diagnostic) (tail others : List LocatedToken) → tail ≡ reading.after ∷ others → IfSome o (HasLexicalError (place (record { reading = reading; scope = learnt }) more)) →
         IfSome o (Fails profile (state (pending ++ stack) tail (left ++ values) learnt functions))
@@ -250,7 +281,7 @@ pub fails_then : (depth : ℕ) (front mid : List Item) (taken between : List Val
 fails_then depth front mid taken between at now d a fails located_tokens is profile stack values functions depths =
     let t : Takes a.consumed located_tokens now = a.told located_tokens is in
     rw t.is
-    (stops_back profile _ _ d a.consumed refl (a.passes t.rest (told_goes now t.rest t.shows) profile stack values functions depths)
+    (inside_back profile _ _ d a.consumed refl refl (a.passes t.rest (told_goes now t.rest t.shows) profile stack values functions depths)
     (fails t.rest t.shows profile stack values functions depths))
 
 -- the same fault, over more items and trees

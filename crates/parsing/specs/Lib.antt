@@ -4,6 +4,7 @@ pub mod Roles
 pub mod Stopping
 pub mod Segment
 pub mod Room
+pub mod Growing
 pub mod Advancing
 pub mod Matching
 pub mod Declarations

@@ -18,7 +18,7 @@ use Rattle.grammar.specs.Parsing.{Passes}
 use Rattle.grammar.specs.Profile.{Profile}
 use Rattle.parsing.specs.Defining.{IsWithin}
 use Rattle.parsing.specs.Position.{Place, Position, GoesOn, tokens_at, next_at, scope_at}
-use Rattle.parsing.specs.Stopping.{Stop, Stops, slack, stop_with}
+use Rattle.parsing.specs.Stopping.{Stop, StopsInside, slack, stop_with}
 
 -- the tokens told at a place are those that a segment took, and then those told behind it
 pub record Takes (consumed located_tokens : List LocatedToken) (there : Place) : Type 0 where
@@ -39,12 +39,13 @@ pub record Derives (depth : ℕ) (front pending : List Item) (taken left : List 
       Passes profile (state (front ++ stack) (consumed ++ rest) (taken ++ values) (scope_at here) functions)
       (state (pending ++ stack) rest (left ++ values) (scope_at there) functions)
 
--- where the tokens are told, the derivation from these items on stops so, with so many levels open
+-- where the tokens are told, the derivation from these items on stops so, with so many levels open, and before a
+-- further function is defined
 abbrev pub FailsAt : ℕ → List Item → List Value → Place → Stop → Type 0
 FailsAt depth front taken here stop =
     (located_tokens : List LocatedToken) → tokens_at here ≡ Some located_tokens →
     (profile : Profile) (stack : List Item) (values : List Value) (functions : List Definition) → levels stack ≡ depth →
-    Stops profile (state (front ++ stack) located_tokens (taken ++ values) (scope_at here) functions) stop
+    StopsInside profile (state (front ++ stack) located_tokens (taken ++ values) (scope_at here) functions) stop
 
 -- one item was matched or replaced, however many levels are open
 abbrev pub DerivesItem : Item → List Item → List Value → Place → Place → Type 0

@@ -9,3 +9,6 @@ pub mod Mains
 pub mod Places
 pub mod Bracketed
 pub mod KnownSpellings
+pub mod Distinct
+pub mod Numbering
+pub mod Numbered

@@ -3,3 +3,5 @@ pub mod Spelling
 pub mod Resolving
 pub mod Laws
 pub mod KnownSpellings
+pub mod Numbering
+pub mod Numbered

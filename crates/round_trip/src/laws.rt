@@ -1,7 +1,8 @@
-//! The round-trip law.
+//! The round-trip law, and the law on the numbers of names.
 
 ghost use Rattle.round_trip.specs.KnownSpellings.{KnownSpellings};
 ghost use Rattle.round_trip.specs.Laws.{GivesBackExpressions, GivesBackStatements};
+ghost use Rattle.round_trip.specs.Numbered.{CallsAreNumbered, DefinitionsAreNumbered, FilesAreNumbered, MentionsAreNumbered};
 
 use grammar::laws::derivations;
 
@@ -15,3 +16,13 @@ pub fn bracketed()
 {
     derivations();
 }
+
+/// The variables and functions of a derivation have the numbers of the rules on names: the number of a name is its place
+/// among the distinct names that were said up to its token. A mention means a variable of the function, or else an
+/// external.
+pub fn numbered()
+    ensures mentions { MentionsAreNumbered }
+    ensures calls { CallsAreNumbered }
+    ensures definitions { DefinitionsAreNumbered }
+    ensures files { FilesAreNumbered }
+{}

@@ -6,6 +6,7 @@ ghost use Rattle.tokens.specs.declared.located_tokens.Word.TheVariants as word;
 ghost use Rattle.grammar.specs.Following.{InBranch};
 ghost use Rattle.grammar.specs.Grammar.{Back, Statement, Statements, is_punctuator, is_word};
 ghost use Rattle.parsing.specs.Advancing.{Advances, IsReady, Keeps};
+ghost use Rattle.parsing.specs.Growing.{Grows};
 ghost use Rattle.parsing.specs.Position.{token_of};
 ghost use Rattle.parsing.specs.Room.{HasPlace, HasRoom, room};
 ghost use Rattle.expressions.specs.Expressions.{Parses};
@@ -29,6 +30,7 @@ pub fn statements<F: Feed, B: Build>(
     requires ready { IsReady parser.old }
     ensures parses { ParsesBody result B.allocates (B.stands build.old) (B.stands build.new) depth Statements
         parser.old parser.new }
+    ensures grown { Grows result (B.stands build.old) (B.stands build.new) }
     ensures closed { OnOk result (is_punctuator punctuator.CloseCurly (token_of parser.new) ≡ true) }
     ensures kept { Keeps result parser.old parser.new }
 {
@@ -49,6 +51,7 @@ fn statement<F: Feed, B: Build>(
     requires ready { IsReady parser.old }
     ensures parses { ParsesBody result B.allocates (B.stands build.old) (B.stands build.new) depth Statement
         parser.old parser.new }
+    ensures grown { Grows result (B.stands build.old) (B.stands build.new) }
     ensures kept { Advances result parser.old parser.new }
 {
     match parser.next().token {
@@ -74,6 +77,7 @@ fn block<F: Feed, B: Build>(
     requires ready { IsReady parser.old }
     ensures parses { ParsesBody result B.allocates (B.stands build.old) (B.stands build.new) depth Statement
         parser.old parser.new }
+    ensures grown { Grows result (B.stands build.old) (B.stands build.new) }
     ensures kept { Advances result parser.old parser.new }
 {
     if depth >= MOST_LEVELS {
@@ -98,6 +102,7 @@ fn branch<F: Feed, B: Build>(
     requires ready { IsReady parser.old }
     ensures parses { ParsesBody result B.allocates (B.stands build.old) (B.stands build.new) depth Statement
         parser.old parser.new }
+    ensures grown { Grows result (B.stands build.old) (B.stands build.new) }
     ensures kept { Advances result parser.old parser.new }
 {
     if depth >= MOST_LEVELS {
@@ -123,6 +128,7 @@ fn else_part<F: Feed, B: Build>(
     requires ready { IsReady parser.old }
     ensures parses { ParsesElse result B.allocates (B.stands build.old) (B.stands build.new) depth
         parser.old parser.new }
+    ensures grown { Grows result (B.stands build.old) (B.stands build.new) }
     ensures kept { Keeps result parser.old parser.new }
 {
     if is_word(&parser.next().token, Word::Else) {
@@ -145,6 +151,7 @@ fn repetition<F: Feed, B: Build>(
     requires ready { IsReady parser.old }
     ensures parses { ParsesBody result B.allocates (B.stands build.old) (B.stands build.new) depth Statement
         parser.old parser.new }
+    ensures grown { Grows result (B.stands build.old) (B.stands build.new) }
     ensures kept { Advances result parser.old parser.new }
 {
     if depth >= MOST_LEVELS {
@@ -169,6 +176,7 @@ fn condition<F: Feed, B: Build>(
     requires ready { IsReady parser.old }
     ensures parses { ParsesCondition result B.allocates (B.stands build.old) (B.stands build.new) depth
         parser.old parser.new }
+    ensures grown { Grows result (B.stands build.old) (B.stands build.new) }
     ensures kept { Advances result parser.old parser.new }
 {
     parser.expect(Punctuator::OpenRound)?;
@@ -188,6 +196,7 @@ fn give_back<F: Feed, B: Build>(
     requires ready { IsReady parser.old }
     ensures parses { ParsesBody result B.allocates (B.stands build.old) (B.stands build.new) depth Statement
         parser.old parser.new }
+    ensures grown { Grows result (B.stands build.old) (B.stands build.new) }
     ensures kept { Advances result parser.old parser.new }
 {
     parser.advance()?;
@@ -207,6 +216,7 @@ fn back<F: Feed, B: Build>(
     requires ready { IsReady parser.old }
     ensures parses { Parses result B.allocates (B.stands build.old) (B.stands build.new) depth 1 Back
         parser.old parser.new }
+    ensures grown { Grows result (B.stands build.old) (B.stands build.new) }
     ensures kept { Keeps result parser.old parser.new }
 {
     if is_punctuator(&parser.next().token, Punctuator::Semicolon) {
@@ -228,6 +238,7 @@ fn evaluation<F: Feed, B: Build>(
     requires ready { IsReady parser.old }
     ensures parses { ParsesBody result B.allocates (B.stands build.old) (B.stands build.new) depth Statement
         parser.old parser.new }
+    ensures grown { Grows result (B.stands build.old) (B.stands build.new) }
     ensures kept { Advances result parser.old parser.new }
 {
     expression(parser, build, depth)?;

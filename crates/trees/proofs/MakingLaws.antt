@@ -15,6 +15,7 @@ use Rattle.grammar.specs.Following.{InFunction, AValue, BeforeRight, Opened, Ori
 use Rattle.grammar.specs.Operators.{is_logic}
 use Rattle.grammar.specs.Tree.{Args, Body, Done}
 use Rattle.grammar.specs.Tree as tree
+use Rattle.grammar.proofs.FollowingLaws.{same_op_is}
 use Rattle.trees.specs.Opened.{Continues, Ends, IsAllowed, origin_of, ends_in_return, place_of, opened, open_actions, heading_actions}
 use Rattle.trees.specs.Stacks.{AddsTo, above_call, below, below_call, ends_in_value, past_middle, without_last}
 use Rattle.trees.specs.Trees.{arguments, expr_tree, statement_actions, body_tree}
@@ -109,27 +110,6 @@ while_continues b c xs ys is a =
     (rw (is, tree-While c b.statements) (simp append_assoc refl))
 
 -- The sides of an operator.
-
-same_op_is : (o p : Op) → same_op o p ≡ true → o ≡ p
-same_op_is op.Or op.Or h = refl
-same_op_is op.And op.And h = refl
-same_op_is op.BitOr op.BitOr h = refl
-same_op_is op.BitXor op.BitXor h = refl
-same_op_is op.BitAnd op.BitAnd h = refl
-same_op_is op.Equal op.Equal h = refl
-same_op_is op.NotEqual op.NotEqual h = refl
-same_op_is op.Less op.Less h = refl
-same_op_is op.Greater op.Greater h = refl
-same_op_is op.LessOrEqual op.LessOrEqual h = refl
-same_op_is op.GreaterOrEqual op.GreaterOrEqual h = refl
-same_op_is op.ShiftLeft op.ShiftLeft h = refl
-same_op_is op.ShiftRight op.ShiftRight h = refl
-same_op_is op.Add op.Add h = refl
-same_op_is op.Subtract op.Subtract h = refl
-same_op_is op.Multiply op.Multiply h = refl
-same_op_is op.Divide op.Divide h = refl
-same_op_is op.Remainder op.Remainder h = refl
-same_op_is o p h = absurd (cc)
 
 only_true : (b : Bool) (o : Opened) → IsTrue (is_some (only_on b o)) → b ≡ true
 only_true true o h = refl

@@ -8,12 +8,13 @@ use Rattle.grammar.specs.declared.names.Var.{Var}
 use Rattle.grammar.specs.declared.operators.Op.{Op}
 use Rattle.grammar.specs.declared.operators.StoreOp.{StoreOp}
 use Rattle.grammar.specs.Actions.{Action, PushConstant, StoreVariable, ApplyBinop, BeginCall, EndCall, IfTest, ElsePart, EndIf, BeginWhile, WhileTest, EndWhile, GiveBack, Begin, Finish, last_return, args_actions, body_actions, expr_actions, function_actions, middle, code_length}
-use Rattle.grammar.specs.Building.{Meaning, MayFollow, StandsOpen, AppendsAll, Appends, IsOver}
+use Rattle.grammar.specs.Building.{Meaning, MayFollow, MayFollowAll, StandsOpen, AppendsAll, Appends, IsOver}
 use Rattle.grammar.specs.Following.{Opened, few_open, follow, follow_all, then_follow, IsBeginning}
 use Rattle.grammar.specs.Profile.{Profile}
 use Rattle.grammar.specs.Tree.{Done}
+use Rattle.grammar.proofs.Lengths.{code_length-append}
 use Rattle.trees.specs.Opened.{opened, open_actions}
-use Rattle.trees.specs.Replaying.{AppendsThose, MayFollowAll, StandsForNone, IsOverWith, IsOverWithThose}
+use Rattle.trees.specs.Replaying.{AppendsThose, StandsForNone, IsOverWith, IsOverWithThose}
 use Rattle.trees.specs.Standing.{Kept, Fits, Builds, Passed, Stands}
 use Rattle.trees.specs.Trees.{arguments, body_tree, expr_tree, function_tree, made_actions, statement_actions}
 use Rattle.trees.specs.declared.stack.Open as entry
@@ -22,7 +23,7 @@ use Rattle.trees.specs.declared.tree.Expr.TheVariants as expr
 use Rattle.trees.specs.declared.tree.Function.{Function}
 use Rattle.trees.specs.declared.tree.Statement.{Statement}
 use Rattle.trees.specs.declared.tree.Statement.TheVariants as statement
-use Rattle.trees.proofs.StandingLaws.{follow_inside, code_length-append}
+use Rattle.trees.proofs.StandingLaws.{follow_inside}
 use Rattle.trees.proofs.TreeLaws.{Tells, tells_arguments, tells_functions, tells_last, tells_split, tells_statements, tree-Binary, tree-Assign, tree-Call, tree-IfStatement, tree-IfElseStatement, tree-While}
 
 -- what begins actions that may follow may follow

@@ -10,6 +10,7 @@ use Rattle.grammar.specs.Following.{Open, InFunction, AValue, BeforeRight, InCal
 use Rattle.grammar.specs.Operators.{is_logic}
 use Rattle.grammar.specs.Profile.{Profile, first_profile, second_profile, IsProfile}
 use Rattle.grammar.proofs.FollowingLaws.{follow_append}
+use Rattle.grammar.proofs.Lengths.{code_length-last}
 use Rattle.trees.specs.Opened.{Continues, Ends, IsAllowed, opened, open_actions}
 use Rattle.trees.specs.Standing.{Kept, Fits, in_function, Builds, Passed, Stands}
 use Rattle.trees.specs.Trees.{made_actions}
@@ -28,13 +29,6 @@ pub some : (p : Profile) → IsProfile p → 0 < p.instructions
 unfolding first_profile second_profile
 some p (inl e) = let same = ap (λ (p : Profile). p.instructions) e in omega (arith, same)
 some p (inr e) = let same = ap (λ (p : Profile). p.instructions) e in omega (arith, same)
-
-pub code_length-append : (p : Profile) (xs ys : List Action) → code_length p (xs ++ ys) ≡ code_length p xs + code_length p ys
-code_length-append p [] ys = omega arith
-code_length-append p (x ∷ xs) ys = omega (arith, code_length-append p xs ys)
-
-length-last : (p : Profile) (acts : List Action) (a : Action) → code_length p (acts ++ a ∷ []) ≡ code_length p acts + instructions p a
-length-last p acts a = omega (arith, code_length-append p acts (a ∷ []))
 
 -- Actions one behind another.
 
@@ -196,7 +190,7 @@ goes_on m n a by same k counted fits may p acts s =
       builds = λ _. record {
         actions = ap (λ xs. xs ++ a ∷ []) b.actions ∙ append_assoc (made_actions m.functions) (open_actions m.stack) (a ∷ []) ∙ ap (λ xs. made_actions m.functions ++ xs) k.adds ∙ ap (λ fs. made_actions fs ++ open_actions n.stack) (sym same);
         opens = follow_append acts (a ∷ []) [] (opened m.stack) b.opens ∙ one_next a (opened m.stack) (opened n.stack) k.follows few;
-        counted = ap (λ (p : Profile). code_length p (acts ++ a ∷ [])) by ∙ omega (arith, few_code, length-last m.profile acts a, b.counted, counted, fits);
+        counted = ap (λ (p : Profile). code_length p (acts ++ a ∷ [])) by ∙ omega (arith, few_code, code_length-last m.profile acts a, b.counted, counted, fits);
       };
       passed = λ over. absurd (omega (arith, limit, over, fits));
     }
@@ -217,14 +211,14 @@ passed_by m n a acts p counted over ends may s = by_code (nat_lt m.code m.profil
         let next : Next a (opened m.stack) = next_of m a before may in
         let opens : follow_all (acts ++ a ∷ []) [] ≡ Some next.behind = follow_append acts (a ∷ []) [] (opened m.stack) b.opens ∙ one_next a (opened m.stack) next.behind next.is next.few in
         record {
-          over = omega (arith, length-last m.profile acts a, b.counted, counted, over);
+          over = omega (arith, code_length-last m.profile acts a, b.counted, counted, over);
           inside = follow_inside (acts ++ a ∷ []) [] next.behind opens ∙ stays_open a (opened m.stack) next.behind ends next.is;
         }
     by_code false h =
         let past : m.profile.instructions ≤ m.code = grind (arith, nat_tests, h) in
         let q : Passed m.profile acts = s.passed (omega (arith, past)) in
         record {
-          over = omega (arith, q.over, length-last m.profile acts a);
+          over = omega (arith, q.over, code_length-last m.profile acts a);
           inside = inside_append false acts (a ∷ []) ∙ ap (λ b. in_function b (a ∷ [])) q.inside ∙ ends;
         }
 
@@ -257,7 +251,7 @@ ends m n v f by k same counted fits may p acts s =
       builds = λ _. record {
         actions = rw (same, k.nothing, functions_add m.functions f, k.actions, b.actions) (simp append_assoc refl);
         opens = follow_append acts (Finish v ∷ []) [] (opened m.stack) b.opens ∙ one_next (Finish v) (opened m.stack) next.behind next.is next.few ∙ ap Some nothing;
-        counted = ap (λ (p : Profile). code_length p (acts ++ Finish v ∷ [])) by ∙ omega (arith, few_code, length-last m.profile acts (Finish v), b.counted, counted, fits);
+        counted = ap (λ (p : Profile). code_length p (acts ++ Finish v ∷ [])) by ∙ omega (arith, few_code, code_length-last m.profile acts (Finish v), b.counted, counted, fits);
       };
       passed = λ over. absurd (omega (arith, limit, over, fits));
     }

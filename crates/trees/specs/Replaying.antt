@@ -2,16 +2,8 @@
 use Rattle.std.specs.Prelude.{◌+◌, ◌<◌, List, [], ◌++◌}
 use Rattle.grammar.specs.Actions.{Action, code_length}
 use Rattle.grammar.specs.Building.{Meaning, AppendsAll}
-use Rattle.grammar.specs.Following.{IsBeginning}
 use Rattle.grammar.specs.Profile.{Profile}
 use Rattle.trees.specs.Standing.{Kept, Stands}
-
--- a list is stood for behind which these actions may follow, one behind another
-pub record MayFollowAll (before : Meaning) (more : List Action) : Type 0 where
-  pub profile : Profile
-  pub acts : List Action
-  pub stood : before profile acts
-  pub begins : IsBeginning (acts ++ more)
 
 -- the empty list is stood for
 pub record StandsForNone (before : Meaning) : Type 0 where

@@ -2,8 +2,8 @@
 
 ghost use Rattle.std.specs.Prelude.{ℤ, pos, [], ◌∷◌, ◌++◌, IsErrOf, IsTrue, OnOk, map};
 ghost use Rattle.grammar.specs.Actions.{BeginWhile, Chop, FetchVariable, GiveBack, IfTest, PushConstant, StoreVariable, WhileTest, args_actions, body_actions, expr_actions, function_actions, last_return, middle};
-ghost use Rattle.grammar.specs.Building.{AppendsAll, Refuses, StandsOpen};
-ghost use Rattle.trees.specs.Replaying.{AppendsThose, IsOverWith, IsOverWithThose, MayFollowAll, StandsForNone};
+ghost use Rattle.grammar.specs.Building.{AppendsAll, MayFollowAll, Refuses, StandsOpen};
+ghost use Rattle.trees.specs.Replaying.{AppendsThose, IsOverWith, IsOverWithThose, StandsForNone};
 ghost use Rattle.trees.specs.Standing.{Stands};
 ghost use Rattle.trees.specs.Trees.{arguments, body_tree, expr_tree, function_tree, statement_actions};
 

@@ -8,6 +8,7 @@ use Rattle.grammar.specs.Grammar.{is_fault, is_punctuator}
 use Rattle.grammar.specs.Operators.{operator_from, operator_of}
 use Rattle.parsing.specs.Room.{HasLeft, HasRoom, room}
 use Rattle.parsing.proofs.Advances.{kept_then, on, on_then}
+use Rattle.parsing.proofs.Growing.{grown, grown_behind, grown_nothing}
 use Rattle.expressions.proofs.AssignmentLaws.{IsAssignment, assignment_adds, plain_adds, plain_refused, sign_goes_on, sign_refused, store_follows, store_too_deep, target_refused, value_refused}
 use Rattle.expressions.proofs.CallLaws.{IsCall, argument_adds, argument_refused, arguments_end, arguments_refused, arguments_room, begin_follows, call_adds, call_close_refused, call_open_refused, call_too_deep, callee_refused, comma_refused, end_follows, first_adds, first_refused, next_argument_room, no_arguments}
 use Rattle.expressions.proofs.NestedLaws.{NoOperator, NoPrimary, bracket_adds, bracket_too_deep, close_refused, inside_refused, open_ends, primary_adds, primary_misfits, primary_refused}
@@ -317,6 +318,7 @@ primary-returns-in_default-2 g t c =
     } in
     record {
       parses = rw c.misfit.ensures (primary_misfits c.args.parser.now.place _ c.requires.ready.near c.args.depth c.requires.ready.sound none);
+      grown = λ device. grown_nothing _;
       kept = rw c.misfit.ensures (record { device = refl; failures = refl; took = record { rest = λ total h. h } });
     }
 
@@ -359,3 +361,110 @@ pub call-returns-clause-kept : goal.call-returns-clause-kept
 call-returns-clause-kept g t c =
     on_then _ _ _ c.in_ok-callee.ensures.kept
     (kept_then _ _ _ (kept_then _ _ _ (on _ _ c.in_ok-expect.ensures.kept) c.in_ok-arguments.ensures.kept) (on _ _ c.in_ok-expect-2.ensures.kept))
+
+-- What the builder was told where the device failed.
+
+pub bracketed-returns-in_err-advance-clause-grown : goal.bracketed-returns-in_err-advance-clause-grown
+bracketed-returns-in_err-advance-clause-grown g t c =
+    let p = err_from_is_err_and c.from_residual.result c.from_residual.ensures.1 in
+    rw (p.1, p.2) (λ device. grown_nothing _)
+
+pub bracketed-returns-in_err-expression-clause-grown : goal.bracketed-returns-in_err-expression-clause-grown
+bracketed-returns-in_err-expression-clause-grown g t c =
+    let p = err_from_is_err_and c.from_residual-in_err-expression.result c.from_residual-in_err-expression.ensures.1 in
+    rw (p.1, p.2) (c.in_err-expression.ensures.grown)
+
+pub bracketed-returns-in_err-expect-clause-grown : goal.bracketed-returns-in_err-expect-clause-grown
+bracketed-returns-in_err-expect-clause-grown g t c =
+    let p = err_from_is_err_and c.from_residual-in_err-expect.result c.from_residual-in_err-expect.ensures.1 in
+    rw (p.1, p.2) (λ device. grown _ _ _ c.in_ok-expression.ensures.parses.added)
+
+pub signed-returns-in_err-advance-clause-grown : goal.signed-returns-in_err-advance-clause-grown
+signed-returns-in_err-advance-clause-grown g t c =
+    let p = err_from_is_err_and c.from_residual.result c.from_residual.ensures.1 in
+    rw (p.1, p.2) (λ device. grown_nothing _)
+
+pub signed-returns-in_err-unary-clause-grown : goal.signed-returns-in_err-unary-clause-grown
+signed-returns-in_err-unary-clause-grown g t c =
+    let p = err_from_is_err_and c.from_residual-in_err-unary.result c.from_residual-in_err-unary.ensures.1 in
+    rw (p.1, p.2) (λ device. grown_behind _ _ _ _ c.in_ok-begin.ensures.told (c.in_err-unary.ensures.grown device))
+
+pub levels-returns-in_err-unary-clause-grown : goal.levels-returns-in_err-unary-clause-grown
+levels-returns-in_err-unary-clause-grown g t c =
+    let p = err_from_is_err_and c.from_residual.result c.from_residual.ensures.1 in
+    rw (p.1, p.2) (c.in_err-unary.ensures.grown)
+
+pub levels-returns-in_err-operand-clause-grown : goal.levels-returns-in_err-operand-clause-grown
+levels-returns-in_err-operand-clause-grown g t c =
+    let p = err_from_is_err_and c.from_residual-in_err-operand.result c.from_residual-in_err-operand.ensures.1 in
+    rw (p.1, p.2) (λ device. grown_behind _ _ _ _ c.loop-binary.invariant.climbs.adds.added (c.in_err-operand.ensures.grown device))
+
+pub operand-returns-in_err-advance-clause-grown : goal.operand-returns-in_err-advance-clause-grown
+operand-returns-in_err-advance-clause-grown g t c =
+    let p = err_from_is_err_and c.from_residual.result c.from_residual.ensures.1 in
+    rw (p.1, p.2) (λ device. grown_nothing _)
+
+pub operand-returns-in_err-levels-clause-grown : goal.operand-returns-in_err-levels-clause-grown
+operand-returns-in_err-levels-clause-grown g t c =
+    let p = err_from_is_err_and c.from_residual-in_err-levels.result c.from_residual-in_err-levels.ensures.1 in
+    rw (p.1, p.2) (λ device. grown_behind _ _ _ _ c.in_ok-tell_middle.ensures.told (c.in_err-levels.ensures.grown device))
+
+pub call-returns-in_err-callee-clause-grown : goal.call-returns-in_err-callee-clause-grown
+call-returns-in_err-callee-clause-grown g t c =
+    let p = err_from_is_err_and c.from_residual.result c.from_residual.ensures.1 in
+    rw (p.1, p.2) (λ device. grown_nothing _)
+
+pub call-returns-in_err-expect-clause-grown : goal.call-returns-in_err-expect-clause-grown
+call-returns-in_err-expect-clause-grown g t c =
+    let p = err_from_is_err_and c.from_residual-in_err-expect.result c.from_residual-in_err-expect.ensures.1 in
+    rw (p.1, p.2) (λ device. grown _ _ _ c.in_ok-begin_call.ensures.ok)
+
+pub call-returns-in_err-arguments-clause-grown : goal.call-returns-in_err-arguments-clause-grown
+call-returns-in_err-arguments-clause-grown g t c =
+    let p = err_from_is_err_and c.from_residual-in_err-arguments.result c.from_residual-in_err-arguments.ensures.1 in
+    rw (p.1, p.2) (λ device. grown_behind _ _ _ _ c.in_ok-begin_call.ensures.ok (c.in_err-arguments.ensures.grown device))
+
+pub call-returns-in_err-expect-2-clause-grown : goal.call-returns-in_err-expect-2-clause-grown
+call-returns-in_err-expect-2-clause-grown g t c =
+    let p = err_from_is_err_and c.from_residual-in_err-expect-2.result c.from_residual-in_err-expect-2.ensures.1 in
+    rw (p.1, p.2) (λ device. grown_behind _ _ _ _ c.in_ok-begin_call.ensures.ok (grown _ _ _ c.in_ok-arguments.ensures.parses.added))
+
+pub arguments-returns-in_err-expression-clause-grown : goal.arguments-returns-in_err-expression-clause-grown
+arguments-returns-in_err-expression-clause-grown g t c =
+    let p = err_from_is_err_and c.from_residual.result c.from_residual.ensures.1 in
+    rw (p.1, p.2) (c.in_err-expression.ensures.grown)
+
+pub arguments-returns-in_err-expect-clause-grown : goal.arguments-returns-in_err-expect-clause-grown
+arguments-returns-in_err-expect-clause-grown g t c =
+    let p = err_from_is_err_and c.from_residual-in_err-expect.result c.from_residual-in_err-expect.ensures.1 in
+    rw (p.1, p.2) (λ device. grown _ _ _ c.loop-parser.invariant.parsed.added)
+
+pub arguments-returns-in_err-expression-2-clause-grown : goal.arguments-returns-in_err-expression-2-clause-grown
+arguments-returns-in_err-expression-2-clause-grown g t c =
+    let p = err_from_is_err_and c.from_residual-in_err-expression-2.result c.from_residual-in_err-expression-2.ensures.1 in
+    rw (p.1, p.2) (λ device. grown_behind _ _ _ _ c.loop-parser.invariant.parsed.added (c.in_err-expression-2.ensures.grown device))
+
+pub assignment-returns-in_err-var-clause-grown : goal.assignment-returns-in_err-var-clause-grown
+assignment-returns-in_err-var-clause-grown g t c =
+    let p = err_from_is_err_and c.from_residual.result c.from_residual.ensures.1 in
+    rw (p.1, p.2) (λ device. grown_nothing _)
+
+pub assignment-returns-in_err-advance-clause-grown : goal.assignment-returns-in_err-advance-clause-grown
+assignment-returns-in_err-advance-clause-grown g t c =
+    let p = err_from_is_err_and c.from_residual-in_err-advance.result c.from_residual-in_err-advance.ensures.1 in
+    rw (p.1, p.2) (λ device. grown_nothing _)
+
+pub assignment-returns-in_err-expression-clause-grown : goal.assignment-returns-in_err-expression-clause-grown
+assignment-returns-in_err-expression-clause-grown g t c =
+    let p = err_from_is_err_and c.from_residual-in_err-expression.result c.from_residual-in_err-expression.ensures.1 in
+    rw (p.1, p.2) (c.in_err-expression.ensures.grown)
+
+pub expression-returns-in_err-levels-clause-grown : goal.expression-returns-in_err-levels-clause-grown
+expression-returns-in_err-levels-clause-grown g t c =
+    let p = err_from_is_err_and c.from_residual-in_err-levels.result c.from_residual-in_err-levels.ensures.1 in
+    rw (p.1, p.2) (c.in_err-levels.ensures.grown)
+
+pub unary-returns-in_err-primary-clause-grown : goal.unary-returns-in_err-primary-clause-grown
+unary-returns-in_err-primary-clause-grown g t c =
+    let p = err_from_is_err_and c.from_residual-in_err-primary.result c.from_residual-in_err-primary.ensures.1 in
+    rw (p.1, p.2) (c.in_err-primary.ensures.grown)

@@ -2,6 +2,7 @@ use Rattle.std.proofs.Common.{[], ◌∷◌, ◌++◌, subst, ℤ, arith, to_z, 
 use Rattle.std.proofs.lemmas.Int.{to_z_pos}
 use Rattle.std.proofs.lemmas.Result.{err_from_is_err_and}
 use Rattle.grammar.specs.Actions.{PushConstant}
+use Rattle.parsing.proofs.Growing.{grown}
 use Rattle.expressions.proofs.VariableLaws.{constant_adds, constant_ends, constant_follows}
 use Rattle.expressions.proofs.variables.constant.Goals as goal
 
@@ -16,3 +17,10 @@ returns-in_err-advance-clause-parses g c =
 pub returns-clause-parses : goal.returns-clause-parses
 returns-clause-parses g c = constant_adds _ _ c.args.parser.now.place _ c.args.value c.requires.is c.in_ok-advance.ensures.consumes
     (λ profile acts start. subst (λ (v : ℤ). g.B.Build.stands c.constant.new.self profile (acts ++ PushConstant v ∷ [])) (to_z_pos w32 c.args.value (omega arith)) (c.in_ok-constant.ensures.ok profile acts start))
+
+-- What the builder was told where the device failed.
+
+pub returns-in_err-advance-clause-grown : goal.returns-in_err-advance-clause-grown
+returns-in_err-advance-clause-grown g c =
+    let p = err_from_is_err_and c.from_residual-in_err-advance.result c.from_residual-in_err-advance.ensures.1 in
+    rw (p.1, p.2) (λ device. grown _ _ _ c.in_ok-constant.ensures.ok)

@@ -3,6 +3,7 @@ use Rattle.std.proofs.lemmas.Result.{err_from_is_err_and}
 use Rattle.grammar.specs.Actions.{PushConstant, StoreVariable}
 use Rattle.grammar.specs.Tree.{Assign, Constant}
 use Rattle.parsing.proofs.Advances.{on, on_then}
+use Rattle.parsing.proofs.Growing.{grown_nothing}
 use Rattle.expressions.specs.Signs.{step_store}
 use Rattle.expressions.proofs.TellingLaws.{next_follows}
 use Rattle.expressions.proofs.VariableLaws.{before_adds, before_punctuator_ends, before_name_ends, constant_follows, tree_follows}
@@ -35,3 +36,15 @@ returns-clause-parses g c =
 
 pub returns-clause-kept : goal.returns-clause-kept
 returns-clause-kept g c = on_then _ _ _ c.in_ok-advance.ensures.kept (on _ _ c.in_ok-var.ensures.kept)
+
+-- What the builder was told where the device failed.
+
+pub returns-in_err-advance-clause-grown : goal.returns-in_err-advance-clause-grown
+returns-in_err-advance-clause-grown g c =
+    let p = err_from_is_err_and c.from_residual.result c.from_residual.ensures.1 in
+    rw (p.1, p.2) (λ device. grown_nothing _)
+
+pub returns-in_err-var-clause-grown : goal.returns-in_err-var-clause-grown
+returns-in_err-var-clause-grown g c =
+    let p = err_from_is_err_and c.from_residual-in_err-var.result c.from_residual-in_err-var.ensures.1 in
+    rw (p.1, p.2) (λ device. grown_nothing _)

@@ -3,6 +3,7 @@ use Rattle.std.proofs.lemmas.Result.{err_from_is_err_and}
 use Rattle.grammar.specs.Actions.{Chop, FetchVariable, PushConstant, StoreVariable}
 use Rattle.grammar.specs.Tree.{Postfix}
 use Rattle.parsing.proofs.Advances.{on, on_then}
+use Rattle.parsing.proofs.Growing.{grown, grown_behind, grown_nothing}
 use Rattle.expressions.specs.Signs.{step_store}
 use Rattle.expressions.proofs.TellingLaws.{appends_then, first_follows, next_follows}
 use Rattle.expressions.proofs.VariableLaws.{behind_adds, behind_punctuator_ends, behind_name_ends, is_named, tree_follows}
@@ -54,3 +55,15 @@ returns-clause-parses g c =
 
 pub returns-clause-kept : goal.returns-clause-kept
 returns-clause-kept g c = on_then _ _ _ c.in_ok-var.ensures.kept (on _ _ c.in_ok-expect.ensures.kept)
+
+-- What the builder was told where the device failed.
+
+pub returns-in_err-var-clause-grown : goal.returns-in_err-var-clause-grown
+returns-in_err-var-clause-grown g c =
+    let p = err_from_is_err_and c.from_residual.result c.from_residual.ensures.1 in
+    rw (p.1, p.2) (λ device. grown_nothing _)
+
+pub returns-in_err-expect-clause-grown : goal.returns-in_err-expect-clause-grown
+returns-in_err-expect-clause-grown g c =
+    let p = err_from_is_err_and c.from_residual-in_err-expect.result c.from_residual-in_err-expect.ensures.1 in
+    rw (p.1, p.2) (λ device. grown_behind _ _ _ _ c.in_ok-fetch.ensures.ok (grown_behind _ _ _ _ c.in_ok-constant.ensures.ok (grown_behind _ _ _ _ c.in_ok-store.ensures.ok (grown _ _ _ c.in_ok-chop.ensures.ok))))

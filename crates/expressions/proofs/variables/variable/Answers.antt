@@ -2,6 +2,7 @@ use Rattle.std.proofs.Common.{[], arith}
 use Rattle.std.proofs.lemmas.Result.{err_from_is_err_and}
 use Rattle.grammar.specs.Actions.{FetchVariable}
 use Rattle.grammar.specs.Tree.{Variable}
+use Rattle.parsing.proofs.Growing.{grown_nothing}
 use Rattle.expressions.proofs.TellingLaws.{first_follows}
 use Rattle.expressions.proofs.VariableLaws.{NoStep, fetch_adds, fetch_ends, is_named, tree_follows}
 use Rattle.expressions.proofs.variables.variable.Goals as goal
@@ -19,3 +20,10 @@ pub returns-clause-parses : goal.returns-clause-parses
 returns-clause-parses g c =
     let none : NoStep c.args.parser.now.place = λ s. rw c.after.ensures.value at (c.in_default.ensures.none s) in
     fetch_adds _ _ c.args.parser.now.place _ c.in_ok-var.var (is_named _ c.requires.is.named) c.requires.is.plain none c.in_ok-var.ensures.matches c.in_ok-var.ensures.within c.in_ok-var.ensures.kept.ready.sound c.in_ok-fetch.ensures.ok
+
+-- What the builder was told where the device failed.
+
+pub returns-in_err-var-clause-grown : goal.returns-in_err-var-clause-grown
+returns-in_err-var-clause-grown g c =
+    let p = err_from_is_err_and c.from_residual-in_err-var.result c.from_residual-in_err-var.ensures.1 in
+    rw (p.1, p.2) (λ device. grown_nothing _)

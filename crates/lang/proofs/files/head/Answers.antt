@@ -12,7 +12,7 @@ returns-in_err-function-in-Name-clause-reads g c =
     let named : c.args.parser.now.place.position.reading.next.token ≡ token.Name c.in-Name.field-0 = ap (λ (l : LocatedToken). l.token) (sym c.next.ensures.value) ∙ c.in-Name.is in
     let is : is_punctuator punctuator.OpenRound c.args.parser.now.place.position.reading.after.token ≡ true = cc in
     let p = err_from_is_err_and c.from_residual.result c.from_residual.ensures.1 in
-    rw (p.1, p.2) (function_refused _ (g.B.Build.stands c.args.build.now) at_head _ c.in_err-function-in-Name.field-0.0 _ (head_defined (g.B.Build.stands c.args.build.now) _ c.in-Name.field-0 named is) c.in_err-function-in-Name.ensures.reads)
+    rw (p.1, p.2) (function_refused _ (g.B.Build.stands c.args.build.now) _ at_head _ c.in_err-function-in-Name.field-0.0 _ (head_defined (g.B.Build.stands c.args.build.now) _ c.in-Name.field-0 named is) c.in_err-function-in-Name.ensures.reads)
 
 pub returns-in_err-externals-in-Name-2-clause-reads : goal.returns-in_err-externals-in-Name-2-clause-reads
 returns-in_err-externals-in-Name-2-clause-reads g c =

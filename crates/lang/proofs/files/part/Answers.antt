@@ -12,7 +12,7 @@ pub returns-in_err-function-clause-reads : goal.returns-in_err-function-clause-r
 returns-in_err-function-clause-reads g c =
     let named : c.args.parser.now.place.position.reading.next.token ≡ token.Name c.in-Name.field-0 = ap (λ (l : LocatedToken). l.token) (sym c.next-else-is_word.ensures.value) ∙ c.in-Name.is in
     let p = err_from_is_err_and c.from_residual-in_err-function.result c.from_residual-in_err-function.ensures.1 in
-    rw (p.1, p.2) (function_refused _ (g.B.Build.stands c.args.build.now) at_source _ c.in_err-function.field-0.0 _ (source_named (g.B.Build.stands c.args.build.now) _ c.in-Name.field-0 named) c.in_err-function.ensures.reads)
+    rw (p.1, p.2) (function_refused _ (g.B.Build.stands c.args.build.now) _ at_source _ c.in_err-function.field-0.0 _ (source_named (g.B.Build.stands c.args.build.now) _ c.in-Name.field-0 named) c.in_err-function.ensures.reads)
 
 pub returns-in_default : goal.returns-in_default
 returns-in_default g c =

@@ -22,4 +22,4 @@ loop-parser-preserved g c = record {
 pub returns-in_err-part-clause-reads : goal.returns-in_err-part-clause-reads
 returns-in_err-part-clause-reads g c =
     let p = err_from_is_err_and c.from_residual.result c.from_residual.ensures.1 in
-    rw (p.1, p.2) (leave _ (g.B.Build.stands c.args.build.now) (g.B.Build.stands c.loop-parser.build) at_source at_source _ _ _ _ c.in_err-part.field-0.0 c.loop-parser.invariant.reads (λ same. same) c.in_err-part.ensures.reads)
+    rw (p.1, p.2) (leave _ (g.B.Build.stands c.args.build.now) (g.B.Build.stands c.loop-parser.build) _ at_source at_source _ _ _ _ c.in_err-part.field-0.0 c.loop-parser.invariant.reads (λ same. same) c.in_err-part.ensures.reads)

@@ -18,7 +18,7 @@ returns-in_err-type_words-clause-reads g c =
 pub returns-in_err-head-clause-reads : goal.returns-in_err-head-clause-reads
 returns-in_err-head-clause-reads g c =
     let p = err_from_is_err_and c.from_residual-in_err-head.result c.from_residual-in_err-head.ensures.1 in
-    rw (p.1, p.2) (leave _ (g.B.Build.stands c.args.build.now) (g.B.Build.stands c.args.build.now) at_source at_head _ _ _ _ c.in_err-head.field-0.0
+    rw (p.1, p.2) (leave _ (g.B.Build.stands c.args.build.now) (g.B.Build.stands c.args.build.now) _ at_source at_head _ _ _ _ c.in_err-head.field-0.0
     (typed_head (g.B.Build.stands c.args.build.now) _ _ _ c.requires.is c.in_ok-expect_word.ensures.matches (c.in_ok-type_words.ensures.matches 0)) (λ same. same) c.in_err-head.ensures.reads)
 
 pub returns-clause-reads : goal.returns-clause-reads

@@ -7,6 +7,7 @@ use Rattle.grammar.specs.Tree.{Done}
 use Rattle.parsing.specs.Segment.{FailsAt}
 use Rattle.statements.specs.Statements.{FailsBody}
 use Rattle.parsing.proofs.Advances.{kept_then, on, on_then}
+use Rattle.parsing.proofs.Growing.{grown_nothing}
 use Rattle.parsing.proofs.Segments.{exit, refused_map}
 use Rattle.lang.specs.Progress.{at_brace}
 use Rattle.lang.proofs.Inside.{block_adds, block_declared, block_opened, brace_misfits, brace_stops}
@@ -49,3 +50,18 @@ returns-clause-parses g c =
 pub returns-clause-kept : goal.returns-clause-kept
 returns-clause-kept g c =
     on_then _ _ _ c.in_ok-advance.ensures.kept (kept_then _ _ _ c.in_ok-declarations.ensures.kept c.in_ok-statements.ensures.kept)
+
+pub returns-in_err-advance-clause-grown : goal.returns-in_err-advance-clause-grown
+returns-in_err-advance-clause-grown g c =
+    let p = err_from_is_err_and c.from_residual.result c.from_residual.ensures.1 in
+    rw (p.1, p.2) (λ device. grown_nothing _)
+
+pub returns-in_err-declarations-clause-grown : goal.returns-in_err-declarations-clause-grown
+returns-in_err-declarations-clause-grown g c =
+    let p = err_from_is_err_and c.from_residual-in_err-declarations.result c.from_residual-in_err-declarations.ensures.1 in
+    rw (p.1, p.2) (λ device. grown_nothing _)
+
+pub returns-in_err-statements-clause-grown : goal.returns-in_err-statements-clause-grown
+returns-in_err-statements-clause-grown g c =
+    let p = err_from_is_err_and c.from_residual-in_err-statements.result c.from_residual-in_err-statements.ensures.1 in
+    rw (p.1, p.2) c.in_err-statements.ensures.grown

@@ -1,7 +1,10 @@
-use Rattle.std.proofs.Common.{◌≡◌, refl, sym, ◌∙◌, arith}
+use Rattle.std.proofs.Common.{◌≡◌, ℕ, [], false, refl, sym, ◌∙◌, arith}
 use Rattle.std.proofs.lemmas.Result.{err_from_is_err_and}
+use Rattle.parsing.specs.Declarations.{heading_items}
+use Rattle.parsing.specs.Segment.{FailsAt}
+use Rattle.parsing.proofs.Segments.{refused_map}
 use Rattle.parsing.proofs.Advances.{kept_then, on, on_then, stopped_then}
-use Rattle.lang.proofs.Blocks.{block_refused, brace_refused, closing_sound, ended, function_advances, renamed, short, told_function, too_much_refused}
+use Rattle.lang.proofs.Blocks.{block_refused, brace_refused, closing_sound, ended, function_advances, heading_refused, renamed, short, told_function, too_much_refused}
 use Rattle.lang.proofs.Closing.{begun, closed, has_place, may_begin, may_end}
 use Rattle.lang.proofs.functions.function.Goals as goal
 
@@ -12,10 +15,17 @@ pub block-requires-clause-open : goal.block-requires-clause-open
 block-requires-clause-open g c =
     has_place _ c.parameters.result (begun _ _ c.in_ok-number.number c.parameters.result c.requires.open c.in_ok-number.ensures.begun.few c.parameters.ensures.most c.in_ok-begin_function.ensures.ok)
 
+pub returns-in_err-number-clause-reads : goal.returns-in_err-number-clause-reads
+returns-in_err-number-clause-reads g c =
+    let p = err_from_is_err_and c.from_residual.result c.from_residual.ensures.1 in
+    rw (p.1, p.2) (heading_refused _ (g.B.Build.stands c.args.build.now) _ c.in_err-number.field-0.0 _
+    (refused_map _ (λ d. (depth : ℕ) → FailsAt depth heading_items [] c.args.parser.now.place d) (FailsAt 0 heading_items [] c.args.parser.now.place) false false c.in_err-number.field-0.0 (λ d fails. fails 0) (λ same. same) c.in_err-number.ensures.matches))
+
 pub returns-in_err-block-clause-reads : goal.returns-in_err-block-clause-reads
 returns-in_err-block-clause-reads g c =
     let p = err_from_is_err_and c.from_residual-in_err-block.result c.from_residual-in_err-block.ensures.1 in
-    rw (p.1, p.2) (block_refused _ (g.B.Build.stands c.args.build.now) _ _ c.in_err-block.field-0.0 _ (c.in_ok-number.ensures.matches 0) c.in_err-block.ensures.parses)
+    rw (p.1, p.2) (block_refused _ (g.B.Build.stands c.args.build.now) (g.B.Build.stands c.begin_function.new.self) _ _ _ c.in_ok-number.number c.parameters.result c.in_err-block.field-0.0 _ (c.in_ok-number.ensures.matches 0)
+    c.in_ok-begin_function.ensures.ok c.in_err-block.ensures.grown c.in_err-block.ensures.parses)
 
 pub close-requires : goal.close-requires
 close-requires g c =
@@ -29,13 +39,18 @@ close-requires g c =
 pub returns-in_err-close-clause-reads : goal.returns-in_err-close-clause-reads
 returns-in_err-close-clause-reads g c =
     let p = err_from_is_err_and c.from_residual-in_err-close.result c.from_residual-in_err-close.ensures.1 in
-    rw (p.1, p.2) (too_much_refused _ _ _ _ _ _ _ c.in_ok-number.number c.parameters.result c.in_err-close.field-0.0 _ c.in_ok-block.ensures.kept.ready.near (c.in_ok-number.ensures.matches 0) c.in_ok-block.ensures.parses c.in_ok-begin_function.ensures.ok
+    rw (p.1, p.2) (too_much_refused _ _ _ _ _ _ _ _ c.in_ok-number.number c.parameters.result c.in_err-close.field-0.0 _ c.in_ok-block.ensures.kept.ready.near (c.in_ok-number.ensures.matches 0) c.in_ok-block.ensures.parses c.in_ok-begin_function.ensures.ok
     (closing_sound _ c.in_ok-block.ensures.closed) c.in_ok-block.ensures.closed c.in_err-close.ensures.refused)
 
 pub returns-in_err-expect-clause-reads : goal.returns-in_err-expect-clause-reads
 returns-in_err-expect-clause-reads g c =
     let p = err_from_is_err_and c.from_residual-in_err-expect.result c.from_residual-in_err-expect.ensures.1 in
     rw (p.1, p.2) (brace_refused _ _ _ _ _ _ _ _ _ c.in_ok-number.number c.parameters.result c.variables.result c.in_err-expect.field-0.0 _ (c.in_ok-number.ensures.matches 0) c.in_ok-block.ensures.parses
+    (record {
+      number = c.in_ok-block.ensures.parses.kept.number ∙ c.in_ok-number.ensures.begun.is;
+      parameters = c.in_ok-block.ensures.parses.kept.parameters ∙ sym c.parameters.ensures.count;
+      variables = sym c.variables.ensures.count;
+    })
     (ended _ _ c.end_definition.ensures) c.in_ok-begin_function.ensures.ok c.in_ok-close.ensures.closed
     (closing_sound _ c.in_ok-block.ensures.closed) c.in_err-expect.ensures.matches)
 

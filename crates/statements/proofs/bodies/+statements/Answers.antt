@@ -7,6 +7,7 @@ use Rattle.tokens.specs.declared.located_tokens.Word.TheVariants as word
 use Rattle.grammar.specs.Grammar.{ElsePart, Make, Part, Repeat, Close, is_fault, is_punctuator, is_word}
 use Rattle.parsing.specs.Room.{HasPlace, room}
 use Rattle.parsing.proofs.Advances.{kept_then, on, on_then, stays_ready}
+use Rattle.parsing.proofs.Growing.{grown, grown_behind, grown_nothing}
 use Rattle.parsing.proofs.Segments.{refused_map}
 use Rattle.statements.proofs.NestedLaws.{block_adds, block_too_deep, brace_fails, brace_stops, branch_adds, declarations_fail, else_adds, else_fails, else_stops, first_fails, if_past, if_closes, if_stops, if_too_deep, no_else_adds, repetition_adds, second_fails, statements_begin, statements_end, statements_fail, statements_more, test_fails, while_past, while_closes, while_stops, while_too_deep, within_fails}
 use Rattle.statements.proofs.SimpleLaws.{empty_adds, empty_fails}
@@ -292,3 +293,80 @@ else_part-returns-in_ok-statement-clause-kept g t c = kept_then _ _ _ (on _ _ c.
 
 pub else_part-returns-else-is_word-clause-kept : goal.else_part-returns-else-is_word-clause-kept
 else_part-returns-else-is_word-clause-kept g t c = stays_ready c.args.parser.now c.requires.ready
+
+-- What the builder was told where the device failed.
+
+pub block-returns-in_err-advance-clause-grown : goal.block-returns-in_err-advance-clause-grown
+block-returns-in_err-advance-clause-grown g t c =
+    let p = err_from_is_err_and c.from_residual.result c.from_residual.ensures.1 in
+    rw (p.1, p.2) (λ device. grown_nothing _)
+
+pub block-returns-in_err-declarations-clause-grown : goal.block-returns-in_err-declarations-clause-grown
+block-returns-in_err-declarations-clause-grown g t c =
+    let p = err_from_is_err_and c.from_residual-in_err-declarations.result c.from_residual-in_err-declarations.ensures.1 in
+    rw (p.1, p.2) (λ device. grown_nothing _)
+
+pub block-returns-in_err-statements-clause-grown : goal.block-returns-in_err-statements-clause-grown
+block-returns-in_err-statements-clause-grown g t c =
+    let p = err_from_is_err_and c.from_residual-in_err-statements.result c.from_residual-in_err-statements.ensures.1 in
+    rw (p.1, p.2) (c.in_err-statements.ensures.grown)
+
+pub block-returns-in_err-expect-clause-grown : goal.block-returns-in_err-expect-clause-grown
+block-returns-in_err-expect-clause-grown g t c =
+    let p = err_from_is_err_and c.from_residual-in_err-expect.result c.from_residual-in_err-expect.ensures.1 in
+    rw (p.1, p.2) (λ device. grown _ _ _ c.in_ok-statements.ensures.parses.added)
+
+pub branch-returns-in_err-advance-clause-grown : goal.branch-returns-in_err-advance-clause-grown
+branch-returns-in_err-advance-clause-grown g t c =
+    let p = err_from_is_err_and c.from_residual.result c.from_residual.ensures.1 in
+    rw (p.1, p.2) (λ device. grown_nothing _)
+
+pub branch-returns-in_err-condition-clause-grown : goal.branch-returns-in_err-condition-clause-grown
+branch-returns-in_err-condition-clause-grown g t c =
+    let p = err_from_is_err_and c.from_residual-in_err-condition.result c.from_residual-in_err-condition.ensures.1 in
+    rw (p.1, p.2) (c.in_err-condition.ensures.grown)
+
+pub branch-returns-in_err-statement-clause-grown : goal.branch-returns-in_err-statement-clause-grown
+branch-returns-in_err-statement-clause-grown g t c =
+    let p = err_from_is_err_and c.from_residual-in_err-statement.result c.from_residual-in_err-statement.ensures.1 in
+    rw (p.1, p.2) (λ device. grown_behind _ _ _ _ c.in_ok-condition.ensures.parses.added (grown_behind _ _ _ _ c.in_ok-if_test.ensures.ok (c.in_err-statement.ensures.grown device)))
+
+pub branch-returns-in_err-else_part-clause-grown : goal.branch-returns-in_err-else_part-clause-grown
+branch-returns-in_err-else_part-clause-grown g t c =
+    let p = err_from_is_err_and c.from_residual-in_err-else_part.result c.from_residual-in_err-else_part.ensures.1 in
+    rw (p.1, p.2) (λ device. grown_behind _ _ _ _ c.in_ok-condition.ensures.parses.added (grown_behind _ _ _ _ c.in_ok-if_test.ensures.ok (grown_behind _ _ _ _ c.in_ok-statement.ensures.parses.added (c.in_err-else_part.ensures.grown device))))
+
+pub repetition-returns-in_err-advance-clause-grown : goal.repetition-returns-in_err-advance-clause-grown
+repetition-returns-in_err-advance-clause-grown g t c =
+    let p = err_from_is_err_and c.from_residual-in_err-advance.result c.from_residual-in_err-advance.ensures.1 in
+    rw (p.1, p.2) (λ device. grown _ _ _ c.in_ok-begin_while.ensures.ok)
+
+pub repetition-returns-in_err-condition-clause-grown : goal.repetition-returns-in_err-condition-clause-grown
+repetition-returns-in_err-condition-clause-grown g t c =
+    let p = err_from_is_err_and c.from_residual-in_err-condition.result c.from_residual-in_err-condition.ensures.1 in
+    rw (p.1, p.2) (λ device. grown_behind _ _ _ _ c.in_ok-begin_while.ensures.ok (c.in_err-condition.ensures.grown device))
+
+pub repetition-returns-in_err-statement-clause-grown : goal.repetition-returns-in_err-statement-clause-grown
+repetition-returns-in_err-statement-clause-grown g t c =
+    let p = err_from_is_err_and c.from_residual-in_err-statement.result c.from_residual-in_err-statement.ensures.1 in
+    rw (p.1, p.2) (λ device. grown_behind _ _ _ _ c.in_ok-begin_while.ensures.ok (grown_behind _ _ _ _ c.in_ok-condition.ensures.parses.added (grown_behind _ _ _ _ c.in_ok-while_test.ensures.ok (c.in_err-statement.ensures.grown device))))
+
+pub statements-returns-in_err-statement-clause-grown : goal.statements-returns-in_err-statement-clause-grown
+statements-returns-in_err-statement-clause-grown g t c =
+    let p = err_from_is_err_and c.from_residual.result c.from_residual.ensures.1 in
+    rw (p.1, p.2) (λ device. grown_behind _ _ _ _ c.loop-parser.invariant.parses.added (c.in_err-statement.ensures.grown device))
+
+pub else_part-returns-in_err-advance-clause-grown : goal.else_part-returns-in_err-advance-clause-grown
+else_part-returns-in_err-advance-clause-grown g t c =
+    let p = err_from_is_err_and c.from_residual-in_err-advance.result c.from_residual-in_err-advance.ensures.1 in
+    rw (p.1, p.2) (λ device. grown _ _ _ c.in_ok-else_part.ensures.ok)
+
+pub else_part-returns-in_err-statement-clause-grown : goal.else_part-returns-in_err-statement-clause-grown
+else_part-returns-in_err-statement-clause-grown g t c =
+    let p = err_from_is_err_and c.from_residual-in_err-statement.result c.from_residual-in_err-statement.ensures.1 in
+    rw (p.1, p.2) (λ device. grown_behind _ _ _ _ c.in_ok-else_part.ensures.ok (c.in_err-statement.ensures.grown device))
+
+pub statement-returns-in_err-expect-in-Punctuator-Semicolon-clause-grown : goal.statement-returns-in_err-expect-in-Punctuator-Semicolon-clause-grown
+statement-returns-in_err-expect-in-Punctuator-Semicolon-clause-grown g t c =
+    let p = err_from_is_err_and c.from_residual.result c.from_residual.ensures.1 in
+    rw (p.1, p.2) (λ device. grown_nothing _)

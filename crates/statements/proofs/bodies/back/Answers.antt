@@ -36,3 +36,10 @@ returns-then-is_punctuator-clause-kept g c = stays_ready c.args.parser.now c.req
 
 pub returns-clause-kept : goal.returns-clause-kept
 returns-clause-kept g c = on _ _ c.in_ok-expression.ensures.kept
+
+-- What the builder was told where the device failed.
+
+pub returns-in_err-expression-clause-grown : goal.returns-in_err-expression-clause-grown
+returns-in_err-expression-clause-grown g c =
+    let p = err_from_is_err_and c.from_residual-in_err-expression.result c.from_residual-in_err-expression.ensures.1 in
+    rw (p.1, p.2) (c.in_err-expression.ensures.grown)

@@ -1,6 +1,7 @@
 use Rattle.std.proofs.Common.{false}
 use Rattle.std.proofs.lemmas.Result.{err_from_is_err_and}
 use Rattle.parsing.proofs.Advances.{kept_then, on, on_then}
+use Rattle.parsing.proofs.Growing.{grown, grown_nothing}
 use Rattle.parsing.proofs.Segments.{refused_map}
 use Rattle.statements.proofs.SimpleLaws.{bracket_fails, condition_adds, condition_fails, condition_unended}
 use Rattle.statements.proofs.bodies.condition.Goals as goal
@@ -27,3 +28,20 @@ returns-clause-parses g c =
 pub returns-clause-kept : goal.returns-clause-kept
 returns-clause-kept g c =
     on_then _ _ _ c.in_ok-expect.ensures.kept (kept_then _ _ _ (on _ _ c.in_ok-expression.ensures.kept) (on _ _ c.in_ok-expect-2.ensures.kept))
+
+-- What the builder was told where the device failed.
+
+pub returns-in_err-expect-clause-grown : goal.returns-in_err-expect-clause-grown
+returns-in_err-expect-clause-grown g c =
+    let p = err_from_is_err_and c.from_residual.result c.from_residual.ensures.1 in
+    rw (p.1, p.2) (λ device. grown_nothing _)
+
+pub returns-in_err-expression-clause-grown : goal.returns-in_err-expression-clause-grown
+returns-in_err-expression-clause-grown g c =
+    let p = err_from_is_err_and c.from_residual-in_err-expression.result c.from_residual-in_err-expression.ensures.1 in
+    rw (p.1, p.2) (c.in_err-expression.ensures.grown)
+
+pub returns-in_err-expect-2-clause-grown : goal.returns-in_err-expect-2-clause-grown
+returns-in_err-expect-2-clause-grown g c =
+    let p = err_from_is_err_and c.from_residual-in_err-expect-2.result c.from_residual-in_err-expect-2.ensures.1 in
+    rw (p.1, p.2) (λ device. grown _ _ _ c.in_ok-expression.ensures.parses.added)

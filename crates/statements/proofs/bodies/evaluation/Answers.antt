@@ -1,6 +1,7 @@
 use Rattle.std.proofs.Common.{false}
 use Rattle.std.proofs.lemmas.Result.{err_from_is_err_and}
 use Rattle.parsing.proofs.Advances.{on, on_then}
+use Rattle.parsing.proofs.Growing.{grown}
 use Rattle.parsing.proofs.Segments.{refused_map}
 use Rattle.parsing.specs.Room.{room}
 use Rattle.statements.proofs.Openings.{may_chop, value_inside}
@@ -28,3 +29,15 @@ returns-clause-parses g c =
 
 pub returns-clause-kept : goal.returns-clause-kept
 returns-clause-kept g c = on_then _ _ _ c.in_ok-expression.ensures.kept (on _ _ c.in_ok-expect.ensures.kept)
+
+-- What the builder was told where the device failed.
+
+pub returns-in_err-expression-clause-grown : goal.returns-in_err-expression-clause-grown
+returns-in_err-expression-clause-grown g c =
+    let p = err_from_is_err_and c.from_residual.result c.from_residual.ensures.1 in
+    rw (p.1, p.2) (c.in_err-expression.ensures.grown)
+
+pub returns-in_err-expect-clause-grown : goal.returns-in_err-expect-clause-grown
+returns-in_err-expect-clause-grown g c =
+    let p = err_from_is_err_and c.from_residual-in_err-expect.result c.from_residual-in_err-expect.ensures.1 in
+    rw (p.1, p.2) (λ device. grown _ _ _ c.in_ok-expression.ensures.parses.added)

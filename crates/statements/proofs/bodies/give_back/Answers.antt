@@ -4,6 +4,7 @@ use Rattle.grammar.specs.Actions.{GiveBack}
 use Rattle.grammar.specs.Following.{AValue, is_number}
 use Rattle.grammar.proofs.FollowingLaws.{origin_of}
 use Rattle.parsing.proofs.Advances.{kept_then, on, on_then}
+use Rattle.parsing.proofs.Growing.{grown, grown_nothing}
 use Rattle.parsing.proofs.Segments.{refused_map}
 use Rattle.parsing.specs.Room.{room}
 use Rattle.statements.proofs.Openings.{may_end, value_inside}
@@ -37,3 +38,20 @@ returns-clause-parses g c =
 pub returns-clause-kept : goal.returns-clause-kept
 returns-clause-kept g c =
     on_then _ _ _ c.in_ok-advance.ensures.kept (kept_then _ _ _ c.in_ok-back.ensures.kept (on _ _ c.in_ok-expect.ensures.kept))
+
+-- What the builder was told where the device failed.
+
+pub returns-in_err-advance-clause-grown : goal.returns-in_err-advance-clause-grown
+returns-in_err-advance-clause-grown g c =
+    let p = err_from_is_err_and c.from_residual.result c.from_residual.ensures.1 in
+    rw (p.1, p.2) (λ device. grown_nothing _)
+
+pub returns-in_err-back-clause-grown : goal.returns-in_err-back-clause-grown
+returns-in_err-back-clause-grown g c =
+    let p = err_from_is_err_and c.from_residual-in_err-back.result c.from_residual-in_err-back.ensures.1 in
+    rw (p.1, p.2) (c.in_err-back.ensures.grown)
+
+pub returns-in_err-expect-clause-grown : goal.returns-in_err-expect-clause-grown
+returns-in_err-expect-clause-grown g c =
+    let p = err_from_is_err_and c.from_residual-in_err-expect.result c.from_residual-in_err-expect.ensures.1 in
+    rw (p.1, p.2) (λ device. grown _ _ _ c.in_ok-back.ensures.parses.added)

@@ -2,8 +2,7 @@ use Rattle.std.proofs.Common.{[], ◌∷◌, ◌≡◌, map, take, sym, subst, a
 use Rattle.std.proofs.lemmas.List.{take_all}
 use Rattle.std.proofs.lemmas.Result.{on_ok_weaker}
 use Rattle.grammar.specs.Actions.{BeginCall, EndCall, args_actions, expr_actions, middle}
-use Rattle.grammar.specs.Building.{AppendsAll}
-use Rattle.trees.specs.Replaying.{MayFollowAll}
+use Rattle.grammar.specs.Building.{AppendsAll, MayFollowAll}
 use Rattle.trees.specs.Trees.{arguments, expr_tree}
 use Rattle.trees.specs.declared.tree.Expr.{the_lemmas}
 use Rattle.trees.proofs.ReplayLaws.{actions-Assign, actions-Binary, actions-Call, appends_both, appends_none, argument_may, arguments_more, may_first, may_front, may_next, may_then}

@@ -2,8 +2,7 @@ use Rattle.std.proofs.Common.{[], ◌∷◌, ◌++◌, ◌≡◌, take, sym, sub
 use Rattle.std.proofs.lemmas.List.{take_all}
 use Rattle.std.proofs.lemmas.Result.{on_ok_weaker}
 use Rattle.grammar.specs.Actions.{BeginWhile, ElsePart, EndIf, EndWhile, IfTest, WhileTest, body_actions, expr_actions}
-use Rattle.grammar.specs.Building.{AppendsAll}
-use Rattle.trees.specs.Replaying.{MayFollowAll}
+use Rattle.grammar.specs.Building.{AppendsAll, MayFollowAll}
 use Rattle.trees.specs.Trees.{body_tree, expr_tree}
 use Rattle.trees.specs.declared.tree.Statement.{the_lemmas}
 use Rattle.trees.proofs.ReplayLaws.{actions-IfElseStatement, actions-IfStatement, actions-While, appends_both, appends_none, may_first, may_front, may_next, may_then, statement_may, statements_more}

@@ -1,8 +1,8 @@
 use Rattle.std.proofs.Common.{[], ◌∷◌, sym, subst}
 use Rattle.std.proofs.lemmas.Result.{on_ok_weaker}
 use Rattle.grammar.specs.Actions.{Begin, Finish, body_actions, last_return}
-use Rattle.grammar.specs.Building.{AppendsAll}
-use Rattle.trees.specs.Replaying.{IsOverWith, MayFollowAll}
+use Rattle.grammar.specs.Building.{AppendsAll, MayFollowAll}
+use Rattle.trees.specs.Replaying.{IsOverWith}
 use Rattle.trees.specs.Trees.{body_tree}
 use Rattle.trees.proofs.ReplayLaws.{actions-Function, appends_both, may_first, may_front, may_next, may_then, over_finish, over_then}
 use Rattle.trees.proofs.replay.tell_function.Goals as goal
