@@ -1,6 +1,6 @@
 -- How the program ends.
 use Rattle.std.specs.Prelude.{◌≡◌, ◌⊎◌, ℕ, ◌+◌, List, [], ◌∷◌, ◌++◌, codes}
-use Rattle.series.specs.Portions.{Portions, Takes, TakesFront}
+use Rattle.sinks.specs.Portions.{Portions, Takes, TakesFront}
 use Rattle.crobots.specs.declared.endings.Ending.{Ending}
 use Rattle.crobots.specs.declared.endings.Ending.TheVariants.{Done, Faulty, WrongUsage, CannotOpen, CannotRead, CannotWrite, OutOfMemory}
 

@@ -10,7 +10,7 @@ use Rattle.series.specs.Failures.{Failures}
 use Rattle.series.specs.Failures.{Accounts as Counts}
 use Rattle.series.specs.Output.{Runs}
 use Rattle.series.specs.Pieces.{Taken}
-use Rattle.series.specs.Portions.{Takes, TakesFront}
+use Rattle.sinks.specs.Portions.{Takes, TakesFront}
 use Rattle.series.specs.Runs.{AreSources}
 use Rattle.settings.specs.declared.faults.UseFault.{UseFault}
 use Rattle.settings.specs.Setup.{Setup}

@@ -1,7 +1,7 @@
 //! How the program ends: its status, and the line that it puts.
 
 ghost use Rattle.std.specs.Prelude.{◌≡◌, ℕ, ◌+◌, ◌-◌, ◌^◌, ◌<◌, ◌≤◌, List, [], ◌∷◌, ◌++◌};
-ghost use Rattle.series.specs.Portions.{Puts};
+ghost use Rattle.sinks.specs.Portions.{Puts};
 ghost use Rattle.crobots.specs.Endings.{status_of, line_of, PutsLine};
 
 use series::{Pen, Sink, put_all};

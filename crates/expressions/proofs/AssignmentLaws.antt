@@ -10,6 +10,7 @@ use Rattle.grammar.specs.declared.diagnostics.Code.TheVariants as code
 use Rattle.grammar.specs.declared.diagnostics.ParseFault.{ParseFault}
 use Rattle.grammar.specs.declared.names.Var.{Var}
 use Rattle.grammar.specs.declared.operators.StoreOp.{StoreOp}
+use Rattle.grammar.specs.declared.diagnostics.ParseFault.TheVariants as refusal
 use Rattle.grammar.specs.Actions.{StoreVariable, expr_actions}
 use Rattle.grammar.specs.Building.{Meaning, AppendsAll, MayFollow}
 use Rattle.grammar.specs.Compiled.{diagnostic}
@@ -110,7 +111,7 @@ store_chooses at o a s = record {
 store_opens_level : (at : Place) (o : StoreOp) (a : IsAssignment at o) (s : SpellsStore o (after_at at)) → OpensLevel at Expression
 store_opens_level at o a s after more = let n : (next_at at).token ≡ token.Name a.named.name = a.named.is in rw (n, after_name at after a.named more, s.is) (store_opens a.named.name s.m o s.store)
 
-pub store_too_deep : (at : Place) (used : ℕ) (near : IsNearTo at used) (depth : ℕ) (o : StoreOp) → IsAssignment at o → 64 ≤ depth → FailsAt depth (Part Expression ∷ []) [] at (stop_with (Some (diagnostic (next_at at).line code.NestedTooDeeply)) used)
+pub store_too_deep : (at : Place) (used : ℕ) (near : IsNearTo at used) (depth : ℕ) (o : StoreOp) → IsAssignment at o → 64 ≤ depth → FailsAt depth (Part Expression ∷ []) [] at (stop_with (refusal.Source (diagnostic (next_at at).line code.NestedTooDeeply)) used)
 store_too_deep at used near depth o a deep =
     let s : SpellsStore o (after_at at) = sign_of at o a in
     let n : (next_at at).token ≡ token.Name a.named.name = a.named.is in

@@ -7,6 +7,7 @@ use Rattle.tokens.specs.declared.located_tokens.Token.TheVariants as token
 use Rattle.grammar.specs.declared.diagnostics.Code.TheVariants as code
 use Rattle.grammar.specs.declared.diagnostics.ParseFault.{ParseFault}
 use Rattle.grammar.specs.declared.names.Callee.{Callee}
+use Rattle.grammar.specs.declared.diagnostics.ParseFault.TheVariants as refusal
 use Rattle.grammar.specs.Actions.{Action, BeginCall, EndCall, args_actions, expr_actions}
 use Rattle.grammar.specs.Building.{Meaning, AppendsAll, MayFollow}
 use Rattle.grammar.specs.Compiled.{diagnostic}
@@ -22,7 +23,7 @@ use Rattle.parsing.specs.Position.{Place, after_at, next_at}
 use Rattle.parsing.specs.Room.{HasRoom, room}
 use Rattle.parsing.specs.Stopping.{stop_with}
 use Rattle.parsing.specs.Segment.{IsNearTo, Derives, DerivesItem, FailsAt, FailsItem, Refused}
-use Rattle.parsing.proofs.Segments.{exit_item, fails_behind, joined, refused_map}
+use Rattle.parsing.proofs.Segments.{exit_item, fails_behind, joined, refused_map, halts}
 use Rattle.expressions.specs.Expressions.{AddsArgs, AddsExpr, FailsArgs}
 use Rattle.parsing.proofs.Parts.{MakesOnly, make_stands, punctuator_is}
 use Rattle.expressions.proofs.Productions.{Chooses, OpensLevel, chosen, chosen_within, item_done, makes_and_closes, punctuator_sound, name_too_deep}
@@ -183,7 +184,7 @@ call_opens : (at : Place) → IsNamed (next_at at).token → is_punctuator punct
 call_opens at n fits after more = let t : after_at at ≡ token.Punctuator punctuator.OpenRound = punctuator_is punctuator.OpenRound (after_at at) fits in rw (n.is, after_name at after n more, t) refl
 
 pub call_too_deep : (at : Place) (used : ℕ) (near : IsNearTo at used) (depth : ℕ) → IsNamed (next_at at).token → is_punctuator punctuator.OpenRound (after_at at) ≡ true → 64 ≤ depth →
-    FailsAt depth (Part Primary ∷ []) [] at (stop_with (Some (diagnostic (next_at at).line code.NestedTooDeeply)) used)
+    FailsAt depth (Part Primary ∷ []) [] at (stop_with (refusal.Source (diagnostic (next_at at).line code.NestedTooDeeply)) used)
 call_too_deep at used near depth n fits deep =
     name_too_deep at used near depth Primary Called n.name (Exactly punctuator.OpenRound ∷ Part Arguments ∷ Exactly punctuator.CloseRound ∷ Make Invoke ∷ Close ∷ []) (call_chooses at n fits) (call_opens at n fits) (rw n.is refl) deep
 
@@ -207,6 +208,13 @@ callee_past : (at now : Place) (depth : ℕ) (callee : Callee) → IsCall at dep
 callee_past at now depth callee c item =
     item_done depth (depth + 1) (Part Primary ∷ []) (AName Called) (Exactly punctuator.OpenRound ∷ Part Arguments ∷ Exactly punctuator.CloseRound ∷ Make Invoke ∷ Close ∷ []) [] (ACall callee NoMore ∷ []) [] at at now
     (call_stands at depth c) (item (depth + 1)) (λ stack same. ap (λ n. n + 1) same)
+
+-- the builder was refused memory behind the name
+pub callee_halts : (used : ℕ) (at now : Place) (depth : ℕ) (callee : Callee) → IsCall at depth → DerivesItem (AName Called) [] (ACall callee NoMore ∷ []) at now → IsNearTo now used →
+    FailsAt depth (Part Primary ∷ []) [] at (stop_with refusal.Memory used)
+callee_halts used at now depth callee c item near =
+    halts depth (Part Primary ∷ []) (Exactly punctuator.OpenRound ∷ Part Arguments ∷ Exactly punctuator.CloseRound ∷ Make Invoke ∷ Close ∷ []) [] (ACall callee NoMore ∷ []) at now used
+    (callee_past at now depth callee c item) near
 
 pub call_open_refused : (used : ℕ) (at now : Place) (depth : ℕ) (callee : Callee) (more : Bool) (f : ParseFault) → IsCall at depth → DerivesItem (AName Called) [] (ACall callee NoMore ∷ []) at now →
     Refused (FailsItem (Exactly punctuator.OpenRound) now) false used f → Refused (FailsAt depth (Part Primary ∷ []) [] at) more used f

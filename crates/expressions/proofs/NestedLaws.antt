@@ -6,6 +6,7 @@ use Rattle.tokens.specs.declared.located_tokens.Token.{Token}
 use Rattle.tokens.specs.declared.located_tokens.Token.TheVariants as token
 use Rattle.grammar.specs.declared.diagnostics.Code.TheVariants as code
 use Rattle.grammar.specs.declared.diagnostics.ParseFault.{ParseFault}
+use Rattle.grammar.specs.declared.diagnostics.ParseFault.TheVariants as refusal
 use Rattle.grammar.specs.Building.{Meaning}
 use Rattle.grammar.specs.Compiled.{diagnostic}
 use Rattle.grammar.specs.Derivation.{AnExpr}
@@ -38,7 +39,7 @@ open_chooses at fits = record {
 open_opens : (at : Place) → is_punctuator punctuator.OpenRound (next_at at).token ≡ true → OpensLevel at Primary
 open_opens at fits after more = let t : (next_at at).token ≡ token.Punctuator punctuator.OpenRound = punctuator_is punctuator.OpenRound (next_at at).token fits in rw t refl
 
-pub bracket_too_deep : (at : Place) (used : ℕ) (near : IsNearTo at used) (depth : ℕ) → is_punctuator punctuator.OpenRound (next_at at).token ≡ true → 64 ≤ depth → FailsAt depth (Part Primary ∷ []) [] at (stop_with (Some (diagnostic (next_at at).line code.NestedTooDeeply)) used)
+pub bracket_too_deep : (at : Place) (used : ℕ) (near : IsNearTo at used) (depth : ℕ) → is_punctuator punctuator.OpenRound (next_at at).token ≡ true → 64 ≤ depth → FailsAt depth (Part Primary ∷ []) [] at (stop_with (refusal.Source (diagnostic (next_at at).line code.NestedTooDeeply)) used)
 bracket_too_deep at used near depth fits deep = punctuator_too_deep at used near depth Primary punctuator.OpenRound (Part Expression ∷ Exactly punctuator.CloseRound ∷ Close ∷ []) (open_chooses at fits) (open_opens at fits) fits deep
 
 open_stands : (at : Place) (depth : ℕ) → is_punctuator punctuator.OpenRound (next_at at).token ≡ true → depth < 64 →
@@ -151,5 +152,5 @@ no_primary_opens (token.Punctuator punctuator.OpenRound) after n = let e : is_pu
 no_primary_opens t after n = refl
 
 pub primary_misfits : (at : Place) (used : ℕ) (near : IsNearTo at used) (depth : ℕ) → is_fault (next_at at).token ≡ false → NoPrimary (next_at at).token →
-    FailsAt depth (Part Primary ∷ []) [] at (stop_with (Some (diagnostic (next_at at).line (misfit_code (next_at at).token))) used)
+    FailsAt depth (Part Primary ∷ []) [] at (stop_with (refusal.Source (diagnostic (next_at at).line (misfit_code (next_at at).token))) used)
 primary_misfits at used near depth sound n = none_chosen at used near depth Primary sound (λ after more. no_primary (next_at at).token after n) (λ after more. no_primary_opens (next_at at).token after n)

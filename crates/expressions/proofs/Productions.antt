@@ -11,6 +11,7 @@ use Rattle.tokens.specs.declared.located_tokens.Token.TheVariants as token
 use denote.Enum.Declared.{tag_of}
 use Rattle.grammar.specs.declared.diagnostics.Code.TheVariants as code
 use Rattle.grammar.specs.declared.diagnostics.ParseFault.{ParseFault}
+use Rattle.grammar.specs.declared.diagnostics.ParseFault.TheVariants as refusal
 use Rattle.grammar.specs.Compiled.{diagnostic}
 use Rattle.grammar.specs.Derivation.{Value, name_of_token, next_of}
 use Rattle.grammar.specs.Faults.{fault, levels, misfit_code, most_levels, only_if}
@@ -92,7 +93,7 @@ chosen_within at depth symbol items c shallow = stand at depth (Part symbol ∷ 
 
 -- one that would open a level beyond the last one, by a punctuator
 pub punctuator_too_deep : (at : Place) (used : ℕ) (near : IsNearTo at used) (depth : ℕ) (symbol : Symbol) (m : Punctuator) (items : List Item) → Chooses at symbol (Exactly m ∷ items) → OpensLevel at symbol →
-    is_punctuator m (next_at at).token ≡ true → 64 ≤ depth → FailsAt depth (Part symbol ∷ []) [] at (stop_with (Some (diagnostic (next_at at).line code.NestedTooDeeply)) used)
+    is_punctuator m (next_at at).token ≡ true → 64 ≤ depth → FailsAt depth (Part symbol ∷ []) [] at (stop_with (refusal.Source (diagnostic (next_at at).line code.NestedTooDeeply)) used)
 punctuator_too_deep at used near depth symbol m items c opened fits deep =
     fails_at_next depth (Part symbol ∷ []) [] at _ used near (λ tail b profile stack values functions depths.
     too_deep profile symbol m items stack (next_at at) tail values (scope_at at) functions c.sound (c.is (next_of tail) (next_behind at tail b)) fits
@@ -100,7 +101,7 @@ punctuator_too_deep at used near depth symbol m items c opened fits deep =
 
 -- by a name
 pub name_too_deep : (at : Place) (used : ℕ) (near : IsNearTo at used) (depth : ℕ) (symbol : Symbol) (role : Role) (name : List ℕ) (items : List Item) → Chooses at symbol (AName role ∷ items) → OpensLevel at symbol →
-    name_of_token (next_at at).token ≡ Some name → 64 ≤ depth → FailsAt depth (Part symbol ∷ []) [] at (stop_with (Some (diagnostic (next_at at).line code.NestedTooDeeply)) used)
+    name_of_token (next_at at).token ≡ Some name → 64 ≤ depth → FailsAt depth (Part symbol ∷ []) [] at (stop_with (refusal.Source (diagnostic (next_at at).line code.NestedTooDeeply)) used)
 name_too_deep at used near depth symbol role name items c opened fits deep =
     fails_at_next depth (Part symbol ∷ []) [] at _ used near (λ tail b profile stack values functions depths.
     too_deep_name profile symbol role name items stack (next_at at) tail values (scope_at at) functions c.sound (c.is (next_of tail) (next_behind at tail b)) fits
@@ -108,7 +109,7 @@ name_too_deep at used near depth symbol role name items c opened fits deep =
 
 -- no production fits
 pub none_chosen : (at : Place) (used : ℕ) (near : IsNearTo at used) (depth : ℕ) (symbol : Symbol) → is_fault (next_at at).token ≡ false → WithAfter at (λ after. choice symbol (next_at at).token after ≡ None) → OpensNone at symbol →
-    FailsAt depth (Part symbol ∷ []) [] at (stop_with (Some (diagnostic (next_at at).line (misfit_code (next_at at).token))) used)
+    FailsAt depth (Part symbol ∷ []) [] at (stop_with (refusal.Source (diagnostic (next_at at).line (misfit_code (next_at at).token))) used)
 none_chosen at used near depth symbol sound none opened =
     fails_at_next depth (Part symbol ∷ []) [] at _ used near (λ tail b profile stack values functions depths.
     no_part profile symbol stack (next_at at ∷ tail) values (scope_at at) functions sound (none (next_of tail) (next_behind at tail b))

@@ -5,6 +5,7 @@ use Rattle.tokens.specs.declared.located_tokens.Token.{Token}
 use Rattle.tokens.specs.declared.located_tokens.Token.TheVariants as token
 use Rattle.grammar.specs.declared.diagnostics.Code.TheVariants as code
 use Rattle.grammar.specs.declared.diagnostics.ParseFault.{ParseFault}
+use Rattle.grammar.specs.declared.diagnostics.ParseFault.TheVariants as refusal
 use Rattle.grammar.specs.Actions.{Action, PushConstant, expr_actions}
 use Rattle.grammar.specs.Building.{Meaning, AppendsAll, MayFollowAll}
 use Rattle.grammar.specs.Compiled.{diagnostic}
@@ -55,7 +56,7 @@ sign_makes sign.Denial e = record { makes = λ values. refl; clean = λ profile 
 sign_makes sign.Complement e = record { makes = λ values. refl; clean = λ profile stack rest values scope functions. refl; learns = λ scope. refl; defines = λ values scope. refl }
 
 pub sign_too_deep : (at : Place) (used : ℕ) (near : IsNearTo at used) (depth : ℕ) (s : Sign) → is_punctuator (sign_punctuator s) (next_at at).token ≡ true → 64 ≤ depth →
-    FailsAt depth (Part Unary ∷ []) [] at (stop_with (Some (diagnostic (next_at at).line code.NestedTooDeeply)) used)
+    FailsAt depth (Part Unary ∷ []) [] at (stop_with (refusal.Source (diagnostic (next_at at).line code.NestedTooDeeply)) used)
 sign_too_deep at used near depth s fits deep = punctuator_too_deep at used near depth Unary (sign_punctuator s) (Part Unary ∷ Make (sign_rule s) ∷ Close ∷ []) (sign_chooses at s fits) (sign_opens_level at s fits) fits deep
 
 sign_stands : (at : Place) (depth : ℕ) (s : Sign) → is_punctuator (sign_punctuator s) (next_at at).token ≡ true → depth < 64 →

@@ -9,6 +9,7 @@ use Rattle.tokens.specs.declared.located_tokens.Token.TheVariants as token
 use Rattle.grammar.specs.declared.diagnostics.ParseFault.{ParseFault}
 use Rattle.grammar.specs.declared.names.Var.{Var}
 use Rattle.grammar.specs.declared.operators.StoreOp.{StoreOp}
+use Rattle.grammar.specs.declared.diagnostics.ParseFault.TheVariants as refusal
 use Rattle.grammar.specs.Actions.{Chop, FetchVariable, PushConstant, StoreVariable, expr_actions}
 use Rattle.grammar.specs.Building.{Meaning, AppendsAll, MayFollow, MayFollowAll}
 use Rattle.grammar.specs.Derivation.{AnExpr, AVariable, constant_value, name_of_token}
@@ -22,8 +23,9 @@ use Rattle.grammar.proofs.FollowingLaws.{act, expr_leads, origin_of}
 use Rattle.grammar.proofs.Steps.{constant}
 use Rattle.parsing.specs.Position.{Place, after_at, next_at, scope_at}
 use Rattle.parsing.specs.Room.{HasRoom}
-use Rattle.parsing.specs.Segment.{Derives, DerivesItem, FailsItem, GoesPast, Refused, StopsAt}
-use Rattle.parsing.proofs.Segments.{Leads, joined, past, refused_map, stops}
+use Rattle.parsing.specs.Stopping.{stop_with}
+use Rattle.parsing.specs.Segment.{IsNearTo, Derives, DerivesItem, FailsItem, GoesPast, Refused, StopsAt}
+use Rattle.parsing.proofs.Segments.{Leads, joined, past, refused_map, stops, halts}
 use Rattle.expressions.specs.declared.signs.Step.{Step}
 use Rattle.expressions.specs.declared.signs.Step.TheVariants as step
 use Rattle.expressions.specs.Expressions.{AddsExpr}
@@ -201,6 +203,12 @@ behind_past_name : (at now : Place) (s : Step) (v : Var) → IsNamed (next_at at
 behind_past_name at now s v n fits item depth =
     item_done depth depth (Part Primary ∷ []) (AName Mentioned) (Exactly (step_punctuator s) ∷ Make (StepBehind (step_store s)) ∷ []) [] (AVariable v ∷ []) [] at at now
     (behind_stands at s n fits depth) (item depth) (λ stack same. same)
+
+-- the builder was refused memory behind the name
+pub behind_halts : (used : ℕ) (at now : Place) (s : Step) (v : Var) → IsNamed (next_at at).token → is_punctuator (step_punctuator s) (after_at at) ≡ true → DerivesItem (AName Mentioned) [] (AVariable v ∷ []) at now →
+    IsNearTo now used → FailsItem (Part Primary) at (stop_with refusal.Memory used)
+behind_halts used at now s v n fits item near depth =
+    halts depth (Part Primary ∷ []) (Exactly (step_punctuator s) ∷ Make (StepBehind (step_store s)) ∷ []) [] (AVariable v ∷ []) at now used (behind_past_name at now s v n fits item depth) near
 
 pub behind_punctuator_ends : (used : ℕ) (at now : Place) (s : Step) (v : Var) (more : Bool) (f : ParseFault) → IsNamed (next_at at).token → is_punctuator (step_punctuator s) (after_at at) ≡ true →
     DerivesItem (AName Mentioned) [] (AVariable v ∷ []) at now → Refused (FailsItem (Exactly (step_punctuator s)) now) false used f → Refused (FailsItem (Part Primary) at) more used f

@@ -3,6 +3,7 @@ use Rattle.std.proofs.Common.{◌≡◌, List, [], ◌∷◌, ◌++◌, refl, sy
 use Rattle.tokens.specs.declared.located_tokens.LocatedToken.{LocatedToken}
 use Rattle.grammar.specs.declared.diagnostics.Diagnostic.{Diagnostic}
 use Rattle.grammar.specs.declared.diagnostics.ParseFault.{ParseFault}
+use Rattle.grammar.specs.declared.diagnostics.ParseFault.TheVariants as refusal
 use Rattle.grammar.specs.Actions.{Action, function_actions}
 use Rattle.grammar.specs.Building.{Meaning}
 use Rattle.grammar.specs.Derivation.{Definition, State, state}
@@ -13,7 +14,7 @@ use Rattle.grammar.proofs.Runs.{here, then}
 use Rattle.parsing.specs.Position.{GoesOn, Place, scope_at, next_at}
 use Rattle.parsing.specs.Growing.{HasGrown}
 use Rattle.parsing.specs.Stopping.{Stop, StopsInside, stop_with}
-use Rattle.std.specs.Prelude.{Option, Some, None, IfNone}
+use Rattle.std.specs.Prelude.{Some}
 use Rattle.grammar.specs.Profile.{Profile}
 use Rattle.parsing.specs.Segment.{Derives, FailsAt, Refused, Takes, IsNearTo}
 use Rattle.parsing.proofs.Segments.{refused_map, told_goes, Begins, functions_back, near_told, stops_back, stops_here, told_begins}
@@ -63,24 +64,21 @@ pub telling_back : (after : Meaning) (profile : Profile) (s t : State) (stop : S
     StopsTelling after profile t stop → StopsTelling after profile s stop
 telling_back after profile s t stop consumed is p h = record {
   stops = stops_back profile s t stop consumed is p h.stops;
-  told = subst (λ (fs : List Definition). IfNone stop.fault (IsTold after profile fs)) (sym (functions_back profile s t stop consumed is p h.stops)) h.told;
+  told = λ device. subst (λ (fs : List Definition). IsTold after profile fs) (sym (functions_back profile s t stop consumed is p h.stops)) (h.told device);
 }
 
 -- before a further function is defined
-pub telling_inside : (after : Meaning) (profile : Profile) (s : State) (stop : Stop) → IfNone stop.fault (IsTold after profile s.functions) → StopsInside profile s stop → StopsTelling after profile s stop
+pub telling_inside : (after : Meaning) (profile : Profile) (s : State) (stop : Stop) → (refusal.Device ≡ stop.fault → IsTold after profile s.functions) → StopsInside profile s stop → StopsTelling after profile s stop
 telling_inside after profile s stop told h = record {
   stops = h.stops;
-  told = subst (λ (fs : List Definition). IfNone stop.fault (IsTold after profile fs)) (sym h.functions) told;
+  told = λ device. subst (λ (fs : List Definition). IsTold after profile fs) (sym h.functions) (told device);
 }
 
-pub told_alone : (o : Option Diagnostic) (after : Meaning) (profile : Profile) (functions : List Definition) → after profile (definitions_actions functions) → IfNone o (IsTold after profile functions)
-told_alone (Some d) after profile functions h = tt
-told_alone None after profile functions h = record { more = []; stands = subst (λ (xs : List Action). after profile xs) (sym (append-nil (definitions_actions functions))) h }
+pub told_alone : (after : Meaning) (profile : Profile) (functions : List Definition) → after profile (definitions_actions functions) → IsTold after profile functions
+told_alone after profile functions h = record { more = []; stands = subst (λ (xs : List Action). after profile xs) (sym (append-nil (definitions_actions functions))) h }
 
-pub told_grown : (o : Option Diagnostic) (before after : Meaning) (profile : Profile) (functions : List Definition) → IfNone o (HasGrown before after) → before profile (definitions_actions functions) →
-    IfNone o (IsTold after profile functions)
-told_grown (Some d) before after profile functions grown h = tt
-told_grown None before after profile functions grown h = record { more = grown.more; stands = grown.added profile _ h }
+pub told_grown : (before after : Meaning) (profile : Profile) (functions : List Definition) → HasGrown before after → before profile (definitions_actions functions) → IsTold after profile functions
+told_grown before after profile functions grown h = record { more = grown.more; stands = grown.added profile _ h }
 
 -- a fault behind a reading
 pub stops_then : (before mid after : Meaning) (front between : List Item) (at now : Place) (d : Stop) →
@@ -107,7 +105,7 @@ segment_advances before front pending stack at there depths a = record {
 -- a fault within one
 pub segment_stops : (before : Meaning) (front stack : List Item) (at : Place) (d : Stop) → levels stack ≡ 0 → FailsAt 0 front [] at d → StopsReading before before (front ++ stack) at d
 segment_stops before front stack at d depths fails located_tokens is profile functions h =
-    telling_inside before profile _ d (told_alone d.fault before profile functions h) (fails located_tokens is profile stack [] functions depths)
+    telling_inside before profile _ d (λ device. told_alone before profile functions h) (fails located_tokens is profile stack [] functions depths)
 
 -- a refusal behind a reading
 pub leave : (used : ℕ) (before mid after : Meaning) (front between : List Item) (at now : Place) (allocates more : Bool) (f : ParseFault) → ReadsOn before mid front between at now →
@@ -122,8 +120,8 @@ leave_segment used before front stack at allocates more f depths memory = refuse
 -- the first fault stands at the next token
 pub reading_fails_at_next : (before after : Meaning) (front : List Item) (at : Place) (d : Diagnostic) (used : ℕ) → IsNearTo at used →
     ((tail : List LocatedToken) (profile : Profile) (functions : List Definition) → Fails profile (state front (next_at at ∷ tail) [] (scope_at at) functions) d) →
-    StopsReading before after front at (stop_with (Some d) used)
+    StopsReading before after front at (stop_with (refusal.Source d) used)
 reading_fails_at_next before after front at d used near fails located_tokens is profile functions h =
     let b : Begins at.position.reading located_tokens = told_begins at located_tokens is in
     let here : Fails profile (state front located_tokens [] (scope_at at) functions) d = rw b.is (fails b.tail profile functions) in
-    record { stops = stops_here profile (state front located_tokens [] (scope_at at) functions) (stop_with (Some d) used) here (near_told at located_tokens used is near); told = tt }
+    record { stops = stops_here profile (state front located_tokens [] (scope_at at) functions) (stop_with (refusal.Source d) used) here (near_told at located_tokens used is near); told = λ device. absurd (cc) }

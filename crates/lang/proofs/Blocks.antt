@@ -1,7 +1,7 @@
 -- What the reading of a function derives.
 use Rattle.std.proofs.Common.{◌≡◌, ℕ, ◌+◌, ◌<◌, ◌≤◌, List, [], ◌∷◌, ◌++◌, refl, sym, ap, ◌∙◌, subst, Bool, true, false, arith, append_assoc, append-nil, le_refl}
 use Rattle.std.proofs.lemmas.Bool.Decides.{nat_tests}
-use Rattle.std.specs.Prelude.{length, nat_lt, Option, Some, None, IfNone}
+use Rattle.std.specs.Prelude.{length, nat_lt}
 use Rattle.tokens.specs.declared.located_tokens.LocatedToken.{LocatedToken}
 use Rattle.tokens.specs.declared.located_tokens.Punctuator.TheVariants as punctuator
 use Rattle.tokens.specs.declared.located_tokens.Token.{Token}
@@ -12,7 +12,7 @@ use Rattle.grammar.specs.declared.diagnostics.ParseFault.{ParseFault}
 use Rattle.grammar.specs.declared.diagnostics.ParseFault.TheVariants as refusal
 use Rattle.grammar.specs.Actions.{Action, Begin, Finish, body_actions, code_length, function_actions, last_return}
 use Rattle.grammar.specs.Building.{Meaning, AppendsAll}
-use Rattle.grammar.specs.Derivation.{ABody, Definition, definition_of, state}
+use Rattle.grammar.specs.Derivation.{ABody, Definition, Value, definition_of, state}
 use Rattle.grammar.specs.Faults.{definitions_actions, is_too_long}
 use Rattle.grammar.specs.Grammar.{Item, AName, Define, Defined, Exactly, FunctionBlock, Make, ParameterTypes, Parameters, Part, Close, is_fault, is_punctuator}
 use Rattle.grammar.specs.Parsing.{Passes, Fails}
@@ -30,8 +30,8 @@ use Rattle.grammar.specs.Compiled.{diagnostic}
 use Rattle.parsing.specs.Segment.{Derives, DerivesItem, FailsAt, FailsItem, Refused, Takes, IsNearTo}
 use Rattle.parsing.specs.Declarations.{heading_items}
 use Rattle.parsing.proofs.Growing.{grown_behind}
-use Rattle.parsing.proofs.Segments.{Begins, fails_then, goes_begins, joined, refused_map, stay, told_begins, told_goes, near_told, stops_here}
-use Rattle.lang.specs.Progress.{AddsBlock, ReadsOn, ClosesFunction, IsTooMuch, StopsReading, at_brace, at_definition, at_source}
+use Rattle.parsing.proofs.Segments.{Begins, fails_then, goes_begins, halts, joined, refused_map, stay, told_begins, told_goes, near_told, stops_here}
+use Rattle.lang.specs.Progress.{AddsBlock, ReadsOn, ClosesFunction, IsTooMuch, RefusesEnd, StopsReading, at_brace, at_definition, at_source}
 use Rattle.lang.proofs.Advancing.{definitions_actions-append, telling_back, telling_inside, told_alone, told_grown}
 
 abbrev pub definition_items : List Item
@@ -171,15 +171,15 @@ function_advances first second third fourth at now brace ended there number para
 
 heading_stops : (before : Meaning) (at : Place) (d : Stop) → FailsAt 0 heading_items [] at d → StopsReading before before at_definition at d
 heading_stops before at d fails located_tokens is profile functions h =
-    telling_inside before profile _ d (told_alone d.fault before profile functions h) (fails located_tokens is profile (Part FunctionBlock ∷ at_source) [] functions refl)
+    telling_inside before profile _ d (λ device. told_alone before profile functions h) (fails located_tokens is profile (Part FunctionBlock ∷ at_source) [] functions refl)
 
 pub heading_refused : (used : ℕ) (before : Meaning) (at : Place) (f : ParseFault) (more : Bool) → Refused (FailsAt 0 heading_items [] at) false used f → Refused (StopsReading before before at_definition at) more used f
 heading_refused used before at f more = refused_map used _ _ false more f (λ d. heading_stops before at d) (λ never. absurd (cc))
 
-block_stops : (before after : Meaning) (at now : Place) (d : Stop) → Derives 0 heading_items [] [] [] at now → IfNone d.fault (HasGrown before after) → FailsAt 0 (Part FunctionBlock ∷ []) [] now d →
+block_stops : (before after : Meaning) (at now : Place) (d : Stop) → Derives 0 heading_items [] [] [] at now → (refusal.Device ≡ d.fault → HasGrown before after) → FailsAt 0 (Part FunctionBlock ∷ []) [] now d →
     StopsReading before after at_definition at d
 block_stops before after at now d h grown fails located_tokens is profile functions k =
-    telling_inside after profile _ d (told_grown d.fault before after profile functions grown k)
+    telling_inside after profile _ d (λ device. told_grown before after profile functions (grown device) k)
     (fails_then 0 definition_items (Part FunctionBlock ∷ []) [] [] at now d (headed at now h) fails located_tokens is profile at_source [] functions refl)
 
 pub block_refused : (used : ℕ) (before second after : Meaning) (at now : Place) (number parameters : ℕ) (f : ParseFault) (allocates : Bool) → Derives 0 heading_items [] [] [] at now →
@@ -188,39 +188,40 @@ pub block_refused : (used : ℕ) (before second after : Meaning) (at now : Place
 block_refused used before second after at now number parameters f allocates h told = by_fault f
   where
     by_fault : (f : ParseFault) → (refusal.Device ≡ f → HasGrown second after) → Refused (FailsAt 0 (Part FunctionBlock ∷ []) [] now) allocates used f → Refused (StopsReading before after at_definition at) allocates used f
-    by_fault (refusal.Source d) grown fails = block_stops before after at now (stop_with (Some d) used) h tt fails
-    by_fault refusal.Device grown fails = block_stops before after at now (stop_with None used) h (grown_behind before second after _ told (grown refl)) fails
-    by_fault refusal.Memory grown fails = fails
+    by_fault (refusal.Source d) grown fails = block_stops before after at now (stop_with (refusal.Source d) used) h (λ device. absurd (cc)) fails
+    by_fault refusal.Device grown fails = block_stops before after at now (stop_with refusal.Device used) h (λ device. grown_behind before second after _ told (grown refl)) fails
+    by_fault refusal.Memory grown fails = (fails.0, block_stops before after at now (stop_with refusal.Memory used) h (λ device. absurd (cc)) fails.1)
 
--- where a fault is told, nothing is said of the builder
-fault_told : (o : Option Diagnostic) (d : Diagnostic) (told : Type 0) → o ≡ Some d → IfNone o told
-fault_told (Some e) d told is = tt
-fault_told None d told is = absurd (cc)
+-- the builder was refused memory
+pub definition_halts : (before after : Meaning) (pending : List Item) (left : List Value) (at now : Place) (used : ℕ) → Derives 0 definition_items pending [] left at now → IsNearTo now used →
+    StopsReading before after at_definition at (stop_with refusal.Memory used)
+definition_halts before after pending left at now used d near located_tokens is profile functions k =
+    telling_inside after profile _ (stop_with refusal.Memory used) (λ device. absurd (cc)) (halts 0 definition_items pending [] left at now used d near located_tokens is profile at_source [] functions refl)
 
-too_much_stops : (first second third after : Meaning) (at now brace : Place) (number parameters : ℕ) (d : Stop) → IsNearTo brace d.taken → Derives 0 heading_items [] [] [] at now → (b : AddsBlock second third now brace) →
-    AppendsAll first second (Begin number parameters ∷ []) → is_fault (next_at brace).token ≡ false → is_punctuator punctuator.CloseCurly (next_at brace).token ≡ true → IsTooMuch third (next_at brace).line d → StopsReading first after at_definition at d
-too_much_stops first second third after at now brace number parameters d near h b told sound closed much located_tokens is profile functions k =
+too_much_stops : (first second third after : Meaning) (at now brace : Place) (number parameters : ℕ) (d : Diagnostic) (used : ℕ) → IsNearTo brace used → Derives 0 heading_items [] [] [] at now → (b : AddsBlock second third now brace) →
+    AppendsAll first second (Begin number parameters ∷ []) → is_fault (next_at brace).token ≡ false → is_punctuator punctuator.CloseCurly (next_at brace).token ≡ true → IsTooMuch third (next_at brace).line d → StopsReading first after at_definition at (stop_with (refusal.Source d) used)
+too_much_stops first second third after at now brace number parameters d used near h b told sound closed much located_tokens is profile functions k =
     let s : Derives 0 definition_items at_brace [] (ABody b.tree ∷ []) at brace = braced second third at now brace h b in
     let t : Takes s.consumed located_tokens brace = s.told located_tokens is in
     let x : Begins brace.position.reading t.rest = told_begins brace t.rest t.shows in
     let long : is_too_long profile (functions ++ definition_of (scope_at brace) b.tree ∷ []) ≡ true = past_limit profile _ _ (code_with profile functions (scope_at brace) b.tree parameters number) (much.over profile _ (b.added profile _ (told profile _ k))) in
     let fails : Fails profile (state (at_brace ++ at_source) t.rest (ABody b.tree ∷ []) (scope_at brace) functions) (diagnostic (next_at brace).line code.TooMuchCode) =
     rw x.is (too_long profile (Close ∷ at_source) (next_at brace) x.tail (ABody b.tree ∷ []) (scope_at brace) functions sound closed (rw long refl)) in
-    let stop : Stops profile (state (at_brace ++ at_source) t.rest (ABody b.tree ∷ []) (scope_at brace) functions) d =
-    stops_here profile (state (at_brace ++ at_source) t.rest (ABody b.tree ∷ []) (scope_at brace) functions) d (rw much.is fails) (rw much.is (near_told brace t.rest d.taken t.shows near)) in
+    let stop : Stops profile (state (at_brace ++ at_source) t.rest (ABody b.tree ∷ []) (scope_at brace) functions) (stop_with (refusal.Source d) used) =
+    stops_here profile (state (at_brace ++ at_source) t.rest (ABody b.tree ∷ []) (scope_at brace) functions) (stop_with (refusal.Source d) used) (rw much.is fails) (near_told brace t.rest used t.shows near) in
     rw t.is
-    (telling_back after profile _ _ d s.consumed refl (s.passes t.rest (told_goes brace t.rest t.shows) profile at_source [] functions refl) (record { stops = stop; told = fault_told d.fault _ _ much.is }))
+    (telling_back after profile _ _ _ s.consumed refl (s.passes t.rest (told_goes brace t.rest t.shows) profile at_source [] functions refl) (record { stops = stop; told = λ device. absurd (cc) }))
 
 pub too_much_refused : (used : ℕ) (first second third after : Meaning) (at now brace : Place) (number parameters : ℕ) (f : ParseFault) (allocates : Bool) → IsNearTo brace used → Derives 0 heading_items [] [] [] at now → AddsBlock second third now brace →
-    AppendsAll first second (Begin number parameters ∷ []) → is_fault (next_at brace).token ≡ false → is_punctuator punctuator.CloseCurly (next_at brace).token ≡ true → Refused (IsTooMuch third (next_at brace).line) allocates used f →
+    AppendsAll first second (Begin number parameters ∷ []) → is_fault (next_at brace).token ≡ false → is_punctuator punctuator.CloseCurly (next_at brace).token ≡ true → RefusesEnd third (next_at brace).line allocates f →
     Refused (StopsReading first after at_definition at) allocates used f
 too_much_refused used first second third after at now brace number parameters f allocates near h b told sound closed =
     by_fault f
   where
-    by_fault : (f : ParseFault) → Refused (IsTooMuch third (next_at brace).line) allocates used f → Refused (StopsReading first after at_definition at) allocates used f
-    by_fault (refusal.Source d) much = too_much_stops first second third after at now brace number parameters (stop_with (Some d) used) near h b told sound closed much
-    by_fault refusal.Device much = too_much_stops first second third after at now brace number parameters (stop_with None used) near h b told sound closed much
-    by_fault refusal.Memory much = much
+    by_fault : (f : ParseFault) → RefusesEnd third (next_at brace).line allocates f → Refused (StopsReading first after at_definition at) allocates used f
+    by_fault (refusal.Source d) much = too_much_stops first second third after at now brace number parameters d used near h b told sound closed much
+    by_fault refusal.Device never = absurd never
+    by_fault refusal.Memory asks = (asks, definition_halts first after at_brace (ABody b.tree ∷ []) at brace used (braced second third at now brace h b) near)
 
 -- the closing brace itself is always there, but the token behind it may be a fault; the builder was told the function
 brace_stops : (first second third fourth : Meaning) (at now brace ended : Place) (number parameters variables : ℕ) (d : Stop) →
@@ -240,7 +241,7 @@ brace_stops first second third fourth at now brace ended number parameters varia
     rw t.is
     (telling_back fourth profile _ _ _ x.consumed refl (x.passes t.rest (told_goes brace t.rest t.shows) profile at_source [] functions refl)
     (telling_back fourth profile _ _ _ [] refl (define_step profile t.rest (scope_at brace) (scope_at ended) functions b.tree (Exactly punctuator.CloseCurly ∷ Close ∷ at_source) (next_at brace) y.tail y.is sound s.scope short)
-    (telling_inside fourth profile _ d (told_alone d.fault fourth profile (functions ++ f ∷ []) all)
+    (telling_inside fourth profile _ d (λ device. told_alone fourth profile (functions ++ f ∷ []) all)
     (fails 1 t.rest (tokens_ended brace ended s ∙ t.shows) profile (Close ∷ at_source) [] (functions ++ f ∷ []) refl))))
 
 pub brace_refused : (used : ℕ) (first second third fourth : Meaning) (at now brace ended : Place) (number parameters variables : ℕ) (f : ParseFault) (more : Bool) →

@@ -8,6 +8,7 @@ use Rattle.tokens.specs.declared.located_tokens.Token.{Token}
 use Rattle.tokens.specs.declared.located_tokens.Token.TheVariants as token
 use Rattle.tokens.specs.declared.located_tokens.Word.TheVariants as word
 use Rattle.grammar.specs.declared.diagnostics.ParseFault.{ParseFault}
+use Rattle.grammar.specs.declared.diagnostics.ParseFault.TheVariants as refusal
 use Rattle.grammar.specs.Building.{Meaning}
 use Rattle.grammar.specs.Compiled.{diagnostic}
 use Rattle.grammar.specs.Derivation.{next_of}
@@ -57,7 +58,7 @@ source_none (token.Constant value) after end type name = refl
 source_none (token.Fault lexical_error) after end type name = refl
 
 pub source_misfits : (before : Meaning) (at : Place) (used : ℕ) (near : IsNearTo at used) → is_fault (next_at at).token ≡ false → ((next_at at).token ≡ token.End → ⊥) → is_word word.Type (next_at at).token ≡ false → ((name : List ℕ) → (next_at at).token ≡ token.Name name → ⊥) →
-    StopsReading before before at_source at (stop_with (Some (diagnostic (next_at at).line (misfit_code (next_at at).token))) used)
+    StopsReading before before at_source at (stop_with (refusal.Source (diagnostic (next_at at).line (misfit_code (next_at at).token))) used)
 source_misfits before at used near sound end type name =
     reading_fails_at_next before before at_source at _ used near (λ tail profile functions. no_part profile Source [] (next_at at ∷ tail) [] (scope_at at) functions sound (source_none (next_at at).token _ end type name) refl)
 
@@ -145,7 +146,7 @@ head_none (token.Constant value) after name = refl
 head_none (token.Fault lexical_error) after name = refl
 
 pub head_misfits : (before : Meaning) (at : Place) (used : ℕ) (near : IsNearTo at used) → is_fault (next_at at).token ≡ false → ((name : List ℕ) → (next_at at).token ≡ token.Name name → ⊥) →
-    StopsReading before before at_head at (stop_with (Some (diagnostic (next_at at).line (misfit_code (next_at at).token))) used)
+    StopsReading before before at_head at (stop_with (refusal.Source (diagnostic (next_at at).line (misfit_code (next_at at).token))) used)
 head_misfits before at used near sound name =
     reading_fails_at_next before before at_head at _ used near (λ tail profile functions. no_part profile Head at_source (next_at at ∷ tail) [] (scope_at at) functions sound (head_none (next_at at).token _ name) refl)
 

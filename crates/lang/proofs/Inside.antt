@@ -8,6 +8,7 @@ use Rattle.tokens.specs.declared.located_tokens.Token.{Token}
 use Rattle.tokens.specs.declared.located_tokens.Token.TheVariants as token
 use Rattle.tokens.specs.Tokens.{followed_by}
 use Rattle.grammar.specs.declared.diagnostics.Code.TheVariants as code
+use Rattle.grammar.specs.declared.diagnostics.ParseFault.TheVariants as refusal
 use Rattle.grammar.specs.Building.{Meaning}
 use Rattle.grammar.specs.Compiled.{diagnostic}
 use Rattle.grammar.specs.Derivation.{ABody, Definition, state}
@@ -66,7 +67,7 @@ empty_leads located_token sound known rest = record {
 }
 
 pub brace_misfits : (at : Place) (used : ℕ) (near : IsNearTo at used) → is_fault (next_at at).token ≡ false → is_punctuator punctuator.OpenCurly (next_at at).token ≡ false →
-    FailsAt 0 (Part FunctionBlock ∷ []) [] at (stop_with (Some (diagnostic (next_at at).line (misfit_code (next_at at).token))) used)
+    FailsAt 0 (Part FunctionBlock ∷ []) [] at (stop_with (refusal.Source (diagnostic (next_at at).line (misfit_code (next_at at).token))) used)
 brace_misfits at used near sound other =
     fails_at_next 0 (Part FunctionBlock ∷ []) [] at _ used near (λ tail b profile stack values functions depths.
     no_part profile FunctionBlock stack (next_at at ∷ tail) values (scope_at at) functions sound (not_open (next_at at).token _ other) (first_level _ (levels stack) (next_at at ∷ tail) depths))

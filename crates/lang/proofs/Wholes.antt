@@ -140,7 +140,7 @@ lacking before after told at there f allocates w (AMain defined none same) = rw 
 
 -- Where the reading stops, the file's first fault is there.
 
-stops_bytes : (before after : Meaning) (told : Option (List ℕ)) (at : Place) (d : Diagnostic) (used : ℕ) → scope_at at ≡ no_names → tokens_at at ≡ option_map tokens told → StopsReading before after at_source at (stop_with (Some d) used) → FailsBytes before told d
+stops_bytes : (before after : Meaning) (told : Option (List ℕ)) (at : Place) (d : Diagnostic) (used : ℕ) → scope_at at ≡ no_names → tokens_at at ≡ option_map tokens told → StopsReading before after at_source at (stop_with (refusal.Source d) used) → FailsBytes before told d
 stops_bytes before after told at d used nothing tells stops bytes shows profile h =
     compiled_as profile bytes (tokens bytes) (Err d) refl
     (fault_verdict profile (tokens bytes) d (rw (sym nothing) (stops (tokens bytes) (tells ∙ ap (option_map tokens) shows) profile [] h).stops.fails))
@@ -149,7 +149,7 @@ pub stopped : (used : ℕ) (before after : Meaning) (told : Option (List ℕ)) (
     Refused (StopsReading before after at_source at) allocates used f → Says (FailsBytes before told) allocates f
 stopped used before after told at (refusal.Source d) allocates nothing tells h = stops_bytes before after told at d used nothing tells h
 stopped used before after told at refusal.Device allocates nothing tells h = tt
-stopped used before after told at refusal.Memory allocates nothing tells h = h
+stopped used before after told at refusal.Memory allocates nothing tells h = h.0
 
 first_fails : (before : Meaning) (told told' : Option (List ℕ)) (d : Diagnostic) → StopsOpening told told' (refusal.Source d) → FailsBytes before told d
 first_fails before told told' d stops bytes shows profile h =
@@ -160,7 +160,7 @@ first_fails before told told' d stops bytes shows profile h =
 pub first_refused : (before : Meaning) (told told' : Option (List ℕ)) (f : ParseFault) (more : Bool) → StopsOpening told told' f → Says (FailsBytes before told) more f
 first_refused before told told' (refusal.Source d) more stops = first_fails before told told' d stops
 first_refused before told told' refusal.Device more stops = tt
-first_refused before told told' refusal.Memory more stops = let never : false ≡ true = stops.refused in absurd (cc)
+first_refused before told told' refusal.Memory more stops = let never : false ≡ true = stops.refused.0 in absurd (cc)
 
 -- How much was taken.
 
@@ -178,7 +178,7 @@ pub has_taken : (first used : ℕ) (told between there to_come : Option (List �
     HasTaken used told to_come
 has_taken first used told between there to_come opened took same bytes is = same ∙ (took.rest told opened ∙ rw is refl)
 
-reading_takes : (used slack : ℕ) (before after : Meaning) (told to_come : Option (List ℕ)) (at : Place) (o : Option Diagnostic) → slack ≡ slack_of o → scope_at at ≡ no_names → tokens_at at ≡ option_map tokens told →
+reading_takes : (used slack : ℕ) (before after : Meaning) (told to_come : Option (List ℕ)) (at : Place) (o : ParseFault) → slack ≡ slack_of o → scope_at at ≡ no_names → tokens_at at ≡ option_map tokens told →
     HasTaken used told to_come → StopsReading before after at_source at (stop_with o used) → TakesNoMore before told to_come slack
 reading_takes used slack before after told to_come at o same nothing tells taken stops bytes shows profile h =
     let s : Stops profile (state at_source (tokens bytes) [] no_names []) (stop_with o used) =
@@ -187,19 +187,19 @@ reading_takes used slack before after told to_come at o same nothing tells taken
 
 pub stops_taking : (used : ℕ) (before after : Meaning) (told to_come : Option (List ℕ)) (at : Place) (f : ParseFault) (allocates : Bool) → scope_at at ≡ no_names → tokens_at at ≡ option_map tokens told →
     HasTaken used told to_come → Refused (StopsReading before after at_source at) allocates used f → StopsTaking before told to_come f
-stops_taking used before after told to_come at (refusal.Source d) allocates nothing tells taken h = reading_takes used 4096 before after told to_come at (Some d) refl nothing tells taken h
-stops_taking used before after told to_come at refusal.Device allocates nothing tells taken h = reading_takes used 0 before after told to_come at None refl nothing tells taken h
-stops_taking used before after told to_come at refusal.Memory allocates nothing tells taken h = tt
+stops_taking used before after told to_come at (refusal.Source d) allocates nothing tells taken h = reading_takes used 4096 before after told to_come at (refusal.Source d) refl nothing tells taken h
+stops_taking used before after told to_come at refusal.Device allocates nothing tells taken h = reading_takes used 0 before after told to_come at refusal.Device refl nothing tells taken h
+stops_taking used before after told to_come at refusal.Memory allocates nothing tells taken h = reading_takes used 4096 before after told to_come at refusal.Memory refl nothing tells taken h.1
 
-opening_takes : (slack : ℕ) (before : Meaning) (told to_come : Option (List ℕ)) (o : Option Diagnostic) (used : ℕ) → slack ≡ slack_of o → HasTaken used told to_come →
+opening_takes : (slack : ℕ) (before : Meaning) (told to_come : Option (List ℕ)) (o : ParseFault) (used : ℕ) → slack ≡ slack_of o → HasTaken used told to_come →
     StopsFirst (option_map tokens told) (stop_with o used) → TakesNoMore before told to_come slack
 opening_takes slack before told to_come o used same taken stops bytes shows profile h =
     takes_up_to profile bytes to_come used slack [] (tokens bytes) refl (none_before profile (start (tokens bytes))) (taken bytes shows) (rw same (stops.taken (tokens bytes) (ap (option_map tokens) shows)))
 
 pub first_taking : (before : Meaning) (told to_come : Option (List ℕ)) (f : ParseFault) → StopsOpening told to_come f → StopsTaking before told to_come f
-first_taking before told to_come (refusal.Source d) stops = opening_takes 4096 before told to_come (Some d) stops.taken refl stops.took stops.refused
-first_taking before told to_come refusal.Device stops = opening_takes 0 before told to_come None stops.taken refl stops.took stops.refused
-first_taking before told to_come refusal.Memory stops = tt
+first_taking before told to_come (refusal.Source d) stops = opening_takes 4096 before told to_come (refusal.Source d) stops.taken refl stops.took stops.refused
+first_taking before told to_come refusal.Device stops = opening_takes 0 before told to_come refusal.Device stops.taken refl stops.took stops.refused
+first_taking before told to_come refusal.Memory stops = let never : false ≡ true = stops.refused.0 in absurd (cc)
 
 -- a file that was read to its end
 pub whole_takes : (used : ℕ) (before after : Meaning) (told to_come : Option (List ℕ)) (at there : Place) → IsWhole before after told at there → IsNearTo there used → HasTaken used told to_come →
@@ -222,7 +222,7 @@ lacks_taking used before after told to_come at there f w (AMain defined none sam
 
 -- What was built where the device failed.
 
-builds_by : (after : Meaning) (profile : Profile) (bytes : List ℕ) (to_come : Option (List ℕ)) (used : ℕ) (s : Stops profile (start (tokens bytes)) (stop_with None used)) →
+builds_by : (after : Meaning) (profile : Profile) (bytes : List ℕ) (to_come : Option (List ℕ)) (used : ℕ) (s : Stops profile (start (tokens bytes)) (stop_with refusal.Device used)) →
     to_come ≡ Some (drop used bytes) → IsTold after profile (run s.steps (start (tokens bytes))).functions → HasBuilt after profile bytes to_come
 builds_by after profile bytes to_come used s took told =
     let defined : IsAmongDefined bytes used s.steps = built_by_stop bytes used s.steps (subst (λ (ls : List LocatedToken). used ≤ reach_of ls) (sym s.comes) (omega (arith, s.taken))) in
@@ -235,11 +235,11 @@ builds_by after profile bytes to_come used s took told =
     }
 
 stops_building : (used : ℕ) (before after : Meaning) (told to_come : Option (List ℕ)) (at : Place) → scope_at at ≡ no_names → tokens_at at ≡ option_map tokens told →
-    HasTaken used told to_come → StopsReading before after at_source at (stop_with None used) → BuildsAhead before after told to_come
+    HasTaken used told to_come → StopsReading before after at_source at (stop_with refusal.Device used) → BuildsAhead before after told to_come
 stops_building used before after told to_come at nothing tells taken stops bytes shows profile h =
-    let s : StopsTelling after profile (start (tokens bytes)) (stop_with None used) =
-    subst (λ (known : Scope). StopsTelling after profile (state at_source (tokens bytes) [] known []) (stop_with None used)) nothing (stops (tokens bytes) (tells ∙ ap (option_map tokens) shows) profile [] h) in
-    builds_by after profile bytes to_come used s.stops (taken bytes shows) s.told
+    let s : StopsTelling after profile (start (tokens bytes)) (stop_with refusal.Device used) =
+    subst (λ (known : Scope). StopsTelling after profile (state at_source (tokens bytes) [] known []) (stop_with refusal.Device used)) nothing (stops (tokens bytes) (tells ∙ ap (option_map tokens) shows) profile [] h) in
+    builds_by after profile bytes to_come used s.stops (taken bytes shows) (s.told refl)
 
 pub reading_builds : (used : ℕ) (before after : Meaning) (told to_come : Option (List ℕ)) (at : Place) (f : ParseFault) (allocates : Bool) → refusal.Device ≡ f → scope_at at ≡ no_names →
     tokens_at at ≡ option_map tokens told → HasTaken used told to_come → Refused (StopsReading before after at_source at) allocates used f → BuildsAhead before after told to_come
@@ -247,15 +247,15 @@ reading_builds used before after told to_come at (refusal.Source d) allocates de
 reading_builds used before after told to_come at refusal.Device allocates device nothing tells taken h = stops_building used before after told to_come at nothing tells taken h
 reading_builds used before after told to_come at refusal.Memory allocates device nothing tells taken h = absurd (cc)
 
-opening_builds : (before : Meaning) (told to_come : Option (List ℕ)) (used : ℕ) → HasTaken used told to_come → StopsFirst (option_map tokens told) (stop_with None used) → BuildsAhead before before told to_come
+opening_builds : (before : Meaning) (told to_come : Option (List ℕ)) (used : ℕ) → HasTaken used told to_come → StopsFirst (option_map tokens told) (stop_with refusal.Device used) → BuildsAhead before before told to_come
 opening_builds before told to_come used taken stops bytes shows profile h =
     let some : used ≤ reach_of (tokens bytes) + 0 = stops.taken (tokens bytes) (ap (option_map tokens) shows) in
-    let s : Stops profile (start (tokens bytes)) (stop_with None used) = stops_here profile (start (tokens bytes)) (stop_with None used) tt some in
+    let s : Stops profile (start (tokens bytes)) (stop_with refusal.Device used) = stops_here profile (start (tokens bytes)) (stop_with refusal.Device used) tt some in
     builds_by before profile bytes to_come used s (taken bytes shows) (first_told before profile bytes used some h)
   where
     first_told : (before : Meaning) (profile : Profile) (bytes : List ℕ) (used : ℕ) (some : used ≤ reach_of (tokens bytes) + 0) → before profile [] →
-        IsTold before profile (run (stops_here profile (start (tokens bytes)) (stop_with None used) tt some).steps (start (tokens bytes))).functions
-    first_told before profile bytes used some h = rw (functions_here profile (start (tokens bytes)) (stop_with None used) tt some) (record { more = []; stands = h })
+        IsTold before profile (run (stops_here profile (start (tokens bytes)) (stop_with refusal.Device used) tt some).steps (start (tokens bytes))).functions
+    first_told before profile bytes used some h = rw (functions_here profile (start (tokens bytes)) (stop_with refusal.Device used) tt some) (record { more = []; stands = h })
 
 -- at the first token nothing was told
 pub first_builds : (before : Meaning) (told to_come : Option (List ℕ)) (f : ParseFault) → refusal.Device ≡ f → StopsOpening told to_come f → BuildsAhead before before told to_come

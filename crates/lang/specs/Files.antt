@@ -52,12 +52,12 @@ TakesNoMore before told to_come more =
     (bytes : List ℕ) → told ≡ Some bytes → (profile : Profile) → before profile [] →
     TakesUpTo profile bytes to_come more
 
--- what was taken where a source was refused: a window past what decides the fault at most, and where the device failed,
+-- what was taken where no file is answered: a window past what decides the source at most, and where the device failed,
 -- nothing past it
 abbrev pub StopsTaking : Meaning → (told to_come : Option (List ℕ)) → ParseFault → Type 0
 StopsTaking before told to_come (refusal.Source d) = TakesNoMore before told to_come 4096
 StopsTaking before told to_come refusal.Device = TakesNoMore before told to_come 0
-StopsTaking before told to_come refusal.Memory = Unit {0}
+StopsTaking before told to_come refusal.Memory = TakesNoMore before told to_come 4096
 
 -- From a device that tells its bytes so many were taken, and the builder stands for the actions of the functions that
 -- these decide for certain, and further ones.

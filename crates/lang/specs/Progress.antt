@@ -1,11 +1,12 @@
 -- How far a file was read: the functions defined, the builder's actions, and the derivation from the file's start.
-use Rattle.std.specs.Prelude.{ℕ, ◌+◌, ◌<◌, ◌≤◌, ◌≡◌, List, [], ◌∷◌, ◌++◌, Bool, true, false, Some, None, IfNone, is_some}
+use Rattle.std.specs.Prelude.{ℕ, ◌+◌, ◌<◌, ◌≤◌, ◌≡◌, List, [], ◌∷◌, ◌++◌, Bool, true, false, Some, None, IsTrue, is_some}
 use Rattle.std.specs.Prelude.{Result, Ok, Err}
 use Rattle.tokens.specs.declared.located_tokens.LocatedToken.{LocatedToken}
 use Rattle.tokens.specs.declared.located_tokens.Punctuator.TheVariants as punctuator
 use Rattle.grammar.specs.declared.diagnostics.Code.TheVariants as code
 use Rattle.grammar.specs.Actions.{Action, Finish, body_actions, code_length, last_return}
 use Rattle.grammar.specs.Building.{Meaning, AppendsAll, StandsOpen}
+use Rattle.grammar.specs.declared.diagnostics.Diagnostic.{Diagnostic}
 use Rattle.grammar.specs.declared.diagnostics.ParseFault.{ParseFault}
 use Rattle.grammar.specs.declared.diagnostics.ParseFault.TheVariants as refusal
 use Rattle.grammar.specs.declared.pools.TheConstants.{MOST_NAMES}
@@ -50,7 +51,7 @@ pub record IsTold (after : Meaning) (profile : Profile) (functions : List Defini
 -- The derivation from s stops so. Where the device failed, the builder was told the functions defined up to there.
 pub record StopsTelling (after : Meaning) (profile : Profile) (s : State) (stop : Stop) : Type 0 where
   pub stops : Stops profile s stop
-  pub told : IfNone stop.fault (IsTold after profile (run stops.steps s).functions)
+  pub told : refusal.Device ≡ stop.fault → IsTold after profile (run stops.steps s).functions
 
 -- where the tokens are told, the derivation from these items on stops so
 abbrev pub StopsReading : (before after : Meaning) → List Item → Place → Stop → Type 0
@@ -100,10 +101,16 @@ pub record ClosesFunction (before after : Meaning) (variables : ℕ) : Type 0 wh
       code_length profile (acts ++ last_return) + 1 ≤ profile.instructions
 
 -- The code passes the limit, and the diagnostic says so at this line.
-pub record IsTooMuch (before : Meaning) (line : ℕ) (stop : Stop) : Type 0 where
-  pub is : stop.fault ≡ Some (diagnostic line code.TooMuchCode)
+pub record IsTooMuch (before : Meaning) (line : ℕ) (d : Diagnostic) : Type 0 where
+  pub is : d ≡ diagnostic line code.TooMuchCode
   pub over : (profile : Profile) (acts : List Action) → before profile acts →
       profile.instructions < code_length profile (acts ++ last_return) + 1
+
+-- what a refusal says at a function's end, whose closing brace is on this line
+abbrev pub RefusesEnd : (before : Meaning) (line : ℕ) (allocates : Bool) → ParseFault → Type 0
+RefusesEnd before line allocates (refusal.Source d) = IsTooMuch before line d
+RefusesEnd before line allocates refusal.Device = ⊥
+RefusesEnd before line allocates refusal.Memory = IsTrue allocates
 
 -- Each function that was mentioned is defined, and main is among them.
 pub record IsComplete (scope : Scope) : Type 0 where

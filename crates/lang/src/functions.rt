@@ -6,10 +6,9 @@ ghost use Rattle.grammar.specs.Building.{StandsOpen};
 ghost use Rattle.grammar.specs.Grammar.{is_punctuator};
 ghost use Rattle.parsing.specs.Advancing.{Advances, IsReady};
 ghost use Rattle.parsing.specs.Growing.{Grows};
-ghost use Rattle.parsing.specs.Position.{next_at, taken_at, token_of};
+ghost use Rattle.parsing.specs.Position.{next_at, token_of};
 ghost use Rattle.parsing.specs.Room.{HasPlace, room};
-ghost use Rattle.parsing.specs.Segment.{Refused};
-ghost use Rattle.lang.specs.Progress.{ClosesFunction, IsTooMuch, MayEnd, ParsesBlock, ReadsParts, at_definition};
+ghost use Rattle.lang.specs.Progress.{ClosesFunction, MayEnd, ParsesBlock, ReadsParts, RefusesEnd, at_definition};
 
 use grammar::{Build, BuildFault, Code, ParseFault};
 use parsing::{Declared, Parser, declarations, heading, is_punctuator};
@@ -63,9 +62,7 @@ fn close<F: Feed, B: Build>(
 ) -> Result<(), ParseFault>
     requires open { MayEnd (B.stands build.old) variables }
     ensures closed { OnOk result (ClosesFunction (B.stands build.old) (B.stands build.new) variables) }
-    ensures refused { IfErr result (λ fault.
-        Refused (IsTooMuch (B.stands build.old) (next_at parser.now.place).line) B.allocates
-        (taken_at parser.now.place) fault) }
+    ensures refused { IfErr result (RefusesEnd (B.stands build.old) (next_at parser.now.place).line B.allocates) }
     ensures device { IfErr result (λ fault. ParseFault.Device ≡ fault → ⊥) }
 {
     build.constant(0)?;

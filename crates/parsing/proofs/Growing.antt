@@ -1,7 +1,10 @@
 -- Builders that were told further actions.
-use Rattle.std.proofs.Common.{◌≡◌, List, [], ◌++◌, sym, subst, append_assoc, append-nil}
+use Rattle.std.proofs.Common.{◌≡◌, Bool, List, [], ◌++◌, sym, subst, append_assoc, append-nil}
+use Rattle.std.specs.Prelude.{Err, IsTrue}
+use Rattle.grammar.specs.declared.build.BuildFault.{BuildFault}
+use Rattle.grammar.specs.declared.build.BuildFault.TheVariants as fault
 use Rattle.grammar.specs.Actions.{Action}
-use Rattle.grammar.specs.Building.{Meaning, AppendsAll}
+use Rattle.grammar.specs.Building.{Meaning, AppendsAll, Refuses}
 use Rattle.parsing.specs.Growing.{HasGrown}
 
 -- a builder that was told nothing
@@ -25,3 +28,13 @@ grown_then before mid after a b = record {
 -- behind these actions further ones
 pub grown_behind : (before mid after : Meaning) (more : List Action) → AppendsAll before mid more → HasGrown mid after → HasGrown before after
 grown_behind before mid after more told h = grown_then before mid after (grown before mid more told) h
+
+-- A builder that was refused memory: of what it stands for nothing is known.
+
+abbrev pub unknown : Meaning
+unknown profile acts = Unit {0}
+
+-- it asks for memory
+pub refuses : (e : BuildFault) (allocates : Bool) → Refuses {A = Unit {0}} (Err e) allocates → IsTrue allocates
+refuses fault.Memory allocates h = h
+refuses fault.Full allocates h = absurd h

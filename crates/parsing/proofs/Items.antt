@@ -8,6 +8,7 @@ use Rattle.tokens.specs.declared.located_tokens.Token.TheVariants as token
 use Rattle.tokens.specs.declared.located_tokens.Word.{Word}
 use Rattle.grammar.specs.declared.diagnostics.Code.{Code}
 use Rattle.grammar.specs.declared.diagnostics.ParseFault.{ParseFault}
+use Rattle.grammar.specs.declared.diagnostics.ParseFault.TheVariants as refusal
 use Rattle.grammar.specs.Compiled.{diagnostic}
 use Rattle.grammar.specs.Derivation.{Value, name_of_token, of_name}
 use Rattle.grammar.specs.Faults.{misfit_code}
@@ -39,7 +40,7 @@ punctuator_stops reading known more m sound fits d stop depth =
     stops reading known known more d depth (Exactly m ∷ []) [] [] [] (λ rest b. punctuator_leads reading.next m depth known rest sound fits) stop
 
 pub punctuator_misfits : {n : ℕ} (at : Place) (m : Punctuator) → IsNearTo at n → is_fault (next_at at).token ≡ false → is_punctuator m (next_at at).token ≡ false →
-    FailsItem (Exactly m) at (stop_with (Some (diagnostic (next_at at).line (misfit_code (next_at at).token))) n)
+    FailsItem (Exactly m) at (stop_with (refusal.Source (diagnostic (next_at at).line (misfit_code (next_at at).token))) n)
 punctuator_misfits at m near sound misses depth =
     fails_at_next depth (Exactly m ∷ []) [] at _ _ near (λ tail b profile stack values functions depths. no_punctuator profile m stack (next_at at ∷ tail) values (scope_at at) functions sound misses)
 
@@ -58,7 +59,7 @@ word_stops reading known more w sound fits d stop depth =
     stops reading known known more d depth (AWord w ∷ []) [] [] [] (λ rest b. word_leads reading.next w depth known rest sound fits) stop
 
 pub word_misfits : {n : ℕ} (at : Place) (w : Word) → IsNearTo at n → is_fault (next_at at).token ≡ false → is_word w (next_at at).token ≡ false →
-    FailsItem (AWord w) at (stop_with (Some (diagnostic (next_at at).line (misfit_code (next_at at).token))) n)
+    FailsItem (AWord w) at (stop_with (refusal.Source (diagnostic (next_at at).line (misfit_code (next_at at).token))) n)
 word_misfits at w near sound misses depth =
     fails_at_next depth (AWord w ∷ []) [] at _ _ near (λ tail b profile stack values functions depths. no_word profile w stack (next_at at ∷ tail) values (scope_at at) functions sound misses)
 
@@ -88,7 +89,7 @@ name_stops reading known learnt more role bytes is knows d stop depth =
 
 -- the name has a fault in its role
 pub name_refused : {n : ℕ} (at : Place) (role : Role) (bytes : List ℕ) (c : Code) → IsNearTo at n → (next_at at).token ≡ token.Name bytes → RefusesName role bytes (scope_at at) c →
-    FailsItem (AName role) at (stop_with (Some (diagnostic (next_at at).line c)) n)
+    FailsItem (AName role) at (stop_with (refusal.Source (diagnostic (next_at at).line c)) n)
 name_refused at role bytes c near is fails depth =
     fails_at_next depth (AName role ∷ []) [] at _ _ near (λ tail b profile stack values functions depths. name_fails profile role bytes c stack (next_at at) tail values (scope_at at) functions (rw is refl) (rw is refl) (fails (next_at at ∷ tail)))
 
@@ -96,7 +97,7 @@ name_refused at role bytes c near is fails depth =
 pub name_misfits : (n : ℕ) (at : Place) (role : Role) (f : ParseFault) → IsNearTo at n → IsNoName (next_at at) f → Refused (FailsItem (AName role) at) false n f
 name_misfits n at role f near none = rw none.is (fails)
   where
-    fails : FailsItem (AName role) at (stop_with (Some (diagnostic (next_at at).line (misfit_code (next_at at).token))) n)
+    fails : FailsItem (AName role) at (stop_with (refusal.Source (diagnostic (next_at at).line (misfit_code (next_at at).token))) n)
     fails depth =
         fails_at_next depth (AName role ∷ []) [] at _ _ near (λ tail b profile stack values functions depths. no_name profile role stack (next_at at ∷ tail) values (scope_at at) functions none.sound none.other)
 

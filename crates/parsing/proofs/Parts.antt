@@ -11,6 +11,7 @@ use Rattle.tokens.specs.contracts.located_tokens.Punctuator as punctuators
 use Rattle.tokens.specs.contracts.located_tokens.Word as words
 use denote.Enum.Bare.{same_true}
 use Rattle.grammar.specs.declared.diagnostics.Code.TheVariants as code
+use Rattle.grammar.specs.declared.diagnostics.ParseFault.TheVariants as refusal
 use Rattle.grammar.specs.Compiled.{diagnostic}
 use Rattle.grammar.specs.Derivation.{State, Value, Definition, behind_rule, defined, made, next_of, state}
 use Rattle.grammar.specs.Faults.{fault, item_faults, level_faults, levels, most_levels, only_if}
@@ -138,7 +139,7 @@ punctuator_stops at d depth symbol m items trees sound chosen fits free stop =
 
 pub word_too_deep : (at : Place) (n : ℕ) (near : IsNearTo at n) (depth : ℕ) (symbol : Symbol) (w : Word) (items : List Item) (trees : List Value) → is_fault (next_at at).token ≡ false →
     Chooses symbol (next_at at).token (AWord w ∷ items) → is_word w (next_at at).token ≡ true → ((after : Token) → opens symbol (next_at at).token after ≡ true) → 64 ≤ depth →
-    FailsAt depth (Part symbol ∷ []) trees at (stop_with (Some (diagnostic (next_at at).line code.NestedTooDeeply)) n)
+    FailsAt depth (Part symbol ∷ []) trees at (stop_with (refusal.Source (diagnostic (next_at at).line code.NestedTooDeeply)) n)
 word_too_deep at n near depth symbol w items trees sound chosen fits opened deep =
     fails_at_next depth (Part symbol ∷ []) trees at _ n near (λ tail b profile stack values functions depths.
     too_deep_word profile symbol w items stack (next_at at) tail _ (scope_at at) functions sound (chosen (next_of tail)) fits
@@ -146,7 +147,7 @@ word_too_deep at n near depth symbol w items trees sound chosen fits opened deep
 
 pub punctuator_too_deep : (at : Place) (n : ℕ) (near : IsNearTo at n) (depth : ℕ) (symbol : Symbol) (m : Punctuator) (items : List Item) (trees : List Value) → is_fault (next_at at).token ≡ false →
     Chooses symbol (next_at at).token (Exactly m ∷ items) → is_punctuator m (next_at at).token ≡ true → ((after : Token) → opens symbol (next_at at).token after ≡ true) → 64 ≤ depth →
-    FailsAt depth (Part symbol ∷ []) trees at (stop_with (Some (diagnostic (next_at at).line code.NestedTooDeeply)) n)
+    FailsAt depth (Part symbol ∷ []) trees at (stop_with (refusal.Source (diagnostic (next_at at).line code.NestedTooDeeply)) n)
 punctuator_too_deep at n near depth symbol m items trees sound chosen fits opened deep =
     fails_at_next depth (Part symbol ∷ []) trees at _ n near (λ tail b profile stack values functions depths.
     too_deep profile symbol m items stack (next_at at) tail _ (scope_at at) functions sound (chosen (next_of tail)) fits

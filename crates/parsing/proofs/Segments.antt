@@ -1,6 +1,6 @@
 -- Segments of the derivation between two places of a parser.
 use Rattle.std.proofs.Common.{◌≡◌, ℕ, ◌+◌, ◌≤◌, drop, length, List, [], ◌∷◌, ◌++◌, refl, sym, ap, ◌∙◌, subst, Bool, true, false, append_assoc, arith}
-use Rattle.std.specs.Prelude.{Option, Some, None, IfSome, cond}
+use Rattle.std.specs.Prelude.{Option, Some, None, cond}
 use Rattle.std.specs.Option.{option_map}
 use Rattle.tokens.specs.Reading.{IsNear, Reading, reach, reach_of, shown, taken}
 use Rattle.tokens.specs.Tokens.{is_last, followed_by, tokens}
@@ -19,7 +19,7 @@ use Rattle.grammar.specs.Scope.{Scope, no_names}
 use Rattle.grammar.proofs.Runs.{then, back, here, later, run-add}
 use Rattle.grammar.proofs.Firsts.{at_fault, at_rest, run_keeps}
 use Rattle.parsing.specs.Position.{Position, Place, place, GoesOn, tokens_at, next_at, scope_at}
-use Rattle.parsing.specs.Stopping.{NoneBefore, Stop, Stops, StopsInside, slack, stop_with}
+use Rattle.parsing.specs.Stopping.{IfSource, NoneBefore, Stop, Stops, StopsInside, slack, stop_with}
 use Rattle.parsing.specs.Segment.{Derives, FailsAt, FailsItem, GoesPast, HasLexicalError, IsNearTo, Refused, StopsAt, StopsOpening, Takes}
 
 -- The tokens at a place.
@@ -139,7 +139,7 @@ none_before profile s = record {
 }
 
 -- it stops at the next token
-pub stops_here : (profile : Profile) (s : State) (stop : Stop) → IfSome stop.fault (Fails profile s) → stop.taken ≤ reach_of s.rest + slack stop.fault → Stops profile s stop
+pub stops_here : (profile : Profile) (s : State) (stop : Stop) → IfSource stop.fault (Fails profile s) → stop.taken ≤ reach_of s.rest + slack stop.fault → Stops profile s stop
 stops_here profile s stop fails taken = record {
   passed = [];
   rest = s.rest;
@@ -151,9 +151,10 @@ stops_here profile s stop fails taken = record {
   taken = taken;
 }
 
-fails_back : (profile : Profile) (s t : State) (o : Option Diagnostic) → Passes profile s t → IfSome o (Fails profile t) → IfSome o (Fails profile s)
-fails_back profile s t (Some d) p h = back profile s t d p h
-fails_back profile s t None p h = tt
+fails_back : (profile : Profile) (s t : State) (f : ParseFault) → Passes profile s t → IfSource f (Fails profile t) → IfSource f (Fails profile s)
+fails_back profile s t (refusal.Source d) p h = back profile s t d p h
+fails_back profile s t refusal.Device p h = tt
+fails_back profile s t refusal.Memory p h = tt
 
 pub none_back : (profile : Profile) (s t : State) (rest : List LocatedToken) → Passes profile s t → NoneBefore profile t rest → NoneBefore profile s rest
 none_back profile s t rest p h = record {
@@ -179,12 +180,12 @@ stops_back profile s t stop consumed is p h = record {
 
 -- The same before a further function is defined.
 
-pub functions_here : (profile : Profile) (s : State) (stop : Stop) (fails : IfSome stop.fault (Fails profile s)) (few : stop.taken ≤ reach_of s.rest + slack stop.fault) →
+pub functions_here : (profile : Profile) (s : State) (stop : Stop) (fails : IfSource stop.fault (Fails profile s)) (few : stop.taken ≤ reach_of s.rest + slack stop.fault) →
     (run (stops_here profile s stop fails few).steps s).functions ≡ s.functions
 unfolding stops_here
 functions_here profile s stop fails few = refl
 
-pub inside_here : (profile : Profile) (s : State) (stop : Stop) → IfSome stop.fault (Fails profile s) → stop.taken ≤ reach_of s.rest + slack stop.fault → StopsInside profile s stop
+pub inside_here : (profile : Profile) (s : State) (stop : Stop) → IfSource stop.fault (Fails profile s) → stop.taken ≤ reach_of s.rest + slack stop.fault → StopsInside profile s stop
 inside_here profile s stop fails few = record { stops = stops_here profile s stop fails few; functions = functions_here profile s stop fails few }
 
 -- the functions defined there are the same
@@ -218,13 +219,13 @@ near_told at located_tokens used is near = subst (λ (k : ℕ). used ≤ k + 409
 pub fails_at_next : (depth : ℕ) (front : List Item) (taken : List Value) (at : Place) (d : Diagnostic) (n : ℕ) → IsNearTo at n →
     ((tail : List LocatedToken) → IsBehind at.position.reading tail → (profile : Profile) (stack : List Item) (values : List Value) (functions : List Definition) → levels stack ≡ depth →
     Fails profile (state (front ++ stack) (next_at at ∷ tail) (taken ++ values) (scope_at at) functions) d) →
-    FailsAt depth front taken at (stop_with (Some d) n)
+    FailsAt depth front taken at (stop_with (refusal.Source d) n)
 fails_at_next depth front taken at d n near fails located_tokens is profile stack values functions depths =
     let b : Begins at.position.reading located_tokens = told_begins at located_tokens is in
     let bound : n ≤ reach_of located_tokens + 4096 = near_told at located_tokens n is near in
     let here : Fails profile (state (front ++ stack) located_tokens (taken ++ values) (scope_at at) functions) d =
     rw b.is (fails b.tail b.behind profile stack values functions depths) in
-    inside_here profile (state (front ++ stack) located_tokens (taken ++ values) (scope_at at) functions) (stop_with (Some d) n) here bound
+    inside_here profile (state (front ++ stack) located_tokens (taken ++ values) (scope_at at) functions) (stop_with (refusal.Source d) n) here bound
 
 -- the token behind the one that was passed is a fault, or the device failed
 pub stops : (reading : Reading) (known learnt : Scope) (more : Option (List ℕ)) (d : Stop) (depth : ℕ) (front pending : List Item) (taken left : List Value) →
@@ -234,15 +235,16 @@ stops reading known learnt more d depth front pending taken left leads stop loca
     let b : Begins reading located_tokens = told_begins (place (record { reading = reading; scope = known }) more) located_tokens is in
     let behind : b.tail ≡ reading.after ∷ b.behind.others = b.behind.is stop.more in
     let t : State = state (pending ++ stack) b.tail (left ++ values) learnt functions in
-    let fails : IfSome d.fault (Fails profile t) = lexical_error_fails d.fault b.tail b.behind.others behind stop.lexical_error in
+    let fails : IfSource d.fault (Fails profile t) = lexical_error_fails d.fault b.tail b.behind.others behind stop.lexical_error in
     let last : d.taken ≤ reach_of b.tail + slack d.fault = stop.taken reading.next b.tail (is ∙ ap Some b.is) in
     rw b.is (inside_back profile (state (front ++ stack) (reading.next ∷ b.tail) (taken ++ values) known functions) t d (reading.next ∷ []) refl refl
     ((leads b.tail b.behind).passes profile stack values functions depths) (inside_here profile t d fails last))
   where
-    lexical_error_fails : (o : Option Diagnostic) (tail others : List LocatedToken) → tail ≡ reading.after ∷ others → IfSome o (HasLexicalError (place (record { reading = reading; scope = learnt }) more)) →
-        IfSome o (Fails profile (state (pending ++ stack) tail (left ++ values) learnt functions))
-    lexical_error_fails None tail others behind h = tt
-    lexical_error_fails (Some e) tail others behind h =
+    lexical_error_fails : (f : ParseFault) (tail others : List LocatedToken) → tail ≡ reading.after ∷ others → IfSource f (HasLexicalError (place (record { reading = reading; scope = learnt }) more)) →
+        IfSource f (Fails profile (state (pending ++ stack) tail (left ++ values) learnt functions))
+    lexical_error_fails refusal.Device tail others behind h = tt
+    lexical_error_fails refusal.Memory tail others behind h = tt
+    lexical_error_fails (refusal.Source e) tail others behind h =
         let same : e ≡ diagnostic (line_of tail) (misfit_code (next_of tail)) = h.is ∙ rw behind refl in
         let lexical_error : is_fault (next_of tail) ≡ true = rw behind h.lexical_error in
         rw same (at_fault profile _ tail _ learnt functions lexical_error)
@@ -299,12 +301,24 @@ pub fails_behind : (depth inner : ℕ) (front mid below : List Item) (taken betw
 fails_behind depth inner front mid below taken between under at now d a opens fails =
     fails_then depth front (mid ++ below) taken (between ++ under) at now d a (under_more depth inner mid below between under now d opens fails)
 
+-- A builder was refused memory.
+
+-- at this place
+pub halts_here : (depth : ℕ) (front : List Item) (taken : List Value) (at : Place) (n : ℕ) → IsNearTo at n → FailsAt depth front taken at (stop_with refusal.Memory n)
+halts_here depth front taken at n near located_tokens is profile stack values functions depths =
+    inside_here profile (state (front ++ stack) located_tokens (taken ++ values) (scope_at at) functions) (stop_with refusal.Memory n) tt (near_told at located_tokens n is near)
+
+-- behind a segment
+pub halts : (depth : ℕ) (front mid : List Item) (taken between : List Value) (at now : Place) (n : ℕ) → Derives depth front mid taken between at now → IsNearTo now n →
+    FailsAt depth front taken at (stop_with refusal.Memory n)
+halts depth front mid taken between at now n d near = fails_then depth front mid taken between at now (stop_with refusal.Memory n) d (halts_here depth mid between now n near)
+
 -- Refusals.
 
 pub refused_map : (n : ℕ) (P Q : Stop → Type 0) (allocates more : Bool) (f : ParseFault) → ((d : Stop) → P d → Q d) → ((allocates ≡ true) → more ≡ true) → Refused P allocates n f → Refused Q more n f
-refused_map n P Q allocates more (refusal.Source d) each memory h = each (stop_with (Some d) n) h
-refused_map n P Q allocates more refusal.Device each memory h = each (stop_with None n) h
-refused_map n P Q allocates more refusal.Memory each memory h = memory h
+refused_map n P Q allocates more (refusal.Source d) each memory h = each (stop_with (refusal.Source d) n) h
+refused_map n P Q allocates more refusal.Device each memory h = each (stop_with refusal.Device n) h
+refused_map n P Q allocates more refusal.Memory each memory h = (memory h.0, each (stop_with refusal.Memory n) h.1)
 
 -- a refusal of a callee behind a segment is one of the caller's
 pub exit : (n : ℕ) (depth inner : ℕ) (front mid below : List Item) (taken between under : List Value) (at now : Place) (allocates more : Bool) (f : ParseFault) →

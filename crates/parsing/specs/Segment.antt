@@ -1,6 +1,6 @@
 -- What a part of the parser did: a segment of the derivation without a fault, or one that stops.
 use Rattle.std.specs.Prelude.{ℕ, ◌+◌, ◌≡◌, ◌<◌, ◌≤◌, List, [], ◌∷◌, ◌++◌, drop, length, Bool, true, false, IsTrue}
-use Rattle.std.specs.Prelude.{Option, Some, None, IfSome, Result, Ok, Err}
+use Rattle.std.specs.Prelude.{Option, Some, None, Result, Ok, Err}
 use Rattle.std.specs.Option.{option_map}
 use Rattle.tokens.specs.Reading.{reach, reach_of}
 use Rattle.tokens.specs.Tokens.{is_last, tokens}
@@ -18,7 +18,7 @@ use Rattle.grammar.specs.Parsing.{Passes}
 use Rattle.grammar.specs.Profile.{Profile}
 use Rattle.parsing.specs.Defining.{IsWithin}
 use Rattle.parsing.specs.Position.{Place, Position, GoesOn, tokens_at, next_at, scope_at}
-use Rattle.parsing.specs.Stopping.{Stop, StopsInside, slack, stop_with}
+use Rattle.parsing.specs.Stopping.{IfSource, Stop, StopsInside, slack, stop_with}
 
 -- the tokens told at a place are those that a segment took, and then those told behind it
 pub record Takes (consumed located_tokens : List LocatedToken) (there : Place) : Type 0 where
@@ -70,13 +70,13 @@ pub record HasLexicalError (here : Place) (d : Diagnostic) : Type 0 where
 -- the next token fits, and behind it a fault is the next, or the device failed
 pub record StopsAt (here : Place) (stop : Stop) : Type 0 where
   pub more : is_last (next_at here).token ≡ false
-  pub lexical_error : IfSome stop.fault (HasLexicalError here)
+  pub lexical_error : IfSource stop.fault (HasLexicalError here)
   pub taken : (next : LocatedToken) (others : List LocatedToken) → tokens_at here ≡ Some (next ∷ others) →
       stop.taken ≤ reach_of others + slack stop.fault
 
 -- the first token is a fault, or the device failed
 pub record StopsFirst (told : Option (List LocatedToken)) (stop : Stop) : Type 0 where
-  pub lexical_error : (located_tokens : List LocatedToken) → told ≡ Some located_tokens → IfSome stop.fault (λ d.
+  pub lexical_error : (located_tokens : List LocatedToken) → told ≡ Some located_tokens → IfSource stop.fault (λ d.
       (is_fault (next_of located_tokens) ≡ true)
       × (d ≡ diagnostic (line_of located_tokens) (misfit_code (next_of located_tokens))))
   pub taken : (located_tokens : List LocatedToken) → told ≡ Some located_tokens
@@ -99,12 +99,11 @@ pub record BeginsDefinition (number : ℕ) (old new : Position) : Type 0 where
   pub mentioned : number < length new.scope.functions
   pub within : IsWithin old.scope → IsWithin new.scope
 
--- what a refusal says, with so many bytes taken: of a source its fault, of the device how far it had to be read, of
--- memory that the builder asks for it
+-- what a refusal says, with so many bytes taken: where the derivation stops, and of memory that the builder asks for it
 abbrev pub Refused : (Stop → Type 0) → Bool → ℕ → ParseFault → Type 0
-Refused stops allocates taken (refusal.Source d) = stops (stop_with (Some d) taken)
-Refused stops allocates taken refusal.Device = stops (stop_with None taken)
-Refused stops allocates taken refusal.Memory = IsTrue allocates
+Refused stops allocates taken (refusal.Source d) = stops (stop_with (refusal.Source d) taken)
+Refused stops allocates taken refusal.Device = stops (stop_with refusal.Device taken)
+Refused stops allocates taken refusal.Memory = IsTrue allocates × stops (stop_with refusal.Memory taken)
 
 -- what a refusal at the first token says, by the bytes to come before and behind
 pub record StopsOpening (told told' : Option (List ℕ)) (fault : ParseFault) : Type 0 where

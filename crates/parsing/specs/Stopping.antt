@@ -1,26 +1,35 @@
--- Where a derivation stops: at its first fault, or where the device failed.
-use Rattle.std.specs.Prelude.{ℕ, ◌+◌, ◌≡◌, ◌≤◌, List, ◌++◌, Option, Some, None, IfSome, length}
+-- Where a derivation stops: at its first fault, or where the device failed or a builder was refused memory.
+use Rattle.std.specs.Prelude.{ℕ, ◌+◌, ◌≡◌, ◌≤◌, List, ◌++◌, length}
 use Rattle.tokens.specs.Reading.{reach_of}
 use Rattle.tokens.specs.declared.limits.TheConstants.{WINDOW}
 use Rattle.tokens.specs.declared.located_tokens.LocatedToken.{LocatedToken}
 use Rattle.grammar.specs.declared.diagnostics.Diagnostic.{Diagnostic}
+use Rattle.grammar.specs.declared.diagnostics.ParseFault.{ParseFault}
+use Rattle.grammar.specs.declared.diagnostics.ParseFault.TheVariants as refusal
 use Rattle.grammar.specs.Derivation.{State, run}
 use Rattle.grammar.specs.Faults.{Fault}
 use Rattle.grammar.specs.Parsing.{Fails, IsFault}
 use Rattle.grammar.specs.Profile.{Profile}
 
--- the fault, or none where the device failed; and how many bytes were taken from the device by then
+-- why, and how many bytes were taken from the device by then
 pub record Stop : Type 0 where
-  pub fault : Option Diagnostic
+  pub fault : ParseFault
   pub taken : ℕ
 
-abbrev pub stop_with : Option Diagnostic → ℕ → Stop
+abbrev pub stop_with : ParseFault → ℕ → Stop
 stop_with fault taken = record { fault = fault; taken = taken }
 
--- how many bytes may have been taken past what decides: a window where a fault is told, none where the device failed
-abbrev pub slack : Option Diagnostic → ℕ
-slack (Some d) = WINDOW
-slack None = 0
+-- what is said where a source's fault is told
+abbrev pub IfSource : ParseFault → (Diagnostic → Type 0) → Type 0
+IfSource (refusal.Source d) says = says d
+IfSource refusal.Device says = Unit {0}
+IfSource refusal.Memory says = Unit {0}
+
+-- how many bytes may have been taken past what decides: none where the device failed, else a window
+abbrev pub slack : ParseFault → ℕ
+slack (refusal.Source d) = WINDOW
+slack refusal.Device = 0
+slack refusal.Memory = WINDOW
 
 -- no fault of the derivation stands before these last tokens of the source
 pub record NoneBefore (profile : Profile) (s : State) (rest : List LocatedToken) : Type 0 where
@@ -35,7 +44,7 @@ pub record Stops (profile : Profile) (s : State) (stop : Stop) : Type 0 where
   pub steps : ℕ
   pub comes : (run steps s).rest ≡ rest
   pub none_before : NoneBefore profile s rest
-  pub fails : IfSome stop.fault (Fails profile s)
+  pub fails : IfSource stop.fault (Fails profile s)
   pub taken : stop.taken ≤ reach_of rest + slack stop.fault
 
 -- and no function was defined on the way there

@@ -12,7 +12,7 @@ use Rattle.code.specs.Generation.{ObjectCode, code_of}
 use Rattle.settings.specs.declared.settings.Mode.{Mode}
 use Rattle.series.specs.Compiling.{Source, and_file, files_of, codes_of, code_or_fault, compiled_code, pieces_of, source_pieces, compiling}
 use Rattle.series.specs.Pieces.{Taken, Writes, Begins}
-use Rattle.series.specs.Texts.{file_name}
+use Rattle.sinks.specs.Texts.{file_name}
 use Rattle.series.proofs.PiecesLemmas.{writes_then, begins_then, begins_more}
 use Rattle.series.proofs.RunsLemmas.{no_source}
 

@@ -16,7 +16,8 @@ use Rattle.series.specs.Courses.{Tallied, IsTallyOf, next_text, played_after, sc
 use Rattle.series.specs.Names.{robot_names}
 use Rattle.series.specs.Playing.{outcome_of, outcomes, report_text, totals_text}
 use Rattle.series.specs.Reports.{report}
-use Rattle.series.specs.Texts.{file_name, lines_text}
+use Rattle.sinks.specs.Texts.{file_name}
+use Rattle.series.specs.Lines.{lines_text}
 use Rattle.series.specs.Totals.{has_won, has_tied, has_lost, score_line, score_of, survivors, totals, totals_line}
 use Rattle.series.specs.declared.endings.Step.{Step}
 use Rattle.series.specs.declared.endings.Step.TheVariants.{Played}

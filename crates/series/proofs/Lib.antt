@@ -7,7 +7,5 @@ pub mod OutputLemmas
 pub mod PlayingLemmas
 pub mod SameReport
 pub mod PiecesLemmas
-pub mod TextsLemmas
+pub mod LinesLemmas
 pub mod SeriesTextsLemmas
-pub mod PortionsLemmas
-pub mod DraftLemmas

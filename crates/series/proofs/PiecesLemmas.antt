@@ -1,7 +1,7 @@
 -- One beginning of the output after another.
 use Rattle.std.proofs.Common.{inl, inr, ℕ, List, [], ◌∷◌, ◌++◌, refl, sym, subst}
 use Rattle.series.specs.Pieces.{Channel, Text, Faults, Piece, Taken, TakesFrontOn, Writes, Begins}
-use Rattle.series.proofs.PortionsLemmas.{nothing_taken}
+use Rattle.sinks.proofs.PortionsLemmas.{nothing_taken}
 
 -- pieces, and then more pieces
 pub writes_then : (before now after : Taken) (pieces more : List Piece) → Writes before now pieces → Writes now after more

@@ -6,7 +6,7 @@ use Rattle.grammar.specs.Tree.{File}
 use Rattle.settings.specs.Setup.{Setup}
 use Rattle.series.specs.Pieces.{Piece, Taken, taken, Writes, Begins}
 use Rattle.series.specs.Playing.{playing, report_text, reports, text_piece, totals_text}
-use Rattle.series.specs.Portions.{Portions, Takes, TakesFront}
+use Rattle.sinks.specs.Portions.{Portions, Takes, TakesFront}
 use Rattle.series.proofs.PiecesLemmas.{writes_then, begins_then, begins_more}
 
 -- a text that the sink took

@@ -5,7 +5,7 @@ use Rattle.std.proofs.Math.Seq.{map-set_same}
 use Rattle.series.specs.Compiling.{Source}
 use Rattle.series.specs.Failures.{Failures, failures, feed_failed, SinkFailed}
 use Rattle.series.specs.Runs.{AreSources}
-use Rattle.series.specs.Texts.{file_name}
+use Rattle.sinks.specs.Texts.{file_name}
 
 -- no source at all
 abbrev pub no_source : Source

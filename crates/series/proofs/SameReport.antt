@@ -15,7 +15,7 @@ use Rattle.series.specs.Output.{output, played}
 use Rattle.series.specs.Pieces.{Piece}
 use Rattle.series.specs.Playing.{outcome_of, playing, report_text, reports, text_piece, totals_text}
 use Rattle.series.specs.SameReport.{Contains, report_in, SameReport, with_matches}
-use Rattle.series.specs.Texts.{file_name}
+use Rattle.sinks.specs.Texts.{file_name}
 
 -- a faulty file leaves none
 none_later : (profile : Profile) (sources : List Source)

@@ -12,7 +12,7 @@ use Rattle.settings.specs.declared.settings.Mode.TheVariants.{Listing, Matches}
 use Rattle.series.specs.declared.endings.Status.{Status}
 use Rattle.series.specs.declared.endings.Status.TheVariants.{Done, Faulty}
 use Rattle.series.specs.Pieces.{Piece, Text, Faults}
-use Rattle.series.specs.Texts.{file_name, diagnostic_line}
+use Rattle.sinks.specs.Texts.{file_name, diagnostic_line}
 
 -- a source file: the word that names it, and its bytes
 pub record Source : Type 0 where

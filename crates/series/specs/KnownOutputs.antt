@@ -11,7 +11,7 @@ use Rattle.settings.specs.declared.settings.Mode.TheVariants.{Listing}
 use Rattle.series.specs.Names.{robot_names}
 use Rattle.series.specs.Pieces.{Text, Faults}
 use Rattle.series.specs.Reports.{report}
-use Rattle.series.specs.Texts.{file_name, column, diagnostic_line}
+use Rattle.sinks.specs.Texts.{file_name, column, diagnostic_line}
 use Rattle.series.specs.Totals.{score_of, totals}
 
 pub record KnownTexts : Type 0 where

@@ -1,9 +1,6 @@
-pub mod Portions
-pub mod Draft
-pub mod Texts
+pub mod Lines
 pub mod Names
 pub mod Pieces
-pub mod Recording
 pub mod Compiling
 pub mod Reports
 pub mod Totals

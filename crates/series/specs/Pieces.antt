@@ -1,6 +1,6 @@
 -- The output as pieces on two channels, and what two sinks took of it.
 use Rattle.std.specs.Prelude.{◌≡◌, ◌⊎◌, ℕ, List, [], ◌∷◌}
-use Rattle.series.specs.Portions.{Portions, Takes, TakesFront}
+use Rattle.sinks.specs.Portions.{Portions, Takes, TakesFront}
 
 -- where a piece is written
 pub data Channel : Type 0 where

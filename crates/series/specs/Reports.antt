@@ -2,7 +2,8 @@
 use Rattle.std.specs.Prelude.{ℕ, ◌+◌, List, [], ◌∷◌, ◌++◌, Bool, true, false, map, length, get_or, codes, decimal}
 use Rattle.std.specs.List.{range_with_len}
 use Rattle.battles.specs.Battle.{Outcome, alive}
-use Rattle.series.specs.Texts.{column, lines_text}
+use Rattle.sinks.specs.Texts.{column}
+use Rattle.series.specs.Lines.{lines_text}
 
 -- `Match {k}: cycles = {t}`
 abbrev pub match_line : ℕ → ℕ → List ℕ

@@ -3,7 +3,7 @@ use Rattle.std.specs.Prelude.{ℕ, ◌+◌, List, [], ◌∷◌, ◌++◌, Bool,
 use Rattle.std.specs.List.{range_with_len}
 use Rattle.battles.specs.Battle.{Outcome, alive}
 use Rattle.series.specs.declared.tallies.Score.{Score}
-use Rattle.series.specs.Texts.{lines_text}
+use Rattle.series.specs.Lines.{lines_text}
 
 abbrev pub survivors : Outcome → ℕ
 survivors outcome = count_by (λ damage. nat_lt damage 100) outcome.damages

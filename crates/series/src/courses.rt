@@ -6,14 +6,14 @@ ghost use Rattle.grammar.specs.Tree.{File};
 ghost use Rattle.series.specs.Courses.{IsTallyOf, next_text, played_after, step_of};
 ghost use Rattle.series.specs.Failures.{CountsSink};
 ghost use Rattle.series.specs.Playing.{outcomes, totals_text};
-ghost use Rattle.series.specs.Portions.{Puts};
+ghost use Rattle.sinks.specs.Portions.{Puts};
 
 use crate::endings::{SeriesFault, Step};
 use crate::reports::put_report;
-use crate::sink::Sink;
 use crate::tallies::{Tally, put_totals};
 use battles::{Programs, battle};
 use settings::Settings;
+use sinks::Sink;
 use std::marker::Model;
 use tokens::DeviceFault;
 

@@ -7,28 +7,21 @@ mod known;
 pub mod laws;
 mod listing;
 mod names;
-mod pen;
-mod recorder;
 mod reports;
 mod runs;
 mod series;
-mod sink;
 mod tallies;
-mod texts;
 
 pub use battles::Programs;
 pub use endings::{RunFault, SeriesFault, Status, Step};
 pub use known::known_outputs;
 pub use listing::put_listing;
-pub use pen::{PAGE, Pen};
-pub use recorder::Recorder;
 pub use runs::{compile_files, run};
 pub use series::{HoldsPrograms, Series};
 pub use settings::{
     CYCLES_DEFAULT, CYCLES_MAX, FILES_MAX, FIRST_MAX, MATCHES_MAX, Mode, SEED_DEFAULT, Settings,
 };
-pub use sink::{Sink, put_all};
-pub use texts::{name_of, put_diagnostic};
+pub use sinks::{PAGE, Pen, Recorder, Sink, name_of, put_all, put_diagnostic};
 pub use tokens::{DeviceFault, Feed};
 
 #[cfg(test)]
@@ -45,5 +38,3 @@ mod replay_tests;
 mod run_tests;
 #[cfg(test)]
 mod series_tests;
-#[cfg(test)]
-mod tests;

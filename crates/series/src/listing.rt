@@ -2,13 +2,12 @@
 
 ghost use Rattle.std.specs.Prelude.{◌≡◌, ℕ, ◌+◌, ◌-◌, ◌^◌, ◌<◌, ◌≤◌, List, [], ◌∷◌, ◌++◌, length};
 ghost use Rattle.code.specs.Listing.{lines_of, listing_of};
-ghost use Rattle.series.specs.Portions.{Puts};
-ghost use Rattle.series.specs.Draft.{MayFail, Adds};
-ghost use Rattle.series.specs.Texts.{lines_text};
+ghost use Rattle.sinks.specs.Portions.{Puts};
+ghost use Rattle.sinks.specs.Draft.{MayFail, Adds};
+ghost use Rattle.series.specs.Lines.{lines_text};
 
-use crate::pen::Pen;
-use crate::sink::Sink;
 use code::{Line, Program};
+use sinks::{Pen, Sink};
 use tokens::DeviceFault;
 
 /// Puts the listing of a program: the line of the file's name, and the program's lines.

@@ -4,7 +4,7 @@ ghost use Rattle.std.specs.Prelude.{◌≡◌, ◌<◌, [], List, length, map, s
 ghost use Rattle.battles.specs.Pairing.{paired};
 ghost use Rattle.series.specs.Names.{robot_names};
 
-use crate::texts::name_of;
+use sinks::name_of;
 
 /// Returns the name of a robot's file, by the words of all files. A single file is two robots.
 pub(crate) fn robot_name<'a>(words: &[&'a str], robot: usize) -> &'a [u8]

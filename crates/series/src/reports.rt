@@ -3,18 +3,17 @@
 ghost use Rattle.std.specs.Prelude.{◌≡◌, ℕ, ◌+◌, ◌-◌, ◌^◌, ◌<◌, ◌≤◌, List, [], ◌∷◌, ◌++◌, length, map, slice_index};
 ghost use Rattle.battles.specs.Battle.{alive};
 ghost use Rattle.battles.specs.Pairing.{paired};
-ghost use Rattle.series.specs.Draft.{MayFail, Adds};
-ghost use Rattle.series.specs.Portions.{Puts};
+ghost use Rattle.sinks.specs.Draft.{MayFail, Adds};
+ghost use Rattle.sinks.specs.Portions.{Puts};
 ghost use Rattle.series.specs.Reports.{report, robot_line, robot_lines, state_text};
 ghost use Rattle.series.specs.Names.{robot_names};
-ghost use Rattle.series.specs.Texts.{lines_text};
+ghost use Rattle.series.specs.Lines.{lines_text};
 ghost use Rattle.code.specs.Listing.{ended_line};
 
 use crate::names::robot_name;
-use crate::pen::Pen;
-use crate::sink::Sink;
 use battles::Outcome;
 use settings::FILES_MAX;
+use sinks::{Pen, Sink};
 use tokens::DeviceFault;
 
 /// Writes the report of the match of this number, as one piece. The words name the robots' files.

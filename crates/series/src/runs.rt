@@ -9,22 +9,21 @@ ghost use Rattle.series.specs.Failures.{Accounts, CountsSink, CountsSinks, failu
 ghost use Rattle.series.specs.Output.{Runs};
 ghost use Rattle.series.specs.Pieces.{taken, Writes, Begins};
 ghost use Rattle.series.specs.Playing.{playing};
-ghost use Rattle.series.specs.Portions.{Portions};
+ghost use Rattle.sinks.specs.Portions.{Portions};
 ghost use Rattle.series.specs.Reading.{Reads, TakesOf};
 ghost use Rattle.series.specs.Runs.{AreSources, Compiles, PutsPieces, programs_by};
-ghost use Rattle.series.specs.Texts.{file_name};
+ghost use Rattle.sinks.specs.Texts.{file_name};
 
 use crate::endings::{RunFault, SeriesFault, Status};
 use crate::listing::put_listing;
 use crate::series::Series;
-use crate::sink::Sink;
-use crate::texts::{name_of, put_diagnostic};
 use battles::Programs;
 use code::{Maker, Program};
 use grammar::laws::resolved_files;
 use grammar::{Diagnostic, ParseFault, Profile};
 use lang::parse;
 use settings::{Mode, Settings};
+use sinks::{Sink, name_of, put_diagnostic};
 use tokens::{DeviceFault, Feed};
 
 /// Runs what the settings ask for: each of their words has the feed of its file, in order.

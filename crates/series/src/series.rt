@@ -7,13 +7,13 @@ ghost use Rattle.grammar.specs.Tree.{File};
 ghost use Rattle.series.specs.Courses.{IsTallyOf, next_text, played_after, step_of};
 ghost use Rattle.series.specs.Failures.{CountsSink};
 ghost use Rattle.series.specs.Playing.{outcomes, totals_text};
-ghost use Rattle.series.specs.Portions.{Puts};
+ghost use Rattle.sinks.specs.Portions.{Puts};
 
 use crate::courses::Course;
 use crate::endings::{SeriesFault, Step};
-use crate::sink::Sink;
 use battles::Programs;
 use settings::Settings;
+use sinks::Sink;
 use std::marker::Model;
 
 /// What a series plays with: programs of its own, or borrowed ones. Programs are large, so whoever has little stack

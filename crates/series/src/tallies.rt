@@ -4,17 +4,16 @@ ghost use Rattle.std.specs.Prelude.{◌≡◌, ℕ, ◌+◌, ◌-◌, ◌^◌, �
 ghost use Rattle.battles.specs.Battle.{Outcome as Ended, alive};
 ghost use Rattle.code.specs.Listing.{ended_line};
 ghost use Rattle.series.specs.Courses.{Tallied, IsTallyOf, score_at, with_match};
-ghost use Rattle.series.specs.Draft.{MayFail, Adds};
-ghost use Rattle.series.specs.Portions.{Puts};
+ghost use Rattle.sinks.specs.Draft.{MayFail, Adds};
+ghost use Rattle.sinks.specs.Portions.{Puts};
 ghost use Rattle.series.specs.Names.{robot_names};
-ghost use Rattle.series.specs.Texts.{lines_text};
+ghost use Rattle.series.specs.Lines.{lines_text};
 ghost use Rattle.series.specs.Totals.{totals, score_line, score_lines, survivors};
 
 use crate::names::robot_name;
-use crate::pen::Pen;
-use crate::sink::Sink;
 use battles::Outcome;
 use settings::FILES_MAX;
+use sinks::{Pen, Sink};
 use std::marker::Model;
 use tokens::DeviceFault;
 

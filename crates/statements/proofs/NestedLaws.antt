@@ -4,6 +4,7 @@ use Rattle.std.specs.Prelude.{Option, Some, None}
 use Rattle.tokens.specs.declared.located_tokens.Punctuator.TheVariants as punctuator
 use Rattle.tokens.specs.declared.located_tokens.Word.TheVariants as word
 use Rattle.grammar.specs.declared.diagnostics.Code.TheVariants as code
+use Rattle.grammar.specs.declared.diagnostics.ParseFault.TheVariants as refusal
 use Rattle.grammar.specs.Actions.{Action, BeginWhile, ElsePart as BetweenBranches, EndIf, EndWhile, IfTest, WhileTest, body_actions, expr_actions}
 use Rattle.grammar.specs.Building.{Appends, AppendsAll, Meaning}
 use Rattle.grammar.specs.Compiled.{diagnostic}
@@ -51,7 +52,7 @@ block_fails at depth b sound is d fails =
     (part_stands at depth Statement (Part Block ∷ []) (ABody b ∷ []) sound begins.statement (free_of depth Statement (next_at at) begins.shallow)) (λ stack same. same) fails
 
 pub block_too_deep : (at : Place) (used : ℕ) (near : IsNearTo at used) (depth : ℕ) → is_fault (next_at at).token ≡ false → is_punctuator punctuator.OpenCurly (next_at at).token ≡ true → 64 ≤ depth →
-    FailsBody depth (Part Statement ∷ []) at (stop_with (Some (diagnostic (next_at at).line code.NestedTooDeeply)) used)
+    FailsBody depth (Part Statement ∷ []) at (stop_with (refusal.Source (diagnostic (next_at at).line code.NestedTooDeeply)) used)
 block_too_deep at used near depth sound is deep b =
     let begins : BeginsBlock (next_at at).token = begins_block _ is in
     block_fails at depth b sound is _ (punctuator_too_deep at used near depth Block punctuator.OpenCurly in_braces (ABody b ∷ []) sound begins.chosen is begins.opened deep)
@@ -132,12 +133,12 @@ while_stops at depth sound is shallow d stop b =
     word_stops at d depth Statement word.While (in_brackets ++ behind_while) (ABody b ∷ []) sound (while_chosen _ is) is (free_below depth Statement (next_at at) shallow) stop
 
 pub if_too_deep : (at : Place) (used : ℕ) (near : IsNearTo at used) (depth : ℕ) → is_fault (next_at at).token ≡ false → is_word word.If (next_at at).token ≡ true → 64 ≤ depth →
-    FailsBody depth (Part Statement ∷ []) at (stop_with (Some (diagnostic (next_at at).line code.NestedTooDeeply)) used)
+    FailsBody depth (Part Statement ∷ []) at (stop_with (refusal.Source (diagnostic (next_at at).line code.NestedTooDeeply)) used)
 if_too_deep at used near depth sound is deep b =
     word_too_deep at used near depth Statement word.If (in_brackets ++ behind_if) (ABody b ∷ []) sound (if_chosen _ is) is (if_opens _ is) deep
 
 pub while_too_deep : (at : Place) (used : ℕ) (near : IsNearTo at used) (depth : ℕ) → is_fault (next_at at).token ≡ false → is_word word.While (next_at at).token ≡ true → 64 ≤ depth →
-    FailsBody depth (Part Statement ∷ []) at (stop_with (Some (diagnostic (next_at at).line code.NestedTooDeeply)) used)
+    FailsBody depth (Part Statement ∷ []) at (stop_with (refusal.Source (diagnostic (next_at at).line code.NestedTooDeeply)) used)
 while_too_deep at used near depth sound is deep b =
     word_too_deep at used near depth Statement word.While (in_brackets ++ behind_while) (ABody b ∷ []) sound (while_chosen _ is) is (while_opens _ is) deep
 

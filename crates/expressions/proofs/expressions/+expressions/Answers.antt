@@ -1,16 +1,18 @@
 -- What each exit _ leaves _ to show: the fault goes back to the start, or the segments join.
-use Rattle.std.proofs.Common.{rules, ◌≡◌, ◌+◌, ◌<◌, ◌≤◌, ◌∙◌, ap, refl, true, false, arith}
+use Rattle.std.proofs.Common.{rules, [], ◌∷◌, ◌≡◌, ◌+◌, ◌<◌, ◌≤◌, ◌∙◌, ap, refl, true, false, arith}
 use Rattle.std.specs.Prelude.{None, Some}
 use Rattle.std.proofs.lemmas.Result.{err_from_is_err_and}
 use Rattle.tokens.specs.declared.located_tokens.LocatedToken.{LocatedToken}
 use Rattle.tokens.specs.declared.located_tokens.Punctuator.TheVariants as punctuator
-use Rattle.grammar.specs.Grammar.{is_fault, is_punctuator}
+use Rattle.grammar.specs.declared.diagnostics.ParseFault.TheVariants as refusal
+use Rattle.grammar.specs.Grammar.{Level, Part, Unary, is_fault, is_punctuator}
 use Rattle.grammar.specs.Operators.{operator_from, operator_of}
 use Rattle.parsing.specs.Room.{HasLeft, HasRoom, room}
 use Rattle.parsing.proofs.Advances.{kept_then, on, on_then}
-use Rattle.parsing.proofs.Growing.{grown, grown_behind, grown_nothing}
+use Rattle.parsing.proofs.Growing.{grown, grown_behind, grown_nothing, refuses, unknown}
+use Rattle.parsing.proofs.Segments.{halts, halts_here}
 use Rattle.expressions.proofs.AssignmentLaws.{IsAssignment, assignment_adds, plain_adds, plain_refused, sign_goes_on, sign_refused, store_follows, store_too_deep, target_refused, value_refused}
-use Rattle.expressions.proofs.CallLaws.{IsCall, argument_adds, argument_refused, arguments_end, arguments_refused, arguments_room, begin_follows, call_adds, call_close_refused, call_open_refused, call_too_deep, callee_refused, comma_refused, end_follows, first_adds, first_refused, next_argument_room, no_arguments}
+use Rattle.expressions.proofs.CallLaws.{IsCall, callee_halts, argument_adds, argument_refused, arguments_end, arguments_refused, arguments_room, begin_follows, call_adds, call_close_refused, call_open_refused, call_too_deep, callee_refused, comma_refused, end_follows, first_adds, first_refused, next_argument_room, no_arguments}
 use Rattle.expressions.proofs.NestedLaws.{NoOperator, NoPrimary, bracket_adds, bracket_too_deep, close_refused, inside_refused, open_ends, primary_adds, primary_misfits, primary_refused}
 use Rattle.expressions.proofs.ClimbingLaws.{at_its_own, climb_refused, climbs_end, climbs_first, climbs_on, first_stops, found, left_open, ten_levels}
 use Rattle.expressions.proofs.OperatorLaws.{apply_follows, middle_follows, operand_adds, operator_ends, right_has_room, right_refused}
@@ -468,3 +470,66 @@ pub unary-returns-in_err-primary-clause-grown : goal.unary-returns-in_err-primar
 unary-returns-in_err-primary-clause-grown g t c =
     let p = err_from_is_err_and c.from_residual-in_err-primary.result c.from_residual-in_err-primary.ensures.1 in
     rw (p.1, p.2) (c.in_err-primary.ensures.grown)
+
+-- Where the builder was refused memory.
+
+pub signed-returns-in_err-begin-clause-parses : goal.signed-returns-in_err-begin-clause-parses
+signed-returns-in_err-begin-clause-parses g t c =
+    let shallow : c.args.depth < 64 = omega arith in
+    let p = err_from_is_err_and c.from_residual-in_err-begin.result c.from_residual-in_err-begin.ensures.1 in
+    rw (p.1, p.2) (operand_refused _ c.args.parser.now.place _ c.args.depth c.args.sign _ refusal.Memory c.requires.is shallow c.in_ok-advance.ensures.consumes
+    (refuses c.in_err-begin.field-0.0 _ c.in_err-begin.ensures.memory, halts_here (c.args.depth + 1) (Part Unary ∷ []) [] _ _ c.in_ok-advance.ensures.kept.ready.near))
+
+pub signed-returns-in_err-end-clause-parses : goal.signed-returns-in_err-end-clause-parses
+signed-returns-in_err-end-clause-parses g t c =
+    let shallow : c.args.depth < 64 = omega arith in
+    let p = err_from_is_err_and c.from_residual-in_err-end.result c.from_residual-in_err-end.ensures.1 in
+    rw (p.1, p.2) (
+      refuses c.in_err-end.field-0.0 _ c.in_err-end.ensures.memory,
+      halts _ _ _ _ _ _ _ _
+          (sign_adds _ _ _ unknown c.args.parser.now.place _ _ c.args.depth c.args.sign c.requires.is shallow c.in_ok-advance.ensures.consumes c.in_ok-begin.ensures.told c.in_ok-unary.ensures.parses (λ profile acts h. tt) c.in_ok-unary.ensures.kept.ready.sound).derives c.in_ok-unary.ensures.kept.ready.near,
+    )
+
+pub operand-returns-in_err-tell_middle-clause-parses : goal.operand-returns-in_err-tell_middle-clause-parses
+operand-returns-in_err-tell_middle-clause-parses g t c =
+    let p = err_from_is_err_and c.from_residual-in_err-tell_middle.result c.from_residual-in_err-tell_middle.ensures.1 in
+    rw (p.1, p.2) (right_refused _ c.args.parser.now.place _ c.args.depth c.args.binary.level c.args.binary.op _ refusal.Memory (at_its_own _ c.args.binary c.requires.is) c.in_ok-advance.ensures.consumes
+    (refuses c.in_err-tell_middle.field-0.0 _ c.in_err-tell_middle.ensures.memory, halts_here c.args.depth (Part (Level (c.args.binary.level + 1)) ∷ []) [] _ _ c.in_ok-advance.ensures.kept.ready.near))
+
+pub operand-returns-in_err-binop-clause-parses : goal.operand-returns-in_err-binop-clause-parses
+operand-returns-in_err-binop-clause-parses g t c =
+    let p = err_from_is_err_and c.from_residual-in_err-binop.result c.from_residual-in_err-binop.ensures.1 in
+    rw (p.1, p.2) (
+      refuses c.in_err-binop.field-0.0 _ c.in_err-binop.ensures.memory,
+      λ left. halts _ _ _ _ _ _ _ _
+          ((operand_adds _ _ _ unknown c.args.parser.now.place _ _ c.args.depth c.args.binary.level c.args.binary.op (at_its_own _ c.args.binary c.requires.is) c.in_ok-advance.ensures.consumes c.in_ok-tell_middle.ensures.told c.in_ok-levels.ensures.parses (λ profile acts h. tt) c.in_ok-levels.ensures.kept.ready.sound).derives left) c.in_ok-levels.ensures.kept.ready.near,
+    )
+
+pub call-returns-in_err-begin_call-clause-parses : goal.call-returns-in_err-begin_call-clause-parses
+call-returns-in_err-begin_call-clause-parses g t c =
+    let shallow : c.args.depth < 64 = omega arith in
+    let is : IsCall c.args.parser.now.place c.args.depth = record { named = is_named _ c.requires.is.named; fits = c.requires.is.is; shallow = shallow } in
+    let p = err_from_is_err_and c.from_residual-in_err-begin_call.result c.from_residual-in_err-begin_call.ensures.1 in
+    rw (p.1, p.2) (refuses c.in_err-begin_call.field-0.0 _ c.in_err-begin_call.ensures.memory, callee_halts _ c.args.parser.now.place _ c.args.depth c.in_ok-callee.callee is c.in_ok-callee.ensures.matches c.in_ok-callee.ensures.kept.ready.near)
+
+pub call-returns-in_err-end_call-clause-parses : goal.call-returns-in_err-end_call-clause-parses
+call-returns-in_err-end_call-clause-parses g t c =
+    let shallow : c.args.depth < 64 = omega arith in
+    let is : IsCall c.args.parser.now.place c.args.depth = record { named = is_named _ c.requires.is.named; fits = c.requires.is.is; shallow = shallow } in
+    let p = err_from_is_err_and c.from_residual-in_err-end_call.result c.from_residual-in_err-end_call.ensures.1 in
+    rw (p.1, p.2) (
+      refuses c.in_err-end_call.field-0.0 _ c.in_err-end_call.ensures.memory,
+      halts _ _ _ _ _ _ _ _
+          (call_adds _ _ _ unknown c.args.parser.now.place _ _ _ _ c.args.depth c.in_ok-callee.callee is c.in_ok-callee.ensures.matches c.in_ok-expect.ensures.matches c.in_ok-arguments.ensures.parses c.in_ok-expect-2.ensures.matches c.in_ok-callee.ensures.within c.in_ok-expect-2.ensures.kept.ready.sound c.in_ok-begin_call.ensures.ok (λ profile acts h. tt)).derives c.in_ok-expect-2.ensures.kept.ready.near,
+    )
+
+pub assignment-returns-in_err-store-clause-parses : goal.assignment-returns-in_err-store-clause-parses
+assignment-returns-in_err-store-clause-parses g t c =
+    let shallow : c.args.depth < 64 = omega arith in
+    let is : IsAssignment c.args.parser.now.place c.args.op = record { named = is_named _ c.requires.is.named; is = c.requires.is.is } in
+    let p = err_from_is_err_and c.from_residual-in_err-store.result c.from_residual-in_err-store.ensures.1 in
+    rw (p.1, p.2) (
+      refuses c.in_err-store.field-0.0 _ c.in_err-store.ensures.memory,
+      halts _ _ _ _ _ _ _ _
+          (assignment_adds _ _ unknown c.args.parser.now.place _ _ _ c.args.depth c.args.op c.in_ok-var.var is shallow c.in_ok-var.ensures.matches c.in_ok-advance.ensures.consumes c.in_ok-expression.ensures.parses c.in_ok-var.ensures.within c.in_ok-expression.ensures.kept.ready.sound (λ profile acts h. tt)).derives c.in_ok-expression.ensures.kept.ready.near,
+    )

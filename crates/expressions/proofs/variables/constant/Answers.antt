@@ -2,7 +2,9 @@ use Rattle.std.proofs.Common.{[], ◌∷◌, ◌++◌, subst, ℤ, arith, to_z, 
 use Rattle.std.proofs.lemmas.Int.{to_z_pos}
 use Rattle.std.proofs.lemmas.Result.{err_from_is_err_and}
 use Rattle.grammar.specs.Actions.{PushConstant}
-use Rattle.parsing.proofs.Growing.{grown}
+use Rattle.grammar.specs.Grammar.{Part, Primary}
+use Rattle.parsing.proofs.Growing.{grown, refuses}
+use Rattle.parsing.proofs.Segments.{halts_here}
 use Rattle.expressions.proofs.VariableLaws.{constant_adds, constant_ends, constant_follows}
 use Rattle.expressions.proofs.variables.constant.Goals as goal
 
@@ -24,3 +26,10 @@ pub returns-in_err-advance-clause-grown : goal.returns-in_err-advance-clause-gro
 returns-in_err-advance-clause-grown g c =
     let p = err_from_is_err_and c.from_residual-in_err-advance.result c.from_residual-in_err-advance.ensures.1 in
     rw (p.1, p.2) (λ device. grown _ _ _ c.in_ok-constant.ensures.ok)
+
+-- Where the builder was refused memory.
+
+pub returns-in_err-constant-clause-parses : goal.returns-in_err-constant-clause-parses
+returns-in_err-constant-clause-parses g c =
+    let p = err_from_is_err_and c.from_residual.result c.from_residual.ensures.1 in
+    rw (p.1, p.2) (refuses c.in_err-constant.field-0.0 _ c.in_err-constant.ensures.memory, λ depth. halts_here depth (Part Primary ∷ []) [] _ _ c.requires.ready.near)

@@ -3,7 +3,8 @@ use Rattle.std.proofs.lemmas.Result.{err_from_is_err_and}
 use Rattle.grammar.specs.Actions.{PushConstant, StoreVariable}
 use Rattle.grammar.specs.Tree.{Assign, Constant}
 use Rattle.parsing.proofs.Advances.{on, on_then}
-use Rattle.parsing.proofs.Growing.{grown_nothing}
+use Rattle.parsing.proofs.Growing.{grown_nothing, refuses, unknown}
+use Rattle.parsing.proofs.Segments.{halts}
 use Rattle.expressions.specs.Signs.{step_store}
 use Rattle.expressions.proofs.TellingLaws.{next_follows}
 use Rattle.expressions.proofs.VariableLaws.{before_adds, before_punctuator_ends, before_name_ends, constant_follows, tree_follows}
@@ -48,3 +49,25 @@ pub returns-in_err-var-clause-grown : goal.returns-in_err-var-clause-grown
 returns-in_err-var-clause-grown g c =
     let p = err_from_is_err_and c.from_residual-in_err-var.result c.from_residual-in_err-var.ensures.1 in
     rw (p.1, p.2) (λ device. grown_nothing _)
+
+-- Where the builder was refused memory.
+
+pub returns-in_err-constant-clause-parses : goal.returns-in_err-constant-clause-parses
+returns-in_err-constant-clause-parses g c =
+    let p = err_from_is_err_and c.from_residual-in_err-constant.result c.from_residual-in_err-constant.ensures.1 in
+    rw (p.1, p.2) (
+      refuses c.in_err-constant.field-0.0 _ c.in_err-constant.ensures.memory,
+      λ depth. halts _ _ _ _ _ _ _ _
+          (before_adds unknown unknown unknown c.args.parser.now.place _ _ c.args.step c.in_ok-var.var c.requires.is c.in_ok-advance.ensures.consumes c.in_ok-var.ensures.matches c.in_ok-var.ensures.within c.in_ok-var.ensures.kept.ready.sound
+          (λ profile acts h. tt) (λ profile acts h. tt) depth).derives c.in_ok-var.ensures.kept.ready.near,
+    )
+
+pub returns-in_err-store-clause-parses : goal.returns-in_err-store-clause-parses
+returns-in_err-store-clause-parses g c =
+    let p = err_from_is_err_and c.from_residual-in_err-store.result c.from_residual-in_err-store.ensures.1 in
+    rw (p.1, p.2) (
+      refuses c.in_err-store.field-0.0 _ c.in_err-store.ensures.memory,
+      λ depth. halts _ _ _ _ _ _ _ _
+          (before_adds unknown unknown unknown c.args.parser.now.place _ _ c.args.step c.in_ok-var.var c.requires.is c.in_ok-advance.ensures.consumes c.in_ok-var.ensures.matches c.in_ok-var.ensures.within c.in_ok-var.ensures.kept.ready.sound
+          (λ profile acts h. tt) (λ profile acts h. tt) depth).derives c.in_ok-var.ensures.kept.ready.near,
+    )

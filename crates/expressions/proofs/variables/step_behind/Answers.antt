@@ -3,10 +3,10 @@ use Rattle.std.proofs.lemmas.Result.{err_from_is_err_and}
 use Rattle.grammar.specs.Actions.{Chop, FetchVariable, PushConstant, StoreVariable}
 use Rattle.grammar.specs.Tree.{Postfix}
 use Rattle.parsing.proofs.Advances.{on, on_then}
-use Rattle.parsing.proofs.Growing.{grown, grown_behind, grown_nothing}
+use Rattle.parsing.proofs.Growing.{grown, grown_behind, grown_nothing, refuses}
 use Rattle.expressions.specs.Signs.{step_store}
 use Rattle.expressions.proofs.TellingLaws.{appends_then, first_follows, next_follows}
-use Rattle.expressions.proofs.VariableLaws.{behind_adds, behind_punctuator_ends, behind_name_ends, is_named, tree_follows}
+use Rattle.expressions.proofs.VariableLaws.{behind_adds, behind_halts, behind_punctuator_ends, behind_name_ends, is_named, tree_follows}
 use Rattle.expressions.proofs.variables.step_behind.Goals as goal
 
 pub returns-in_err-var-clause-parses : goal.returns-in_err-var-clause-parses
@@ -67,3 +67,25 @@ pub returns-in_err-expect-clause-grown : goal.returns-in_err-expect-clause-grown
 returns-in_err-expect-clause-grown g c =
     let p = err_from_is_err_and c.from_residual-in_err-expect.result c.from_residual-in_err-expect.ensures.1 in
     rw (p.1, p.2) (λ device. grown_behind _ _ _ _ c.in_ok-fetch.ensures.ok (grown_behind _ _ _ _ c.in_ok-constant.ensures.ok (grown_behind _ _ _ _ c.in_ok-store.ensures.ok (grown _ _ _ c.in_ok-chop.ensures.ok))))
+
+-- Where the builder was refused memory.
+
+pub returns-in_err-fetch-clause-parses : goal.returns-in_err-fetch-clause-parses
+returns-in_err-fetch-clause-parses g c =
+    let p = err_from_is_err_and c.from_residual-in_err-fetch.result c.from_residual-in_err-fetch.ensures.1 in
+    rw (p.1, p.2) (refuses c.in_err-fetch.field-0.0 _ c.in_err-fetch.ensures.memory, behind_halts _ c.args.parser.now.place _ c.args.step c.in_ok-var.var (is_named _ c.requires.is.named) c.requires.is.is c.in_ok-var.ensures.matches c.in_ok-var.ensures.kept.ready.near)
+
+pub returns-in_err-constant-clause-parses : goal.returns-in_err-constant-clause-parses
+returns-in_err-constant-clause-parses g c =
+    let p = err_from_is_err_and c.from_residual-in_err-constant.result c.from_residual-in_err-constant.ensures.1 in
+    rw (p.1, p.2) (refuses c.in_err-constant.field-0.0 _ c.in_err-constant.ensures.memory, behind_halts _ c.args.parser.now.place _ c.args.step c.in_ok-var.var (is_named _ c.requires.is.named) c.requires.is.is c.in_ok-var.ensures.matches c.in_ok-var.ensures.kept.ready.near)
+
+pub returns-in_err-store-clause-parses : goal.returns-in_err-store-clause-parses
+returns-in_err-store-clause-parses g c =
+    let p = err_from_is_err_and c.from_residual-in_err-store.result c.from_residual-in_err-store.ensures.1 in
+    rw (p.1, p.2) (refuses c.in_err-store.field-0.0 _ c.in_err-store.ensures.memory, behind_halts _ c.args.parser.now.place _ c.args.step c.in_ok-var.var (is_named _ c.requires.is.named) c.requires.is.is c.in_ok-var.ensures.matches c.in_ok-var.ensures.kept.ready.near)
+
+pub returns-in_err-chop-clause-parses : goal.returns-in_err-chop-clause-parses
+returns-in_err-chop-clause-parses g c =
+    let p = err_from_is_err_and c.from_residual-in_err-chop.result c.from_residual-in_err-chop.ensures.1 in
+    rw (p.1, p.2) (refuses c.in_err-chop.field-0.0 _ c.in_err-chop.ensures.memory, behind_halts _ c.args.parser.now.place _ c.args.step c.in_ok-var.var (is_named _ c.requires.is.named) c.requires.is.is c.in_ok-var.ensures.matches c.in_ok-var.ensures.kept.ready.near)

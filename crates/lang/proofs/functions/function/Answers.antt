@@ -1,10 +1,12 @@
-use Rattle.std.proofs.Common.{◌≡◌, ℕ, [], false, refl, sym, ◌∙◌, arith}
+use Rattle.std.proofs.Common.{◌≡◌, ℕ, [], ◌∷◌, false, refl, sym, ◌∙◌, arith}
 use Rattle.std.proofs.lemmas.Result.{err_from_is_err_and}
 use Rattle.parsing.specs.Declarations.{heading_items}
 use Rattle.parsing.specs.Segment.{FailsAt}
+use Rattle.grammar.specs.Grammar.{FunctionBlock, Part}
+use Rattle.parsing.proofs.Growing.{refuses}
 use Rattle.parsing.proofs.Segments.{refused_map}
 use Rattle.parsing.proofs.Advances.{kept_then, on, on_then, stopped_then}
-use Rattle.lang.proofs.Blocks.{block_refused, brace_refused, closing_sound, ended, function_advances, heading_refused, renamed, short, told_function, too_much_refused}
+use Rattle.lang.proofs.Blocks.{block_refused, brace_refused, closing_sound, definition_halts, ended, function_advances, headed, heading_refused, renamed, short, told_function, too_much_refused}
 use Rattle.lang.proofs.Closing.{begun, closed, has_place, may_begin, may_end}
 use Rattle.lang.proofs.functions.function.Goals as goal
 
@@ -20,6 +22,14 @@ returns-in_err-number-clause-reads g c =
     let p = err_from_is_err_and c.from_residual.result c.from_residual.ensures.1 in
     rw (p.1, p.2) (heading_refused _ (g.B.Build.stands c.args.build.now) _ c.in_err-number.field-0.0 _
     (refused_map _ (λ d. (depth : ℕ) → FailsAt depth heading_items [] c.args.parser.now.place d) (FailsAt 0 heading_items [] c.args.parser.now.place) false false c.in_err-number.field-0.0 (λ d fails. fails 0) (λ same. same) c.in_err-number.ensures.matches))
+
+pub returns-in_err-begin_function-clause-reads : goal.returns-in_err-begin_function-clause-reads
+returns-in_err-begin_function-clause-reads g c =
+    let p = err_from_is_err_and c.from_residual-in_err-begin_function.result c.from_residual-in_err-begin_function.ensures.1 in
+    rw (p.1, p.2) (
+      refuses c.in_err-begin_function.field-0.0 _ c.in_err-begin_function.ensures.memory,
+      definition_halts (g.B.Build.stands c.args.build.now) _ (Part FunctionBlock ∷ []) [] _ _ _ (headed _ _ (c.in_ok-number.ensures.matches 0)) c.in_ok-number.ensures.kept.ready.near,
+    )
 
 pub returns-in_err-block-clause-reads : goal.returns-in_err-block-clause-reads
 returns-in_err-block-clause-reads g c =

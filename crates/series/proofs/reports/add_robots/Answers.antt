@@ -2,7 +2,7 @@ use Rattle.std.proofs.Common.{ap, ◌<◌, ◌≤◌, List, ℕ, length, map, ar
 use Rattle.std.proofs.lemmas.List.{take_all}
 use Rattle.series.specs.Names.{robot_names}
 use Rattle.series.specs.Reports.{robot_lines}
-use Rattle.series.proofs.TextsLemmas.{lines_text_then}
+use Rattle.series.proofs.LinesLemmas.{lines_text_then}
 use Rattle.series.proofs.SeriesTextsLemmas.{robot_line_at, length_robot_lines}
 use Rattle.series.proofs.reports.add_robots.Goals as goal
 

@@ -1,8 +1,8 @@
 use Rattle.std.proofs.Common.{take, map}
-use Rattle.series.specs.Draft.{MayFail, Adds}
+use Rattle.sinks.specs.Draft.{MayFail, Adds}
 use Rattle.series.specs.Names.{robot_names}
 use Rattle.series.specs.Reports.{robot_lines}
-use Rattle.series.specs.Texts.{lines_text}
+use Rattle.series.specs.Lines.{lines_text}
 use Rattle.series.proofs.reports.add_robots.Given as goal
 
 -- the lines of so many robots are added

@@ -3,7 +3,7 @@ use Rattle.grammar.specs.Tree.{File}
 use Rattle.code.specs.Codes.{AreCodesOf}
 use Rattle.series.specs.Pieces.{taken, Writes}
 use Rattle.series.specs.Playing.{reports}
-use Rattle.series.specs.Portions.{Portions}
+use Rattle.sinks.specs.Portions.{Portions}
 use Rattle.series.proofs.runs.play_all.Given as goal
 
 -- so many matches were played, and their reports written; no write has failed

@@ -4,7 +4,7 @@ use Rattle.series.specs.declared.tallies.Score.{Score}
 use Rattle.series.specs.Courses.{no_score, score_at}
 use Rattle.series.specs.Names.{robot_names}
 use Rattle.series.specs.Totals.{score_lines}
-use Rattle.series.proofs.TextsLemmas.{lines_text_then}
+use Rattle.series.proofs.LinesLemmas.{lines_text_then}
 use Rattle.series.proofs.SeriesTextsLemmas.{score_line_at, length_score_lines, length_robot_names, robots_there}
 use Rattle.series.proofs.tallies.add_scores.Goals as goal
 

@@ -1,9 +1,9 @@
 use Rattle.std.proofs.Common.{take, map}
 use Rattle.series.specs.Courses.{score_at}
-use Rattle.series.specs.Draft.{MayFail, Adds}
+use Rattle.sinks.specs.Draft.{MayFail, Adds}
 use Rattle.series.specs.Names.{robot_names}
 use Rattle.series.specs.Totals.{score_lines}
-use Rattle.series.specs.Texts.{lines_text}
+use Rattle.series.specs.Lines.{lines_text}
 use Rattle.series.proofs.tallies.add_scores.Given as goal
 
 -- the lines of so many robots are added

@@ -4,11 +4,13 @@ use Rattle.std.proofs.lemmas.Result.{err_from_is_err_and}
 use Rattle.tokens.specs.declared.located_tokens.Punctuator.TheVariants as punctuator
 use Rattle.tokens.specs.declared.located_tokens.Token.TheVariants as token
 use Rattle.tokens.specs.declared.located_tokens.Word.TheVariants as word
-use Rattle.grammar.specs.Grammar.{ElsePart, Make, Part, Repeat, Close, is_fault, is_punctuator, is_word}
+use Rattle.grammar.specs.Derivation.{ABody}
+use Rattle.grammar.specs.Grammar.{ElsePart, Make, Part, Repeat, Close, Statement, is_fault, is_punctuator, is_word}
 use Rattle.parsing.specs.Room.{HasPlace, room}
+use Rattle.statements.specs.Branches.{before_else}
 use Rattle.parsing.proofs.Advances.{kept_then, on, on_then, stays_ready}
-use Rattle.parsing.proofs.Growing.{grown, grown_behind, grown_nothing}
-use Rattle.parsing.proofs.Segments.{refused_map}
+use Rattle.parsing.proofs.Growing.{grown, grown_behind, grown_nothing, refuses, unknown}
+use Rattle.parsing.proofs.Segments.{halts, halts_here, refused_map}
 use Rattle.statements.proofs.NestedLaws.{block_adds, block_too_deep, brace_fails, brace_stops, branch_adds, declarations_fail, else_adds, else_fails, else_stops, first_fails, if_past, if_closes, if_stops, if_too_deep, no_else_adds, repetition_adds, second_fails, statements_begin, statements_end, statements_fail, statements_more, test_fails, while_past, while_closes, while_stops, while_too_deep, within_fails}
 use Rattle.statements.proofs.SimpleLaws.{empty_adds, empty_fails}
 use Rattle.statements.proofs.Tellings.{branch_kept, branch_open, branch_place, else_place, loop_open, loop_room, may_begin_loop, may_end_branch, may_end_loop, may_tell_else, may_test_if, may_test_loop, place_deeper, place_kept, room_in_brackets, turn_open, turn_place}
@@ -370,3 +372,59 @@ pub statement-returns-in_err-expect-in-Punctuator-Semicolon-clause-grown : goal.
 statement-returns-in_err-expect-in-Punctuator-Semicolon-clause-grown g t c =
     let p = err_from_is_err_and c.from_residual.result c.from_residual.ensures.1 in
     rw (p.1, p.2) (λ device. grown_nothing _)
+
+-- Where the builder was refused memory.
+
+pub branch-returns-in_err-if_test-clause-parses : goal.branch-returns-in_err-if_test-clause-parses
+branch-returns-in_err-if_test-clause-parses g t c =
+    let shallow : c.args.depth < 64 = omega arith in
+    let begun = if_past _ _ c.args.depth c.requires.ready.sound c.requires.is shallow c.in_ok-advance.ensures.consumes in
+    let p = err_from_is_err_and c.from_residual-in_err-if_test.result c.from_residual-in_err-if_test.ensures.1 in
+    rw (p.1, p.2) (
+      refuses c.in_err-if_test.field-0.0 _ c.in_err-if_test.ensures.memory,
+      first_fails _ _ _ _ _ c.args.depth (Part ElsePart ∷ Close ∷ []) if_closes begun c.in_ok-condition.ensures.parses c.in_ok-condition.ensures.kept.ready.sound _
+          (λ b. halts_here _ (Part Statement ∷ []) (ABody b ∷ []) _ _ c.in_ok-condition.ensures.kept.ready.near),
+    )
+
+pub branch-returns-in_err-end_if-clause-parses : goal.branch-returns-in_err-end_if-clause-parses
+branch-returns-in_err-end_if-clause-parses g t c =
+    let shallow : c.args.depth < 64 = omega arith in
+    let begun = if_past _ _ c.args.depth c.requires.ready.sound c.requires.is shallow c.in_ok-advance.ensures.consumes in
+    let p = err_from_is_err_and c.from_residual-in_err-end_if.result c.from_residual-in_err-end_if.ensures.1 in
+    rw (p.1, p.2) (
+      refuses c.in_err-end_if.field-0.0 _ c.in_err-end_if.ensures.memory,
+      λ b. halts _ _ _ _ _ _ _ _
+          ((branch_adds _ _ _ _ _ _ _ _ _ _ unknown c.args.depth shallow begun c.in_ok-condition.ensures.parses c.in_ok-condition.ensures.kept.ready.sound c.in_ok-if_test.ensures.ok c.in_ok-statement.ensures.parses c.in_ok-else_part.ensures.parses c.in_ok-else_part.ensures.kept.ready.sound (λ profile acts h. tt)).derives b) c.in_ok-else_part.ensures.kept.ready.near,
+    )
+
+pub repetition-returns-in_err-begin_while-clause-parses : goal.repetition-returns-in_err-begin_while-clause-parses
+repetition-returns-in_err-begin_while-clause-parses g t c =
+    let p = err_from_is_err_and c.from_residual.result c.from_residual.ensures.1 in
+    rw (p.1, p.2) (refuses c.in_err-begin_while.field-0.0 _ c.in_err-begin_while.ensures.memory, λ b. halts_here _ (Part Statement ∷ []) (ABody b ∷ []) _ _ c.requires.ready.near)
+
+pub repetition-returns-in_err-while_test-clause-parses : goal.repetition-returns-in_err-while_test-clause-parses
+repetition-returns-in_err-while_test-clause-parses g t c =
+    let shallow : c.args.depth < 64 = omega arith in
+    let begun = while_past _ _ c.args.depth c.requires.ready.sound c.requires.is shallow c.in_ok-advance.ensures.consumes in
+    let p = err_from_is_err_and c.from_residual-in_err-while_test.result c.from_residual-in_err-while_test.ensures.1 in
+    rw (p.1, p.2) (
+      refuses c.in_err-while_test.field-0.0 _ c.in_err-while_test.ensures.memory,
+      first_fails _ _ _ _ _ c.args.depth (Make Repeat ∷ Close ∷ []) while_closes begun c.in_ok-condition.ensures.parses c.in_ok-condition.ensures.kept.ready.sound _
+          (λ b. halts_here _ (Part Statement ∷ []) (ABody b ∷ []) _ _ c.in_ok-condition.ensures.kept.ready.near),
+    )
+
+pub repetition-returns-in_err-end_while-clause-parses : goal.repetition-returns-in_err-end_while-clause-parses
+repetition-returns-in_err-end_while-clause-parses g t c =
+    let shallow : c.args.depth < 64 = omega arith in
+    let begun = while_past _ _ c.args.depth c.requires.ready.sound c.requires.is shallow c.in_ok-advance.ensures.consumes in
+    let p = err_from_is_err_and c.from_residual-in_err-end_while.result c.from_residual-in_err-end_while.ensures.1 in
+    rw (p.1, p.2) (
+      refuses c.in_err-end_while.field-0.0 _ c.in_err-end_while.ensures.memory,
+      λ b. halts _ _ _ _ _ _ _ _
+          ((repetition_adds _ _ _ _ _ _ _ _ _ unknown c.args.depth shallow begun c.in_ok-begin_while.ensures.ok c.in_ok-condition.ensures.parses c.in_ok-condition.ensures.kept.ready.sound c.in_ok-while_test.ensures.ok c.in_ok-statement.ensures.parses c.in_ok-statement.ensures.kept.ready.sound (λ profile acts h. tt)).derives b) c.in_ok-statement.ensures.kept.ready.near,
+    )
+
+pub else_part-returns-in_err-else_part-clause-parses : goal.else_part-returns-in_err-else_part-clause-parses
+else_part-returns-in_err-else_part-clause-parses g t c =
+    let p = err_from_is_err_and c.from_residual.result c.from_residual.ensures.1 in
+    rw (p.1, p.2) (refuses c.in_err-else_part.field-0.0 _ c.in_err-else_part.ensures.memory, λ s e b. halts_here _ (Part ElsePart ∷ []) (before_else s e b) _ _ c.requires.ready.near)

@@ -1,9 +1,10 @@
-use Rattle.std.proofs.Common.{◌≡◌, true, false}
+use Rattle.std.proofs.Common.{◌≡◌, [], ◌∷◌, true, false}
 use Rattle.std.proofs.lemmas.Result.{err_from_is_err_and}
 use Rattle.tokens.specs.declared.located_tokens.Punctuator.TheVariants as punctuator
-use Rattle.grammar.specs.Grammar.{is_fault, is_punctuator}
+use Rattle.grammar.specs.Grammar.{Back, Part, is_fault, is_punctuator}
 use Rattle.parsing.proofs.Advances.{on, stays_ready}
-use Rattle.parsing.proofs.Segments.{refused_map}
+use Rattle.parsing.proofs.Growing.{refuses}
+use Rattle.parsing.proofs.Segments.{halts_here, refused_map}
 use Rattle.parsing.specs.Room.{room}
 use Rattle.statements.proofs.Openings.{may_push}
 use Rattle.statements.proofs.SimpleLaws.{back_adds, back_fails, zero_adds}
@@ -43,3 +44,10 @@ pub returns-in_err-expression-clause-grown : goal.returns-in_err-expression-clau
 returns-in_err-expression-clause-grown g c =
     let p = err_from_is_err_and c.from_residual-in_err-expression.result c.from_residual-in_err-expression.ensures.1 in
     rw (p.1, p.2) (c.in_err-expression.ensures.grown)
+
+-- Where the builder was refused memory.
+
+pub returns-in_err-constant-clause-parses : goal.returns-in_err-constant-clause-parses
+returns-in_err-constant-clause-parses g c =
+    let p = err_from_is_err_and c.from_residual.result c.from_residual.ensures.1 in
+    rw (p.1, p.2) (refuses c.in_err-constant.field-0.0 _ c.in_err-constant.ensures.memory, halts_here _ (Part Back ∷ []) [] _ _ c.requires.ready.near)

@@ -1,8 +1,8 @@
 use Rattle.std.proofs.Common.{false}
 use Rattle.std.proofs.lemmas.Result.{err_from_is_err_and}
 use Rattle.parsing.proofs.Advances.{on, on_then}
-use Rattle.parsing.proofs.Growing.{grown}
-use Rattle.parsing.proofs.Segments.{refused_map}
+use Rattle.parsing.proofs.Growing.{grown, refuses, unknown}
+use Rattle.parsing.proofs.Segments.{halts, refused_map}
 use Rattle.parsing.specs.Room.{room}
 use Rattle.statements.proofs.Openings.{may_chop, value_inside}
 use Rattle.statements.proofs.SimpleLaws.{evaluation_adds, semicolon_fails, value_fails}
@@ -41,3 +41,14 @@ pub returns-in_err-expect-clause-grown : goal.returns-in_err-expect-clause-grown
 returns-in_err-expect-clause-grown g c =
     let p = err_from_is_err_and c.from_residual-in_err-expect.result c.from_residual-in_err-expect.ensures.1 in
     rw (p.1, p.2) (λ device. grown _ _ _ c.in_ok-expression.ensures.parses.added)
+
+-- Where the builder was refused memory.
+
+pub returns-in_err-chop-clause-parses : goal.returns-in_err-chop-clause-parses
+returns-in_err-chop-clause-parses g c =
+    let p = err_from_is_err_and c.from_residual-in_err-chop.result c.from_residual-in_err-chop.ensures.1 in
+    rw (p.1, p.2) (
+      refuses c.in_err-chop.field-0.0 _ c.in_err-chop.ensures.memory,
+      λ b. halts _ _ _ _ _ _ _ _
+          ((evaluation_adds _ _ _ _ _ unknown c.args.depth c.requires.ready.sound c.requires.plain c.in_ok-expression.ensures.parses c.in_ok-expect.ensures.matches c.in_ok-expect.ensures.kept.ready.sound (λ profile acts h. tt)).derives b) c.in_ok-expect.ensures.kept.ready.near,
+    )

@@ -4,8 +4,8 @@ use Rattle.grammar.specs.Actions.{GiveBack}
 use Rattle.grammar.specs.Following.{AValue, is_number}
 use Rattle.grammar.proofs.FollowingLaws.{origin_of}
 use Rattle.parsing.proofs.Advances.{kept_then, on, on_then}
-use Rattle.parsing.proofs.Growing.{grown, grown_nothing}
-use Rattle.parsing.proofs.Segments.{refused_map}
+use Rattle.parsing.proofs.Growing.{grown, grown_nothing, refuses, unknown}
+use Rattle.parsing.proofs.Segments.{halts, refused_map}
 use Rattle.parsing.specs.Room.{room}
 use Rattle.statements.proofs.Openings.{may_end, value_inside}
 use Rattle.statements.proofs.SimpleLaws.{given_fails, return_adds, return_stops, return_unended}
@@ -55,3 +55,14 @@ pub returns-in_err-expect-clause-grown : goal.returns-in_err-expect-clause-grown
 returns-in_err-expect-clause-grown g c =
     let p = err_from_is_err_and c.from_residual-in_err-expect.result c.from_residual-in_err-expect.ensures.1 in
     rw (p.1, p.2) (λ device. grown _ _ _ c.in_ok-back.ensures.parses.added)
+
+-- Where the builder was refused memory.
+
+pub returns-in_err-give_back-clause-parses : goal.returns-in_err-give_back-clause-parses
+returns-in_err-give_back-clause-parses g c =
+    let p = err_from_is_err_and c.from_residual-in_err-give_back.result c.from_residual-in_err-give_back.ensures.1 in
+    rw (p.1, p.2) (
+      refuses c.in_err-give_back.field-0.0 _ c.in_err-give_back.ensures.memory,
+      λ b. halts _ _ _ _ _ _ _ _
+          ((return_adds _ _ _ _ _ _ unknown c.args.depth c.requires.ready.sound c.requires.is c.in_ok-advance.ensures.consumes c.in_ok-back.ensures.parses c.in_ok-expect.ensures.matches c.in_ok-expect.ensures.kept.ready.sound (λ profile acts h. tt)).derives b) c.in_ok-expect.ensures.kept.ready.near,
+    )

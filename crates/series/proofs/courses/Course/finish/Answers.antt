@@ -3,7 +3,7 @@ use Rattle.grammar.specs.Tree.{File}
 use Rattle.series.specs.Courses.{Course, IsTallyOf}
 use Rattle.series.specs.Names.{robot_names}
 use Rattle.series.specs.Playing.{outcomes, totals_text}
-use Rattle.series.specs.Portions.{Takes, TakesFront}
+use Rattle.sinks.specs.Portions.{Takes, TakesFront}
 use Rattle.series.proofs.CoursesLemmas.{totals_are}
 use Rattle.series.proofs.courses.Course.finish.Goals as goal
 

@@ -6,7 +6,7 @@ use Rattle.settings.specs.Setup.{Setup}
 use Rattle.series.specs.Courses.{Course, IsTallyOf, next_text}
 use Rattle.series.specs.Names.{robot_names}
 use Rattle.series.specs.Playing.{outcomes}
-use Rattle.series.specs.Portions.{Takes, TakesFront}
+use Rattle.sinks.specs.Portions.{Takes, TakesFront}
 use Rattle.series.proofs.CoursesLemmas.{is_left, next_is, outcome_is, outcomes_more}
 use Rattle.series.proofs.courses.Course.next.Goals as goal
 

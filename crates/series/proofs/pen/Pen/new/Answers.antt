@@ -1,6 +1,0 @@
-use Rattle.std.proofs.Common.{rules}
-use Rattle.series.proofs.DraftLemmas.{writes_nothing}
-use Rattle.series.proofs.pen.Pen.new.Goals as goal
-
-pub returns-clause-text : goal.returns-clause-text
-returns-clause-text c = search (rules, writes_nothing)

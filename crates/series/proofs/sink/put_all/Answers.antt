@@ -1,7 +1,0 @@
-use Rattle.std.proofs.Common.{rules}
-use Rattle.series.proofs.PortionsLemmas.{one_more}
-use Rattle.series.proofs.sink.put_all.Goals as goal
-
-pub loop-rest-preserved : goal.loop-rest-preserved
-loop-rest-preserved g c =
-    (one_more _ _ _ _ c.loop-rest.rest.now c.in_ok-n.n c.loop-rest.invariant.0 c.in_ok-n.ensures.taken, search rules)

@@ -1,0 +1,73 @@
+-- How a pen goes on.
+use Rattle.std.proofs.Common.{◌≡◌, ℕ, ◌+◌, true, false, List, [], ◌++◌, Result, Ok, Err, refl, sym, ap, ◌∙◌}
+use Rattle.std.specs.Prelude.{is_err}
+use Rattle.sinks.specs.Portions.{Portions, Puts}
+use Rattle.sinks.specs.Draft.{Draft, blank, WritesSoFar}
+use Rattle.sinks.proofs.PortionsLemmas.{nothing_taken, takes_then, none_left, front_then, all_but_more, front_more}
+
+module _ {before now : Portions} {n failures : ℕ} where
+  -- a fragment goes on the page
+  pub writes_more : (pen later : Draft) (text more : List ℕ) → WritesSoFar before now n failures pen text
+      → later.failed ≡ pen.failed → later.page ≡ pen.page ++ more → WritesSoFar before now n failures later (text ++ more)
+  writes_more pen later text more so_far same page = record {
+    going = λ h. rw page (all_but_more before now text pen.page more (so_far.going (sym same ∙ h)));
+    calm = λ h. so_far.calm (sym same ∙ h);
+    stopped = λ h. front_more before now text more (so_far.stopped (sym same ∙ h));
+    counted = λ h. so_far.counted (sym same ∙ h);
+  }
+
+  -- once a put has failed the page no longer matters
+  pub writes_no_more : (pen later : Draft) (text more : List ℕ) → WritesSoFar before now n failures pen text
+      → pen.failed ≡ true → later.failed ≡ true → WritesSoFar before now n failures later (text ++ more)
+  writes_no_more pen later text more so_far was is = record {
+    going = λ h. cc;
+    calm = λ h. cc;
+    stopped = λ h. front_more before now text more (so_far.stopped was);
+    counted = λ h. so_far.counted was;
+  }
+
+  -- the page is put
+  pub page_put : {T E : Type 0} (pen later : Draft) (after : Portions) (count : ℕ) (page text : List ℕ) (put : Result T E)
+      → WritesSoFar before now n failures pen text → pen.failed ≡ false → page ≡ pen.page
+      → later.failed ≡ is_err put → later.page ≡ []
+      → Puts put now failures after count page → WritesSoFar before after n count later text
+  page_put pen later after count page text (Ok _) so_far was same is empty puts = record {
+    going = λ h. rw empty (none_left before after text (takes_then before now after text page (rw same (so_far.going was)) puts.0));
+    calm = λ h. puts.1 ∙ so_far.calm was;
+    stopped = λ h. cc;
+    counted = λ h. cc;
+  }
+  page_put pen later after count page text (Err _) so_far was same is empty puts = record {
+    going = λ h. cc;
+    calm = λ h. cc;
+    stopped = λ h. front_then before now after text page (rw same (so_far.going was)) puts.0;
+    counted = λ h. puts.1 ∙ ap (λ m. m + 1) (so_far.calm was);
+  }
+
+  -- a fragment is put behind an empty page
+  pub fragment_put : {T E : Type 0} (pen later : Draft) (after : Portions) (count : ℕ) (bytes text : List ℕ) (put : Result T E)
+      → WritesSoFar before now n failures pen text → pen.failed ≡ false → pen.page ≡ []
+      → later.failed ≡ is_err put → later.page ≡ pen.page
+      → Puts put now failures after count bytes → WritesSoFar before after n count later (text ++ bytes)
+  fragment_put pen later after count bytes text put so_far was empty is same puts =
+      let page : bytes ≡ pen.page ++ bytes = rw empty in
+      page_put (record { page = bytes; failed = false }) later after count bytes (text ++ bytes) put
+      (writes_more pen (record { page = bytes; failed = false }) text bytes so_far (sym was) page) refl refl is (same ∙ empty) puts
+
+  -- the last page is put
+  pub piece_put : {T E : Type 0} (pen : Draft) (after : Portions) (count : ℕ) (page text : List ℕ) (put : Result T E)
+      → WritesSoFar before now n failures pen text → pen.failed ≡ false → page ≡ pen.page
+      → Puts put now failures after count page → Puts put before n after count text
+  piece_put pen after count page text (Ok _) so_far was same puts =
+      (takes_then before now after text page (rw same (so_far.going was)) puts.0, puts.1 ∙ so_far.calm was)
+  piece_put pen after count page text (Err _) so_far was same puts =
+      (front_then before now after text page (rw same (so_far.going was)) puts.0, puts.1 ∙ ap (λ m. m + 1) (so_far.calm was))
+
+-- a pen at its begin has written nothing
+pub writes_nothing : (pen : Draft) (now : Portions) (n : ℕ) → pen ≡ blank → WritesSoFar now now n n pen []
+writes_nothing pen now n e = rw e (record {
+  going = λ h. nothing_taken now [];
+  calm = λ h. refl;
+  stopped = λ h. cc;
+  counted = λ h. cc;
+})

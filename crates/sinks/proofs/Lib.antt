@@ -1,0 +1,3 @@
+pub mod PortionsLemmas
+pub mod DraftLemmas
+pub mod TextsLemmas

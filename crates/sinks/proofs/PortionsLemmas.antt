@@ -1,0 +1,71 @@
+-- What a sink took in one call after another.
+use Rattle.std.proofs.Common.{◌≡◌, ℕ, List, [], ◌∷◌, ◌++◌, Some, None, length, take, rules, refl, sym, ap, ◌∙◌, append_assoc}
+use Rattle.std.specs.List.{concat, between}
+use Rattle.std.proofs.lemmas.List.{append-nil, take-append-drop}
+use Rattle.std.proofs.lemmas.Slice.{between_to_end}
+use Rattle.std.proofs.lemmas.List.Folds.{concat-append}
+use Rattle.sinks.specs.Portions.{Portions, and_portions, Takes, TakesAllBut, TakesFront}
+
+-- portions after portions
+pub and_portions_twice : (p : Portions) (xs ys : List (List ℕ)) → and_portions (and_portions p xs) ys ≡ and_portions p (xs ++ ys)
+and_portions_twice None xs ys = refl
+and_portions_twice (Some taken) xs ys = ap (λ (l : List (List ℕ)). Some l) (append_assoc taken xs ys)
+
+-- no portions
+pub and_portions_none : (p : Portions) → p ≡ and_portions p []
+and_portions_none None = refl
+and_portions_none (Some taken) = ap (λ (l : List (List ℕ)). Some l) (sym (append-nil taken))
+
+-- at first nothing is taken
+pub nothing_taken : (p : Portions) (bytes : List ℕ) → TakesAllBut p p bytes bytes
+nothing_taken p bytes = record { portions = []; told = and_portions_none p; joined = refl }
+
+-- one more call takes a front of what is left
+pub one_more : (before now after : Portions) (bytes left : List ℕ) (n : ℕ) → TakesAllBut before now bytes left
+    → after ≡ and_portions now (take n left ∷ []) → TakesAllBut before after bytes (between n (length left) left)
+one_more before now after bytes left n so_far told = record {
+  portions = so_far.portions ++ take n left ∷ [];
+  told = told ∙ ap (λ p. and_portions p (take n left ∷ [])) so_far.told ∙ and_portions_twice before so_far.portions (take n left ∷ []);
+  joined = rw (between_to_end left n (length left) (search rules)) (simp (concat-append, append_assoc, append-nil, take-append-drop) so_far.joined);
+}
+
+-- nothing is left
+pub all_taken : (before after : Portions) (bytes : List ℕ) → TakesAllBut before after bytes [] → Takes before after bytes
+all_taken before after bytes all = record { portions = all.portions; told = all.told; joined = sym (append-nil (concat all.portions)) ∙ all.joined }
+
+-- and back
+pub none_left : (before after : Portions) (bytes : List ℕ) → Takes before after bytes → TakesAllBut before after bytes []
+none_left before after bytes all = record { portions = all.portions; told = all.told; joined = append-nil (concat all.portions) ∙ all.joined }
+
+-- what was left is taken, all but some
+pub all_but_then : (before now after : Portions) (bytes left rest : List ℕ) → TakesAllBut before now bytes left
+    → TakesAllBut now after left rest → TakesAllBut before after bytes rest
+all_but_then before now after bytes left rest first second = record {
+  portions = first.portions ++ second.portions;
+  told = second.told ∙ ap (λ p. and_portions p second.portions) first.told ∙ and_portions_twice before first.portions second.portions;
+  joined = simp (concat-append, append_assoc, second.joined) first.joined;
+}
+
+-- what was left is taken
+pub takes_then : (before now after : Portions) (bytes left : List ℕ) → TakesAllBut before now bytes left
+    → Takes now after left → Takes before after bytes
+takes_then before now after bytes left first second =
+    all_taken before after bytes (all_but_then before now after bytes left [] first (none_left now after left second))
+
+-- a front of what was left is taken
+pub front_then : (before now after : Portions) (bytes left : List ℕ) → TakesAllBut before now bytes left
+    → TakesFront now after left → TakesFront before after bytes
+front_then before now after bytes left first (rest, second) = (rest, all_but_then before now after bytes left rest first second)
+
+-- the bytes go on, and so does what is left
+pub all_but_more : (before after : Portions) (bytes left more : List ℕ) → TakesAllBut before after bytes left
+    → TakesAllBut before after (bytes ++ more) (left ++ more)
+all_but_more before after bytes left more so_far = record {
+  portions = so_far.portions;
+  told = so_far.told;
+  joined = sym (append_assoc (concat so_far.portions) left more) ∙ ap (λ l. l ++ more) so_far.joined;
+}
+
+-- a front of the bytes is one of more bytes
+pub front_more : (before after : Portions) (bytes more : List ℕ) → TakesFront before after bytes → TakesFront before after (bytes ++ more)
+front_more before after bytes more (left, so_far) = (left ++ more, all_but_more before after bytes left more so_far)

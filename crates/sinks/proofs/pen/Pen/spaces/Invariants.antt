@@ -1,0 +1,10 @@
+use Rattle.std.proofs.Common.{replicate}
+use Rattle.sinks.specs.Draft.{MayFail, Adds}
+use Rattle.sinks.proofs.pen.Pen.spaces.Given as goal
+
+-- so many spaces are added
+abbrev pub invariant-loop : goal.invariant-loop
+invariant-loop g l =
+    MayFail l.self (g.S.Sink.failures l.sink)
+    × Adds (g.S.Sink.portions l.fn.sink) (g.S.Sink.failures l.fn.sink) l.fn.self
+    (g.S.Sink.portions l.sink) (g.S.Sink.failures l.sink) l.self (replicate l.counter 32)

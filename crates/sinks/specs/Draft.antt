@@ -1,0 +1,30 @@
+-- What a pen has written of a piece.
+use Rattle.std.specs.Prelude.{◌≡◌, ℕ, ◌+◌, ◌-◌, ◌^◌, ◌<◌, Bool, true, false, List, [], ◌++◌}
+use Rattle.sinks.specs.Portions.{Portions, TakesAllBut, TakesFront}
+
+-- a pen: the bytes on its page, and whether a put has failed
+pub record Draft : Type 0 where
+  pub page : List ℕ
+  pub failed : Bool
+
+-- a pen at the begin of a piece
+abbrev pub blank : Draft
+blank = record { page = []; failed = false }
+
+-- where no put has failed, the sink's count of failures can rise by one
+abbrev pub MayFail : Draft → ℕ → Type 0
+MayFail pen failures = pen.failed ≡ false → failures < 2 ^ 64 - 1
+
+-- Since the pen began, before which the sink had taken `before` and failed n times:
+-- while no put has failed, the sink took the text but for what stands on the page;
+-- once one has failed, it took a front of the text.
+pub record WritesSoFar (before now : Portions) (n failures : ℕ) (pen : Draft) (text : List ℕ) : Type 0 where
+  pub going : pen.failed ≡ false → TakesAllBut before now text pen.page
+  pub calm : pen.failed ≡ false → failures ≡ n
+  pub stopped : pen.failed ≡ true → TakesFront before now text
+  pub counted : pen.failed ≡ true → failures ≡ n + 1
+
+-- whatever a pen had written of a piece before, it has then written that and these bytes
+abbrev pub Adds : Portions → ℕ → Draft → Portions → ℕ → Draft → List ℕ → Type 0
+Adds old failures pen new count later bytes = (before : Portions) (n : ℕ) (text : List ℕ)
+    → WritesSoFar before old n failures pen text → WritesSoFar before new n count later (text ++ bytes)

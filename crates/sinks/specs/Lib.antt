@@ -1,0 +1,4 @@
+pub mod Portions
+pub mod Draft
+pub mod Recording
+pub mod Texts

@@ -1,0 +1,15 @@
+-- The texts that are written.
+use Rattle.std.specs.Prelude.{ℕ, ◌-◌, List, ◌++◌, length, replicate, codes, decimal, ◌==◌}
+use Rattle.std.specs.List.{after_last}
+
+-- the name of a file in all texts: its word after the last `/`
+abbrev pub file_name : List ℕ → List ℕ
+file_name word = after_last (λ b. b == 47) word
+
+-- a number at the right of a column of this width
+abbrev pub column : ℕ → ℕ → List ℕ
+column width n = replicate (width - length (decimal n)) 32 ++ decimal n
+
+-- `{name}:{line}: {text}`
+abbrev pub diagnostic_line : List ℕ → ℕ → List ℕ → List ℕ
+diagnostic_line name line text = name ++ codes ":" ++ decimal line ++ codes ": " ++ text ++ codes "\n"

@@ -1,0 +1,100 @@
+//! A pen that writes one piece of the output from its fragments.
+
+ghost use Rattle.std.specs.Prelude.{◌≡◌, ℕ, ◌+◌, ◌-◌, ◌^◌, ◌<◌, ◌≤◌, List, [], ◌∷◌, ◌++◌, length, OnOk, OnErr, true, false};
+ghost use Rattle.sinks.specs.Portions.{Portions, Puts};
+ghost use Rattle.sinks.specs.Draft.{Draft, blank, MayFail, WritesSoFar, Adds};
+
+use crate::sink::{Sink, put_all};
+use arrayvec::ArrayVec;
+use std::marker::Model;
+use tokens::DeviceFault;
+
+/// The bytes of a pen's page.
+pub const PAGE: usize = 512;
+
+/// Gathers the fragments of one piece on a page and puts the page on a sink when it is full.
+///
+/// A failure is kept until `done` answers it: from then on nothing more is put. The page ends with the
+/// piece, so no portion holds bytes of two pieces. Each call takes the same sink.
+pub struct Pen {
+    page: ArrayVec<u8, PAGE>,
+    failed: bool,
+}
+
+impl Model for Pen {
+    ghost Value = { Draft };
+
+    ghost view = { λ pen. record { page = pen.page.items; failed = pen.failed } };
+}
+
+impl Pen {
+    /// A pen at the begin of a piece.
+    pub fn new() -> Pen
+        ensures blank { result ≡ blank }
+        ensures text { (now : Portions) (n : ℕ) → WritesSoFar now now n n result [] }
+    {
+        Pen {
+            page: ArrayVec::new(),
+            failed: false,
+        }
+    }
+
+    /// Adds a fragment of any length to the piece.
+    pub fn add<S: Sink>(&mut self, sink: &mut S, bytes: &[u8])
+        requires { MayFail self.old (S.failures sink.old) }
+        ensures countable { MayFail self.new (S.failures sink.new) }
+        ensures text { Adds (S.portions sink.old) (S.failures sink.old) self.old (S.portions sink.new)
+            (S.failures sink.new) self.new bytes.now }
+    {
+        if bytes.len() > self.page.remaining_capacity() {
+            self.turn(sink);
+        }
+        if bytes.len() > PAGE {
+            self.put(sink, bytes);
+        } else if !self.failed {
+            let _ = self.page.try_extend_from_slice(bytes);
+        }
+    }
+
+    /// Puts the page and begins a new one.
+    fn turn<S: Sink>(&mut self, sink: &mut S)
+        requires { MayFail self.old (S.failures sink.old) }
+        ensures countable { MayFail self.new (S.failures sink.new) }
+        ensures text { (before : Portions) (n : ℕ) (text : List ℕ)
+            → WritesSoFar before (S.portions sink.old) n (S.failures sink.old) self.old text
+            → WritesSoFar before (S.portions sink.new) n (S.failures sink.new) self.new text }
+        ensures empty { self.new.failed ≡ false → self.new.page ≡ [] }
+    {
+        if !self.failed {
+            self.failed = put_all(sink, self.page.as_slice()).is_err();
+            self.page.clear();
+        }
+    }
+
+    /// Puts a fragment behind an empty page.
+    fn put<S: Sink>(&mut self, sink: &mut S, bytes: &[u8])
+        requires countable { MayFail self.old (S.failures sink.old) }
+        requires empty { self.old.failed ≡ false → self.old.page ≡ [] }
+        ensures countable { MayFail self.new (S.failures sink.new) }
+        ensures text { Adds (S.portions sink.old) (S.failures sink.old) self.old (S.portions sink.new)
+            (S.failures sink.new) self.new bytes.now }
+    {
+        if !self.failed {
+            self.failed = put_all(sink, bytes).is_err();
+        }
+    }
+
+    /// Ends the piece: puts what stands on the page, and answers whether the sink took the whole piece.
+    pub fn done<S: Sink>(self, sink: &mut S) -> Result<(), DeviceFault>
+        requires { MayFail self (S.failures sink.old) }
+        ensures { (before : Portions) (n : ℕ) (text : List ℕ)
+            → WritesSoFar before (S.portions sink.old) n (S.failures sink.old) self text
+            → Puts result before n (S.portions sink.new) (S.failures sink.new) text }
+    {
+        let Pen { page, failed } = self;
+        if failed {
+            return Err(DeviceFault);
+        }
+        put_all(sink, page.as_slice())
+    }
+}

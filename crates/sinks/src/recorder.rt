@@ -1,0 +1,130 @@
+//! A sink in memory, for tests.
+
+ghost use Rattle.std.specs.Prelude.{◌≡◌, ℕ, ◌+◌, ◌-◌, ◌^◌, ◌<◌, ◌≤◌, List, [], ◌∷◌, ◌++◌, map, length, take, Some, None, IfOk, OnOk, OnErr, IfSome, OnSome, min};
+ghost use Rattle.sinks.specs.Recording.{Recording, size_of_next, failing_then};
+ghost use Rattle.sinks.specs.Portions.{and_portions};
+
+use crate::sink::Sink;
+use std::alloc::{AllocError, Global};
+use std::marker::Model;
+use tokens::DeviceFault;
+
+/// A sink in memory that keeps each portion, and that can be made to take only so many bytes a call or in
+/// all, or to fail at one call. It fails too where memory is refused.
+#[derive(Debug, Drop)]
+pub struct Recorder {
+    portions: Vec<Vec<u8>>,
+    most: usize,
+    room: usize,
+    failing: Option<u64>,
+    failures: u64,
+}
+
+impl Model for Recorder {
+    ghost Value = { Recording };
+
+    ghost view = { λ r. record {
+      portions = map (λ v. v.items) r.portions.items;
+      most = r.most;
+      room = r.room;
+      failing = r.failing;
+      failures = r.failures;
+    } };
+}
+
+impl Recorder {
+    /// A sink that takes all that it is given.
+    pub fn new(alloc: Global) -> Recorder
+        ensures { result ≡ record { portions = []; most = usize.MAX; room = usize.MAX; failing = None; failures = 0 } }
+    {
+        Recorder {
+            portions: Vec::new(alloc),
+            most: usize::MAX,
+            room: usize::MAX,
+            failing: None,
+            failures: 0,
+        }
+    }
+
+    /// The same, but a call takes at most so many bytes.
+    pub fn with_most(self, most: usize) -> Recorder
+        ensures { result ≡ record self { most = most } }
+    {
+        Recorder { most, ..self }
+    }
+
+    /// The same, but it takes only so many bytes more and then fails.
+    pub fn with_room(self, room: usize) -> Recorder
+        ensures { result ≡ record self { room = room } }
+    {
+        Recorder { room, ..self }
+    }
+
+    /// The same, but the call after so many more fails.
+    pub fn failing_after(self, calls: u64) -> Recorder
+        ensures { result ≡ record self { failing = Some calls } }
+    {
+        Recorder {
+            failing: Some(calls),
+            ..self
+        }
+    }
+
+    /// The portions that it took.
+    pub fn portions(&self) -> &[Vec<u8>]
+        ensures { map (λ v. v.items) result.now ≡ self.now.portions }
+    {
+        self.portions.as_slice()
+    }
+
+    /// How often it failed.
+    pub fn failures(&self) -> u64
+        ensures { result ≡ self.now.failures }
+    {
+        self.failures
+    }
+
+    /// How many of so many bytes the next call takes; it takes none where it fails.
+    fn next_size(&mut self, len: usize) -> usize
+        ensures size { result ≡ size_of_next self.old len }
+        ensures failing { self.new ≡ record self.old { failing = failing_then self.old.failing } }
+    {
+        let failing = self.failing;
+        self.failing = failing.and_then(|calls| calls.checked_sub(1));
+        if failing == Some(0) {
+            0
+        } else {
+            len.min(self.most).min(self.room)
+        }
+    }
+
+    /// Keeps a portion.
+    fn keep(&mut self, portion: &[u8]) -> Result<(), AllocError>
+        requires { length portion.now ≤ self.old.room }
+        ensures ok { OnOk result (self.new ≡ record self.old {
+          portions = self.old.portions ++ portion.now ∷ [];
+          room = self.old.room - length portion.now;
+        }) }
+        ensures err { OnErr result (self.new ≡ self.old) }
+    {
+        let kept = Vec::from_slice(*self.portions.allocator(), portion)?;
+        self.portions.push(kept)?;
+        self.room -= portion.len();
+        Ok(())
+    }
+}
+
+impl Sink for Recorder {
+    ghost failures = { λ r. r.failures };
+
+    ghost portions = { λ r. Some r.portions };
+
+    fn put(&mut self, bytes: &[u8]) -> Result<usize, DeviceFault> {
+        let n = self.next_size(bytes.len());
+        if n == 0 || self.keep(&bytes[..n]).is_err() {
+            self.failures += 1;
+            return Err(DeviceFault);
+        }
+        Ok(n)
+    }
+}

@@ -1,0 +1,83 @@
+//! Numbers, columns and lines of text.
+
+ghost use Rattle.std.specs.Prelude.{◌≡◌, ℕ, ◌+◌, ◌-◌, ◌^◌, ◌<◌, ◌≤◌, List, [], ◌∷◌, ◌++◌, length, OnOk, OnErr, decimal, replicate};
+ghost use Rattle.sinks.specs.Portions.{Puts};
+ghost use Rattle.sinks.specs.Draft.{Draft, MayFail, Adds};
+ghost use Rattle.sinks.specs.Texts.{file_name, column, diagnostic_line};
+
+use crate::pen::Pen;
+use crate::sink::Sink;
+use tokens::DeviceFault;
+
+impl Pen {
+    /// Adds a number in decimal.
+    pub fn number<S: Sink>(&mut self, sink: &mut S, n: u32)
+        requires { MayFail self.old (S.failures sink.old) }
+        ensures countable { MayFail self.new (S.failures sink.new) }
+        ensures text { Adds (S.portions sink.old) (S.failures sink.old) self.old (S.portions sink.new)
+            (S.failures sink.new) self.new (decimal n) }
+    {
+        if n >= 10 {
+            self.number(sink, n / 10);
+        }
+        self.add(sink, &[b'0' + (n % 10) as u8]);
+    }
+
+    /// Adds a number in decimal, and spaces before it up to the width.
+    pub fn column<S: Sink>(&mut self, sink: &mut S, width: usize, n: u32)
+        requires { MayFail self.old (S.failures sink.old) }
+        ensures countable { MayFail self.new (S.failures sink.new) }
+        ensures text { Adds (S.portions sink.old) (S.failures sink.old) self.old (S.portions sink.new)
+            (S.failures sink.new) self.new (column width n) }
+    {
+        if n >= 10 {
+            self.column(sink, width.saturating_sub(1), n / 10);
+        } else {
+            self.spaces(sink, width.saturating_sub(1));
+        }
+        self.add(sink, &[b'0' + (n % 10) as u8]);
+    }
+
+    fn spaces<S: Sink>(&mut self, sink: &mut S, count: usize)
+        requires { MayFail self.old (S.failures sink.old) }
+        ensures countable { MayFail self.new (S.failures sink.new) }
+        ensures text { Adds (S.portions sink.old) (S.failures sink.old) self.old (S.portions sink.new)
+            (S.failures sink.new) self.new (replicate count 32) }
+    {
+        for _ in 0..count {
+            self.add(sink, b" ");
+        }
+    }
+}
+
+/// The name that texts give the file of this word: the word after its last `/`.
+pub fn name_of(word: &[u8]) -> &[u8]
+    ensures { result.now ≡ file_name word.now }
+{
+    let mut start = word.len();
+    while start > 0 && word[start - 1] != b'/' {
+        start -= 1;
+    }
+    &word[start..]
+}
+
+/// Puts the line of a diagnostic: the file's name, the line's number and the diagnostic's text.
+pub fn put_diagnostic<S: Sink>(
+    sink: &mut S,
+    name: &[u8],
+    line: u32,
+    text: &[u8],
+) -> Result<(), DeviceFault>
+    requires { S.failures sink.old < 2 ^ 64 - 1 }
+    ensures { Puts result (S.portions sink.old) (S.failures sink.old) (S.portions sink.new) (S.failures sink.new)
+        (diagnostic_line name.now line text.now) }
+{
+    let mut pen = Pen::new();
+    pen.add(sink, name);
+    pen.add(sink, b":");
+    pen.number(sink, line);
+    pen.add(sink, b": ");
+    pen.add(sink, text);
+    pen.add(sink, b"\n");
+    pen.done(sink)
+}
