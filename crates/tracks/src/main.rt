@@ -4,12 +4,8 @@
 
 mod feeds;
 mod matches;
-mod paths;
 mod picture;
 mod pilots;
-mod places;
-mod scale;
-mod shots;
 mod sources;
 mod words;
 

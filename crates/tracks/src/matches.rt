@@ -2,13 +2,11 @@
 
 ghost use Rattle.std.specs.Prelude.{◌≡◌, ◌+◌, ◌/◌, ◌≤◌, ◌<◌, length};
 
-use crate::paths::Path;
 use crate::pilots::Pilot;
-use crate::places::Place;
-use crate::shots::Shots;
 use arena::{Arena, MOST_ROBOTS};
 use arrayvec::ArrayVec;
 use settings::CYCLES_MAX;
+use trails::{Path, Place, Shots};
 
 /// An update follows each cycle whose number is a multiple of this.
 const UPDATE_CYCLES: u32 = 15;

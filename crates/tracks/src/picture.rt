@@ -3,14 +3,11 @@
 ghost use Rattle.std.specs.Prelude.{◌<◌, ◌≤◌, length};
 
 use crate::matches::{Recording, Track};
-use crate::paths::Path;
-use crate::places::Place;
-use crate::scale::{MARGIN, SIDE, column, opacity, row};
-use crate::shots::Shot;
 use crate::sources::name_of;
 use crate::words::Wish;
 use arena::MOST_ROBOTS;
 use std::alloc::{AllocError, Global};
+use trails::{MARGIN, Path, Place, SIDE, Shot, column, opacity, row};
 
 /// The colours of the robots, in order.
 const COLOURS: [&str; MOST_ROBOTS] = ["#1f6fb4", "#d1495b", "#2e8540", "#8a4fbe"];

@@ -2,12 +2,11 @@
 
 ghost use Rattle.std.specs.Prelude.{◌≡◌, ◌==◌, ◌<◌, ◌≤◌, if◌then◌else◌, IfOk, length};
 
-use crate::places::Place;
-use crate::shots::{Shot, Shots};
 use arena::Arena;
 use code::{Intrinsic, Machine, Program, Want};
 use std::alloc::{AllocError, Global};
 use std::marker::Model;
+use trails::{Place, Shot, Shots};
 
 /// A robot's program, and a machine that runs it.
 #[derive(Drop)]

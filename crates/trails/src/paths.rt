@@ -1,8 +1,8 @@
 //! Paths of robots, thinned so that their memory is bounded.
 
 ghost use Rattle.std.specs.Prelude.{◌≡◌, ℕ, ◌*◌, ◌/◌, ◌≤◌, ◌<◌, List, [], ◌∷◌, ◌++◌, length, slice_get};
-ghost use Rattle.tracks.specs.Path.{Keeps};
-ghost use Rattle.tracks.specs.Spot.{Spot};
+ghost use Rattle.trails.specs.Path.{Keeps};
+ghost use Rattle.trails.specs.Spot.{Spot};
 
 use crate::places::Place;
 use arrayvec::ArrayVec;
@@ -12,7 +12,7 @@ use std::marker::Model;
 pub const MOST_PLACES: usize = 2000;
 
 /// The greatest stride: a path that is full with it takes no more places.
-const MOST_STRIDE: u32 = 1 << 20;
+pub const MOST_STRIDE: u32 = 1 << 20;
 
 /// The places of a robot over time. Each is kept until there are 2,000; then each second one is dropped, and of those
 /// to come
@@ -26,7 +26,7 @@ pub struct Path {
 
 impl Model for Path {
     ghost use Rattle.std.specs.Prelude.{◌≤◌, ◌<◌, length};
-    ghost use Rattle.tracks.specs.Path.{Trail};
+    ghost use Rattle.trails.specs.Path.{Trail};
 
     ghost Value = { Trail };
 

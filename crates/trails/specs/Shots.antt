@@ -1,6 +1,6 @@
 -- The last shots of a match, and which of them is the oldest.
 use Rattle.std.specs.Prelude.{ℕ, List}
-use Rattle.tracks.specs.declared.shots.Shot.{Shot}
+use Rattle.trails.specs.declared.shots.Shot.{Shot}
 
 pub record Kept : Type 0 where
   pub shots : List Shot

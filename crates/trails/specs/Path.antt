@@ -1,6 +1,6 @@
 -- The path of a robot: some of the places that it was at, evenly spaced in time.
 use Rattle.std.specs.Prelude.{ℕ, ◌≡◌, ◌+◌, ◌*◌, List, length, slice_get}
-use Rattle.tracks.specs.Spot.{Spot}
+use Rattle.trails.specs.Spot.{Spot}
 
 -- each `stride`-th place is kept, and so many are dropped before the next one
 pub record Trail : Type 0 where

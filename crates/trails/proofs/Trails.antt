@@ -5,8 +5,8 @@ use Rattle.std.proofs.lemmas.Bool.{cases_lt, cases_eq, cases_order}
 use Rattle.std.proofs.lemmas.List.{length-append}
 use Rattle.std.proofs.lemmas.Option.{slice_get_past}
 use Rattle.std.proofs.Math.Nat.{suc-mul, mul_assoc, mul-le-mul_right, le_of_mul-le-mul_right}
-use Rattle.tracks.specs.Spot.{Spot}
-use Rattle.tracks.specs.Path.{Trail, Keeps}
+use Rattle.trails.specs.Spot.{Spot}
+use Rattle.trails.specs.Path.{Trail, Keeps}
 
 get_before : (xs : List Spot) (x : Spot) (n : ℕ) → n < length xs → slice_get (xs ++ x ∷ []) n ≡ slice_get xs n
 get_before [] x n h = absurd (omega arith)

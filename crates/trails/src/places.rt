@@ -17,7 +17,7 @@ pub struct Place {
 
 impl Model for Place {
     ghost use Rattle.std.specs.Prelude.{◌≤◌};
-    ghost use Rattle.tracks.specs.Spot.{Spot};
+    ghost use Rattle.trails.specs.Spot.{Spot};
 
     ghost Value = { Spot };
 

@@ -1,6 +1,6 @@
 use Rattle.std.proofs.Common.{◌≡◌, ◌*◌, ◌<◌, ℕ, length}
 use Rattle.std.specs.Prelude.{slice_get}
-use Rattle.tracks.proofs.paths.each_second.Given as goal
+use Rattle.trails.proofs.paths.each_second.Given as goal
 
 -- each second place so far is kept
 abbrev pub invariant-loop-n : goal.invariant-loop-n

@@ -124,7 +124,7 @@ pub struct Shots {
 
 impl Model for Shots {
     ghost use Rattle.std.specs.Prelude.{◌<◌, length};
-    ghost use Rattle.tracks.specs.Shots.{Kept};
+    ghost use Rattle.trails.specs.Shots.{Kept};
 
     ghost Value = { Kept };
 
