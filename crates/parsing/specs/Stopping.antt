@@ -1,6 +1,6 @@
 -- Where a derivation stops: at its first fault, or where the device failed.
 use Rattle.std.specs.Prelude.{ℕ, ◌+◌, ◌≡◌, ◌≤◌, List, ◌++◌, Option, Some, None, IfSome, length}
-use Rattle.tokens.specs.Reading.{reach_of}
+use Rattle.tokens.specs.Reading.{open_reach_of, reach_of}
 use Rattle.tokens.specs.declared.limits.TheConstants.{WINDOW}
 use Rattle.tokens.specs.declared.located_tokens.LocatedToken.{LocatedToken}
 use Rattle.grammar.specs.declared.diagnostics.Diagnostic.{Diagnostic}
@@ -17,10 +17,11 @@ pub record Stop : Type 0 where
 abbrev pub stop_with : Option Diagnostic → ℕ → Stop
 stop_with fault taken = record { fault = fault; taken = taken }
 
--- how many bytes may have been taken past what decides: a window where a fault is told, none where the device failed
-abbrev pub slack : Option Diagnostic → ℕ
-slack (Some d) = WINDOW
-slack None = 0
+-- how many bytes may have been taken where these tokens are next: where a fault is told, a window past the second of
+-- them, and where the device failed, no more than may leave the second open
+abbrev pub most_taken : Option Diagnostic → List LocatedToken → ℕ
+most_taken (Some d) rest = reach_of rest + WINDOW
+most_taken None rest = open_reach_of rest
 
 -- no fault of the derivation stands before these last tokens of the source
 pub record NoneBefore (profile : Profile) (s : State) (rest : List LocatedToken) : Type 0 where
@@ -36,7 +37,7 @@ pub record Stops (profile : Profile) (s : State) (stop : Stop) : Type 0 where
   pub comes : (run steps s).rest ≡ rest
   pub none_before : NoneBefore profile s rest
   pub fails : IfSome stop.fault (Fails profile s)
-  pub taken : stop.taken ≤ reach_of rest + slack stop.fault
+  pub taken : stop.taken ≤ most_taken stop.fault rest
 
 -- and no function was defined on the way there
 pub record StopsInside (profile : Profile) (s : State) (stop : Stop) : Type 0 where
