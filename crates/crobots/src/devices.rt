@@ -1,6 +1,7 @@
 //! Real files and streams as the devices of a run.
 
-ghost use Rattle.std.specs.Prelude.{◌≡◌, ℕ, ◌+◌, ◌-◌, ◌^◌, ◌<◌, ◌≤◌, None, length, take, IfOk, OnOk, OnErr};
+ghost use Rattle.std.specs.Prelude.{◌≡◌, ℕ, ◌+◌, ◌-◌, ◌^◌, ◌<◌, ◌≤◌, None, false, length, take, IfOk, OnOk, OnErr};
+ghost use Rattle.tokens.specs.Feed.{gives_none};
 ghost use Rattle.std.specs.Io.KnownBytes.{Appends, Consumes, IsAtEnd, Keeps};
 
 use series::Sink;
@@ -12,14 +13,19 @@ use tokens::{DeviceFault, Feed};
 pub struct FileFeed<F> {
     file: F,
     failures: u64,
+    ended: bool,
 }
 
 impl<F> FileFeed<F> {
-    /// A file that has not failed.
+    /// A file that has not failed, and not ended.
     pub fn new(file: F) -> FileFeed<F>
-        ensures { result ≡ record { file = file; failures = 0 } }
+        ensures { result ≡ record { file = file; failures = 0; ended = false } }
     {
-        FileFeed { file, failures: 0 }
+        FileFeed {
+            file,
+            failures: 0,
+            ended: false,
+        }
     }
 }
 
@@ -28,9 +34,12 @@ impl<F: Read> Feed for FileFeed<F> {
 
     ghost to_come = { λ _. None };
 
+    ghost ended = { λ feed. feed.ended };
+
     fn fill(&mut self, buf: &mut [u8]) -> Result<usize, DeviceFault>
         requires nonempty { 0 < length buf.old }
         requires countable { self.old.failures < 2 ^ 64 - 1 }
+        requires not_ended { self.old.ended ≡ false }
         ensures within { IfOk result (λ n. n ≤ length buf.old) }
         ensures calm { OnOk result (self.new.failures ≡ self.old.failures) }
         ensures counted { OnErr result (self.new.failures ≡ self.old.failures + 1) }
@@ -39,9 +48,13 @@ impl<F: Read> Feed for FileFeed<F> {
             (take n buf.new)) }
         ensures ends { IfOk result (λ n. n ≡ 0 → IsAtEnd (F.remaining self.new.file)) }
         ensures kept { OnErr result (Keeps (F.remaining self.old.file) (F.remaining self.new.file)) }
+        ensures ended { self.new.ended ≡ gives_none result }
     {
         match self.file.read(buf) {
-            Ok(n) => Ok(n),
+            Ok(n) => {
+                self.ended = n == 0;
+                Ok(n)
+            }
             Err(_) => {
                 self.failures += 1;
                 Err(DeviceFault)

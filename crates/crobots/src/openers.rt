@@ -1,6 +1,6 @@
 //! What opens the files of a run.
 
-ghost use Rattle.std.specs.Prelude.{◌≡◌, ℕ, List, Option, None, Err, IfOk, ⊤};
+ghost use Rattle.std.specs.Prelude.{◌≡◌, ℕ, List, Option, None, Err, IfOk, false, ⊤};
 
 use crate::devices::FileFeed;
 use std::fs::File;
@@ -31,6 +31,7 @@ pub trait Opener {
     fn open(&self, word: &str) -> Result<Self::File, OpenFault>
         ensures contents { IfOk result (λ file. Self.File.to_come file ≡ holds self.now word.now) }
         ensures calm { IfOk result (λ file. Self.File.failures file ≡ 0) }
+        ensures not_ended { IfOk result (λ file. Self.File.ended file ≡ false) }
         ensures refused { result ≡ Err OpenFault.Refused → refuses self.now word.now };
 }
 

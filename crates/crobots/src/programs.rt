@@ -1,6 +1,6 @@
 //! The program over given words, files and streams.
 
-ghost use Rattle.std.specs.Prelude.{◌≡◌, ◌⊎◌, ℕ, ◌+◌, ◌-◌, ◌^◌, ◌<◌, ◌≤◌, List, [], ◌∷◌, map, length, None, IsErr, IfOk, IfErr, All, ⊤};
+ghost use Rattle.std.specs.Prelude.{◌≡◌, ◌⊎◌, ℕ, ◌+◌, ◌-◌, ◌^◌, ◌<◌, ◌≤◌, List, [], ◌∷◌, map, length, false, None, IsErr, IfOk, IfErr, All, ⊤};
 ghost use Rattle.series.specs.Pieces.{taken};
 ghost use Rattle.series.specs.Failures.{failures};
 ghost use Rattle.arguments.specs.Words.{asked};
@@ -98,6 +98,7 @@ fn open_files<'a, D: Opener>(
     ensures contents { IfOk result (λ feeds. map D.File.to_come feeds.items
         ≡ map (λ word. D.holds disk.now word.now) words.now) }
     ensures calm { IfOk result (λ feeds. All (λ feed. D.File.failures feed ≡ 0) feeds.items) }
+    ensures not_ended { IfOk result (λ feeds. All (λ feed. D.File.ended feed ≡ false) feeds.items) }
     ensures refused { IfErr result (IsNotOpened (D.refuses disk.now) (map (λ word. word.now) words.now)) }
 {
     let mut feeds = Vec::new(alloc);
@@ -123,6 +124,7 @@ fn run_files<'a, F: Feed, O: Sink, E: Sink>(
 ) -> Ending<'a>
     requires files { length feeds.old ≡ length settings.now.words }
     requires feeds { All (λ feed. F.failures feed < 2 ^ 64 - 1) feeds.old }
+    requires not_ended { All (λ feed. F.ended feed ≡ false) feeds.old }
     requires text { O.failures out.old < 2 ^ 64 - 1 }
     requires faults { E.failures err.old < 2 ^ 64 - 1 }
     ensures ran { RunsTo settings.now (map F.to_come feeds.old) result

@@ -2,9 +2,10 @@
 use Rattle.std.proofs.Common.{◌≡◌, ℕ, List, [], ◌∷◌, ◌++◌, refl, sym, ap, ◌∙◌, subst, Bool, true, false, drop, ◌+◌, ◌≤◌, append_assoc, arith}
 use Rattle.std.specs.Option.{option_map}
 use Rattle.std.specs.Prelude.{Option, Some, None, Ok, Err, Result, is_some}
-use Rattle.tokens.specs.Reading.{reach_of}
+use Rattle.tokens.specs.Reading.{open_reach_of, reach_of}
 use Rattle.tokens.specs.Tokens.{is_last, tokens}
 use Rattle.tokens.specs.Window.{Takes as TakesBytes}
+use Rattle.tokens.proofs.ReadingLemmas.{open-to_last, open-within}
 use Rattle.tokens.specs.declared.located_tokens.LocatedToken.{LocatedToken}
 use Rattle.tokens.specs.declared.located_tokens.Token.{Token}
 use Rattle.tokens.specs.declared.located_tokens.Token.TheVariants as token
@@ -33,10 +34,10 @@ use Rattle.grammar.proofs.Verdicts.{clean_verdict, fault_verdict}
 use Rattle.grammar.specs.Finished.{IsFinished, PassesAll}
 use Rattle.grammar.proofs.FileLaws.{finished, undefined, without_main}
 use Rattle.parsing.specs.Position.{GoesOn, Place, Position, next_at, scope_at, tokens_at}
-use Rattle.parsing.specs.Stopping.{NoneBefore, Stops, slack as slack_of, stop_with}
+use Rattle.parsing.specs.Stopping.{NoneBefore, Stop, Stops, stop_with}
 use Rattle.parsing.specs.Segment.{IsNearTo, Refused, StopsFirst, StopsOpening, Takes}
 use Rattle.parsing.proofs.Segments.{functions_here, near_told, none_back, none_before, stops_here, told_goes}
-use Rattle.lang.specs.Files.{BuildsAhead, FailsBytes, HasBuilt, IsFile, IsNew, Says, StopsTaking, TakesNoMore, TakesUpTo}
+use Rattle.lang.specs.Files.{BuildsAhead, FailsBytes, HasBuilt, LeavesOpen, IsFile, IsNew, Says, StopsTaking, TakesNoMore, TakesUpTo}
 use Rattle.lang.specs.Progress.{ADefinition, AMain, IsComplete, IsTold, Lacks, ReadsOn, StopsReading, StopsTelling, at_source}
 use Rattle.lang.proofs.Built.{IsAmongDefined, built_by_stop}
 
@@ -178,27 +179,34 @@ pub has_taken : (first used : ℕ) (told between there to_come : Option (List �
     HasTaken used told to_come
 has_taken first used told between there to_come opened took same bytes is = same ∙ (took.rest told opened ∙ rw is refl)
 
-reading_takes : (used slack : ℕ) (before after : Meaning) (told to_come : Option (List ℕ)) (at : Place) (o : ParseFault) → slack ≡ slack_of o → scope_at at ≡ no_names → tokens_at at ≡ option_map tokens told →
-    HasTaken used told to_come → StopsReading before after at_source at (stop_with o used) → TakesNoMore before told to_come slack
-reading_takes used slack before after told to_come at o same nothing tells taken stops bytes shows profile h =
-    let s : Stops profile (state at_source (tokens bytes) [] no_names []) (stop_with o used) =
-    subst (λ (known : Scope). Stops profile (state at_source (tokens bytes) [] known []) (stop_with o used)) nothing (stops (tokens bytes) (tells ∙ ap (option_map tokens) shows) profile [] h).stops in
-    takes_up_to profile bytes to_come used slack s.passed s.rest s.is s.none_before (taken bytes shows) (rw same s.taken)
+leaves_open : (profile : Profile) (bytes : List ℕ) (to_come : Option (List ℕ)) (used : ℕ) (passed rest : List LocatedToken) → tokens bytes ≡ passed ++ rest → NoneBefore profile (start (tokens bytes)) rest →
+    to_come ≡ Some (drop used bytes) → used ≤ open_reach_of rest → LeavesOpen profile bytes to_come
+leaves_open profile bytes to_come used passed rest is none took taken =
+    let up_to : reach_of rest ≤ need profile bytes = what_was_read_is_needed profile bytes passed rest is none.each in
+    record { count = used; took = took; needed = omega (arith, up_to, open-within rest used taken); undecided = open-to_last bytes passed rest used is taken }
+
+stops_reading : (before after : Meaning) (told : Option (List ℕ)) (at : Place) (stop : Stop) → scope_at at ≡ no_names → tokens_at at ≡ option_map tokens told → StopsReading before after at_source at stop →
+    (bytes : List ℕ) → told ≡ Some bytes → (profile : Profile) → before profile [] → Stops profile (start (tokens bytes)) stop
+stops_reading before after told at stop nothing tells stops bytes shows profile h =
+    subst (λ (known : Scope). Stops profile (state at_source (tokens bytes) [] known []) stop) nothing (stops (tokens bytes) (tells ∙ ap (option_map tokens) shows) profile [] h).stops
 
 pub stops_taking : (used : ℕ) (before after : Meaning) (told to_come : Option (List ℕ)) (at : Place) (f : ParseFault) (allocates : Bool) → scope_at at ≡ no_names → tokens_at at ≡ option_map tokens told →
     HasTaken used told to_come → Refused (StopsReading before after at_source at) allocates used f → StopsTaking before told to_come f
-stops_taking used before after told to_come at (refusal.Source d) allocates nothing tells taken h = reading_takes used 4096 before after told to_come at (refusal.Source d) refl nothing tells taken h
-stops_taking used before after told to_come at refusal.Device allocates nothing tells taken h = reading_takes used 0 before after told to_come at refusal.Device refl nothing tells taken h
-stops_taking used before after told to_come at refusal.Memory allocates nothing tells taken h = reading_takes used 4096 before after told to_come at refusal.Memory refl nothing tells taken h.1
-
-opening_takes : (slack : ℕ) (before : Meaning) (told to_come : Option (List ℕ)) (o : ParseFault) (used : ℕ) → slack ≡ slack_of o → HasTaken used told to_come →
-    StopsFirst (option_map tokens told) (stop_with o used) → TakesNoMore before told to_come slack
-opening_takes slack before told to_come o used same taken stops bytes shows profile h =
-    takes_up_to profile bytes to_come used slack [] (tokens bytes) refl (none_before profile (start (tokens bytes))) (taken bytes shows) (rw same (stops.taken (tokens bytes) (ap (option_map tokens) shows)))
+stops_taking used before after told to_come at (refusal.Source d) allocates nothing tells taken h = λ bytes shows profile stands.
+    let s = stops_reading before after told at (stop_with (refusal.Source d) used) nothing tells h bytes shows profile stands in
+    takes_up_to profile bytes to_come used 4096 s.passed s.rest s.is s.none_before (taken bytes shows) s.taken
+stops_taking used before after told to_come at refusal.Device allocates nothing tells taken h = λ bytes shows profile stands.
+    let s = stops_reading before after told at (stop_with refusal.Device used) nothing tells h bytes shows profile stands in
+    leaves_open profile bytes to_come used s.passed s.rest s.is s.none_before (taken bytes shows) s.taken
+stops_taking used before after told to_come at refusal.Memory allocates nothing tells taken h = λ bytes shows profile stands.
+    let s = stops_reading before after told at (stop_with refusal.Memory used) nothing tells h.1 bytes shows profile stands in
+    takes_up_to profile bytes to_come used 4096 s.passed s.rest s.is s.none_before (taken bytes shows) s.taken
 
 pub first_taking : (before : Meaning) (told to_come : Option (List ℕ)) (f : ParseFault) → StopsOpening told to_come f → StopsTaking before told to_come f
-first_taking before told to_come (refusal.Source d) stops = opening_takes 4096 before told to_come (refusal.Source d) stops.taken refl stops.took stops.refused
-first_taking before told to_come refusal.Device stops = opening_takes 0 before told to_come refusal.Device stops.taken refl stops.took stops.refused
+first_taking before told to_come (refusal.Source d) stops = λ bytes shows profile stands.
+    takes_up_to profile bytes to_come stops.taken 4096 [] (tokens bytes) refl (none_before profile (start (tokens bytes))) (stops.took bytes shows) (stops.refused.taken (tokens bytes) (ap (option_map tokens) shows))
+first_taking before told to_come refusal.Device stops = λ bytes shows profile stands.
+    leaves_open profile bytes to_come stops.taken [] (tokens bytes) refl (none_before profile (start (tokens bytes))) (stops.took bytes shows) (stops.refused.taken (tokens bytes) (ap (option_map tokens) shows))
 first_taking before told to_come refusal.Memory stops = let never : false ≡ true = stops.refused.0 in absurd (cc)
 
 -- a file that was read to its end
@@ -225,7 +233,7 @@ lacks_taking used before after told to_come at there f w (AMain defined none sam
 builds_by : (after : Meaning) (profile : Profile) (bytes : List ℕ) (to_come : Option (List ℕ)) (used : ℕ) (s : Stops profile (start (tokens bytes)) (stop_with refusal.Device used)) →
     to_come ≡ Some (drop used bytes) → IsTold after profile (run s.steps (start (tokens bytes))).functions → HasBuilt after profile bytes to_come
 builds_by after profile bytes to_come used s took told =
-    let defined : IsAmongDefined bytes used s.steps = built_by_stop bytes used s.steps (subst (λ (ls : List LocatedToken). used ≤ reach_of ls) (sym s.comes) (omega (arith, s.taken))) in
+    let defined : IsAmongDefined bytes used s.steps = built_by_stop bytes used s.steps (subst (λ (ls : List LocatedToken). used ≤ reach_of ls) (sym s.comes) (open-within s.rest used s.taken)) in
     record {
       count = used;
       took = took;
@@ -249,11 +257,11 @@ reading_builds used before after told to_come at refusal.Memory allocates device
 
 opening_builds : (before : Meaning) (told to_come : Option (List ℕ)) (used : ℕ) → HasTaken used told to_come → StopsFirst (option_map tokens told) (stop_with refusal.Device used) → BuildsAhead before before told to_come
 opening_builds before told to_come used taken stops bytes shows profile h =
-    let some : used ≤ reach_of (tokens bytes) + 0 = stops.taken (tokens bytes) (ap (option_map tokens) shows) in
+    let some : used ≤ open_reach_of (tokens bytes) = stops.taken (tokens bytes) (ap (option_map tokens) shows) in
     let s : Stops profile (start (tokens bytes)) (stop_with refusal.Device used) = stops_here profile (start (tokens bytes)) (stop_with refusal.Device used) tt some in
     builds_by before profile bytes to_come used s (taken bytes shows) (first_told before profile bytes used some h)
   where
-    first_told : (before : Meaning) (profile : Profile) (bytes : List ℕ) (used : ℕ) (some : used ≤ reach_of (tokens bytes) + 0) → before profile [] →
+    first_told : (before : Meaning) (profile : Profile) (bytes : List ℕ) (used : ℕ) (some : used ≤ open_reach_of (tokens bytes)) → before profile [] →
         IsTold before profile (run (stops_here profile (start (tokens bytes)) (stop_with refusal.Device used) tt some).steps (start (tokens bytes))).functions
     first_told before profile bytes used some h = rw (functions_here profile (start (tokens bytes)) (stop_with refusal.Device used) tt some) (record { more = []; stands = h })
 

@@ -1,5 +1,7 @@
 -- What a parse gives: a file, or its first fault.
 use Rattle.std.specs.Prelude.{ℕ, ◌+◌, ◌≡◌, ◌≤◌, List, [], ◌++◌, drop, map, Bool, IsTrue, Option, Some, Ok, Err}
+use Rattle.tokens.specs.Ends.{last_open_until}
+use Rattle.tokens.specs.Tokens.{tokens}
 use Rattle.grammar.specs.declared.diagnostics.Diagnostic.{Diagnostic}
 use Rattle.grammar.specs.declared.diagnostics.ParseFault.{ParseFault}
 use Rattle.grammar.specs.declared.diagnostics.ParseFault.TheVariants as refusal
@@ -46,17 +48,30 @@ pub record TakesUpTo (profile : Profile) (bytes : List ℕ) (to_come : Option (L
   pub took : to_come ≡ Some (drop count bytes)
   pub needed : count ≤ need profile bytes + more
 
--- the same of each profile that the builder goes by, where the device tells its bytes
+-- from a device that tells its bytes no more were taken than may leave open what they are: none past what decides that,
+-- and if they have a bad character, fewer than with this one
+pub record LeavesOpen (profile : Profile) (bytes : List ℕ) (to_come : Option (List ℕ)) : Type 0 where
+  pub count : ℕ
+  pub took : to_come ≡ Some (drop count bytes)
+  pub needed : count ≤ need profile bytes
+  pub undecided : count ≤ last_open_until (tokens bytes)
+
+-- so few were taken by each profile that the builder goes by, where the device tells its bytes
 abbrev pub TakesNoMore : Meaning → (told to_come : Option (List ℕ)) → ℕ → Type 0
 TakesNoMore before told to_come more =
     (bytes : List ℕ) → told ≡ Some bytes → (profile : Profile) → before profile [] →
     TakesUpTo profile bytes to_come more
 
+-- so they may leave it open by each profile that the builder goes by, where the device tells its bytes
+abbrev pub StaysUndecided : Meaning → (told to_come : Option (List ℕ)) → Type 0
+StaysUndecided before told to_come =
+    (bytes : List ℕ) → told ≡ Some bytes → (profile : Profile) → before profile [] → LeavesOpen profile bytes to_come
+
 -- what was taken where no file is answered: a window past what decides the source at most, and where the device failed,
--- nothing past it
+-- so few bytes that they may leave it open
 abbrev pub StopsTaking : Meaning → (told to_come : Option (List ℕ)) → ParseFault → Type 0
 StopsTaking before told to_come (refusal.Source d) = TakesNoMore before told to_come 4096
-StopsTaking before told to_come refusal.Device = TakesNoMore before told to_come 0
+StopsTaking before told to_come refusal.Device = StaysUndecided before told to_come
 StopsTaking before told to_come refusal.Memory = TakesNoMore before told to_come 4096
 
 -- From a device that tells its bytes so many were taken, and the builder stands for the actions of the functions that

@@ -1,6 +1,6 @@
 //! Parses of sources in memory, and what they are compared with, for tests.
 
-ghost use Rattle.std.specs.Prelude.{◌≡◌, ◌<◌, ◌-◌, ◌^◌};
+ghost use Rattle.std.specs.Prelude.{◌≡◌, ◌<◌, ◌-◌, ◌^◌, false};
 
 use crate::{Code, Diagnostic, FunctionTree, ParseFault, Pools, Profile, TreeMaker, parse};
 use std::alloc::Global;
@@ -37,14 +37,16 @@ impl Outcome {
 
 /// Parses what a device gives into a new builder of the first profile.
 pub fn parsed(alloc: Global, feed: Pieces) -> Outcome
-    requires { feed.failures < 2 ^ 64 - 1 }
+    requires count { feed.failures < 2 ^ 64 - 1 }
+    requires not_ended { feed.ended ≡ false }
 {
     parsed_by(alloc, Profile::first(), feed)
 }
 
 /// Parses what a device gives into a new builder of this profile.
 pub fn parsed_by(alloc: Global, profile: Profile, mut feed: Pieces) -> Outcome
-    requires { feed.failures < 2 ^ 64 - 1 }
+    requires count { feed.failures < 2 ^ 64 - 1 }
+    requires not_ended { feed.ended ≡ false }
 {
     let mut trees = TreeMaker::new(alloc, profile);
     let answer = parse(&mut feed, &mut trees);

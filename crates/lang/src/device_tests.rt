@@ -53,6 +53,25 @@ fn a_decided_fault_wins_over_a_failed_read(rt: HostRuntime) -> Result<(), Fail> 
 }
 
 #[test]
+fn a_bad_character_wins_over_a_failed_read(rt: HostRuntime) -> Result<(), Fail> {
+    let outcome = parsed(rt.alloc(), Pieces::failing_at(b"$", 1, 1));
+    assert_eq!(rt; outcome.fault(), Some(source_fault(1, Code::BadCharacter)));
+    assert_eq!(rt; outcome.failures, 0);
+    Ok(())
+}
+
+#[test]
+fn the_end_is_asked_for_once(rt: HostRuntime) -> Result<(), Fail> {
+    let outcome = parsed(rt.alloc(), Pieces::failing_at(b"", 1, 1));
+    assert_eq!(rt;
+        outcome.fault(),
+        Some(source_fault(1, Code::NoMainFunction))
+    );
+    assert_eq!(rt; outcome.failures, 0);
+    Ok(())
+}
+
+#[test]
 fn each_read_fails_in_turn(rt: HostRuntime) -> Result<(), Fail> {
     let source = b"int x; f(a) int a; {x=a;} main(){f(1); if(x) while(x-=1);}";
     for reads in 0..source.len() + 1 {

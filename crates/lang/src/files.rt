@@ -1,6 +1,6 @@
 //! Files: one pass from a device's bytes to a builder, and the names of the file.
 
-ghost use Rattle.std.specs.Prelude.{◌≡◌, ◌-◌, ◌<◌, ◌^◌, ◌∷◌, [], IfErr, IfOk, OnOk, true};
+ghost use Rattle.std.specs.Prelude.{◌≡◌, ◌-◌, ◌<◌, ◌^◌, ◌∷◌, [], IfErr, IfOk, OnOk, false, true};
 ghost use Rattle.tokens.specs.declared.located_tokens.Token.TheVariants as token;
 ghost use Rattle.tokens.specs.declared.located_tokens.Word.TheVariants as word;
 ghost use Rattle.grammar.specs.Building.{StandsOpen};
@@ -21,7 +21,8 @@ use tokens::{Feed, Punctuator, Token, Word};
 ///
 /// The device gives its bytes in pieces of any size. The source ends before the first byte 26, or where the device has
 /// no more bytes; it is too long past 1,048,576 bytes. At most 64 levels may be open at once, which bounds the
-/// recursion. No more bytes are taken than decide the answer and a window of 4,096 bytes.
+/// recursion. No more bytes are taken than decide the answer and a window of 4,096 bytes. A device that has given no byte
+/// has ended, and is not asked again.
 ///
 /// The builder is new: it stands for no action yet. On `Ok` it stands for those of the whole file, and nothing is left
 /// open in it. No memory is asked for but by the builder.
@@ -34,6 +35,7 @@ use tokens::{Feed, Punctuator, Token, Word};
 pub fn parse<F: Feed, B: Build>(feed: &mut F, build: &mut B) -> Result<Pools, ParseFault>
     requires new { IsNew (B.stands build.old) }
     requires count { F.failures feed.old < 2 ^ 64 - 1 }
+    requires not_ended { F.ended feed.old ≡ false }
     ensures file { IfOk result (λ pools. IsFile (B.stands build.old) (B.stands build.new) (F.to_come feed.old) pools) }
     ensures closed { OnOk result (StandsOpen (B.stands build.new) []) }
     ensures refused { IfErr result (λ fault.

@@ -2,7 +2,7 @@
 use Rattle.std.proofs.Common.{◌≡◌, ℕ, ◌+◌, ◌≤◌, drop, length, List, [], ◌∷◌, ◌++◌, refl, sym, ap, ◌∙◌, subst, Bool, true, false, append_assoc, arith}
 use Rattle.std.specs.Prelude.{Option, Some, None, cond}
 use Rattle.std.specs.Option.{option_map}
-use Rattle.tokens.specs.Reading.{IsNear, Reading, reach, reach_of, shown, taken}
+use Rattle.tokens.specs.Reading.{IsNear, Reading, reach, open_reach_of, reach_of, shown, taken}
 use Rattle.tokens.specs.Tokens.{is_last, followed_by, tokens}
 use Rattle.tokens.specs.declared.located_tokens.LocatedToken.{LocatedToken}
 use Rattle.tokens.specs.declared.located_tokens.Token.{Token}
@@ -19,7 +19,7 @@ use Rattle.grammar.specs.Scope.{Scope, no_names}
 use Rattle.grammar.proofs.Runs.{then, back, here, later, run-add}
 use Rattle.grammar.proofs.Firsts.{at_fault, at_rest, run_keeps}
 use Rattle.parsing.specs.Position.{Position, Place, place, GoesOn, tokens_at, next_at, scope_at}
-use Rattle.parsing.specs.Stopping.{IfSource, NoneBefore, Stop, Stops, StopsInside, slack, stop_with}
+use Rattle.parsing.specs.Stopping.{IfSource, NoneBefore, Stop, Stops, StopsInside, most_taken, stop_with}
 use Rattle.parsing.specs.Segment.{Derives, FailsAt, FailsItem, GoesPast, HasLexicalError, IsNearTo, Refused, StopsAt, StopsOpening, Takes}
 
 -- The tokens at a place.
@@ -139,7 +139,7 @@ none_before profile s = record {
 }
 
 -- it stops at the next token
-pub stops_here : (profile : Profile) (s : State) (stop : Stop) → IfSource stop.fault (Fails profile s) → stop.taken ≤ reach_of s.rest + slack stop.fault → Stops profile s stop
+pub stops_here : (profile : Profile) (s : State) (stop : Stop) → IfSource stop.fault (Fails profile s) → stop.taken ≤ most_taken stop.fault s.rest → Stops profile s stop
 stops_here profile s stop fails taken = record {
   passed = [];
   rest = s.rest;
@@ -180,12 +180,12 @@ stops_back profile s t stop consumed is p h = record {
 
 -- The same before a further function is defined.
 
-pub functions_here : (profile : Profile) (s : State) (stop : Stop) (fails : IfSource stop.fault (Fails profile s)) (few : stop.taken ≤ reach_of s.rest + slack stop.fault) →
+pub functions_here : (profile : Profile) (s : State) (stop : Stop) (fails : IfSource stop.fault (Fails profile s)) (few : stop.taken ≤ most_taken stop.fault s.rest) →
     (run (stops_here profile s stop fails few).steps s).functions ≡ s.functions
 unfolding stops_here
 functions_here profile s stop fails few = refl
 
-pub inside_here : (profile : Profile) (s : State) (stop : Stop) → IfSource stop.fault (Fails profile s) → stop.taken ≤ reach_of s.rest + slack stop.fault → StopsInside profile s stop
+pub inside_here : (profile : Profile) (s : State) (stop : Stop) → IfSource stop.fault (Fails profile s) → stop.taken ≤ most_taken stop.fault s.rest → StopsInside profile s stop
 inside_here profile s stop fails few = record { stops = stops_here profile s stop fails few; functions = functions_here profile s stop fails few }
 
 -- the functions defined there are the same
@@ -236,7 +236,7 @@ stops reading known learnt more d depth front pending taken left leads stop loca
     let behind : b.tail ≡ reading.after ∷ b.behind.others = b.behind.is stop.more in
     let t : State = state (pending ++ stack) b.tail (left ++ values) learnt functions in
     let fails : IfSource d.fault (Fails profile t) = lexical_error_fails d.fault b.tail b.behind.others behind stop.lexical_error in
-    let last : d.taken ≤ reach_of b.tail + slack d.fault = stop.taken reading.next b.tail (is ∙ ap Some b.is) in
+    let last : d.taken ≤ most_taken d.fault b.tail = stop.taken reading.next b.tail (is ∙ ap Some b.is) in
     rw b.is (inside_back profile (state (front ++ stack) (reading.next ∷ b.tail) (taken ++ values) known functions) t d (reading.next ∷ []) refl refl
     ((leads b.tail b.behind).passes profile stack values functions depths) (inside_here profile t d fails last))
   where
@@ -337,7 +337,7 @@ exit_item n depth inner front item below taken under at now more f a opens =
 -- At the first token.
 
 pub no_opening : (told told' : Option (List ℕ)) →
-    ((bytes : List ℕ) → told ≡ Some bytes → (count : ℕ) × (told' ≡ Some (drop count bytes)) × (count ≤ reach_of (tokens bytes))) → StopsOpening told told' refusal.Device
+    ((bytes : List ℕ) → told ≡ Some bytes → (count : ℕ) × (told' ≡ Some (drop count bytes)) × (count ≤ open_reach_of (tokens bytes))) → StopsOpening told told' refusal.Device
 no_opening None told' h = record {
   taken = 0;
   took = λ bytes e. absurd (cc);

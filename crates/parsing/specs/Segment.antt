@@ -2,7 +2,7 @@
 use Rattle.std.specs.Prelude.{ℕ, ◌+◌, ◌≡◌, ◌<◌, ◌≤◌, List, [], ◌∷◌, ◌++◌, drop, length, Bool, true, false, IsTrue}
 use Rattle.std.specs.Prelude.{Option, Some, None, Result, Ok, Err}
 use Rattle.std.specs.Option.{option_map}
-use Rattle.tokens.specs.Reading.{reach, reach_of}
+use Rattle.tokens.specs.Reading.{reach}
 use Rattle.tokens.specs.Tokens.{is_last, tokens}
 use Rattle.tokens.specs.declared.limits.TheConstants.{WINDOW}
 use Rattle.tokens.specs.declared.located_tokens.LocatedToken.{LocatedToken}
@@ -18,7 +18,7 @@ use Rattle.grammar.specs.Parsing.{Passes}
 use Rattle.grammar.specs.Profile.{Profile}
 use Rattle.parsing.specs.Defining.{IsWithin}
 use Rattle.parsing.specs.Position.{Place, Position, GoesOn, tokens_at, next_at, scope_at}
-use Rattle.parsing.specs.Stopping.{IfSource, Stop, StopsInside, slack, stop_with}
+use Rattle.parsing.specs.Stopping.{IfSource, Stop, StopsInside, most_taken, stop_with}
 
 -- the tokens told at a place are those that a segment took, and then those told behind it
 pub record Takes (consumed located_tokens : List LocatedToken) (there : Place) : Type 0 where
@@ -72,7 +72,7 @@ pub record StopsAt (here : Place) (stop : Stop) : Type 0 where
   pub more : is_last (next_at here).token ≡ false
   pub lexical_error : IfSource stop.fault (HasLexicalError here)
   pub taken : (next : LocatedToken) (others : List LocatedToken) → tokens_at here ≡ Some (next ∷ others) →
-      stop.taken ≤ reach_of others + slack stop.fault
+      stop.taken ≤ most_taken stop.fault others
 
 -- the first token is a fault, or the device failed
 pub record StopsFirst (told : Option (List LocatedToken)) (stop : Stop) : Type 0 where
@@ -80,7 +80,7 @@ pub record StopsFirst (told : Option (List LocatedToken)) (stop : Stop) : Type 0
       (is_fault (next_of located_tokens) ≡ true)
       × (d ≡ diagnostic (line_of located_tokens) (misfit_code (next_of located_tokens))))
   pub taken : (located_tokens : List LocatedToken) → told ≡ Some located_tokens
-      → stop.taken ≤ reach_of located_tokens + slack stop.fault
+      → stop.taken ≤ most_taken stop.fault located_tokens
 
 -- no more bytes were taken than a window behind the two tokens that are held
 abbrev pub IsNearTo : Place → ℕ → Type 0

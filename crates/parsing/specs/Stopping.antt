@@ -1,6 +1,6 @@
 -- Where a derivation stops: at its first fault, or where the device failed or a builder was refused memory.
 use Rattle.std.specs.Prelude.{ℕ, ◌+◌, ◌≡◌, ◌≤◌, List, ◌++◌, length}
-use Rattle.tokens.specs.Reading.{reach_of}
+use Rattle.tokens.specs.Reading.{open_reach_of, reach_of}
 use Rattle.tokens.specs.declared.limits.TheConstants.{WINDOW}
 use Rattle.tokens.specs.declared.located_tokens.LocatedToken.{LocatedToken}
 use Rattle.grammar.specs.declared.diagnostics.Diagnostic.{Diagnostic}
@@ -25,11 +25,12 @@ IfSource (refusal.Source d) says = says d
 IfSource refusal.Device says = Unit {0}
 IfSource refusal.Memory says = Unit {0}
 
--- how many bytes may have been taken past what decides: none where the device failed, else a window
-abbrev pub slack : ParseFault → ℕ
-slack (refusal.Source d) = WINDOW
-slack refusal.Device = 0
-slack refusal.Memory = WINDOW
+-- How many bytes may have been taken where these tokens are next. Where the device failed, no more than may leave the
+-- second of them open; else a window past it.
+abbrev pub most_taken : ParseFault → List LocatedToken → ℕ
+most_taken (refusal.Source d) rest = reach_of rest + WINDOW
+most_taken refusal.Device rest = open_reach_of rest
+most_taken refusal.Memory rest = reach_of rest + WINDOW
 
 -- no fault of the derivation stands before these last tokens of the source
 pub record NoneBefore (profile : Profile) (s : State) (rest : List LocatedToken) : Type 0 where
@@ -45,7 +46,7 @@ pub record Stops (profile : Profile) (s : State) (stop : Stop) : Type 0 where
   pub comes : (run steps s).rest ≡ rest
   pub none_before : NoneBefore profile s rest
   pub fails : IfSource stop.fault (Fails profile s)
-  pub taken : stop.taken ≤ reach_of rest + slack stop.fault
+  pub taken : stop.taken ≤ most_taken stop.fault rest
 
 -- and no function was defined on the way there
 pub record StopsInside (profile : Profile) (s : State) (stop : Stop) : Type 0 where

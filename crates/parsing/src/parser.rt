@@ -2,8 +2,9 @@
 
 ghost use Rattle.std.specs.Prelude.{ℕ, ◌≡◌, ◌<◌, ◌≤◌, [], ◌∷◌, drop, length, false, true, is_some, OnOk, IfOk, IfErr};
 ghost use Rattle.std.specs.Option.{option_map};
-ghost use Rattle.tokens.specs.Reading.{shown, taken};
+ghost use Rattle.tokens.specs.Reading.{beyond, shown, taken};
 ghost use Rattle.tokens.specs.Tokens.{FitsToken, is_last, tokens};
+ghost use Rattle.tokens.specs.Window.{KnowsEnd};
 ghost use Rattle.tokens.specs.declared.located_tokens.Token.TheVariants as token;
 ghost use Rattle.grammar.specs.Compiled.{diagnostic, main_name};
 ghost use Rattle.grammar.specs.Derivation.{ACall, AVariable, name_of_token};
@@ -28,7 +29,7 @@ use tokens::{Cursor, Feed, LocatedToken, Name, Punctuator, Token, Word};
 pub const MOST_LEVELS: u8 = 64;
 
 /// The next tokens of a device's bytes, and the names known there. Neither the next token nor one that was consumed is
-/// a lexical error.
+/// a lexical error. A device that has ended is not asked again.
 ///
 /// After an `Err` a parser is of no more use.
 #[derive(Drop)]
@@ -40,6 +41,8 @@ pub struct Parser<'a, F: Feed> {
 
 impl<'a, F: Feed> Model for Parser<'a, F> {
     ghost use Rattle.std.specs.Prelude.{◌≡◌, false};
+    ghost use Rattle.tokens.specs.Reading.{beyond};
+    ghost use Rattle.tokens.specs.Window.{KnowsEnd};
     ghost use Rattle.grammar.specs.Grammar.{is_fault};
     ghost use Rattle.parsing.specs.Position.{Standing, place};
 
@@ -51,7 +54,8 @@ impl<'a, F: Feed> Model for Parser<'a, F> {
       device = p.feed.ghost_name;
     } };
 
-    ghost invariant = { λ p. is_fault p.cursor.next.token ≡ false };
+    ghost invariant = { λ p. (is_fault p.cursor.next.token ≡ false)
+        × KnowsEnd (beyond p.cursor) (F.ended p.feed.now) };
 }
 
 /// Reads the first tokens of a device's bytes, for a parser.
@@ -60,6 +64,7 @@ impl<'a, F: Feed> Model for Parser<'a, F> {
 /// `Source` if the first token is a lexical error, `Device` if the device failed.
 pub fn first<F: Feed>(feed: &mut F) -> Result<Cursor, ParseFault>
     requires count { F.failures feed.old < most_failures }
+    requires not_ended { F.ended feed.old ≡ false }
     ensures tokens { IfOk result (λ cursor.
         shown cursor (F.to_come feed.new) ≡ option_map tokens (F.to_come feed.old)) }
     ensures ready { IfOk result IsReadable }
@@ -67,6 +72,7 @@ pub fn first<F: Feed>(feed: &mut F) -> Result<Cursor, ParseFault>
     ensures took { IfOk result (λ cursor.
         F.to_come feed.new ≡ option_map (drop (taken cursor)) (F.to_come feed.old)) }
     ensures counted { Counts result (F.failures feed.old) (F.failures feed.new) }
+    ensures known { IfOk result (λ cursor. KnowsEnd (beyond cursor) (F.ended feed.new)) }
 {
     let cursor = Cursor::open(feed)?;
     if let Token::Fault(_) = cursor.next().token {
@@ -87,6 +93,7 @@ impl<'a, F: Feed> Parser<'a, F> {
     /// `cursor` is what `first` gave for the same device.
     pub fn new(cursor: Cursor, feed: &'a mut F) -> Parser<'a, F>
         requires ready { IsReadable cursor }
+        requires known { KnowsEnd (beyond cursor) (F.ended feed.old) }
         ensures place { result.place ≡ place (record { reading = cursor; scope = no_names }) (F.to_come feed.old) }
         ensures failures { result.failures ≡ F.failures feed.old }
         ensures device { result.device ≡ feed.entry.ghost_name }

@@ -2,7 +2,7 @@
 use Rattle.std.proofs.Common.{◌≡◌, ◌≢◌, ℕ, ◌+◌, ◌-◌, ◌<◌, List, Option, None, length, drop, get_or, map, set, sym, ap, ◌∙◌, subst, arith, below_more, get_or-set_other, get_or-set_same}
 use Rattle.std.proofs.lemmas.List.{get_or-map, drop-map, length-drop, length-map, map-set}
 use Rattle.grammar.specs.Profile.{Profile}
-use Rattle.series.specs.Reading.{FailsAt, ReadsFirst, TakesOf, TakesOfFirst}
+use Rattle.series.specs.Reading.{FailsAt, MayLeaveOpen, ReadsFirst, TakesOf, TakesOfFirst}
 use Rattle.series.proofs.RunsLemmas.{feed_here, rest_more}
 
 module _ {X : Type 0} where
@@ -37,10 +37,10 @@ module _ {X : Type 0} where
       subst Takes (sym (told_others tells feeds file i y other)) (read i below)
 
   -- the file that was read
-  pub reads_here : (tells : X → Option (List ℕ)) (profile : Profile) (start feeds : List X) (file more : ℕ) (x y : X) → file < length start
-      → drop file feeds ≡ drop file start → TakesOf profile (tells (get_or feeds file x)) (tells y) more
-      → TakesOf profile (get_or (map tells start) file None) (get_or (map tells (set feeds file y)) file None) more
-  reads_here tells profile start feeds file more x y within same takes =
+  pub reads_here : (Takes : (told later : Option (List ℕ)) → Type 0) (tells : X → Option (List ℕ)) (start feeds : List X) (file : ℕ) (x y : X) → file < length start
+      → drop file feeds ≡ drop file start → Takes (tells (get_or feeds file x)) (tells y)
+      → Takes (get_or (map tells start) file None) (get_or (map tells (set feeds file y)) file None)
+  reads_here Takes tells start feeds file x y within same takes =
       rw (told_there tells start feeds file x within same, told_then tells feeds file y (same_length start feeds file within same)) takes
 
   -- one file more was read
@@ -49,7 +49,7 @@ module _ {X : Type 0} where
       → TakesOf profile (tells (get_or feeds file x)) (tells y) 4096
       → TakesOfFirst profile (map tells start) (map tells (set feeds file y)) (file + 1)
   reads_more tells profile start feeds file x y within same read takes =
-      below_more _ _ (reads_before tells profile start feeds file y read) (reads_here tells profile start feeds file 4096 x y within same takes)
+      below_more _ _ (reads_before tells profile start feeds file y read) (reads_here (λ told later. TakesOf profile told later 4096) tells start feeds file x y within same takes)
 
   unread_of : (tells : X → Option (List ℕ)) (start feeds : List X) (count : ℕ) → drop count feeds ≡ drop count start
       → drop count (map tells feeds) ≡ drop count (map tells start)
@@ -63,10 +63,10 @@ module _ {X : Type 0} where
   -- the read of a file failed
   pub fails_at : (tells : X → Option (List ℕ)) (profile : Profile) (start feeds : List X) (file : ℕ) (x y : X) → file < length start
       → drop file feeds ≡ drop file start → TakesOfFirst profile (map tells start) (map tells feeds) file
-      → TakesOf profile (tells (get_or feeds file x)) (tells y) 0
+      → MayLeaveOpen profile (tells (get_or feeds file x)) (tells y)
       → FailsAt profile (map tells start) (map tells (set feeds file y)) file
   fails_at tells profile start feeds file x y within same read takes = record {
     before = reads_before tells profile start feeds file y read;
-    here = reads_here tells profile start feeds file 0 x y within same takes;
+    here = reads_here (MayLeaveOpen profile) tells start feeds file x y within same takes;
     unread = unread_of tells start (set feeds file y) (file + 1) (rest_more start feeds file y same);
   }

@@ -1,6 +1,6 @@
 //! Runs: files are compiled, and listed or sent to matches.
 
-ghost use Rattle.std.specs.Prelude.{◌≡◌, ℕ, ◌+◌, ◌-◌, ◌^◌, ◌<◌, ◌≤◌, List, [], ◌∷◌, Option, Some, length, map, All, Result, MatchResult, OnOk, IfOk, IfSome, OnErr};
+ghost use Rattle.std.specs.Prelude.{◌≡◌, ℕ, ◌+◌, ◌-◌, ◌^◌, ◌<◌, ◌≤◌, List, [], ◌∷◌, Option, Some, false, length, map, All, Result, MatchResult, OnOk, IfOk, IfSome, OnErr};
 ghost use Rattle.tokens.specs.Feed.{Counts};
 ghost use Rattle.code.specs.Codes.{AreCodesOf};
 ghost use Rattle.grammar.specs.Tree.{File};
@@ -10,7 +10,7 @@ ghost use Rattle.series.specs.Output.{Runs};
 ghost use Rattle.series.specs.Pieces.{taken, Writes, Begins};
 ghost use Rattle.series.specs.Playing.{playing};
 ghost use Rattle.sinks.specs.Portions.{Portions};
-ghost use Rattle.series.specs.Reading.{Reads, TakesOf};
+ghost use Rattle.series.specs.Reading.{MayLeaveOpen, Reads, TakesOf};
 ghost use Rattle.series.specs.Runs.{AreSources, Compiles, PutsPieces, programs_by};
 ghost use Rattle.sinks.specs.Texts.{file_name};
 
@@ -43,6 +43,7 @@ pub fn run<F: Feed, O: Sink, E: Sink>(
 ) -> Result<Status, RunFault>
     requires files { length feeds.old ≡ length settings.now.words }
     requires feeds { All (λ feed. F.failures feed < 2 ^ 64 - 1) feeds.old }
+    requires not_ended { All (λ feed. F.ended feed ≡ false) feeds.old }
     requires text { O.failures out.old < 2 ^ 64 - 1 }
     requires faults { E.failures err.old < 2 ^ 64 - 1 }
     ensures output { (sources : List Source) → AreSources sources settings.now.words (map F.to_come feeds.old)
@@ -102,6 +103,7 @@ pub fn compile_files<F: Feed, O: Sink, E: Sink>(
 ) -> Result<Option<Programs>, RunFault>
     requires files { length feeds.old ≡ length settings.now.words }
     requires feeds { All (λ feed. F.failures feed < 2 ^ 64 - 1) feeds.old }
+    requires not_ended { All (λ feed. F.ended feed ≡ false) feeds.old }
     requires text { O.failures out.old < 2 ^ 64 - 1 }
     requires faults { E.failures err.old < 2 ^ 64 - 1 }
     ensures output { (sources : List Source) → AreSources sources settings.now.words (map F.to_come feeds.old)
@@ -135,6 +137,7 @@ pub(crate) fn compile_into<F: Feed, O: Sink, E: Sink>(
     requires none { programs.old ≡ [] }
     requires files { length feeds.old ≡ length settings.now.words }
     requires feeds { All (λ feed. F.failures feed < 2 ^ 64 - 1) feeds.old }
+    requires not_ended { All (λ feed. F.ended feed ≡ false) feeds.old }
     requires text { O.failures out.old < 2 ^ 64 - 1 }
     requires faults { E.failures err.old < 2 ^ 64 - 1 }
     ensures output { (sources : List Source) → AreSources sources settings.now.words (map F.to_come feeds.old)
@@ -201,11 +204,12 @@ pub(crate) fn compile<F: Feed>(
     profile: Profile,
     feed: &mut F,
 ) -> Result<Result<Program, Diagnostic>, DeviceFault>
-    requires { F.failures feed.old < 2 ^ 64 - 1 }
+    requires count { F.failures feed.old < 2 ^ 64 - 1 }
+    requires not_ended { F.ended feed.old ≡ false }
     ensures file { IfOk result (λ compiled. (bytes : List ℕ) → F.to_come feed.old ≡ Some bytes
         → compiled ≡ compiled_code profile bytes) }
     ensures taken { OnOk result (TakesOf profile (F.to_come feed.old) (F.to_come feed.new) 4096) }
-    ensures stopped { OnErr result (TakesOf profile (F.to_come feed.old) (F.to_come feed.new) 0) }
+    ensures stopped { OnErr result (MayLeaveOpen profile (F.to_come feed.old) (F.to_come feed.new)) }
     ensures count { Counts result (F.failures feed.old) (F.failures feed.new) }
 {
     let mut maker = Maker::new(profile);

@@ -1,19 +1,23 @@
 -- How many bytes were taken from the device.
-use Rattle.std.proofs.Common.{◌≡◌, ℕ, zero, suc, ◌+◌, ◌≤◌, Bool, true, false, cond, Option, Some, None, Result, Ok, Err, List, [], ◌∷◌, ◌++◌, length, take, sym, ap, ◌∙◌, arith, subst}
-use Rattle.std.specs.Prelude.{OnErr}
+use Rattle.std.proofs.Common.{◌≡◌, refl, ℕ, zero, suc, ◌+◌, ◌*◌, ◌-◌, ◌<◌, ◌≤◌, Bool, true, false, cond, Option, Some, None, Result, Ok, Err, List, [], ◌∷◌, ◌++◌, length, take, sym, ap, ◌∙◌, arith, subst}
+use Rattle.std.specs.Prelude.{OnErr, fold, nat_le}
 use Rattle.std.specs.List.{prefix_len}
 use Rattle.std.proofs.lemmas.Option.{same_Some}
 use Rattle.tokens.specs.Punctuators.{punctuator_of, spelling}
-use Rattle.tokens.specs.Front.{Front, Nothing, Space, Unclosed, Sign, front, up_to_close, begins_with}
+use Rattle.tokens.specs.Words.{word_of}
+use Rattle.tokens.specs.Ends.{is_decided_by_last_byte, open_until}
+use Rattle.tokens.specs.Front.{Front, Nothing, Space, Unclosed, Sign, front, up_to_close, begins_with, name_or}
 use Rattle.tokens.specs.Tokens.{Ahead, behind_byte, passed, at_end, placed, last_located_token, cut, cut_front, located_tokens}
 use Rattle.tokens.specs.Window.{Held, Takes, ahead}
-use Rattle.tokens.specs.Lexing.{to_read, followed, ending, in_run, in_punctuator, grown, in_comment, closed_at, StopsWithin}
+use Rattle.tokens.specs.Lexing.{to_read, followed, ending, in_run, name_going_on, constant_going_on, value_token, in_punctuator, grown, in_comment, closed_at, StopsWithin}
 use Rattle.tokens.specs.declared.located_tokens.Punctuator.{Punctuator}
 use Rattle.tokens.specs.declared.located_tokens.Punctuator.TheVariants.{Slash}
-use Rattle.tokens.specs.declared.located_tokens.LexicalError.TheVariants.{CommentNotClosed, SourceTooLong}
+use Rattle.tokens.specs.declared.located_tokens.LexicalError.TheVariants.{CommentNotClosed, ConstantTooLarge, NameTooLong, SourceTooLong}
 use Rattle.tokens.specs.declared.located_tokens.Token.{Token}
+use Rattle.tokens.specs.declared.located_tokens.Word.{Word}
 use Rattle.tokens.specs.declared.located_tokens.Token.TheVariants as variant
 use Rattle.tokens.specs.declared.located_tokens.LocatedToken.{LocatedToken}
+use Rattle.tokens.proofs.LocatedTokensLemmas.{IsPiece, front-is_piece}
 use Rattle.tokens.proofs.CommentLemmas.{in_star}
 use Rattle.tokens.proofs.BeginLemmas.{in_slash}
 
@@ -29,15 +33,30 @@ pub on_err-from : {T E P : Type 0} (r : Result T E) → P → OnErr r P
 on_err-from (Ok x) p = tt
 on_err-from (Err x) p = p
 
--- the first token ends no sooner than it begins
+-- the first token is open where it begins
 pub record EndsBehind (made : Ahead → List LocatedToken) : Type 0 where
-  pub ends : (a : Ahead) (first : LocatedToken) (others : List LocatedToken) → made a ≡ first ∷ others → a.place ≤ first.end
+  pub ends : (a : Ahead) (first : LocatedToken) (others : List LocatedToken) → made a ≡ first ∷ others → a.place ≤ open_until first
 
 same_first : (x first : LocatedToken) (xs others : List LocatedToken) → x ∷ xs ≡ first ∷ others → x ≡ first
 same_first x first xs others e = cc
 
-at_most : (place : ℕ) (x first : LocatedToken) (xs others : List LocatedToken) → place ≤ x.end → x ∷ xs ≡ first ∷ others → place ≤ first.end
-at_most place x first xs others h e = omega (arith, ap (λ y. y.end) (same_first x first xs others e))
+at_most : (place : ℕ) (x first : LocatedToken) (xs others : List LocatedToken) → place ≤ open_until x → x ∷ xs ≡ first ∷ others → place ≤ open_until first
+at_most place x first xs others h e = omega (arith, h, ap open_until (same_first x first xs others e))
+
+-- a token of more than no bytes is open where it begins, and any other that isn't decided by its last byte
+pub open-placed : (token : Token) (count : ℕ) (a : Ahead) → 0 < count → a.place ≤ open_until (placed token count a)
+open-placed token count a h = by (is_decided_by_last_byte token)
+  where
+    by : (t : Bool) → a.place ≤ cond t (a.place + count - 1) (a.place + count)
+    by true = omega (arith, h)
+    by false = omega arith
+
+open-undecided : (token : Token) (count : ℕ) (a : Ahead) → is_decided_by_last_byte token ≡ false → a.place ≤ open_until (placed token count a)
+open-undecided token count a h = by (is_decided_by_last_byte token) h
+  where
+    by : (t : Bool) → t ≡ false → a.place ≤ cond t (a.place + count - 1) (a.place + count)
+    by true h = absurd cc
+    by false h = omega arith
 
 place-behind_byte : (a : Ahead) → a.place ≤ (behind_byte a).place
 place-behind_byte a = by a.line a.place a.bytes a.too_long
@@ -50,6 +69,17 @@ pub place-passed : (n : ℕ) (a : Ahead) → a.place ≤ (passed n a).place
 place-passed zero a = omega arith
 place-passed (suc n) a = omega (arith, place-behind_byte a, place-passed n (behind_byte a))
 
+pub last-open : (token : Token) (line : ℕ) (end : Ahead) → is_decided_by_last_byte token ≡ false → end.place ≤ open_until (last_located_token token line end)
+last-open token line end h = by end.too_long
+  where
+    here : (u : Bool) → u ≡ false → end.place ≤ cond u (end.place - 1) end.place
+    here true h = absurd cc
+    here false h = omega arith
+
+    by : (t : Bool) → end.place ≤ open_until (cond t (let x : LocatedToken = record { token = variant.Fault SourceTooLong; line = end.line; end = end.place + 1 } in x) (let x : LocatedToken = record { token = token; line = line; end = end.place } in x))
+    by true = omega arith
+    by false = here (is_decided_by_last_byte token) h
+
 pub last-behind : (token : Token) (line : ℕ) (end : Ahead) → end.place ≤ (last_located_token token line end).end
 last-behind token line end = by end.too_long
   where
@@ -57,33 +87,53 @@ last-behind token line end = by end.too_long
     by true = omega arith
     by false = omega arith
 
-last-ends : (place : ℕ) (token : Token) (line : ℕ) (a : Ahead) (first : LocatedToken) (others : List LocatedToken) → place ≤ a.place → last_located_token token line (at_end a) ∷ [] ≡ first ∷ others → place ≤ first.end
-last-ends place token line a first others h e = at_most place _ first [] others (omega (arith, last-behind token line (at_end a), place-passed (length a.bytes) a)) e
+last-ends : (place : ℕ) (token : Token) (line : ℕ) (a : Ahead) (first : LocatedToken) (others : List LocatedToken) → is_decided_by_last_byte token ≡ false → place ≤ a.place → last_located_token token line (at_end a) ∷ [] ≡ first ∷ others → place ≤ open_until first
+last-ends place token line a first others u h e = at_most place _ first [] others (omega (arith, h, last-open token line (at_end a) u, place-passed (length a.bytes) a)) e
 
-cut-ends : (n : ℕ) (a : Ahead) (first : LocatedToken) (others : List LocatedToken) → cut n a ≡ first ∷ others → a.place ≤ first.end
+cut-ends : (n : ℕ) (a : Ahead) (first : LocatedToken) (others : List LocatedToken) → cut n a ≡ first ∷ others → a.place ≤ open_until first
 cut-ends zero a first others e = absurd cc
-cut-ends (suc n) a first others e = by (front a.bytes) (λ count. cut-ends n (passed count a) first others) e
+cut-ends (suc n) a first others e = by (front a.bytes) (front-is_piece a.bytes) (λ count. cut-ends n (passed count a) first others) e
   where
-    by : (f : Front) → ((count : ℕ) → cut n (passed count a) ≡ first ∷ others → (passed count a).place ≤ first.end) → cut_front f a (cut n) ≡ first ∷ others → a.place ≤ first.end
-    by Nothing h e = last-ends a.place variant.End a.line a first others (omega arith) e
-    by Unclosed h e = last-ends a.place (variant.Fault CommentNotClosed) a.line a first others (omega arith) e
-    by (Space count) h e = omega (arith, h count e, place-passed count a)
-    by (Sign sign count) h e = at_most a.place (placed sign count a) first _ others (omega arith) e
+    by : (f : Front) → IsPiece f → ((count : ℕ) → cut n (passed count a) ≡ first ∷ others → (passed count a).place ≤ open_until first) → cut_front f a (cut n) ≡ first ∷ others → a.place ≤ open_until first
+    by Nothing p h e = last-ends a.place variant.End a.line a first others refl (omega arith) e
+    by Unclosed p h e = last-ends a.place (variant.Fault CommentNotClosed) a.line a first others refl (omega arith) e
+    by (Space count) p h e = omega (arith, h count e, place-passed count a)
+    by (Sign sign count) p h e = at_most a.place (placed sign count a) first _ others (open-placed sign count a p) e
 
 pub located_tokens-end : EndsBehind located_tokens
 unfolding located_tokens
 located_tokens-end = record { ends = λ a. cut-ends (suc (length a.bytes)) a }
 
-pub in_run-ends : (test : ℕ → Bool) (token_of : List ℕ → Token) → EndsBehind (in_run test token_of)
+pub in_run-ends : (test : ℕ → Bool) (token_of : List ℕ → Token) → ((bytes : List ℕ) → is_decided_by_last_byte (token_of bytes) ≡ false) → EndsBehind (in_run test token_of)
 unfolding in_run followed
-in_run-ends test token_of = record { ends = λ a first others e. at_most a.place (placed (token_of (take (prefix_len test a.bytes) a.bytes)) (prefix_len test a.bytes) a) first _ others (omega arith) e }
+in_run-ends test token_of u = record { ends = λ a first others e. at_most a.place (placed (token_of (take (prefix_len test a.bytes) a.bytes)) (prefix_len test a.bytes) a) first _ others (open-undecided _ (prefix_len test a.bytes) a (u (take (prefix_len test a.bytes) a.bytes))) e }
 
-grown-ends : (punctuator : Punctuator) (bytes : List ℕ) (a : Ahead) (first : LocatedToken) (others : List LocatedToken) → grown punctuator bytes a ≡ first ∷ others → a.place ≤ first.end
+-- a name isn't decided by its last byte, nor is a constant
+pub name-undecided : (name : List ℕ) (too_long : Bool) (more : List ℕ) → is_decided_by_last_byte (name_going_on name too_long more) ≡ false
+name-undecided name true more = refl
+name-undecided name false more = by (nat_le (length (name ++ more)) 31) (word_of (name ++ more))
+  where
+    by : (t : Bool) (w : Option Word) → is_decided_by_last_byte (cond t (name_or (name ++ more) w) (variant.Fault NameTooLong)) ≡ false
+    by true None = refl
+    by true (Some word) = refl
+    by false w = refl
+
+pub constant-undecided : (value : ℕ) (more : List ℕ) → is_decided_by_last_byte (constant_going_on value more) ≡ false
+constant-undecided value more = by (fold (λ value digit. 10 * value + (digit - 48)) value more)
+  where
+    by : (n : ℕ) → is_decided_by_last_byte (value_token n) ≡ false
+    by n = either (nat_le n 2147483647)
+      where
+        either : (t : Bool) → is_decided_by_last_byte (cond t (variant.Constant n) (variant.Fault ConstantTooLarge)) ≡ false
+        either true = refl
+        either false = refl
+
+grown-ends : (punctuator : Punctuator) (bytes : List ℕ) (a : Ahead) (first : LocatedToken) (others : List LocatedToken) → grown punctuator bytes a ≡ first ∷ others → a.place ≤ open_until first
 unfolding followed
 grown-ends punctuator [] a first others e = at_most a.place (ending (variant.Punctuator punctuator) a) first _ others (omega arith) e
 grown-ends punctuator (b ∷ rest) a first others e = by (punctuator_of (spelling punctuator ++ b ∷ [])) (λ longer. grown-ends longer rest (behind_byte a) first others) e
   where
-    by : (o : Option Punctuator) → ((longer : Punctuator) → grown longer rest (behind_byte a) ≡ first ∷ others → (behind_byte a).place ≤ first.end) → elim o [ None ↦ followed (ending (variant.Punctuator punctuator) a) a | Some longer ↦ grown longer rest (behind_byte a) ] ≡ first ∷ others → a.place ≤ first.end
+    by : (o : Option Punctuator) → ((longer : Punctuator) → grown longer rest (behind_byte a) ≡ first ∷ others → (behind_byte a).place ≤ open_until first) → elim o [ None ↦ followed (ending (variant.Punctuator punctuator) a) a | Some longer ↦ grown longer rest (behind_byte a) ] ≡ first ∷ others → a.place ≤ open_until first
     by None h e = at_most a.place (ending (variant.Punctuator punctuator) a) first _ others (omega arith) e
     by (Some longer) h e = omega (arith, h longer e, place-behind_byte a)
 
@@ -95,11 +145,11 @@ pub in_comment-ends : (line : ℕ) → EndsBehind (in_comment line)
 unfolding in_comment
 in_comment-ends line = record { ends = λ a first others. by a first others (up_to_close a.bytes) }
   where
-    by : (a : Ahead) (first : LocatedToken) (others : List LocatedToken) (o : Option ℕ) → closed_at o line a ≡ first ∷ others → a.place ≤ first.end
-    by a first others None e = last-ends a.place (variant.Fault CommentNotClosed) line a first others (omega arith) e
+    by : (a : Ahead) (first : LocatedToken) (others : List LocatedToken) (o : Option ℕ) → closed_at o line a ≡ first ∷ others → a.place ≤ open_until first
+    by a first others None e = last-ends a.place (variant.Fault CommentNotClosed) line a first others refl (omega arith) e
     by a first others (Some count) e = omega (arith, located_tokens-end.ends (passed count a) first others e, place-passed count a)
 
-either-ends : (t : Bool) (place : ℕ) (xs ys : List LocatedToken) (first : LocatedToken) (others : List LocatedToken) → (xs ≡ first ∷ others → place ≤ first.end) → (ys ≡ first ∷ others → place ≤ first.end) → cond t xs ys ≡ first ∷ others → place ≤ first.end
+either-ends : (t : Bool) (place : ℕ) (xs ys : List LocatedToken) (first : LocatedToken) (others : List LocatedToken) → (xs ≡ first ∷ others → place ≤ open_until first) → (ys ≡ first ∷ others → place ≤ open_until first) → cond t xs ys ≡ first ∷ others → place ≤ open_until first
 either-ends true place xs ys first others f g e = f e
 either-ends false place xs ys first others f g e = g e
 

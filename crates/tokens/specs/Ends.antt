@@ -1,5 +1,9 @@
--- Where tokens end.
-use Rattle.std.specs.Prelude.{ℕ, ◌≤◌, List, [], ◌∷◌}
+-- Where tokens end, and what decides them.
+use Rattle.std.specs.Prelude.{ℕ, ◌-◌, ◌≤◌, Bool, true, false, List, [], ◌∷◌, if◌then◌else◌}
+use Rattle.tokens.specs.declared.located_tokens.LexicalError.{LexicalError}
+use Rattle.tokens.specs.declared.located_tokens.LexicalError.TheVariants as error
+use Rattle.tokens.specs.declared.located_tokens.Token.{Token}
+use Rattle.tokens.specs.declared.located_tokens.Token.TheVariants as variant
 use Rattle.tokens.specs.declared.located_tokens.LocatedToken.{LocatedToken}
 
 -- no token ends before this place, or before the one ahead of it
@@ -11,3 +15,38 @@ IsRising place (located_token ∷ others) = (place ≤ located_token.end) × IsR
 abbrev pub AllEndBy : ℕ → List LocatedToken → Type 0
 AllEndBy place [] = Unit {0}
 AllEndBy place (located_token ∷ others) = (located_token.end ≤ place) × AllEndBy place others
+
+-- whether its own last byte decides a lexical error
+abbrev pub ends_itself : LexicalError → Bool
+ends_itself error.BadCharacter = true
+ends_itself error.SourceTooLong = true
+ends_itself error.CommentNotClosed = false
+ends_itself error.NameTooLong = false
+ends_itself error.ConstantTooLarge = false
+
+-- Whether its own last byte decides a token: a bad character, and that the source is too long. Any other token may need
+-- the byte behind it, or the source's end.
+abbrev pub is_decided_by_last_byte : Token → Bool
+is_decided_by_last_byte (variant.Fault lexical_error) = ends_itself lexical_error
+is_decided_by_last_byte (variant.Name name) = false
+is_decided_by_last_byte (variant.Word word) = false
+is_decided_by_last_byte (variant.Constant value) = false
+is_decided_by_last_byte (variant.Punctuator punctuator) = false
+is_decided_by_last_byte variant.End = false
+
+-- the most bytes of a source that may leave this token open
+abbrev pub open_until : LocatedToken → ℕ
+open_until located_token =
+    if is_decided_by_last_byte located_token.token then located_token.end - 1 else located_token.end
+
+-- the most bytes of a source that may leave the last of its tokens open
+abbrev pub last_open_until : List LocatedToken → ℕ
+last_open_until [] = 0
+last_open_until (located_token ∷ []) = open_until located_token
+last_open_until (located_token ∷ other ∷ others) = last_open_until (other ∷ others)
+
+-- each token is open at this place, or where the one ahead of it ends
+abbrev pub StaysOpen : ℕ → List LocatedToken → Type 0
+StaysOpen place [] = Unit {0}
+StaysOpen place (located_token ∷ others) =
+    (place ≤ open_until located_token) × StaysOpen located_token.end others

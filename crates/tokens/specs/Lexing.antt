@@ -6,6 +6,7 @@ use Rattle.tokens.specs.Characters.{is_name_byte, is_digit}
 use Rattle.tokens.specs.Punctuators.{punctuator_of, spelling}
 use Rattle.tokens.specs.Front.{up_to_close, name_token}
 use Rattle.tokens.specs.Tokens.{Ahead, behind_byte, passed, at_end, placed, last_located_token, followed_by, located_tokens}
+use Rattle.tokens.specs.Ends.{open_until}
 use Rattle.tokens.specs.Window.{Held, seen}
 use Rattle.tokens.specs.declared.located_tokens.Punctuator.{Punctuator}
 use Rattle.tokens.specs.declared.located_tokens.LexicalError.TheVariants.{CommentNotClosed, NameTooLong, ConstantTooLarge}
@@ -79,7 +80,7 @@ abbrev pub after_comment : Bool → ℕ → Ahead → List LocatedToken
 after_comment true line ahead = located_tokens ahead
 after_comment false line ahead = last_located_token (variant.Fault CommentNotClosed) line ahead ∷ []
 
--- no more was taken than there is up to the end of the first token that is to be read
+-- no more was taken than may leave the first token open that is to be read
 abbrev pub StopsWithin : (Ahead → List LocatedToken) → Held → Held → Option (List ℕ) → Type 0
 StopsWithin made old new told = (first : LocatedToken) (others : List LocatedToken)
-    → to_read made old told ≡ Some (first ∷ others) → new.taken ≤ first.end
+    → to_read made old told ≡ Some (first ∷ others) → new.taken ≤ open_until first

@@ -2,8 +2,10 @@
 use Rattle.std.specs.Prelude.{ℕ, ◌+◌, ◌-◌, ◌≤◌, List, [], ◌∷◌, Option, if◌then◌else◌}
 use Rattle.std.specs.Option.{option_map}
 use Rattle.tokens.specs.Tokens.{is_last, located_tokens, followed_by}
+use Rattle.tokens.specs.Ends.{open_until}
 use Rattle.tokens.specs.Window.{Held, ahead}
 use Rattle.tokens.specs.declared.located_tokens.LocatedToken.{LocatedToken}
+use Rattle.tokens.specs.declared.windows.Beyond.{Beyond}
 
 pub record Reading : Type 0 where
   pub next : LocatedToken
@@ -29,6 +31,10 @@ remaining reading =
 abbrev pub taken : Reading → ℕ
 taken reading = reading.behind.taken
 
+-- what is known of the source behind the bytes taken
+abbrev pub beyond : Reading → Beyond
+beyond reading = reading.behind.beyond
+
 -- where the two tokens that are held end
 abbrev pub reach : Reading → ℕ
 reach reading = if is_last reading.next.token then reading.next.end else reading.after.end
@@ -42,3 +48,9 @@ abbrev pub reach_of : List LocatedToken → ℕ
 reach_of [] = 0
 reach_of (next ∷ []) = next.end
 reach_of (next ∷ after ∷ others) = after.end
+
+-- the most bytes that may leave the second of these tokens open, or the first, where it is the last
+abbrev pub open_reach_of : List LocatedToken → ℕ
+open_reach_of [] = 0
+open_reach_of (next ∷ []) = open_until next
+open_reach_of (next ∷ after ∷ others) = open_until after

@@ -84,6 +84,10 @@ pub record IsAtSamePlace (old new : Held) : Type 0 where
 abbrev pub IsAtHandOrEnd : Held → Type 0
 IsAtHandOrEnd held = held.at_hand ≡ [] → held.beyond ≢ Unread
 
+-- a window that would still ask its device knows that this has not ended
+abbrev pub KnowsEnd : Beyond → Bool → Type 0
+KnowsEnd beyond ended = beyond ≡ Unread → ended ≡ false
+
 -- how the fields of a window go together
 pub record IsWindow (next filled start taken line : ℕ) (beyond : Beyond) : Type 0 where
   pub ordered : next ≤ filled

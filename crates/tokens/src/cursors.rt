@@ -4,9 +4,9 @@ ghost use Rattle.std.specs.Prelude.{◌≡◌, ◌-◌, ◌^◌, ◌<◌, ◌≤
 ghost use Rattle.std.specs.Option.{option_map};
 ghost use Rattle.tokens.specs.Feed.{Counts};
 ghost use Rattle.tokens.specs.Tokens.{FitsToken, tokens, is_last};
-ghost use Rattle.tokens.specs.Window.{Takes};
+ghost use Rattle.tokens.specs.Window.{KnowsEnd, Takes};
 ghost use Rattle.tokens.specs.declared.located_tokens.LocatedToken.{LocatedToken};
-ghost use Rattle.tokens.specs.Reading.{shown, remaining, taken, IsNear, reach_of};
+ghost use Rattle.tokens.specs.Reading.{beyond, shown, remaining, taken, IsNear, open_reach_of};
 
 use crate::devices::{DeviceFault, Feed};
 use crate::located_tokens::LocatedToken;
@@ -37,20 +37,24 @@ impl Model for Cursor {
 impl Cursor {
     /// A cursor at the first token of a device's bytes. The only error is that of the device.
     pub fn open<F: Feed>(feed: &mut F) -> Result<Cursor, DeviceFault>
-        requires { F.failures feed.old < 2 ^ 64 - 1 }
+        requires countable { F.failures feed.old < 2 ^ 64 - 1 }
+        requires not_ended { F.ended feed.old ≡ false }
         ensures tokens { IfOk result (λ cursor. shown cursor (F.to_come feed.new)
             ≡ option_map tokens (F.to_come feed.old)) }
         ensures bounded { IfOk result (λ cursor. remaining cursor ≤ 1048578) }
 
-        // The bytes taken: at an `Ok` no more than a window behind the two tokens, at an `Err` none behind them.
+        // The bytes taken: at an `Ok` no more than a window behind the two tokens, at an `Err` no more than leave them open.
         ensures took { IfOk result (λ cursor. F.to_come feed.new
             ≡ option_map (drop (taken cursor)) (F.to_come feed.old)) }
         ensures near { IfOk result IsNear }
         ensures limited { IfOk result (λ cursor. taken cursor ≤ 1048577) }
         ensures stopped { OnErr result ((bytes : List ℕ) → F.to_come feed.old ≡ Some bytes →
-            (count : ℕ) × (F.to_come feed.new ≡ Some (drop count bytes)) × (count ≤ reach_of (tokens bytes))) }
+            (count : ℕ) × (F.to_come feed.new ≡ Some (drop count bytes)) × (count ≤ open_reach_of (tokens bytes))) }
 
         ensures count { Counts result (F.failures feed.old) (F.failures feed.new) }
+
+        // A device that gave no byte is not asked again.
+        ensures known { IfOk result (λ cursor. KnowsEnd (beyond cursor) (F.ended feed.new)) }
     {
         let mut window = Window::new();
         let next = window.read(feed)?;
@@ -86,6 +90,7 @@ impl Cursor {
     pub fn advance<F: Feed>(&mut self, feed: &mut F) -> Result<(), DeviceFault>
         requires not_last { is_last self.old.next.token ≡ false }
         requires countable { F.failures feed.old < 2 ^ 64 - 1 }
+        requires known { KnowsEnd (beyond self.old) (F.ended feed.old) }
         ensures next { self.new.next ≡ self.old.after }
         ensures tokens { OnOk result (shown self.new (F.to_come feed.new)
             ≡ option_map (drop 1) (shown self.old (F.to_come feed.old))) }
@@ -97,9 +102,10 @@ impl Cursor {
         ensures limited { taken self.old ≤ 1048577 → taken self.new ≤ 1048577 }
         ensures stopped { OnErr result ((next : LocatedToken) (others : List LocatedToken)
             → shown self.old (F.to_come feed.old) ≡ Some (next ∷ others) →
-            taken self.new ≤ reach_of others) }
+            taken self.new ≤ open_reach_of others) }
 
         ensures count { Counts result (F.failures feed.old) (F.failures feed.new) }
+        ensures known { KnowsEnd (beyond self.new) (F.ended feed.new) }
     {
         self.next = self.after;
         if !self.next.token.is_last() {

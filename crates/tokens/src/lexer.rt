@@ -4,7 +4,7 @@ ghost use Rattle.std.specs.Prelude.{◌≡◌, ◌≢◌, ◌∷◌, [], ◌+◌
 ghost use Rattle.tokens.specs.Characters.{is_digit, is_blank};
 ghost use Rattle.tokens.specs.Feed.{Counts};
 ghost use Rattle.tokens.specs.Tokens.{FitsToken, is_last, located_tokens, last_located_token};
-ghost use Rattle.tokens.specs.Window.{IsAtHandOrEnd, Takes, ahead};
+ghost use Rattle.tokens.specs.Window.{IsAtHandOrEnd, KnowsEnd, Takes, ahead};
 ghost use Rattle.tokens.specs.Lexing.{to_read, StopsWithin, followed, after_slash, after_comment, in_name, in_constant, in_punctuator, in_comment, name_going_on, value_token};
 
 use crate::characters::{is_blank, is_digit, is_letter, is_name_byte};
@@ -17,7 +17,8 @@ use crate::windows::{Beyond, Window};
 impl Window {
     /// The next token.
     pub fn read<F: Feed>(&mut self, feed: &mut F) -> Result<LocatedToken, DeviceFault>
-        requires { F.failures feed.old < 2 ^ 64 - 1 }
+        requires countable { F.failures feed.old < 2 ^ 64 - 1 }
+        requires known { KnowsEnd self.old.beyond (F.ended feed.old) }
         ensures tokens { IfOk result (λ located_token. to_read (followed located_token) self.new (F.to_come feed.new)
             ≡ to_read located_tokens self.old (F.to_come feed.old)) }
         ensures progress { IfOk result (λ located_token. is_last located_token.token ≡ false
@@ -30,6 +31,7 @@ impl Window {
         ensures within { self.new.place ≤ 1048576 }
         ensures fits { IfOk result (λ located_token. FitsToken located_token.token) }
         ensures count { Counts result (F.failures feed.old) (F.failures feed.new) }
+        ensures known { KnowsEnd self.new.beyond (F.ended feed.new) }
     {
         loop {
             match self.skip_blanks(feed)? {
@@ -46,7 +48,8 @@ impl Window {
 
     /// Skips blanks. Answers the byte behind them, or `None` at the end.
     fn skip_blanks<F: Feed>(&mut self, feed: &mut F) -> Result<Option<u8>, DeviceFault>
-        requires { F.failures feed.old < 2 ^ 64 - 1 }
+        requires countable { F.failures feed.old < 2 ^ 64 - 1 }
+        requires known { KnowsEnd self.old.beyond (F.ended feed.old) }
         ensures tokens { OnOk result (to_read located_tokens self.new (F.to_come feed.new)
             ≡ to_read located_tokens self.old (F.to_come feed.old)) }
         ensures first { IfOk result (λ first. first ≡ slice_get self.new.at_hand 0) }
@@ -59,6 +62,7 @@ impl Window {
         ensures limited { self.new.taken ≤ 1048577 }
         ensures within { self.new.place ≤ 1048576 }
         ensures count { Counts result (F.failures feed.old) (F.failures feed.new) }
+        ensures known { KnowsEnd self.new.beyond (F.ended feed.new) }
     {
         loop {
             match self.peek(feed)? {
@@ -74,6 +78,7 @@ impl Window {
     /// At a `/`, skips a comment, or reads the token that begins there.
     fn slash<F: Feed>(&mut self, feed: &mut F) -> Result<Option<LocatedToken>, DeviceFault>
         requires countable { F.failures feed.old < 2 ^ 64 - 1 }
+        requires known { KnowsEnd self.old.beyond (F.ended feed.old) }
         requires slash { slice_get self.old.at_hand 0 ≡ Some 47 }
         ensures tokens { IfOk result (λ found. to_read (after_slash found) self.new (F.to_come feed.new)
             ≡ to_read located_tokens self.old (F.to_come feed.old)) }
@@ -86,6 +91,7 @@ impl Window {
         ensures within { self.new.place ≤ 1048576 }
         ensures fits { IfOk result (λ found. IfSome found (λ located_token. FitsToken located_token.token)) }
         ensures count { Counts result (F.failures feed.old) (F.failures feed.new) }
+        ensures known { KnowsEnd self.new.beyond (F.ended feed.new) }
     {
         let line = self.line();
         self.pass();
@@ -103,7 +109,8 @@ impl Window {
 
     /// Inside a comment, goes behind its `*/`. Answers `false` where there is none.
     fn skip_comment<F: Feed>(&mut self, feed: &mut F) -> Result<bool, DeviceFault>
-        requires { F.failures feed.old < 2 ^ 64 - 1 }
+        requires countable { F.failures feed.old < 2 ^ 64 - 1 }
+        requires known { KnowsEnd self.old.beyond (F.ended feed.old) }
         ensures tokens { IfOk result (λ closed. (line : ℕ)
             → to_read (after_comment closed line) self.new (F.to_come feed.new)
             ≡ to_read (in_comment line) self.old (F.to_come feed.old)) }
@@ -116,6 +123,7 @@ impl Window {
         ensures limited { self.new.taken ≤ 1048577 }
         ensures within { self.new.place ≤ 1048576 }
         ensures count { Counts result (F.failures feed.old) (F.failures feed.new) }
+        ensures known { KnowsEnd self.new.beyond (F.ended feed.new) }
     {
         loop {
             self.pass_plain();
@@ -136,6 +144,7 @@ impl Window {
     /// The token that begins with this byte, which is the next one, no blank and no `/`.
     fn token<F: Feed>(&mut self, first: u8, feed: &mut F) -> Result<LocatedToken, DeviceFault>
         requires countable { F.failures feed.old < 2 ^ 64 - 1 }
+        requires known { KnowsEnd self.old.beyond (F.ended feed.old) }
         requires first { slice_get self.old.at_hand 0 ≡ Some first }
         requires no_blank { is_blank first ≡ false }
         requires no_slash { first ≢ 47 }
@@ -150,6 +159,7 @@ impl Window {
         ensures within { self.new.place ≤ 1048576 }
         ensures fits { IfOk result (λ located_token. FitsToken located_token.token) }
         ensures count { Counts result (F.failures feed.old) (F.failures feed.new) }
+        ensures known { KnowsEnd self.new.beyond (F.ended feed.new) }
     {
         self.pass();
         if is_letter(first) {
@@ -169,7 +179,8 @@ impl Window {
     /// The name of which the first byte was passed.
     #[inline(never)]
     fn name<F: Feed>(&mut self, first: u8, feed: &mut F) -> Result<LocatedToken, DeviceFault>
-        requires { F.failures feed.old < 2 ^ 64 - 1 }
+        requires countable { F.failures feed.old < 2 ^ 64 - 1 }
+        requires known { KnowsEnd self.old.beyond (F.ended feed.old) }
         ensures tokens { IfOk result (λ located_token. to_read (followed located_token) self.new (F.to_come feed.new)
             ≡ to_read (in_name (first ∷ []) false) self.old (F.to_come feed.old)) }
         ensures forward { self.old.place ≤ self.new.place }
@@ -182,6 +193,7 @@ impl Window {
         ensures within { self.new.place ≤ 1048576 }
         ensures fits { IfOk result (λ located_token. FitsToken located_token.token) }
         ensures count { Counts result (F.failures feed.old) (F.failures feed.new) }
+        ensures known { KnowsEnd self.new.beyond (F.ended feed.new) }
     {
         let mut name = Name::new();
         name.push(first);
@@ -205,6 +217,7 @@ impl Window {
     #[inline(never)]
     fn constant<F: Feed>(&mut self, first: u8, feed: &mut F) -> Result<LocatedToken, DeviceFault>
         requires countable { F.failures feed.old < 2 ^ 64 - 1 }
+        requires known { KnowsEnd self.old.beyond (F.ended feed.old) }
         requires digit { is_digit first ≡ true }
         ensures tokens { IfOk result (λ located_token. to_read (followed located_token) self.new (F.to_come feed.new)
             ≡ to_read (in_constant (first - 48)) self.old (F.to_come feed.old)) }
@@ -217,6 +230,7 @@ impl Window {
         ensures within { self.new.place ≤ 1048576 }
         ensures fits { IfOk result (λ located_token. FitsToken located_token.token) }
         ensures count { Counts result (F.failures feed.old) (F.failures feed.new) }
+        ensures known { KnowsEnd self.new.beyond (F.ended feed.new) }
     {
         let mut value = u64::from(first - b'0');
         loop {
@@ -236,7 +250,8 @@ impl Window {
         mut punctuator: Punctuator,
         feed: &mut F,
     ) -> Result<LocatedToken, DeviceFault>
-        requires { F.failures feed.old < 2 ^ 64 - 1 }
+        requires countable { F.failures feed.old < 2 ^ 64 - 1 }
+        requires known { KnowsEnd self.old.beyond (F.ended feed.old) }
         ensures tokens { IfOk result (λ located_token. to_read (followed located_token) self.new (F.to_come feed.new)
             ≡ to_read (in_punctuator punctuator) self.old (F.to_come feed.old)) }
         ensures forward { self.old.place ≤ self.new.place }
@@ -248,6 +263,7 @@ impl Window {
         ensures within { self.new.place ≤ 1048576 }
         ensures fits { IfOk result (λ located_token. FitsToken located_token.token) }
         ensures count { Counts result (F.failures feed.old) (F.failures feed.new) }
+        ensures known { KnowsEnd self.new.beyond (F.ended feed.new) }
     {
         loop {
             let next = self.peek(feed)?;

@@ -1,7 +1,7 @@
 //! Devices in memory.
 
-ghost use Rattle.std.specs.Prelude.{◌≡◌, ◌<◌, ◌≤◌, ◌-◌, ◌^◌, ◌↔◌, Some, IfOk, OnErr, IsErr, length};
-ghost use Rattle.tokens.specs.Feed.{Gives, Counts};
+ghost use Rattle.std.specs.Prelude.{◌≡◌, ◌<◌, ◌≤◌, ◌-◌, ◌^◌, ◌↔◌, Some, IfOk, OnErr, IsErr, false, length};
+ghost use Rattle.tokens.specs.Feed.{Gives, Counts, gives_none};
 
 use crate::devices::{DeviceFault, Feed};
 use std::marker::Model;
@@ -14,6 +14,7 @@ pub struct Pieces<'a> {
     most: usize,
     reads_left: usize,
     failures: u64,
+    ended: bool,
 }
 
 impl<'a> Model for Pieces<'a> {
@@ -25,8 +26,10 @@ impl<'a> Model for Pieces<'a> {
     ghost view = { λ p. record {
       to_come = drop p.place p.bytes.now;
       taken = p.place;
+      most = p.most;
       failures = p.failures;
       reads_left = p.reads_left;
+      ended = p.ended;
     } };
 
     ghost invariant = { λ p. (p.place ≤ length p.bytes.now) × (0 < p.most) };
@@ -36,7 +39,14 @@ impl<'a> Pieces<'a> {
     /// A device of these bytes, which gives at most so many at a read.
     pub fn new(bytes: &'a [u8], most: usize) -> Self
         requires { 0 < most }
-        ensures { result ≡ record { to_come = bytes.now; taken = 0; failures = 0; reads_left = usize.MAX } }
+        ensures { result ≡ record {
+          to_come = bytes.now;
+          taken = 0;
+          most = most;
+          failures = 0;
+          reads_left = usize.MAX;
+          ended = false;
+        } }
     {
         Pieces::failing_at(bytes, most, usize::MAX)
     }
@@ -44,7 +54,14 @@ impl<'a> Pieces<'a> {
     /// The same, where each read fails from this one on, counted from 0.
     pub fn failing_at(bytes: &'a [u8], most: usize, read: usize) -> Self
         requires { 0 < most }
-        ensures { result ≡ record { to_come = bytes.now; taken = 0; failures = 0; reads_left = read } }
+        ensures { result ≡ record {
+          to_come = bytes.now;
+          taken = 0;
+          most = most;
+          failures = 0;
+          reads_left = read;
+          ended = false;
+        } }
     {
         Pieces {
             bytes,
@@ -52,6 +69,7 @@ impl<'a> Pieces<'a> {
             most,
             reads_left: read,
             failures: 0,
+            ended: false,
         }
     }
 
@@ -75,13 +93,21 @@ impl Feed for Pieces<'_> {
 
     ghost to_come = { λ p. Some p.to_come };
 
+    ghost ended = { λ p. p.ended };
+
     fn fill(&mut self, buf: &mut [u8]) -> Result<usize, DeviceFault>
         requires nonempty { 0 < length buf.old }
         requires countable { self.old.failures < 2 ^ 64 - 1 }
+        requires not_ended { self.old.ended ≡ false }
         ensures within { IfOk result (λ n. n ≤ length buf.old) }
         ensures bytes { IfOk result (λ n. Gives (Some self.old.to_come) (Some self.new.to_come) buf.new n) }
         ensures kept { OnErr result (Some self.new.to_come ≡ Some self.old.to_come) }
         ensures count { Counts result self.old.failures self.new.failures }
+        ensures ended { self.new.ended ≡ gives_none result }
+
+        // No read gives more than a piece.
+        ensures few { IfOk result (λ n. n ≤ self.old.most) }
+        ensures most { self.new.most ≡ self.old.most }
 
         // The only reads that fail are those from the given one on.
         ensures fails { IsErr result ↔ (self.old.reads_left ≡ 0) }
@@ -96,6 +122,7 @@ impl Feed for Pieces<'_> {
         let count = rest.len().min(buf.len()).min(self.most);
         buf[..count].copy_from_slice(&rest[..count]);
         self.place += count;
+        self.ended = count == 0;
         Ok(count)
     }
 }

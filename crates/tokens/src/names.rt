@@ -29,6 +29,8 @@ impl Model for Name {
 }
 
 impl Default for Name {
+    ghost is_default = { λ name. name ≡ [] };
+
     fn default() -> Name {
         Name::new()
     }

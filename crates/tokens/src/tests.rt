@@ -1,6 +1,6 @@
 //! The tokens of small sources, read whole and one byte at a time.
 
-ghost use Rattle.std.specs.Prelude.{ℕ, List, ◌<◌, ◌≤◌, ◌-◌, ◌^◌, ◌+◌, ◌≡◌, length, None};
+ghost use Rattle.std.specs.Prelude.{ℕ, Bool, List, ◌<◌, ◌≤◌, ◌-◌, ◌^◌, ◌+◌, ◌≡◌, length, None};
 
 use super::*;
 use std::process::Abort;
@@ -220,14 +220,13 @@ struct Many {
     byte: u8,
     left: u32,
     last: Option<u8>,
+    ended: bool,
 }
 
-impl Feed for Many {
-    ghost failures = { λ _. 0 };
-
-    ghost to_come = { λ _. None };
-
-    fn fill(&mut self, buf: &mut [u8]) -> Result<usize, DeviceFault> {
+impl Many {
+    fn give(&mut self, buf: &mut [u8]) -> usize
+        ensures { result ≤ length buf.old }
+    {
         let mut count = 0;
         for b in buf {
             if self.left > 0 {
@@ -237,10 +236,24 @@ impl Feed for Many {
                 self.last = None;
                 *b = last;
             } else {
-                return Ok(count);
+                return count;
             }
             count += 1;
         }
+        count
+    }
+}
+
+impl Feed for Many {
+    ghost failures = { λ _. 0 };
+
+    ghost to_come = { λ _. None };
+
+    ghost ended = { λ m. m.ended };
+
+    fn fill(&mut self, buf: &mut [u8]) -> Result<usize, DeviceFault> {
+        let count = self.give(buf);
+        self.ended = count == 0;
         Ok(count)
     }
 }
@@ -251,6 +264,7 @@ fn behind_lines(left: u32, last: Option<u8>) -> Result<(Token, u32, u32), Device
         byte: b'\n',
         left,
         last,
+        ended: false,
     };
     let cursor = Cursor::open(&mut feed)?;
     let LocatedToken { token, line, end } = *cursor.next();
@@ -313,5 +327,26 @@ fn device_fails(rt: HostRuntime) -> Result<(), Fail> {
     assert!(rt; Cursor::open(&mut feed).is_err());
     assert_eq!(rt; feed.failures(), 1);
     assert_eq!(rt; feed.taken(), 2);
+    Ok(())
+}
+
+#[test]
+fn the_end_is_asked_for_once(rt: HostRuntime) -> Result<(), Fail> {
+    let mut feed = Pieces::failing_at(b"", WINDOW, 1);
+    let cursor = Cursor::open(&mut feed)?;
+    assert_eq!(rt; cursor.next().token, Token::End);
+    assert_eq!(rt; feed.failures(), 0);
+    Ok(())
+}
+
+#[test]
+fn bad_character_is_shown_at_once(rt: HostRuntime) -> Result<(), Fail> {
+    let mut feed = Pieces::failing_at(b"$", WINDOW, 1);
+    let cursor = Cursor::open(&mut feed)?;
+    assert_eq!(rt;
+        cursor.next().token,
+        Token::Fault(LexicalError::BadCharacter)
+    );
+    assert_eq!(rt; feed.failures(), 0);
     Ok(())
 }

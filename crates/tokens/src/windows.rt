@@ -3,7 +3,7 @@
 ghost use Rattle.std.specs.Prelude.{◌≡◌, ◌≢◌, ℕ, ◌+◌, ◌-◌, ◌^◌, ◌<◌, ◌≤◌, List, [], length, slice_get, OnOk, OnErr, IfOk};
 ghost use Rattle.tokens.specs.Source.{source};
 ghost use Rattle.tokens.specs.Feed.{Counts};
-ghost use Rattle.tokens.specs.Window.{seen, untouched, behind_first, behind_blanks, behind_plain, Cuts, IsAtSamePlace, IsAtHandOrEnd, Takes};
+ghost use Rattle.tokens.specs.Window.{seen, untouched, behind_first, behind_blanks, behind_plain, Cuts, IsAtSamePlace, IsAtHandOrEnd, KnowsEnd, Takes};
 
 use crate::devices::{DeviceFault, Feed};
 use crate::limits::{SOURCE_BYTES, WINDOW};
@@ -91,7 +91,8 @@ impl Window {
     /// The next byte, or `None` at the end. The device is asked only where no byte is at hand.
     #[inline(always)]
     pub fn peek<F: Feed>(&mut self, feed: &mut F) -> Result<Option<u8>, DeviceFault>
-        requires { F.failures feed.old < 2 ^ 64 - 1 }
+        requires countable { F.failures feed.old < 2 ^ 64 - 1 }
+        requires known { KnowsEnd self.old.beyond (F.ended feed.old) }
         ensures first { IfOk result (λ first. first ≡ slice_get self.new.at_hand 0) }
         ensures ready { OnOk result (IsAtHandOrEnd self.new) }
         ensures seen { OnOk result (seen self.new (F.to_come feed.new) ≡ seen self.old (F.to_come feed.old)) }
@@ -102,6 +103,7 @@ impl Window {
         ensures near { self.new.taken ≤ self.new.place + 4096 }
         ensures limited { self.new.taken ≤ 1048577 }
         ensures count { Counts result (F.failures feed.old) (F.failures feed.new) }
+        ensures known { KnowsEnd self.new.beyond (F.ended feed.new) }
     {
         if self.next == self.filled {
             self.refill(feed)?;
@@ -116,6 +118,7 @@ impl Window {
         ensures value { self.new ≡ behind_first self.old }
         ensures forward { self.new.place ≡ self.old.place + 1 }
         ensures kept { self.new.taken ≡ self.old.taken }
+        ensures beyond { self.new.beyond ≡ self.old.beyond }
         ensures within { self.new.place ≤ 1048576 }
         ensures near { self.new.taken ≤ self.new.place + 4096 }
         ensures limited { self.new.taken ≤ 1048577 }
@@ -131,6 +134,7 @@ impl Window {
         ensures value { self.new ≡ behind_plain self.old }
         ensures forward { self.old.place ≤ self.new.place }
         ensures kept { self.new.taken ≡ self.old.taken }
+        ensures beyond { self.new.beyond ≡ self.old.beyond }
         ensures within { self.new.place ≤ 1048576 }
         ensures near { self.new.taken ≤ self.new.place + 4096 }
         ensures limited { self.new.taken ≤ 1048577 }
@@ -145,6 +149,7 @@ impl Window {
         ensures value { self.new ≡ behind_blanks self.old }
         ensures forward { self.old.place ≤ self.new.place }
         ensures kept { self.new.taken ≡ self.old.taken }
+        ensures beyond { self.new.beyond ≡ self.old.beyond }
         ensures within { self.new.place ≤ 1048576 }
         ensures near { self.new.taken ≤ self.new.place + 4096 }
         ensures limited { self.new.taken ≤ 1048577 }
@@ -168,6 +173,7 @@ impl Window {
     fn refill<F: Feed>(&mut self, feed: &mut F) -> Result<(), DeviceFault>
         requires empty { self.old.at_hand ≡ [] }
         requires countable { F.failures feed.old < 2 ^ 64 - 1 }
+        requires known { KnowsEnd self.old.beyond (F.ended feed.old) }
         ensures ready { OnOk result (IsAtHandOrEnd self.new) }
         ensures seen { OnOk result (seen self.new (F.to_come feed.new) ≡ seen self.old (F.to_come feed.old)) }
         ensures place { IsAtSamePlace self.old self.new }
@@ -176,6 +182,7 @@ impl Window {
         ensures near { self.new.taken ≤ self.new.place + 4096 }
         ensures limited { self.new.taken ≤ 1048577 }
         ensures count { Counts result (F.failures feed.old) (F.failures feed.new) }
+        ensures known { KnowsEnd self.new.beyond (F.ended feed.new) }
     {
         if self.beyond != Beyond::Unread {
             return Ok(());

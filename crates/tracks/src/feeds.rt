@@ -1,6 +1,6 @@
 //! Real files as the devices of a parse.
 
-ghost use Rattle.std.specs.Prelude.{◌≡◌, None};
+ghost use Rattle.std.specs.Prelude.{◌≡◌, None, false};
 
 use std::io::Read;
 use tokens::{DeviceFault, Feed};
@@ -10,14 +10,20 @@ use tokens::{DeviceFault, Feed};
 pub struct FileFeed<F> {
     file: F,
     failures: u64,
+    ended: bool,
 }
 
 impl<F> FileFeed<F> {
-    /// Makes the feed of a file that has not failed.
+    /// Makes the feed of a file that has not failed, and not ended.
     pub fn new(file: F) -> FileFeed<F>
-        ensures { result.failures ≡ 0 }
+        ensures failures { result.failures ≡ 0 }
+        ensures ended { result.ended ≡ false }
     {
-        FileFeed { file, failures: 0 }
+        FileFeed {
+            file,
+            failures: 0,
+            ended: false,
+        }
     }
 }
 
@@ -26,9 +32,14 @@ impl<F: Read> Feed for FileFeed<F> {
 
     ghost to_come = { λ _. None };
 
+    ghost ended = { λ feed. feed.ended };
+
     fn fill(&mut self, buf: &mut [u8]) -> Result<usize, DeviceFault> {
         match self.file.read(buf) {
-            Ok(n) => Ok(n),
+            Ok(n) => {
+                self.ended = n == 0;
+                Ok(n)
+            }
             Err(_) => {
                 self.failures += 1;
                 Err(DeviceFault)

@@ -1,6 +1,6 @@
 //! The programs of files.
 
-ghost use Rattle.std.specs.Prelude.{◌≡◌, ◌-◌, ◌<◌, ◌≤◌, ◌^◌, IfOk, length};
+ghost use Rattle.std.specs.Prelude.{◌≡◌, ◌-◌, ◌<◌, ◌≤◌, ◌^◌, IfOk, false, length};
 
 use crate::feeds::FileFeed;
 use crate::words::Wish;
@@ -66,7 +66,8 @@ fn compile<F: Feed>(
     profile: Profile,
     feed: &mut F,
 ) -> Result<Result<Program, Diagnostic>, DeviceFault>
-    requires { F.failures feed.old < 2 ^ 64 - 1 }
+    requires count { F.failures feed.old < 2 ^ 64 - 1 }
+    requires not_ended { F.ended feed.old ≡ false }
 {
     let mut maker = Maker::new(profile);
     match parse(feed, &mut maker) {

@@ -1,4 +1,4 @@
-use Rattle.std.proofs.Common.{true, ◌≡◌, ◌+◌, ◌<◌, ◌^◌, ◌-◌, ◌∙◌, sym, subst, ap, List, ℕ, Some, None, [], ◌∷◌, length, map, arith, length-append}
+use Rattle.std.proofs.Common.{true, false, ◌≡◌, ◌+◌, ◌<◌, ◌^◌, ◌-◌, ◌∙◌, sym, subst, ap, List, ℕ, Some, None, [], ◌∷◌, length, map, arith, length-append}
 use Rattle.std.specs.Prelude.{if◌then◌else◌}
 use Rattle.std.proofs.lemmas.List.{length-map}
 use Rattle.std.proofs.lemmas.List.Elements.{All-get_or}
@@ -9,11 +9,17 @@ use Rattle.series.proofs.RunsLemmas.{feed_here, told_here, name_here, length_sou
 use Rattle.series.proofs.runs.compile_into.Goals as goal
 use Rattle.series.proofs.runs.compile_into.Goals.{in-Ok-compiled, in-Err-compiled}
 
-pub compile-requires : goal.compile-requires
-compile-requires g c =
+pub compile-requires-clause-count : goal.compile-requires-clause-count
+compile-requires-clause-count g c =
     let within : c.loop-file.file < length c.args.feeds.now = omega arith in
     rw (feed_here c.args.feeds.now c.loop-file.feeds c.loop-file.file c.index-feeds-file.result c.loop-file.invariant.0)
     (All-get_or (λ feed. g.F.Feed.failures feed < 2 ^ 64 - 1) c.args.feeds.now c.loop-file.file c.index-feeds-file.result within c.requires.feeds)
+
+pub compile-requires-clause-not_ended : goal.compile-requires-clause-not_ended
+compile-requires-clause-not_ended g c =
+    let within : c.loop-file.file < length c.args.feeds.now = omega arith in
+    rw (feed_here c.args.feeds.now c.loop-file.feeds c.loop-file.file c.index-feeds-file.result c.loop-file.invariant.0)
+    (All-get_or (λ feed. g.F.Feed.ended feed ≡ false) c.args.feeds.now c.loop-file.file c.index-feeds-file.result within c.requires.not_ended)
 
 pub returns-in-Err-put_compiled-clause-output : goal.returns-in-Err-put_compiled-clause-output
 returns-in-Err-put_compiled-clause-output g c = λ sources are.

@@ -1,4 +1,4 @@
-use Rattle.tokens.proofs.EndLemmas.{tokens-rising, tokens-by}
+use Rattle.tokens.proofs.EndLemmas.{tokens-rising, tokens-by, tokens-open}
 use Rattle.tokens.proofs.laws.ends_rise.Goals as goal
 
 pub returns-clause-rising : goal.returns-clause-rising
@@ -6,3 +6,6 @@ returns-clause-rising c = tokens-rising
 
 pub returns-clause-within : goal.returns-clause-within
 returns-clause-within c = tokens-by
+
+pub returns-clause-stays_open : goal.returns-clause-stays_open
+returns-clause-stays_open c = tokens-open

@@ -1,5 +1,9 @@
 use Rattle.std.proofs.Common.{◌≡◌}
+use Rattle.tokens.specs.Window.{KnowsEnd}
 use Rattle.tokens.proofs.tests.check_pieces.Given as goal
 
 abbrev pub invariant-loop-i : goal.invariant-loop-i
-invariant-loop-i g l = l.feed.failures ≡ 0
+invariant-loop-i g l = record {
+  failures : l.feed.failures ≡ 0;
+  known : KnowsEnd l.cursor.behind.beyond l.feed.ended;
+}

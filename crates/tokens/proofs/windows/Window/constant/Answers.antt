@@ -3,7 +3,7 @@ use Rattle.tokens.specs.Characters.{is_digit}
 use Rattle.tokens.specs.Lexing.{to_read, in_constant, constant_going_on}
 use Rattle.tokens.proofs.ToRead.{to_read-pass, to_read-seen}
 use Rattle.tokens.proofs.TokenLemmas.{constant-takes, run-stops, StopsAt}
-use Rattle.tokens.proofs.TakenLemmas.{on_err-from, stops, stops-from, in_run-ends, Takes-pass, Takes-then}
+use Rattle.tokens.proofs.TakenLemmas.{on_err-from, stops, stops-from, in_run-ends, constant-undecided, Takes-pass, Takes-then}
 use Rattle.tokens.proofs.windows.Window.constant.Goals as goal
 use Rattle.tokens.proofs.windows.Window.constant.Goals.{in_default-via-in-Some+else-is_digit, in_default-via-in_default}
 
@@ -20,6 +20,7 @@ loop-b-preserved g c =
       took = Takes-pass c.pass.ensures.kept (Takes-then c.loop-b.invariant.took seen.took);
       forward = omega (arith, seen.place.place);
       count = seen.count ∙ c.loop-b.invariant.count;
+      known = λ e. seen.known (sym c.pass.ensures.beyond ∙ e);
     }
 
 pub returns-in_default-clause-tokens : goal.returns-in_default-clause-tokens
@@ -40,4 +41,4 @@ returns-in_err-b-clause-stopped g c =
     let now = in_constant c.loop-b.value in
     let chain = c.loop-b.invariant.tokens ∙ ap (λ v. to_read (in_constant v) c.args.self.now (g.F.Feed.to_come c.args.feed.now)) c.from-value.ensures in
     on_err-from c.from_residual.result (stops-from now (in_constant (c.args.first - 48)) _ _ c.peek.new.self _ _ chain
-    (stops now (in_run-ends is_digit (constant_going_on c.loop-b.value)) c.loop-b.self c.peek.new.self _ seen.failed seen.place.place))
+    (stops now (in_run-ends is_digit (constant_going_on c.loop-b.value) (constant-undecided c.loop-b.value)) c.loop-b.self c.peek.new.self _ seen.failed seen.place.place))

@@ -3,7 +3,7 @@ use Rattle.tokens.specs.Characters.{is_name_byte}
 use Rattle.tokens.specs.Lexing.{to_read, in_name, name_going_on}
 use Rattle.tokens.proofs.ToRead.{to_read-pass, to_read-seen}
 use Rattle.tokens.proofs.TokenLemmas.{name-takes, name-overflows, run-stops, StopsAt}
-use Rattle.tokens.proofs.TakenLemmas.{on_err-from, stops, stops-from, in_run-ends, Takes-pass, Takes-then}
+use Rattle.tokens.proofs.TakenLemmas.{on_err-from, stops, stops-from, in_run-ends, name-undecided, Takes-pass, Takes-then}
 use Rattle.tokens.proofs.windows.Window.name.Goals as goal
 use Rattle.tokens.proofs.windows.Window.name.Goals.{then-is_full, else-is_full, in_default-via-in-Some+else-is_name_byte, in_default-via-in_default}
 
@@ -21,6 +21,7 @@ loop-b-preserved g c =
       took = Takes-pass c.pass.ensures.kept (Takes-then c.loop-b.invariant.took seen.took);
       forward = omega (arith, seen.place.place);
       count = seen.count ∙ c.loop-b.invariant.count;
+      known = λ e. seen.known (sym c.pass.ensures.beyond ∙ e);
     }
 
 pub returns-in_default-clause-tokens : goal.returns-in_default-clause-tokens
@@ -42,4 +43,4 @@ returns-in_err-b-clause-stopped g c =
     let begun = c.push.ensures ∙ ap (λ name. name ++ c.args.first ∷ []) c.new-name.ensures in
     let chain = c.loop-b.invariant.tokens ∙ ap (λ name. to_read (in_name name false) c.args.self.now (g.F.Feed.to_come c.args.feed.now)) begun in
     on_err-from c.from_residual.result (stops-from now (in_name (c.args.first ∷ []) false) _ _ c.peek.new.self _ _ chain
-    (stops now (in_run-ends is_name_byte (name_going_on c.loop-b.name c.loop-b.too_long)) c.loop-b.self c.peek.new.self _ seen.failed seen.place.place))
+    (stops now (in_run-ends is_name_byte (name_going_on c.loop-b.name c.loop-b.too_long) (name-undecided c.loop-b.name c.loop-b.too_long)) c.loop-b.self c.peek.new.self _ seen.failed seen.place.place))

@@ -1,5 +1,5 @@
 use Rattle.std.proofs.Common.{◌≡◌, ◌-◌, ◌≤◌}
-use Rattle.tokens.specs.Window.{Takes}
+use Rattle.tokens.specs.Window.{KnowsEnd, Takes}
 use Rattle.tokens.specs.Lexing.{to_read, in_punctuator}
 use Rattle.tokens.proofs.windows.Window.punctuator.Given as goal
 
@@ -9,6 +9,7 @@ invariant-loop-next g l = record {
   took : Takes l.initial.self.taken l.self.taken (g.F.Feed.to_come l.initial.feed) (g.F.Feed.to_come l.feed);
   forward : l.initial.self.place ≤ l.self.place;
   count : g.F.Feed.failures l.feed ≡ g.F.Feed.failures l.initial.feed;
+  known : KnowsEnd l.self.beyond (g.F.Feed.ended l.feed);
 }
 
 abbrev pub decreases-loop-next : goal.decreases-loop-next

@@ -35,6 +35,7 @@ loop-self-preserved g c =
       took = Takes-then (Takes-then c.loop-self.invariant.took blanks.took) slash.took;
       forward = omega (arith, blanks.forward, slash.forward);
       count = slash.count ∙ blanks.count ∙ c.loop-self.invariant.count;
+      known = slash.known;
     }
 
 pub returns-in-None-clause-fits : goal.returns-in-None-clause-fits

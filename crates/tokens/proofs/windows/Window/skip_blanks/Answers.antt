@@ -12,6 +12,7 @@ loop-b-preserved g c = record {
   took = Takes-pass c.pass_blanks.ensures.kept (Takes-pass c.pass.ensures.kept (Takes-then c.loop-b.invariant.took c.in_ok-first.ensures.took));
   forward = omega (arith, c.in_ok-first.ensures.place.place);
   count = c.in_ok-first.ensures.count ∙ c.loop-b.invariant.count;
+  known = λ e. c.in_ok-first.ensures.known (sym c.pass.ensures.beyond ∙ (sym c.pass_blanks.ensures.beyond ∙ e));
 }
 
 pub returns-in_default-clause-tokens : goal.returns-in_default-clause-tokens

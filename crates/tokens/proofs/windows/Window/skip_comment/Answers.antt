@@ -37,6 +37,7 @@ loop-self-preserved-else-eq g c =
       took = Takes-then (Takes-pass c.pass.ensures.kept (Takes-then (Takes-pass c.pass_plain.ensures.kept c.loop-self.invariant.took) seen.took)) next.took;
       forward = omega (arith, seen.place.place, next.place.place);
       count = next.count ∙ seen.count ∙ c.loop-self.invariant.count;
+      known = next.known;
     }
 
 pub loop-self-preserved : goal.loop-self-preserved
@@ -48,6 +49,7 @@ loop-self-preserved g c =
       took = Takes-pass c.pass-in-Some.ensures.kept (Takes-then (Takes-pass c.pass_plain.ensures.kept c.loop-self.invariant.took) seen.took);
       forward = omega (arith, seen.place.place);
       count = seen.count ∙ c.loop-self.invariant.count;
+      known = λ e. seen.known (sym c.pass-in-Some.ensures.beyond ∙ e);
     }
 
 pub returns-in_err-peek-clause-stopped : goal.returns-in_err-peek-clause-stopped
