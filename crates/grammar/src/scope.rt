@@ -84,7 +84,6 @@ impl Scope {
     ghost use Rattle.grammar.specs.Scope.{no_names, behind_name, end_definition, has_begun, number_for, is_local_new, is_external_new, with_variable, with_parameter, with_external, variable_named, variable_of, callee_of, with_begun, with_new_function, function_number};
 
     /// Nothing is known before a file's first token.
-    #[inline(never)]
     #[tactic(auto, using(crate::proofs::ScopeLaws::kept_nothing))]
     pub fn new() -> Scope
         ensures { result ≡ no_names }
@@ -250,7 +249,6 @@ impl Scope {
     }
 
     /// The names of the file.
-    #[inline(never)]
     pub fn into_pools(self) -> Pools
         ensures { result ≡ record { externals = self.externals; functions = self.functions } }
     {
