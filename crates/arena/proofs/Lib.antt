@@ -8,3 +8,5 @@ mod Still
 pub mod Beginnings
 pub mod SlotLaws
 pub mod Nearest
+pub mod InPlace
+pub mod Roots

@@ -3,13 +3,14 @@ use Rattle.std.proofs.Common.{◌≡◌, ◌≢◌, ℕ, zero, suc, ◌+◌, ◌
 use Rattle.std.proofs.lemmas.Bool.{ne_eqb}
 use Rattle.std.proofs.lemmas.Bool.Decides.{nat_tests, eqb_tells}
 use Rattle.std.proofs.lemmas.List.{map-append, get_or-set_same, get_or-set_other, length-map, take_more}
-use Rattle.std.proofs.lemmas.List.Elements.{All-append, filter-append}
+use Rattle.std.proofs.lemmas.List.Elements.{All-append, All-more, filter-append}
 use Rattle.std.proofs.lemmas.List.Filters.{length-filter_both}
 use Rattle.std.proofs.lemmas.List.Sums.{sum_by-append}
 use Rattle.arena.specs.Field.{Shot}
 use Rattle.arena.specs.Collisions.{square}
 use Rattle.arena.specs.Shots.{ring, in_air, due_at, bursts}
 use Rattle.arena.specs.Ground.{Missile, shot_of}
+use Rattle.arena.specs.Rest.{NoneBefore}
 use Rattle.arena.specs.Standing.{HoldsShots}
 
 sum-cons : (n : ℕ) (ns : List ℕ) → sum (n ∷ ns) ≡ n + sum ns
@@ -264,3 +265,67 @@ none_hurt updates update x y slots shots e holds none =
 pub holds_still : (updates update : ℕ) (slots : List (List Missile)) (shots : List Shot) → update ≡ updates + 1 → HoldsShots updates slots shots → All (λ s. s ≡ []) slots → HoldsShots update slots shots
 holds_still updates update slots shots e holds none =
     holds_landed updates update slots slots shots e refl (λ i l. rw (none i [] l) refl) holds
+
+-- a missile that bursts later takes nothing, and still flies
+hurt_later : (update x y : ℕ) (s : Shot) → update < s.burst → hurt update x y s ≡ 0
+unfolding hurt
+hurt_later update x y s early = rw (ne_eqb s.burst update (λ e. absurd (omega arith))) refl
+
+quiet_own : (update before x y : ℕ) (ms : List Missile) → update < before → All (λ m. before ≤ m.burst) ms → hurt_by update x y ms ≡ 0
+unfolding bursts due_at shot_of
+quiet_own update before x y [] early h = refl
+quiet_own update before x y (m ∷ ms) early h =
+    let late : before ≤ m.burst = h 0 m (omega arith) in
+    let first = sum_of_bursts update x y (shot_of 0 m) (map (shot_of 0) ms) in
+    let here = hurt_later update x y (shot_of 0 m) (omega arith) in
+    let rest = quiet_own update before x y ms early (λ k d l. h (suc k) d (omega arith)) in
+    omega arith
+
+sum_zero : (f : List Missile → ℕ) (slots : List (List Missile)) → All (λ s. f s ≡ 0) slots → sum (map f slots) ≡ 0
+sum_zero f [] h = refl
+sum_zero f (s ∷ slots) h =
+    let here : f s ≡ 0 = h 0 s (omega arith) in
+    let rest = sum_zero f slots (λ k d l. h (suc k) d (omega arith)) in
+    let both = sum-cons (f s) (map f slots) in
+    omega arith
+
+pub quiet_hurts : (updates update before x y : ℕ) (slots : List (List Missile)) (shots : List Shot) → update ≡ updates + 1 → update < before → NoneBefore before slots → HoldsShots updates slots shots → sum (bursts update shots x y) ≡ 0
+quiet_hurts updates update before x y slots shots e early later holds =
+    sym (all_hurts updates update x y slots shots e holds) ∙ sum_zero (hurt_by update x y) slots (λ k d l. quiet_own update before x y (get_or slots k d) early (later k d l))
+
+all_later : (update before : ℕ) (ms : List Missile) → update < before → All (λ m. before ≤ m.burst) ms → filter (λ m. nat_lt update m.burst) ms ≡ ms
+all_later update before [] early h = refl
+all_later update before (m ∷ ms) early h =
+    let late : before ≤ m.burst = h 0 m (omega arith) in
+    let flies : nat_lt update m.burst ≡ true = grind (arith, nat_tests) in
+    rw (flies, all_later update before ms early (λ k d l. h (suc k) d (omega arith))) refl
+
+pub holds_quiet : (updates update before : ℕ) (slots : List (List Missile)) (shots : List Shot) → update ≡ updates + 1 → update < before → NoneBefore before slots → HoldsShots updates slots shots → HoldsShots update slots shots
+holds_quiet updates update before slots shots e early later holds =
+    holds_landed updates update slots slots shots e refl (λ i l. sym (all_later update before (get_or slots i []) early (later i [] l))) holds
+
+-- the least of the bursts so far
+pub least_more : (ms : List Missile) (i : ℕ) (m : Missile) (n next : ℕ) → i < length ms → m ≡ get_or ms i m → next ≤ n → next ≤ m.burst → All (λ m. n ≤ m.burst) (take i ms) → All (λ m. next ≤ m.burst) (take (i + 1) ms)
+least_more ms i m n next l e low here h =
+    All-more (λ (m : Missile). next ≤ m.burst) ms i m l (λ k d inside. omega (arith, h k d inside)) (subst (λ (m : Missile). next ≤ m.burst) e here)
+
+pub sooner : (n next : ℕ) (ms : List Missile) → next ≤ n → All (λ m. n ≤ m.burst) ms → All (λ m. next ≤ m.burst) ms
+sooner n next ms low h = λ k d inside. omega (arith, h k d inside)
+
+pub least_of_more : (slots : List (List Missile)) (i : ℕ) (ms : List Missile) (n own next : ℕ) → i < length slots → ms ≡ get_or slots i ms → next ≤ n → next ≤ own → All (λ m. own ≤ m.burst) ms → NoneBefore n (take i slots) → NoneBefore next (take (i + 1) slots)
+least_of_more slots i ms n own next l e low lower here h =
+    let Later : List Missile → Type 0 = λ ms. All (λ m. next ≤ m.burst) ms in
+    All-more Later slots i ms l (λ k d inside. sooner n next (get_or (take i slots) k d) low (h k d inside)) (subst Later e (sooner own next ms lower here))
+
+pub sooner_all : (n next : ℕ) (slots : List (List Missile)) → next ≤ n → NoneBefore n slots → NoneBefore next slots
+sooner_all n next slots low h = λ k d l. sooner n next (get_or slots k d) low (h k d l)
+
+-- with nothing in the air none bursts
+pub before_none : (n update : ℕ) (slots : List (List Missile)) → slots ≡ replicate n [] → NoneBefore update slots
+before_none n update slots e = subst (λ (slots : List (List Missile)). NoneBefore update slots) (sym e)
+    (λ k d l. subst (λ (ms : List Missile). All (λ m. update ≤ m.burst) ms) (sym (at_none n k d l)) (λ k2 d2 l2. absurd (omega (arith, l2))))
+  where
+    at_none : (n k : ℕ) (d : List Missile) → k < length {A = List Missile} (replicate n []) → get_or {A = List Missile} (replicate n []) k d ≡ []
+    at_none zero k d l = absurd (omega (arith, l))
+    at_none (suc n) zero d l = refl
+    at_none (suc n) (suc k) d l = at_none n k d (omega (arith, l))

@@ -1,22 +1,23 @@
 -- An update of a still field leaves its robots as they are.
-use Rattle.std.proofs.Common.{◌≡◌, ℕ, suc, zero, ◌+◌, ◌<◌, ◌≤◌, Bool, true, false, not, ◌&&◌, ◌==◌, List, [], ◌∷◌, ◌++◌, length, take, drop, map, get_or, filter, sum, cond, add-one, refl, sym, ap, subst, ◌∙◌, arith}
+use Rattle.std.proofs.Common.{◌≡◌, ℕ, suc, zero, ◌+◌, ◌<◌, ◌≤◌, min, Bool, true, false, not, ◌&&◌, ◌==◌, List, [], ◌∷◌, ◌++◌, length, take, drop, map, get_or, filter, sum, cond, add-one, refl, sym, ap, subst, ◌∙◌, arith}
 use Rattle.std.specs.List.{All, range_with_len}
 use Rattle.std.proofs.lemmas.Bool.{eq-eqb}
 use Rattle.std.proofs.lemmas.List.{map_more, get_or-map, length-map, take_all}
-use Rattle.std.proofs.lemmas.List.Elements.{All-get_or, All-append, All-take, All-drop}
+use Rattle.std.proofs.lemmas.List.Elements.{All-get_or, All-take, All-drop}
 use Rattle.std.proofs.lemmas.List.FromFn.{map-range_with_len_more}
-use Rattle.std.proofs.lemmas.List.Sums.{length-filter}
 use Rattle.arena.specs.Leg.{Leg, place_x, place_y, tried, driven, walled, hits_wall}
 use Rattle.arena.specs.Field.{Shot, Robot, Field, damage_of, is_alive, no_robot, robot_at}
-use Rattle.arena.specs.Collisions.{Mover, candidate, mover, moves, is_close, is_no_further, collides, others, touches}
+use Rattle.arena.specs.Collisions.{Mover, candidate, mover, moves, is_close, is_no_further, collides, touches}
 use Rattle.arena.specs.Shots.{bursts}
-use Rattle.arena.specs.Moved.{settled, moved_robot, moved}
-use Rattle.arena.specs.Ground.{Ground, track_of, body_of}
+use Rattle.arena.specs.Moved.{moved_robot, moved}
+use Rattle.arena.specs.Ground.{Ground, body_of}
 use Rattle.arena.specs.Standing.{StandsFor}
+use Rattle.arena.specs.Drive.{ahead}
 use Rattle.arena.specs.Rest.{Rests, Stays, IsStill}
 use Rattle.arena.proofs.Loops.{after_at, after_all}
 use Rattle.arena.proofs.SlotLaws.{none_hurt, holds_still}
-use Rattle.arena.proofs.Wear.{dead_is, alive_is}
+use Rattle.arena.proofs.Touches.{touches_none}
+use Rattle.arena.proofs.Wear.{ahead_is}
 use Rattle.arena.proofs.Represents.{updates}
 
 driven_is : (leg : Leg) → Rests leg → driven leg ≡ leg
@@ -52,36 +53,29 @@ collides_not : (a b : Mover) → moves a ≡ false → moves b ≡ false → col
 unfolding collides
 collides_not a b p q = rw (p, q) (blocked a.live b.live (is_close a b) (is_no_further a b))
 
-none_passes : {X : Type 0} (p : X → Bool) (xs : List X) → All (λ x. p x ≡ false) xs → filter p xs ≡ []
-none_passes p [] h = refl
-none_passes p (x ∷ xs) h = rw (h 0 x (omega arith)) (none_passes p xs (λ k d l. h (suc k) d (omega arith)))
-
-touches_none : (movers : List Mover) (i : ℕ) → i < length movers → All (λ m. moves m ≡ false) movers → touches movers i ≡ 0
-unfolding touches others
-touches_none movers i inside still =
+touches_still : (movers : List Mover) (i : ℕ) → i < length movers → All (λ m. moves m ≡ false) movers → touches movers i ≡ 0
+touches_still movers i inside still =
     let Still : Mover → Type 0 = λ m. moves m ≡ false in
+    let m = get_or movers i (mover no_robot) in
     let here = All-get_or Still movers i (mover no_robot) inside still in
-    let rest = All-append Still (take i movers) (drop (i + 1) movers) (All-take Still i movers still) (All-drop Still (i + 1) movers still) in
-    let p = collides (get_or movers i (mover no_robot)) in
-    let xs = take i movers ++ drop (i + 1) movers in
-    sym (length-filter p xs) ∙ ap length (none_passes p xs (λ k d l. collides_not (get_or movers i (mover no_robot)) (get_or xs k d) here (rest k d l)))
+    touches_none movers i
+    (λ k d l. collides_not m (get_or (take i movers) k d) here (All-take Still i movers still k d l))
+    (λ k d l. collides_not m (get_or (drop (i + 1) movers) k d) here (All-drop Still (i + 1) movers still k d l))
 
 -- the robot after the update
-stays_as_is : (robot : Robot) (update : ℕ) (shots : List Shot) → Stays (body_of robot) → ((x y : ℕ) → sum (bursts update shots x y) ≡ 0) → body_of robot ≡ body_of (moved_robot update shots 0 robot)
-unfolding body_of settled damage_of
-stays_as_is robot update shots stays none = by_life (is_alive robot) refl
+ahead_stays : (robot : Robot) → Stays (body_of robot) → ahead robot ≡ body_of robot
+unfolding ahead body_of damage_of
+ahead_stays robot stays =
+    let free : (is_alive robot && hits_wall (tried robot.leg)) ≡ false = by_life (is_alive robot) refl in
+    let same : min (min (sum robot.hurts) 100 + 0) 100 ≡ min (sum robot.hurts) 100 = omega arith in
+    rw (candidate_is robot stays, free, same) refl
   where
-    live_stays : is_alive robot ≡ true → Rests robot.leg → body_of robot ≡ body_of (moved_robot update shots 0 robot)
-    live_stays live r =
-        let motion : track_of robot.leg ≡ track_of (settled robot.leg 0) = sym (ap track_of (driven_is robot.leg r)) in
-        let free : hits_wall (tried robot.leg) ≡ false = ap hits_wall r.stands ∙ r.free in
-        let walled : false ≡ (is_alive robot && hits_wall (tried robot.leg)) = rw (live, free) refl in
-        let t = track_of robot.leg in
-        alive_is robot t false update shots 0 (damage_of robot) 0 (damage_of robot) live motion walled refl (sym (none t.x t.y)) (omega arith)
+    by_life : (live : Bool) → is_alive robot ≡ live → (live && hits_wall (tried robot.leg)) ≡ false
+    by_life true e = let r = stays robot refl e in ap hits_wall r.stands ∙ r.free
+    by_life false e = refl
 
-    by_life : (live : Bool) → is_alive robot ≡ live → body_of robot ≡ body_of (moved_robot update shots 0 robot)
-    by_life true e = live_stays e (stays robot refl e)
-    by_life false e = ap body_of (dead_is robot update shots 0 e)
+stays_as_is : (robot : Robot) (update : ℕ) (shots : List Shot) → Stays (body_of robot) → ((x y : ℕ) → sum (bursts update shots x y) ≡ 0) → body_of robot ≡ body_of (moved_robot update shots 0 robot)
+stays_as_is robot update shots stays none = sym (ahead_stays robot stays) ∙ ahead_is robot update shots none
 
 -- all robots
 robot_stays : (robots : List Robot) (i : ℕ) → i < length robots → All Stays (map body_of robots) → Stays (body_of (get_or robots i no_robot))
@@ -96,7 +90,7 @@ movers_still robots all k d l =
 each_stays : (f : Field) (i : ℕ) → i < length f.robots → All Stays (map body_of f.robots) → ((x y : ℕ) → sum (bursts (f.updates + 1) f.shots x y) ≡ 0) → body_of (get_or f.robots i no_robot) ≡ after_at f i
 unfolding robot_at
 each_stays f i inside all none =
-    let untouched = touches_none (map mover f.robots) i (omega (arith, length-map f.robots mover)) (movers_still f.robots all) in
+    let untouched = touches_still (map mover f.robots) i (omega (arith, length-map f.robots mover)) (movers_still f.robots all) in
     rw untouched (stays_as_is (get_or f.robots i no_robot) (f.updates + 1) f.shots (robot_stays f.robots i inside all) none)
 
 all_stay : (f : Field) → ((i : ℕ) → i < length f.robots → body_of (get_or f.robots i no_robot) ≡ after_at f i) → (n : ℕ) → n ≤ length f.robots → map body_of (take n f.robots) ≡ map (after_at f) (range_with_len 0 n)

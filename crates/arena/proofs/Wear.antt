@@ -3,11 +3,13 @@ use Rattle.std.proofs.Common.{◌≡◌, ℕ, ◌+◌, ◌*◌, ◌++◌, [], �
 use Rattle.std.specs.List.{sum}
 use Rattle.std.proofs.lemmas.List.Sums.{sum_by-append}
 use Rattle.std.proofs.lemmas.List.Folds.{sum_by-replicate}
-use Rattle.arena.specs.Leg.{Leg, place_x, place_y, tried, hits_wall}
+use Rattle.arena.specs.Leg.{Leg, place_x, place_y, tried, driven, hits_wall}
 use Rattle.arena.specs.Field.{Shot, Robot, damage_of, is_alive}
+use Rattle.arena.specs.Collisions.{candidate}
 use Rattle.arena.specs.Shots.{bursts}
 use Rattle.arena.specs.Moved.{settled, knocks, moved_robot}
 use Rattle.arena.specs.Ground.{Track, track_of, body_of}
+use Rattle.arena.specs.Drive.{ahead}
 
 -- a dead robot stays as it is
 pub dead_is : (robot : Robot) (update : ℕ) (shots : List Shot) (touched : ℕ) → is_alive robot ≡ false → robot ≡ moved_robot update shots touched robot
@@ -28,18 +30,39 @@ worn_is : (hurts : List ℕ) (leg : Leg) (touched : ℕ) (burst : List ℕ) →
 worn_is hurts leg touched burst =
     omega (arith, sum_by-append (λ (x : ℕ). x) (hurts ++ knocks leg touched) burst, sum_by-append (λ (x : ℕ). x) hurts (knocks leg touched), sum_knocks leg touched)
 
--- a live robot gets its new motion and its new damage
-pub alive_is : (robot : Robot) (motion : Track) (walled : Bool) (update : ℕ) (shots : List Shot) (touched old burst damage : ℕ) →
-    is_alive robot ≡ true → motion ≡ track_of (settled robot.leg touched) → walled ≡ (is_alive robot && hits_wall (tried robot.leg)) → old ≡ damage_of robot →
+-- a live robot gets its new motion and its new damage, of which walls took theirs first
+pub alive_is : (robot : Robot) (motion : Track) (update : ℕ) (shots : List Shot) (touched walled burst damage : ℕ) →
+    is_alive robot ≡ true → motion ≡ track_of (settled robot.leg touched) → walled ≡ min (damage_of robot + cond (is_alive robot && hits_wall (tried robot.leg)) 2 0) 100 →
     burst ≡ sum (bursts update shots motion.x motion.y) →
-    damage ≡ min (old + cond walled 2 0 + 2 * touched + burst) 100 →
+    damage ≡ min (walled + 2 * touched + burst) 100 →
     record { track = motion; damage = damage } ≡ body_of (moved_robot update shots touched robot)
 unfolding moved_robot body_of damage_of track_of
-alive_is robot motion walled update shots touched old burst damage live m w o b d =
+alive_is robot motion update shots touched walled burst damage live m w b d =
     let leg = settled robot.leg touched in
-    let same : walled ≡ hits_wall (tried robot.leg) = rw live at w in
+    let wall : walled ≡ min (damage_of robot + cond (hits_wall (tried robot.leg)) 2 0) 100 = rw live at w in
     let burst_is : burst ≡ sum (bursts update shots (place_x leg) (place_y leg)) = b ∙ ap (λ (t : Track). sum (bursts update shots t.x t.y)) m in
     let sum_is = worn_is robot.hurts robot.leg touched (bursts update shots (place_x leg) (place_y leg)) in
     let damage_is : damage ≡ min (sum (robot.hurts ++ knocks robot.leg touched ++ bursts update shots (place_x leg) (place_y leg))) 100 =
-    d ∙ ap (λ (w : Bool). min (old + cond w 2 0 + 2 * touched + burst) 100) same ∙ ap (λ (n : ℕ). min (n + cond (hits_wall (tried robot.leg)) 2 0 + 2 * touched + burst) 100) o ∙ ap (λ (n : ℕ). min (damage_of robot + cond (hits_wall (tried robot.leg)) 2 0 + 2 * touched + n) 100) burst_is ∙ sym sum_is in
+    omega (arith, d, wall, burst_is, sum_is) in
     rw (live, m, damage_is) refl
+
+-- a dead robot stays where it is
+pub dead_stays : (robot : Robot) → is_alive robot ≡ false → ahead robot ≡ body_of robot
+unfolding ahead candidate body_of damage_of
+dead_stays robot dead = let same : min (min (sum robot.hurts) 100 + 0) 100 ≡ min (sum robot.hurts) 100 = omega arith in rw (dead, same) refl
+
+-- one that touches none, with no burst, is where it drove on its own
+live_is : (robot : Robot) (update : ℕ) (shots : List Shot) → ((x y : ℕ) → sum (bursts update shots x y) ≡ 0) → is_alive robot ≡ true → ahead robot ≡ body_of (moved_robot update shots 0 robot)
+unfolding ahead candidate settled
+live_is robot update shots none live =
+    let t = track_of (driven robot.leg) in
+    let d = min (damage_of robot + cond (is_alive robot && hits_wall (tried robot.leg)) 2 0) 100 in
+    let drove : candidate robot ≡ driven robot.leg = rw live refl in
+    rw drove (alive_is robot t update shots 0 d 0 d live refl refl (sym (none t.x t.y)) (omega arith))
+
+pub ahead_is : (robot : Robot) (update : ℕ) (shots : List Shot) → ((x y : ℕ) → sum (bursts update shots x y) ≡ 0) → ahead robot ≡ body_of (moved_robot update shots 0 robot)
+ahead_is robot update shots none = by_life (is_alive robot) refl
+  where
+    by_life : (live : Bool) → is_alive robot ≡ live → ahead robot ≡ body_of (moved_robot update shots 0 robot)
+    by_life true e = live_is robot update shots none e
+    by_life false e = dead_stays robot e ∙ ap body_of (dead_is robot update shots 0 e)

@@ -1,5 +1,5 @@
--- When a field is still: an update then changes nothing but the number of updates.
-use Rattle.std.specs.Prelude.{◌≡◌, List, [], true, false, All}
+-- When a field is still: an update then changes nothing but the number of updates. When the next missile bursts.
+use Rattle.std.specs.Prelude.{◌≡◌, ℕ, ◌≤◌, List, [], true, false, All}
 use Rattle.arena.specs.Leg.{Leg, tried, hits_wall}
 use Rattle.arena.specs.Field.{Robot, is_alive}
 use Rattle.arena.specs.Ground.{Body, Missile, body_of}
@@ -17,3 +17,7 @@ Stays body = (robot : Robot) → body ≡ body_of robot → is_alive robot ≡ t
 pub record IsStill (robots : List Body) (slots : List (List Missile)) : Type 0 where
   pub stay : All Stays robots
   pub none_flies : All (λ s. s ≡ []) slots
+
+-- no missile in the air bursts before an update
+abbrev pub NoneBefore : ℕ → List (List Missile) → Type 0
+NoneBefore update slots = All (All (λ m. update ≤ m.burst)) slots

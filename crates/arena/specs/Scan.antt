@@ -27,6 +27,10 @@ unfoldable pub range_of : Robot → Robot → ℕ
 range_of from to =
     max 1 (unsigned_abs (root_of (pos (square (metres_x from) (metres_y from) (metres_x to) (metres_y to)))))
 
+-- ranges compare as these do: the squared distance in whole metres, and at least 1
+unfoldable pub square_to : Robot → Robot → ℕ
+square_to from to = max 1 (square (metres_x from) (metres_y from) (metres_x to) (metres_y to))
+
 -- the lesser of two ranges, of which the first may be 0, for none
 unfoldable pub nearer : ℕ → ℕ → ℕ
 nearer range other = if range == 0 then other else min range other

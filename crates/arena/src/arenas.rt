@@ -13,11 +13,12 @@ ghost use Rattle.arena.specs.Ground.{Body, body_of, lives};
 ghost use Rattle.arena.specs.Standing.{StandsFor};
 
 use crate::limits::MOST_ROBOTS;
+use crate::missiles::Missiles;
 use crate::robots::Robot;
 use crate::scans::scan;
-use crate::slots::{Missile, Slots, fire, land, may_fire, no_missiles};
+use crate::slots::Missile;
 use crate::starts::{drawn_robots, placed_robots};
-use crate::updates::{is_still, moved};
+use crate::updates::{is_still, move_on};
 use crate::words::{begun, random_number};
 use arith::{atan, cos, norm_degree, root, sin, tan};
 use arrayvec::ArrayVec;
@@ -41,7 +42,7 @@ pub struct Arena {
     updates: u32,
     is_still: bool,
     robots: ArrayVec<Robot, MOST_ROBOTS>,
-    slots: ArrayVec<Slots, MOST_ROBOTS>,
+    missiles: Missiles,
     random: Pcg32,
 }
 
@@ -55,13 +56,13 @@ impl Model for Arena {
     ghost view = { λ a. record {
       updates = a.updates;
       robots = a.robots.items;
-      slots = a.slots.items;
+      slots = a.missiles;
       random = a.random;
     } };
 
-    ghost invariant = { λ a. (a.updates ≤ 66666667) × (length a.slots.items ≡ length a.robots.items)
+    ghost invariant = { λ a. (a.updates ≤ 66666667) × (length a.missiles ≡ length a.robots.items)
         × (length a.robots.items ≤ 4) × All (λ (b : Body). IsWithin (10000000 * a.updates) b.track) a.robots.items
-        × All (λ s. length s ≤ 2) a.slots.items × (a.is_still ≡ true → IsStill a.robots.items a.slots.items) };
+        × All (λ s. length s ≤ 2) a.missiles × (a.is_still ≡ true → IsStill a.robots.items a.missiles) };
 }
 
 impl Arena {
@@ -79,7 +80,7 @@ impl Arena {
             updates: 0,
             is_still: false,
             robots,
-            slots: no_missiles(n),
+            missiles: Missiles::none(n),
             random,
         }
     }
@@ -96,7 +97,7 @@ impl Arena {
             updates: 0,
             is_still: false,
             robots: placed_robots(places),
-            slots: no_missiles(places.len()),
+            missiles: Missiles::none(places.len()),
             random: begun(seed, number),
         }
     }
@@ -142,9 +143,9 @@ impl Arena {
             self.updates = update;
             return;
         }
-        self.robots = moved(self.robots.as_slice(), self.slots.as_slice(), update);
-        land(self.slots.as_mut_slice(), update);
-        self.is_still = is_still(self.robots.as_slice(), self.slots.as_slice());
+        move_on(self.robots.as_mut_slice(), &self.missiles, update);
+        self.missiles.land(update);
+        self.is_still = is_still(self.robots.as_slice(), &self.missiles);
         self.updates = update;
     }
 
@@ -226,14 +227,14 @@ impl Arena {
         ensures updates { self.new.updates ≡ self.old.updates }
         ensures manned { length self.new.robots ≡ length self.old.robots }
     {
-        if !may_fire(self.slots.as_slice(), robot) {
+        if !self.missiles.may_fire(robot) {
             return 0;
         }
         let range = brought(range, MOST_RANGE);
         let (x, y) = self.place(robot);
         let missile = Missile::new(self.updates, x, y, norm_degree(degree), range);
         self.is_still = false;
-        fire(self.slots.as_mut_slice(), robot, missile);
+        self.missiles.fire(robot, missile);
         1
     }
 

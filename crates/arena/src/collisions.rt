@@ -1,6 +1,6 @@
 //! Which robots collide in an update.
 
-ghost use Rattle.std.specs.Prelude.{◌≡◌, ◌<◌, ◌≤◌, count_by, length};
+ghost use Rattle.std.specs.Prelude.{◌≡◌, ℕ, ◌<◌, ◌≤◌, false, All, count_by, length};
 ghost use Rattle.arena.specs.Collisions.{square, moves, is_close, is_no_further, collides, touches};
 
 use std::marker::Model;
@@ -47,6 +47,29 @@ impl Mover {
             x,
             y,
         }
+    }
+
+    /// Reports whether the robot lived before the update.
+    pub fn is_live(&self) -> bool
+        ensures { result ≡ self.now.live }
+    {
+        self.live
+    }
+
+    /// The place before the update on the axis to the east.
+    pub fn from_x(&self) -> u16
+        ensures value { result ≡ self.now.from_x }
+        ensures most { result ≤ 9999 }
+    {
+        self.from_x
+    }
+
+    /// The place before the update on the axis to the north.
+    pub fn from_y(&self) -> u16
+        ensures value { result ≡ self.now.from_y }
+        ensures most { result ≤ 9999 }
+    {
+        self.from_y
     }
 
     // Reports whether the robot would leave its place.
@@ -117,4 +140,28 @@ pub fn touches(movers: &[Mover], robot: usize) -> usize
 {
     let mover = &movers[robot];
     hits(mover, &movers[..robot]) + hits(mover, &movers[robot + 1..])
+}
+
+// Reports whether a robot's candidate is close to that of one of the others.
+fn is_near(mover: &Mover, others: &[Mover]) -> bool
+    ensures { result ≡ false → All (λ other. is_close mover.now other ≡ false) others.now }
+{
+    for other in others {
+        if mover.is_close(other) {
+            return true;
+        }
+    }
+    false
+}
+
+/// Reports whether the candidates of two robots are close, each pair judged once: if none are, no robots collide.
+pub fn any_near(movers: &[Mover]) -> bool
+    ensures { result ≡ false → (i : ℕ) → i < length movers.now → touches movers.now i ≡ 0 }
+{
+    for (i, mover) in movers.iter().enumerate() {
+        if is_near(mover, &movers[i + 1..]) {
+            return true;
+        }
+    }
+    false
 }

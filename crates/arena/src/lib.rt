@@ -7,6 +7,7 @@ mod collisions;
 mod known;
 pub mod laws;
 mod limits;
+mod missiles;
 mod motion;
 mod robots;
 mod scans;

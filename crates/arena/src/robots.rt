@@ -8,7 +8,7 @@ ghost use Rattle.arena.specs.Start.{standing};
 ghost use Rattle.arena.specs.Answer.{wanting};
 ghost use Rattle.arena.specs.Ground.{track_of, body_of, IsWithin};
 ghost use Rattle.arena.specs.Moved.{settled};
-ghost use Rattle.arena.specs.Drive.{drive_of};
+ghost use Rattle.arena.specs.Drive.{drive_of, ahead};
 ghost use Rattle.arena.specs.Rest.{Stays};
 
 use crate::collisions::Mover;
@@ -160,17 +160,32 @@ impl Robot {
         )
     }
 
-    /// The motion of a live robot after walls and collisions, given how many others it collides with.
-    #[tactic(auto, unfolding(crate::specs::Drive::drive_of, crate::specs::Collisions::candidate, crate::specs::Moved::settled, crate::specs::Ground::body_of, crate::specs::Ground::track_of))]
-    pub fn settled(&self, drive: &Drive, touched: usize) -> Motion
-        ensures leg { (robot : FieldRobot) → self.now ≡ body_of robot → drive.now ≡ drive_of robot
+    /// Moves on for an update, as far as walls let it, and tells what collisions have to know; a dead robot stays.
+    pub fn drive_on(&mut self) -> Mover
+        requires east { unsigned_abs self.old.track.east < 2 ^ 50 }
+        requires north { unsigned_abs self.old.track.north < 2 ^ 50 }
+        ensures ahead { (robot : FieldRobot) → self.old ≡ body_of robot → self.new ≡ ahead robot }
+        ensures mover { (robot : FieldRobot) → self.old ≡ body_of robot → result ≡ mover robot }
+        ensures east { unsigned_abs self.new.track.east ≤ unsigned_abs self.old.track.east + 10000000 }
+        ensures north { unsigned_abs self.new.track.north ≤ unsigned_abs self.old.track.north + 10000000 }
+    {
+        let drive = self.driven();
+        let mover = self.mover(&drive);
+        self.motion = drive.motion;
+        self.damage = walled(self.damage, drive.walled);
+        mover
+    }
+
+    /// The motion of a live robot that has moved on, given how many others it collides with.
+    pub fn settled(&self, seen: &Mover, touched: usize) -> Motion
+        ensures leg { (robot : FieldRobot) → self.now ≡ ahead robot → seen.now ≡ mover robot
             → is_alive robot ≡ true → result ≡ track_of (settled robot.leg touched) }
-        ensures way { (way : ℕ) → IsWithin way drive.now.motion → IsWithin way result }
+        ensures way { (way : ℕ) → IsWithin way self.now.track → IsWithin way result }
     {
         if touched > 0 {
-            return drive.motion.put_back(self.x(), self.y());
+            return self.motion.put_back(seen.from_x(), seen.from_y());
         }
-        drive.motion
+        self.motion
     }
 
     /// A robot with this motion and this damage in percent.
@@ -198,14 +213,25 @@ impl Robot {
     }
 }
 
-/// The damage in percent after an update, when a wall, so many other robots and bursts hurt a robot.
-pub fn worn(damage: u8, walled: bool, touched: usize, bursts: u8) -> u8
+// The damage in percent of a robot that perhaps drove against a wall.
+fn walled(damage: u8, walled: bool) -> u8
+    requires { damage ≤ 100 }
+    ensures value { result ≡ min (damage + (if walled then WALL else 0)) 100 }
+    ensures most { result ≤ 100 }
+{
+    if !walled {
+        return damage;
+    }
+    (damage + WALL).min(DEADLY)
+}
+
+/// The damage in percent when so many other robots and bursts hurt a robot.
+pub fn worn(damage: u8, touched: usize, bursts: u8) -> u8
     requires damage { damage ≤ 100 }
     requires touched { touched ≤ 4 }
     requires bursts { bursts ≤ 80 }
-    ensures value { result ≡ min (damage + (if walled then WALL else 0) + KNOCK * touched + bursts) 100 }
+    ensures value { result ≡ min (damage + KNOCK * touched + bursts) 100 }
     ensures most { result ≤ 100 }
 {
-    let wall = if walled { WALL } else { 0 };
-    (damage + wall + KNOCK * touched as u8 + bursts).min(DEADLY)
+    (damage + KNOCK * touched as u8 + bursts).min(DEADLY)
 }

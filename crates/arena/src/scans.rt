@@ -1,12 +1,12 @@
 //! What a scan sees.
 
-ghost use Rattle.std.specs.Prelude.{◌≡◌, ℕ, ◌+◌, ◌*◌, ◌<◌, ◌≤◌, ◌==◌, ◌&&◌, ◌||◌, nat_le, min, max, if◌then◌else◌, List, map, filter, fold, length, pos, ◌-ℤ◌, unsigned_abs};
+ghost use Rattle.std.specs.Prelude.{◌≡◌, ℕ, ◌+◌, ◌*◌, ◌<◌, ◌≤◌, ◌==◌, ◌&&◌, ◌||◌, nat_le, true, false, min, max, if◌then◌else◌, List, map, filter, fold, length, pos, ◌-ℤ◌, unsigned_abs};
 ghost use Rattle.arith.specs.Root.{root_of};
 ghost use Rattle.arith.specs.Bearing.{bearing_of};
 ghost use Rattle.arena.specs.Field.{Robot as FieldRobot, Field};
 ghost use Rattle.arena.specs.Collisions.{square};
 ghost use Rattle.arith.specs.Degree.{apart};
-ghost use Rattle.arena.specs.Scan.{sees, range_of, nearer, scanned};
+ghost use Rattle.arena.specs.Scan.{sees, square_to, nearer, scanned};
 ghost use Rattle.arena.specs.Ground.{body_of};
 
 use crate::collisions::square;
@@ -23,35 +23,53 @@ pub(crate) fn scan(robots: &[Robot], robot: usize, degree: u16, resolution: u16)
 {
     let from = &robots[robot];
     let before = nearest(from, &robots[..robot], degree, resolution, 0);
-    nearest(from, &robots[robot + 1..], degree, resolution, before)
+    let square = nearest(from, &robots[robot + 1..], degree, resolution, before);
+    distance(square)
 }
 
-// The nearest of some robots that are seen, if nearer than a range so far; 0 is no range.
-fn nearest(from: &Robot, others: &[Robot], degree: u16, resolution: u16, so_far: u16) -> u16
+// The squared distance of the nearest of some robots that are seen, if nearer than one so far; 0 is none.
+fn nearest(from: &Robot, others: &[Robot], degree: u16, resolution: u16, so_far: u32) -> u32
     requires degree { degree < 360 }
     requires resolution { resolution ≤ 10 }
-    ensures { (a : FieldRobot) (rs : List FieldRobot) → from.now ≡ body_of a → others.now ≡ map body_of rs
-        → result ≡ fold nearer so_far (map (range_of a) (filter (sees a degree resolution) rs)) }
+    requires so_far { so_far ≤ 2000000 }
+    ensures nearest { (a : FieldRobot) (rs : List FieldRobot) → from.now ≡ body_of a → others.now ≡ map body_of rs
+        → result ≡ fold nearer so_far (map (square_to a) (filter (sees a degree resolution) rs)) }
+    ensures most { result ≤ 2000000 }
 {
     let mut nearest = so_far;
     for other in others {
-        if sees(from, other, degree, resolution) {
-            nearest = nearer(nearest, range(from, other));
-        }
+        nearest = nearer(from, other, degree, resolution, nearest);
     }
     nearest
 }
 
-// The lesser of two ranges, of which the first may be none.
-#[tactic(auto, using(std::proofs::lemmas::Bool::Decides::nat_tests), unfolding(crate::specs::Scan::nearer))]
-fn nearer(nearest: u16, range: u16) -> u16
-    ensures { result ≡ nearer nearest range }
+// The squared distance of a robot, if it is seen and nearer than the one so far, of which 0 is none. Whether one is
+// seen that isn't nearer need not be known.
+fn nearer(from: &Robot, other: &Robot, degree: u16, resolution: u16, so_far: u32) -> u32
+    requires degree { degree < 360 }
+    requires resolution { resolution ≤ 10 }
+    requires so_far { so_far ≤ 2000000 }
+    ensures value { (a b : FieldRobot) → from.now ≡ body_of a → other.now ≡ body_of b
+        → result ≡ (if sees a degree resolution b then nearer so_far (square_to a b) else so_far) }
+    ensures most { result ≤ 2000000 }
 {
-    if nearest == 0 {
-        range
-    } else {
-        nearest.min(range)
+    let square = square_to(from, other);
+    if !is_nearer(square, so_far) {
+        return so_far;
     }
+    if !sees(from, other, degree, resolution) {
+        return so_far;
+    }
+    square
+}
+
+// Reports whether a squared distance is less than another one, of which 0 is none.
+#[tactic(auto, using(std::proofs::lemmas::Bool::Decides::nat_tests), unfolding(crate::specs::Scan::nearer))]
+fn is_nearer(square: u32, so_far: u32) -> bool
+    ensures nearer { result ≡ true → nearer so_far square ≡ square }
+    ensures farther { result ≡ false → nearer so_far square ≡ so_far }
+{
+    so_far == 0 || square < so_far
 }
 
 // Reports whether a robot sees another one.
@@ -91,10 +109,11 @@ fn in_arc(x: u16, y: u16, to_x: u16, to_y: u16, degree: u16, resolution: u16) ->
     bears_within(east, north, degree, resolution)
 }
 
-// How far away a robot is, in metres: at least 1.
-#[tactic(auto, unfolding(crate::specs::Scan::range_of))]
-fn range(from: &Robot, to: &Robot) -> u16
-    ensures { (a b : FieldRobot) → from.now ≡ body_of a → to.now ≡ body_of b → result ≡ range_of a b }
+// The squared distance of two robots, in metres: at least 1.
+#[tactic(auto, unfolding(crate::specs::Scan::square_to))]
+fn square_to(from: &Robot, to: &Robot) -> u32
+    ensures value { (a b : FieldRobot) → from.now ≡ body_of a → to.now ≡ body_of b → result ≡ square_to a b }
+    ensures most { result ≤ 2000000 }
 {
     let square = square(
         from.metres_x(),
@@ -102,13 +121,13 @@ fn range(from: &Robot, to: &Robot) -> u16
         to.metres_x(),
         to.metres_y(),
     );
-    distance(square)
+    square.max(1)
 }
 
-// The whole root of a squared distance: at least 1.
+// The whole root of a squared distance.
 fn distance(square: u32) -> u16
     requires { square ≤ 2000000 }
-    ensures { result ≡ max 1 (unsigned_abs (root_of (pos square))) }
+    ensures { result ≡ unsigned_abs (root_of (pos square)) }
 {
-    (root(square as i32).unsigned_abs() as u16).max(1)
+    root(square as i32).unsigned_abs() as u16
 }

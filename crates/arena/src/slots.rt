@@ -1,10 +1,11 @@
 //! Missiles: where and when they burst, and which of each robot's are in the air.
 
-ghost use Rattle.std.specs.Prelude.{◌≡◌, ℕ, ◌+◌, ◌*◌, ◌<◌, ◌≤◌, ◌++◌, ◌∷◌, [], ℤ, pos, ◌*ℤ◌, unsigned_abs, List, All, filter, map, sum, true, false, nat_lt, length, slice_index_or};
+ghost use Rattle.std.specs.Prelude.{◌≡◌, ℕ, ◌+◌, ◌*◌, ◌<◌, ◌≤◌, ◌++◌, ◌∷◌, [], ℤ, pos, ◌*ℤ◌, unsigned_abs, List, All, filter, map, sum, true, nat_lt, length, slice_index_or};
 ghost use Rattle.arena.specs.Leg.{last_place, brought, along};
 ghost use Rattle.arena.specs.Field.{Shot};
 ghost use Rattle.arena.specs.Shots.{aimed_x, aimed_y, bursts, flight, in_air, ring};
 ghost use Rattle.arena.specs.Ground.{shot_of};
+ghost use Rattle.arena.specs.Rest.{NoneBefore};
 ghost use Rattle.arena.specs.Standing.{HoldsShots};
 
 use crate::collisions::square;
@@ -60,6 +61,13 @@ impl Missile {
             x: aimed(x, range, cosine_at(degree)),
             y: aimed(y, range, sine_at(degree)),
         }
+    }
+
+    /// The update in which the missile bursts.
+    pub fn burst(&self) -> u32
+        ensures { result ≡ self.now.burst }
+    {
+        self.burst
     }
 
     // Reports whether the missile is still in the air after this update.
@@ -187,16 +195,15 @@ impl Slots {
         damage
     }
 
-    // Reports whether one of the missiles bursts in an update.
-    fn is_due(&self, update: u32) -> bool
-        ensures { result ≡ false → (x y : ℕ) → sum (bursts update (map (shot_of 0) self.now) x y) ≡ 0 }
+    // An update before which none of the missiles bursts: the next one with a burst.
+    fn next_burst(&self) -> u32
+        ensures { All (λ m. result ≤ m.burst) self.now }
     {
+        let mut next = u32::MAX;
         for missile in self.missiles.as_slice() {
-            if missile.burst == update {
-                return true;
-            }
+            next = next.min(missile.burst);
         }
-        false
+        next
     }
 
     // Reports whether all missiles are still in the air after this update.
@@ -233,6 +240,7 @@ pub fn no_missiles(n: usize) -> ArrayVec<Slots, MOST_ROBOTS>
     requires { n ≤ MOST_ROBOTS }
     ensures count { length result.items ≡ n }
     ensures none { HoldsShots 0 result.items [] }
+    ensures next { (update : ℕ) → NoneBefore update result.items }
     ensures two { All (λ s. length s ≤ 2) result.items }
 {
     let mut slots = ArrayVec::new();
@@ -271,21 +279,20 @@ pub fn fire(slots: &mut [Slots], robot: usize, missile: Missile)
     ensures shots { (updates : ℕ) (shots : List Shot) → updates < missile.burst → HoldsShots updates slots.old shots
         → HoldsShots updates slots.new (shots ++ shot_of robot missile ∷ []) }
     ensures two { All (λ s. length s ≤ 2) slots.old → All (λ s. length s ≤ 2) slots.new }
+    ensures next { (update : ℕ) → update ≤ missile.burst → NoneBefore update slots.old → NoneBefore update slots.new }
 {
     slots[robot].add(missile);
 }
 
-/// Reports whether a missile bursts in an update: if none does, nothing is hurt anywhere.
-pub fn any_due(slots: &[Slots], update: u32) -> bool
-    ensures { result ≡ false → (updates : ℕ) (shots : List Shot) (x y : ℕ) → update ≡ updates + 1
-        → HoldsShots updates slots.now shots → sum (bursts update shots x y) ≡ 0 }
+/// An update before which no missile bursts: the next one with a burst.
+pub fn next_burst(slots: &[Slots]) -> u32
+    ensures { NoneBefore result slots.now }
 {
+    let mut next = u32::MAX;
     for own in slots {
-        if own.is_due(update) {
-            return true;
-        }
+        next = next.min(own.next_burst());
     }
-    false
+    next
 }
 
 /// The damage that the bursts of an update do at a place in tenths of a metre.

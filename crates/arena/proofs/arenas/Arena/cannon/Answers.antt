@@ -1,47 +1,40 @@
-use Rattle.std.proofs.Common.{sym, ap, subst, ◌∙◌, length}
+use Rattle.std.proofs.Common.{sym, subst, ◌∙◌}
 use Rattle.std.proofs.lemmas.Int.{to_z-of_z}
 use Rattle.arena.specs.Field.{Field}
 use Rattle.arena.specs.contracts.arenas.Arena.{the_view}
-use Rattle.arena.specs.Ground.{Ground}
 use Rattle.arena.specs.Standing.{StandsFor}
-use Rattle.arena.proofs.Represents.{refill_is, keeps_fire, fires_reply, fires}
+use Rattle.arena.proofs.Represents.{keeps_fire, fires_reply, fires}
 use Rattle.arena.proofs.arenas.Arena.cannon.Goals as goal
 
 pub returns-then-not-may_fire-clause-reply : goal.returns-then-not-may_fire-clause-reply
 returns-then-not-may_fire-clause-reply c = λ f s.
-    let slots = c.as_slice.ensures.value ∙ ap (λ (g : Ground). g.slots) c.self.view_is in
-    let own = c.may_fire.ensures.shots f.updates f.shots (rw slots s.missiles) in
+    let now : StandsFor (the_view c.self.inside) f = rw c.self.view_is s in
+    let own = c.may_fire.ensures.shots f.updates f.shots now.missiles in
     (keeps_fire f _ _ _ (sym own ∙ c.if-not-may_fire.true)).0
 
 pub returns-then-not-may_fire-clause-stands : goal.returns-then-not-may_fire-clause-stands
 returns-then-not-may_fire-clause-stands c = λ f s.
-    let slots = c.as_slice.ensures.value ∙ ap (λ (g : Ground). g.slots) c.self.view_is in
-    let own = c.may_fire.ensures.shots f.updates f.shots (rw slots s.missiles) in
+    let now : StandsFor (the_view c.self.inside) f = rw c.self.view_is s in
+    let own = c.may_fire.ensures.shots f.updates f.shots now.missiles in
     let P : Field → Type 0 = λ x. StandsFor c.args.self.now x in
     subst P (keeps_fire f _ _ _ (sym own ∙ c.if-not-may_fire.true)).1 s
 
 pub invariant_of-self : goal.invariant_of-self
 invariant_of-self c =
     let i = c.self.invariant in
-    let len = c.fire.auto.slots ∙ ap length c.as_mut_slice.ensures.value in
-    let slots = refill_is c.self.inside.slots.items c.fire.new.slots len in
-    rw slots (i.0, len ∙ i.1, i.2, i.3, c.fire.ensures.two (rw c.as_mut_slice.ensures.value i.4), λ e. absurd (cc))
+    (i.0, c.fire.ensures.count ∙ i.1, i.2, i.3, c.fire.ensures.two i.4, λ e. absurd (cc))
 
 pub returns-clause-reply : goal.returns-clause-reply
 returns-clause-reply c = λ f s.
-    let slots = c.as_slice.ensures.value ∙ ap (λ (g : Ground). g.slots) c.self.view_is in
-    let free = sym (c.may_fire.ensures.shots f.updates f.shots (rw slots s.missiles)) ∙ c.if-not-may_fire.false in
+    let now : StandsFor (the_view c.self.inside) f = rw c.self.view_is s in
+    let free = sym (c.may_fire.ensures.shots f.updates f.shots now.missiles) ∙ c.if-not-may_fire.false in
     fires_reply f _ _ _ free
 
 pub returns-clause-stands : goal.returns-clause-stands
 returns-clause-stands c = λ f s.
     let degree_fits = c.ranges.degree in
     let range_fits = c.ranges.range in
-    let slots = c.as_slice.ensures.value ∙ ap (λ (g : Ground). g.slots) c.self.view_is in
-    let free = sym (c.may_fire.ensures.shots f.updates f.shots (rw slots s.missiles)) ∙ c.if-not-may_fire.false in
-    let missile = simp (c.place-x.ensures.x f s, c.place-x.ensures.y f s, c.norm_degree.ensures.value, c.brought-range.ensures.value, to_z-of_z) at c.new-missile.ensures in
-    let len = c.fire.auto.slots ∙ ap length c.as_mut_slice.ensures.value in
     let now : StandsFor (the_view c.self.inside) f = rw c.self.view_is s in
-    rw (refill_is c.self.inside.slots.items c.fire.new.slots len)
-    (fires (the_view c.self.inside) f _ _ _ c.fire.new.slots c.new-missile.result now free missile
-    (λ updates shots later holds. c.fire.ensures.shots updates shots later (rw c.as_mut_slice.ensures.value holds)))
+    let free = sym (c.may_fire.ensures.shots f.updates f.shots now.missiles) ∙ c.if-not-may_fire.false in
+    let missile = simp (c.place-x.ensures.x f s, c.place-x.ensures.y f s, c.norm_degree.ensures.value, c.brought-range.ensures.value, to_z-of_z) at c.new-missile.ensures in
+    fires (the_view c.self.inside) f _ _ _ c.fire.new.self c.new-missile.result now free missile c.fire.ensures.shots

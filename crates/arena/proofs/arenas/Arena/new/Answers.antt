@@ -7,6 +7,6 @@ unfolding start
 returns-clause-stands c = record {
   updates = refl;
   robots = c.drawn_robots-robots.ensures.robots c.args.seed c.args.number c.begun-random.ensures;
-  missiles = c.no_missiles.ensures.none;
+  missiles = c.none.ensures.none;
   random = c.drawn_robots-robots.ensures.words c.args.seed c.args.number c.begun-random.ensures;
 }

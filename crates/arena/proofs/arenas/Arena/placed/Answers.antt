@@ -7,6 +7,6 @@ unfolding placed
 returns-clause-stands c = record {
   updates = refl;
   robots = c.placed_robots.ensures.robots c.args.seed c.args.number;
-  missiles = c.no_missiles.ensures.none;
+  missiles = c.none.ensures.none;
   random = c.begun.ensures;
 }

@@ -1,0 +1,22 @@
+use Rattle.std.proofs.Common.{◌≡◌, sym, ap, ◌∙◌, false, true}
+use Rattle.arena.specs.Field.{is_alive}
+use Rattle.arena.specs.Collisions.{Mover, mover}
+use Rattle.arena.specs.Ground.{Body, body_of}
+use Rattle.arena.specs.Drive.{ahead}
+use Rattle.arena.proofs.Wear.{dead_is, dead_stays, alive_is}
+use Rattle.arena.proofs.updates.finished.Goals as goal
+
+pub returns-then-not-is_live-clause-robot : goal.returns-then-not-is_live-clause-robot
+unfolding mover
+returns-then-not-is_live-clause-robot c = λ r updates shots u holds e m.
+    let dead : is_alive r ≡ false = sym (c.is_live.ensures ∙ ap (λ (m : Mover). m.live) m) ∙ c.if-not-is_live.true in
+    e ∙ dead_stays r dead ∙ ap body_of (dead_is r c.args.update shots c.args.touched dead)
+
+pub returns-clause-robot : goal.returns-clause-robot
+unfolding mover ahead
+returns-clause-robot c = λ r updates shots u holds e m.
+    let live : is_alive r ≡ true = sym (c.is_live.ensures ∙ ap (λ (m : Mover). m.live) m) ∙ c.if-not-is_live.false in
+    let leg = c.settled-motion.ensures.leg r e m live in
+    let burst = rw (c.x.ensures.value, c.y.ensures.value) at (c.damage_at-bursts.ensures.shots updates shots u holds) in
+    let walled = c.damage.ensures.value ∙ ap (λ (b : Body). b.damage) e in
+    c.new.ensures ∙ alive_is r c.settled-motion.result c.args.update shots c.args.touched c.damage.result c.damage_at-bursts.result c.worn.result live leg walled burst c.worn.ensures.value

@@ -1,0 +1,114 @@
+//! The missiles of all robots that are in the air, and the update before which none of them bursts.
+
+ghost use Rattle.std.specs.Prelude.{◌≡◌, ℕ, ◌+◌, ◌<◌, ◌≤◌, ◌++◌, ◌∷◌, [], List, All, sum, true, nat_lt, length, slice_index_or};
+ghost use Rattle.arena.specs.Field.{Shot};
+ghost use Rattle.arena.specs.Shots.{bursts, in_air};
+ghost use Rattle.arena.specs.Ground.{shot_of};
+ghost use Rattle.arena.specs.Standing.{HoldsShots};
+
+use crate::limits::MOST_ROBOTS;
+use crate::slots::{
+    Missile, Slots, damage_at, fire, land, may_fire, next_burst, no_missiles, none_flies,
+};
+use arrayvec::ArrayVec;
+use std::marker::Model;
+
+/// The missiles of all robots that are in the air. None bursts before the update `next`.
+#[derive(Drop)]
+pub struct Missiles {
+    slots: ArrayVec<Slots, MOST_ROBOTS>,
+    next: u32,
+}
+
+impl Model for Missiles {
+    ghost use Rattle.std.specs.Prelude.{◌≤◌, List, length};
+    ghost use Rattle.arena.specs.Ground.{Missile};
+    ghost use Rattle.arena.specs.Rest.{NoneBefore};
+
+    ghost Value = { List (List Missile) };
+
+    ghost view = { λ m. m.slots.items };
+
+    ghost invariant = { λ m. (length m.slots.items ≤ 4) × NoneBefore m.next m.slots.items };
+}
+
+impl Missiles {
+    /// No missile in the air, for so many robots.
+    pub fn none(robots: usize) -> Missiles
+        requires { robots ≤ MOST_ROBOTS }
+        ensures count { length result ≡ robots }
+        ensures none { HoldsShots 0 result [] }
+        ensures two { All (λ s. length s ≤ 2) result }
+    {
+        Missiles {
+            slots: no_missiles(robots),
+            next: u32::MAX,
+        }
+    }
+
+    /// Reports whether no missile of any robot is in the air.
+    pub fn none_flies(&self) -> bool
+        ensures { result ≡ true → All (λ s. s ≡ []) self.now }
+    {
+        none_flies(self.slots.as_slice())
+    }
+
+    /// Reports whether a robot may fire: it has fewer than two missiles in the air.
+    pub fn may_fire(&self, robot: usize) -> bool
+        requires { robot < length self.now }
+        ensures own { result ≡ nat_lt (length (slice_index_or self.now robot [])) 2 }
+        ensures shots { (updates : ℕ) (shots : List Shot) → HoldsShots updates self.now shots
+            → result ≡ nat_lt (length (in_air updates robot shots)) 2 }
+    {
+        may_fire(self.slots.as_slice(), robot)
+    }
+
+    /// Fires a missile of a robot.
+    pub fn fire(&mut self, robot: usize, missile: Missile)
+        requires inside { robot < length self.old }
+        requires free { nat_lt (length (slice_index_or self.old robot [])) 2 ≡ true }
+        ensures shots { (updates : ℕ) (shots : List Shot) → updates < missile.burst → HoldsShots updates self.old shots
+            → HoldsShots updates self.new (shots ++ shot_of robot missile ∷ []) }
+        ensures two { All (λ s. length s ≤ 2) self.old → All (λ s. length s ≤ 2) self.new }
+        ensures count { length self.new ≡ length self.old }
+    {
+        fire(self.slots.as_mut_slice(), robot, missile);
+        self.next = self.next.min(missile.burst());
+    }
+
+    /// Reports whether no missile bursts up to an update: then nothing is hurt anywhere.
+    pub fn is_quiet(&self, update: u32) -> bool
+        ensures { result ≡ true → (updates : ℕ) (shots : List Shot) (x y : ℕ) → update ≡ updates + 1
+            → HoldsShots updates self.now shots → sum (bursts update shots x y) ≡ 0 }
+    {
+        update < self.next
+    }
+
+    /// The damage that the bursts of an update do at a place in tenths of a metre.
+    pub fn damage_at(&self, update: u32, x: u16, y: u16) -> u8
+        requires x { x ≤ 9999 }
+        requires y { y ≤ 9999 }
+        ensures most { result ≤ 80 }
+        ensures shots { (updates : ℕ) (shots : List Shot) → update ≡ updates + 1 → HoldsShots updates self.now shots
+            → result ≡ sum (bursts update shots x y) }
+    {
+        if self.is_quiet(update) {
+            return 0;
+        }
+        damage_at(self.slots.as_slice(), update, x, y)
+    }
+
+    /// Frees the missiles that burst in an update or before.
+    pub fn land(&mut self, update: u32)
+        ensures shots { (updates : ℕ) (shots : List Shot) → update ≡ updates + 1 → HoldsShots updates self.old shots
+            → HoldsShots update self.new shots }
+        ensures two { All (λ s. length s ≤ 2) self.old → All (λ s. length s ≤ 2) self.new }
+        ensures count { length self.new ≡ length self.old }
+    {
+        if update < self.next {
+            return;
+        }
+        land(self.slots.as_mut_slice(), update);
+        self.next = next_burst(self.slots.as_slice());
+    }
+}
