@@ -1,11 +1,8 @@
 -- Files of a main alone, as the tests tell them.
-use Rattle.std.specs.Prelude.{ℕ, suc, zero, ◌≡◌, ◌<◌, [], ◌∷◌, codes, map, Some, slice_get}
-use Rattle.std.proofs.Common.{sym, ap, arith, inl, inr}
-use Rattle.grammar.specs.Compiled.{main_name}
+use Rattle.std.specs.Prelude.{ℕ, suc, zero, ◌≡◌, ◌<◌, [], ◌∷◌, Some, slice_get}
+use Rattle.std.proofs.Common.{sym, arith, inl, inr}
 use Rattle.grammar.specs.KnownSources.{file_of_main, main_of, shot_tree}
-use Rattle.grammar.specs.Pools.{Names, FunctionNames}
 use Rattle.grammar.specs.Resolved.{InBody, InFile, IsResolved}
-use Rattle.grammar.specs.Scope.{number_of_name}
 use Rattle.grammar.specs.Tree.{Body, Done, Function, File}
 
 file_resolved : (body : Body) → InBody 0 0 1 body → IsResolved (file_of_main [] body)
@@ -24,10 +21,6 @@ file_resolved body inside = record {
         let same : main_of [] body ≡ f = cc in
         rw (sym same) (record { parameters = omega arith; variables = omega arith; body = inside })
     each (suc k) f e = absurd (cc)
-
--- its one name is main
-pub main_alone : {names : Names} → names ≡ record { externals = []; functions = record { name = codes "main"; parameters = 0; variables = [] } ∷ [] } → number_of_name main_name (map (λ (f : FunctionNames). f.name) names.functions) ≡ Some 0
-main_alone e = ap (λ (n : Names). number_of_name main_name (map (λ (f : FunctionNames). f.name) n.functions)) e
 
 -- main(){}
 abbrev pub resting_file : File

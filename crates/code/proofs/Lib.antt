@@ -19,6 +19,7 @@ pub mod Programs
 pub mod Frames
 pub mod Variables
 pub mod Stacks
+pub mod Closing
 pub mod Machines
 pub mod Coasting
 pub mod Numbers

@@ -6,6 +6,7 @@ pub mod Meaning
 pub mod Making
 pub mod Told
 pub mod Finishing
+pub mod Places
 pub mod Standing
 pub mod Codes
 pub mod Laws

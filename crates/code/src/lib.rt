@@ -1,6 +1,8 @@
 //! The code of a robot program: instructions, the builder that makes them, the listing, and the machine.
 #![tactic(auto)]
 
+mod cells;
+mod cycles;
 mod frame;
 mod instr;
 mod known;
@@ -11,7 +13,7 @@ mod machine;
 mod maker;
 mod operators;
 mod program;
-mod stack;
+mod stepping;
 #[cfg(test)]
 mod tests;
 mod text;

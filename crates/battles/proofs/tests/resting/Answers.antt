@@ -2,7 +2,8 @@ use Rattle.std.proofs.Common.{refl, pos}
 use Rattle.grammar.specs.Actions.{Begin, PushConstant, GiveBack, Finish}
 use Rattle.grammar.specs.Following.{most_open, most_numbers}
 use Rattle.code.proofs.Told.{follows}
-use Rattle.battles.proofs.TestFiles.{main_alone, resting_file, resting_resolved}
+use Rattle.code.proofs.TestFiles.{main_alone}
+use Rattle.battles.proofs.TestFiles.{resting_file, resting_resolved}
 use Rattle.battles.proofs.tests.resting.Goals as goal
 
 pub begin_function-requires : goal.begin_function-requires

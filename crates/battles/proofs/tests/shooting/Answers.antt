@@ -4,7 +4,8 @@ use Rattle.grammar.specs.declared.names.Callee.TheVariants as callee
 use Rattle.grammar.specs.declared.names.Intrinsic.TheVariants as intrinsic
 use Rattle.grammar.specs.Following.{most_open, most_numbers}
 use Rattle.code.proofs.Told.{follows}
-use Rattle.battles.proofs.TestFiles.{main_alone, shooting_file, shooting_resolved}
+use Rattle.code.proofs.TestFiles.{main_alone}
+use Rattle.battles.proofs.TestFiles.{shooting_file, shooting_resolved}
 use Rattle.battles.proofs.tests.shooting.Goals as goal
 
 pub begin_function-requires : goal.begin_function-requires
