@@ -32,6 +32,7 @@ use tokens::{Feed, Punctuator, Token, Word};
 /// the builder was refused memory. With `Device` the builder stands for the actions of each function after whose closing
 /// brace three more tokens were read, and perhaps for further ones. Of a builder that refused an action nothing is
 /// promised: it is given up.
+#[inline(never)]
 pub fn parse<F: Feed, B: Build>(feed: &mut F, build: &mut B) -> Result<Pools, ParseFault>
     requires new { IsNew (B.stands build.old) }
     requires count { F.failures feed.old < 2 ^ 64 - 1 }
