@@ -1,5 +1,5 @@
 use Rattle.std.proofs.Common.{◌≡◌, true, false, sym, ap, ◌∙◌, refl}
-use Rattle.arena.specs.Scan.{sees, square_to, nearer}
+use Rattle.arena.specs.Scan.{sees, nearer}
 use Rattle.arena.proofs.Nearest.{either_way}
 use Rattle.arena.proofs.scans.nearer.Goals as goal
 
