@@ -2,28 +2,14 @@
 use Rattle.std.proofs.Common.{ℕ, ◌+◌, ◌≤◌, List, [], ◌∷◌, ◌++◌, refl, sym, ◌∙◌, subst, Bool, true, false, arith, append_assoc}
 use Rattle.std.specs.Prelude.{Option, Some, None, is_some, IsTrue, if◌then◌else◌}
 use Rattle.grammar.specs.Actions.{Action}
+use Rattle.grammar.specs.Beginning.{IsBeginning}
 use Rattle.grammar.specs.Building.{Meaning, AppendsAll, MayFollow, MayFollowAll, StandsOpen}
-use Rattle.grammar.specs.Following.{Open, AValue, Opened, IsBeginning, few_open, follow, follow_all, then_follow, open_count}
+use Rattle.grammar.specs.Following.{Open, AValue, Opened, few_open, follow, follow_all, then_follow, open_count}
 use Rattle.grammar.specs.Tree.{Args, NoMore, Argument}
+use Rattle.grammar.proofs.Beginnings.{begins_with, follows_begins}
 use Rattle.grammar.proofs.FollowingLaws.{Leads, follow_append, origin_of, pushed}
 use Rattle.grammar.proofs.StandingLaws.{stands_then}
 use Rattle.parsing.specs.Room.{HasRoom}
-
--- what stands in front of others in a beginning is one too
-
-guarded_front : (b : Bool) (whole front : Option Opened) → (IsTrue (is_some whole) → IsTrue (is_some front)) →
-    IsTrue (is_some (if b then whole else None)) → IsTrue (is_some (if b then front else None))
-guarded_front true whole front again h = again h
-guarded_front false whole front again h = h
-
-front_then : (xs ys : List Action) (next : Option Opened) → ((p : Opened) → IsTrue (is_some (follow_all (xs ++ ys) p)) → IsTrue (is_some (follow_all xs p))) →
-    IsTrue (is_some (then_follow (follow_all (xs ++ ys)) next)) → IsTrue (is_some (then_follow (follow_all xs) next))
-front_then xs ys None again h = h
-front_then xs ys (Some p) again h = guarded_front (few_open p) (follow_all (xs ++ ys) p) (follow_all xs p) (again p) h
-
-front_of : (xs ys : List Action) (o : Opened) → IsTrue (is_some (follow_all (xs ++ ys) o)) → IsTrue (is_some (follow_all xs o))
-front_of [] ys o h = refl
-front_of (x ∷ xs) ys o h = front_then xs ys (follow x o) (λ p. front_of xs ys p) h
 
 -- the first of several actions
 pub first_follows : (before : Meaning) (action : Action) (more : List Action) → MayFollowAll before (action ∷ more) → MayFollow before action
@@ -31,7 +17,7 @@ first_follows before action more f = record {
   profile = f.profile;
   acts = f.acts;
   stood = f.stood;
-  begins = front_of (f.acts ++ action ∷ []) more [] (subst (λ (xs : List Action). IsBeginning xs) (sym (append_assoc f.acts (action ∷ []) more)) f.begins);
+  begins = begins_with (f.acts ++ action ∷ []) more (subst (λ (xs : List Action). IsBeginning xs) (sym (append_assoc f.acts (action ∷ []) more)) f.begins);
 }
 
 -- the others, once the first were told
@@ -53,7 +39,7 @@ all_follow before opened next more s leads = record {
   profile = s.profile;
   acts = s.acts;
   stood = s.stood;
-  begins = rw (follow_append s.acts more [] opened s.opens ∙ leads.is) refl;
+  begins = follows_begins (s.acts ++ more) (rw (follow_append s.acts more [] opened s.opens ∙ leads.is) refl);
 }
 
 -- actions told one behind another

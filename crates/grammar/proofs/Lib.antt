@@ -13,6 +13,9 @@ pub mod Widening
 pub mod FollowingLaws
 pub mod StandingLaws
 pub mod Lengths
+pub mod Unfinished
+pub mod UnfinishedSteps
+pub mod Beginnings
 pub mod Phases
 pub mod Soundness
 pub mod ResolvedLaws

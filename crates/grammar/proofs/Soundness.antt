@@ -51,7 +51,7 @@ argument_in : (e l n : ℕ) (args : Args) (x : Expr) → InArgs e l n args → I
 argument_in e l n tree.NoMore x h k = (k, tt)
 argument_in e l n (tree.Argument a rest) x h k = (h.0, argument_in e l n rest x h.1 k)
 
-join_in : (e l n : ℕ) (b c : Body) → InBody e l n b → InBody e l n c → InBody e l n (join b c)
+pub join_in : (e l n : ℕ) (b c : Body) → InBody e l n b → InBody e l n c → InBody e l n (join b c)
 join_in e l n tree.Done c h k = k
 join_in e l n (tree.ExpressionStatement a rest) c h k = (h.0, join_in e l n rest c h.1 k)
 join_in e l n (tree.IfStatement a s rest) c h k = (h.0, h.1, join_in e l n rest c h.2 k)

@@ -3,7 +3,8 @@ use Rattle.std.specs.Prelude.{◌≡◌, ◌+◌, ◌<◌, ◌≤◌, List, [], 
 use Rattle.grammar.specs.declared.build.BuildFault.{BuildFault}
 use Rattle.grammar.specs.declared.build.BuildFault.TheVariants as fault
 use Rattle.grammar.specs.Actions.{Action, code_length}
-use Rattle.grammar.specs.Following.{Opened, follow_all, IsBeginning}
+use Rattle.grammar.specs.Beginning.{IsBeginning}
+use Rattle.grammar.specs.Following.{Opened, follow_all}
 use Rattle.grammar.specs.Profile.{Profile}
 
 -- the profiles by which a builder goes, with the lists of actions that it stands for

@@ -144,6 +144,6 @@ abbrev pub follow_all : List Action → Opened → Option Opened
 follow_all [] opened = Some opened
 follow_all (action ∷ acts) opened = then_follow (follow_all acts) (follow action opened)
 
--- the actions are a beginning of those of some functions
-abbrev pub IsBeginning : List Action → Type 0
-IsBeginning acts = IsTrue (is_some (follow_all acts []))
+-- each action may follow those before it
+abbrev pub AreInOrder : List Action → Type 0
+AreInOrder acts = IsTrue (is_some (follow_all acts []))

@@ -17,7 +17,8 @@ use Rattle.grammar.specs.declared.operators.Op.TheVariants as op
 use Rattle.grammar.specs.declared.operators.StoreOp.TheVariants as store
 use Rattle.grammar.specs.Actions.{Action, PushConstant, FetchVariable, ApplyBinop, LogicMiddle, BeginCall, EndCall, IfTest, ElsePart, GiveBack, Chop, Begin, Finish, actions, code_length, function_actions}
 use Rattle.grammar.specs.Compiled.{compiled_tokens, diagnostic}
-use Rattle.grammar.specs.Following.{Opened, follow_all, InFunction, AValue, Computed, IsBeginning}
+use Rattle.grammar.specs.Beginning.{IsBeginning}
+use Rattle.grammar.specs.Following.{Opened, follow_all, InFunction, AValue, Computed}
 use Rattle.grammar.specs.Need.{need_tokens, built_tokens}
 use Rattle.grammar.specs.Profile.{Profile, first_profile}
 use Rattle.grammar.specs.Tree.{Expr, Constant, Variable, Binary, Assign, Postfix, Call, NoMore, Argument, Body, Done, ExpressionStatement, IfStatement, IfElseStatement, While, Return, Function, File}

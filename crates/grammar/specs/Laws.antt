@@ -10,7 +10,8 @@ use Rattle.grammar.specs.Derivation.{State, state, Value, Definition, start, ste
 use Rattle.grammar.specs.Faults.{Fault, faults_at, levels}
 use Rattle.grammar.specs.Actions.{Action, actions}
 use Rattle.grammar.specs.Building.{Meaning, MayFollow, StandsOpen}
-use Rattle.grammar.specs.Following.{Opened, follow, follow_all, open_count}
+use Rattle.grammar.specs.Beginning.{IsBeginning}
+use Rattle.grammar.specs.Following.{AreInOrder, Opened, follow, follow_all, open_count}
 use Rattle.grammar.specs.Grammar.{Symbol, Declarations, Statements, Item, Part, Make, Define, Production, choice, opens}
 use Rattle.grammar.specs.Need.{need}
 use Rattle.grammar.specs.Nesting.{body_nesting}
@@ -53,6 +54,13 @@ abbrev pub EachFileFollows : Type 0
 EachFileFollows = (file : File) → IsResolved file
     → ((k : ℕ) (f : Function) → slice_get file.functions k ≡ Some f → body_nesting f.body ≤ 200) →
     follow_all (actions file) [] ≡ Some []
+
+-- actions are a beginning of those of some functions exactly where each may follow those before it
+abbrev pub BeginningsAreInOrder : Type 0
+BeginningsAreInOrder = (acts : List Action) → IsBeginning acts → AreInOrder acts
+
+abbrev pub WhatIsInOrderBegins : Type 0
+WhatIsInOrderBegins = (acts : List Action) → AreInOrder acts → IsBeginning acts
 
 -- a file that compiles is resolved
 abbrev pub CompiledIsResolved : Type 0

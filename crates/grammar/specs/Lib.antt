@@ -11,6 +11,7 @@ pub mod Faults
 pub mod Compiled
 pub mod Need
 pub mod Following
+pub mod Beginning
 pub mod Resolved
 pub mod Nesting
 pub mod Building

@@ -1,7 +1,7 @@
 //! Laws on the definitions of the language.
 
 ghost use Rattle.grammar.specs.Finished.{Finished, Undefined, WithoutMain};
-ghost use Rattle.grammar.specs.Laws.{BlocksKeepTheFunction, CompiledIsResolved, EachDerivationEnds, EachFileFollows, FaultlessIsResolved, FirstFaultDecides, LevelsAreClosed, MayBeTold, WhatWasReadIsNeeded};
+ghost use Rattle.grammar.specs.Laws.{BeginningsAreInOrder, BlocksKeepTheFunction, CompiledIsResolved, EachDerivationEnds, EachFileFollows, FaultlessIsResolved, FirstFaultDecides, LevelsAreClosed, MayBeTold, WhatIsInOrderBegins, WhatWasReadIsNeeded};
 
 use crate::build::Build;
 
@@ -39,6 +39,12 @@ pub fn blocks()
 /// The actions of a file may follow one another.
 pub fn actions()
     ensures { EachFileFollows }
+{}
+
+/// Actions are a beginning of those of some functions exactly if each may follow those before it.
+pub fn beginnings()
+    ensures in_order { BeginningsAreInOrder }
+    ensures begins { WhatIsInOrderBegins }
 {}
 
 /// A file that compiles is resolved: its names are within the pools, and each function is defined once.

@@ -12,7 +12,8 @@ use Rattle.grammar.specs.declared.operators.StoreOp.TheVariants as store
 use Rattle.grammar.specs.KnownSources.{a, b, f, x, scan, number, return, ro, rc, co, cc, end, comma, equals}
 use Rattle.grammar.specs.Tree as tree
 use Rattle.grammar.specs.Tree.{Expr, Args, Body}
-use Rattle.round_trip.specs.Written.{Minus, Up, Expression, Constant, Variable, Binary, Signed, Assign, StepBehind, Call, NoMore, Argument, Statement, Evaluate, IfElse, While, Return, Done, Next}
+use Rattle.round_trip.specs.Written.{Minus, Up, Expression, Constant, Variable, Binary, Signed, Assign, StepBehind}
+use Rattle.round_trip.specs.Written.{Call, NoMore, Argument, Statement, Evaluate, IfElse, While, Return, Done, Next}
 use Rattle.round_trip.specs.Spelling.{spell, spell_statement, in_main}
 use Rattle.round_trip.specs.Resolving.{tree_of, body_of}
 use Rattle.round_trip.specs.Laws.{in_body}
@@ -25,7 +26,9 @@ variable n = tree.Variable (var.Local n)
 
 -- x = a - (b - 1)
 abbrev pub difference : Expression
-difference = Assign store.Set (codes "x") (Binary op.Subtract (Variable (codes "a")) (Binary op.Subtract (Variable (codes "b")) (Constant 1)))
+difference =
+    Assign store.Set (codes "x")
+    (Binary op.Subtract (Variable (codes "a")) (Binary op.Subtract (Variable (codes "b")) (Constant 1)))
 
 -- x = (a - (b - 1))
 abbrev pub difference_tokens : List Token

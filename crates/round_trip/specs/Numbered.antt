@@ -9,7 +9,9 @@ use Rattle.grammar.specs.Faults.{faults_in}
 use Rattle.grammar.specs.Grammar.{Item, AName, Make, Define, Role, Called, Mentioned, is_fault}
 use Rattle.grammar.specs.Profile.{Profile}
 use Rattle.grammar.specs.Tree.{Function, File, NoMore}
-use Rattle.round_trip.specs.Numbering.{Says, Ends, History, HasNumber, IsVariableOf, IsCalleeOf, defined_name, distinct, external_names, function_names, own_names, parameter_count}
+use Rattle.round_trip.specs.Numbering.{Says, Ends, History, HasNumber, IsVariableOf, IsCalleeOf}
+use Rattle.round_trip.specs.Numbering.{defined_name, distinct, external_names, function_names, own_names}
+use Rattle.round_trip.specs.Numbering.{parameter_count}
 
 -- What a derivation said.
 

@@ -7,7 +7,10 @@ use Rattle.grammar.specs.Grammar.{Called, Mentioned}
 use Rattle.grammar.specs.Scope.{Scope, behind_name, variable_of, callee_of}
 use Rattle.grammar.specs.Tree as tree
 use Rattle.grammar.specs.Tree.{Expr, Args, Body, join}
-use Rattle.round_trip.specs.Written.{Sign, Minus, Not, Tilde, Step, Up, Down, Expression, Constant, Variable, Binary, Signed, Assign, StepBefore, StepBehind, Call, Arguments, NoMore, Argument, Statement, Nothing, Evaluate, If, IfElse, While, Return, ReturnValue, Block, Statements, Done, Next}
+use Rattle.round_trip.specs.Written.{Sign, Minus, Not, Tilde, Step, Up, Down, Expression, Constant, Variable, Binary}
+use Rattle.round_trip.specs.Written.{Signed, Assign, StepBefore, StepBehind, Call, Arguments, NoMore, Argument}
+use Rattle.round_trip.specs.Written.{Statement, Nothing, Evaluate, If, IfElse, While, Return, ReturnValue, Block}
+use Rattle.round_trip.specs.Written.{Statements, Done, Next}
 
 -- what is known behind a variable's name
 abbrev pub mentioned : List ℕ → Scope → Scope

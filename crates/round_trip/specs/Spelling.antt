@@ -9,7 +9,10 @@ use Rattle.grammar.specs.declared.operators.Op.{Op}
 use Rattle.grammar.specs.declared.operators.Op.TheVariants as op
 use Rattle.grammar.specs.declared.operators.StoreOp.{StoreOp}
 use Rattle.grammar.specs.declared.operators.StoreOp.TheVariants as store
-use Rattle.round_trip.specs.Written.{Sign, Minus, Not, Tilde, Step, Up, Down, Expression, Constant, Variable, Binary, Signed, Assign, StepBefore, StepBehind, Call, Arguments, NoMore, Argument, Statement, Nothing, Evaluate, If, IfElse, While, Return, ReturnValue, Block, Statements, Done, Next}
+use Rattle.round_trip.specs.Written.{Sign, Minus, Not, Tilde, Step, Up, Down, Expression, Constant, Variable, Binary}
+use Rattle.round_trip.specs.Written.{Signed, Assign, StepBefore, StepBehind, Call, Arguments, NoMore, Argument}
+use Rattle.round_trip.specs.Written.{Statement, Nothing, Evaluate, If, IfElse, While, Return, ReturnValue, Block}
+use Rattle.round_trip.specs.Written.{Statements, Done, Next}
 
 -- the punctuator of a binary operator
 abbrev pub binary_punctuator : Op → Punctuator

@@ -2,7 +2,8 @@
 
 ghost use Rattle.round_trip.specs.KnownSpellings.{KnownSpellings};
 ghost use Rattle.round_trip.specs.Laws.{GivesBackExpressions, GivesBackStatements};
-ghost use Rattle.round_trip.specs.Numbered.{CallsAreNumbered, DefinitionsAreNumbered, FilesAreNumbered, MentionsAreNumbered};
+ghost use Rattle.round_trip.specs.Numbered.{CallsAreNumbered, DefinitionsAreNumbered, FilesAreNumbered};
+ghost use Rattle.round_trip.specs.Numbered.{MentionsAreNumbered};
 
 use grammar::laws::derivations;
 
@@ -17,9 +18,9 @@ pub fn bracketed()
     derivations();
 }
 
-/// The variables and functions of a derivation have the numbers of the rules on names: the number of a name is its place
-/// among the distinct names that were said up to its token. A mention means a variable of the function, or else an
-/// external.
+/// The variables and functions of a derivation have the numbers of the rules on names: the number of a name is its
+/// place among the distinct names that were said up to its token. A mention means a variable of the function, or else
+/// an external.
 pub fn numbered()
     ensures mentions { MentionsAreNumbered }
     ensures calls { CallsAreNumbered }

@@ -8,10 +8,12 @@ use Rattle.grammar.specs.declared.names.Var.{Var}
 use Rattle.grammar.specs.declared.operators.Op.{Op}
 use Rattle.grammar.specs.declared.operators.StoreOp.{StoreOp}
 use Rattle.grammar.specs.Actions.{Action, PushConstant, StoreVariable, ApplyBinop, BeginCall, EndCall, IfTest, ElsePart, EndIf, BeginWhile, WhileTest, EndWhile, GiveBack, Begin, Finish, last_return, args_actions, body_actions, expr_actions, function_actions, middle, code_length}
+use Rattle.grammar.specs.Beginning.{IsBeginning}
 use Rattle.grammar.specs.Building.{Meaning, MayFollow, MayFollowAll, StandsOpen, AppendsAll, Appends, IsOver}
-use Rattle.grammar.specs.Following.{Opened, few_open, follow, follow_all, then_follow, IsBeginning}
+use Rattle.grammar.specs.Following.{Opened, few_open, follow, follow_all, then_follow}
 use Rattle.grammar.specs.Profile.{Profile}
 use Rattle.grammar.specs.Tree.{Done}
+use Rattle.grammar.proofs.Beginnings.{begins_with, follows_begins}
 use Rattle.grammar.proofs.Lengths.{code_length-append}
 use Rattle.trees.specs.Opened.{opened, open_actions}
 use Rattle.trees.specs.Replaying.{AppendsThose, StandsForNone, IsOverWith, IsOverWithThose}
@@ -26,27 +28,14 @@ use Rattle.trees.specs.declared.tree.Statement.TheVariants as statement
 use Rattle.trees.proofs.StandingLaws.{follow_inside}
 use Rattle.trees.proofs.TreeLaws.{Tells, tells_arguments, tells_functions, tells_last, tells_split, tells_statements, tree-Binary, tree-Assign, tree-Call, tree-IfStatement, tree-IfElseStatement, tree-While}
 
--- what begins actions that may follow may follow
-begins_front : (xs ys : List Action) (o : Opened) → IsTrue (is_some (follow_all (xs ++ ys) o)) → IsTrue (is_some (follow_all xs o))
-begins_front [] ys o h = refl
-begins_front (x ∷ xs) ys o h = next (follow x o) h (λ q k. begins_front xs ys q k)
-  where
-    next : (q : Option Opened) → IsTrue (is_some (then_follow (follow_all (xs ++ ys)) q)) → ((p : Opened) → IsTrue (is_some (follow_all (xs ++ ys) p)) → IsTrue (is_some (follow_all xs p))) → IsTrue (is_some (then_follow (follow_all xs) q))
-    next None k again = absurd (cc)
-    next (Some p) k again = guarded (few_open p) k
-      where
-        guarded : (b : Bool) → IsTrue (is_some (if b then follow_all (xs ++ ys) p else None)) → IsTrue (is_some (if b then follow_all xs p else None))
-        guarded true j = again p j
-        guarded false j = absurd (cc)
-
 -- the first of some actions may follow
 pub may_front : (before : Meaning) (xs ys : List Action) → MayFollowAll before (xs ++ ys) → MayFollowAll before xs
 may_front before xs ys may =
-    record { profile = may.profile; acts = may.acts; stood = may.stood; begins = begins_front (may.acts ++ xs) ys [] (subst IsBeginning (sym (append_assoc may.acts xs ys)) may.begins) }
+    record { profile = may.profile; acts = may.acts; stood = may.stood; begins = begins_with (may.acts ++ xs) ys (subst IsBeginning (sym (append_assoc may.acts xs ys)) may.begins) }
 
 pub may_first : (before : Meaning) (x : Action) (xs : List Action) → MayFollowAll before (x ∷ xs) → MayFollow before x
 may_first before x xs may =
-    record { profile = may.profile; acts = may.acts; stood = may.stood; begins = begins_front (may.acts ++ x ∷ []) xs [] (subst IsBeginning (sym (append_assoc may.acts (x ∷ []) xs)) may.begins) }
+    record { profile = may.profile; acts = may.acts; stood = may.stood; begins = begins_with (may.acts ++ x ∷ []) xs (subst IsBeginning (sym (append_assoc may.acts (x ∷ []) xs)) may.begins) }
 
 -- where the first ones were told, the others may follow
 pub may_then : (before behind : Meaning) (xs ys : List Action) → AppendsAll before behind xs → MayFollowAll before (xs ++ ys) → MayFollowAll behind ys
@@ -177,7 +166,7 @@ is_done_at m s fits =
     let none : opened m.stack ≡ [] = cc in
     let each : (p : Profile) (acts : List Action) → Stands m p acts → acts ≡ made_actions m.functions =
     λ p acts t. (t.builds fits).actions ∙ ap (λ xs. made_actions m.functions ++ xs) (nothing_actions m.stack none) ∙ append-nil (made_actions m.functions) in
-    record { begins = subst IsBeginning (each s.profile s.acts s.stood) (rw s.opens refl); each = each }
+    record { begins = subst IsBeginning (each s.profile s.acts s.stood) (follows_begins s.acts (rw s.opens refl)); each = each }
 
 pub is_done : (m : Kept) → StandsOpen (λ p acts. Stands m p acts) [] → IsDone m
 is_done m s = by_code (nat_lt m.code m.profile.instructions) refl

@@ -9,6 +9,7 @@ use Rattle.grammar.specs.Building.{MayFollow, Appends, FitsWithin, IsOver}
 use Rattle.grammar.specs.Following.{Open, InFunction, AValue, BeforeRight, InCall, InBranch, InElse, BeforeTest, InTurn, Opened, Computed, few_open, follow, follow_all, then_follow, within, only_on, is_place, statement_done, call_done, is_var_numbered, is_callee_numbered}
 use Rattle.grammar.specs.Operators.{is_logic}
 use Rattle.grammar.specs.Profile.{Profile, first_profile, second_profile, IsProfile}
+use Rattle.grammar.proofs.Beginnings.{beginning_follows}
 use Rattle.grammar.proofs.FollowingLaws.{follow_append}
 use Rattle.grammar.proofs.Lengths.{code_length-last}
 use Rattle.trees.specs.Opened.{Continues, Ends, IsAllowed, opened, open_actions}
@@ -50,7 +51,7 @@ next_of : (m : Kept) (a : Action) → Fits m → MayFollow (λ p acts. Stands m 
 next_of m a fits may =
     let b : Builds m may.acts = may.stood.builds fits in
     next_one a (opened m.stack) (follow a (opened m.stack)) refl
-    (subst (λ o. IsTrue (is_some o)) (follow_append may.acts (a ∷ []) [] (opened m.stack) b.opens) may.begins)
+    (subst (λ o. IsTrue (is_some o)) (follow_append may.acts (a ∷ []) [] (opened m.stack) b.opens) (beginning_follows (may.acts ++ a ∷ []) may.begins))
 
 pub allowed : (m : Kept) (a : Action) → Fits m → MayFollow (λ p acts. Stands m p acts) a → IsAllowed a m.stack
 allowed m a fits may = let next : Next a (opened m.stack) = next_of m a fits may in rw next.is refl

@@ -1,8 +1,11 @@
 -- What stands on the stack of a maker: the actions that it was made of, and what it leaves open.
 use Rattle.std.specs.Prelude.{ℕ, ◌≡◌, List, [], ◌∷◌, ◌++◌, Bool, false, Some, is_some, IsTrue}
-use Rattle.grammar.specs.Actions.{Action, BeginCall, IfTest, ElsePart, BeginWhile, WhileTest, Begin, Finish, expr_actions, body_actions, function_actions, middle}
-use Rattle.grammar.specs.Following.{Open, InFunction, AValue, BeforeRight, InCall, InBranch, InElse, BeforeTest, InTurn, Opened, Origin, Number, Fetched, Computed, stored, is_number, follow}
-use Rattle.grammar.specs.Tree.{Expr, Constant, Variable, Binary, Assign, Postfix, Call, Body, Done, ExpressionStatement, IfStatement, IfElseStatement, While, Return}
+use Rattle.grammar.specs.Actions.{Action, BeginCall, IfTest, ElsePart, BeginWhile, WhileTest, Begin, Finish}
+use Rattle.grammar.specs.Actions.{expr_actions, body_actions, function_actions, middle}
+use Rattle.grammar.specs.Following.{Open, InFunction, AValue, BeforeRight, InCall, InBranch, InElse, BeforeTest, InTurn}
+use Rattle.grammar.specs.Following.{Opened, Origin, Number, Fetched, Computed, stored, is_number, follow}
+use Rattle.grammar.specs.Tree.{Expr, Constant, Variable, Binary, Assign, Postfix, Call, Body, Done, ExpressionStatement}
+use Rattle.grammar.specs.Tree.{IfStatement, IfElseStatement, While, Return}
 use Rattle.trees.specs.Trees.{expr_tree, body_tree, function_tree}
 use Rattle.trees.specs.declared.tree.Function.{Function}
 use Rattle.trees.specs.declared.stack.Heading.{Heading}

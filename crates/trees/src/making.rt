@@ -1,7 +1,9 @@
 //! The trees that each action makes of what is open.
 
 ghost use Rattle.std.specs.Prelude.{◌≡◌, OnOk, true};
-ghost use Rattle.grammar.specs.Actions.{PushConstant, FetchVariable, StoreVariable, ApplyBinop, LogicMiddle, BeginCall, EndCall, IfTest, ElsePart, EndIf, BeginWhile, WhileTest, EndWhile, GiveBack, Chop, Begin, Finish};
+ghost use Rattle.grammar.specs.Actions.{PushConstant, FetchVariable, StoreVariable, ApplyBinop, LogicMiddle, BeginCall};
+ghost use Rattle.grammar.specs.Actions.{EndCall, IfTest, ElsePart, EndIf, BeginWhile, WhileTest, EndWhile, GiveBack};
+ghost use Rattle.grammar.specs.Actions.{Chop, Begin, Finish};
 ghost use Rattle.grammar.specs.Building.{Refuses};
 ghost use Rattle.trees.specs.Opened.{Continues, Ends, IsAllowed};
 ghost use Rattle.trees.specs.Stacks.{without_last};

@@ -1,7 +1,9 @@
 //! Tells the trees to a builder, action by action.
 
 ghost use Rattle.std.specs.Prelude.{ℤ, pos, [], ◌∷◌, ◌++◌, IsErrOf, IsTrue, OnOk, map};
-ghost use Rattle.grammar.specs.Actions.{BeginWhile, Chop, FetchVariable, GiveBack, IfTest, PushConstant, StoreVariable, WhileTest, args_actions, body_actions, expr_actions, function_actions, last_return, middle};
+ghost use Rattle.grammar.specs.Actions.{BeginWhile, Chop, FetchVariable, GiveBack, IfTest, PushConstant, StoreVariable};
+ghost use Rattle.grammar.specs.Actions.{WhileTest, args_actions, body_actions, expr_actions, function_actions};
+ghost use Rattle.grammar.specs.Actions.{last_return, middle};
 ghost use Rattle.grammar.specs.Building.{AppendsAll, MayFollowAll, Refuses, StandsOpen};
 ghost use Rattle.trees.specs.Replaying.{AppendsThose, IsOverWith, IsOverWithThose, StandsForNone};
 ghost use Rattle.trees.specs.Standing.{Stands};

@@ -3,7 +3,8 @@
 ghost use Rattle.std.specs.Prelude.{◌≡◌, ◌≢◌, List, [], ◌∷◌, IfOk, OnOk, true};
 ghost use Rattle.grammar.specs.Building.{Refuses};
 ghost use Rattle.trees.specs.declared.stack.Open.TheVariants.{Value, Body as the_body};
-ghost use Rattle.trees.specs.Stacks.{AddsTo, Begins, above_call, below, below_call, ends_in_body, ends_in_value, past_middle};
+ghost use Rattle.trees.specs.Stacks.{AddsTo, Begins, above_call, below, below_call, ends_in_body, ends_in_value};
+ghost use Rattle.trees.specs.Stacks.{past_middle};
 
 use crate::memory::put;
 use crate::tree::{Expr, Statement};

@@ -1,0 +1,164 @@
+-- Functions that are not finished: what a list of actions makes that may still go on.
+use Rattle.std.proofs.Common.{◌≡◌, ℕ, ◌+◌, ◌<◌, ◌≤◌, List, [], ◌∷◌, ◌++◌, refl, Bool, true, false, arith, append_assoc}
+use Rattle.std.specs.Prelude.{Some}
+use Rattle.grammar.specs.declared.operators.Op.{Op}
+use Rattle.grammar.specs.Actions.{Action, LogicMiddle, BeginCall, IfTest, ElsePart, BeginWhile, WhileTest, Begin, expr_actions, body_actions}
+use Rattle.grammar.specs.Following.{InFunction, AValue, BeforeRight, InCall, InBranch, InElse, BeforeTest, InTurn, Open, Opened, open_count, is_place, is_number, statement_done, within}
+use Rattle.grammar.specs.Nesting.{nesting, body_nesting}
+use Rattle.grammar.specs.Operators.{is_logic}
+use Rattle.grammar.specs.Resolved.{InExpr, InBody}
+use Rattle.grammar.specs.Tree.{Expr, Body, Done, ExpressionStatement, IfStatement, IfElseStatement, While, Return, join}
+use Rattle.grammar.proofs.FollowingLaws.{origin_of}
+use Rattle.grammar.proofs.Soundness.{join_in}
+
+-- a body whose statements are not all there, with what stands around it
+pub data Place : Type 0 where
+  InFun : (number parameters : ℕ) (b : Body) → Place
+  InFirst : (c : Expr) (b : Body) (outer : Place) → Place
+  InSecond : (c : Expr) (s b : Body) (outer : Place) → Place
+  InLoop : (c : Expr) (b : Body) (outer : Place) → Place
+
+-- where a value may come
+pub data Hole : Type 0 where
+  Statement : (p : Place) → Hole
+  Test : (p : Place) → Hole  -- the condition of a while
+  Behind : (e : Expr) (h : Hole) → Hole  -- a value that is still to be used
+  RightSide : (op : Op) (e : Expr) (h : Hole) → Hole  -- the right side of && or ||, behind its left side
+  Arguments : (h : Hole) → Hole
+
+-- whether the last of these statements is `return 0;`
+abbrev pub returned : Bool → Body → Bool
+returned before Done = before
+returned before (ExpressionStatement e rest) = returned false rest
+returned before (IfStatement c s rest) = returned false rest
+returned before (IfElseStatement c s t rest) = returned false rest
+returned before (While c s rest) = returned false rest
+returned before (Return e rest) = returned (is_number 0 (origin_of e)) rest
+
+abbrev pub open_place : Place → Opened
+open_place (InFun n k b) = InFunction k (returned false b) ∷ []
+open_place (InFirst c b outer) = InBranch ∷ open_place outer
+open_place (InSecond c s b outer) = InElse ∷ open_place outer
+open_place (InLoop c b outer) = InTurn ∷ open_place outer
+
+abbrev pub open_hole : Hole → Opened
+open_hole (Statement p) = open_place p
+open_hole (Test p) = BeforeTest ∷ open_place p
+open_hole (Behind e h) = AValue (origin_of e) ∷ open_hole h
+open_hole (RightSide op e h) = BeforeRight op ∷ AValue (origin_of e) ∷ open_hole h
+open_hole (Arguments h) = InCall ∷ open_hole h
+
+abbrev pub place_actions : Place → List Action
+place_actions (InFun n k b) = Begin n k ∷ body_actions b
+place_actions (InFirst c b outer) = place_actions outer ++ (expr_actions c ++ IfTest ∷ body_actions b)
+place_actions (InSecond c s b outer) = place_actions outer ++ (expr_actions c ++ IfTest ∷ (body_actions s ++ ElsePart ∷ body_actions b))
+place_actions (InLoop c b outer) = place_actions outer ++ BeginWhile ∷ (expr_actions c ++ WhileTest ∷ body_actions b)
+
+abbrev pub hole_actions : Hole → List Action
+hole_actions (Statement p) = place_actions p
+hole_actions (Test p) = place_actions p ++ BeginWhile ∷ []
+hole_actions (Behind e h) = hole_actions h ++ expr_actions e
+hole_actions (RightSide op e h) = (hole_actions h ++ expr_actions e) ++ LogicMiddle op ∷ []
+hole_actions (Arguments h) = hole_actions h ++ BeginCall ∷ []
+
+abbrev pub place_count : Place → ℕ
+place_count p = open_count (open_place p)
+
+abbrev pub hole_count : Hole → ℕ
+hole_count h = open_count (open_hole h)
+
+-- Numbers below 64, and little enough open.
+
+pub record ExprFits (n : ℕ) (e : Expr) : Type 0 where
+  pub names : InExpr 64 64 64 e
+  pub few : n + nesting e ≤ 200
+
+pub record BodyFits (n : ℕ) (b : Body) : Type 0 where
+  pub names : InBody 64 64 64 b
+  pub few : n + body_nesting b ≤ 200
+
+abbrev pub PlaceFits : Place → Type 0
+PlaceFits (InFun n k b) = (n < 64) × (k ≤ 64) × BodyFits 0 b
+PlaceFits (InFirst c b outer) = PlaceFits outer × ExprFits (place_count outer) c × BodyFits (1 + place_count outer) b
+PlaceFits (InSecond c s b outer) = PlaceFits outer × ExprFits (place_count outer) c × BodyFits (1 + place_count outer) s × BodyFits (1 + place_count outer) b
+PlaceFits (InLoop c b outer) = PlaceFits outer × ExprFits (1 + place_count outer) c × BodyFits (1 + place_count outer) b
+
+abbrev pub HoleFits : Hole → Type 0
+HoleFits (Statement p) = PlaceFits p
+HoleFits (Test p) = PlaceFits p × (1 + place_count p ≤ 200)
+HoleFits (Behind e h) = HoleFits h × ExprFits (hole_count h) e
+HoleFits (RightSide op e h) = HoleFits h × ExprFits (hole_count h) e × (is_logic op ≡ true) × (1 + hole_count h ≤ 200)
+HoleFits (Arguments h) = HoleFits h × (1 + hole_count h ≤ 200)
+
+-- Statements one behind another.
+
+pub body_actions-join : (b s : Body) → body_actions (join b s) ≡ body_actions b ++ body_actions s
+body_actions-join Done s = refl
+body_actions-join (ExpressionStatement e rest) s = rw (body_actions-join rest s) (simp append_assoc refl)
+body_actions-join (IfStatement c t rest) s = rw (body_actions-join rest s) (simp append_assoc refl)
+body_actions-join (IfElseStatement c t u rest) s = rw (body_actions-join rest s) (simp append_assoc refl)
+body_actions-join (While c t rest) s = rw (body_actions-join rest s) (simp append_assoc refl)
+body_actions-join (Return e rest) s = rw (body_actions-join rest s) (simp append_assoc refl)
+
+returned-join : (before : Bool) (b s : Body) → returned before (join b s) ≡ returned (returned before b) s
+returned-join before Done s = refl
+returned-join before (ExpressionStatement e rest) s = returned-join false rest s
+returned-join before (IfStatement c t rest) s = returned-join false rest s
+returned-join before (IfElseStatement c t u rest) s = returned-join false rest s
+returned-join before (While c t rest) s = returned-join false rest s
+returned-join before (Return e rest) s = returned-join (is_number 0 (origin_of e)) rest s
+
+nesting-join : (n : ℕ) (b s : Body) → n + body_nesting b ≤ 200 → n + body_nesting s ≤ 200 → n + body_nesting (join b s) ≤ 200
+nesting-join n Done s h k = k
+nesting-join n (ExpressionStatement e rest) s h k = let more = nesting-join n rest s (omega (arith, h)) k in omega (arith, h, more)
+nesting-join n (IfStatement c t rest) s h k = let more = nesting-join n rest s (omega (arith, h)) k in omega (arith, h, more)
+nesting-join n (IfElseStatement c t u rest) s h k = let more = nesting-join n rest s (omega (arith, h)) k in omega (arith, h, more)
+nesting-join n (While c t rest) s h k = let more = nesting-join n rest s (omega (arith, h)) k in omega (arith, h, more)
+nesting-join n (Return e rest) s h k = let more = nesting-join n rest s (omega (arith, h)) k in omega (arith, h, more)
+
+pub fits-join : (n : ℕ) (b s : Body) → BodyFits n b → BodyFits n s → BodyFits n (join b s)
+fits-join n b s f g = record { names = join_in 64 64 64 b s f.names g.names; few = nesting-join n b s f.few g.few }
+
+-- A statement more.
+
+abbrev pub add : Body → Place → Place
+add s (InFun n k b) = InFun n k (join b s)
+add s (InFirst c b outer) = InFirst c (join b s) outer
+add s (InSecond c t b outer) = InSecond c t (join b s) outer
+add s (InLoop c b outer) = InLoop c (join b s) outer
+
+pub add_actions : (s : Body) (p : Place) → place_actions (add s p) ≡ place_actions p ++ body_actions s
+add_actions s (InFun n k b) = rw (body_actions-join b s) refl
+add_actions s (InFirst c b outer) = rw (body_actions-join b s) (simp append_assoc refl)
+add_actions s (InSecond c t b outer) = rw (body_actions-join b s) (simp append_assoc refl)
+add_actions s (InLoop c b outer) = rw (body_actions-join b s) (simp append_assoc refl)
+
+pub add_fits : (s : Body) (p : Place) → PlaceFits p → BodyFits (place_count p) s → PlaceFits (add s p)
+add_fits s (InFun n k b) f g = (f.0, f.1, fits-join 0 b s f.2 g)
+add_fits s (InFirst c b outer) f g = (f.0, f.1, fits-join (1 + place_count outer) b s f.2 g)
+add_fits s (InSecond c t b outer) f g = (f.0, f.1, f.2, fits-join (1 + place_count outer) b s f.3 g)
+add_fits s (InLoop c b outer) f g = (f.0, f.1, fits-join (1 + place_count outer) b s f.2 g)
+
+pub add_opens : (r : Bool) (s : Body) (p : Place) → ((before : Bool) → returned before s ≡ r) → statement_done r (open_place p) ≡ Some (open_place (add s p))
+add_opens r s (InFun n k b) h = rw (returned-join false b s, h (returned false b)) refl
+add_opens r s (InFirst c b outer) h = refl
+add_opens r s (InSecond c t b outer) h = refl
+add_opens r s (InLoop c b outer) h = refl
+
+-- What stands at the innermost.
+
+pub is_place_open : (p : Place) → is_place (open_place p) ≡ true
+is_place_open (InFun n k b) = refl
+is_place_open (InFirst c b outer) = refl
+is_place_open (InSecond c s b outer) = refl
+is_place_open (InLoop c b outer) = refl
+
+pub within_hole : (x : Open) (h : Hole) → within x (open_hole h) ≡ Some (x ∷ open_hole h)
+within_hole x (Statement (InFun n k b)) = refl
+within_hole x (Statement (InFirst c b outer)) = refl
+within_hole x (Statement (InSecond c s b outer)) = refl
+within_hole x (Statement (InLoop c b outer)) = refl
+within_hole x (Test p) = refl
+within_hole x (Behind e h) = refl
+within_hole x (RightSide op e h) = refl
+within_hole x (Arguments h) = refl

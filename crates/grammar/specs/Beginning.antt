@@ -1,0 +1,27 @@
+-- Which lists of actions a builder may be told: the beginnings of those of some functions.
+use Rattle.std.specs.Prelude.{◌≡◌, ◌<◌, ◌≤◌, List, [], ◌∷◌, ◌++◌, length}
+use Rattle.grammar.specs.Actions.{Action}
+use Rattle.grammar.specs.Derivation.{Definition}
+use Rattle.grammar.specs.Faults.{definitions_actions}
+use Rattle.grammar.specs.Nesting.{body_nesting}
+use Rattle.grammar.specs.Resolved.{InBody}
+
+-- a function whose numbers are below 64, its own among them, and in which at most 200 calls, ifs, whiles and right sides
+-- of && and || are open at once
+pub record IsTellable (d : Definition) : Type 0 where
+  pub number : d.number < 64
+  pub parameters : d.function.parameters ≤ length d.function.variables
+  pub variables : length d.function.variables ≤ 64
+  pub names : InBody 64 64 64 d.function.body
+  pub few : body_nesting d.function.body ≤ 200
+
+abbrev pub AreTellable : List Definition → Type 0
+AreTellable [] = Unit {0}
+AreTellable (d ∷ ds) = IsTellable d × AreTellable ds
+
+-- there are functions whose actions begin so
+pub record IsBeginning (acts : List Action) : Type 0 where
+  pub functions : List Definition
+  pub tellable : AreTellable functions
+  pub rest : List Action
+  pub begins : acts ++ rest ≡ definitions_actions functions
