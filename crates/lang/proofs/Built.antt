@@ -17,7 +17,7 @@ use Rattle.grammar.specs.Scope.{Scope}
 use Rattle.grammar.proofs.Runs.{run-add}
 use Rattle.grammar.proofs.Verdicts.{IsRest, run_rests}
 use Rattle.lang.proofs.Advancing.{definitions_actions-append}
-use Rattle.lang.proofs.StrictEnds.{IsCut, IsCutBehind, cut_behind, tokens_cut}
+use Rattle.parsing.proofs.StrictEnds.{IsCut, IsCutBehind, cut_behind, tokens_cut}
 
 -- Where three tokens behind a brace end.
 

@@ -4,5 +4,4 @@ pub mod Closing
 pub mod Blocks
 pub mod Choosing
 pub mod Wholes
-pub mod StrictEnds
 pub mod Built

@@ -166,24 +166,28 @@ first_refused before told told' refusal.Memory more stops = let never : false �
 -- How much was taken.
 
 takes_up_to : (profile : Profile) (bytes : List ℕ) (to_come : Option (List ℕ)) (used more : ℕ) (passed rest : List LocatedToken) → tokens bytes ≡ passed ++ rest → NoneBefore profile (start (tokens bytes)) rest →
-    to_come ≡ Some (drop used bytes) → used ≤ reach_of rest + more → TakesUpTo profile bytes to_come more
-takes_up_to profile bytes to_come used more passed rest is none took taken =
+    to_come ≡ Some (drop used bytes) → used ≤ 1048577 → used ≤ reach_of rest + more → TakesUpTo profile bytes to_come more
+takes_up_to profile bytes to_come used more passed rest is none took limited taken =
     let needed : reach_of rest ≤ need profile bytes = what_was_read_is_needed profile bytes passed rest is none.each in
-    record { count = used; took = took; needed = omega (arith, needed, taken) }
+    record { count = used; took = took; needed = omega (arith, needed, taken); limited = limited }
 
--- the bytes taken from a device that tells its bytes
-abbrev pub HasTaken : ℕ → (told to_come : Option (List ℕ)) → Type 0
-HasTaken used told to_come = (bytes : List ℕ) → told ≡ Some bytes → to_come ≡ Some (drop used bytes)
+-- so many bytes were taken from a device that tells its bytes
+pub record HasTaken (used : ℕ) (told to_come : Option (List ℕ)) : Type 0 where
+  pub took : (bytes : List ℕ) → told ≡ Some bytes → to_come ≡ Some (drop used bytes)
+  pub limited : used ≤ 1048577
 
-pub has_taken : (first used : ℕ) (told between there to_come : Option (List ℕ)) → between ≡ option_map (drop first) told → TakesBytes first used between there → to_come ≡ there →
+pub has_taken : (first used : ℕ) (told between there to_come : Option (List ℕ)) → between ≡ option_map (drop first) told → TakesBytes first used between there → to_come ≡ there → used ≤ 1048577 →
     HasTaken used told to_come
-has_taken first used told between there to_come opened took same bytes is = same ∙ (took.rest told opened ∙ rw is refl)
+has_taken first used told between there to_come opened took same limited = record {
+  took = λ bytes is. same ∙ (took.rest told opened ∙ rw is refl);
+  limited = limited;
+}
 
 leaves_open : (profile : Profile) (bytes : List ℕ) (to_come : Option (List ℕ)) (used : ℕ) (passed rest : List LocatedToken) → tokens bytes ≡ passed ++ rest → NoneBefore profile (start (tokens bytes)) rest →
-    to_come ≡ Some (drop used bytes) → used ≤ open_reach_of rest → LeavesOpen profile bytes to_come
-leaves_open profile bytes to_come used passed rest is none took taken =
+    to_come ≡ Some (drop used bytes) → used ≤ 1048577 → used ≤ open_reach_of rest → LeavesOpen profile bytes to_come
+leaves_open profile bytes to_come used passed rest is none took limited taken =
     let up_to : reach_of rest ≤ need profile bytes = what_was_read_is_needed profile bytes passed rest is none.each in
-    record { count = used; took = took; needed = omega (arith, up_to, open-within rest used taken); undecided = open-to_last bytes passed rest used is taken }
+    record { count = used; took = took; needed = omega (arith, up_to, open-within rest used taken); undecided = open-to_last bytes passed rest used is taken; limited = limited }
 
 stops_reading : (before after : Meaning) (told : Option (List ℕ)) (at : Place) (stop : Stop) → scope_at at ≡ no_names → tokens_at at ≡ option_map tokens told → StopsReading before after at_source at stop →
     (bytes : List ℕ) → told ≡ Some bytes → (profile : Profile) → before profile [] → Stops profile (start (tokens bytes)) stop
@@ -194,19 +198,19 @@ pub stops_taking : (used : ℕ) (before after : Meaning) (told to_come : Option 
     HasTaken used told to_come → Refused (StopsReading before after at_source at) allocates used f → StopsTaking before told to_come f
 stops_taking used before after told to_come at (refusal.Source d) allocates nothing tells taken h = λ bytes shows profile stands.
     let s = stops_reading before after told at (stop_with (refusal.Source d) used) nothing tells h bytes shows profile stands in
-    takes_up_to profile bytes to_come used 4096 s.passed s.rest s.is s.none_before (taken bytes shows) s.taken
+    takes_up_to profile bytes to_come used 4096 s.passed s.rest s.is s.none_before (taken.took bytes shows) taken.limited s.taken
 stops_taking used before after told to_come at refusal.Device allocates nothing tells taken h = λ bytes shows profile stands.
     let s = stops_reading before after told at (stop_with refusal.Device used) nothing tells h bytes shows profile stands in
-    leaves_open profile bytes to_come used s.passed s.rest s.is s.none_before (taken bytes shows) s.taken
+    leaves_open profile bytes to_come used s.passed s.rest s.is s.none_before (taken.took bytes shows) taken.limited s.taken
 stops_taking used before after told to_come at refusal.Memory allocates nothing tells taken h = λ bytes shows profile stands.
     let s = stops_reading before after told at (stop_with refusal.Memory used) nothing tells h.1 bytes shows profile stands in
-    takes_up_to profile bytes to_come used 4096 s.passed s.rest s.is s.none_before (taken bytes shows) s.taken
+    takes_up_to profile bytes to_come used 4096 s.passed s.rest s.is s.none_before (taken.took bytes shows) taken.limited s.taken
 
 pub first_taking : (before : Meaning) (told to_come : Option (List ℕ)) (f : ParseFault) → StopsOpening told to_come f → StopsTaking before told to_come f
 first_taking before told to_come (refusal.Source d) stops = λ bytes shows profile stands.
-    takes_up_to profile bytes to_come stops.taken 4096 [] (tokens bytes) refl (none_before profile (start (tokens bytes))) (stops.took bytes shows) (stops.refused.taken (tokens bytes) (ap (option_map tokens) shows))
+    takes_up_to profile bytes to_come stops.taken 4096 [] (tokens bytes) refl (none_before profile (start (tokens bytes))) (stops.took bytes shows) stops.limited (stops.refused.taken (tokens bytes) (ap (option_map tokens) shows))
 first_taking before told to_come refusal.Device stops = λ bytes shows profile stands.
-    leaves_open profile bytes to_come stops.taken [] (tokens bytes) refl (none_before profile (start (tokens bytes))) (stops.took bytes shows) (stops.refused.taken (tokens bytes) (ap (option_map tokens) shows))
+    leaves_open profile bytes to_come stops.taken [] (tokens bytes) refl (none_before profile (start (tokens bytes))) (stops.took bytes shows) stops.limited (stops.refused.taken (tokens bytes) (ap (option_map tokens) shows))
 first_taking before told to_come refusal.Memory stops = let never : false ≡ true = stops.refused.0 in absurd (cc)
 
 -- a file that was read to its end
@@ -221,7 +225,7 @@ whole_takes used before after told to_come at there w near taken bytes shows pro
     let none : NoneBefore profile (start (tokens bytes)) t.rest =
     subst (λ (ls : List LocatedToken). NoneBefore profile (start ls) t.rest) (sym t.is)
     (none_back profile _ (state at_source t.rest [] (scope_at there) w.reads.more) t.rest reached (none_before profile (state at_source t.rest [] (scope_at there) w.reads.more))) in
-    takes_up_to profile bytes to_come used 4096 w.reads.consumed t.rest t.is none (taken bytes shows) (near_told there t.rest used t.shows near)
+    takes_up_to profile bytes to_come used 4096 w.reads.consumed t.rest t.is none (taken.took bytes shows) taken.limited (near_told there t.rest used t.shows near)
 
 pub lacks_taking : (used : ℕ) (before after : Meaning) (told to_come : Option (List ℕ)) (at there : Place) (f : ParseFault) → IsWhole before after told at there → Lacks there.position f → IsNearTo there used → HasTaken used told to_come →
     StopsTaking before told to_come f
@@ -247,7 +251,7 @@ stops_building : (used : ℕ) (before after : Meaning) (told to_come : Option (L
 stops_building used before after told to_come at nothing tells taken stops bytes shows profile h =
     let s : StopsTelling after profile (start (tokens bytes)) (stop_with refusal.Device used) =
     subst (λ (known : Scope). StopsTelling after profile (state at_source (tokens bytes) [] known []) (stop_with refusal.Device used)) nothing (stops (tokens bytes) (tells ∙ ap (option_map tokens) shows) profile [] h) in
-    builds_by after profile bytes to_come used s.stops (taken bytes shows) (s.told refl)
+    builds_by after profile bytes to_come used s.stops (taken.took bytes shows) (s.told refl)
 
 pub reading_builds : (used : ℕ) (before after : Meaning) (told to_come : Option (List ℕ)) (at : Place) (f : ParseFault) (allocates : Bool) → refusal.Device ≡ f → scope_at at ≡ no_names →
     tokens_at at ≡ option_map tokens told → HasTaken used told to_come → Refused (StopsReading before after at_source at) allocates used f → BuildsAhead before after told to_come
@@ -259,7 +263,7 @@ opening_builds : (before : Meaning) (told to_come : Option (List ℕ)) (used : �
 opening_builds before told to_come used taken stops bytes shows profile h =
     let some : used ≤ open_reach_of (tokens bytes) = stops.taken (tokens bytes) (ap (option_map tokens) shows) in
     let s : Stops profile (start (tokens bytes)) (stop_with refusal.Device used) = stops_here profile (start (tokens bytes)) (stop_with refusal.Device used) tt some in
-    builds_by before profile bytes to_come used s (taken bytes shows) (first_told before profile bytes used some h)
+    builds_by before profile bytes to_come used s (taken.took bytes shows) (first_told before profile bytes used some h)
   where
     first_told : (before : Meaning) (profile : Profile) (bytes : List ℕ) (used : ℕ) (some : used ≤ open_reach_of (tokens bytes)) → before profile [] →
         IsTold before profile (run (stops_here profile (start (tokens bytes)) (stop_with refusal.Device used) tt some).steps (start (tokens bytes))).functions
@@ -268,7 +272,7 @@ opening_builds before told to_come used taken stops bytes shows profile h =
 -- at the first token nothing was told
 pub first_builds : (before : Meaning) (told to_come : Option (List ℕ)) (f : ParseFault) → refusal.Device ≡ f → StopsOpening told to_come f → BuildsAhead before before told to_come
 first_builds before told to_come (refusal.Source d) device stops = absurd (cc)
-first_builds before told to_come refusal.Device device stops = opening_builds before told to_come stops.taken stops.took stops.refused
+first_builds before told to_come refusal.Device device stops = opening_builds before told to_come stops.taken (record { took = stops.took; limited = stops.limited }) stops.refused
 first_builds before told to_come refusal.Memory device stops = absurd (cc)
 
 -- what a file lacks is no failed device

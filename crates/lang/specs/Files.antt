@@ -2,6 +2,7 @@
 use Rattle.std.specs.Prelude.{ℕ, ◌+◌, ◌≡◌, ◌≤◌, List, [], ◌++◌, drop, map, Bool, IsTrue, Option, Some, Ok, Err}
 use Rattle.tokens.specs.Ends.{last_open_until}
 use Rattle.tokens.specs.Tokens.{tokens}
+use Rattle.parsing.specs.Advancing.{most_bytes}
 use Rattle.grammar.specs.declared.diagnostics.Diagnostic.{Diagnostic}
 use Rattle.grammar.specs.declared.diagnostics.ParseFault.{ParseFault}
 use Rattle.grammar.specs.declared.diagnostics.ParseFault.TheVariants as refusal
@@ -42,11 +43,13 @@ Says fault allocates (refusal.Source d) = fault d
 Says fault allocates refusal.Device = Unit {0}
 Says fault allocates refusal.Memory = IsTrue allocates
 
--- from a device that tells its bytes no more were taken than decide what they are, and so many more
+-- from a device that tells its bytes no more were taken than decide what they are, and so many more; and never more than
+-- the longest source and one byte
 pub record TakesUpTo (profile : Profile) (bytes : List ℕ) (to_come : Option (List ℕ)) (more : ℕ) : Type 0 where
   pub count : ℕ
   pub took : to_come ≡ Some (drop count bytes)
   pub needed : count ≤ need profile bytes + more
+  pub limited : count ≤ most_bytes
 
 -- from a device that tells its bytes no more were taken than may leave open what they are: none past what decides that,
 -- and if they have a bad character, fewer than with this one
@@ -55,6 +58,7 @@ pub record LeavesOpen (profile : Profile) (bytes : List ℕ) (to_come : Option (
   pub took : to_come ≡ Some (drop count bytes)
   pub needed : count ≤ need profile bytes
   pub undecided : count ≤ last_open_until (tokens bytes)
+  pub limited : count ≤ most_bytes
 
 -- so few were taken by each profile that the builder goes by, where the device tells its bytes
 abbrev pub TakesNoMore : Meaning → (told to_come : Option (List ℕ)) → ℕ → Type 0

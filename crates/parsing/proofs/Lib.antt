@@ -6,3 +6,4 @@ pub mod Parts
 pub mod ListLaws
 pub mod HeadingLaws
 pub mod Growing
+pub mod StrictEnds

@@ -18,6 +18,7 @@ use Rattle.grammar.specs.Profile.{Profile}
 use Rattle.grammar.specs.Scope.{Scope, no_names}
 use Rattle.grammar.proofs.Runs.{then, back, here, later, run-add}
 use Rattle.grammar.proofs.Firsts.{at_fault, at_rest, run_keeps}
+use Rattle.parsing.proofs.StrictEnds.{reach_limited}
 use Rattle.parsing.specs.Position.{Position, Place, place, GoesOn, tokens_at, next_at, scope_at}
 use Rattle.parsing.specs.Stopping.{IfSource, NoneBefore, Stop, Stops, StopsInside, most_taken, stop_with}
 use Rattle.parsing.specs.Segment.{Derives, FailsAt, FailsItem, GoesPast, HasLexicalError, IsNearTo, Refused, StopsAt, StopsOpening, Takes}
@@ -341,6 +342,7 @@ pub no_opening : (told told' : Option (List ℕ)) →
 no_opening None told' h = record {
   taken = 0;
   took = λ bytes e. absurd (cc);
+  limited = omega arith;
   refused = record { lexical_error = λ located_tokens e. tt; taken = λ located_tokens e. absurd (cc) };
 }
 no_opening (Some bytes) told' h =
@@ -348,6 +350,7 @@ no_opening (Some bytes) told' h =
     record {
       taken = found.0;
       took = λ others e. rw (sym (some_same bytes others e)) found.1;
+      limited = omega (arith, found.2, reach_limited bytes);
       refused = record {
         lexical_error = λ located_tokens e. tt;
         taken = λ located_tokens e. rw (sym (some_same (tokens bytes) located_tokens e)) (omega (arith, found.2));
@@ -355,11 +358,12 @@ no_opening (Some bytes) told' h =
     }
 
 -- the first token is a fault
-pub opens_at_lexical_error : (reading : Reading) (told told' : Option (List ℕ)) → shown reading told' ≡ option_map tokens told → told' ≡ option_map (drop (taken reading)) told → IsNear reading →
+pub opens_at_lexical_error : (reading : Reading) (told told' : Option (List ℕ)) → shown reading told' ≡ option_map tokens told → told' ≡ option_map (drop (taken reading)) told → IsNear reading → taken reading ≤ 1048577 →
     is_fault reading.next.token ≡ true → StopsOpening told told' (refusal.Source (diagnostic reading.next.line (misfit_code reading.next.token)))
-opens_at_lexical_error reading told told' shows took near lexical_error = record {
+opens_at_lexical_error reading told told' shows took near limited lexical_error = record {
   taken = taken reading;
   took = λ bytes e. took ∙ rw e refl;
+  limited = limited;
   refused = record {
     lexical_error = λ located_tokens e.
         let b : Begins reading located_tokens = told_begins at located_tokens (shows ∙ e) in

@@ -1,6 +1,6 @@
 -- What each call of a parser needs and keeps. Every contract of the front end cites these facts.
 use Rattle.std.specs.Prelude.{ℕ, ◌-◌, ◌^◌, ◌≡◌, ◌<◌, ◌≤◌, false, Result, Ok, Err}
-use Rattle.tokens.specs.Reading.{IsNear, Reading}
+use Rattle.tokens.specs.Reading.{IsNear, Reading, taken}
 use Rattle.tokens.specs.Window.{Takes}
 use Rattle.grammar.specs.declared.diagnostics.ParseFault.{ParseFault}
 use Rattle.grammar.specs.Grammar.{is_fault}
@@ -11,11 +11,16 @@ use Rattle.parsing.specs.Segment.{counted}
 abbrev pub most_failures : ℕ
 most_failures = 2 ^ 64 - 1
 
+-- the most bytes that are taken of a source: as many as it may have, and one that shows it to be too long
+abbrev pub most_bytes : ℕ
+most_bytes = 1048577
+
 -- A cursor that a parser can be made of: its next token is no lexical error, and no more bytes were taken than a window
--- past the two tokens that it holds.
+-- past the two tokens that it holds, and than the most.
 pub record IsReadable (reading : Reading) : Type 0 where
   pub sound : is_fault reading.next.token ≡ false
   pub near : IsNear reading
+  pub limited : taken reading ≤ most_bytes
 
 -- A parser is ready for a call: its next token is no lexical error, no more bytes were taken than a window past the
 -- two tokens that it holds, and a further failure of the device can be counted.

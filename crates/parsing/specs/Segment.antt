@@ -109,6 +109,7 @@ Refused stops allocates taken refusal.Memory = IsTrue allocates × stops (stop_w
 pub record StopsOpening (told told' : Option (List ℕ)) (fault : ParseFault) : Type 0 where
   pub taken : ℕ
   pub took : (bytes : List ℕ) → told ≡ Some bytes → told' ≡ Some (drop taken bytes)
+  pub limited : taken ≤ 1048577
   pub refused : Refused (StopsFirst (option_map tokens told)) false taken fault
 
 -- failures of a device, before and behind: one more where it is the device that is answered

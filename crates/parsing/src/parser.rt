@@ -14,7 +14,7 @@ ghost use Rattle.grammar.specs.Naming.{Knows, RefusesName, line_of_undefined};
 ghost use Rattle.grammar.specs.Resolved.{IsCallable, IsVariable};
 ghost use Rattle.grammar.specs.Scope.{end_definition, function_number, no_names};
 ghost use Rattle.grammar.specs.Tree.{NoMore};
-ghost use Rattle.parsing.specs.Advancing.{IsReadable, most_failures};
+ghost use Rattle.parsing.specs.Advancing.{IsReadable, most_failures, most_bytes};
 ghost use Rattle.parsing.specs.Position.{with_scope};
 ghost use Rattle.parsing.specs.Roles.{role_of};
 ghost use Rattle.parsing.specs.Segment.{Counts, StopsOpening};
@@ -40,10 +40,11 @@ pub struct Parser<'a, F: Feed> {
 }
 
 impl<'a, F: Feed> Model for Parser<'a, F> {
-    ghost use Rattle.std.specs.Prelude.{◌≡◌, false};
-    ghost use Rattle.tokens.specs.Reading.{beyond};
+    ghost use Rattle.std.specs.Prelude.{◌≡◌, ◌≤◌, false};
+    ghost use Rattle.tokens.specs.Reading.{beyond, taken};
     ghost use Rattle.tokens.specs.Window.{KnowsEnd};
     ghost use Rattle.grammar.specs.Grammar.{is_fault};
+    ghost use Rattle.parsing.specs.Advancing.{most_bytes};
     ghost use Rattle.parsing.specs.Position.{Standing, place};
 
     ghost Value = { Standing };
@@ -55,7 +56,7 @@ impl<'a, F: Feed> Model for Parser<'a, F> {
     } };
 
     ghost invariant = { λ p. (is_fault p.cursor.next.token ≡ false)
-        × KnowsEnd (beyond p.cursor) (F.ended p.feed.now) };
+        × KnowsEnd (beyond p.cursor) (F.ended p.feed.now) × (taken p.cursor ≤ most_bytes) };
 }
 
 /// Reads the first tokens of a device's bytes, for a parser.
@@ -85,7 +86,7 @@ impl<'a, F: Feed> Parser<'a, F> {
     ghost use Rattle.parsing.specs.Advancing.{Advances, IsReady};
     ghost use Rattle.parsing.specs.Defining.{StaysAt, StaysInBody};
     ghost use Rattle.parsing.specs.Matching.{Consumes, Matches};
-    ghost use Rattle.parsing.specs.Position.{Position, Standing, next_at, place, scope_of, token_after, token_of};
+    ghost use Rattle.parsing.specs.Position.{Position, Standing, next_at, place, scope_of, taken_at, token_after, token_of};
     ghost use Rattle.parsing.specs.Segment.{BeginsDefinition, IsNoName};
 
     /// Makes a parser at the first token of a device, which knows no names.
@@ -297,6 +298,7 @@ impl<'a, F: Feed> Parser<'a, F> {
         ensures device { result.1.ghost_name ≡ self.entry.device }
         ensures to_come { F.to_come result.1.now ≡ self.entry.place.to_come }
         ensures failures { F.failures result.1.now ≡ self.entry.failures }
+        ensures limited { taken_at self.entry.place ≤ most_bytes }
     {
         let Parser { scope, feed, .. } = self;
         (scope.into_pools(), feed)

@@ -31,7 +31,7 @@ returns-in_err-read-clause-stopped g c =
     let opened : c.new-parser.result.place.to_come ≡ option_map (drop (taken_at c.new-parser.result.place)) (g.F.Feed.to_come c.args.feed.now) = rw c.new-parser.ensures.place c.in_ok-cursor.ensures.took in
     let p = err_from_is_err_and c.from_residual-in_err-read.result c.from_residual-in_err-read.ensures.1 in
     rw (p.1, p.2) (stops_taking _ (g.B.Build.stands c.args.build.now) _ _ _ c.new-parser.result.place c.in_err-read.field-0.0 _ nothing tells
-    (has_taken _ _ _ _ _ _ opened c.in_err-read.ensures.kept.took (search rules)) c.in_err-read.ensures.reads)
+    (has_taken _ _ _ _ _ _ opened c.in_err-read.ensures.kept.took (search rules) c.into_parts-pools.ensures.limited) c.in_err-read.ensures.reads)
 
 pub returns-in_err-checked-clause-refused : goal.returns-in_err-checked-clause-refused
 returns-in_err-checked-clause-refused g c =
@@ -51,7 +51,7 @@ returns-in_err-checked-clause-stopped g c =
     record { reads = c.in_ok-read.ensures.reads; nothing = nothing; tells = tells; ends = c.in_ok-read.ensures.ended } in
     let p = err_from_is_err_and c.from_residual-in_err-checked.result c.from_residual-in_err-checked.ensures.1 in
     rw (p.1, p.2) (lacks_taking _ _ _ _ _ _ _ c.in_err-checked.field-0.0 whole c.in_err-checked.ensures.lacks
-    c.in_ok-read.ensures.kept.ready.near (has_taken _ _ _ _ _ _ opened c.in_ok-read.ensures.kept.took (search rules)))
+    c.in_ok-read.ensures.kept.ready.near (has_taken _ _ _ _ _ _ opened c.in_ok-read.ensures.kept.took (search rules) c.into_parts-pools.ensures.limited))
 
 pub returns-clause-file : goal.returns-clause-file
 returns-clause-file g c =
@@ -68,7 +68,7 @@ returns-clause-taken g c =
     let opened : c.new-parser.result.place.to_come ≡ option_map (drop (taken_at c.new-parser.result.place)) (g.F.Feed.to_come c.args.feed.now) = rw c.new-parser.ensures.place c.in_ok-cursor.ensures.took in
     let whole : IsWhole (g.B.Build.stands c.args.build.now) (g.B.Build.stands c.source-read.new.build) (g.F.Feed.to_come c.args.feed.now) c.new-parser.result.place c.source-read.new.parser.place =
     record { reads = c.in_ok-read.ensures.reads; nothing = nothing; tells = tells; ends = c.in_ok-read.ensures.ended } in
-    whole_takes _ _ _ _ _ _ _ whole c.in_ok-read.ensures.kept.ready.near (has_taken _ _ _ _ _ _ opened c.in_ok-read.ensures.kept.took (search rules))
+    whole_takes _ _ _ _ _ _ _ whole c.in_ok-read.ensures.kept.ready.near (has_taken _ _ _ _ _ _ opened c.in_ok-read.ensures.kept.took (search rules) c.into_parts-pools.ensures.limited)
 
 pub returns-in_err-cursor-clause-built : goal.returns-in_err-cursor-clause-built
 returns-in_err-cursor-clause-built g c =
@@ -82,7 +82,7 @@ returns-in_err-read-clause-built g c =
     let opened : c.new-parser.result.place.to_come ≡ option_map (drop (taken_at c.new-parser.result.place)) (g.F.Feed.to_come c.args.feed.now) = rw c.new-parser.ensures.place c.in_ok-cursor.ensures.took in
     let p = err_from_is_err_and c.from_residual-in_err-read.result c.from_residual-in_err-read.ensures.1 in
     rw (p.1, p.2) (λ device. reading_builds _ (g.B.Build.stands c.args.build.now) _ _ _ c.new-parser.result.place c.in_err-read.field-0.0 _ device nothing tells
-    (has_taken _ _ _ _ _ _ opened c.in_err-read.ensures.kept.took (search rules)) c.in_err-read.ensures.reads)
+    (has_taken _ _ _ _ _ _ opened c.in_err-read.ensures.kept.took (search rules) c.into_parts-pools.ensures.limited) c.in_err-read.ensures.reads)
 
 pub returns-in_err-checked-clause-built : goal.returns-in_err-checked-clause-built
 returns-in_err-checked-clause-built g c =

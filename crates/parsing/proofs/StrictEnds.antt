@@ -1,8 +1,10 @@
 -- Tokens end strictly one behind the other, but for the source's end, and none stands behind the last.
-use Rattle.std.proofs.Common.{◌≡◌, ℕ, zero, suc, ◌+◌, ◌<◌, ◌≤◌, Bool, true, false, cond, Option, Some, None, List, [], ◌∷◌, ◌++◌, length, take, drop, refl, ap, arith, subst, length-take, eqb}
+use Rattle.std.proofs.Common.{◌≡◌, ℕ, zero, suc, ◌+◌, ◌<◌, ◌≤◌, Bool, true, false, cond, Option, Some, None, List, [], ◌∷◌, ◌++◌, length, take, drop, refl, ap, ◌∙◌, arith, subst, length-take, eqb}
 use Rattle.std.specs.Prelude.{◌&&◌}
 use Rattle.std.specs.Option.{option_or}
 use Rattle.std.proofs.lemmas.List.Sums.{prefix_len-le-length}
+use Rattle.tokens.specs.Ends.{AllEndBy}
+use Rattle.tokens.specs.Reading.{reach_of}
 use Rattle.tokens.specs.Source.{source}
 use Rattle.tokens.specs.Characters.{is_blank, is_letter, is_digit, is_name_byte}
 use Rattle.tokens.specs.Punctuators.{punctuator_of, spelling, longest_punctuator}
@@ -148,3 +150,70 @@ pub record IsCutBehind (rest : List LocatedToken) : Type 0 where
 pub cut_behind : (place : ℕ) (before rest : List LocatedToken) → IsCut place (before ++ rest) → IsCutBehind rest
 cut_behind place [] rest h = record { place = place; is = h }
 cut_behind place (x ∷ before) rest h = cut_behind x.end before rest h.1.1.1
+
+-- No token ends behind the longest source and one byte more.
+
+abbrev over : Bool → ℕ
+over true = 1
+over false = 0
+
+long_behind_byte : (a : Ahead) → (behind_byte a).too_long ≡ a.too_long
+long_behind_byte a = by a.line a.place a.bytes a.too_long
+  where
+    by : (line place : ℕ) (xs : List ℕ) (t : Bool) → (behind_byte (here line place xs t)).too_long ≡ t
+    by line place [] t = refl
+    by line place (x ∷ xs) t = refl
+
+long_passed : (n : ℕ) (a : Ahead) → (passed n a).too_long ≡ a.too_long
+long_passed zero a = refl
+long_passed (suc n) a = long_passed n (behind_byte a) ∙ long_behind_byte a
+
+sum_behind_byte : (a : Ahead) → (behind_byte a).place + length (behind_byte a).bytes ≡ a.place + length a.bytes
+sum_behind_byte a = by a.line a.place a.bytes a.too_long
+  where
+    by : (line place : ℕ) (xs : List ℕ) (t : Bool) → (behind_byte (here line place xs t)).place + length (behind_byte (here line place xs t)).bytes ≡ place + length xs
+    by line place [] t = refl
+    by line place (x ∷ xs) t = omega arith
+
+sum_passed : (n : ℕ) (a : Ahead) → (passed n a).place + length (passed n a).bytes ≡ a.place + length a.bytes
+sum_passed zero a = refl
+sum_passed (suc n) a = sum_passed n (behind_byte a) ∙ sum_behind_byte a
+
+last_by : (limit line : ℕ) (token : Token) (a : Ahead) → a.place + length a.bytes + over a.too_long ≤ limit → (last_located_token token line (at_end a)).end ≤ limit
+last_by limit line token a h = by (at_end a).too_long (long_passed (length a.bytes) a)
+  where
+    by : (t : Bool) → t ≡ a.too_long → (last_located_token token line (here (at_end a).line (at_end a).place (at_end a).bytes t)).end ≤ limit
+    by true e = omega (arith, place_inside (length a.bytes) a (omega arith), ap over e, h)
+    by false e = omega (arith, place_inside (length a.bytes) a (omega arith), h)
+
+cut_by : (n limit : ℕ) (a : Ahead) → a.place + length a.bytes + over a.too_long ≤ limit → AllEndBy limit (cut n a)
+cut_by zero limit a h = tt
+cut_by (suc n) limit a h = by (front a.bytes) (front_inside a.bytes) (λ count further. cut_by n limit (passed count a) further)
+  where
+    rest : (t : Bool) (xs : List LocatedToken) → AllEndBy limit xs → AllEndBy limit (cond t [] xs)
+    rest true xs r = tt
+    rest false xs r = r
+
+    further : (count : ℕ) → (passed count a).place + length (passed count a).bytes + over (passed count a).too_long ≤ limit
+    further count = omega (arith, h, sum_passed count a, ap over (long_passed count a))
+
+    by : (f : Front) → IsInside a.bytes f → ((count : ℕ) → (passed count a).place + length (passed count a).bytes + over (passed count a).too_long ≤ limit → AllEndBy limit (cut n (passed count a))) → AllEndBy limit (cut_front f a (cut n))
+    by Nothing i g = (last_by limit a.line variant.End a h, tt)
+    by Unclosed i g = (last_by limit a.line (variant.Fault CommentNotClosed) a h, tt)
+    by (Space count) i g = g count (further count)
+    by (Sign sign count) i g = (omega (arith, h, i), rest (is_last sign) _ (g count (further count)))
+
+reach_by : (limit : ℕ) (xs : List LocatedToken) → AllEndBy limit xs → reach_of xs ≤ limit
+reach_by limit [] h = omega arith
+reach_by limit (x ∷ []) h = h.0
+reach_by limit (x ∷ y ∷ xs) h = h.1.0
+
+pub reach_limited : (bytes : List ℕ) → reach_of (tokens bytes) ≤ 1048577
+unfolding tokens located_tokens
+reach_limited bytes =
+    let a = from_start (source bytes) in
+    reach_by 1048577 (cut (suc (length a.bytes)) a) (cut_by (suc (length a.bytes)) 1048577 a (within a.too_long refl))
+  where
+    within : (t : Bool) → (from_start (source bytes)).too_long ≡ t → 0 + length (take 1048576 (source bytes)) + over (from_start (source bytes)).too_long ≤ 1048577
+    within true e = omega (arith, length-take 1048576 (source bytes), ap over e)
+    within false e = omega (arith, length-take 1048576 (source bytes), ap over e)
