@@ -9,8 +9,7 @@ use Rattle.code.specs.declared.instr.Instr.TheVariants.{Fetch, Store, Const, Bin
 use Rattle.code.specs.declared.instr.Instr.TheVariants as instr
 
 -- The profile, the instructions so far, the address of each function by number (0 where it didn't begin), and what is
--- open, the last
--- first: the address of a branch that has no target yet, or of a loop's start.
+-- open, the last first: the address of a branch that has no target yet, or of a loop's start.
 pub record Made : Type 0 where
   pub profile : Profile
   pub code : List Instr
@@ -85,8 +84,7 @@ abbrev pub without_open : Made → Made
 without_open m = record { profile = m.profile; code = m.code; addresses = m.addresses; opened = rest_of m.opened }
 
 -- where the right side is left out: behind the left side, a branch is taken to the value of && that is decided, and
--- else
--- to the right side of ||, behind its value that is decided
+-- else to the right side of ||, behind its value that is decided
 abbrev pub begun_right : Op → Made → Made
 begun_right op.And m = with_branch m
 begun_right op.Or m = with_other (with_code (with_branch m) (Const (pos 1) ∷ []))

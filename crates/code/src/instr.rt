@@ -10,19 +10,16 @@ pub enum Instr {
     /// `FETCH variable`: pushes the variable's value. It doesn't fit where the stack is full.
     Fetch(Var),
     /// `STORE variable operator`: takes a word, computes the new value from the variable as it is and the word, stores
-    /// it
-    /// and pushes it.
+    /// it and pushes it.
     Store(Var, StoreOp),
     /// `CONST value`: pushes the value. It doesn't fit where the stack is full.
     Const(i32),
     /// `BINOP operator`: takes two words, the right side on top, and pushes the operator's value.
     Binop(Op),
     /// `FCALL function`: a function of the file keeps its parameters of the words above the frame's base, drops the
-    /// others,
-    /// fills with zeros up to its variables and goes to its address. It doesn't fit where that is past the stack.
-    /// An intrinsic asks with its arguments, closes the frame and leaves the reply alone above the base. It doesn't
-    /// fit,
-    /// and doesn't ask, where that is past the stack.
+    /// others, fills with zeros up to its variables and goes to its address. It doesn't fit where that is past the
+    /// stack. An intrinsic asks with its arguments, closes the frame and leaves the reply alone above the base. It
+    /// doesn't fit, and doesn't ask, where that is past the stack.
     Fcall(Callee),
     /// `RETSUB`: takes the top word, closes the frame, cuts the stack to the frame's base, pushes the word and goes on
     /// behind the call. It doesn't fit in main's first frame.

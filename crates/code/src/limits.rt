@@ -1,6 +1,5 @@
 //! The room for a program's code, for the machine and for the lines of a listing. What a program may use of it goes by
-//! its
-//! profile.
+//! its profile.
 
 /// The most instructions of a program's code in any profile, with the NOP that ends it.
 pub const MOST_INSTRUCTIONS: usize = 4000;

@@ -1,6 +1,5 @@
 //! What the words ask for, and the program over files that the tests write, and sinks in memory: each status that it
-//! can
-//! give, with its line.
+//! can give, with its line.
 
 use crate::devices::StreamSink;
 use crate::programs::program;

@@ -1,6 +1,5 @@
 //! An example of the library: two robots on a field, driven by hand. The first stands and shoots to the east, the
-//! second drives
-//! north out of the bursts.
+//! second drives north out of the bursts.
 #![tactic(auto)]
 
 mod duel;

@@ -56,8 +56,7 @@ impl Profile {
     }
 
     /// `&&` and `||` leave out their right side, as in C. A program has at most 4,000 instructions, 1,000 words of
-    /// stack
-    /// and 128 frames.
+    /// stack and 128 frames.
     #[tactic(auto, unfolding(crate::specs::Profile::second_profile))]
     pub fn second() -> Profile
         ensures { result ≡ second_profile }

@@ -30,8 +30,7 @@ output setup sources = record {
 }
 
 -- what the sinks took of a run that a device stopped: after a failed write a beginning of the output, and after a
--- failed
--- read what the files before it give
+-- failed read what the files before it give
 abbrev pub Stops : Setup → List Source → RunFault → Taken → Taken → Type 0
 Stops setup sources (Read file) before after = Writes before after
     (compiling setup.mode setup.profile (take file sources))

@@ -29,8 +29,7 @@ use tokens::{DeviceFault, Feed};
 /// Runs what the settings ask for: each of their words has the feed of its file, in order.
 ///
 /// `out` takes listings, or the reports of matches and their totals; `err` takes the diagnostics of faulty files. No
-/// match
-/// is played if a file has a fault.
+/// match is played if a file has a fault.
 ///
 /// # Errors
 ///

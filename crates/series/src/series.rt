@@ -90,8 +90,7 @@ impl<'a, P: HoldsPrograms> Series<'a, P> {
     /// # Errors
     ///
     /// `Write` if the sink fails, which leaves a beginning of the report: the match doesn't count as played. From then
-    /// on
-    /// each call answers `Write` and writes nothing.
+    /// on each call answers `Write` and writes nothing.
     pub fn next<S: Sink>(&mut self, out: &mut S) -> Result<Step, SeriesFault>
         requires { S.failures out.old < 2 ^ 64 - 1 }
         ensures step { IfOk result (λ step. step ≡ step_of self.old.setup self.old.played) }

@@ -15,8 +15,7 @@ pub const MOST_PLACES: usize = 2000;
 pub const MOST_STRIDE: u32 = 1 << 20;
 
 /// The places of a robot over time. Each is kept until there are 2,000; then each second one is dropped, and of those
-/// to come
-/// only each second one is kept; and so on.
+/// to come only each second one is kept; and so on.
 #[derive(Drop)]
 pub struct Path {
     places: ArrayVec<Place, MOST_PLACES>,

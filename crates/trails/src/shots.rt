@@ -84,8 +84,7 @@ fn flight(range: u16) -> u32
 }
 
 /// Returns where a missile bursts on an axis, from a place in tenths of a metre and at a range in metres, by the part
-/// of the
-/// range that lies on the axis.
+/// of the range that lies on the axis.
 fn aimed(from: u16, range: u16, part: i32) -> u16
     requires from { from ≤ LAST_PLACE }
     requires range { range ≤ 700 }

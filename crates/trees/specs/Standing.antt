@@ -9,8 +9,7 @@ use Rattle.trees.specs.declared.stack.Open.{Open}
 use Rattle.trees.specs.declared.tree.Function.{Function}
 
 -- what a maker keeps: its profile, the functions that are done, what is open, the innermost first, and how many
--- instructions
--- it counted
+-- instructions it counted
 pub record Kept : Type 0 where
   pub profile : Profile
   pub functions : List Function

@@ -13,10 +13,8 @@ use std::marker::Model;
 
 /// Makes the tree of each function that it is told.
 ///
-/// It asks its allocator for memory, and answers `Memory` where a request is refused.
-/// Once the code and the final NOP pass the profile's instructions, it makes no more trees, and the end of that
-/// function
-/// answers `Full`.
+/// It asks its allocator for memory, and answers `Memory` where a request is refused. Once the code and the final NOP
+/// pass the profile's instructions, it makes no more trees, and the end of that function answers `Full`.
 #[derive(Drop)]
 pub struct TreeMaker {
     profile: Profile,

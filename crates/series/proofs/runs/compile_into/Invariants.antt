@@ -7,9 +7,8 @@ use Rattle.series.specs.Reading.{TakesOfFirst}
 use Rattle.series.specs.Runs.{AreSources}
 use Rattle.series.proofs.runs.compile_into.Given as goal
 
--- The feeds of the files to come are as they were, nothing failed, there is a program for each file so far
--- unless one was faulty,
--- the files so far are compiled, and of each no more is taken than decides it and a window.
+-- The feeds of the files to come are as they were, nothing failed, there is a program for each file so far unless one
+-- was faulty, the files so far are compiled, and of each no more is taken than decides it and a window.
 abbrev pub invariant-loop-file : goal.invariant-loop-file
 invariant-loop-file g l =
     (drop l.file l.feeds ≡ drop l.file l.fn.feeds)
