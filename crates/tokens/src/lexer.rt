@@ -47,6 +47,7 @@ impl Window {
     }
 
     /// Skips blanks. Answers the byte behind them, or `None` at the end.
+    #[inline(always)]
     fn skip_blanks<F: Feed>(&mut self, feed: &mut F) -> Result<Option<u8>, DeviceFault>
         requires countable { F.failures feed.old < 2 ^ 64 - 1 }
         requires known { KnowsEnd self.old.beyond (F.ended feed.old) }
@@ -142,6 +143,7 @@ impl Window {
     }
 
     /// The token that begins with this byte, which is the next one, no blank and no `/`.
+    #[inline(always)]
     fn token<F: Feed>(&mut self, first: u8, feed: &mut F) -> Result<LocatedToken, DeviceFault>
         requires countable { F.failures feed.old < 2 ^ 64 - 1 }
         requires known { KnowsEnd self.old.beyond (F.ended feed.old) }
@@ -177,7 +179,7 @@ impl Window {
     }
 
     /// The name of which the first byte was passed.
-    #[inline(never)]
+    #[inline(always)]
     fn name<F: Feed>(&mut self, first: u8, feed: &mut F) -> Result<LocatedToken, DeviceFault>
         requires countable { F.failures feed.old < 2 ^ 64 - 1 }
         requires known { KnowsEnd self.old.beyond (F.ended feed.old) }
@@ -214,7 +216,7 @@ impl Window {
     }
 
     /// The constant of which the first digit was passed.
-    #[inline(never)]
+    #[inline(always)]
     fn constant<F: Feed>(&mut self, first: u8, feed: &mut F) -> Result<LocatedToken, DeviceFault>
         requires countable { F.failures feed.old < 2 ^ 64 - 1 }
         requires known { KnowsEnd self.old.beyond (F.ended feed.old) }
@@ -245,6 +247,7 @@ impl Window {
     }
 
     /// The longest punctuator that begins with this one, which was passed.
+    #[inline(always)]
     fn punctuator<F: Feed>(
         &mut self,
         mut punctuator: Punctuator,
@@ -278,6 +281,7 @@ impl Window {
     }
 
     /// A token that ends before the next byte, on the same line.
+    #[inline(always)]
     fn ending(&self, token: Token) -> LocatedToken
         ensures { result ≡ record { token = token; line = self.now.line; end = self.now.place } }
     {
