@@ -29,6 +29,8 @@ impl Model for Function {
 }
 
 impl Default for Function {
+    ghost is_default = { λ f. f ≡ record { name = []; parameters = 0; variables = [] } };
+
     fn default() -> Function {
         Function {
             name: Name::default(),

@@ -18,6 +18,7 @@ use Rattle.grammar.specs.Profile.{Profile}
 use Rattle.grammar.specs.Scope.{Scope, no_names}
 use Rattle.grammar.proofs.Runs.{then, back, here, later, run-add}
 use Rattle.grammar.proofs.Firsts.{at_fault, at_rest, run_keeps}
+use Rattle.tokens.proofs.ReadingLemmas.{open-within}
 use Rattle.parsing.proofs.StrictEnds.{reach_limited}
 use Rattle.parsing.specs.Position.{Position, Place, place, GoesOn, tokens_at, next_at, scope_at}
 use Rattle.parsing.specs.Stopping.{IfSource, NoneBefore, Stop, Stops, StopsInside, most_taken, stop_with}
@@ -350,7 +351,7 @@ no_opening (Some bytes) told' h =
     record {
       taken = found.0;
       took = λ others e. rw (sym (some_same bytes others e)) found.1;
-      limited = omega (arith, found.2, reach_limited bytes);
+      limited = omega (arith, open-within (tokens bytes) found.0 found.2, reach_limited bytes);
       refused = record {
         lexical_error = λ located_tokens e. tt;
         taken = λ located_tokens e. rw (sym (some_same (tokens bytes) located_tokens e)) (omega (arith, found.2));
