@@ -79,7 +79,7 @@ step_is v o under h = split (is_number 1 o) h
     split true k = (refl, k)
     split false k = absurd (cc)
 
-same_var_is : (v w : Var) → same_var v w ≡ true → v ≡ w
+pub same_var_is : (v w : Var) → same_var v w ≡ true → v ≡ w
 same_var_is (var.Local m) (var.Local n) h = ap var.Local (grind (arith, nat_tests, h))
 same_var_is (var.External m) (var.External n) h = ap var.External (grind (arith, nat_tests, h))
 same_var_is (var.Local m) (var.External n) h = absurd (cc)

@@ -16,6 +16,7 @@ use Rattle.grammar.specs.Operators.{is_logic}
 use Rattle.grammar.specs.Tree.{Args, Body, Done}
 use Rattle.grammar.specs.Tree as tree
 use Rattle.grammar.proofs.FollowingLaws.{same_op_is}
+use Rattle.grammar.proofs.UnfinishedSteps.{same_var_is}
 use Rattle.trees.specs.Opened.{Continues, Ends, IsAllowed, origin_of, ends_in_return, place_of, opened, open_actions, heading_actions}
 use Rattle.trees.specs.Stacks.{AddsTo, above_call, below, below_call, ends_in_value, past_middle, without_last}
 use Rattle.trees.specs.Trees.{arguments, expr_tree, statement_actions, body_tree}
@@ -221,12 +222,6 @@ step_is v o under h = split (is_number 1 o) h
     split : (b : Bool) → is_step (if b then Stepped v else Computed) under ≡ true → (b ≡ true) × (is_step (Stepped v) under ≡ true)
     split true k = (refl, k)
     split false k = absurd (cc)
-
-same_var_is : (v w : Var) → same_var v w ≡ true → v ≡ w
-same_var_is (var.Local m) (var.Local n) h = ap var.Local (grind (arith, nat_tests, h))
-same_var_is (var.External m) (var.External n) h = ap var.External (grind (arith, nat_tests, h))
-same_var_is (var.Local m) (var.External n) h = absurd (cc)
-same_var_is (var.External m) (var.Local n) h = absurd (cc)
 
 fetched_is : (v : Var) (e : tree.Expr) → is_step (Stepped v) (origin_of e) ≡ true → e ≡ tree.Variable v
 fetched_is v (tree.Constant n) h = absurd (cc)
