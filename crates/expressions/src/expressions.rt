@@ -88,7 +88,7 @@ fn levels<F: Feed, B: Build>(
     ensures kept { Advances result parser.old parser.new }
 {
     unary(parser, build, depth)?;
-    while let Some(binary) = operator_from(&parser.next().token, level) {
+    while let Some(binary) = operator_from(&parser.peek().token, level) {
         operand(parser, build, binary, depth)?;
     }
     Ok(())
@@ -132,9 +132,9 @@ fn unary<F: Feed, B: Build>(
     ensures grown { Grows result (B.stands build.old) (B.stands build.new) }
     ensures kept { Advances result parser.old parser.new }
 {
-    if let Some(sign) = sign_of(&parser.next().token) {
+    if let Some(sign) = sign_of(&parser.peek().token) {
         signed(parser, build, sign, depth)?;
-    } else if let Some(step) = step_of(&parser.next().token) {
+    } else if let Some(step) = step_of(&parser.peek().token) {
         step_before(parser, build, step)?;
     } else {
         primary(parser, build, depth)?;
@@ -182,13 +182,13 @@ fn primary<F: Feed, B: Build>(
     ensures grown { Grows result (B.stands build.old) (B.stands build.new) }
     ensures kept { Advances result parser.old parser.new }
 {
-    match parser.next().token {
+    match parser.peek().token {
         Token::Constant(value) => constant(parser, build, value)?,
         Token::Name(_) if is_punctuator(parser.after(), Punctuator::OpenRound) => {
             call(parser, build, depth)?;
         }
         Token::Name(_) => variable(parser, build)?,
-        _ if is_punctuator(&parser.next().token, Punctuator::OpenRound) => {
+        _ if is_punctuator(&parser.peek().token, Punctuator::OpenRound) => {
             bracketed(parser, build, depth)?;
         }
         _ => return Err(parser.misfit()),
@@ -237,11 +237,11 @@ fn arguments<F: Feed, B: Build>(
     ensures grown { Grows result (B.stands build.old) (B.stands build.new) }
     ensures kept { Keeps result parser.old parser.new }
 {
-    if is_punctuator(&parser.next().token, Punctuator::CloseRound) {
+    if is_punctuator(&parser.peek().token, Punctuator::CloseRound) {
         return Ok(());
     }
     expression(parser, build, depth)?;
-    while is_punctuator(&parser.next().token, Punctuator::Comma) {
+    while is_punctuator(&parser.peek().token, Punctuator::Comma) {
         parser.expect(Punctuator::Comma)?;
         expression(parser, build, depth)?;
     }
@@ -277,7 +277,7 @@ fn assignment_operator<F: Feed>(parser: &Parser<'_, F>) -> Option<StoreOp>
     ensures starts { IfSome result (λ op. StartsAssignment op parser.now) }
     ensures none { IfNone result (StartsNoAssignment parser.now) }
 {
-    match parser.next().token {
+    match parser.peek().token {
         Token::Name(_) => store_operator(parser.after()),
         _ => None,
     }

@@ -68,7 +68,7 @@ fn source<F: Feed, B: Build>(parser: &mut Parser<'_, F>, build: &mut B) -> Resul
     ensures ended { OnOk result (is_end (token_of parser.new) ≡ true) }
     ensures kept { Keeps result parser.old parser.new }
 {
-    while !matches!(parser.next().token, Token::End) {
+    while !matches!(parser.peek().token, Token::End) {
         part(parser, build)?;
     }
     Ok(())
@@ -84,9 +84,9 @@ fn part<F: Feed, B: Build>(parser: &mut Parser<'_, F>, build: &mut B) -> Result<
     ensures open { OnOk result (StandsOpen (B.stands build.new) []) }
     ensures kept { Advances result parser.old parser.new }
 {
-    if is_word(&parser.next().token, Word::Type) {
+    if is_word(&parser.peek().token, Word::Type) {
         typed(parser, build)?;
-    } else if let Token::Name(_) = parser.next().token {
+    } else if let Token::Name(_) = parser.peek().token {
         function(parser, build)?;
     } else {
         return Err(parser.misfit());
@@ -119,7 +119,7 @@ fn head<F: Feed, B: Build>(parser: &mut Parser<'_, F>, build: &mut B) -> Result<
     ensures open { OnOk result (StandsOpen (B.stands build.new) []) }
     ensures kept { Advances result parser.old parser.new }
 {
-    match parser.next().token {
+    match parser.peek().token {
         Token::Name(_) if is_punctuator(parser.after(), Punctuator::OpenRound) => {
             function(parser, build)?;
         }

@@ -45,7 +45,7 @@ fn block<F: Feed, B: Build>(parser: &mut Parser<'_, F>, build: &mut B) -> Result
     ensures closed { OnOk result (is_punctuator punctuator.CloseCurly (token_of parser.new) ≡ true) }
     ensures kept { Advances result parser.old parser.new }
 {
-    if !is_punctuator(&parser.next().token, Punctuator::OpenCurly) {
+    if !is_punctuator(&parser.peek().token, Punctuator::OpenCurly) {
         return Err(parser.misfit());
     }
     parser.advance()?;

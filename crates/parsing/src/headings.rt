@@ -50,7 +50,7 @@ fn parameters<F: Feed>(parser: &mut Parser<'_, F>) -> Result<(), ParseFault>
     ensures stays { OnOk result (StaysIn (scope_of parser.old) (scope_of parser.new)) }
     ensures kept { Keeps result parser.old parser.new }
 {
-    if let Token::Name(_) = parser.next().token {
+    if let Token::Name(_) = parser.peek().token {
         parser.declare(Declared::Parameters)?;
         more_names(parser, Declared::Parameters)?;
     }

@@ -22,7 +22,7 @@ pub fn type_words<F: Feed>(parser: &mut Parser<'_, F>) -> Result<(), ParseFault>
     ensures scope { OnOk result (scope_of parser.new ≡ scope_of parser.old) }
     ensures kept { Keeps result parser.old parser.new }
 {
-    while is_word(&parser.next().token, Word::Type) {
+    while is_word(&parser.peek().token, Word::Type) {
         parser.expect_word(Word::Type)?;
     }
     Ok(())
@@ -35,7 +35,7 @@ pub fn more_names<F: Feed>(parser: &mut Parser<'_, F>, declared: Declared) -> Re
     ensures stays { OnOk result (StaysAt declared (scope_of parser.old) (scope_of parser.new)) }
     ensures kept { Keeps result parser.old parser.new }
 {
-    while is_punctuator(&parser.next().token, Punctuator::Comma) {
+    while is_punctuator(&parser.peek().token, Punctuator::Comma) {
         parser.expect(Punctuator::Comma)?;
         parser.declare(declared)?;
     }
@@ -53,7 +53,7 @@ pub fn declarations<F: Feed>(
     ensures stays { OnOk result (StaysAt declared (scope_of parser.old) (scope_of parser.new)) }
     ensures kept { Keeps result parser.old parser.new }
 {
-    while is_word(&parser.next().token, Word::Type) {
+    while is_word(&parser.peek().token, Word::Type) {
         declaration(parser, declared)?;
     }
     Ok(())

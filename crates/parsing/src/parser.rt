@@ -76,8 +76,8 @@ pub fn first<F: Feed>(feed: &mut F) -> Result<Cursor, ParseFault>
     ensures known { IfOk result (λ cursor. KnowsEnd (beyond cursor) (F.ended feed.new)) }
 {
     let cursor = Cursor::open(feed)?;
-    if let Token::Fault(_) = cursor.next().token {
-        return Err(misfit(cursor.next()));
+    if let Token::Fault(_) = cursor.peek().token {
+        return Err(misfit(cursor.peek()));
     }
     Ok(cursor)
 }
@@ -107,12 +107,12 @@ impl<'a, F: Feed> Parser<'a, F> {
     }
 
     /// Returns the next token.
-    pub fn next(&self) -> &LocatedToken
+    pub fn peek(&self) -> &LocatedToken
         ensures value { result.now ≡ next_at self.now.place }
         ensures fits { FitsToken result.now.token }
         ensures sound { is_fault result.now.token ≡ false }
     {
-        self.cursor.next()
+        self.cursor.peek()
     }
 
     /// Returns the token after the next one. If the next is the end, there is none, and the result says nothing.
@@ -127,7 +127,7 @@ impl<'a, F: Feed> Parser<'a, F> {
         ensures { result ≡
             ParseFault.Source (diagnostic (next_at self.now.place).line (misfit_code (token_of self.now))) }
     {
-        misfit(self.cursor.next())
+        misfit(self.cursor.peek())
     }
 
     /// Returns the refusal of the next token for this fault.
@@ -135,7 +135,7 @@ impl<'a, F: Feed> Parser<'a, F> {
         ensures { result ≡ ParseFault.Source (diagnostic (next_at self.now.place).line code) }
     {
         ParseFault::Source(Diagnostic {
-            line: self.cursor.next().line,
+            line: self.cursor.peek().line,
             code,
         })
     }
@@ -164,7 +164,7 @@ impl<'a, F: Feed> Parser<'a, F> {
         ensures scope { OnOk result (scope_of self.new ≡ scope_of self.old) }
         ensures kept { Advances result self.old self.new }
     {
-        if !is_punctuator(&self.next().token, punctuator) {
+        if !is_punctuator(&self.peek().token, punctuator) {
             return Err(self.misfit());
         }
         self.advance()?;
@@ -178,7 +178,7 @@ impl<'a, F: Feed> Parser<'a, F> {
         ensures scope { OnOk result (scope_of self.new ≡ scope_of self.old) }
         ensures kept { Advances result self.old self.new }
     {
-        if !is_word(&self.next().token, word) {
+        if !is_word(&self.peek().token, word) {
             return Err(self.misfit());
         }
         self.advance()?;
@@ -211,7 +211,7 @@ impl<'a, F: Feed> Parser<'a, F> {
         ensures kept { Advances result self.old self.new }
     {
         let name = self.name()?;
-        let line = self.next().line;
+        let line = self.peek().line;
         let callee = match self.scope.call(name, line) {
             Ok(callee) => callee,
             Err(code) => return Err(self.refusal(code)),
@@ -229,7 +229,7 @@ impl<'a, F: Feed> Parser<'a, F> {
         ensures kept { Advances result self.old self.new }
     {
         let name = self.name()?;
-        let line = self.next().line;
+        let line = self.peek().line;
         let number = match self.scope.define(name, line) {
             Ok(number) => number,
             Err(code) => return Err(self.refusal(code)),
@@ -309,7 +309,7 @@ impl<'a, F: Feed> Parser<'a, F> {
         ensures found { IfOk result (λ name. token_of self.now ≡ token.Name name) }
         ensures other { IfErr result (IsNoName (next_at self.now.place)) }
     {
-        match self.next().token {
+        match self.peek().token {
             Token::Name(name) => Ok(name),
             _ => Err(self.misfit()),
         }

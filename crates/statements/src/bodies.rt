@@ -34,7 +34,7 @@ pub fn statements<F: Feed, B: Build>(
     ensures closed { OnOk result (is_punctuator punctuator.CloseCurly (token_of parser.new) ≡ true) }
     ensures kept { Keeps result parser.old parser.new }
 {
-    while !is_punctuator(&parser.next().token, Punctuator::CloseCurly) {
+    while !is_punctuator(&parser.peek().token, Punctuator::CloseCurly) {
         statement(parser, build, depth)?;
     }
     Ok(())
@@ -54,7 +54,7 @@ fn statement<F: Feed, B: Build>(
     ensures grown { Grows result (B.stands build.old) (B.stands build.new) }
     ensures kept { Advances result parser.old parser.new }
 {
-    match parser.next().token {
+    match parser.peek().token {
         Token::Punctuator(Punctuator::Semicolon) => parser.expect(Punctuator::Semicolon)?,
         Token::Punctuator(Punctuator::OpenCurly) => block(parser, build, depth)?,
         Token::Word(Word::If) => branch(parser, build, depth)?,
@@ -131,7 +131,7 @@ fn else_part<F: Feed, B: Build>(
     ensures grown { Grows result (B.stands build.old) (B.stands build.new) }
     ensures kept { Keeps result parser.old parser.new }
 {
-    if is_word(&parser.next().token, Word::Else) {
+    if is_word(&parser.peek().token, Word::Else) {
         build.else_part()?;
         parser.advance()?;
         statement(parser, build, depth)?;
@@ -219,7 +219,7 @@ fn back<F: Feed, B: Build>(
     ensures grown { Grows result (B.stands build.old) (B.stands build.new) }
     ensures kept { Keeps result parser.old parser.new }
 {
-    if is_punctuator(&parser.next().token, Punctuator::Semicolon) {
+    if is_punctuator(&parser.peek().token, Punctuator::Semicolon) {
         build.constant(0)?;
         return Ok(());
     }

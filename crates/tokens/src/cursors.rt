@@ -71,7 +71,7 @@ impl Cursor {
     }
 
     /// The next token.
-    pub fn next(&self) -> &LocatedToken
+    pub fn peek(&self) -> &LocatedToken
         ensures value { result.now ≡ self.now.next }
         ensures fits { FitsToken result.now.token }
     {

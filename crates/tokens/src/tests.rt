@@ -41,9 +41,9 @@ fn check_pieces(
             line: *line,
             end: *end,
         };
-        assert_eq!(rt; *cursor.next(), located_token);
+        assert_eq!(rt; *cursor.peek(), located_token);
         assert_eq!(rt; token.is_last(), i + 1 == wanted.len());
-        if !cursor.next().token.is_last() {
+        if !cursor.peek().token.is_last() {
             cursor.advance(&mut feed)?;
         }
     }
@@ -267,7 +267,7 @@ fn behind_lines(left: u32, last: Option<u8>) -> Result<(Token, u32, u32), Device
         ended: false,
     };
     let cursor = Cursor::open(&mut feed)?;
-    let LocatedToken { token, line, end } = *cursor.next();
+    let LocatedToken { token, line, end } = *cursor.peek();
     Ok((token, line, end))
 }
 
@@ -306,7 +306,7 @@ fn asks_for_two_tokens(rt: HostRuntime) -> Result<(), Fail> {
     let mut feed = Pieces::new(b"a bc d", 1);
     let mut cursor = Cursor::open(&mut feed)?;
     assert_eq!(rt; feed.taken(), 5);
-    assert!(rt; !cursor.next().token.is_last());
+    assert!(rt; !cursor.peek().token.is_last());
     cursor.advance(&mut feed)?;
     assert_eq!(rt; feed.taken(), 6);
     Ok(())
@@ -334,7 +334,7 @@ fn device_fails(rt: HostRuntime) -> Result<(), Fail> {
 fn the_end_is_asked_for_once(rt: HostRuntime) -> Result<(), Fail> {
     let mut feed = Pieces::failing_at(b"", WINDOW, 1);
     let cursor = Cursor::open(&mut feed)?;
-    assert_eq!(rt; cursor.next().token, Token::End);
+    assert_eq!(rt; cursor.peek().token, Token::End);
     assert_eq!(rt; feed.failures(), 0);
     Ok(())
 }
@@ -344,7 +344,7 @@ fn bad_character_is_shown_at_once(rt: HostRuntime) -> Result<(), Fail> {
     let mut feed = Pieces::failing_at(b"$", WINDOW, 1);
     let cursor = Cursor::open(&mut feed)?;
     assert_eq!(rt;
-        cursor.next().token,
+        cursor.peek().token,
         Token::Fault(LexicalError::BadCharacter)
     );
     assert_eq!(rt; feed.failures(), 0);

@@ -329,7 +329,7 @@ unary-returns-in_err-primary-clause-parses g t c =
     let none : NoOperator c.args.parser.now.place.position.reading.next.token = record {
       sound = rw c.next.ensures.value at c.next.ensures.sound;
       signs = λ s. rw c.next.ensures.value at (c.in_default.ensures.none s);
-      steps = λ s. rw c.next-in_default.ensures.value at (c.in_default-step_of.ensures.none s);
+      steps = λ s. rw c.peek-in_default.ensures.value at (c.in_default-step_of.ensures.none s);
     } in
     let p = err_from_is_err_and c.from_residual-in_err-primary.result c.from_residual-in_err-primary.ensures.1 in
     rw (p.1, p.2) (primary_refused _ c.args.parser.now.place c.args.depth _ c.in_err-primary.field-0.0 none c.in_err-primary.ensures.parses)
@@ -339,7 +339,7 @@ unary-returns-in_ok-primary-clause-parses g t c =
     let none : NoOperator c.args.parser.now.place.position.reading.next.token = record {
       sound = rw c.next.ensures.value at c.next.ensures.sound;
       signs = λ s. rw c.next.ensures.value at (c.in_default.ensures.none s);
-      steps = λ s. rw c.next-in_default.ensures.value at (c.in_default-step_of.ensures.none s);
+      steps = λ s. rw c.peek-in_default.ensures.value at (c.in_default-step_of.ensures.none s);
     } in
     primary_adds _ _ c.args.parser.now.place _ c.args.depth none c.in_ok-primary.ensures.parses
 
