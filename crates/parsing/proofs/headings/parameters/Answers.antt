@@ -37,7 +37,7 @@ pub returns-in_default : goal.returns-in_default
 returns-in_default g c =
     let sound : is_fault c.args.parser.now.place.position.reading.next.token ≡ false = cc in
     record {
-      matches = no_parameters _ sound (λ bytes is. c.in_default.not-Name bytes (ap (λ (l : LocatedToken). l.token) c.next.ensures.value ∙ is));
+      matches = no_parameters _ sound (λ bytes is. c.in_default.not-Name bytes (ap (λ (l : LocatedToken). l.token) c.peek.ensures.value ∙ is));
       stays = (stays_body (scope_of c.args.parser.now)).function;
       kept = stays_ready c.args.parser.now c.requires.ready;
     }
