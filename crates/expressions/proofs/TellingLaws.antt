@@ -1,10 +1,9 @@
 -- Which actions may follow what a builder stands for.
-use Rattle.std.proofs.Common.{ℕ, ◌+◌, ◌≤◌, List, [], ◌∷◌, ◌++◌, refl, sym, ◌∙◌, subst, Bool, true, false, arith, append_assoc}
-use Rattle.std.specs.Prelude.{Option, Some, None, is_some, IsTrue, if◌then◌else◌}
+use Rattle.std.proofs.Common.{ℕ, ◌+◌, ◌≤◌, List, [], ◌∷◌, ◌++◌, refl, sym, ◌∙◌, subst, arith, append_assoc}
 use Rattle.grammar.specs.Actions.{Action}
 use Rattle.grammar.specs.Beginning.{IsBeginning}
 use Rattle.grammar.specs.Building.{Meaning, AppendsAll, MayFollow, MayFollowAll, StandsOpen}
-use Rattle.grammar.specs.Following.{Open, AValue, Opened, few_open, follow, follow_all, then_follow, open_count}
+use Rattle.grammar.specs.Following.{Open, AValue, Opened, open_count}
 use Rattle.grammar.specs.Tree.{Args, NoMore, Argument}
 use Rattle.grammar.proofs.Beginnings.{begins_with, follows_begins}
 use Rattle.grammar.proofs.FollowingLaws.{Leads, follow_append, origin_of, pushed}

@@ -1,6 +1,6 @@
 -- What the parse of an expression did: the builder was told the actions of a tree, and the derivation made the same
 -- tree.
-use Rattle.std.specs.Prelude.{ℕ, ◌+◌, ◌≤◌, List, [], ◌∷◌, ◌++◌, Bool, Result, Ok, Err}
+use Rattle.std.specs.Prelude.{ℕ, ◌+◌, ◌≡◌, ◌≤◌, List, [], ◌∷◌, ◌++◌, Bool, None, Result, Ok, Err}
 use Rattle.grammar.specs.declared.diagnostics.ParseFault.{ParseFault}
 use Rattle.grammar.specs.declared.names.Callee.{Callee}
 use Rattle.grammar.specs.declared.operators.Binary.{Binary as AnOperator}
@@ -11,9 +11,10 @@ use Rattle.grammar.specs.Building.{Meaning, AppendsAll}
 use Rattle.grammar.specs.Derivation.{ACall, AnExpr}
 use Rattle.grammar.specs.Grammar.{Item, Arguments, Part, Symbol, Tail}
 use Rattle.grammar.specs.Nesting.{args_nesting, nesting, right_side}
+use Rattle.grammar.specs.Operators.{operator_from}
 use Rattle.grammar.specs.Resolved.{InArgs, InExpr}
 use Rattle.grammar.specs.Tree.{Args, Binary, Expr, NoMore}
-use Rattle.parsing.specs.Position.{Place, Standing, taken_at}
+use Rattle.parsing.specs.Position.{Place, Standing, taken_at, token_of}
 use Rattle.parsing.specs.Room.{room}
 use Rattle.parsing.specs.Stopping.{Stop}
 use Rattle.parsing.specs.Segment.{Derives, FailsAt, FailsItem, Refused}
@@ -72,11 +73,12 @@ ParsesOperandAlone (Ok x) allocates before after symbol old new =
 ParsesOperandAlone (Err fault) allocates before after symbol old new =
     Refused (FailsItem (Part symbol) old.place) allocates (taken_at new.place) fault
 
--- the same of an operator and its right side
+-- the same of an operator and its right side, which goes up to an operator that binds no tighter
 abbrev pub ParsesOperand : {A : Type 0} → Result A ParseFault → (allocates : Bool) (before after : Meaning)
     (depth : ℕ) → AnOperator → (old new : Standing) → Type 0
 ParsesOperand (Ok x) allocates before after depth b old new =
     AddsOperand before after depth b.level b.op old.place new.place
+    × (operator_from (b.level + 1) (token_of new) ≡ None)
 ParsesOperand (Err fault) allocates before after depth b old new =
     Refused (FailsOperand depth b.level old.place) allocates (taken_at new.place) fault
 

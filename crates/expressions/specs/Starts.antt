@@ -1,6 +1,8 @@
 -- With which two tokens a form of an expression starts.
-use Rattle.std.specs.Prelude.{◌≡◌, Some, None, is_some, true, false}
+use Rattle.std.specs.Prelude.{◌≡◌, ℕ, Some, None, is_some, true, false}
 use Rattle.tokens.specs.declared.located_tokens.Punctuator.TheVariants as punctuator
+use Rattle.tokens.specs.declared.located_tokens.Token.TheVariants as token
+use Rattle.tokens.specs.Tokens.{FitsToken}
 use Rattle.grammar.specs.declared.operators.StoreOp.{StoreOp}
 use Rattle.grammar.specs.Derivation.{name_of_token}
 use Rattle.grammar.specs.Grammar.{is_punctuator}
@@ -8,6 +10,11 @@ use Rattle.grammar.specs.Operators.{store_operator}
 use Rattle.parsing.specs.Position.{Standing, token_after, token_of}
 use Rattle.expressions.specs.declared.signs.Step.{Step}
 use Rattle.expressions.specs.Signs.{step_punctuator}
+
+-- a constant, of a value that it may have
+pub record StartsConstant (value : ℕ) (at : Standing) : Type 0 where
+  pub is : token_of at ≡ token.Constant value
+  pub fits : FitsToken (token.Constant value)
 
 -- a name
 abbrev pub StartsName : Standing → Type 0

@@ -108,7 +108,6 @@ fn operand<F: Feed, B: Build>(
     ensures parses { ParsesOperand result B.allocates (B.stands build.old) (B.stands build.new)
         depth binary parser.old parser.new }
     ensures grown { Grows result (B.stands build.old) (B.stands build.new) }
-    ensures none { OnOk result (operator_from (binary.level + 1) (token_of parser.new) ≡ None) }
     ensures kept { Advances result parser.old parser.new }
 {
     parser.advance()?;

@@ -1,8 +1,6 @@
 //! Operands without operands of their own: constants and variables, with `++` and `--`.
 
 ghost use Rattle.std.specs.Prelude.{◌≡◌, [], ◌∷◌, true};
-ghost use Rattle.tokens.specs.Tokens.{FitsToken};
-ghost use Rattle.tokens.specs.declared.located_tokens.Token.TheVariants as token;
 ghost use Rattle.grammar.specs.Grammar.{Primary, Unary, is_punctuator};
 ghost use Rattle.parsing.specs.Advancing.{Advances, IsReady};
 ghost use Rattle.parsing.specs.Growing.{Grows};
@@ -10,7 +8,7 @@ ghost use Rattle.parsing.specs.Position.{token_of};
 ghost use Rattle.parsing.specs.Room.{HasRoom};
 ghost use Rattle.expressions.specs.Expressions.{ParsesOperandAlone};
 ghost use Rattle.expressions.specs.Signs.{step_punctuator};
-ghost use Rattle.expressions.specs.Starts.{StartsStep, StartsVariable};
+ghost use Rattle.expressions.specs.Starts.{StartsConstant, StartsStep, StartsVariable};
 
 use crate::signs::{Step, step_of};
 use grammar::{Build, ParseFault};
@@ -24,8 +22,7 @@ pub fn constant<F: Feed, B: Build>(
     value: u32,
 ) -> Result<(), ParseFault>
     requires open { HasRoom (B.stands build.old) 0 }
-    requires fits { FitsToken (token.Constant value) }
-    requires is { token_of parser.old ≡ token.Constant value }
+    requires is { StartsConstant value parser.old }
     requires ready { IsReady parser.old }
     ensures parses { ParsesOperandAlone result B.allocates (B.stands build.old) (B.stands build.new)
         Primary parser.old parser.new }

@@ -94,7 +94,7 @@ levels-loop-binary-preserved g t c =
     let here : operator_from c.args.level c.loop-binary.parser.place.position.reading.next.token ≡ Some c.in-Some.binary = cc in
     record {
       climbs = climbs_on _ _ _ c.args.parser.now.place _ _ c.args.depth c.args.level c.in-Some.binary c.loop-binary.invariant.climbs here
-          c.in_ok-operand.ensures.parses c.in_ok-operand.ensures.none;
+          c.in_ok-operand.ensures.parses.0 c.in_ok-operand.ensures.parses.1;
       kept = on_then _ _ _ c.loop-binary.invariant.kept (on _ _ c.in_ok-operand.ensures.kept);
     }
 
@@ -128,8 +128,10 @@ operand-binop-requires g t c =
     record { follows = apply_follows _ _ _ c.args.depth c.args.binary.level c.args.binary.op _ c.in_ok-levels.ensures.parses.tree (at_its_own _ c.args.binary c.requires.is) c.requires.open c.in_ok-tell_middle.ensures.told c.in_ok-levels.ensures.parses.numbered c.in_ok-levels.ensures.parses.narrow c.in_ok-levels.ensures.parses.added }
 
 pub operand-returns-clause-parses : goal.operand-returns-clause-parses
-operand-returns-clause-parses g t c =
-    operand_adds _ _ _ _ c.args.parser.now.place _ _ c.args.depth c.args.binary.level c.args.binary.op (at_its_own _ c.args.binary c.requires.is) c.in_ok-advance.ensures.consumes c.in_ok-tell_middle.ensures.told c.in_ok-levels.ensures.parses c.in_ok-binop.ensures.ok c.in_ok-levels.ensures.kept.ready.sound
+operand-returns-clause-parses g t c = (
+  operand_adds _ _ _ _ c.args.parser.now.place _ _ c.args.depth c.args.binary.level c.args.binary.op (at_its_own _ c.args.binary c.requires.is) c.in_ok-advance.ensures.consumes c.in_ok-tell_middle.ensures.told c.in_ok-levels.ensures.parses c.in_ok-binop.ensures.ok c.in_ok-levels.ensures.kept.ready.sound,
+  c.in_ok-levels.ensures.none,
+)
 
 pub call-returns-then-depth-ge-MOST_LEVELS-clause-parses : goal.call-returns-then-depth-ge-MOST_LEVELS-clause-parses
 call-returns-then-depth-ge-MOST_LEVELS-clause-parses g t c =
@@ -314,8 +316,8 @@ pub primary-returns-in_default-2 : goal.primary-returns-in_default-2
 primary-returns-in_default-2 g t c =
     let misses : is_punctuator punctuator.OpenRound c.args.parser.now.place.position.reading.next.token ≡ false = cc in
     let none : NoPrimary c.args.parser.now.place.position.reading.next.token = record {
-      constant = λ value same. c.in_default.not-Constant value (ap (λ (l : LocatedToken). l.token) c.next.ensures.value ∙ same);
-      name = λ name same. c.in_default.not-Name name (ap (λ (l : LocatedToken). l.token) c.next.ensures.value ∙ same);
+      constant = λ value same. c.in_default.not-Constant value (ap (λ (l : LocatedToken). l.token) c.peek.ensures.value ∙ same);
+      name = λ name same. c.in_default.not-Name name (ap (λ (l : LocatedToken). l.token) c.peek.ensures.value ∙ same);
       bracket = misses;
     } in
     record {
@@ -327,8 +329,8 @@ primary-returns-in_default-2 g t c =
 pub unary-returns-in_err-primary-clause-parses : goal.unary-returns-in_err-primary-clause-parses
 unary-returns-in_err-primary-clause-parses g t c =
     let none : NoOperator c.args.parser.now.place.position.reading.next.token = record {
-      sound = rw c.next.ensures.value at c.next.ensures.sound;
-      signs = λ s. rw c.next.ensures.value at (c.in_default.ensures.none s);
+      sound = rw c.peek.ensures.value at c.peek.ensures.sound;
+      signs = λ s. rw c.peek.ensures.value at (c.in_default.ensures.none s);
       steps = λ s. rw c.peek-in_default.ensures.value at (c.in_default-step_of.ensures.none s);
     } in
     let p = err_from_is_err_and c.from_residual-in_err-primary.result c.from_residual-in_err-primary.ensures.1 in
@@ -337,8 +339,8 @@ unary-returns-in_err-primary-clause-parses g t c =
 pub unary-returns-in_ok-primary-clause-parses : goal.unary-returns-in_ok-primary-clause-parses
 unary-returns-in_ok-primary-clause-parses g t c =
     let none : NoOperator c.args.parser.now.place.position.reading.next.token = record {
-      sound = rw c.next.ensures.value at c.next.ensures.sound;
-      signs = λ s. rw c.next.ensures.value at (c.in_default.ensures.none s);
+      sound = rw c.peek.ensures.value at c.peek.ensures.sound;
+      signs = λ s. rw c.peek.ensures.value at (c.in_default.ensures.none s);
       steps = λ s. rw c.peek-in_default.ensures.value at (c.in_default-step_of.ensures.none s);
     } in
     primary_adds _ _ c.args.parser.now.place _ c.args.depth none c.in_ok-primary.ensures.parses

@@ -14,11 +14,11 @@ constant-requires g c = record { follows = constant_follows _ 0 (to_z w32 c.args
 pub returns-in_err-advance-clause-parses : goal.returns-in_err-advance-clause-parses
 returns-in_err-advance-clause-parses g c =
     let p = err_from_is_err_and c.from_residual-in_err-advance.result c.from_residual-in_err-advance.ensures.1 in
-    rw (p.1, p.2) (constant_ends _ c.args.parser.now.place c.args.value _ c.in_err-advance.field-0.0 c.requires.is c.in_err-advance.ensures.consumes)
+    rw (p.1, p.2) (constant_ends _ c.args.parser.now.place c.args.value _ c.in_err-advance.field-0.0 c.requires.is.is c.in_err-advance.ensures.consumes)
 
 pub returns-clause-parses : goal.returns-clause-parses
-returns-clause-parses g c = constant_adds _ _ c.args.parser.now.place _ c.args.value c.requires.is c.in_ok-advance.ensures.consumes
-    (λ profile acts start. subst (λ (v : ℤ). g.B.Build.stands c.constant.new.self profile (acts ++ PushConstant v ∷ [])) (to_z_pos w32 c.args.value (omega arith)) (c.in_ok-constant.ensures.ok profile acts start))
+returns-clause-parses g c = constant_adds _ _ c.args.parser.now.place _ c.args.value c.requires.is.is c.in_ok-advance.ensures.consumes
+    (λ profile acts start. subst (λ (v : ℤ). g.B.Build.stands c.constant.new.self profile (acts ++ PushConstant v ∷ [])) (to_z_pos w32 c.args.value (let fits = c.requires.is.fits in omega arith)) (c.in_ok-constant.ensures.ok profile acts start))
 
 -- What the builder was told where the device failed.
 
