@@ -5,6 +5,8 @@ pub mod Tree
 pub mod Actions
 pub mod Pools
 pub mod Grammar
+pub mod Productions
+pub mod Scheme
 pub mod Scope
 pub mod Derivation
 pub mod Faults
