@@ -13,6 +13,7 @@ pub mod Faults
 pub mod Compiled
 pub mod Need
 pub mod Following
+pub mod Origins
 pub mod Beginning
 pub mod Resolved
 pub mod Nesting
