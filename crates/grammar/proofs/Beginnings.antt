@@ -11,10 +11,11 @@ use Rattle.grammar.specs.Derivation.{Definition}
 use Rattle.grammar.specs.Faults.{definitions_actions}
 use Rattle.grammar.specs.Following.{InFunction, Opened, open_count, few_open, follow, follow_all, then_follow, is_number, is_var_numbered, is_callee_numbered, only_on, most_numbers, most_open}
 use Rattle.grammar.specs.Nesting.{nesting, body_nesting, right_side}
+use Rattle.grammar.specs.Origins.{origin_of, ends_in_return}
 use Rattle.grammar.specs.Resolved.{InBody}
 use Rattle.grammar.specs.Tree.{Expr, Constant, Binary, Call, NoMore, Argument, Body, Done, ExpressionStatement, IfStatement, IfElseStatement, While, Return, join}
-use Rattle.grammar.proofs.FollowingLaws.{origin_of, Leads, chain, definition_leads}
-use Rattle.grammar.proofs.Unfinished.{Place, InFun, InFirst, InSecond, InLoop, Hole, Statement, Test, Behind, RightSide, Arguments, returned, open_hole, place_actions, hole_actions, place_count, hole_count, ExprFits, BodyFits, PlaceFits, HoleFits, fits-join, body_actions-join}
+use Rattle.grammar.proofs.FollowingLaws.{Leads, chain, definition_leads}
+use Rattle.grammar.proofs.Unfinished.{Place, InFun, InFirst, InSecond, InLoop, Hole, Statement, Test, Behind, RightSide, Arguments, open_hole, place_actions, hole_actions, place_count, hole_count, ExprFits, BodyFits, PlaceFits, HoleFits, fits-join, body_actions-join}
 use Rattle.grammar.proofs.UnfinishedSteps.{IsWithin, Steps, number_is, step}
 
 -- What begins actions that may follow may follow.
@@ -226,7 +227,7 @@ record Before (b : Body) : Type 0 where
   body : Body
   is : b ≡ join body (Return (Constant (pos 0)) Done)
 
-last_return_of : (before : Bool) (b : Body) → returned before b ≡ true → ((b ≡ Done) × (before ≡ true)) ⊎ Before b
+last_return_of : (before : Bool) (b : Body) → ends_in_return before b ≡ true → ((b ≡ Done) × (before ≡ true)) ⊎ Before b
 last_return_of before Done h = inl (refl, h)
 last_return_of before (ExpressionStatement e rest) h = by (last_return_of false rest h)
   where
@@ -254,7 +255,7 @@ last_return_of before (Return e rest) h = by (last_return_of (is_number 0 (origi
     by (inl p) = inr (record { body = Done; is = rw (p.0, number_is 0 e p.1) refl })
     by (inr s) = inr (record { body = Return e s.body; is = ap (Return e) s.is })
 
-before_last : (b : Body) → returned false b ≡ true → Before b
+before_last : (b : Body) → ends_in_return false b ≡ true → Before b
 before_last b h = by (last_return_of false b h)
   where
     by : ((b ≡ Done) × (false ≡ true)) ⊎ Before b → Before b
@@ -306,9 +307,9 @@ begun n k q acts ds e told is =
     }
 
 finished : (n k v : ℕ) (b : Body) (q : Opened) (acts : List Action) (ds : List Definition) → definitions_actions ds ++ (Begin n k ∷ body_actions b) ≡ acts → AreTellable ds →
-    PlaceFits (InFun n k b) → follow (Finish v) (InFunction k (returned false b) ∷ []) ≡ Some q → Makes (acts ++ Finish v ∷ []) q
+    PlaceFits (InFun n k b) → follow (Finish v) (InFunction k (ends_in_return false b) ∷ []) ≡ Some q → Makes (acts ++ Finish v ∷ []) q
 finished n k v b q acts ds e told fits is =
-    let f = finish_makes v k (returned false b) q is in
+    let f = finish_makes v k (ends_in_return false b) q is in
     let front : Before b = before_last b f.returned in
     let fit : BodyFits 0 front.body = fits_front front.body (Return (Constant (pos 0)) Done) (subst (λ (c : Body). BodyFits 0 c) front.is fits.2) in
     let joined : (Begin n k ∷ body_actions (join front.body (Return (Constant (pos 0)) Done))) ++ Finish v ∷ [] ≡ Begin n k ∷ (body_actions front.body ++ (last_return ++ Finish v ∷ [])) =

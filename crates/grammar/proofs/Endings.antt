@@ -1,5 +1,5 @@
 -- A derivation ends: each step makes it lighter.
-use Rattle.std.proofs.Common.{◌≡◌, ℕ, zero, suc, ◌+◌, ◌<◌, ◌≤◌, List, [], ◌∷◌, ◌++◌, refl, sym, ap, ◌∙◌, subst, Bool, true, false, arith}
+use Rattle.std.proofs.Common.{◌≡◌, ℕ, zero, suc, ◌+◌, ◌<◌, ◌≤◌, List, [], ◌∷◌, ◌++◌, refl, sym, subst, Bool, true, false, arith}
 use Rattle.std.proofs.lemmas.Bool.Decides.{nat_tests}
 use Rattle.std.specs.Prelude.{Option, Some, None, nat_lt, if◌then◌else◌}
 use Rattle.tokens.specs.declared.located_tokens.LocatedToken.{LocatedToken}
@@ -14,6 +14,7 @@ use Rattle.grammar.specs.Derivation.{State, state, Value, Definition, step, step
 use Rattle.grammar.specs.Grammar.{Symbol, Source, Types, Head, More, Parameters, ParameterTypes, FunctionBlock, Block, Declarations, Statements, Statement, ElsePart, Back, Expression, Level, Tail, Unary, Primary, Arguments, MoreArguments, Role, Item, Exactly, AWord, AName, AConstant, AnEnd, Part, Make, Close, Production, choice, assignment_or, tail_production, is_fault}
 use Rattle.grammar.specs.Operators.{operator_at, store_of}
 use Rattle.grammar.specs.Scope.{Scope}
+use Rattle.grammar.proofs.Runs.{stays}
 use Rattle.grammar.proofs.Weight.{cost, costs, credit_of, credit, weight}
 
 abbrev load : List Item → ℕ
@@ -235,10 +236,6 @@ IsFinal s = step s ≡ None
 
 pub final_stays : (s : State) → IsFinal s → stepped s ≡ s
 final_stays s e = rw e refl
-
-stays : (n : ℕ) (s : State) → stepped s ≡ s → run n s ≡ s
-stays zero s e = refl
-stays (suc n) s e = ap (λ t. run n t) e ∙ stays n s e
 
 pub stays_final : (n : ℕ) (s : State) → IsFinal s → run n s ≡ s
 stays_final n s e = stays n s (final_stays s e)

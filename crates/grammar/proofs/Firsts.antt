@@ -1,5 +1,5 @@
 -- Which fault of a derivation is its first.
-use Rattle.std.proofs.Common.{◌≡◌, ℕ, zero, suc, ◌<◌, ◌≤◌, List, [], ◌∷◌, ◌++◌, refl, sym, ap, ◌∙◌, subst, inl, inr, Bool, true, false, arith, length, drop, le_refl, le_trans, lt-ltb, append-nil}
+use Rattle.std.proofs.Common.{◌≡◌, ℕ, zero, suc, ◌<◌, ◌≤◌, List, [], ◌∷◌, ◌++◌, refl, sym, ap, subst, inl, inr, Bool, true, false, arith, length, drop, le_refl, le_trans, lt-ltb, append-nil}
 use Rattle.std.proofs.lemmas.Bool.Decides.{nat_tests}
 use Rattle.std.specs.Prelude.{Option, Some, None, unwrap_or, nat_le, nat_lt, if◌then◌else◌}
 use Rattle.tokens.specs.declared.located_tokens.LocatedToken.{LocatedToken}
@@ -16,16 +16,13 @@ use Rattle.grammar.specs.Intrinsics.{is_intrinsic}
 use Rattle.grammar.specs.Parsing.{IsIn, IsFirstFault, Fails}
 use Rattle.grammar.specs.Profile.{Profile}
 use Rattle.grammar.specs.Scope.{Scope, has_begun, is_external_new, is_function_new, is_local_new, is_variable_new}
+use Rattle.grammar.proofs.Runs.{stays}
 
 reflexive_at : (n c : ℕ) → (if nat_lt n n then true else (if nat_lt n n then false else nat_le c c)) ≡ true
 reflexive_at n c = grind (arith, nat_tests)
 
 pub reflexive : (f : Fault) → is_first f f ≡ true
 reflexive f = reflexive_at (length f.rest) (number_of f.code)
-
-stays : (n : ℕ) (s : State) → stepped s ≡ s → run n s ≡ s
-stays zero s e = refl
-stays (suc n) s e = ap (λ t. run n t) e ∙ stays n s e
 
 only_one : (f g : Fault) (faults : List Fault) → faults ≡ f ∷ [] → IsIn g faults → f ≡ g
 only_one f g [] e h = absurd h

@@ -9,9 +9,11 @@ use Rattle.grammar.specs.declared.names.Var.TheVariants as var
 use Rattle.grammar.specs.declared.operators.Op.{Op}
 use Rattle.grammar.specs.declared.operators.Op.TheVariants as op
 use Rattle.grammar.specs.Actions.{Action, PushConstant, FetchVariable, StoreVariable, ApplyBinop, LogicMiddle, BeginCall, EndCall, IfTest, ElsePart, EndIf, BeginWhile, WhileTest, EndWhile, GiveBack, Chop, Begin, Finish, expr_actions, args_actions, body_actions, last_return, middle, function_actions, functions_actions, numbered_actions}
-use Rattle.grammar.specs.Following.{Open, InFunction, AValue, BeforeRight, InCall, InBranch, InElse, BeforeTest, InTurn, Opened, Origin, Number, Fetched, Stepped, Computed, open_count, is_place, few_open, follow, follow_all, then_follow, most_open, most_numbers, is_var_numbered, is_callee_numbered, statement_done, call_done, stored, is_number, same_op, same_var}
+use Rattle.grammar.specs.Following.{Open, InFunction, AValue, BeforeRight, InCall, InBranch, InElse, BeforeTest, InTurn, Opened, Origin, Number, Fetched, Stepped, Computed, open_count, is_place, few_open, follow, follow_all, then_follow, most_open, most_numbers, is_var_numbered, is_callee_numbered, statement_done, call_done, is_number, same_op, same_var}
 use Rattle.grammar.specs.Nesting.{nesting, args_nesting, body_nesting, right_side}
 use Rattle.grammar.specs.Operators.{is_logic}
+-- how the value of an expression came about
+pub use Rattle.grammar.specs.Origins.{origin_of}
 use Rattle.grammar.specs.Resolved.{IsVariable, IsCallable, InExpr, InArgs, InBody, InFile, IsAmong}
 use Rattle.grammar.specs.Tree.{Expr, Constant, Variable, Binary, Assign, Postfix, Call, Args, NoMore, Argument, Body, Done, ExpressionStatement, IfStatement, IfElseStatement, While, Return, Function}
 use Rattle.grammar.specs.Laws.{EachFileFollows}
@@ -63,15 +65,6 @@ same_itself (var.Local j) = grind (arith, nat_tests)
 same_itself (var.External j) = grind (arith, nat_tests)
 
 -- Expressions.
-
--- how the value of an expression came about
-abbrev pub origin_of : Expr → Origin
-origin_of (Constant value) = Number value
-origin_of (Variable v) = Fetched v
-origin_of (Binary op a b) = Computed
-origin_of (Assign op v e) = stored v (origin_of e)
-origin_of (Postfix op v) = Computed
-origin_of (Call f args) = Computed
 
 -- the values of arguments, on what is open
 abbrev pub pushed : Args → Opened → Opened

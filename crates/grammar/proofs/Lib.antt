@@ -8,6 +8,7 @@ pub mod Firsts
 pub mod Order
 pub mod Verdicts
 pub mod Levels
+pub mod Productions
 pub mod Keeping
 pub mod Widening
 pub mod FollowingLaws

@@ -10,6 +10,11 @@ pub run-add : (m n : ℕ) (s : State) → run (m + n) s ≡ run n (run m s)
 run-add zero n s = ap (λ k. run k s) (zero-add n)
 run-add (suc m) n s = ap (λ k. run k s) (suc-add m n) ∙ run-add m n (stepped s)
 
+-- a state that no step changes
+pub stays : (n : ℕ) (s : State) → stepped s ≡ s → run n s ≡ s
+stays zero s e = refl
+stays (suc n) s e = ap (λ t. run n t) e ∙ stays n s e
+
 pub faults_in-add : (profile : Profile) (m n : ℕ) (s : State) →
     faults_in profile (m + n) s ≡ faults_in profile m s ++ faults_in profile n (run m s)
 faults_in-add profile zero n s = ap (λ k. faults_in profile k s) (zero-add n)

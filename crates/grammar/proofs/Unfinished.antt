@@ -6,9 +6,9 @@ use Rattle.grammar.specs.Actions.{Action, LogicMiddle, BeginCall, IfTest, ElsePa
 use Rattle.grammar.specs.Following.{InFunction, AValue, BeforeRight, InCall, InBranch, InElse, BeforeTest, InTurn, Open, Opened, open_count, is_place, is_number, statement_done, within}
 use Rattle.grammar.specs.Nesting.{nesting, body_nesting}
 use Rattle.grammar.specs.Operators.{is_logic}
+use Rattle.grammar.specs.Origins.{origin_of, ends_in_return}
 use Rattle.grammar.specs.Resolved.{InExpr, InBody}
 use Rattle.grammar.specs.Tree.{Expr, Body, Done, ExpressionStatement, IfStatement, IfElseStatement, While, Return, join}
-use Rattle.grammar.proofs.FollowingLaws.{origin_of}
 use Rattle.grammar.proofs.Soundness.{join_in}
 
 -- a body whose statements are not all there, with what stands around it
@@ -26,17 +26,8 @@ pub data Hole : Type 0 where
   RightSide : (op : Op) (e : Expr) (h : Hole) → Hole  -- the right side of && or ||, behind its left side
   Arguments : (h : Hole) → Hole
 
--- whether the last of these statements is `return 0;`
-abbrev pub returned : Bool → Body → Bool
-returned before Done = before
-returned before (ExpressionStatement e rest) = returned false rest
-returned before (IfStatement c s rest) = returned false rest
-returned before (IfElseStatement c s t rest) = returned false rest
-returned before (While c s rest) = returned false rest
-returned before (Return e rest) = returned (is_number 0 (origin_of e)) rest
-
 abbrev pub open_place : Place → Opened
-open_place (InFun n k b) = InFunction k (returned false b) ∷ []
+open_place (InFun n k b) = InFunction k (ends_in_return false b) ∷ []
 open_place (InFirst c b outer) = InBranch ∷ open_place outer
 open_place (InSecond c s b outer) = InElse ∷ open_place outer
 open_place (InLoop c b outer) = InTurn ∷ open_place outer
@@ -100,13 +91,13 @@ body_actions-join (IfElseStatement c t u rest) s = rw (body_actions-join rest s)
 body_actions-join (While c t rest) s = rw (body_actions-join rest s) (simp append_assoc refl)
 body_actions-join (Return e rest) s = rw (body_actions-join rest s) (simp append_assoc refl)
 
-returned-join : (before : Bool) (b s : Body) → returned before (join b s) ≡ returned (returned before b) s
-returned-join before Done s = refl
-returned-join before (ExpressionStatement e rest) s = returned-join false rest s
-returned-join before (IfStatement c t rest) s = returned-join false rest s
-returned-join before (IfElseStatement c t u rest) s = returned-join false rest s
-returned-join before (While c t rest) s = returned-join false rest s
-returned-join before (Return e rest) s = returned-join (is_number 0 (origin_of e)) rest s
+ends_in_return-join : (before : Bool) (b s : Body) → ends_in_return before (join b s) ≡ ends_in_return (ends_in_return before b) s
+ends_in_return-join before Done s = refl
+ends_in_return-join before (ExpressionStatement e rest) s = ends_in_return-join false rest s
+ends_in_return-join before (IfStatement c t rest) s = ends_in_return-join false rest s
+ends_in_return-join before (IfElseStatement c t u rest) s = ends_in_return-join false rest s
+ends_in_return-join before (While c t rest) s = ends_in_return-join false rest s
+ends_in_return-join before (Return e rest) s = ends_in_return-join (is_number 0 (origin_of e)) rest s
 
 nesting-join : (n : ℕ) (b s : Body) → n + body_nesting b ≤ 200 → n + body_nesting s ≤ 200 → n + body_nesting (join b s) ≤ 200
 nesting-join n Done s h k = k
@@ -139,8 +130,8 @@ add_fits s (InFirst c b outer) f g = (f.0, f.1, fits-join (1 + place_count outer
 add_fits s (InSecond c t b outer) f g = (f.0, f.1, f.2, fits-join (1 + place_count outer) b s f.3 g)
 add_fits s (InLoop c b outer) f g = (f.0, f.1, fits-join (1 + place_count outer) b s f.2 g)
 
-pub add_opens : (r : Bool) (s : Body) (p : Place) → ((before : Bool) → returned before s ≡ r) → statement_done r (open_place p) ≡ Some (open_place (add s p))
-add_opens r s (InFun n k b) h = rw (returned-join false b s, h (returned false b)) refl
+pub add_opens : (r : Bool) (s : Body) (p : Place) → ((before : Bool) → ends_in_return before s ≡ r) → statement_done r (open_place p) ≡ Some (open_place (add s p))
+add_opens r s (InFun n k b) h = rw (ends_in_return-join false b s, h (ends_in_return false b)) refl
 add_opens r s (InFirst c b outer) h = refl
 add_opens r s (InSecond c t b outer) h = refl
 add_opens r s (InLoop c b outer) h = refl

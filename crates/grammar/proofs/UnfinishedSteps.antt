@@ -13,10 +13,11 @@ use Rattle.grammar.specs.Actions.{Action, PushConstant, FetchVariable, StoreVari
 use Rattle.grammar.specs.Following.{AValue, BeforeRight, InCall, InBranch, InElse, BeforeTest, Opened, Origin, Number, Fetched, Stepped, Computed, open_count, is_place, is_number, is_step, is_var_numbered, is_callee_numbered, same_var, same_op, stored, statement_done, call_done, only_on, within, follow, most_numbers}
 use Rattle.grammar.specs.Nesting.{nesting, args_nesting, body_nesting, right_side}
 use Rattle.grammar.specs.Operators.{is_logic}
+use Rattle.grammar.specs.Origins.{origin_of, ends_in_return}
 use Rattle.grammar.specs.Resolved.{IsVariable, IsCallable, InArgs}
 use Rattle.grammar.specs.Tree.{Expr, Constant, Variable, Binary, Assign, Postfix, Call, Args, NoMore, Argument, Body, Done, ExpressionStatement, IfStatement, IfElseStatement, While, Return}
-use Rattle.grammar.proofs.FollowingLaws.{origin_of, same_op_is}
-use Rattle.grammar.proofs.Unfinished.{Place, InFun, InFirst, InSecond, InLoop, Hole, Statement, Test, Behind, RightSide, Arguments, returned, open_place, open_hole, place_actions, hole_actions, place_count, hole_count, BodyFits, PlaceFits, HoleFits, add, add_actions, add_fits, add_opens, within_hole}
+use Rattle.grammar.proofs.FollowingLaws.{same_op_is}
+use Rattle.grammar.proofs.Unfinished.{Place, InFun, InFirst, InSecond, InLoop, Hole, Statement, Test, Behind, RightSide, Arguments, open_place, open_hole, place_actions, hole_actions, place_count, hole_count, BodyFits, PlaceFits, HoleFits, add, add_actions, add_fits, add_opens, within_hole}
 
 -- the action neither begins a function nor ends one
 abbrev pub IsWithin : Action → Type 0
@@ -200,7 +201,7 @@ end_call f h q fits least e small =
 -- Statements.
 
 -- a statement more in a place
-settled : (a : Action) (h : Hole) (p : Place) (s : Body) (r : Bool) (q : Opened) → PlaceFits p → BodyFits (place_count p) s → ((before : Bool) → returned before s ≡ r) →
+settled : (a : Action) (h : Hole) (p : Place) (s : Body) (r : Bool) (q : Opened) → PlaceFits p → BodyFits (place_count p) s → ((before : Bool) → ends_in_return before s ≡ r) →
     statement_done r (open_place p) ≡ Some q → place_actions p ++ body_actions s ≡ hole_actions h ++ a ∷ [] → Steps a h q
 settled a h p s r q fits more same e adds = record {
   next = Statement (add s p);

@@ -5,12 +5,15 @@ pub mod Tree
 pub mod Actions
 pub mod Pools
 pub mod Grammar
+pub mod Productions
+pub mod Scheme
 pub mod Scope
 pub mod Derivation
 pub mod Faults
 pub mod Compiled
 pub mod Need
 pub mod Following
+pub mod Origins
 pub mod Beginning
 pub mod Resolved
 pub mod Nesting

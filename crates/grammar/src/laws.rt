@@ -1,6 +1,7 @@
 //! Laws on the definitions of the language.
 
 ghost use Rattle.grammar.specs.Finished.{Finished, Undefined, WithoutMain};
+ghost use Rattle.grammar.specs.Scheme.{ActsByRows, ChoosesRows, HasOneRole};
 ghost use Rattle.grammar.specs.Laws.{BeginningsAreInOrder, BlocksKeepTheFunction, CompiledIsResolved, EachDerivationEnds, EachFileFollows, FaultlessIsResolved, FirstFaultDecides, LevelsAreClosed, MayBeTold, WhatIsInOrderBegins, WhatWasReadIsNeeded};
 
 use crate::build::Build;
@@ -55,4 +56,12 @@ pub fn resolved_files()
 /// A builder may be told what may follow the actions that it stands for.
 pub fn building<B: Build>()
     ensures { (builder : B) → MayBeTold (B.stands builder) }
+{}
+
+/// The productions that the tokens choose are those of the plain grammar, with the semantic actions listed for them, and
+/// each name in a production has the production's role.
+pub fn productions()
+    ensures rows { ChoosesRows }
+    ensures actions { ActsByRows }
+    ensures roles { HasOneRole }
 {}

@@ -1,23 +1,21 @@
 -- What each action makes of what is open.
 use Rattle.std.proofs.Common.{◌≡◌, ℕ, ◌<◌, ◌↔◌, List, [], ◌∷◌, ◌++◌, length, Bool, true, false, map, Vec, Box, Global, sym, ap, subst, ◌∙◌, refl, append_assoc, arith}
-use Rattle.std.proofs.lemmas.Bool.Decides.{nat_tests}
 use Rattle.std.proofs.lemmas.List.{length-replicate}
 use Rattle.std.specs.Option.{option_to_list}
 use Rattle.std.specs.Prelude.{pos, if◌then◌else◌, Option, Some, None, IsSome, IsTrue, is_some}
 use Rattle.grammar.specs.declared.names.Callee.{Callee}
 use Rattle.grammar.specs.declared.names.Var.{Var}
-use Rattle.grammar.specs.declared.names.Var.TheVariants as var
 use Rattle.grammar.specs.declared.operators.Op.{Op}
-use Rattle.grammar.specs.declared.operators.Op.TheVariants as op
 use Rattle.grammar.specs.declared.operators.StoreOp.{StoreOp}
 use Rattle.grammar.specs.Actions.{Action, ApplyBinop, LogicMiddle, BeginCall, EndCall, EndIf, EndWhile, GiveBack, Chop, Finish, body_actions, args_actions, expr_actions}
-use Rattle.grammar.specs.Following.{InFunction, AValue, BeforeRight, Opened, Origin, Stepped, Computed, follow, only_on, statement_done, call_done, is_number, is_step, stored, same_var, same_op, is_callee_numbered}
+use Rattle.grammar.specs.Following.{InFunction, AValue, BeforeRight, Opened, Origin, Computed, follow, only_on, statement_done, call_done, is_step, stored, same_op, is_callee_numbered}
 use Rattle.grammar.specs.Operators.{is_logic}
+use Rattle.grammar.specs.Origins.{origin_of, ends_in_return}
 use Rattle.grammar.specs.Tree.{Args, Body, Done}
 use Rattle.grammar.specs.Tree as tree
 use Rattle.grammar.proofs.FollowingLaws.{same_op_is}
-use Rattle.grammar.proofs.UnfinishedSteps.{same_var_is}
-use Rattle.trees.specs.Opened.{Continues, Ends, IsAllowed, origin_of, ends_in_return, place_of, opened, open_actions, heading_actions}
+use Rattle.grammar.proofs.UnfinishedSteps.{fetched_is, number_is, step_is}
+use Rattle.trees.specs.Opened.{Continues, Ends, IsAllowed, place_of, opened, open_actions, heading_actions}
 use Rattle.trees.specs.Stacks.{AddsTo, above_call, below, below_call, ends_in_value, past_middle, without_last}
 use Rattle.trees.specs.Trees.{arguments, expr_tree, statement_actions, body_tree}
 use Rattle.trees.specs.declared.stack.Body as body_type
@@ -30,7 +28,7 @@ use Rattle.trees.specs.declared.tree.Expr.{Expr}
 use Rattle.trees.specs.declared.tree.Expr.TheVariants as expr
 use Rattle.trees.specs.declared.tree.Statement.{Statement}
 use Rattle.trees.specs.declared.tree.Statement.TheVariants as statement
-use Rattle.trees.proofs.TreeLaws.{tree-Binary, tree-Assign, tree-Postfix, tree-Call, tree-ExpressionStatement, tree-IfStatement, tree-IfElseStatement, tree-While, tree-Return, returns_zero, body_adds, body_ends, last_returns, arguments_add, number_is}
+use Rattle.trees.proofs.TreeLaws.{tree-Binary, tree-Assign, tree-Postfix, tree-Call, tree-ExpressionStatement, tree-IfStatement, tree-IfElseStatement, tree-While, tree-Return, returns_zero, body_adds, body_ends, last_returns, arguments_add}
 
 -- The last statement is left.
 
@@ -215,25 +213,6 @@ binop_continues o right left a b (Test ∷ xs) ys h e is_left is_right = absurd 
 binop_continues o right left a b (entry_of.Body c ∷ xs) ys h e is_left is_right = absurd (cc)
 
 -- The new value of v++ and v-- is dropped.
-
-step_is : (v : Var) (o under : Origin) → is_step (stored v o) under ≡ true → (is_number 1 o ≡ true) × (is_step (Stepped v) under ≡ true)
-step_is v o under h = split (is_number 1 o) h
-  where
-    split : (b : Bool) → is_step (if b then Stepped v else Computed) under ≡ true → (b ≡ true) × (is_step (Stepped v) under ≡ true)
-    split true k = (refl, k)
-    split false k = absurd (cc)
-
-fetched_is : (v : Var) (e : tree.Expr) → is_step (Stepped v) (origin_of e) ≡ true → e ≡ tree.Variable v
-fetched_is v (tree.Constant n) h = absurd (cc)
-fetched_is v (tree.Variable w) h = ap tree.Variable (sym (same_var_is v w h))
-fetched_is v (tree.Binary op a b) h = absurd (cc)
-fetched_is v (tree.Assign op w e) h = split (is_number 1 (origin_of e)) h
-  where
-    split : (b : Bool) → is_step (Stepped v) (if b then Stepped w else Computed) ≡ true → tree.Assign op w e ≡ tree.Variable v
-    split true k = absurd (cc)
-    split false k = absurd (cc)
-fetched_is v (tree.Postfix op w) h = absurd (cc)
-fetched_is v (tree.Call f es) h = absurd (cc)
 
 pub postfix_continues : (o : StoreOp) (v : Var) (b : Box Expr Global) (xs : List entry.Open) → ends_in_value xs ≡ true → IsAllowed Chop (Value (expr.Assign o v b) ∷ xs) →
     Continues Chop (Value (expr.Assign o v b) ∷ xs) (Value (expr.Postfix o v) ∷ below xs)

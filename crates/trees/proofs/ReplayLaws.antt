@@ -2,7 +2,7 @@
 use Rattle.std.proofs.Common.{◌≡◌, ℕ, ◌+◌, ◌<◌, ◌≤◌, List, [], ◌∷◌, ◌++◌, length, get_or, Bool, true, false, map, take, drop, Vec, Box, Global, sym, ap, subst, ◌∙◌, refl, append_assoc, arith}
 use Rattle.std.proofs.lemmas.Bool.Decides.{nat_tests}
 use Rattle.std.proofs.lemmas.List.{append-nil, drop_more, length-replicate, take_more}
-use Rattle.std.specs.Prelude.{pos, if◌then◌else◌, Option, Some, None, IsTrue, is_some, nat_lt}
+use Rattle.std.specs.Prelude.{pos, Some, nat_lt}
 use Rattle.grammar.specs.declared.names.Callee.{Callee}
 use Rattle.grammar.specs.declared.names.Var.{Var}
 use Rattle.grammar.specs.declared.operators.Op.{Op}
@@ -10,7 +10,6 @@ use Rattle.grammar.specs.declared.operators.StoreOp.{StoreOp}
 use Rattle.grammar.specs.Actions.{Action, PushConstant, StoreVariable, ApplyBinop, BeginCall, EndCall, IfTest, ElsePart, EndIf, BeginWhile, WhileTest, EndWhile, GiveBack, Begin, Finish, last_return, args_actions, body_actions, expr_actions, function_actions, middle, code_length}
 use Rattle.grammar.specs.Beginning.{IsBeginning}
 use Rattle.grammar.specs.Building.{Meaning, MayFollow, MayFollowAll, StandsOpen, AppendsAll, Appends, IsOver}
-use Rattle.grammar.specs.Following.{Opened, few_open, follow, follow_all, then_follow}
 use Rattle.grammar.specs.Profile.{Profile}
 use Rattle.grammar.specs.Tree.{Done}
 use Rattle.grammar.proofs.Beginnings.{begins_with, follows_begins}

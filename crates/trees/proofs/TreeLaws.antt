@@ -1,17 +1,15 @@
 -- The trees of each kind of expression and statement, and the actions of lists of them.
-use Rattle.std.proofs.Common.{◌≡◌, ℕ, zero, suc, List, [], ◌∷◌, ◌++◌, Bool, true, false, map, take, drop, Vec, Box, Global, sym, ap, ◌∙◌, refl, append_assoc, arith}
-use Rattle.std.proofs.lemmas.Bool.Decides.{nat_tests}
+use Rattle.std.proofs.Common.{◌≡◌, ℕ, zero, suc, List, [], ◌∷◌, ◌++◌, Bool, true, false, map, take, drop, Vec, Box, Global, sym, ap, ◌∙◌, refl, append_assoc}
 use Rattle.std.proofs.lemmas.List.{append-nil}
-use Rattle.std.specs.Prelude.{pos, negsuc, if◌then◌else◌}
 use Rattle.grammar.specs.declared.names.Callee.{Callee}
 use Rattle.grammar.specs.declared.names.Var.{Var}
 use Rattle.grammar.specs.declared.operators.Op.{Op}
 use Rattle.grammar.specs.declared.operators.StoreOp.{StoreOp}
 use Rattle.grammar.specs.Actions.{Action, Chop, GiveBack, body_actions, args_actions, expr_actions, function_actions, last_return}
-use Rattle.grammar.specs.Following.{Stepped, Computed, is_number}
+use Rattle.grammar.specs.Origins.{ends_in_return}
 use Rattle.grammar.specs.Tree.{Args, Body, Done}
 use Rattle.grammar.specs.Tree as tree
-use Rattle.trees.specs.Opened.{origin_of, ends_in_return}
+use Rattle.grammar.proofs.UnfinishedSteps.{number_is}
 use Rattle.trees.specs.Stacks.{without_last}
 use Rattle.trees.specs.Trees.{arguments, expr_node, expr_tree, statement_node, statement_tree, statement_actions, body_tree, function_tree, made_actions}
 use Rattle.trees.specs.declared.tree.Expr.{Expr, Expr-F, fold-roll-Expr}
@@ -130,20 +128,6 @@ statement_ends s b rest =
 pub body_ends : (ss : List Statement) (s : Statement) (b : Bool) → ends_in_return b (body_tree (ss ++ s ∷ [])) ≡ returns_zero s
 body_ends [] s b = statement_ends s b Done
 body_ends (t ∷ ss) s b = statement_ends t b (body_tree (ss ++ s ∷ [])) ∙ body_ends ss s (returns_zero t)
-
--- an expression that is a number
-pub number_is : (n : ℕ) (e : tree.Expr) → is_number n (origin_of e) ≡ true → e ≡ tree.Constant (pos n)
-number_is n (tree.Constant (pos m)) h = ap (λ m. tree.Constant (pos m)) (grind (arith, nat_tests, h))
-number_is n (tree.Constant (negsuc m)) h = absurd (cc)
-number_is n (tree.Variable v) h = absurd (cc)
-number_is n (tree.Binary op a b) h = absurd (cc)
-number_is n (tree.Assign op v e) h = one (is_number 1 (origin_of e)) h
-  where
-    one : (b : Bool) → is_number n (if b then Stepped v else Computed) ≡ true → tree.Assign op v e ≡ tree.Constant (pos n)
-    one true k = absurd (cc)
-    one false k = absurd (cc)
-number_is n (tree.Postfix op v) h = absurd (cc)
-number_is n (tree.Call f es) h = absurd (cc)
 
 node_returns : (x : Statement-F (Body → Body)) → ends_in_return false (statement_node x Done) ≡ true → body_actions (statement_node x Done) ≡ last_return
 node_returns (Statement-F.ExpressionStatement e) h = absurd (cc)

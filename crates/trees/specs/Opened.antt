@@ -1,35 +1,17 @@
 -- What stands on the stack of a maker: the actions that it was made of, and what it leaves open.
-use Rattle.std.specs.Prelude.{ℕ, ◌≡◌, List, [], ◌∷◌, ◌++◌, Bool, false, Some, is_some, IsTrue}
+use Rattle.std.specs.Prelude.{ℕ, ◌≡◌, List, [], ◌∷◌, ◌++◌, false, Some, is_some, IsTrue}
 use Rattle.grammar.specs.Actions.{Action, BeginCall, IfTest, ElsePart, BeginWhile, WhileTest, Begin, Finish}
 use Rattle.grammar.specs.Actions.{expr_actions, body_actions, function_actions, middle}
 use Rattle.grammar.specs.Following.{Open, InFunction, AValue, BeforeRight, InCall, InBranch, InElse, BeforeTest, InTurn}
-use Rattle.grammar.specs.Following.{Opened, Origin, Number, Fetched, Computed, stored, is_number, follow}
-use Rattle.grammar.specs.Tree.{Expr, Constant, Variable, Binary, Assign, Postfix, Call, Body, Done, ExpressionStatement}
-use Rattle.grammar.specs.Tree.{IfStatement, IfElseStatement, While, Return}
+use Rattle.grammar.specs.Following.{Opened, follow}
+use Rattle.grammar.specs.Origins.{origin_of, ends_in_return}
+use Rattle.grammar.specs.Tree.{Body}
 use Rattle.trees.specs.Trees.{expr_tree, body_tree, function_tree}
 use Rattle.trees.specs.declared.tree.Function.{Function}
 use Rattle.trees.specs.declared.stack.Heading.{Heading}
 use Rattle.trees.specs.declared.stack.Heading.TheVariants as heading
 use Rattle.trees.specs.declared.stack.Open as entry
 use Rattle.trees.specs.declared.stack.Open.TheVariants as entry_of
-
--- how the value of an expression came about
-abbrev pub origin_of : Expr → Origin
-origin_of (Constant value) = Number value
-origin_of (Variable v) = Fetched v
-origin_of (Binary op a b) = Computed
-origin_of (Assign op v e) = stored v (origin_of e)
-origin_of (Postfix op v) = Computed
-origin_of (Call f args) = Computed
-
--- whether the last of these statements is `return 0;`
-abbrev pub ends_in_return : Bool → Body → Bool
-ends_in_return before Done = before
-ends_in_return before (ExpressionStatement e rest) = ends_in_return false rest
-ends_in_return before (IfStatement c s rest) = ends_in_return false rest
-ends_in_return before (IfElseStatement c s t rest) = ends_in_return false rest
-ends_in_return before (While c s rest) = ends_in_return false rest
-ends_in_return before (Return e rest) = ends_in_return (is_number 0 (origin_of e)) rest
 
 -- what is open in a body
 abbrev pub place_of : Heading → Body → Open
