@@ -236,7 +236,7 @@ impl Window {
                     self.pass();
                 }
                 _ => {
-                    *here = self.ending(name_token(name, too_long));
+                    self.end_name(&name, too_long, here);
                     return Ok(());
                 }
             }
@@ -322,6 +322,21 @@ impl Window {
         }
     }
 
+    /// Puts the token of a whole name here, of which some bytes may have been left out.
+    #[inline(always)]
+    fn end_name(&self, name: &Name, is_too_long: bool, here: &mut LocatedToken)
+        ensures value { here.new ≡ record { token = name_going_on name.now is_too_long []; line = self.now.line; end = self.now.place } }
+        ensures fits { FitsToken here.new.token }
+    {
+        if is_too_long {
+            *here = self.ending(Token::Fault(LexicalError::NameTooLong));
+        } else if let Some(word) = Word::of_name(name.as_bytes()) {
+            *here = self.ending(Token::Word(word));
+        } else {
+            *here = self.ending(Token::Name(*name));
+        }
+    }
+
     /// A token that ends before the next byte, on the same line.
     #[inline(always)]
     fn ending(&self, token: Token) -> LocatedToken
@@ -358,20 +373,6 @@ impl Window {
 
 /// A value above the greatest constant, in place of all such values.
 const TOO_LARGE: u64 = CONSTANT_MAX as u64 + 1;
-
-/// The token of a whole name, of which some bytes may have been left out.
-fn name_token(name: Name, is_too_long: bool) -> Token
-    ensures token { result ≡ name_going_on name is_too_long [] }
-    ensures fits { FitsToken result }
-{
-    if is_too_long {
-        Token::Fault(LexicalError::NameTooLong)
-    } else if let Some(word) = Word::of_name(name.as_bytes()) {
-        Token::Word(word)
-    } else {
-        Token::Name(name)
-    }
-}
 
 /// The token of a constant of this value.
 fn constant_token(value: u64) -> Token
