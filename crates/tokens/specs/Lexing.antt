@@ -22,10 +22,10 @@ to_read made held told = option_map made (seen held told)
 unfoldable pub followed : LocatedToken → Ahead → List LocatedToken
 followed located_token ahead = followed_by located_token (located_tokens ahead)
 
--- behind a comment, or behind the token that stands there
-abbrev pub after_slash : Option LocatedToken → Ahead → List LocatedToken
-after_slash None ahead = located_tokens ahead
-after_slash (Some located_token) ahead = followed located_token ahead
+-- behind the token that was found there, or behind a comment
+abbrev pub after_slash : Bool → LocatedToken → Ahead → List LocatedToken
+after_slash true located_token ahead = followed located_token ahead
+after_slash false located_token ahead = located_tokens ahead
 
 -- a token that ends here
 abbrev pub ending : Token → Ahead → LocatedToken

@@ -57,12 +57,12 @@ impl Cursor {
         ensures known { IfOk result (λ cursor. KnowsEnd (beyond cursor) (F.ended feed.new)) }
     {
         let mut window = Window::new();
-        let next = window.read(feed)?;
-        let after = if next.token.is_last() {
-            next
-        } else {
-            window.read(feed)?
-        };
+        let mut next = LocatedToken::none();
+        window.read(&mut next, feed)?;
+        let mut after = next;
+        if !next.token.is_last() {
+            window.read(&mut after, feed)?;
+        }
         Ok(Cursor {
             window,
             next,
@@ -109,7 +109,7 @@ impl Cursor {
     {
         self.next = self.after;
         if !self.next.token.is_last() {
-            self.after = self.window.read(feed)?;
+            self.window.read(&mut self.after, feed)?;
         }
         Ok(())
     }

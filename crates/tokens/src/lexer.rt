@@ -15,33 +15,41 @@ use crate::names::Name;
 use crate::windows::{Beyond, Window};
 
 impl Window {
-    /// The next token.
-    pub fn read<F: Feed>(&mut self, feed: &mut F) -> Result<LocatedToken, DeviceFault>
+    /// Puts the next token here. After an `Err` what stood here stays.
+    pub fn read<F: Feed>(
+        &mut self,
+        here: &mut LocatedToken,
+        feed: &mut F,
+    ) -> Result<(), DeviceFault>
         requires countable { F.failures feed.old < 2 ^ 64 - 1 }
         requires known { KnowsEnd self.old.beyond (F.ended feed.old) }
-        ensures tokens { IfOk result (λ located_token. to_read (followed located_token) self.new (F.to_come feed.new)
+        ensures tokens { OnOk result (to_read (followed here.new) self.new (F.to_come feed.new)
             ≡ to_read located_tokens self.old (F.to_come feed.old)) }
-        ensures progress { IfOk result (λ located_token. is_last located_token.token ≡ false
+        ensures progress { OnOk result (is_last here.new.token ≡ false
             → self.old.place < self.new.place) }
         ensures stopped { OnErr result (StopsWithin located_tokens self.old self.new (F.to_come feed.old)) }
-        ensures reached { IfOk result (λ located_token. self.new.place ≤ located_token.end) }
+        ensures reached { OnOk result (self.new.place ≤ here.new.end) }
         ensures took { Takes self.old.taken self.new.taken (F.to_come feed.old) (F.to_come feed.new) }
         ensures near { self.new.taken ≤ self.new.place + 4096 }
         ensures limited { self.new.taken ≤ 1048577 }
         ensures within { self.new.place ≤ 1048576 }
-        ensures fits { IfOk result (λ located_token. FitsToken located_token.token) }
+        ensures fits { OnOk result (FitsToken here.new.token) }
+        ensures unread { OnErr result (here.new ≡ here.old) }
         ensures count { Counts result (F.failures feed.old) (F.failures feed.new) }
         ensures known { KnowsEnd self.new.beyond (F.ended feed.new) }
     {
         loop {
             match self.skip_blanks(feed)? {
-                None => return Ok(self.last(Token::End, self.line())),
+                None => {
+                    *here = self.last(Token::End, self.line());
+                    return Ok(());
+                }
                 Some(b'/') => {
-                    if let Some(located_token) = self.slash(feed)? {
-                        return Ok(located_token);
+                    if self.slash(here, feed)? {
+                        return Ok(());
                     }
                 }
-                Some(b) => return self.token(b, feed),
+                Some(b) => return self.token(b, here, feed),
             }
         }
     }
@@ -76,35 +84,38 @@ impl Window {
         }
     }
 
-    /// At a `/`, skips a comment, or reads the token that begins there.
-    fn slash<F: Feed>(&mut self, feed: &mut F) -> Result<Option<LocatedToken>, DeviceFault>
+    /// At a `/`, skips a comment, or puts the token that begins there here. Answers whether there was one.
+    fn slash<F: Feed>(&mut self, here: &mut LocatedToken, feed: &mut F) -> Result<bool, DeviceFault>
         requires countable { F.failures feed.old < 2 ^ 64 - 1 }
         requires known { KnowsEnd self.old.beyond (F.ended feed.old) }
         requires slash { slice_get self.old.at_hand 0 ≡ Some 47 }
-        ensures tokens { IfOk result (λ found. to_read (after_slash found) self.new (F.to_come feed.new)
+        ensures tokens { IfOk result (λ found. to_read (after_slash found here.new) self.new (F.to_come feed.new)
             ≡ to_read located_tokens self.old (F.to_come feed.old)) }
         ensures forward { self.old.place < self.new.place }
         ensures stopped { OnErr result (StopsWithin located_tokens self.old self.new (F.to_come feed.old)) }
-        ensures reached { IfOk result (λ found. IfSome found (λ located_token. self.new.place ≤ located_token.end)) }
+        ensures reached { IfOk result (λ found. found ≡ true → self.new.place ≤ here.new.end) }
         ensures took { Takes self.old.taken self.new.taken (F.to_come feed.old) (F.to_come feed.new) }
         ensures near { self.new.taken ≤ self.new.place + 4096 }
         ensures limited { self.new.taken ≤ 1048577 }
         ensures within { self.new.place ≤ 1048576 }
-        ensures fits { IfOk result (λ found. IfSome found (λ located_token. FitsToken located_token.token)) }
+        ensures fits { IfOk result (λ found. found ≡ true → FitsToken here.new.token) }
+        ensures unread { IfOk result (λ found. found ≡ false → here.new ≡ here.old) }
+        ensures failed { OnErr result (here.new ≡ here.old) }
         ensures count { Counts result (F.failures feed.old) (F.failures feed.new) }
         ensures known { KnowsEnd self.new.beyond (F.ended feed.new) }
     {
         let line = self.line();
         self.pass();
         if self.peek(feed)? != Some(b'*') {
-            let located_token = self.punctuator(Punctuator::Slash, feed)?;
-            return Ok(Some(located_token));
+            self.punctuator(Punctuator::Slash, here, feed)?;
+            return Ok(true);
         }
         self.pass();
         if self.skip_comment(feed)? {
-            Ok(None)
+            Ok(false)
         } else {
-            Ok(Some(self.last(Token::Fault(LexicalError::CommentNotClosed), line)))
+            *here = self.last(Token::Fault(LexicalError::CommentNotClosed), line);
+            Ok(true)
         }
     }
 
@@ -144,56 +155,70 @@ impl Window {
 
     /// The token that begins with this byte, which is the next one, no blank and no `/`.
     #[inline(always)]
-    fn token<F: Feed>(&mut self, first: u8, feed: &mut F) -> Result<LocatedToken, DeviceFault>
+    fn token<F: Feed>(
+        &mut self,
+        first: u8,
+        here: &mut LocatedToken,
+        feed: &mut F,
+    ) -> Result<(), DeviceFault>
         requires countable { F.failures feed.old < 2 ^ 64 - 1 }
         requires known { KnowsEnd self.old.beyond (F.ended feed.old) }
         requires first { slice_get self.old.at_hand 0 ≡ Some first }
         requires no_blank { is_blank first ≡ false }
         requires no_slash { first ≢ 47 }
-        ensures tokens { IfOk result (λ located_token. to_read (followed located_token) self.new (F.to_come feed.new)
+        ensures tokens { OnOk result (to_read (followed here.new) self.new (F.to_come feed.new)
             ≡ to_read located_tokens self.old (F.to_come feed.old)) }
         ensures forward { self.old.place < self.new.place }
         ensures stopped { OnErr result (StopsWithin located_tokens self.old self.new (F.to_come feed.old)) }
-        ensures reached { IfOk result (λ located_token. self.new.place ≤ located_token.end) }
+        ensures reached { OnOk result (self.new.place ≤ here.new.end) }
         ensures took { Takes self.old.taken self.new.taken (F.to_come feed.old) (F.to_come feed.new) }
         ensures near { self.new.taken ≤ self.new.place + 4096 }
         ensures limited { self.new.taken ≤ 1048577 }
         ensures within { self.new.place ≤ 1048576 }
-        ensures fits { IfOk result (λ located_token. FitsToken located_token.token) }
+        ensures fits { OnOk result (FitsToken here.new.token) }
+        ensures unread { OnErr result (here.new ≡ here.old) }
         ensures count { Counts result (F.failures feed.old) (F.failures feed.new) }
         ensures known { KnowsEnd self.new.beyond (F.ended feed.new) }
     {
         self.pass();
         if is_letter(first) {
-            self.name(first, feed)
+            self.name(first, here, feed)
         } else if is_digit(first) {
-            self.constant(first, feed)
+            self.constant(first, here, feed)
         } else if let Some(punctuator) = Punctuator::of_byte(first) {
             if punctuator.is_whole() {
-                return Ok(self.ending(Token::Punctuator(punctuator)));
+                *here = self.ending(Token::Punctuator(punctuator));
+                return Ok(());
             }
-            self.punctuator(punctuator, feed)
+            self.punctuator(punctuator, here, feed)
         } else {
-            Ok(self.ending(Token::Fault(LexicalError::BadCharacter)))
+            *here = self.ending(Token::Fault(LexicalError::BadCharacter));
+            Ok(())
         }
     }
 
     /// The name of which the first byte was passed.
     #[inline(always)]
-    fn name<F: Feed>(&mut self, first: u8, feed: &mut F) -> Result<LocatedToken, DeviceFault>
+    fn name<F: Feed>(
+        &mut self,
+        first: u8,
+        here: &mut LocatedToken,
+        feed: &mut F,
+    ) -> Result<(), DeviceFault>
         requires countable { F.failures feed.old < 2 ^ 64 - 1 }
         requires known { KnowsEnd self.old.beyond (F.ended feed.old) }
-        ensures tokens { IfOk result (λ located_token. to_read (followed located_token) self.new (F.to_come feed.new)
+        ensures tokens { OnOk result (to_read (followed here.new) self.new (F.to_come feed.new)
             ≡ to_read (in_name (first ∷ []) false) self.old (F.to_come feed.old)) }
         ensures forward { self.old.place ≤ self.new.place }
         ensures stopped { OnErr result (StopsWithin (in_name (first ∷ []) false) self.old self.new
             (F.to_come feed.old)) }
-        ensures reached { IfOk result (λ located_token. self.new.place ≤ located_token.end) }
+        ensures reached { OnOk result (self.new.place ≤ here.new.end) }
         ensures took { Takes self.old.taken self.new.taken (F.to_come feed.old) (F.to_come feed.new) }
         ensures near { self.new.taken ≤ self.new.place + 4096 }
         ensures limited { self.new.taken ≤ 1048577 }
         ensures within { self.new.place ≤ 1048576 }
-        ensures fits { IfOk result (λ located_token. FitsToken located_token.token) }
+        ensures fits { OnOk result (FitsToken here.new.token) }
+        ensures unread { OnErr result (here.new ≡ here.old) }
         ensures count { Counts result (F.failures feed.old) (F.failures feed.new) }
         ensures known { KnowsEnd self.new.beyond (F.ended feed.new) }
     {
@@ -210,27 +235,36 @@ impl Window {
                     }
                     self.pass();
                 }
-                _ => return Ok(self.ending(name_token(name, too_long))),
+                _ => {
+                    self.end_name(&name, too_long, here);
+                    return Ok(());
+                }
             }
         }
     }
 
     /// The constant of which the first digit was passed.
     #[inline(always)]
-    fn constant<F: Feed>(&mut self, first: u8, feed: &mut F) -> Result<LocatedToken, DeviceFault>
+    fn constant<F: Feed>(
+        &mut self,
+        first: u8,
+        here: &mut LocatedToken,
+        feed: &mut F,
+    ) -> Result<(), DeviceFault>
         requires countable { F.failures feed.old < 2 ^ 64 - 1 }
         requires known { KnowsEnd self.old.beyond (F.ended feed.old) }
         requires digit { is_digit first ≡ true }
-        ensures tokens { IfOk result (λ located_token. to_read (followed located_token) self.new (F.to_come feed.new)
+        ensures tokens { OnOk result (to_read (followed here.new) self.new (F.to_come feed.new)
             ≡ to_read (in_constant (first - 48)) self.old (F.to_come feed.old)) }
         ensures forward { self.old.place ≤ self.new.place }
         ensures stopped { OnErr result (StopsWithin (in_constant (first - 48)) self.old self.new (F.to_come feed.old)) }
-        ensures reached { IfOk result (λ located_token. self.new.place ≤ located_token.end) }
+        ensures reached { OnOk result (self.new.place ≤ here.new.end) }
         ensures took { Takes self.old.taken self.new.taken (F.to_come feed.old) (F.to_come feed.new) }
         ensures near { self.new.taken ≤ self.new.place + 4096 }
         ensures limited { self.new.taken ≤ 1048577 }
         ensures within { self.new.place ≤ 1048576 }
-        ensures fits { IfOk result (λ located_token. FitsToken located_token.token) }
+        ensures fits { OnOk result (FitsToken here.new.token) }
+        ensures unread { OnErr result (here.new ≡ here.old) }
         ensures count { Counts result (F.failures feed.old) (F.failures feed.new) }
         ensures known { KnowsEnd self.new.beyond (F.ended feed.new) }
     {
@@ -241,7 +275,10 @@ impl Window {
                     value = (10 * value + u64::from(b - b'0')).min(TOO_LARGE);
                     self.pass();
                 }
-                _ => return Ok(self.ending(constant_token(value))),
+                _ => {
+                    *here = self.ending(constant_token(value));
+                    return Ok(());
+                }
             }
         }
     }
@@ -251,20 +288,22 @@ impl Window {
     fn punctuator<F: Feed>(
         &mut self,
         mut punctuator: Punctuator,
+        here: &mut LocatedToken,
         feed: &mut F,
-    ) -> Result<LocatedToken, DeviceFault>
+    ) -> Result<(), DeviceFault>
         requires countable { F.failures feed.old < 2 ^ 64 - 1 }
         requires known { KnowsEnd self.old.beyond (F.ended feed.old) }
-        ensures tokens { IfOk result (λ located_token. to_read (followed located_token) self.new (F.to_come feed.new)
+        ensures tokens { OnOk result (to_read (followed here.new) self.new (F.to_come feed.new)
             ≡ to_read (in_punctuator punctuator) self.old (F.to_come feed.old)) }
         ensures forward { self.old.place ≤ self.new.place }
         ensures stopped { OnErr result (StopsWithin (in_punctuator punctuator) self.old self.new (F.to_come feed.old)) }
-        ensures reached { IfOk result (λ located_token. self.new.place ≤ located_token.end) }
+        ensures reached { OnOk result (self.new.place ≤ here.new.end) }
         ensures took { Takes self.old.taken self.new.taken (F.to_come feed.old) (F.to_come feed.new) }
         ensures near { self.new.taken ≤ self.new.place + 4096 }
         ensures limited { self.new.taken ≤ 1048577 }
         ensures within { self.new.place ≤ 1048576 }
-        ensures fits { IfOk result (λ located_token. FitsToken located_token.token) }
+        ensures fits { OnOk result (FitsToken here.new.token) }
+        ensures unread { OnErr result (here.new ≡ here.old) }
         ensures count { Counts result (F.failures feed.old) (F.failures feed.new) }
         ensures known { KnowsEnd self.new.beyond (F.ended feed.new) }
     {
@@ -275,8 +314,26 @@ impl Window {
                     punctuator = longer;
                     self.pass();
                 }
-                None => return Ok(self.ending(Token::Punctuator(punctuator))),
+                None => {
+                    *here = self.ending(Token::Punctuator(punctuator));
+                    return Ok(());
+                }
             }
+        }
+    }
+
+    /// Puts the token of a whole name here, of which some bytes may have been left out.
+    #[inline(always)]
+    fn end_name(&self, name: &Name, is_too_long: bool, here: &mut LocatedToken)
+        ensures value { here.new ≡ record { token = name_going_on name.now is_too_long []; line = self.now.line; end = self.now.place } }
+        ensures fits { FitsToken here.new.token }
+    {
+        if is_too_long {
+            *here = self.ending(Token::Fault(LexicalError::NameTooLong));
+        } else if let Some(word) = Word::of_name(name.as_bytes()) {
+            *here = self.ending(Token::Word(word));
+        } else {
+            *here = self.ending(Token::Name(*name));
         }
     }
 
@@ -316,20 +373,6 @@ impl Window {
 
 /// A value above the greatest constant, in place of all such values.
 const TOO_LARGE: u64 = CONSTANT_MAX as u64 + 1;
-
-/// The token of a whole name, of which some bytes may have been left out.
-fn name_token(name: Name, is_too_long: bool) -> Token
-    ensures token { result ≡ name_going_on name is_too_long [] }
-    ensures fits { FitsToken result }
-{
-    if is_too_long {
-        Token::Fault(LexicalError::NameTooLong)
-    } else if let Some(word) = Word::of_name(name.as_bytes()) {
-        Token::Word(word)
-    } else {
-        Token::Name(name)
-    }
-}
 
 /// The token of a constant of this value.
 fn constant_token(value: u64) -> Token

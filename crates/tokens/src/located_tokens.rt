@@ -157,3 +157,14 @@ impl Token {
         matches!(self, Token::End | Token::Fault(_))
     }
 }
+
+impl LocatedToken {
+    /// What stands where no token was read yet.
+    pub(crate) fn none() -> LocatedToken {
+        LocatedToken {
+            token: Token::End,
+            line: 0,
+            end: 0,
+        }
+    }
+}

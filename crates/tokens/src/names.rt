@@ -80,7 +80,8 @@ impl Name {
 
     /// Its bytes.
     pub fn as_bytes(&self) -> &[u8]
-        ensures { result.now ≡ self.now }
+        ensures value { result.now ≡ self.now }
+        ensures bounded { length result.now ≤ 31 }
     {
         &self.bytes[..self.len as usize]
     }

@@ -54,6 +54,7 @@ impl Punctuator {
     }
 
     /// The punctuator that is spelled as this one and the next byte, if there is one.
+    #[inline(always)]
     pub(crate) fn longer(self, next: Option<u8>) -> Option<Punctuator>
         ensures { result ≡ option_and_then (λ b. punctuator_of (spelling self ++ b ∷ [])) next }
     {

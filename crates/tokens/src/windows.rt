@@ -105,9 +105,10 @@ impl Window {
         ensures count { Counts result (F.failures feed.old) (F.failures feed.new) }
         ensures known { KnowsEnd self.new.beyond (F.ended feed.new) }
     {
-        if self.next == self.filled {
-            self.refill(feed)?;
+        if self.next < self.filled {
+            return Ok(Some(self.bytes[self.next]));
         }
+        self.refill(feed)?;
         Ok(self.first())
     }
 

@@ -4,18 +4,18 @@ use Rattle.tokens.proofs.ReadingLemmas.{shown-advanced, remaining-advanced, rema
 use Rattle.tokens.proofs.TakenLemmas.{on_err-from}
 use Rattle.tokens.proofs.cursors.Cursor.advance.Goals as goal
 
-pub returns-in_ok-self-inside-clause-tokens : goal.returns-in_ok-self-inside-clause-tokens
-returns-in_ok-self-inside-clause-tokens g c =
+pub returns-in_ok-read-clause-tokens : goal.returns-in_ok-read-clause-tokens
+returns-in_ok-read-clause-tokens g c =
     let s = c.self.inside in
     let not_last : is_last s.next.token ≡ false = ap (λ r. is_last r.next.token) c.self.view_is ∙ c.requires.not_last in
-    rw (← c.self.view_is) (shown-advanced s.next s.after c.in_ok-self-inside.field-0 c.read.new.self s.window _ _ not_last c.in_ok-self-inside.ensures.tokens)
+    rw (← c.self.view_is) (shown-advanced s.next s.after c.read.new.here c.read.new.self s.window _ _ not_last c.in_ok-read.ensures.tokens)
 
-pub returns-in_ok-self-inside-clause-progress : goal.returns-in_ok-self-inside-clause-progress
-returns-in_ok-self-inside-clause-progress g c =
+pub returns-in_ok-read-clause-progress : goal.returns-in_ok-read-clause-progress
+returns-in_ok-read-clause-progress g c =
     let s = c.self.inside in
     let not_last : is_last s.next.token ≡ false = ap (λ r. is_last r.next.token) c.self.view_is ∙ c.requires.not_last in
-    let read = c.in_ok-self-inside.ensures in
-    rw (← c.self.view_is) (remaining-advanced s.next s.after c.in_ok-self-inside.field-0 c.read.new.self s.window not_last (sym c.if-not-is_last.ensures) read.progress read.within)
+    let read = c.in_ok-read.ensures in
+    rw (← c.self.view_is) (remaining-advanced s.next s.after c.read.new.here c.read.new.self s.window not_last (sym c.if-not-is_last.ensures) read.progress read.within)
 
 pub returns-else-not-is_last-clause-progress : goal.returns-else-not-is_last-clause-progress
 returns-else-not-is_last-clause-progress g c =
@@ -23,8 +23,8 @@ returns-else-not-is_last-clause-progress g c =
     let not_last : is_last s.next.token ≡ false = ap (λ r. is_last r.next.token) c.self.view_is ∙ c.requires.not_last in
     rw (← c.self.view_is) (remaining-ended s.next s.after s.after s.window s.window not_last (sym c.if-not-is_last.ensures))
 
-pub returns-in_err-self-inside-clause-stopped : goal.returns-in_err-self-inside-clause-stopped
-returns-in_err-self-inside-clause-stopped g c =
+pub returns-in_err-read-clause-stopped : goal.returns-in_err-read-clause-stopped
+returns-in_err-read-clause-stopped g c =
     let s = c.self.inside in
     let not_last : is_last s.next.token ≡ false = ap (λ r. is_last r.next.token) c.self.view_is ∙ c.requires.not_last in
-    on_err-from c.from_residual.result (rw (← c.self.view_is) (advanced-stopped c.read.new.self.taken s.next s.after s.window _ not_last (sym c.if-not-is_last.ensures) c.in_err-self-inside.ensures.stopped))
+    on_err-from c.from_residual.result (rw (← c.self.view_is) (advanced-stopped c.read.new.self.taken s.next s.after s.window _ not_last (sym c.if-not-is_last.ensures) c.in_err-read.ensures.stopped))

@@ -20,6 +20,7 @@ loop-b-preserved g c =
       took = Takes-pass c.pass.ensures.kept (Takes-then c.loop-b.invariant.took seen.took);
       forward = omega (arith, seen.place.place);
       count = seen.count ∙ c.loop-b.invariant.count;
+      here = c.loop-b.invariant.here;
       known = λ e. seen.known (sym c.pass.ensures.beyond ∙ e);
     }
 

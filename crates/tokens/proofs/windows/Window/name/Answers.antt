@@ -21,6 +21,7 @@ loop-b-preserved g c =
       took = Takes-pass c.pass.ensures.kept (Takes-then c.loop-b.invariant.took seen.took);
       forward = omega (arith, seen.place.place);
       count = seen.count ∙ c.loop-b.invariant.count;
+      here = c.loop-b.invariant.here;
       known = λ e. seen.known (sym c.pass.ensures.beyond ∙ e);
     }
 
@@ -32,7 +33,7 @@ returns-in_default-clause-tokens g c =
       | in_default-via-in-Some+else-is_name_byte w ↦ subst (StopsAt is_name_byte) (sym w.in-Some.is) (sym w.if-is_name_byte.ensures)
       | in_default-via-in_default w ↦ subst (StopsAt is_name_byte) (sym w.in_default.is) tt
     ] in
-    run-stops is_name_byte (name_going_on c.loop-b.name c.loop-b.too_long) c.ending.result c.name_token.result _ _ _ seen.ready seen.first stops (λ _. c.ending.ensures) c.name_token.ensures.token
+    run-stops is_name_byte (name_going_on c.loop-b.name c.loop-b.too_long) c.end_name.new.here (name_going_on c.loop-b.name c.loop-b.too_long []) _ _ _ seen.ready seen.first stops (λ _. c.end_name.ensures.value) refl
     ∙ to_read-seen now _ _ _ _ seen.seen ∙ c.loop-b.invariant.tokens
     ∙ ap (λ name. to_read (in_name name false) c.args.self.now (g.F.Feed.to_come c.args.feed.now)) (c.push.ensures ∙ ap (λ name. name ++ c.args.first ∷ []) c.new-name.ensures)
 

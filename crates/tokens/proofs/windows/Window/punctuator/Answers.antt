@@ -15,6 +15,7 @@ loop-next-preserved g c =
       took = Takes-pass c.pass.ensures.kept (Takes-then c.loop-next.invariant.took seen.took);
       forward = omega (arith, seen.place.place);
       count = seen.count ∙ c.loop-next.invariant.count;
+      here = c.loop-next.invariant.here;
       known = λ e. seen.known (sym c.pass.ensures.beyond ∙ e);
     }
 

@@ -9,6 +9,7 @@ invariant-loop-next g l = record {
   took : Takes l.initial.self.taken l.self.taken (g.F.Feed.to_come l.initial.feed) (g.F.Feed.to_come l.feed);
   forward : l.initial.self.place ≤ l.self.place;
   count : g.F.Feed.failures l.feed ≡ g.F.Feed.failures l.initial.feed;
+  here : l.here ≡ l.initial.here;
   known : KnowsEnd l.self.beyond (g.F.Feed.ended l.feed);
 }
 

@@ -1,4 +1,4 @@
-use Rattle.std.proofs.Common.{◌≡◌, ◌∙◌, sym, ap, refl, [], true, None, arith}
+use Rattle.std.proofs.Common.{◌≡◌, ◌∙◌, sym, ap, refl, [], true, false, arith}
 use Rattle.tokens.specs.Tokens.{is_last, located_tokens, last_located_token}
 use Rattle.tokens.specs.Window.{ahead}
 use Rattle.tokens.specs.Lexing.{to_read, followed, after_slash}
@@ -27,14 +27,15 @@ returns-in-None-clause-progress g c = λ e.
 pub loop-self-preserved : goal.loop-self-preserved
 loop-self-preserved g c =
     let blanks = c.in_ok-skip_blanks.ensures in
-    let slash = c.in_ok-located_token-in-Some-eq47.ensures in
+    let slash = c.in_ok-slash-in-Some-eq47.ensures in
     record {
-      tokens = to_read-here located_tokens (after_slash None) c.slash.new.self _ (λ to_come. refl)
-          ∙ ap (λ found. to_read (after_slash found) c.slash.new.self (g.F.Feed.to_come c.slash.new.feed)) (sym c.in_default.is)
+      tokens = to_read-here located_tokens (after_slash false c.slash.new.here) c.slash.new.self _ (λ to_come. refl)
+          ∙ ap (λ found. to_read (after_slash found c.slash.new.here) c.slash.new.self (g.F.Feed.to_come c.slash.new.feed)) (sym c.if-branch.false)
           ∙ slash.tokens ∙ blanks.tokens ∙ c.loop-self.invariant.tokens;
       took = Takes-then (Takes-then c.loop-self.invariant.took blanks.took) slash.took;
       forward = omega (arith, blanks.forward, slash.forward);
       count = slash.count ∙ blanks.count ∙ c.loop-self.invariant.count;
+      here = slash.unread c.if-branch.false ∙ c.loop-self.invariant.here;
       known = slash.known;
     }
 

@@ -1,4 +1,4 @@
-use Rattle.std.proofs.Common.{[], ◌∙◌, sym, ap, refl, Some, None, true, false}
+use Rattle.std.proofs.Common.{[], ◌∙◌, sym, ap, refl, true, false}
 use Rattle.tokens.specs.Tokens.{located_tokens}
 use Rattle.tokens.specs.Lexing.{to_read, followed, in_punctuator, in_comment, after_comment, after_slash}
 use Rattle.tokens.specs.Window.{ahead}
@@ -14,7 +14,7 @@ pub returns-then-ne-clause-tokens : goal.returns-then-ne-clause-tokens
 returns-then-ne-clause-tokens g c =
     let line = c.line-line.result in
     let seen = c.in_ok-peek.ensures in
-    c.in_ok-located_token.ensures.tokens ∙ slash-stays line _ _ _ seen.ready seen.first (not_true _ c.if-ne.ensures)
+    c.in_ok-punctuator.ensures.tokens ∙ slash-stays line _ _ _ seen.ready seen.first (not_true _ c.if-ne.ensures)
     ∙ to_read-seen (in_slash line) _ _ _ _ seen.seen
     ∙ to_read-pass_line (in_slash line) located_tokens _ _ _ 47 line c.pass.ensures.value c.requires.slash c.line-line.ensures (slash-begins line)
 
@@ -22,7 +22,7 @@ pub returns-then-branch-clause-tokens : goal.returns-then-branch-clause-tokens
 returns-then-branch-clause-tokens g c =
     let line = c.line-line.result in
     let seen = c.in_ok-peek.ensures in
-    to_read-here (after_slash None) (after_comment true line) c.skip_comment.new.self _ (λ to_come. refl)
+    to_read-here (after_slash false c.args.here.now) (after_comment true line) c.skip_comment.new.self _ (λ to_come. refl)
     ∙ ap (λ closed. to_read (after_comment closed line) c.skip_comment.new.self (g.F.Feed.to_come c.skip_comment.new.feed)) (sym c.if-branch.true)
     ∙ c.in_ok-skip_comment.ensures.tokens line
     ∙ to_read-pass (in_comment line) (in_slash line) _ _ _ _ 42 c.pass-2.ensures.value seen.first (star-found _ (not_false _ c.if-ne.ensures)) (star-begins line)
@@ -33,7 +33,7 @@ pub returns-else-branch-clause-tokens : goal.returns-else-branch-clause-tokens
 returns-else-branch-clause-tokens g c =
     let line = c.line-line.result in
     let seen = c.in_ok-peek.ensures in
-    to_read-here (after_slash (Some c.last.result)) (after_comment false line) c.skip_comment.new.self _ (λ to_come.
+    to_read-here (after_slash true c.last.result) (after_comment false line) c.skip_comment.new.self _ (λ to_come.
     let a = ahead c.skip_comment.new.self to_come in ap (λ x. followed x a) (c.last.ensures.value to_come) ∙ last-followed (variant.Fault CommentNotClosed) line a refl)
     ∙ ap (λ closed. to_read (after_comment closed line) c.skip_comment.new.self (g.F.Feed.to_come c.skip_comment.new.feed)) (sym c.if-branch.false)
     ∙ c.in_ok-skip_comment.ensures.tokens line
@@ -49,15 +49,15 @@ returns-in_err-peek-clause-stopped g c =
     (to_read-pass_line (in_slash line) located_tokens _ _ _ 47 line c.pass.ensures.value c.requires.slash c.line-line.ensures (slash-begins line))
     (stops (in_slash line) (in_slash-ends line) c.pass.new.self c.peek.new.self _ seen.failed seen.place.place))
 
-pub returns-in_err-located_token-clause-stopped : goal.returns-in_err-located_token-clause-stopped
-returns-in_err-located_token-clause-stopped g c =
+pub returns-in_err-punctuator-clause-stopped : goal.returns-in_err-punctuator-clause-stopped
+returns-in_err-punctuator-clause-stopped g c =
     let line = c.line-line.result in
     let seen = c.in_ok-peek.ensures in
-    on_err-from c.from_residual-in_err-located_token.result (stops-from (in_punctuator Slash) located_tokens _ _ c.punctuator.new.self _ _
+    on_err-from c.from_residual-in_err-punctuator.result (stops-from (in_punctuator Slash) located_tokens _ _ c.punctuator.new.self _ _
     (slash-stays line _ _ _ seen.ready seen.first (not_true _ c.if-ne.ensures)
     ∙ to_read-seen (in_slash line) _ _ _ _ seen.seen
     ∙ to_read-pass_line (in_slash line) located_tokens _ _ _ 47 line c.pass.ensures.value c.requires.slash c.line-line.ensures (slash-begins line))
-    c.in_err-located_token.ensures.stopped)
+    c.in_err-punctuator.ensures.stopped)
 
 pub returns-in_err-skip_comment-clause-stopped : goal.returns-in_err-skip_comment-clause-stopped
 returns-in_err-skip_comment-clause-stopped g c =
@@ -70,4 +70,4 @@ returns-in_err-skip_comment-clause-stopped g c =
     (c.in_err-skip_comment.ensures.stopped line))
 
 pub returns-else-branch-clause-fits : goal.returns-else-branch-clause-fits
-returns-else-branch-clause-fits g c = rw (c.last.ensures.value []) (last-fits (variant.Fault CommentNotClosed) c.line-line.result (ahead c.skip_comment.new.self []) tt)
+returns-else-branch-clause-fits g c = λ _. rw (c.last.ensures.value []) (last-fits (variant.Fault CommentNotClosed) c.line-line.result (ahead c.skip_comment.new.self []) tt)

@@ -1,5 +1,5 @@
 use Rattle.std.proofs.Common.{◌∙◌, ◌-◌, ◌∷◌, [], sym, ap, refl, Some, false, List}
-use Rattle.std.proofs.lemmas.Result.{IfOk-weaker, on_err_weaker}
+use Rattle.std.proofs.lemmas.Result.{on_ok_weaker, on_err_weaker}
 use Rattle.tokens.specs.Tokens.{Ahead, located_tokens}
 use Rattle.tokens.specs.Window.{ahead}
 use Rattle.tokens.specs.declared.located_tokens.LexicalError.TheVariants.{BadCharacter}
@@ -16,19 +16,19 @@ pub returns-then-is_letter-clause-tokens : goal.returns-then-is_letter-clause-to
 returns-then-is_letter-clause-tokens g c =
     let b = c.args.first in
     let begins = to_read-pass (in_name (b ∷ []) false) located_tokens _ _ (g.F.Feed.to_come c.args.feed.now) (Some b) b c.pass.ensures.value (sym c.requires.first) refl (name-begins b c.requires.no_blank (sym c.if-is_letter.ensures)) in
-    IfOk-weaker c.name.result _ _ (λ located_token h. h ∙ begins) c.name.ensures.tokens
+    on_ok_weaker c.name.result (λ h. h ∙ begins) c.name.ensures.tokens
 
 pub returns-then-is_digit-clause-tokens : goal.returns-then-is_digit-clause-tokens
 returns-then-is_digit-clause-tokens g c =
     let b = c.args.first in
     let begins = to_read-pass (in_constant (b - 48)) located_tokens _ _ (g.F.Feed.to_come c.args.feed.now) (Some b) b c.pass.ensures.value (sym c.requires.first) refl (constant-begins b c.requires.no_blank (sym c.if-is_letter.ensures) (sym c.if-is_digit.ensures)) in
-    IfOk-weaker c.constant.result _ _ (λ located_token h. h ∙ begins) c.constant.ensures.tokens
+    on_ok_weaker c.constant.result (λ h. h ∙ begins) c.constant.ensures.tokens
 
 pub returns-else-is_whole-clause-tokens : goal.returns-else-is_whole-clause-tokens
 returns-else-is_whole-clause-tokens g c =
     let b = c.args.first in
     let begins = to_read-pass (in_punctuator c.in-Some.punctuator) located_tokens _ _ (g.F.Feed.to_come c.args.feed.now) (Some b) b c.pass.ensures.value (sym c.requires.first) refl (other-begins c.in-Some.punctuator b c.requires.no_blank (sym c.if-is_letter.ensures) (sym c.if-is_digit.ensures) c.requires.no_slash (sym c.in-Some.ensures)) in
-    IfOk-weaker c.punctuator.result _ _ (λ located_token h. h ∙ begins) c.punctuator.ensures.tokens
+    on_ok_weaker c.punctuator.result (λ h. h ∙ begins) c.punctuator.ensures.tokens
 
 pub returns-then-is_whole-clause-tokens : goal.returns-then-is_whole-clause-tokens
 returns-then-is_whole-clause-tokens g c =
