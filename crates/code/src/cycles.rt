@@ -1,6 +1,7 @@
 //! The cells of a machine from cycle to cycle, along the replies.
 
 ghost use Rattle.std.specs.Prelude.{◌≡◌, ◌<◌, ◌≤◌, ◌≢◌, ℤ, List, [], ◌∷◌, ◌++◌};
+ghost use Rattle.grammar.specs.declared.names.Intrinsic.{Intrinsic};
 ghost use Rattle.code.specs.Machine.{want_next, want_code};
 ghost use Rattle.code.specs.Places.{state_at};
 ghost use Rattle.code.specs.Standing.{StandsFor, FitsProgram, HasCoasted};
@@ -44,6 +45,20 @@ impl Cells {
             Some(next) => next,
             None => self.answer(place, reply),
         }
+    }
+
+    /// Takes the reply to what the machine asks.
+    #[inline(always)]
+    pub(crate) fn reply(&mut self, program: &Program, place: Place, reply: i32) -> Place
+        requires fits { FitsProgram (state_at place self.old) program.now }
+        requires asks { (intrinsic : Intrinsic) × (arguments : List ℤ)
+            × (want_next program.now (state_at place self.old) ≡ Want.Ask intrinsic arguments) }
+        ensures stands { (trace : List ℤ) → StandsFor (state_at place self.old) program.now trace
+            → StandsFor (state_at result self.new) program.now (trace ++ reply ∷ []) }
+        ensures fits { FitsProgram (state_at result self.new) program.now }
+    {
+        let _instr = self.instr(program, place);
+        self.answer(place, reply)
     }
 
     /// Runs up to so many cycles that ask nothing: fewer only if the machine then wants a reply or a restart.
