@@ -8,10 +8,8 @@ use Rattle.arena.specs.Ground.{Ground}
 use Rattle.arena.specs.Standing.{StandsFor as IsGroundOf}
 use Rattle.code.specs.declared.want.Want.TheVariants.{Quiet}
 use Rattle.code.specs.Generation.{ObjectCode}
-use Rattle.code.specs.Machine.{State}
-use Rattle.code.specs.Standing.{StandsFor}
 use Rattle.battles.specs.Battle.{Robot, Stage, step, turn, robot_of}
-use Rattle.battles.specs.Carrying.{AreRobotsOf, EachStandsFor, HasReached, IsRobotOf}
+use Rattle.battles.specs.Carrying.{Runner, AreRobotsOf, EachIsAt, HasReached, IsAt, IsRobotOf}
 use Rattle.battles.specs.Windows.{AreSlots, alone, RunsAlone, GoesOn, rounds}
 use Rattle.battles.proofs.Commuting.{TurnsAlone, stage_of, turn_alone}
 use Rattle.battles.proofs.Turns.{rest, rest_all, rest_none, is_left, left_not, slots_set, next_taken}
@@ -62,42 +60,42 @@ run_taken robots next i end (suc n) s are small inside within runs =
     ∙ ap (λ slots. rest robots (is_left slots) 0 end (turn robots i (ran robots i s n))) later
     ∙ ap (rest robots (is_left (set next i (d + 4 * suc n))) 0 end) (ran_more robots i s n inside turns)
 
--- The machines and the arena are at a stage from which the turns that are left lead to the end of the window.
-pub record HasCome (robots : List Robot) (codes : List ObjectCode) (next : List ℕ) (w : ℕ) (machines : List State) (arena : Ground) (opened : Stage) : Type 0 where
+-- The runners and the arena are at a stage from which the turns that are left lead to the end of the window.
+pub record HasCome (robots : List Robot) (codes : List ObjectCode) (next : List ℕ) (w : ℕ) (runners : List Runner) (arena : Ground) (opened : Stage) : Type 0 where
   pub stage : Stage
-  pub reached : HasReached machines codes arena stage
+  pub reached : HasReached runners codes arena stage
   pub ends : rest robots (is_left next) 0 (4 * w) stage ≡ rounds robots w opened
 
--- What a robot makes of its machine and of the arena when it goes on, whatever its trace and the field are.
-pub record HasGoneOn (i : ℕ) (code : ObjectCode) (n : ℕ) (machine after : State) (arena grown : Ground) : Type 0 where
-  pub on : (r : Robot) (f : Field) (trace : List ℤ) → IsRobotOf code r → IsGroundOf arena f → StandsFor machine code trace
-      → (field : Field) × (longer : List ℤ) × GoesOn r i f trace n field longer × IsGroundOf grown field × StandsFor after code longer
+-- What a robot makes of its runner and of the arena when it goes on, whatever its trace and the field are.
+pub record HasGoneOn (i : ℕ) (code : ObjectCode) (n : ℕ) (runner after : Runner) (arena grown : Ground) : Type 0 where
+  pub on : (r : Robot) (f : Field) (trace : List ℤ) → IsRobotOf code r → IsGroundOf arena f → IsAt runner code trace
+      → (field : Field) × (longer : List ℤ) × GoesOn r i f trace n field longer × IsGroundOf grown field × IsAt after code longer
 
-traces_length : (machines : List State) (codes : List ObjectCode) (traces : List (List ℤ)) → EachStandsFor machines codes traces → length traces ≡ length codes
+traces_length : (runners : List Runner) (codes : List ObjectCode) (traces : List (List ℤ)) → EachIsAt runners codes traces → length traces ≡ length codes
 traces_length [] [] [] stands = refl
-traces_length (machine ∷ machines) (code ∷ codes) (trace ∷ traces) stands = ap suc (traces_length machines codes traces stands.1)
+traces_length (runner ∷ runners) (code ∷ codes) (trace ∷ traces) stands = ap suc (traces_length runners codes traces stands.1)
 traces_length _ _ _ stands = absurd stands
 
-pub come_on : (robots : List Robot) (codes : List ObjectCode) (next : List ℕ) (w n i : ℕ) (machines : List State) (arena grown : Ground) (opened : Stage)
-    (code : ObjectCode) (none after : State)
+pub come_on : (robots : List Robot) (codes : List ObjectCode) (next : List ℕ) (w n i : ℕ) (runners : List Runner) (arena grown : Ground) (opened : Stage)
+    (code : ObjectCode) (none after : Runner)
     → AreRobotsOf codes robots → AreSlots next → i < 4 → i < length codes → get_or next i 0 + 4 * n < 4 * w + 4 → 0 < n
     → ((j : ℕ) → j < 4 → get_or next i 0 ≤ get_or next j 0)
-    → HasCome robots codes next w machines arena opened → slice_get codes i ≡ Some code
-    → HasGoneOn i code n (get_or machines i none) after arena grown
-    → HasCome robots codes (set next i (get_or next i 0 + 4 * n)) w (set machines i after) grown opened
+    → HasCome robots codes next w runners arena opened → slice_get codes i ≡ Some code
+    → HasGoneOn i code n (get_or runners i none) after arena grown
+    → HasCome robots codes (set next i (get_or next i 0 + 4 * n)) w (set runners i after) grown opened
 unfolding turn robot_of ran stage_of
-come_on robots codes next w n i machines arena grown opened code none after are slots small inside within some first come here gone =
+come_on robots codes next w n i runners arena grown opened code none after are slots small inside within some first come here gone =
     let s = come.stage in
     let robot = robot_at codes robots i code (λ trace. Quiet) are here in
-    let stands = stands_at machines codes s.traces i code none come.reached.traces here in
-    let lengths = traces_length machines codes s.traces come.reached.traces in
+    let stands = stands_at runners codes s.traces i code none come.reached.traces here in
+    let lengths = traces_length runners codes s.traces come.reached.traces in
     let on = gone.on (robot_of robots i) s.field (get_or s.traces i []) robot come.reached.field stands in
-    elim on.2 as (λ on. HasCome robots codes (set next i (get_or next i 0 + 4 * n)) w (set machines i after) grown opened) [
+    elim on.2 as (λ on. HasCome robots codes (set next i (get_or next i 0 + 4 * n)) w (set runners i after) grown opened) [
       | inl alone ↦ record {
         stage = ran robots i s n;
         reached = record {
           field = rw alone.1 at on.3;
-          traces = stands_set machines codes s.traces i after code _ come.reached.traces here (rw alone.2 at on.4);
+          traces = stands_set runners codes s.traces i after code _ come.reached.traces here (rw alone.2 at on.4);
         };
         ends = sym (run_taken robots next i (4 * w) n s slots small (omega (arith, lengths, inside)) within alone.0) ∙ come.ends;
       }
@@ -107,7 +105,7 @@ come_on robots codes next w n i machines arena grown opened code none after are 
             stage = turn robots i s;
             reached = record {
               field = rw one.1 at on.3;
-              traces = stands_set machines codes s.traces i after code _ come.reached.traces here (rw one.2 at on.4);
+              traces = stands_set runners codes s.traces i after code _ come.reached.traces here (rw one.2 at on.4);
             };
             ends = ap (λ d. rest robots (is_left (set next i d)) 0 (4 * w) (turn robots i s)) (sym once)
                 ∙ sym (next_taken robots next i (4 * w) s slots small (omega (arith, within, some)) (inr first)) ∙ come.ends;
@@ -133,19 +131,19 @@ left_less end (a ∷ []) i n four small within some = absurd (omega arith)
 left_less end [] i n four small within some = absurd (omega arith)
 
 -- the window begins
-pub opens : (robots : List Robot) (codes : List ObjectCode) (next : List ℕ) (w : ℕ) (machines : List State) (arena : Ground) (s : Stage)
+pub opens : (robots : List Robot) (codes : List ObjectCode) (next : List ℕ) (w : ℕ) (runners : List Runner) (arena : Ground) (s : Stage)
     → AreRobotsOf codes robots → AreSlots next → length codes ≤ 4
     → ((i : ℕ) → i < length codes → i < 4 → get_or next i 0 ≡ i) → ((i : ℕ) → length codes ≤ i → i < 4 → 4 * w ≤ get_or next i 0)
-    → HasReached machines codes arena s → HasCome robots codes next w machines arena s
-opens robots codes next w machines arena s are slots most first past reached =
+    → HasReached runners codes arena s → HasCome robots codes next w runners arena s
+opens robots codes next w runners arena s are slots most first past reached =
     let all = robots_length codes robots are in
     record { stage = s; reached = reached; ends = rest_all robots next (length codes) w s slots (sym all) most (λ i low. first i low (omega arith)) past }
 
 -- and ends
-pub closes : (robots : List Robot) (codes : List ObjectCode) (next : List ℕ) (w : ℕ) (machines : List State) (arena : Ground) (s : Stage)
+pub closes : (robots : List Robot) (codes : List ObjectCode) (next : List ℕ) (w : ℕ) (runners : List Runner) (arena : Ground) (s : Stage)
     → ((i : ℕ) → i < 4 → 4 * w ≤ get_or next i 0)
-    → HasCome robots codes next w machines arena s → HasReached machines codes arena (rounds robots w s)
-closes robots codes next w machines arena s past come =
+    → HasCome robots codes next w runners arena s → HasReached runners codes arena (rounds robots w s)
+closes robots codes next w runners arena s past come =
     let done : rest robots (is_left next) 0 (4 * w) come.stage ≡ come.stage =
     rest_none robots (is_left next) 0 (4 * w) come.stage (λ t from to. left_not next t (omega (arith, past (t % 4) (omega arith), to))) in
     rw (sym come.ends, done) come.reached

@@ -5,14 +5,8 @@ use Rattle.std.proofs.lemmas.List.{replicate_more, append-nil}
 use Rattle.arena.specs.Field.{Field, is_live}
 use Rattle.code.specs.declared.want.Want.{Want}
 use Rattle.code.specs.declared.want.Want.TheVariants.{Quiet}
-use Rattle.grammar.specs.Profile.{Profile}
-use Rattle.grammar.specs.Resolved.{IsResolved}
-use Rattle.grammar.specs.Tree.{File}
-use Rattle.code.specs.Generation.{ObjectCode, IsProgramOf}
-use Rattle.code.specs.Machine.{State}
-use Rattle.code.specs.Meaning.{want}
-use Rattle.code.specs.Standing.{StandsFor}
-use Rattle.battles.specs.Carrying.{IsRobotOf}
+use Rattle.code.specs.Generation.{ObjectCode}
+use Rattle.battles.specs.Carrying.{Runner, IsRobotOf, IsAt, IsQuiet}
 use Rattle.battles.specs.Battle.{Robot, granted, step}
 use Rattle.battles.specs.Windows.{IsAlone, StepsAlone, RunsAlone, alone}
 
@@ -96,19 +90,16 @@ dead_alone r i f trace (suc n) dead = dead_step r i f (alone r i f trace n) dead
 pub dead_runs : (r : Robot) (i : ℕ) (f : Field) (trace : List ℤ) (n : ℕ) → is_live f i ≡ false → RunsAlone r i f trace n
 dead_runs r i f trace n dead k within live = absurd (false≢true (sym dead ∙ live))
 
--- a machine has coasted for so many cycles
-pub coasted : (r : Robot) (i : ℕ) (f : Field) (trace : List ℤ) (n k : ℕ) (code : ObjectCode) (machine after : State)
-    → IsRobotOf code r → is_live f i ≡ true → RunsAlone r i f trace n → StandsFor machine code (alone r i f trace n)
-    → ((p : Profile) (file : File) (replies : List ℤ) (cycle : ℕ) → IsResolved file → IsProgramOf code p file
-    → StandsFor machine code replies → cycle < k → want p file (replies ++ replicate cycle (pos 0)) ≡ Quiet)
-    → ((replies : List ℤ) → StandsFor machine code replies → StandsFor after code (replies ++ replicate k (pos 0)))
-    → RunsAlone r i f trace (n + k) × StandsFor after code (alone r i f trace (n + k))
-coasted r i f trace n k code machine after is live runs stands source grows =
-    let quiet = λ (j : ℕ) (low : j < k).
-    ap (λ (q : Robot). q (alone r i f trace n ++ replicate j (pos 0))) is.wants
-    ∙ source is.profile is.file (alone r i f trace n) j is.resolved is.program stands low in (
-      runs_plus r i f trace n k runs (quiet_runs r i f (alone r i f trace n) k live quiet),
-      rw (alone_quiet r i f trace n k live quiet) (grows (alone r i f trace n) stands),
+-- a robot has coasted for so many cycles
+pub coasted : (r : Robot) (i : ℕ) (f : Field) (trace : List ℤ) (n k : ℕ) (code : ObjectCode) (runner after : Runner)
+    → IsRobotOf code r → is_live f i ≡ true → RunsAlone r i f trace n → IsAt runner code (alone r i f trace n)
+    → ((robot : Robot) (replies : List ℤ) → IsRobotOf code robot → IsAt runner code replies
+    → IsQuiet robot replies k × IsAt after code (replies ++ replicate k (pos 0)))
+    → RunsAlone r i f trace (n + k) × IsAt after code (alone r i f trace (n + k))
+coasted r i f trace n k code runner after is live runs at on =
+    let now = on r (alone r i f trace n) is at in (
+      runs_plus r i f trace n k runs (quiet_runs r i f (alone r i f trace n) k live now.0),
+      rw (alone_quiet r i f trace n k live now.0) now.1,
     )
 
 pub want_alone : (want other : Want) → want ≡ other → IsAlone other → IsAlone want

@@ -1,4 +1,4 @@
--- How a battle begins: a machine for each robot, and the robots of the files.
+-- How a battle begins: a runner for each robot, and the robots of the files.
 use Rattle.std.proofs.Common.{◌≡◌, ℕ, ◌+◌, zero, suc, List, [], ◌∷◌, ◌++◌, length, map, take, replicate, Some, refl, sym, ap, ◌∙◌, arith, add-one}
 use Rattle.std.specs.Prelude.{slice_get, All}
 use Rattle.std.proofs.lemmas.List.FromFn.{map-range_with_len_more}
@@ -10,47 +10,46 @@ use Rattle.grammar.specs.Profile.{Profile}
 use Rattle.grammar.specs.Resolved.{IsResolved}
 use Rattle.grammar.specs.Tree.{File}
 use Rattle.code.specs.Generation.{ObjectCode, code_of}
-use Rattle.code.specs.Machine.{State}
 use Rattle.code.specs.Meaning.{want}
-use Rattle.code.specs.Standing.{StandsFor, FitsProgram}
+use Rattle.code.specs.Standing.{FitsProgram}
 use Rattle.battles.specs.Battle.{Robot, Outcome, opening, damages_of, stage_after, last_cycle, battle}
-use Rattle.battles.specs.Carrying.{AreRobotsOf, EachFits, EachStandsFor, HasReached}
+use Rattle.battles.specs.Carrying.{Runner, AreRobotsOf, IsAt, EachFits, EachIsAt, HasReached}
 use Rattle.code.specs.Codes.{AreCodesOf}
 use Rattle.battles.specs.Pairing.{paired, robots_of}
 use Rattle.battles.proofs.Stages.{robots_length}
 
--- one machine more
-fits_then : (machines : List State) (codes : List ObjectCode) (i : ℕ) (machine : State) (code : ObjectCode)
-    → EachFits machines (take i codes) → slice_get codes i ≡ Some code → FitsProgram machine code
-    → EachFits (machines ++ machine ∷ []) (take (suc i) codes)
-fits_then machines [] i machine code fits here new = cc
-fits_then [] (code' ∷ codes) zero machine code fits here new =
+-- one runner more
+fits_then : (runners : List Runner) (codes : List ObjectCode) (i : ℕ) (runner : Runner) (code : ObjectCode)
+    → EachFits runners (take i codes) → slice_get codes i ≡ Some code → FitsProgram runner.machine code
+    → EachFits (runners ++ runner ∷ []) (take (suc i) codes)
+fits_then runners [] i runner code fits here new = cc
+fits_then [] (code' ∷ codes) zero runner code fits here new =
     let same : code ≡ code' = cc in (rw same at new, tt)
-fits_then (machine' ∷ machines) (code' ∷ codes) zero machine code fits here new = absurd fits
-fits_then [] (code' ∷ codes) (suc i) machine code fits here new = absurd fits
-fits_then (machine' ∷ machines) (code' ∷ codes) (suc i) machine code fits here new =
-    (fits.0, fits_then machines codes i machine code fits.1 here new)
+fits_then (runner' ∷ runners) (code' ∷ codes) zero runner code fits here new = absurd fits
+fits_then [] (code' ∷ codes) (suc i) runner code fits here new = absurd fits
+fits_then (runner' ∷ runners) (code' ∷ codes) (suc i) runner code fits here new =
+    (fits.0, fits_then runners codes i runner code fits.1 here new)
 
-pub fits_more : (machines : List State) (codes : List ObjectCode) (i : ℕ) (machine : State) (code : ObjectCode)
-    → EachFits machines (take i codes) → slice_get codes i ≡ Some code → FitsProgram machine code
-    → EachFits (machines ++ machine ∷ []) (take (i + 1) codes)
-fits_more machines codes i machine code fits here new = rw add-one (fits_then machines codes i machine code fits here new)
+pub fits_more : (runners : List Runner) (codes : List ObjectCode) (i : ℕ) (runner : Runner) (code : ObjectCode)
+    → EachFits runners (take i codes) → slice_get codes i ≡ Some code → FitsProgram runner.machine code
+    → EachFits (runners ++ runner ∷ []) (take (i + 1) codes)
+fits_more runners codes i runner code fits here new = rw add-one (fits_then runners codes i runner code fits here new)
 
-stands_then : (machines : List State) (codes : List ObjectCode) (i : ℕ) (machine : State) (code : ObjectCode)
-    → EachStandsFor machines (take i codes) (replicate i []) → slice_get codes i ≡ Some code → StandsFor machine code []
-    → EachStandsFor (machines ++ machine ∷ []) (take (suc i) codes) (replicate (suc i) [])
-stands_then machines [] i machine code stands here new = cc
-stands_then [] (code' ∷ codes) zero machine code stands here new =
+stands_then : (runners : List Runner) (codes : List ObjectCode) (i : ℕ) (runner : Runner) (code : ObjectCode)
+    → EachIsAt runners (take i codes) (replicate i []) → slice_get codes i ≡ Some code → IsAt runner code []
+    → EachIsAt (runners ++ runner ∷ []) (take (suc i) codes) (replicate (suc i) [])
+stands_then runners [] i runner code stands here new = cc
+stands_then [] (code' ∷ codes) zero runner code stands here new =
     let same : code ≡ code' = cc in (rw same at new, tt)
-stands_then (machine' ∷ machines) (code' ∷ codes) zero machine code stands here new = absurd stands
-stands_then [] (code' ∷ codes) (suc i) machine code stands here new = absurd stands
-stands_then (machine' ∷ machines) (code' ∷ codes) (suc i) machine code stands here new =
-    (stands.0, stands_then machines codes i machine code stands.1 here new)
+stands_then (runner' ∷ runners) (code' ∷ codes) zero runner code stands here new = absurd stands
+stands_then [] (code' ∷ codes) (suc i) runner code stands here new = absurd stands
+stands_then (runner' ∷ runners) (code' ∷ codes) (suc i) runner code stands here new =
+    (stands.0, stands_then runners codes i runner code stands.1 here new)
 
-pub stands_more : (machines : List State) (codes : List ObjectCode) (i : ℕ) (machine : State) (code : ObjectCode)
-    → EachStandsFor machines (take i codes) (replicate i []) → slice_get codes i ≡ Some code → StandsFor machine code []
-    → EachStandsFor (machines ++ machine ∷ []) (take (i + 1) codes) (replicate (i + 1) [])
-stands_more machines codes i machine code stands here new = rw add-one (stands_then machines codes i machine code stands here new)
+pub stands_more : (runners : List Runner) (codes : List ObjectCode) (i : ℕ) (runner : Runner) (code : ObjectCode)
+    → EachIsAt runners (take i codes) (replicate i []) → slice_get codes i ≡ Some code → IsAt runner code []
+    → EachIsAt (runners ++ runner ∷ []) (take (i + 1) codes) (replicate (i + 1) [])
+stands_more runners codes i runner code stands here new = rw add-one (stands_then runners codes i runner code stands here new)
 
 -- the codes of the files of robots are those of robots of the files
 pub paired_codes : (p : Profile) (files : List File) → paired (map (code_of p) files) ≡ map (code_of p) (paired files)
@@ -90,12 +89,12 @@ unfolding damages_of
 damages_more n f = map-range_with_len_more (λ i. damage_of (robot_at f i)) 0 n n (omega arith)
 
 -- a battle begins with no replies
-pub opening_reached : (machines : List State) (codes : List ObjectCode) (arena : Ground) (robots : List Robot) (n seed number : ℕ)
+pub opening_reached : (runners : List Runner) (codes : List ObjectCode) (arena : Ground) (robots : List Robot) (n seed number : ℕ)
     → AreRobotsOf codes robots → n ≡ length codes → IsGroundOf arena (start seed number n)
-    → EachStandsFor machines codes (replicate (length codes) [])
-    → HasReached machines codes arena (opening (length robots) seed number)
+    → EachIsAt runners codes (replicate (length codes) [])
+    → HasReached runners codes arena (opening (length robots) seed number)
 unfolding opening
-opening_reached machines codes arena robots n seed number are e begun stands =
+opening_reached runners codes arena robots n seed number are e begun stands =
     let all : length robots ≡ n = robots_length codes robots are ∙ sym e in
     record { field = rw all begun; traces = rw (all, e) stands }
 

@@ -7,9 +7,8 @@ use Rattle.arena.specs.Ground.{Ground}
 use Rattle.arena.specs.Moved.{moved}
 use Rattle.arena.specs.Standing.{StandsFor as IsGroundOf}
 use Rattle.code.specs.Generation.{ObjectCode}
-use Rattle.code.specs.Machine.{State}
 use Rattle.battles.specs.Battle.{Robot, Stage, turns, is_due, updated, cycle, is_over, stage_after, first_above, last_cycle}
-use Rattle.battles.specs.Carrying.{HasReached}
+use Rattle.battles.specs.Carrying.{Runner, HasReached}
 
 is_due_yes : (number : ℕ) → number % 15 ≡ 0 → is_due number ≡ true
 unfolding is_due
@@ -38,10 +37,10 @@ pub over_if_few : (number : ℕ) (s : Stage) → number % 15 ≡ 0 → is_over n
 unfolding is_over
 over_if_few number s e = rw (is_due_yes number e) refl
 
-pub updated_reached : (machines : List State) (codes : List ObjectCode) (arena after : Ground) (s : Stage)
-    → HasReached machines codes arena s → IsGroundOf after (moved s.field)
-    → HasReached machines codes after (record { field = moved s.field; traces = s.traces })
-updated_reached machines codes arena after s reached moves = record { field = moves; traces = reached.traces }
+pub updated_reached : (runners : List Runner) (codes : List ObjectCode) (arena after : Ground) (s : Stage)
+    → HasReached runners codes arena s → IsGroundOf after (moved s.field)
+    → HasReached runners codes after (record { field = moved s.field; traces = s.traces })
+updated_reached runners codes arena after s reached moves = record { field = moves; traces = reached.traces }
 
 -- no cycle was run yet
 pub stage_none : (robots : List Robot) (s : Stage) → stage_after robots s 0 ≡ s

@@ -6,6 +6,7 @@ pub mod Commuting
 pub mod Turns
 pub mod Ahead
 pub mod Spans
+pub mod Running
 pub mod Alone
 pub mod Beginnings
 pub mod TestFiles

@@ -1,10 +1,11 @@
 -- Which stage of a battle the machines and the arena have reached.
-use Rattle.std.specs.Prelude.{ℤ, ◌≡◌, List, [], ◌∷◌}
+use Rattle.std.specs.Prelude.{ℕ, ◌<◌, ℤ, pos, ◌≡◌, List, [], ◌∷◌, ◌++◌, replicate}
 use Rattle.arena.specs.Ground.{Ground}
 use Rattle.arena.specs.Standing.{StandsFor as IsGroundOf}
 use Rattle.grammar.specs.Profile.{Profile}
 use Rattle.grammar.specs.Resolved.{IsResolved}
 use Rattle.grammar.specs.Tree.{File}
+use Rattle.code.specs.declared.want.Want.TheVariants.{Quiet}
 use Rattle.code.specs.Generation.{ObjectCode, IsProgramOf}
 use Rattle.code.specs.Machine.{State}
 use Rattle.code.specs.Meaning.{want}
@@ -24,19 +25,32 @@ AreRobotsOf [] [] = Unit {0}
 AreRobotsOf (code ∷ codes) (robot ∷ robots) = IsRobotOf code robot × AreRobotsOf codes robots
 AreRobotsOf _ _ = ⊥
 
+-- A robot's machine, and how many cycles it is ahead of the robot.
+pub record Runner : Type 0 where
+  pub machine : State
+  pub ahead : ℕ
+
+-- the robot asks nothing in its next so many cycles
+abbrev pub IsQuiet : Robot → List ℤ → ℕ → Type 0
+IsQuiet robot trace n = (k : ℕ) → k < n → robot (trace ++ replicate k (pos 0)) ≡ Quiet
+
+-- the machine got the replies of the robot's trace, and is ahead by quiet cycles alone
+pub record IsAt (runner : Runner) (code : ObjectCode) (trace : List ℤ) : Type 0 where
+  pub stands : StandsFor runner.machine code (trace ++ replicate runner.ahead (pos 0))
+  pub quiet : (robot : Robot) → IsRobotOf code robot → IsQuiet robot trace runner.ahead
+
 -- each machine can go on with its program
-abbrev pub EachFits : List State → List ObjectCode → Type 0
+abbrev pub EachFits : List Runner → List ObjectCode → Type 0
 EachFits [] [] = Unit {0}
-EachFits (machine ∷ machines) (code ∷ codes) = FitsProgram machine code × EachFits machines codes
+EachFits (runner ∷ runners) (code ∷ codes) = FitsProgram runner.machine code × EachFits runners codes
 EachFits _ _ = ⊥
 
--- each machine got the replies of its trace
-abbrev pub EachStandsFor : List State → List ObjectCode → List (List ℤ) → Type 0
-EachStandsFor [] [] [] = Unit {0}
-EachStandsFor (machine ∷ machines) (code ∷ codes) (trace ∷ traces) =
-    StandsFor machine code trace × EachStandsFor machines codes traces
-EachStandsFor _ _ _ = ⊥
+-- each robot has come to the end of its trace
+abbrev pub EachIsAt : List Runner → List ObjectCode → List (List ℤ) → Type 0
+EachIsAt [] [] [] = Unit {0}
+EachIsAt (runner ∷ runners) (code ∷ codes) (trace ∷ traces) = IsAt runner code trace × EachIsAt runners codes traces
+EachIsAt _ _ _ = ⊥
 
-pub record HasReached (machines : List State) (codes : List ObjectCode) (arena : Ground) (stage : Stage) : Type 0 where
+pub record HasReached (runners : List Runner) (codes : List ObjectCode) (arena : Ground) (stage : Stage) : Type 0 where
   pub field : IsGroundOf arena stage.field
-  pub traces : EachStandsFor machines codes stage.traces
+  pub traces : EachIsAt runners codes stage.traces

@@ -7,15 +7,15 @@ ghost use Rattle.grammar.specs.Profile.{Profile};
 ghost use Rattle.grammar.specs.Tree.{File};
 ghost use Rattle.code.specs.Codes.{AreCodesOf};
 ghost use Rattle.battles.specs.Battle.{battle, damages_of};
-ghost use Rattle.battles.specs.Carrying.{EachFits, EachStandsFor};
+ghost use Rattle.battles.specs.Carrying.{EachFits, EachIsAt};
 ghost use Rattle.battles.specs.Pairing.{paired, robots_of};
 
 use crate::outcome::Outcome;
 use crate::programs::Programs;
+use crate::runners::Runner;
 use crate::scheduler::play;
 use arena::Arena;
 use arrayvec::ArrayVec;
-use code::Machine;
 use settings::{CYCLES_MAX, FILES_MAX};
 
 /// Plays the battle of the match of this number, counted from 1. The seed and the number choose the random numbers;
@@ -30,21 +30,21 @@ pub fn battle(programs: &Programs, seed: u64, number: u32, limit: u32) -> Outcom
 {
     let robots = programs.robots();
     let mut arena = Arena::new(seed, u64::from(number), robots);
-    let mut machines = machines(programs);
-    let cycles = play(machines.as_mut_slice(), programs, &mut arena, limit);
+    let mut runners = runners(programs);
+    let cycles = play(runners.as_mut_slice(), programs, &mut arena, limit);
     Outcome::new(cycles, damages(&arena, robots))
 }
 
-// Makes a machine for each robot, at the start of its program.
-fn machines(programs: &Programs) -> ArrayVec<Machine, FILES_MAX>
+// Makes a runner for each robot, at the start of its program.
+fn runners(programs: &Programs) -> ArrayVec<Runner, FILES_MAX>
     ensures fits { EachFits result.items (paired programs.now) }
-    ensures stands { EachStandsFor result.items (paired programs.now) (replicate (length (paired programs.now)) []) }
+    ensures begins { EachIsAt result.items (paired programs.now) (replicate (length (paired programs.now)) []) }
 {
-    let mut machines = ArrayVec::new();
+    let mut runners = ArrayVec::new();
     for robot in 0..programs.robots() {
-        machines.push(Machine::new(programs.pilot(robot)));
+        runners.push(Runner::new(programs.pilot(robot)));
     }
-    machines
+    runners
 }
 
 // Returns the damage of each robot.

@@ -5,6 +5,7 @@ mod battles;
 mod known;
 mod outcome;
 mod programs;
+mod runners;
 mod scheduler;
 mod slots;
 mod windows;

@@ -8,54 +8,60 @@ ghost use Rattle.battles.specs.Pairing.{paired};
 ghost use Rattle.battles.specs.Windows.{segment};
 
 use crate::programs::Programs;
+use crate::runners::Runner;
 use crate::windows::{UPDATE_CYCLES, window};
 use arena::Arena;
-use code::Machine;
 use settings::CYCLES_MAX;
 
+// How far a machine runs that asks nothing: a robot that dies doesn't use the cycles that its machine is ahead.
+const MOST_AHEAD: u32 = 240;
+
 // Runs the cycles up to the next update, and the update. Reports whether that decided the battle.
-fn segment(machines: &mut [Machine], programs: &Programs, arena: &mut Arena) -> bool
+fn segment(runners: &mut [Runner], programs: &Programs, arena: &mut Arena, farthest: u32) -> bool
     requires manned { length arena.old.robots ≡ length (paired programs.now) }
-    requires fits { EachFits machines.old (paired programs.now) }
+    requires fits { EachFits runners.old (paired programs.now) }
     requires updates { arena.old.updates < 66666667 }
+    requires far { UPDATE_CYCLES ≤ farthest }
     ensures stage { (robots : List Robot) (s : Stage) → AreRobotsOf (paired programs.now) robots
-        → HasReached machines.old (paired programs.now) arena.old s
-        → HasReached machines.new (paired programs.now) arena.new (segment robots s) }
+        → HasReached runners.old (paired programs.now) arena.old s
+        → HasReached runners.new (paired programs.now) arena.new (segment robots s) }
     ensures decided { (robots : List Robot) (s : Stage) → AreRobotsOf (paired programs.now) robots
-        → HasReached machines.old (paired programs.now) arena.old s
+        → HasReached runners.old (paired programs.now) arena.old s
         → result ≡ nat_le (live_count (segment robots s).field) 1 }
-    ensures fits { EachFits machines.new (paired programs.now) }
+    ensures fits { EachFits runners.new (paired programs.now) }
     ensures manned { length arena.new.robots ≡ length (paired programs.now) }
     ensures updates { arena.new.updates ≡ arena.old.updates + 1 }
 {
-    window(machines, programs, arena, UPDATE_CYCLES);
+    window(runners, programs, arena, UPDATE_CYCLES, farthest);
     arena.update();
     arena.live_count() <= 1
 }
 
 // Runs cycles until the battle is decided, or the limit is reached. Returns how many they were.
 pub(crate) fn play(
-    machines: &mut [Machine],
+    runners: &mut [Runner],
     programs: &Programs,
     arena: &mut Arena,
     limit: u32,
 ) -> u32
     requires manned { length arena.old.robots ≡ length (paired programs.now) }
-    requires fits { EachFits machines.old (paired programs.now) }
+    requires fits { EachFits runners.old (paired programs.now) }
     requires updates { arena.old.updates ≡ 0 }
     requires within { limit ≤ CYCLES_MAX }
     ensures stage { (robots : List Robot) (s : Stage) → AreRobotsOf (paired programs.now) robots
-        → HasReached machines.old (paired programs.now) arena.old s
-        → HasReached machines.new (paired programs.now) arena.new (stage_after robots s result) }
+        → HasReached runners.old (paired programs.now) arena.old s
+        → HasReached runners.new (paired programs.now) arena.new (stage_after robots s result) }
     ensures cycles { (robots : List Robot) (s : Stage) → AreRobotsOf (paired programs.now) robots
-        → HasReached machines.old (paired programs.now) arena.old s → result ≡ last_cycle robots s limit }
+        → HasReached runners.old (paired programs.now) arena.old s → result ≡ last_cycle robots s limit }
     ensures manned { length arena.new.robots ≡ length (paired programs.now) }
 {
     for number in 0..limit / UPDATE_CYCLES {
-        if segment(machines, programs, arena) {
+        let farthest = (limit - UPDATE_CYCLES * number).min(MOST_AHEAD);
+        if segment(runners, programs, arena, farthest) {
             return UPDATE_CYCLES * (number + 1);
         }
     }
-    window(machines, programs, arena, limit % UPDATE_CYCLES);
+    let rest = limit % UPDATE_CYCLES;
+    window(runners, programs, arena, rest, rest);
     limit
 }

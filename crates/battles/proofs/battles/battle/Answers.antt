@@ -13,8 +13,8 @@ returns-clause-battle c = λ p files are.
     let each = robots_are c.args.programs.now p files are in
     let reached : HasReached c.as_mut_slice.result.now codes c.new-arena.result (opening (length robots) c.args.seed c.args.number) =
     rw c.as_mut_slice.ensures.value (
-    opening_reached c.machines-machines.result.items codes c.new-arena.result robots _ c.args.seed c.args.number each
-    c.robots-robots.ensures.robots (rw c.from.ensures at c.new-arena.ensures.stands) c.machines-machines.ensures.stands) in
+    opening_reached c.runners-runners.result.items codes c.new-arena.result robots _ c.args.seed c.args.number each
+    c.robots-robots.ensures.robots (rw c.from.ensures at c.new-arena.ensures.stands) c.runners-runners.ensures.begins) in
     let ended = c.play-cycles.ensures.stage robots _ each reached in
     let all : c.robots-robots.result ≡ length robots = c.robots-robots.ensures.robots ∙ sym (robots_length codes robots each) in
     c.new.ensures

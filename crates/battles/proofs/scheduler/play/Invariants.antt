@@ -8,11 +8,11 @@ abbrev pub invariant-loop-number : goal.invariant-loop-number
 invariant-loop-number l = record {
   manned : length l.arena.robots ≡ length (paired l.programs);
   updates : l.arena.updates ≡ l.number;
-  fits : EachFits l.machines (paired l.programs);
+  fits : EachFits l.runners (paired l.programs);
   stage : (robots : List Robot) (s : Stage) → AreRobotsOf (paired l.programs) robots
-      → HasReached l.initial.machines (paired l.programs) l.initial.arena s
-      → HasReached l.machines (paired l.programs) l.arena (stage_after robots s (15 * l.number));
+      → HasReached l.initial.runners (paired l.programs) l.initial.arena s
+      → HasReached l.runners (paired l.programs) l.arena (stage_after robots s (15 * l.number));
   cycles : (robots : List Robot) (s : Stage) → AreRobotsOf (paired l.programs) robots
-      → HasReached l.initial.machines (paired l.programs) l.initial.arena s
+      → HasReached l.initial.runners (paired l.programs) l.initial.arena s
       → first_above (λ n. is_over n (stage_after robots s n)) (15 * l.number) (l.limit - 15 * l.number) ≡ last_cycle robots s l.limit;
 }
