@@ -6,8 +6,8 @@ use Rattle.grammar.specs.Faults.{definitions_actions}
 use Rattle.grammar.specs.Nesting.{body_nesting}
 use Rattle.grammar.specs.Resolved.{InBody}
 
--- a function whose numbers are below 64, its own among them, and in which at most 200 calls, ifs, whiles and right sides
--- of && and || are open at once
+-- a function whose numbers are below 64, its own among them, and in which at most 200 calls, ifs, whiles and right
+-- sides of && and || are open at once
 pub record IsTellable (d : Definition) : Type 0 where
   pub number : d.number < 64
   pub parameters : d.function.parameters ≤ length d.function.variables

@@ -1,5 +1,6 @@
 -- The leftmost derivation of a file, step by step, and the trees that it makes.
-use Rattle.std.specs.Prelude.{ℕ, pos, negsuc, List, [], ◌∷◌, ◌++◌, Bool, true, false, Option, Some, None, drop, unwrap_or, zero, suc, if◌then◌else◌}
+use Rattle.std.specs.Prelude.{ℕ, pos, negsuc, List, [], ◌∷◌, ◌++◌, Bool, true, false, Option, Some, None, drop}
+use Rattle.std.specs.Prelude.{unwrap_or, zero, suc, if◌then◌else◌}
 use Rattle.tokens.specs.declared.located_tokens.LocatedToken.{LocatedToken}
 use Rattle.tokens.specs.declared.located_tokens.Token.{Token}
 use Rattle.tokens.specs.declared.located_tokens.Token.TheVariants as token
@@ -8,7 +9,10 @@ use Rattle.grammar.specs.declared.names.Var.{Var}
 use Rattle.grammar.specs.declared.operators.Op.TheVariants as op
 use Rattle.grammar.specs.Tree as tree
 use Rattle.grammar.specs.Tree.{Expr, Args, Body, add_argument, join, Function}
-use Rattle.grammar.specs.Grammar.{Source, Role, Called, Mentioned, Item, Exactly, AWord, AName, AConstant, AnEnd, Part, Make, Close, SemanticAction, Operate, Negate, Not, Complement, Fetch, Store, StepBefore, StepBehind, Pass, Invoke, Empty, Evaluate, Decide, DecideElse, Repeat, Zero, GiveBack, Define, Production, choice, is_fault, is_punctuator, is_word}
+use Rattle.grammar.specs.Grammar.{Source, Role, Called, Mentioned, Item, Exactly, AWord, AName, AConstant, AnEnd, Part}
+use Rattle.grammar.specs.Grammar.{Make, Close, SemanticAction, Operate, Negate, Not, Complement, Fetch, Store}
+use Rattle.grammar.specs.Grammar.{StepBefore, StepBehind, Pass, Invoke, Empty, Evaluate, Decide, DecideElse, Repeat}
+use Rattle.grammar.specs.Grammar.{Zero, GiveBack, Define, Production, choice, is_fault, is_punctuator, is_word}
 use Rattle.grammar.specs.Pools.{FunctionNames}
 use Rattle.grammar.specs.Scope.{Scope, no_names, behind_name, end_definition, variable_of, callee_of}
 

@@ -1,5 +1,6 @@
 -- The faults of a source, and the first of them.
-use Rattle.std.specs.Prelude.{ℕ, zero, suc, ◌+◌, List, [], ◌∷◌, ◌++◌, Bool, true, false, Option, Some, None, length, nat_lt, nat_le, if◌then◌else◌}
+use Rattle.std.specs.Prelude.{ℕ, zero, suc, ◌+◌, List, [], ◌∷◌, ◌++◌, Bool, true, false, Option, Some, None, length}
+use Rattle.std.specs.Prelude.{nat_lt, nat_le, if◌then◌else◌}
 use Rattle.tokens.specs.declared.located_tokens.LexicalError.{LexicalError}
 use Rattle.tokens.specs.declared.located_tokens.LexicalError.TheVariants as lexical_error
 use Rattle.tokens.specs.declared.located_tokens.LocatedToken.{LocatedToken}
@@ -9,8 +10,10 @@ use Rattle.tokens.specs.declared.located_tokens.Word.TheVariants as word
 use Rattle.grammar.specs.declared.diagnostics.Code.{Code}
 use Rattle.grammar.specs.declared.diagnostics.Code.TheVariants as code
 use Rattle.grammar.specs.Actions.{Action, code_length, function_actions}
-use Rattle.grammar.specs.Derivation.{State, Value, Definition, definition_of, last_body, step_of, stepped, next_of, after_of, name_of_token}
-use Rattle.grammar.specs.Grammar.{Item, AName, Part, Make, Close, Define, Symbol, Role, Defined, External, Parameter, Typed, Local, Called, Mentioned, is_fault, opens}
+use Rattle.grammar.specs.Derivation.{State, Value, Definition, definition_of, last_body, step_of, stepped, next_of}
+use Rattle.grammar.specs.Derivation.{after_of, name_of_token}
+use Rattle.grammar.specs.Grammar.{Item, AName, Part, Make, Close, Define, Symbol, Role, Defined, External, Parameter}
+use Rattle.grammar.specs.Grammar.{Typed, Local, Called, Mentioned, is_fault, opens}
 use Rattle.grammar.specs.Intrinsics.{is_intrinsic}
 use Rattle.grammar.specs.Profile.{Profile}
 use Rattle.grammar.specs.Scope.{Scope, has_begun, is_external_new, is_function_new, is_local_new, is_variable_new}

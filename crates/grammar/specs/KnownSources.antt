@@ -1,5 +1,6 @@
 -- Sources that show the rules: their trees, their names, and for each kind of fault one that has it.
-use Rattle.std.specs.Prelude.{◌≡◌, ℕ, zero, suc, ◌+◌, pos, negsuc, List, [], ◌∷◌, ◌++◌, false, Option, Some, None, Result, Ok, Err, codes, replicate}
+use Rattle.std.specs.Prelude.{◌≡◌, ℕ, zero, suc, ◌+◌, pos, negsuc, List, [], ◌∷◌, ◌++◌, false, Option, Some, None}
+use Rattle.std.specs.Prelude.{Result, Ok, Err, codes, replicate}
 use Rattle.tokens.specs.declared.located_tokens.LexicalError.{LexicalError}
 use Rattle.tokens.specs.declared.located_tokens.LexicalError.TheVariants as lexical_error
 use Rattle.tokens.specs.declared.located_tokens.LocatedToken.{LocatedToken}
@@ -15,13 +16,16 @@ use Rattle.grammar.specs.declared.names.Intrinsic.TheVariants as intrinsic
 use Rattle.grammar.specs.declared.names.Var.TheVariants as var
 use Rattle.grammar.specs.declared.operators.Op.TheVariants as op
 use Rattle.grammar.specs.declared.operators.StoreOp.TheVariants as store
-use Rattle.grammar.specs.Actions.{Action, PushConstant, FetchVariable, ApplyBinop, LogicMiddle, BeginCall, EndCall, IfTest, ElsePart, GiveBack, Chop, Begin, Finish, actions, code_length, function_actions}
+use Rattle.grammar.specs.Actions.{Action, PushConstant, FetchVariable, ApplyBinop, LogicMiddle, BeginCall, EndCall}
+use Rattle.grammar.specs.Actions.{IfTest, ElsePart, GiveBack, Chop, Begin, Finish, actions, code_length}
+use Rattle.grammar.specs.Actions.{function_actions}
 use Rattle.grammar.specs.Compiled.{compiled_tokens, diagnostic}
 use Rattle.grammar.specs.Beginning.{IsBeginning}
 use Rattle.grammar.specs.Following.{Opened, follow_all, InFunction, AValue, Computed}
 use Rattle.grammar.specs.Need.{need_tokens, built_tokens}
 use Rattle.grammar.specs.Profile.{Profile, first_profile}
-use Rattle.grammar.specs.Tree.{Expr, Constant, Variable, Binary, Assign, Postfix, Call, NoMore, Argument, Body, Done, ExpressionStatement, IfStatement, IfElseStatement, While, Return, Function, File}
+use Rattle.grammar.specs.Tree.{Expr, Constant, Variable, Binary, Assign, Postfix, Call, NoMore, Argument, Body, Done}
+use Rattle.grammar.specs.Tree.{ExpressionStatement, IfStatement, IfElseStatement, While, Return, Function, File}
 
 -- tokens, each on a line of its own, so that a line names a token
 abbrev pub from_line : ℕ → List Token → List LocatedToken
@@ -161,7 +165,12 @@ abbrev pub square_tree : ℕ → Expr
 square_tree n = Binary op.Multiply (local n) (local n)
 
 abbrev pub distance_tree : Function
-distance_tree = record { name = codes "d"; parameters = 2; variables = codes "x" ∷ codes "y" ∷ []; body = Return (Binary op.Add (square_tree 0) (square_tree 1)) Done }
+distance_tree = record {
+  name = codes "d";
+  parameters = 2;
+  variables = codes "x" ∷ codes "y" ∷ [];
+  body = Return (Binary op.Add (square_tree 0) (square_tree 1)) Done;
+}
 
 abbrev pub distance_file : File
 distance_file = record {
@@ -203,7 +212,12 @@ abbrev pub late_read_file : File
 late_read_file = record {
   externals = codes "x" ∷ [];
   functions =
-      record { name = codes "f"; parameters = 0; variables = []; body = ExpressionStatement (Assign store.Set (var.External 0) (constant 1)) (Return (constant 1) Done) }
+      record {
+        name = codes "f";
+        parameters = 0;
+        variables = [];
+        body = ExpressionStatement (Assign store.Set (var.External 0) (constant 1)) (Return (constant 1) Done);
+      }
       ∷ main_of [] late_read_body ∷ [];
   order = 0 ∷ 1 ∷ [];
   main = 1;
@@ -234,7 +248,11 @@ hidden_later = int ∷ x ∷ end ∷ function main (x ∷ end ∷ co ∷ int ∷
 abbrev pub hidden_later_file : File
 hidden_later_file = record {
   externals = codes "x" ∷ [];
-  functions = main_of (codes "x" ∷ []) (ExpressionStatement (Variable (var.External 0)) (ExpressionStatement (local 0) (ExpressionStatement (local 0) Done))) ∷ [];
+  functions =
+      main_of (codes "x" ∷ [])
+      (ExpressionStatement (Variable (var.External 0))
+      (ExpressionStatement (local 0) (ExpressionStatement (local 0) Done)))
+      ∷ [];
   order = 0 ∷ [];
   main = 0;
 }
@@ -252,7 +270,9 @@ call_of n = Call (callee.Function n) NoMore
 abbrev pub defined_later_file : File
 defined_later_file = record {
   externals = [];
-  functions = main_of [] (ExpressionStatement (call_of 1) (ExpressionStatement (call_of 2) Done)) ∷ empty_function (codes "g") ∷ empty_function (codes "f") ∷ [];
+  functions =
+      main_of [] (ExpressionStatement (call_of 1) (ExpressionStatement (call_of 2) Done))
+      ∷ empty_function (codes "g") ∷ empty_function (codes "f") ∷ [];
   order = 0 ∷ 2 ∷ 1 ∷ [];
   main = 0;
 }
@@ -260,9 +280,11 @@ defined_later_file = record {
 -- The trees of sources.
 pub record KnownTrees : Type 0 where
   pub nothing : IsFile (in_main []) (file_of_main [] Done) 3
-  pub sum_of_postfix : IsFile (in_main sum_of_postfix) (file_of_main (codes "x" ∷ codes "a" ∷ codes "b" ∷ []) sum_of_postfix_tree) 11
+  pub sum_of_postfix : IsFile (in_main sum_of_postfix)
+      (file_of_main (codes "x" ∷ codes "a" ∷ codes "b" ∷ []) sum_of_postfix_tree) 11
   pub distance : IsFile (on_lines distance) distance_file 17
-  pub nearest_else : IsFile (in_main nearest_else) (file_of_main (codes "a" ∷ codes "b" ∷ codes "c" ∷ codes "d" ∷ []) nearest_else_tree) 13
+  pub nearest_else : IsFile (in_main nearest_else)
+      (file_of_main (codes "a" ∷ codes "b" ∷ codes "c" ∷ codes "d" ∷ []) nearest_else_tree) 13
   pub late_read : IsFile (on_lines late_read) late_read_file 27
   pub unary_signs : IsFile (in_main unary_signs) (file_of_main (codes "a" ∷ []) unary_trees) 28
   pub hidden_later : IsFile (on_lines hidden_later) hidden_later_file 9
@@ -362,9 +384,11 @@ pub record KnownNeeds : Type 0 where
   pub all : need_tokens first_profile (in_main []) ≡ 6
   pub misfit : need_tokens first_profile (in_main (token.Word word.Refused ∷ end ∷ end ∷ [])) ≡ 6
   pub last_token : need_tokens first_profile (broken_off (main ∷ ro ∷ []) lexical_error.BadCharacter) ≡ 3
-  pub built : built_tokens (on_lines (function f [] ++ function main [])) 8 ≡ function_actions 0 (empty_function (codes "f"))
+  pub built : built_tokens (on_lines (function f [] ++ function main [])) 8
+      ≡ function_actions 0 (empty_function (codes "f"))
   pub not_yet_built : built_tokens (on_lines (function f [] ++ function main [])) 7 ≡ []
-  pub built_with_end : built_tokens (on_lines (function f [] ++ function main [])) 20 ≡ function_actions 0 (empty_function (codes "f"))
+  pub built_with_end : built_tokens (on_lines (function f [] ++ function main [])) 20
+      ≡ function_actions 0 (empty_function (codes "f"))
 
 -- what is open behind these actions of a function
 abbrev pub opened_by : List Action → Option Opened

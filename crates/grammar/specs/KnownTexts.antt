@@ -4,7 +4,8 @@ use Rattle.grammar.specs.declared.diagnostics.Code.{Code}
 use Rattle.grammar.specs.declared.diagnostics.Code.TheVariants as code
 use Rattle.grammar.specs.Actions.{function_actions}
 use Rattle.grammar.specs.Compiled.{compiled, diagnostic}
-use Rattle.grammar.specs.KnownSources.{constant, distance_file, empty_function, file_of_main, nearest_else_tree, sum_of_postfix_tree}
+use Rattle.grammar.specs.KnownSources.{constant, distance_file, empty_function, file_of_main, nearest_else_tree}
+use Rattle.grammar.specs.KnownSources.{sum_of_postfix_tree}
 use Rattle.grammar.specs.Need.{built, need}
 use Rattle.grammar.specs.Profile.{first_profile}
 use Rattle.grammar.specs.Tree.{ExpressionStatement, Done, File}
@@ -25,9 +26,11 @@ constant_file n = file_of_main [] (ExpressionStatement (constant n) Done)
 
 pub record KnownTexts : Type 0 where
   pub nothing : IsFileOf (main_text []) (file_of_main [] Done)
-  pub sum_of_postfix : IsFileOf (main_text (codes " x = a+++b; ")) (file_of_main (codes "x" ∷ codes "a" ∷ codes "b" ∷ []) sum_of_postfix_tree)
+  pub sum_of_postfix : IsFileOf (main_text (codes " x = a+++b; "))
+      (file_of_main (codes "x" ∷ codes "a" ∷ codes "b" ∷ []) sum_of_postfix_tree)
   pub distance : IsFileOf (codes "d(x,y) int x,y; {return(x*x+y*y);} main(){d(3);}") distance_file
-  pub nearest_else : IsFileOf (main_text (codes "if(a) if(b) c; else d;")) (file_of_main (codes "a" ∷ codes "b" ∷ codes "c" ∷ codes "d" ∷ []) nearest_else_tree)
+  pub nearest_else : IsFileOf (main_text (codes "if(a) if(b) c; else d;"))
+      (file_of_main (codes "a" ∷ codes "b" ∷ codes "c" ∷ codes "d" ∷ []) nearest_else_tree)
   pub empty : HasFaultOn [] 1 code.NoMainFunction
   pub not_defined : HasFaultOn (codes "main(){ f(); }") 1 code.FunctionNotDefined
   pub refused_word : HasFaultOn (codes "main(){" ++ 10 ∷ codes "break; }") 2 code.ReservedWord

@@ -2,7 +2,8 @@
 use Rattle.std.specs.Prelude.{ℕ, ◌+◌, max, if◌then◌else◌}
 use Rattle.grammar.specs.declared.operators.Op.{Op}
 use Rattle.grammar.specs.Operators.{is_logic}
-use Rattle.grammar.specs.Tree.{Expr, Constant, Variable, Binary, Assign, Postfix, Call, Args, NoMore, Argument, Body, Done, ExpressionStatement, IfStatement, IfElseStatement, While, Return}
+use Rattle.grammar.specs.Tree.{Expr, Constant, Variable, Binary, Assign, Postfix, Call, Args, NoMore, Argument, Body}
+use Rattle.grammar.specs.Tree.{Done, ExpressionStatement, IfStatement, IfElseStatement, While, Return}
 
 abbrev pub right_side : Op → ℕ
 right_side op = if is_logic op then 1 else 0

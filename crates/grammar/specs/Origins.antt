@@ -1,7 +1,8 @@
 -- How the value of an expression came about, and whether a body ends with `return 0;`.
 use Rattle.std.specs.Prelude.{Bool, false}
 use Rattle.grammar.specs.Following.{Origin, Number, Fetched, Computed, stored, is_number}
-use Rattle.grammar.specs.Tree.{Expr, Constant, Variable, Binary, Assign, Postfix, Call, Body, Done, ExpressionStatement, IfStatement, IfElseStatement, While, Return}
+use Rattle.grammar.specs.Tree.{Expr, Constant, Variable, Binary, Assign, Postfix, Call}
+use Rattle.grammar.specs.Tree.{Body, Done, ExpressionStatement, IfStatement, IfElseStatement, While, Return}
 
 abbrev pub origin_of : Expr → Origin
 origin_of (Constant value) = Number value

@@ -1,6 +1,7 @@
 -- What `choice` adds to the plain grammar: the semantic actions in each production, and the role of its names.
 use Prim.Native.String.{String}
-use Rattle.std.specs.Prelude.{◌≡◌, ◌≤◌, ◌&&◌, ◌||◌, ℕ, ◌+◌, List, [], ◌∷◌, ◌++◌, length, replicate, Bool, Option, Some, None, codes, if◌then◌else◌, option_map}
+use Rattle.std.specs.Prelude.{◌≡◌, ◌≤◌, ◌&&◌, ◌||◌, ℕ, ◌+◌, List, [], ◌∷◌, ◌++◌, length, replicate, Bool, Option, Some}
+use Rattle.std.specs.Prelude.{None, codes, if◌then◌else◌, option_map}
 use Rattle.std.specs.Fmt.{decimal}
 use Rattle.std.specs.Str.{bytes_eq}
 use Rattle.tokens.specs.Punctuators.{spelling}
@@ -11,7 +12,13 @@ use Rattle.tokens.specs.declared.located_tokens.Token.{Token}
 use Rattle.tokens.specs.declared.located_tokens.Token.TheVariants as token
 use Rattle.grammar.specs.declared.operators.Op.TheVariants as op
 use Rattle.grammar.specs.declared.operators.StoreOp.TheVariants as store
-use Rattle.grammar.specs.Grammar.{Role, Defined, External, Parameter, Typed, Local, Called, Mentioned, Symbol, Source, Types, Head, More, Parameters, ParameterTypes, FunctionBlock, Block, Declarations, Statements, Statement, ElsePart, Back, Expression, Level, Tail, Unary, Primary, Arguments, MoreArguments, Operate, Negate, Not, Complement, Fetch, Store, StepBefore, StepBehind, Pass, Invoke, Empty, Evaluate, Decide, DecideElse, Repeat, Zero, GiveBack, Define, Item, Exactly, AWord, AName, AConstant, AnEnd, Part, Make, Close, Production, choice}
+use Rattle.grammar.specs.Grammar.{Role, Defined, External, Parameter, Typed, Local, Called, Mentioned, Symbol, Source}
+use Rattle.grammar.specs.Grammar.{Types, Head, More, Parameters, ParameterTypes, FunctionBlock, Block, Declarations}
+use Rattle.grammar.specs.Grammar.{Statements, Statement, ElsePart, Back, Expression, Level, Tail, Unary, Primary}
+use Rattle.grammar.specs.Grammar.{Arguments, MoreArguments, Operate, Negate, Not, Complement, Fetch, Store, StepBefore}
+use Rattle.grammar.specs.Grammar.{StepBehind, Pass, Invoke, Empty, Evaluate, Decide, DecideElse, Repeat, Zero, GiveBack}
+use Rattle.grammar.specs.Grammar.{Define, Item, Exactly, AWord, AName, AConstant, AnEnd, Part, Make, Close, Production}
+use Rattle.grammar.specs.Grammar.{choice}
 use Rattle.grammar.specs.Productions.{Row, rows}
 
 -- a symbol, a production of it, and its semantic actions, each after so many words; the end of a level is one of them

@@ -1,5 +1,6 @@
 -- The names that are known at a place of a source, and what each stands for there.
-use Rattle.std.specs.Prelude.{ℕ, List, [], ◌∷◌, ◌++◌, Bool, Option, Some, None, map, length, set, unwrap_or, is_none, if◌then◌else◌, ◌+◌, ◌==◌}
+use Rattle.std.specs.Prelude.{ℕ, List, [], ◌∷◌, ◌++◌, Bool, Option, Some, None, map, length, set, unwrap_or, is_none}
+use Rattle.std.specs.Prelude.{if◌then◌else◌, ◌+◌, ◌==◌}
 use Rattle.std.specs.List.{position, list_any}
 use Rattle.std.specs.Option.{option_map, option_or}
 use Rattle.std.specs.Str.{bytes_eq}

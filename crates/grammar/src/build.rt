@@ -1,7 +1,9 @@
 //! The trait of what a parse builds: it is told each action in the order of the tokens.
 
 ghost use Rattle.std.specs.Prelude.{◌≡◌, ℕ, ◌+◌, ◌<◌, ◌≤◌, List, [], ◌∷◌, ◌++◌, Bool, IsTrue, IsErrOf, OnOk, OnErr};
-ghost use Rattle.grammar.specs.Actions.{Action, PushConstant, FetchVariable, StoreVariable, ApplyBinop, LogicMiddle, BeginCall, EndCall, IfTest, ElsePart, EndIf, BeginWhile, WhileTest, EndWhile, GiveBack, Chop, Begin, Finish};
+ghost use Rattle.grammar.specs.Actions.{Action, PushConstant, FetchVariable, StoreVariable, ApplyBinop, LogicMiddle};
+ghost use Rattle.grammar.specs.Actions.{BeginCall, EndCall, IfTest, ElsePart, EndIf, BeginWhile, WhileTest, EndWhile};
+ghost use Rattle.grammar.specs.Actions.{GiveBack, Chop, Begin, Finish};
 ghost use Rattle.grammar.specs.Building.{Appends, FitsWithin, IsOver, MayFollow, Refuses};
 ghost use Rattle.grammar.specs.Profile.{Profile};
 

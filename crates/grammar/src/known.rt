@@ -1,6 +1,7 @@
 //! Sources that show the rules of the language.
 
-ghost use Rattle.grammar.specs.KnownSources.{KnownBeginnings, KnownLimits, KnownMisfits, KnownNameFaults, KnownNeeds, KnownTrees};
+ghost use Rattle.grammar.specs.KnownSources.{KnownBeginnings, KnownLimits, KnownMisfits, KnownNameFaults, KnownNeeds};
+ghost use Rattle.grammar.specs.KnownSources.{KnownTrees};
 ghost use Rattle.grammar.specs.KnownTexts.{KnownTexts};
 
 /// The definitions give these trees and faults of known sources.

@@ -2,7 +2,9 @@
 
 ghost use Rattle.grammar.specs.Finished.{Finished, Undefined, WithoutMain};
 ghost use Rattle.grammar.specs.Scheme.{ActsByRows, ChoosesRows, HasOneRole};
-ghost use Rattle.grammar.specs.Laws.{BeginningsAreInOrder, BlocksKeepTheFunction, CompiledIsResolved, EachDerivationEnds, EachFileFollows, FaultlessIsResolved, FirstFaultDecides, LevelsAreClosed, MayBeTold, WhatIsInOrderBegins, WhatWasReadIsNeeded};
+ghost use Rattle.grammar.specs.Laws.{BeginningsAreInOrder, BlocksKeepTheFunction, CompiledIsResolved};
+ghost use Rattle.grammar.specs.Laws.{EachDerivationEnds, EachFileFollows, FaultlessIsResolved, FirstFaultDecides};
+ghost use Rattle.grammar.specs.Laws.{LevelsAreClosed, MayBeTold, WhatIsInOrderBegins, WhatWasReadIsNeeded};
 
 use crate::build::Build;
 
@@ -58,8 +60,8 @@ pub fn building<B: Build>()
     ensures { (builder : B) → MayBeTold (B.stands builder) }
 {}
 
-/// The productions that the tokens choose are those of the plain grammar, with the semantic actions listed for them, and
-/// each name in a production has the production's role.
+/// The productions that the tokens choose are those of the plain grammar, with the semantic actions listed for them,
+/// and each name in a production has the production's role.
 pub fn productions()
     ensures rows { ChoosesRows }
     ensures actions { ActsByRows }

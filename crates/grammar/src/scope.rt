@@ -1,6 +1,7 @@
 //! The names that are known at a place of a source, and what a name in each role stands for.
 
-ghost use Rattle.std.specs.Prelude.{◌≡◌, ◌<◌, ◌≤◌, ℕ, List, [], ◌∷◌, ◌++◌, length, Option, Some, None, IfOk, IfErr, IfSome, OnOk, map, nat_le, is_some, ◌==◌, true, false};
+ghost use Rattle.std.specs.Prelude.{◌≡◌, ◌<◌, ◌≤◌, ℕ, List, [], ◌∷◌, ◌++◌, length, Option, Some, None, IfOk, IfErr};
+ghost use Rattle.std.specs.Prelude.{IfSome, OnOk, map, nat_le, is_some, ◌==◌, true, false};
 ghost use Rattle.std.specs.Str.{bytes_eq};
 ghost use Rattle.std.specs.List.{position, list_any};
 ghost use Rattle.grammar.specs.Intrinsics.{intrinsic_named, is_intrinsic};
@@ -81,7 +82,10 @@ impl Scope {
     ghost use Rattle.grammar.specs.Compiled.{main_name};
     ghost use Rattle.grammar.specs.Naming.{Knows, RefusesName, line_of_undefined};
     ghost use Rattle.grammar.specs.Resolved.{IsCallable, IsVariable};
-    ghost use Rattle.grammar.specs.Scope.{no_names, behind_name, end_definition, has_begun, number_for, is_local_new, is_external_new, with_variable, with_parameter, with_external, variable_named, variable_of, callee_of, with_begun, with_new_function, function_number};
+    ghost use Rattle.grammar.specs.Scope.{no_names, behind_name, end_definition, has_begun, number_for, is_local_new};
+    ghost use Rattle.grammar.specs.Scope.{is_external_new, with_variable, with_parameter, with_external};
+    ghost use Rattle.grammar.specs.Scope.{variable_named, variable_of, callee_of, with_begun, with_new_function};
+    ghost use Rattle.grammar.specs.Scope.{function_number};
 
     /// Nothing is known before a file's first token.
     #[tactic(auto, using(crate::proofs::ScopeLaws::kept_nothing))]
