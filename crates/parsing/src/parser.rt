@@ -193,7 +193,7 @@ impl<'a, F: Feed> Parser<'a, F> {
         ensures stays { OnOk result (StaysInBody (scope_of self.old) (scope_of self.new)) }
         ensures kept { Advances result self.old self.new }
     {
-        let name = self.name()?;
+        let name = *self.name()?;
         let var = match self.scope.mention(name) {
             Ok(var) => var,
             Err(code) => return Err(self.refusal(code)),
@@ -210,7 +210,7 @@ impl<'a, F: Feed> Parser<'a, F> {
         ensures stays { OnOk result (StaysInBody (scope_of self.old) (scope_of self.new)) }
         ensures kept { Advances result self.old self.new }
     {
-        let name = self.name()?;
+        let name = *self.name()?;
         let line = self.peek().line;
         let callee = match self.scope.call(name, line) {
             Ok(callee) => callee,
@@ -228,7 +228,7 @@ impl<'a, F: Feed> Parser<'a, F> {
             BeginsDefinition number self.old.place.position self.new.place.position) }
         ensures kept { Advances result self.old self.new }
     {
-        let name = self.name()?;
+        let name = *self.name()?;
         let line = self.peek().line;
         let number = match self.scope.define(name, line) {
             Ok(number) => number,
@@ -245,7 +245,7 @@ impl<'a, F: Feed> Parser<'a, F> {
         ensures stays { OnOk result (StaysAt declared (scope_of self.old) (scope_of self.new)) }
         ensures kept { Advances result self.old self.new }
     {
-        let name = self.name()?;
+        let name = *self.name()?;
         if let Err(code) = declare(&mut self.scope, name, declared) {
             return Err(self.refusal(code));
         }
@@ -305,11 +305,11 @@ impl<'a, F: Feed> Parser<'a, F> {
     }
 
     // The name that the next token has to be.
-    fn name(&self) -> Result<Name, ParseFault>
-        ensures found { IfOk result (λ name. token_of self.now ≡ token.Name name) }
+    fn name(&self) -> Result<&Name, ParseFault>
+        ensures found { IfOk result (λ name. token_of self.now ≡ token.Name name.now) }
         ensures other { IfErr result (IsNoName (next_at self.now.place)) }
     {
-        match self.peek().token {
+        match &self.peek().token {
             Token::Name(name) => Ok(name),
             _ => Err(self.misfit()),
         }

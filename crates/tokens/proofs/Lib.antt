@@ -1,3 +1,4 @@
+pub mod CharacterLemmas
 pub mod KnownTokens
 pub mod NameLemmas
 pub mod SourceLemmas

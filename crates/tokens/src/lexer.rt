@@ -350,6 +350,7 @@ impl Window {
     }
 
     /// The last token, at the end of what can be read: this one, unless the source is too long.
+    #[inline(never)]
     fn last(&self, token: Token, line: u32) -> LocatedToken
         requires { self.now.beyond ≢ Beyond.Unread }
         ensures value { (to_come : List ℕ) → result ≡ last_located_token token line (ahead self.now to_come) }

@@ -61,6 +61,7 @@ impl Punctuator {
         self.with_byte(next?)
     }
 
+    #[inline(always)]
     #[tactic(auto, unfolding(crate::specs::Punctuators::punctuator_of))]
     fn with_byte(self, b: u8) -> Option<Punctuator>
         ensures { result ≡ punctuator_of (spelling self ++ b ∷ []) }
