@@ -1,6 +1,6 @@
 //! A robot's machine, which may be some cycles ahead of the robot.
 
-ghost use Rattle.std.specs.Prelude.{◌≡◌, ◌<◌, ◌≤◌, ℤ, List, [], ◌++◌, pos, replicate};
+ghost use Rattle.std.specs.Prelude.{◌≡◌, ◌+◌, ◌<◌, ◌≤◌, ◌^◌, ℤ, List, [], ◌++◌, pos, replicate};
 ghost use Rattle.code.specs.Standing.{FitsProgram};
 ghost use Rattle.battles.specs.Battle.{Robot};
 ghost use Rattle.battles.specs.Carrying.{IsAt, IsQuiet, IsRobotOf};
@@ -59,10 +59,23 @@ impl Runner {
         ensures fits { FitsProgram self.new.machine program.now }
     {
         if self.ahead < most {
-            self.ahead += self.machine.coast(program, farthest - self.ahead);
+            self.run(program, farthest - self.ahead);
         }
         let run = self.ahead.min(most);
         self.ahead -= run;
         run
+    }
+
+    // Runs the machine ahead by up to so many cycles more. It is a function of its own so that the machine's place stays in
+    // registers.
+    #[inline(never)]
+    fn run(&mut self, program: &Program, more: u32)
+        requires fits { FitsProgram self.old.machine program.now }
+        requires small { self.old.ahead + more < 2 ^ 32 }
+        ensures at { (trace : List ℤ) → IsAt self.old program.now trace → IsAt self.new program.now trace }
+        ensures fits { FitsProgram self.new.machine program.now }
+        ensures most { self.new.ahead ≤ self.old.ahead + more }
+    {
+        self.ahead += self.machine.coast(program, more);
     }
 }
