@@ -30,7 +30,7 @@ only_one f g (x ∷ []) e (inl p) = cc
 only_one f g (x ∷ []) e (inr h) = absurd h
 only_one f g (x ∷ y ∷ faults) e h = absurd (cc)
 
--- where a derivation stands still, its one fault is the first
+-- if a derivation stays as it is, its one fault is the first
 pub stuck : (profile : Profile) (s : State) (f : Fault) → stepped s ≡ s → faults_at profile s ≡ f ∷ [] → IsFirstFault profile s f
 stuck profile s f still faults = record {
   comes = record { steps = 0; here = subst (λ (fs : List Fault). IsIn f fs) (sym faults) (inl refl) };
@@ -124,7 +124,7 @@ pub run_keeps : (n : ℕ) (s : State) → length (run n s).rest ≤ length s.res
 run_keeps zero s = le_refl (length s.rest)
 run_keeps (suc n) s = le_trans (run_keeps n (stepped s)) (stepped_keeps s)
 
--- A fault stands at the next token.
+-- A fault is at the next token.
 
 only_if_rest : (g : Fault) (b : Bool) (faults : List Fault) (rest : List LocatedToken) → ((IsIn g faults) → g.rest ≡ rest) → IsIn g (only_if b faults) → g.rest ≡ rest
 only_if_rest g true faults rest each h = each h
@@ -195,7 +195,7 @@ at_rest profile g s h =
     guarded_rest g (is_fault (next_of s.rest)) _ _ s.rest (single_rest g s.rest _)
     (appended_rest g _ _ s.rest (item_rest profile g s.stack s.rest s.values s.scope s.functions) (misfits_rest g s.stack s.rest _)) h
 
--- at the token behind, or later
+-- at the token after it, or later
 later_first : (profile : Profile) (f g : Fault) (s : State) (n : ℕ) → length s.rest < length f.rest → IsIn g (faults_at profile (run n s)) → is_first f g ≡ true
 later_first profile f g s n before h =
     let at : g.rest ≡ (run n s).rest = at_rest profile g (run n s) h in
@@ -222,7 +222,7 @@ now_first profile s f faults before = record {
     first_at g zero h = subst (λ (x : Fault). is_first f x ≡ true) (only_one f g _ faults h) (reflexive f)
     first_at g (suc n) h = later_first profile f g (stepped s) n before h
 
--- A fault whose token is matched in the step behind it is the first, where no fault there comes before it.
+-- A fault whose token is matched in the step after it is the first, if no fault there comes before it.
 pub matched_first : (profile : Profile) (s : State) (f : Fault) → faults_at profile s ≡ f ∷ [] →
     ((g : Fault) → IsIn g (faults_at profile (stepped s)) → is_first f g ≡ true) → length (stepped (stepped s)).rest < length f.rest → IsFirstFault profile s f
 matched_first profile s f faults second before = record {
@@ -329,7 +329,7 @@ deep_before_role g role name scope rest faults same h =
     let large : 9 ≤ number_of g.code = role_code g role name scope rest here in
     same_token_first (fault rest code.NestedTooDeeply) g (role_rest g role name scope rest here) (omega arith)
 
--- A level beyond the last one, opened by a name: the name may have a fault of its role, which comes behind.
+-- A level beyond the last one, opened by a name: the name may have a fault of its role, which comes after.
 pub too_deep_name : (profile : Profile) (symbol : Symbol) (role : Role) (name : List ℕ) (items stack : List Item) (located_token : LocatedToken) (rest : List LocatedToken) (values : List Value) (scope : Scope) (functions : List Definition) →
     is_fault located_token.token ≡ false → choice symbol located_token.token (next_of rest) ≡ Some (AName role ∷ items) → name_of_token located_token.token ≡ Some name →
     level_faults symbol stack (located_token ∷ rest) ≡ fault (located_token ∷ rest) code.NestedTooDeeply ∷ [] →

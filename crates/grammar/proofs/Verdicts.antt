@@ -24,7 +24,7 @@ final_clean profile (suc n) s final clean =
     let rest : faults_in profile n (stepped s) ≡ [] = rw (final_stays s final) (final_clean profile n s final clean) in
     rw (clean, rest) refl
 
--- Two counts of steps are one behind the other.
+-- Two counts of steps are one after the other.
 record Apart (m n : ℕ) : Type 0 where
   more : ℕ
   sum : m + more ≡ n
