@@ -1,7 +1,7 @@
 -- Which fault of a derivation is its first.
-use Rattle.std.proofs.Common.{◌≡◌, ℕ, zero, suc, ◌<◌, ◌≤◌, List, [], ◌∷◌, ◌++◌, refl, sym, ap, subst, inl, inr, Bool, true, false, arith, length, drop, le_refl, le_trans, lt-ltb, append-nil}
+use Rattle.std.proofs.Common.{◌≡◌, ℕ, zero, suc, ◌<◌, ◌≤◌, List, [], ◌∷◌, ◌++◌, refl, sym, ap, subst, inl, inr, Bool, true, false, arith, length, lt-ltb, append-nil}
 use Rattle.std.proofs.lemmas.Bool.Decides.{nat_tests}
-use Rattle.std.specs.Prelude.{Option, Some, None, unwrap_or, nat_le, nat_lt, if◌then◌else◌}
+use Rattle.std.specs.Prelude.{Option, Some, None, nat_le, nat_lt, if◌then◌else◌}
 use Rattle.tokens.specs.declared.located_tokens.LocatedToken.{LocatedToken}
 use Rattle.tokens.specs.declared.located_tokens.Punctuator.{Punctuator}
 use Rattle.tokens.specs.declared.located_tokens.Punctuator.TheVariants as punctuator
@@ -9,13 +9,15 @@ use Rattle.tokens.specs.declared.located_tokens.Word.{Word}
 use Rattle.grammar.specs.declared.diagnostics.Code.{Code}
 use Rattle.grammar.specs.declared.diagnostics.Code.TheVariants as code
 use Rattle.grammar.specs.Compiled.{diagnostic}
-use Rattle.grammar.specs.Derivation.{State, state, Value, Definition, definition_of, last_body, stepped, step, step_of, run, next_of, after_of, line_of, name_of_token, matched, name_matched, replaced, constant_matched}
+use Rattle.grammar.specs.Derivation.{State, state, Value, Definition, definition_of, last_body, stepped, run, next_of, after_of, line_of, name_of_token}
 use Rattle.grammar.specs.Faults.{Fault, fault, faults_at, is_first, item_faults, level_faults, length_faults, name_faults, role_faults, no_room, misfits, misfit_code, levels, number_of, most_levels, most_names, is_too_long, only_if}
-use Rattle.grammar.specs.Grammar.{Item, Exactly, AWord, AName, AConstant, AnEnd, Part, Make, Close, Symbol, Role, Defined, External, Parameter, Typed, Local, Called, Mentioned, Define, Production, choice, opens, is_punctuator, is_word, is_fault}
+use Rattle.grammar.specs.Grammar.{Item, Exactly, AWord, AName, AConstant, AnEnd, Part, Make, Close, Symbol, Role, Defined, External, Parameter, Typed, Local, Called, Mentioned, Define, choice, opens, is_punctuator, is_word, is_fault}
 use Rattle.grammar.specs.Intrinsics.{is_intrinsic}
 use Rattle.grammar.specs.Parsing.{IsIn, IsFirstFault, Fails}
 use Rattle.grammar.specs.Profile.{Profile}
 use Rattle.grammar.specs.Scope.{Scope, has_begun, is_external_new, is_function_new, is_local_new, is_variable_new}
+-- a step never adds tokens
+pub use Rattle.grammar.proofs.Rests.{run_keeps}
 use Rattle.grammar.proofs.Runs.{stays}
 
 reflexive_at : (n c : ℕ) → (if nat_lt n n then true else (if nat_lt n n then false else nat_le c c)) ≡ true
@@ -71,58 +73,6 @@ pub no_name : (profile : Profile) (role : Role) (stack : List Item) (rest : List
     Fails profile (state (AName role ∷ stack) rest values scope functions) (diagnostic (line_of rest) (misfit_code (next_of rest)))
 no_name profile role stack rest values scope functions sound none =
     fails_stuck profile _ rest _ (rw (sound, none) refl) (rw (sound, none) refl)
-
--- A step never gives tokens back.
-
-abbrev Keeps : List LocatedToken → Option State → Type 0
-Keeps rest None = Unit {0}
-Keeps rest (Some t) = length t.rest ≤ length rest
-
-fewer : (rest : List LocatedToken) → length (drop 1 rest) ≤ length rest
-fewer [] = le_refl 0
-fewer (located_token ∷ rest) = omega arith
-
-name_keeps : (role : Role) (name : Option (List ℕ)) (stack : List Item) (rest : List LocatedToken) (values : List Value) (scope : Scope) (functions : List Definition) → Keeps rest (name_matched role name stack rest values scope functions)
-name_keeps role (Some name) stack rest values scope functions = fewer rest
-name_keeps role None stack rest values scope functions = tt
-
-matched_keeps : (fits : Bool) (stack : List Item) (rest : List LocatedToken) (values : List Value) (scope : Scope) (functions : List Definition) → Keeps rest (matched fits stack rest values scope functions)
-matched_keeps true stack rest values scope functions = fewer rest
-matched_keeps false stack rest values scope functions = tt
-
-constant_keeps : (value : Option ℕ) (stack : List Item) (rest : List LocatedToken) (values : List Value) (scope : Scope) (functions : List Definition) → Keeps rest (constant_matched value stack rest values scope functions)
-constant_keeps (Some value) stack rest values scope functions = fewer rest
-constant_keeps None stack rest values scope functions = tt
-
-replaced_keeps : (items : Production) (stack : List Item) (rest : List LocatedToken) (values : List Value) (scope : Scope) (functions : List Definition) → Keeps rest (replaced items stack rest values scope functions)
-replaced_keeps (Some items) stack rest values scope functions = le_refl (length rest)
-replaced_keeps None stack rest values scope functions = tt
-
-step_keeps : (stack : List Item) (rest : List LocatedToken) (values : List Value) (scope : Scope) (functions : List Definition) → Keeps rest (step_of stack rest values scope functions)
-step_keeps [] rest values scope functions = tt
-step_keeps (Exactly m ∷ stack) rest values scope functions = matched_keeps _ stack rest values scope functions
-step_keeps (AWord w ∷ stack) rest values scope functions = matched_keeps _ stack rest values scope functions
-step_keeps (AName role ∷ stack) rest values scope functions = name_keeps role _ stack rest values scope functions
-step_keeps (AnEnd ∷ stack) rest values scope functions = matched_keeps _ stack rest values scope functions
-step_keeps (AConstant ∷ stack) rest values scope functions = constant_keeps _ stack rest values scope functions
-step_keeps (Part symbol ∷ stack) rest values scope functions = replaced_keeps _ stack rest values scope functions
-step_keeps (Make rule ∷ stack) rest values scope functions = le_refl (length rest)
-step_keeps (Close ∷ stack) rest values scope functions = le_refl (length rest)
-
-guarded_keeps : (b : Bool) (rest : List LocatedToken) (o : Option State) → Keeps rest o → Keeps rest (if b then None else o)
-guarded_keeps true rest o h = tt
-guarded_keeps false rest o h = h
-
-kept : (s : State) (o : Option State) → Keeps s.rest o → length (unwrap_or o s).rest ≤ length s.rest
-kept s None h = le_refl (length s.rest)
-kept s (Some t) h = h
-
-pub stepped_keeps : (s : State) → length (stepped s).rest ≤ length s.rest
-stepped_keeps s = kept s (step s) (guarded_keeps (is_fault (next_of s.rest)) s.rest _ (step_keeps s.stack s.rest s.values s.scope s.functions))
-
-pub run_keeps : (n : ℕ) (s : State) → length (run n s).rest ≤ length s.rest
-run_keeps zero s = le_refl (length s.rest)
-run_keeps (suc n) s = le_trans (run_keeps n (stepped s)) (stepped_keeps s)
 
 -- A fault is at the next token.
 
