@@ -206,8 +206,11 @@ external_grows name scope ds k less =
       number = refl;
     }
 
-variable_grows : (name : List ℕ) (scope : Scope) (ds : List Definition) → Known scope ds → length scope.current.variables < 64 → Grows scope (with_variable name scope) ds
-variable_grows name scope ds k less =
+-- one variable more, of which so many are parameters
+local_grows : (name : List ℕ) (parameters : ℕ) (scope : Scope) (ds : List Definition) → Known scope ds →
+    length scope.current.variables < 64 → parameters ≤ length scope.current.variables + 1 →
+    Grows scope (record scope { current = record scope.current { parameters = parameters; variables = scope.current.variables ++ name ∷ [] } }) ds
+local_grows name parameters scope ds k less few =
     let longer : length (scope.current.variables ++ name ∷ []) ≡ length scope.current.variables + 1 = length-append scope.current.variables (name ∷ []) in
     record {
       known = record {
@@ -215,7 +218,7 @@ variable_grows name scope ds k less =
         functions = k.functions;
         lines = k.lines;
         variables = omega arith;
-        parameters = omega (arith, k.parameters);
+        parameters = omega arith;
         definitions = k.definitions;
         begun = k.begun;
         below = k.below;
@@ -225,24 +228,11 @@ variable_grows name scope ds k less =
       number = refl;
     }
 
+variable_grows : (name : List ℕ) (scope : Scope) (ds : List Definition) → Known scope ds → length scope.current.variables < 64 → Grows scope (with_variable name scope) ds
+variable_grows name scope ds k less = local_grows name scope.current.parameters scope ds k less (omega (arith, k.parameters))
+
 parameter_grows : (name : List ℕ) (scope : Scope) (ds : List Definition) → Known scope ds → length scope.current.variables < 64 → Grows scope (with_parameter name scope) ds
-parameter_grows name scope ds k less =
-    let longer : length (scope.current.variables ++ name ∷ []) ≡ length scope.current.variables + 1 = length-append scope.current.variables (name ∷ []) in
-    record {
-      known = record {
-        externals = k.externals;
-        functions = k.functions;
-        lines = k.lines;
-        variables = omega arith;
-        parameters = omega (arith, k.parameters);
-        definitions = k.definitions;
-        begun = k.begun;
-        below = k.below;
-      };
-      wider = record { externals = omega arith; locals = omega arith; functions = omega arith };
-      begun = refl;
-      number = refl;
-    }
+parameter_grows name scope ds k less = local_grows name (scope.current.parameters + 1) scope ds k less (omega (arith, k.parameters))
 
 function_grows : (name : List ℕ) (line : ℕ) (scope : Scope) (ds : List Definition) → Known scope ds → (is_function_new name scope ≡ true → length scope.functions < 64) →
     Grows scope (with_function name line scope) ds
