@@ -1,4 +1,4 @@
--- Each action of a list may follow those before it exactly where the list is a beginning of some functions' actions.
+-- Each action of a list may follow those before it exactly if the list is a beginning of some functions' actions.
 use Rattle.std.proofs.Common.{◌≡◌, ℕ, ◌+◌, ◌<◌, ◌≤◌, List, [], ◌∷◌, ◌++◌, refl, sym, ap, ◌∙◌, subst, Bool, true, false, arith, append_assoc, inl, inr, ◌⊎◌, length}
 use Rattle.std.proofs.lemmas.Bool.Decides.{nat_tests}
 use Rattle.std.proofs.lemmas.List.{append-nil, length-replicate}

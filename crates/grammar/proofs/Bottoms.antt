@@ -1,4 +1,4 @@
--- The end is the last item of a derivation: where no tokens are left, nothing is left to derive.
+-- The end is the last item of a derivation: if no tokens are left, nothing is left to derive.
 use Rattle.std.proofs.Common.{◌≡◌, ℕ, zero, suc, ◌+◌, ◌<◌, List, [], ◌∷◌, ◌++◌, refl, subst, sym, Bool, true, false, arith, length, drop, append-nil}
 use Rattle.std.specs.Prelude.{Option, Some, None, nat_lt, unwrap_or, if◌then◌else◌}
 use Rattle.tokens.specs.Tokens.{is_last}
@@ -30,7 +30,7 @@ abbrev is_nothing : List Item → Bool
 is_nothing [] = true
 is_nothing (item ∷ stack) = false
 
--- each of these stands at the bottom
+-- each of these is at the bottom
 abbrev at_bottom : List Item → Bool
 at_bottom [] = true
 at_bottom (item ∷ stack) = if is_bottom item then is_nothing stack else at_bottom stack
@@ -40,7 +40,7 @@ abbrev has_none : List Item → Bool
 has_none [] = true
 has_none (item ∷ items) = if is_bottom item then false else has_none items
 
--- a production has one at its bottom where it is that of a source, and none otherwise
+-- a production has one at its bottom if it is that of a source, and none otherwise
 abbrev fits : Bool → Production → Bool
 fits bottom None = true
 fits true (Some items) = at_bottom items
@@ -137,7 +137,7 @@ items_above true items [] fit h = subst (λ xs. at_bottom xs ≡ true) (sym (app
 items_above true items (item ∷ stack) fit h = absurd cc
 items_above false items stack fit h = none_above items stack fit h
 
--- where no tokens are left, there is nothing left to derive; else they end with one that is the last
+-- if no tokens are left, there is nothing left to derive; else they end with one that is the last
 abbrev Left : List Item → List LocatedToken → Type 0
 Left stack [] = stack ≡ []
 Left stack (located_token ∷ rest) = EndsWithLast (located_token ∷ rest)
@@ -182,7 +182,7 @@ constant_is_not_last (token.Constant v) value h = refl
 constant_is_not_last token.End value h = absurd cc
 constant_is_not_last (token.Fault lexical_error) value h = absurd cc
 
--- behind a token that isn't the last there is another
+-- after a token that isn't the last there is another
 left_behind : (item : Item) (stack : List Item) (rest : List LocatedToken) → is_last (next_of rest) ≡ false → Left (item ∷ stack) rest → Left stack (drop 1 rest)
 left_behind item stack [] other h = absurd cc
 left_behind item stack (located_token ∷ []) other h = absurd cc
@@ -214,7 +214,7 @@ end_leads true [] rest values scope functions bottom h = record { bottom = refl;
 end_leads true (item ∷ stack) rest values scope functions bottom h = absurd cc
 end_leads false stack rest values scope functions bottom h = tt
 
--- where an item is left to derive, tokens are left, whatever the items are
+-- if an item is left to derive, tokens are left, whatever the items are
 left_same : (item : Item) (stack items : List Item) (rest : List LocatedToken) → Left (item ∷ stack) rest → Left items rest
 left_same item stack items [] h = absurd cc
 left_same item stack items (located_token ∷ rest) h = h
@@ -261,7 +261,7 @@ some_left profile f [] [] values scope functions left h = absurd h
 some_left profile f (item ∷ stack) [] values scope functions left h = absurd cc
 some_left profile f stack (located_token ∷ rest) values scope functions left h = omega arith
 
--- a fault stands at a token
+-- a fault is at a token
 pub fault_at_token : (profile : Profile) (located_tokens : List LocatedToken) (n : ℕ) (f : Fault) → EndsWithLast located_tokens →
     IsIn f (faults_at profile (run n (start located_tokens))) → 0 < length (run n (start located_tokens)).rest
 fault_at_token profile located_tokens n f ends h =

@@ -82,7 +82,7 @@ one_is_not number (first ∷ lines) ds line e = at_place (λ h. one_is_not (numb
 
 -- The actions of a file.
 
--- a function stands at the number of its definition
+-- a function is at the number of its definition
 abbrev AreThere : List Function → List Definition → Type 0
 AreThere functions [] = Unit {0}
 AreThere functions (d ∷ ds) = (slice_get functions d.number ≡ Some d.function) × AreThere functions ds
@@ -155,7 +155,7 @@ module _ (scope : Scope) (ds : List Definition) (s : Sound (at_end scope ds)) (a
 abbrev file_at : Scope → List Definition → List Function → ℕ → File
 file_at scope ds functions main = record { externals = scope.externals; functions = functions; order = order_of ds; main = main }
 
--- where each function is defined, and main is one of them, there is the file
+-- if each function is defined, and main is one of them, there is the file
 resolved_at : (located_tokens : List LocatedToken) (scope : Scope) (ds : List Definition) (functions : List Function) (main : ℕ) → all_defined 0 scope.lines ds ≡ Ok functions →
     function_number main_name scope ≡ Some main → resolved located_tokens scope ds ≡ Ok (file_at scope ds functions main)
 resolved_at located_tokens scope ds functions main all named = rw (all, named) refl

@@ -1,7 +1,7 @@
 -- Which fault of a derivation is its first.
-use Rattle.std.proofs.Common.{◌≡◌, ℕ, zero, suc, ◌<◌, ◌≤◌, List, [], ◌∷◌, ◌++◌, refl, sym, ap, subst, inl, inr, Bool, true, false, arith, length, drop, le_refl, le_trans, lt-ltb, append-nil}
+use Rattle.std.proofs.Common.{◌≡◌, ℕ, zero, suc, ◌<◌, ◌≤◌, List, [], ◌∷◌, ◌++◌, refl, sym, ap, subst, inl, inr, Bool, true, false, arith, length, lt-ltb, append-nil}
 use Rattle.std.proofs.lemmas.Bool.Decides.{nat_tests}
-use Rattle.std.specs.Prelude.{Option, Some, None, unwrap_or, nat_le, nat_lt, if◌then◌else◌}
+use Rattle.std.specs.Prelude.{Option, Some, None, nat_le, nat_lt, if◌then◌else◌}
 use Rattle.tokens.specs.declared.located_tokens.LocatedToken.{LocatedToken}
 use Rattle.tokens.specs.declared.located_tokens.Punctuator.{Punctuator}
 use Rattle.tokens.specs.declared.located_tokens.Punctuator.TheVariants as punctuator
@@ -9,13 +9,15 @@ use Rattle.tokens.specs.declared.located_tokens.Word.{Word}
 use Rattle.grammar.specs.declared.diagnostics.Code.{Code}
 use Rattle.grammar.specs.declared.diagnostics.Code.TheVariants as code
 use Rattle.grammar.specs.Compiled.{diagnostic}
-use Rattle.grammar.specs.Derivation.{State, state, Value, Definition, definition_of, last_body, stepped, step, step_of, run, next_of, after_of, line_of, name_of_token, matched, name_matched, replaced, constant_matched}
+use Rattle.grammar.specs.Derivation.{State, state, Value, Definition, definition_of, last_body, stepped, run, next_of, after_of, line_of, name_of_token}
 use Rattle.grammar.specs.Faults.{Fault, fault, faults_at, is_first, item_faults, level_faults, length_faults, name_faults, role_faults, no_room, misfits, misfit_code, levels, number_of, most_levels, most_names, is_too_long, only_if}
-use Rattle.grammar.specs.Grammar.{Item, Exactly, AWord, AName, AConstant, AnEnd, Part, Make, Close, Symbol, Role, Defined, External, Parameter, Typed, Local, Called, Mentioned, Define, Production, choice, opens, is_punctuator, is_word, is_fault}
+use Rattle.grammar.specs.Grammar.{Item, Exactly, AWord, AName, AConstant, AnEnd, Part, Make, Close, Symbol, Role, Defined, External, Parameter, Typed, Local, Called, Mentioned, Define, choice, opens, is_punctuator, is_word, is_fault}
 use Rattle.grammar.specs.Intrinsics.{is_intrinsic}
 use Rattle.grammar.specs.Parsing.{IsIn, IsFirstFault, Fails}
 use Rattle.grammar.specs.Profile.{Profile}
 use Rattle.grammar.specs.Scope.{Scope, has_begun, is_external_new, is_function_new, is_local_new, is_variable_new}
+-- a step never adds tokens
+pub use Rattle.grammar.proofs.Rests.{run_keeps}
 use Rattle.grammar.proofs.Runs.{stays}
 
 reflexive_at : (n c : ℕ) → (if nat_lt n n then true else (if nat_lt n n then false else nat_le c c)) ≡ true
@@ -30,7 +32,7 @@ only_one f g (x ∷ []) e (inl p) = cc
 only_one f g (x ∷ []) e (inr h) = absurd h
 only_one f g (x ∷ y ∷ faults) e h = absurd (cc)
 
--- where a derivation stands still, its one fault is the first
+-- if a derivation stays as it is, its one fault is the first
 pub stuck : (profile : Profile) (s : State) (f : Fault) → stepped s ≡ s → faults_at profile s ≡ f ∷ [] → IsFirstFault profile s f
 stuck profile s f still faults = record {
   comes = record { steps = 0; here = subst (λ (fs : List Fault). IsIn f fs) (sym faults) (inl refl) };
@@ -72,59 +74,7 @@ pub no_name : (profile : Profile) (role : Role) (stack : List Item) (rest : List
 no_name profile role stack rest values scope functions sound none =
     fails_stuck profile _ rest _ (rw (sound, none) refl) (rw (sound, none) refl)
 
--- A step never gives tokens back.
-
-abbrev Keeps : List LocatedToken → Option State → Type 0
-Keeps rest None = Unit {0}
-Keeps rest (Some t) = length t.rest ≤ length rest
-
-fewer : (rest : List LocatedToken) → length (drop 1 rest) ≤ length rest
-fewer [] = le_refl 0
-fewer (located_token ∷ rest) = omega arith
-
-name_keeps : (role : Role) (name : Option (List ℕ)) (stack : List Item) (rest : List LocatedToken) (values : List Value) (scope : Scope) (functions : List Definition) → Keeps rest (name_matched role name stack rest values scope functions)
-name_keeps role (Some name) stack rest values scope functions = fewer rest
-name_keeps role None stack rest values scope functions = tt
-
-matched_keeps : (fits : Bool) (stack : List Item) (rest : List LocatedToken) (values : List Value) (scope : Scope) (functions : List Definition) → Keeps rest (matched fits stack rest values scope functions)
-matched_keeps true stack rest values scope functions = fewer rest
-matched_keeps false stack rest values scope functions = tt
-
-constant_keeps : (value : Option ℕ) (stack : List Item) (rest : List LocatedToken) (values : List Value) (scope : Scope) (functions : List Definition) → Keeps rest (constant_matched value stack rest values scope functions)
-constant_keeps (Some value) stack rest values scope functions = fewer rest
-constant_keeps None stack rest values scope functions = tt
-
-replaced_keeps : (items : Production) (stack : List Item) (rest : List LocatedToken) (values : List Value) (scope : Scope) (functions : List Definition) → Keeps rest (replaced items stack rest values scope functions)
-replaced_keeps (Some items) stack rest values scope functions = le_refl (length rest)
-replaced_keeps None stack rest values scope functions = tt
-
-step_keeps : (stack : List Item) (rest : List LocatedToken) (values : List Value) (scope : Scope) (functions : List Definition) → Keeps rest (step_of stack rest values scope functions)
-step_keeps [] rest values scope functions = tt
-step_keeps (Exactly m ∷ stack) rest values scope functions = matched_keeps _ stack rest values scope functions
-step_keeps (AWord w ∷ stack) rest values scope functions = matched_keeps _ stack rest values scope functions
-step_keeps (AName role ∷ stack) rest values scope functions = name_keeps role _ stack rest values scope functions
-step_keeps (AnEnd ∷ stack) rest values scope functions = matched_keeps _ stack rest values scope functions
-step_keeps (AConstant ∷ stack) rest values scope functions = constant_keeps _ stack rest values scope functions
-step_keeps (Part symbol ∷ stack) rest values scope functions = replaced_keeps _ stack rest values scope functions
-step_keeps (Make rule ∷ stack) rest values scope functions = le_refl (length rest)
-step_keeps (Close ∷ stack) rest values scope functions = le_refl (length rest)
-
-guarded_keeps : (b : Bool) (rest : List LocatedToken) (o : Option State) → Keeps rest o → Keeps rest (if b then None else o)
-guarded_keeps true rest o h = tt
-guarded_keeps false rest o h = h
-
-kept : (s : State) (o : Option State) → Keeps s.rest o → length (unwrap_or o s).rest ≤ length s.rest
-kept s None h = le_refl (length s.rest)
-kept s (Some t) h = h
-
-pub stepped_keeps : (s : State) → length (stepped s).rest ≤ length s.rest
-stepped_keeps s = kept s (step s) (guarded_keeps (is_fault (next_of s.rest)) s.rest _ (step_keeps s.stack s.rest s.values s.scope s.functions))
-
-pub run_keeps : (n : ℕ) (s : State) → length (run n s).rest ≤ length s.rest
-run_keeps zero s = le_refl (length s.rest)
-run_keeps (suc n) s = le_trans (run_keeps n (stepped s)) (stepped_keeps s)
-
--- A fault stands at the next token.
+-- A fault is at the next token.
 
 only_if_rest : (g : Fault) (b : Bool) (faults : List Fault) (rest : List LocatedToken) → ((IsIn g faults) → g.rest ≡ rest) → IsIn g (only_if b faults) → g.rest ≡ rest
 only_if_rest g true faults rest each h = each h
@@ -195,7 +145,7 @@ at_rest profile g s h =
     guarded_rest g (is_fault (next_of s.rest)) _ _ s.rest (single_rest g s.rest _)
     (appended_rest g _ _ s.rest (item_rest profile g s.stack s.rest s.values s.scope s.functions) (misfits_rest g s.stack s.rest _)) h
 
--- at the token behind, or later
+-- at the token after it, or later
 later_first : (profile : Profile) (f g : Fault) (s : State) (n : ℕ) → length s.rest < length f.rest → IsIn g (faults_at profile (run n s)) → is_first f g ≡ true
 later_first profile f g s n before h =
     let at : g.rest ≡ (run n s).rest = at_rest profile g (run n s) h in
@@ -222,7 +172,7 @@ now_first profile s f faults before = record {
     first_at g zero h = subst (λ (x : Fault). is_first f x ≡ true) (only_one f g _ faults h) (reflexive f)
     first_at g (suc n) h = later_first profile f g (stepped s) n before h
 
--- A fault whose token is matched in the step behind it is the first, where no fault there comes before it.
+-- A fault whose token is matched in the step after it is the first, if no fault there comes before it.
 pub matched_first : (profile : Profile) (s : State) (f : Fault) → faults_at profile s ≡ f ∷ [] →
     ((g : Fault) → IsIn g (faults_at profile (stepped s)) → is_first f g ≡ true) → length (stepped (stepped s)).rest < length f.rest → IsFirstFault profile s f
 matched_first profile s f faults second before = record {
@@ -329,7 +279,7 @@ deep_before_role g role name scope rest faults same h =
     let large : 9 ≤ number_of g.code = role_code g role name scope rest here in
     same_token_first (fault rest code.NestedTooDeeply) g (role_rest g role name scope rest here) (omega arith)
 
--- A level beyond the last one, opened by a name: the name may have a fault of its role, which comes behind.
+-- A level beyond the last one, opened by a name: the name may have a fault of its role, which comes after.
 pub too_deep_name : (profile : Profile) (symbol : Symbol) (role : Role) (name : List ℕ) (items stack : List Item) (located_token : LocatedToken) (rest : List LocatedToken) (values : List Value) (scope : Scope) (functions : List Definition) →
     is_fault located_token.token ≡ false → choice symbol located_token.token (next_of rest) ≡ Some (AName role ∷ items) → name_of_token located_token.token ≡ Some name →
     level_faults symbol stack (located_token ∷ rest) ≡ fault (located_token ∷ rest) code.NestedTooDeeply ∷ [] →

@@ -1,4 +1,4 @@
--- The actions of a tree may follow one another, where little enough is open.
+-- The actions of a tree may follow one another, if little enough is open.
 use Rattle.std.proofs.Common.{◌≡◌, ℕ, ◌+◌, ◌<◌, ◌≤◌, List, [], ◌∷◌, ◌++◌, refl, ap, ◌∙◌, subst, Bool, true, false, arith, lt-ltb, le-leb, length, inl, inr}
 use Rattle.std.proofs.lemmas.Bool.Decides.{nat_tests}
 use Rattle.std.specs.Prelude.{Option, Some, None, if◌then◌else◌, pos, slice_get}
@@ -19,7 +19,7 @@ use Rattle.grammar.specs.Tree.{Expr, Constant, Variable, Binary, Assign, Postfix
 use Rattle.grammar.specs.Laws.{EachFileFollows}
 use Rattle.grammar.proofs.Widening.{body_wider, function_wider}
 
--- Actions one behind another.
+-- Actions one after another.
 
 then_append : (xs ys : List Action) (next : Option Opened) (p : Opened) → ((o : Opened) → follow_all xs o ≡ Some p → follow_all (xs ++ ys) o ≡ follow_all ys p) →
     then_follow (follow_all xs) next ≡ Some p → then_follow (follow_all (xs ++ ys)) next ≡ follow_all ys p
@@ -41,7 +41,7 @@ few : (o : Opened) → open_count o ≤ 200 → few_open o ≡ true
 unfolding most_open
 few o h = le-leb (open_count o) 200 h
 
--- one action, and those behind it
+-- one action, and those after it
 pub follow_cons : (a : Action) (acts : List Action) (o p : Opened) → follow a o ≡ Some p → open_count p ≤ 200 → follow_all (a ∷ acts) o ≡ follow_all acts p
 follow_cons a acts o p e small = rw (e, few p small) refl
 
@@ -120,7 +120,7 @@ act a o p e small = record { is = follow_one a o p e small }
 pub also : (a : Action) (acts : List Action) (o p q : Opened) → follow a o ≡ Some p → open_count p ≤ 200 → Leads acts p q → Leads (a ∷ acts) o q
 also a acts o p q e small b = record { is = follow_cons a acts o p e small ∙ b.is }
 
--- behind the sides of an operator
+-- after the sides of an operator
 sides_lead : (op : Op) (logic : Bool) → is_logic op ≡ logic → (a b : Expr) (outer : Open) (o : Opened) → open_count (outer ∷ o) + right_side op ≤ 200 →
     Leads (expr_actions a) (outer ∷ o) (AValue (origin_of a) ∷ outer ∷ o) →
     ((inner : Open) (p : Opened) → open_count (inner ∷ p) ≤ open_count (outer ∷ o) + right_side op → Leads (expr_actions b) (inner ∷ p) (AValue (origin_of b) ∷ inner ∷ p)) →
@@ -163,7 +163,7 @@ mutual
 
 -- Statements.
 
--- what is open behind a statement, which is `return 0;` or not
+-- what is open after a statement, which is `return 0;` or not
 abbrev pub settled : Bool → Opened → Opened
 settled returned (InFunction parameters before ∷ o) = InFunction parameters returned ∷ o
 settled returned o = o
@@ -186,7 +186,7 @@ settled_count returned [] = refl
 settled_count returned (InFunction parameters before ∷ o) = refl
 settled_count returned (x ∷ o) = refl
 
--- what is open behind statements
+-- what is open after statements
 abbrev pub behind_body : Body → Opened → Opened
 behind_body Done o = o
 behind_body (ExpressionStatement e rest) o = behind_body rest (settled false o)

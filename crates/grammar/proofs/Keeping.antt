@@ -1,4 +1,4 @@
--- What stands within a function's block keeps the function that is being defined.
+-- What is within a function's block keeps the function that is being defined.
 use Rattle.std.proofs.Common.{◌≡◌, ℕ, zero, suc, ◌+◌, ◌≤◌, List, [], ◌∷◌, ◌++◌, refl, sym, ap, ◌∙◌, subst, Bool, true, false, arith, length, length-append, append_assoc}
 use Rattle.std.specs.Prelude.{Option, Some, None, nat_lt, if◌then◌else◌, unwrap_or}
 use Rattle.tokens.specs.declared.located_tokens.LocatedToken.{LocatedToken}
@@ -160,7 +160,7 @@ defines_none : (rule : SemanticAction) (values : List Value) (scope : Scope) (fu
 defines_none Define values scope functions h = absurd (cc)
 defines_none rule values scope functions h = length-append functions [] ∙ omega arith
 
--- One step at an inner item: what follows stands over the same items.
+-- One step at an inner item: what follows is over the same items.
 
 record Stands (base : List Item) (known : Scope) (count : ℕ) (s : State) : Type 0 where
   items : List Item
@@ -263,7 +263,7 @@ run_more : (n : ℕ) (s : State) → length s.functions ≤ length (run n s).fun
 run_more zero s = omega arith
 run_more (suc n) s = omega (arith, run_more n (stepped s), stepped_more (is_fault (next_of s.rest)) s (step_of s.stack s.rest s.values s.scope s.functions) (item_more s.stack s.rest s.values s.scope s.functions))
 
--- A derivation that defined no function didn't pass the end of the one that it stands in.
+-- A derivation that defined no function didn't pass the end of the one that it is in.
 
 abbrev KeepsFrom : ℕ → Scope → ℕ → State → Type 0
 KeepsFrom n known count s = length (run n s).functions ≡ count → KeepsFunction known (run n s).scope

@@ -1,4 +1,4 @@
--- How long the code of actions is that stand one behind another.
+-- How long the code of actions is that come one after another.
 use Rattle.std.proofs.Common.{◌≡◌, ◌+◌, List, [], ◌∷◌, ◌++◌, arith}
 use Rattle.grammar.specs.Actions.{Action, code_length, instructions}
 use Rattle.grammar.specs.Profile.{Profile}

@@ -1,6 +1,7 @@
 pub mod KnownSources
 pub mod KnownTexts
 pub mod Runs
+pub mod Rests
 pub mod Steps
 pub mod Weight
 pub mod Endings

@@ -20,7 +20,7 @@ use Rattle.grammar.proofs.Places.{get_append, get_set_same, get_set_other}
 pub sound_of_passes : (profile : Profile) (located_tokens : List LocatedToken) (s : State) → Passes profile (start located_tokens) s → Sound s
 sound_of_passes profile located_tokens s p = subst (λ (t : State). Sound t) p.leads (run_sound profile p.steps (start located_tokens) p.clean (start_sound located_tokens))
 
--- the names of each function that was defined stand at its number
+-- the names of each function that was defined are at its number
 abbrev pub AreNamed : List FunctionNames → List Definition → Type 0
 AreNamed functions [] = Unit {0}
 AreNamed functions (d ∷ ds) = (slice_get functions d.number ≡ Some (names_of_function d.function)) × AreNamed functions ds
@@ -50,7 +50,7 @@ role_named Mentioned name line scope ds h = named_if (is_variable_new name scope
 
 -- The end of a definition.
 
--- a last number that stands once isn't among those before
+-- a last number that is there once isn't among those before
 last_apart : (ns : List ℕ) (n : ℕ) → AreDistinct (ns ++ n ∷ []) → IsAmong n ns → ⊥
 last_apart [] n h i = i
 last_apart (x ∷ ns) n h (inl e) = h.0 (subst (λ (k : ℕ). IsAmong k (ns ++ n ∷ [])) e (among_last n ns))

@@ -1,4 +1,4 @@
--- How the items still to do lie: what belongs to a function stands above its end, and functions stand one behind another.
+-- How the items still to do lie: what belongs to a function is above its end, and functions are one after another.
 use Rattle.std.proofs.Common.{◌≡◌, ℕ, ◌+◌, List, [], ◌∷◌, ◌++◌, refl, ap, subst, Bool, true, false}
 use Rattle.std.specs.Prelude.{Option, Some, None, nat_lt, if◌then◌else◌}
 use Rattle.tokens.specs.declared.located_tokens.Punctuator.{Punctuator}
@@ -56,7 +56,7 @@ abbrev pub by_rule : SemanticAction → Phase → Phase
 by_rule Define phase = outside_then Inside phase
 by_rule rule phase = inside phase
 
--- the phase in which an item is in front, by that behind it
+-- the phase in which an item is in front, by that after it
 abbrev pub by_item : Item → Phase → Phase
 by_item (Exactly m) phase = phase
 by_item (AWord w) phase = phase
@@ -84,14 +84,14 @@ abbrev pub eased : Phase → Phase
 eased Before = Outside
 eased phase = phase
 
--- where nothing was wrong, the phase stays
+-- if nothing was wrong, the phase stays
 abbrev pub Stays : Phase → Phase → Type 0
 Stays Wrong after = Unit {0}
 Stays Outside after = eased after ≡ Outside
 Stays Before after = eased after ≡ Outside
 Stays Inside after = eased after ≡ Inside
 
--- a production keeps its symbol's phase, whatever lies behind
+-- a production keeps its symbol's phase, whatever comes after
 record KeptBy (symbol : Symbol) (items : List Item) : Type 0 where
   outside : Stays (by_symbol symbol Outside) (over items Outside)
   before : Stays (by_symbol symbol Before) (over items Before)

@@ -2,7 +2,7 @@
 use Rattle.std.proofs.Common.{◌≡◌, ℕ, zero, suc, ◌<◌, List, [], ◌∷◌, ◌++◌, refl, ap, ap₂, arith, length}
 use Rattle.std.specs.Prelude.{Some, slice_get, set, map}
 
--- what stands behind doesn't count
+-- what comes after doesn't count
 pub get_append : {X : Type 0} (xs ys : List X) (k : ℕ) (x : X) → slice_get xs k ≡ Some x → slice_get (xs ++ ys) k ≡ Some x
 get_append [] ys k x e = absurd (cc)
 get_append (y ∷ xs) ys zero x e = e

@@ -1,4 +1,4 @@
--- What was read of a source is needed, where no fault stands before it.
+-- What was read of a source is needed, if no fault is before it.
 use Rattle.std.proofs.Common.{◌≡◌, ℕ, ◌<◌, ◌≤◌, List, [], ◌∷◌, ◌++◌, sym, ap, ◌∙◌, subst, arith, length, length-append, le_refl}
 use Rattle.tokens.specs.Ends.{IsRising}
 use Rattle.tokens.specs.Reading.{reach_of}
@@ -37,7 +37,7 @@ all_by_last : (place : ℕ) (passed rest : List LocatedToken) → IsRising place
 all_by_last place [] rest rising = reach_by_last place rest rising
 all_by_last place (located_token ∷ passed) rest rising = omega (arith, last_behind located_token (passed ++ rest), all_by_last located_token.end passed rest rising.1)
 
--- What is reached from a token is reached from those behind it.
+-- What is reached from a token is reached from those after it.
 
 reach_behind : (place : ℕ) (located_token : LocatedToken) (others : List LocatedToken) → 0 < length others → IsRising place (located_token ∷ others) → reach_of (located_token ∷ others) ≤ reach_of others
 reach_behind place located_token [] some rising = absurd (omega (arith, some))

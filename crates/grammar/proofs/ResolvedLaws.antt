@@ -396,7 +396,7 @@ resolved_of s all place h found named =
     from_zero : (k : ℕ) → 0 + k ≡ k
     from_zero k = omega arith
 
--- where the verdict is a file, no fault was gathered
+-- if the verdict is a file, no fault was gathered
 pub record IsClean (located_tokens : List LocatedToken) (faults : List Fault) (scope : Scope) (ds : List Definition) (file : File) : Type 0 where
   pub clean : faults ≡ []
   pub is : resolved located_tokens scope ds ≡ Ok file

@@ -1,4 +1,4 @@
--- Segments of a derivation one behind another, and how a first fault goes back along one.
+-- Segments of a derivation one after another, and how a first fault goes back along one.
 use Rattle.std.proofs.Common.{◌≡◌, ℕ, zero, suc, ◌+◌, List, [], ◌∷◌, ◌++◌, refl, sym, ap, ◌∙◌, subst, zero-add, suc-add, append_assoc}
 use Rattle.grammar.specs.declared.diagnostics.Diagnostic.{Diagnostic}
 use Rattle.grammar.specs.Derivation.{State, stepped, run}
@@ -51,7 +51,7 @@ later_at : (profile : Profile) (m : ℕ) (s : State) (f : Fault) → ((n : ℕ) 
 later_at profile m s f again clean zero h = absurd (none_in f _ clean h)
 later_at profile m s f again clean (suc n) h = again n h
 
--- where the first m states are clean, a fault of the derivation comes behind them
+-- if the first m states are clean, a fault of the derivation comes after them
 pub later : (profile : Profile) (m : ℕ) (s : State) (f : Fault) → faults_in profile m s ≡ [] → (n : ℕ) → IsIn f (faults_at profile (run n s)) → IsFault profile (run m s) f
 later profile zero s f clean n h = record { steps = n; here = h }
 later profile (suc m) s f clean n h =

@@ -100,7 +100,7 @@ pub all_append : (e n : ℕ) (ds : List Definition) (d : Definition) → AllIn e
 all_append e n [] d h k i = (k, i, tt)
 all_append e n (x ∷ ds) d h k i = (h.0, h.1, all_append e n ds d h.2 k i)
 
--- Numbers that stand once.
+-- Numbers that are there once.
 
 among_append : (k n : ℕ) (ns : List ℕ) → IsAmong k (ns ++ n ∷ []) → IsAmong k ns ⊎ (k ≡ n)
 among_append k n [] (inl e) = inr e
@@ -156,7 +156,7 @@ place_below name names k e = chosen_below (position_or_len (bytes_eq name) names
 pub function_below : (name : List ℕ) (scope : Scope) (k : ℕ) → function_number name scope ≡ Some k → k < length scope.functions
 function_below name scope k e = omega (arith, place_below name (map (λ (f : FunctionNames). f.name) scope.functions) k e, length-map scope.functions (λ (f : FunctionNames). f.name))
 
--- where a name that is new finds room
+-- if there is room for a name that is new
 room : (count : ℕ) (c : Code) (rest : List LocatedToken) → no_room true count c rest ≡ [] → count < 64
 unfolding most_names
 room count c rest e = below (nat_le 64 count) refl e
@@ -206,8 +206,11 @@ external_grows name scope ds k less =
       number = refl;
     }
 
-variable_grows : (name : List ℕ) (scope : Scope) (ds : List Definition) → Known scope ds → length scope.current.variables < 64 → Grows scope (with_variable name scope) ds
-variable_grows name scope ds k less =
+-- one variable more, of which so many are parameters
+local_grows : (name : List ℕ) (parameters : ℕ) (scope : Scope) (ds : List Definition) → Known scope ds →
+    length scope.current.variables < 64 → parameters ≤ length scope.current.variables + 1 →
+    Grows scope (record scope { current = record scope.current { parameters = parameters; variables = scope.current.variables ++ name ∷ [] } }) ds
+local_grows name parameters scope ds k less few =
     let longer : length (scope.current.variables ++ name ∷ []) ≡ length scope.current.variables + 1 = length-append scope.current.variables (name ∷ []) in
     record {
       known = record {
@@ -215,7 +218,7 @@ variable_grows name scope ds k less =
         functions = k.functions;
         lines = k.lines;
         variables = omega arith;
-        parameters = omega (arith, k.parameters);
+        parameters = omega arith;
         definitions = k.definitions;
         begun = k.begun;
         below = k.below;
@@ -225,24 +228,11 @@ variable_grows name scope ds k less =
       number = refl;
     }
 
+variable_grows : (name : List ℕ) (scope : Scope) (ds : List Definition) → Known scope ds → length scope.current.variables < 64 → Grows scope (with_variable name scope) ds
+variable_grows name scope ds k less = local_grows name scope.current.parameters scope ds k less (omega (arith, k.parameters))
+
 parameter_grows : (name : List ℕ) (scope : Scope) (ds : List Definition) → Known scope ds → length scope.current.variables < 64 → Grows scope (with_parameter name scope) ds
-parameter_grows name scope ds k less =
-    let longer : length (scope.current.variables ++ name ∷ []) ≡ length scope.current.variables + 1 = length-append scope.current.variables (name ∷ []) in
-    record {
-      known = record {
-        externals = k.externals;
-        functions = k.functions;
-        lines = k.lines;
-        variables = omega arith;
-        parameters = omega (arith, k.parameters);
-        definitions = k.definitions;
-        begun = k.begun;
-        below = k.below;
-      };
-      wider = record { externals = omega arith; locals = omega arith; functions = omega arith };
-      begun = refl;
-      number = refl;
-    }
+parameter_grows name scope ds k less = local_grows name (scope.current.parameters + 1) scope ds k less (omega (arith, k.parameters))
 
 function_grows : (name : List ℕ) (line : ℕ) (scope : Scope) (ds : List Definition) → Known scope ds → (is_function_new name scope ≡ true → length scope.functions < 64) →
     Grows scope (with_function name line scope) ds
@@ -278,12 +268,12 @@ function_grows name line scope ds k less = at_test (is_function_new name scope) 
 abbrev pub Clean : List Fault → Type 0
 Clean faults = faults ≡ []
 
--- where a new name finds no room there is a fault
+-- if there is no room for a new name there is a fault
 room_if : (new : Bool) (count : ℕ) (c : Code) (rest : List LocatedToken) → Clean (no_room new count c rest) → new ≡ true → count < 64
 room_if true count c rest clean is = room count c rest clean
 room_if false count c rest clean is = absurd (cc)
 
--- the number for a function is one of those known behind its mention
+-- the number for a function is one of those known after its mention
 number_in : (name : List ℕ) (line : ℕ) (scope : Scope) → is_intrinsic name ≡ false → number_for name scope < length (with_function name line scope).functions
 number_in name line scope own = at_place (function_number name scope) refl
   where
@@ -298,7 +288,7 @@ callable_or None k n h = h refl
 pub callee_in : (name : List ℕ) (line : ℕ) (scope : Scope) → IsCallable (length (with_function name line scope).functions) (callee_of name scope)
 callee_in name line scope = callable_or (intrinsic_named name) (number_for name scope) _ (λ e. number_in name line scope (rw e refl))
 
--- a variable mentioned is one of those known behind its mention
+-- a variable mentioned is one of those known after its mention
 abbrev pub behind_mention : List ℕ → Scope → Scope
 behind_mention name scope = if is_variable_new name scope then with_variable name scope else scope
 
@@ -315,7 +305,7 @@ grows_if : (b : Bool) (old more same : Scope) (ds : List Definition) → (b ≡ 
 grows_if true old more same ds p q = p refl
 grows_if false old more same ds p q = q
 
--- the names behind a name that begins no definition
+-- the names after a name that begins no definition
 abbrev pub Begins : Role → Type 0
 Begins Defined = ⊥
 Begins role = Unit {0}

@@ -11,7 +11,7 @@ use Rattle.grammar.specs.Resolved.{InExpr, InBody}
 use Rattle.grammar.specs.Tree.{Expr, Body, Done, ExpressionStatement, IfStatement, IfElseStatement, While, Return, join}
 use Rattle.grammar.proofs.Soundness.{join_in}
 
--- a body whose statements are not all there, with what stands around it
+-- a body whose statements are not all there, with what is around it
 pub data Place : Type 0 where
   InFun : (number parameters : ℕ) (b : Body) → Place
   InFirst : (c : Expr) (b : Body) (outer : Place) → Place
@@ -23,7 +23,7 @@ pub data Hole : Type 0 where
   Statement : (p : Place) → Hole
   Test : (p : Place) → Hole  -- the condition of a while
   Behind : (e : Expr) (h : Hole) → Hole  -- a value that is still to be used
-  RightSide : (op : Op) (e : Expr) (h : Hole) → Hole  -- the right side of && or ||, behind its left side
+  RightSide : (op : Op) (e : Expr) (h : Hole) → Hole  -- the right side of && or ||, after its left side
   Arguments : (h : Hole) → Hole
 
 abbrev pub open_place : Place → Opened
@@ -81,7 +81,7 @@ HoleFits (Behind e h) = HoleFits h × ExprFits (hole_count h) e
 HoleFits (RightSide op e h) = HoleFits h × ExprFits (hole_count h) e × (is_logic op ≡ true) × (1 + hole_count h ≤ 200)
 HoleFits (Arguments h) = HoleFits h × (1 + hole_count h ≤ 200)
 
--- Statements one behind another.
+-- Statements one after another.
 
 pub body_actions-join : (b s : Body) → body_actions (join b s) ≡ body_actions b ++ body_actions s
 body_actions-join Done s = refl
@@ -136,7 +136,7 @@ add_opens r s (InFirst c b outer) h = refl
 add_opens r s (InSecond c t b outer) h = refl
 add_opens r s (InLoop c b outer) h = refl
 
--- What stands at the innermost.
+-- What is at the innermost.
 
 pub is_place_open : (p : Place) → is_place (open_place p) ≡ true
 is_place_open (InFun n k b) = refl

@@ -1,4 +1,4 @@
--- What an action makes of functions that are not finished, where it may follow.
+-- What an action makes of functions that are not finished, if it may follow.
 use Rattle.std.proofs.Common.{◌≡◌, ℕ, ◌+◌, ◌≤◌, [], ◌∷◌, ◌++◌, refl, sym, ap, ◌∙◌, Bool, true, false, arith, append_assoc}
 use Rattle.std.proofs.lemmas.Bool.Decides.{nat_tests}
 use Rattle.std.proofs.lemmas.List.{append-nil}
@@ -25,7 +25,7 @@ IsWithin (Begin n k) = ⊥
 IsWithin (Finish v) = ⊥
 IsWithin a = Unit {0}
 
--- behind the action the functions stand so
+-- after the action the functions are so
 pub record Steps (a : Action) (h : Hole) (q : Opened) : Type 0 where
   pub next : Hole
   pub opens : open_hole next ≡ q
@@ -35,7 +35,7 @@ pub record Steps (a : Action) (h : Hole) (q : Opened) : Type 0 where
 some_same : (p q : Opened) → Some p ≡ Some q → p ≡ q
 some_same p q e = cc
 
--- where a test passes
+-- if a test passes
 only_true : (b : Bool) (p q : Opened) → only_on b p ≡ Some q → (b ≡ true) × (p ≡ q)
 only_true true p q e = (refl, some_same p q e)
 only_true false p q e = absurd (cc)
@@ -166,7 +166,7 @@ begin_call h q fits e small =
     let is : InCall ∷ open_hole h ≡ q = some_same _ q (sym (within_hole InCall h) ∙ e) in
     record { next = Arguments h; opens = is; adds = refl; fits = (fits, omega (arith, small, ap open_count is)) }
 
--- the arguments of the innermost call, with these behind them
+-- the arguments of the innermost call, with these after them
 record Collected (h : Hole) (args : Args) (q : Opened) : Type 0 where
   outer : Hole
   all : Args

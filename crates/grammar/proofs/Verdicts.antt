@@ -1,12 +1,11 @@
 -- What the derivation of a source leads to is what the source is.
-use Rattle.std.proofs.Common.{◌≡◌, ◌≤◌, ℕ, zero, suc, ◌+◌, ◌⊎◌, List, [], ◌∷◌, ◌++◌, refl, sym, ap, ◌∙◌, subst, inl, inr, Bool, true, false, arith, length, drop, append_assoc, length-append, le-add_right, le_refl, add-one, ⊎_elim, ap₂}
-use Rattle.std.specs.Prelude.{Option, Some, None, Err, unwrap_or, if◌then◌else◌}
+use Rattle.std.proofs.Common.{◌≡◌, ◌≤◌, ℕ, zero, suc, ◌+◌, ◌⊎◌, List, [], ◌∷◌, ◌++◌, refl, sym, ap, ◌∙◌, subst, inl, inr, arith, length, length-append, le-add_right, le_refl, add-one, ⊎_elim, ap₂}
+use Rattle.std.specs.Prelude.{Err}
 use Rattle.tokens.specs.declared.located_tokens.LocatedToken.{LocatedToken}
 use Rattle.grammar.specs.declared.diagnostics.Diagnostic.{Diagnostic}
 use Rattle.grammar.specs.Compiled.{compiled_tokens, verdict, resolved, enough, diagnostic}
-use Rattle.grammar.specs.Derivation.{State, Value, Definition, start, step, step_of, stepped, run, next_of, line_of, matched, name_matched, replaced, constant_matched}
+use Rattle.grammar.specs.Derivation.{State, Definition, start, stepped, run, line_of}
 use Rattle.grammar.specs.Faults.{Fault, faults_at, faults_in, first_of}
-use Rattle.grammar.specs.Grammar.{Item, Exactly, AWord, AName, AConstant, AnEnd, Part, Make, Close, Role, Production, is_fault}
 use Rattle.grammar.specs.Parsing.{IsIn, IsFault, IsFirstFault, Fails, Passes}
 use Rattle.grammar.specs.Profile.{Profile}
 use Rattle.grammar.specs.Scope.{Scope}
@@ -14,6 +13,7 @@ use Rattle.grammar.proofs.Weight.{weight}
 use Rattle.grammar.proofs.Endings.{IsFinal, ends, stays_final, final_stays}
 use Rattle.grammar.proofs.Firsts.{at_rest}
 use Rattle.grammar.proofs.Order.{first_in, first_least, same_place}
+pub use Rattle.grammar.proofs.Rests.{IsRest, run_rests}
 use Rattle.grammar.proofs.Runs.{append_empty, run-add, faults_in-add}
 
 -- A derivation without a fault.
@@ -24,7 +24,7 @@ final_clean profile (suc n) s final clean =
     let rest : faults_in profile n (stepped s) ≡ [] = rw (final_stays s final) (final_clean profile n s final clean) in
     rw (clean, rest) refl
 
--- Two counts of steps are one behind the other.
+-- Two counts of steps are one after the other.
 record Apart (m n : ℕ) : Type 0 where
   more : ℕ
   sum : m + more ≡ n
@@ -101,69 +101,6 @@ pub all_gathered : (profile : Profile) (n : ℕ) (s : State) (k : ℕ) (f : Faul
 all_gathered profile zero s k f final h = in_append_left f (faults_at profile s) [] (at_final profile k s f final h)
 all_gathered profile (suc n) s zero f final h = in_append_left f (faults_at profile s) _ h
 all_gathered profile (suc n) s (suc k) f final h = in_append_right f (faults_at profile s) _ (all_gathered profile n (stepped s) k f final h)
-
--- The tokens left are always the rest of all tokens.
-
-pub record IsRest (rest all : List LocatedToken) : Type 0 where
-  pub before : List LocatedToken
-  pub is : all ≡ before ++ rest
-
-rest_itself : (rest : List LocatedToken) → IsRest rest rest
-rest_itself rest = record { before = []; is = refl }
-
-rest_fewer : (rest : List LocatedToken) → IsRest (drop 1 rest) rest
-rest_fewer [] = record { before = []; is = refl }
-rest_fewer (located_token ∷ rest) = record { before = located_token ∷ []; is = refl }
-
-rest_of_rest : (a b c : List LocatedToken) → IsRest a b → IsRest b c → IsRest a c
-rest_of_rest a b c p q = record {
-  before = q.before ++ p.before;
-  is = q.is ∙ ap (λ xs. q.before ++ xs) p.is ∙ sym (append_assoc q.before p.before a);
-}
-
-abbrev Rests : List LocatedToken → Option State → Type 0
-Rests rest None = Unit {0}
-Rests rest (Some t) = IsRest t.rest rest
-
-name_rests : (role : Role) (name : Option (List ℕ)) (stack : List Item) (rest : List LocatedToken) (values : List Value) (scope : Scope) (functions : List Definition) → Rests rest (name_matched role name stack rest values scope functions)
-name_rests role (Some name) stack rest values scope functions = rest_fewer rest
-name_rests role None stack rest values scope functions = tt
-
-matched_rests : (fits : Bool) (stack : List Item) (rest : List LocatedToken) (values : List Value) (scope : Scope) (functions : List Definition) → Rests rest (matched fits stack rest values scope functions)
-matched_rests true stack rest values scope functions = rest_fewer rest
-matched_rests false stack rest values scope functions = tt
-
-constant_rests : (value : Option ℕ) (stack : List Item) (rest : List LocatedToken) (values : List Value) (scope : Scope) (functions : List Definition) → Rests rest (constant_matched value stack rest values scope functions)
-constant_rests (Some value) stack rest values scope functions = rest_fewer rest
-constant_rests None stack rest values scope functions = tt
-
-replaced_rests : (items : Production) (stack : List Item) (rest : List LocatedToken) (values : List Value) (scope : Scope) (functions : List Definition) → Rests rest (replaced items stack rest values scope functions)
-replaced_rests (Some items) stack rest values scope functions = rest_itself rest
-replaced_rests None stack rest values scope functions = tt
-
-step_rests : (stack : List Item) (rest : List LocatedToken) (values : List Value) (scope : Scope) (functions : List Definition) → Rests rest (step_of stack rest values scope functions)
-step_rests [] rest values scope functions = tt
-step_rests (Exactly m ∷ stack) rest values scope functions = matched_rests _ stack rest values scope functions
-step_rests (AWord w ∷ stack) rest values scope functions = matched_rests _ stack rest values scope functions
-step_rests (AName role ∷ stack) rest values scope functions = name_rests role _ stack rest values scope functions
-step_rests (AnEnd ∷ stack) rest values scope functions = matched_rests _ stack rest values scope functions
-step_rests (AConstant ∷ stack) rest values scope functions = constant_rests _ stack rest values scope functions
-step_rests (Part symbol ∷ stack) rest values scope functions = replaced_rests _ stack rest values scope functions
-step_rests (Make rule ∷ stack) rest values scope functions = rest_itself rest
-step_rests (Close ∷ stack) rest values scope functions = rest_itself rest
-
-guarded_rests : (b : Bool) (rest : List LocatedToken) (o : Option State) → Rests rest o → Rests rest (if b then None else o)
-guarded_rests true rest o h = tt
-guarded_rests false rest o h = h
-
-kept_rests : (s : State) (o : Option State) → Rests s.rest o → IsRest (unwrap_or o s).rest s.rest
-kept_rests s None h = rest_itself s.rest
-kept_rests s (Some t) h = h
-
-pub run_rests : (n : ℕ) (s : State) → IsRest (run n s).rest s.rest
-run_rests zero s = rest_itself s.rest
-run_rests (suc n) s = rest_of_rest _ _ _ (run_rests n (stepped s))
-    (kept_rests s (step s) (guarded_rests (is_fault (next_of s.rest)) s.rest _ (step_rests s.stack s.rest s.values s.scope s.functions)))
 
 same_tails : (a b x y : List LocatedToken) → a ++ x ≡ b ++ y → length x ≡ length y → x ≡ y
 same_tails [] [] x y e l = e

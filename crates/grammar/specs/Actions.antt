@@ -1,4 +1,4 @@
--- What a builder is told of a program, in the order of its tokens.
+-- What is reported of a program to a builder, in the order of the tokens.
 use Rattle.std.specs.Prelude.{ℕ, ℤ, pos, ◌+◌, List, [], ◌∷◌, ◌++◌, length, if◌then◌else◌, Option, Some, None, slice_get}
 use Rattle.grammar.specs.declared.names.Callee.{Callee}
 use Rattle.grammar.specs.declared.names.Var.{Var}
@@ -13,29 +13,29 @@ use Rattle.grammar.specs.Tree.{Done, ExpressionStatement, IfStatement, IfElseSta
 pub data Action : Type 0 where
   PushConstant : (value : ℤ) → Action  -- a constant
   FetchVariable : (v : Var) → Action  -- a variable's value
-  StoreVariable : (v : Var) (op : StoreOp) → Action  -- a store, behind its word; the new value stays
-  ApplyBinop : (op : Op) → Action  -- a binary operator, behind both sides
+  StoreVariable : (v : Var) (op : StoreOp) → Action  -- a store, after its word; the new value stays
+  ApplyBinop : (op : Op) → Action  -- a binary operator, after both sides
   LogicMiddle : (op : Op) → Action  -- between the sides of && and ||
   BeginCall : Action  -- the arguments of a call follow
   EndCall : (callee : Callee) → Action  -- they are done
-  IfTest : Action  -- behind the condition of an if
+  IfTest : Action  -- after the condition of an if
   ElsePart : Action  -- between the branches of an if
-  EndIf : Action  -- behind an if
+  EndIf : Action  -- after an if
   BeginWhile : Action  -- the condition of a while follows
-  WhileTest : Action  -- behind the condition
-  EndWhile : Action  -- behind a while
-  GiveBack : Action  -- a return, behind its value
+  WhileTest : Action  -- after the condition
+  EndWhile : Action  -- after a while
+  GiveBack : Action  -- a return, after its value
   Chop : Action  -- a value is dropped: that of a statement, or the new one of v++ and v--
   Begin : (number parameters : ℕ) → Action  -- a function begins
   Finish : (variables : ℕ) → Action  -- it ends
 
--- where the right side of && and || is left out: how many instructions are made between the sides
+-- if the right side of && and || is left out: how many instructions are made between the sides
 abbrev pub middle_length : Op → ℕ
 middle_length op.And = 1
 middle_length op.Or = 4
 middle_length o = 0
 
--- and behind both sides
+-- and after both sides
 abbrev pub end_length : Op → ℕ
 end_length op.And = 4
 end_length o = 1
@@ -91,7 +91,7 @@ body_actions (While c s rest) = BeginWhile ∷ (expr_actions c
     ++ WhileTest ∷ (body_actions s ++ EndWhile ∷ body_actions rest))
 body_actions (Return e rest) = expr_actions e ++ GiveBack ∷ body_actions rest
 
--- the return that stands at each function's end
+-- the return at each function's end
 abbrev pub last_return : List Action
 last_return = PushConstant (pos 0) ∷ GiveBack ∷ []
 
@@ -103,7 +103,7 @@ abbrev pub numbered_actions : ℕ → Option Function → List Action
 numbered_actions number None = []
 numbered_actions number (Some f) = function_actions number f
 
--- the functions of these numbers, one behind another
+-- the functions of these numbers, one after another
 abbrev pub functions_actions : List Function → List ℕ → List Action
 functions_actions functions [] = []
 functions_actions functions (k ∷ ks) = numbered_actions k (slice_get functions k) ++ functions_actions functions ks

@@ -1,4 +1,4 @@
--- Which lists of actions a builder may be told: the beginnings of those of some functions.
+-- Which lists of actions may be reported to a builder: the beginnings of those of some functions.
 use Rattle.std.specs.Prelude.{◌≡◌, ◌<◌, ◌≤◌, List, [], ◌∷◌, ◌++◌, length}
 use Rattle.grammar.specs.Actions.{Action}
 use Rattle.grammar.specs.Derivation.{Definition}

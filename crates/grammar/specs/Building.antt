@@ -1,4 +1,4 @@
--- What a builder's calls do to the lists of actions that it stands for.
+-- What a builder's calls do to the lists of actions that it represents.
 use Rattle.std.specs.Prelude.{◌≡◌, ◌+◌, ◌<◌, ◌≤◌, List, [], ◌∷◌, ◌++◌, Bool, Some, Result, Ok, Err, IsTrue}
 use Rattle.grammar.specs.declared.build.BuildFault.{BuildFault}
 use Rattle.grammar.specs.declared.build.BuildFault.TheVariants as fault
@@ -7,32 +7,32 @@ use Rattle.grammar.specs.Beginning.{IsBeginning}
 use Rattle.grammar.specs.Following.{Opened, follow_all}
 use Rattle.grammar.specs.Profile.{Profile}
 
--- the profiles by which a builder goes, with the lists of actions that it stands for
+-- the profiles by which a builder goes, with the lists of actions that it represents
 abbrev pub Meaning : Type 1
 Meaning = Profile → List Action → Type 0
 
--- a list is stood for behind which the action may follow
+-- a list is represented after which the action may follow
 pub record MayFollow (before : Meaning) (action : Action) : Type 0 where
   pub profile : Profile
   pub acts : List Action
   pub stood : before profile acts
   pub begins : IsBeginning (acts ++ action ∷ [])
 
--- a list is stood for behind which these actions may follow, one behind another
+-- a list is represented after which these actions may follow, one after another
 pub record MayFollowAll (before : Meaning) (more : List Action) : Type 0 where
   pub profile : Profile
   pub acts : List Action
   pub stood : before profile acts
   pub begins : IsBeginning (acts ++ more)
 
--- a list is stood for that leaves this open
+-- a list is represented that leaves this open
 pub record StandsOpen (before : Meaning) (opened : Opened) : Type 0 where
   pub profile : Profile
   pub acts : List Action
   pub stood : before profile acts
   pub opens : follow_all acts [] ≡ Some opened
 
--- each list stood for before, with these actions at its end, is stood for behind the call
+-- each list represented before, with these actions at its end, is represented after the call
 abbrev pub AppendsAll : Meaning → Meaning → List Action → Type 0
 AppendsAll before behind more = (profile : Profile) (acts : List Action) → before profile acts
     → behind profile (acts ++ more)

@@ -55,7 +55,7 @@ resolved located_tokens scope definitions =
     file_of (last_line located_tokens) scope (order_of definitions) (all_defined 0 scope.lines definitions)
     (function_number main_name scope)
 
--- the first of the faults, or the file where there is none
+-- the first of the faults, or the file if there is none
 abbrev pub verdict : List LocatedToken → List Fault → Scope → List Definition → Result File Diagnostic
 verdict located_tokens [] scope definitions = resolved located_tokens scope definitions
 verdict located_tokens (f ∷ faults) scope definitions =

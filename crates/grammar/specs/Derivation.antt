@@ -43,7 +43,7 @@ state stack rest values scope functions = record
 abbrev pub start : List LocatedToken → State
 start tokens = state (Part Source ∷ []) tokens [] no_names []
 
--- the next token: behind the last one, the end
+-- the next token: after the last one, the end
 abbrev pub next_of : List LocatedToken → Token
 next_of [] = token.End
 next_of (located_token ∷ rest) = located_token.token
@@ -69,7 +69,7 @@ function_of names body = record {
 abbrev pub definition_of : Scope → Body → Definition
 definition_of scope body = record { number = scope.number; function = function_of scope.current body }
 
--- what a rule leaves of the trees; behind a function there are none
+-- what a semantic action leaves of the trees; after a function there are none
 abbrev pub made : SemanticAction → List Value → List Value
 made (Operate o) (AnExpr b ∷ AnExpr a ∷ values) = AnExpr (tree.Binary o a b) ∷ values
 made Negate (AnExpr e ∷ values) = AnExpr (tree.Binary op.Subtract (tree.Constant (pos 0)) e) ∷ values
@@ -102,7 +102,7 @@ abbrev pub defined : SemanticAction → List Value → Scope → List Definition
 defined Define values scope = definition_of scope (last_body values) ∷ []
 defined rule values scope = []
 
--- what is known of the names behind it
+-- what is known of the names after it
 abbrev pub behind_rule : SemanticAction → Scope → Scope
 behind_rule Define scope = end_definition scope
 behind_rule rule scope = scope
@@ -125,7 +125,7 @@ abbrev pub constant_value : Token → Option ℕ
 constant_value (token.Constant value) = Some value
 constant_value next = None
 
--- where the next token is what comes next, the state behind it
+-- if the next token is the one wanted, the state after it
 abbrev pub matched : Bool → List Item → List LocatedToken → List Value → Scope → List Definition → Option State
 matched fits stack rest values scope functions = if fits then Some (state stack (drop 1 rest) values scope functions)
     else None
@@ -147,7 +147,7 @@ abbrev pub replaced : Production → List Item → List LocatedToken → List Va
 replaced None stack rest values scope functions = None
 replaced (Some items) stack rest values scope functions = Some (state (items ++ stack) rest values scope functions)
 
--- One step where the next token is no fault: none where the derivation is done, or the token doesn't fit.
+-- One step if the next token is no fault: none if the derivation is done, or the token doesn't fit.
 abbrev pub step_of : List Item → List LocatedToken → List Value → Scope → List Definition → Option State
 step_of [] rest values scope functions = None
 step_of (Exactly m ∷ stack) rest values scope functions = matched (is_punctuator m (next_of rest)) stack rest values
@@ -165,15 +165,15 @@ step_of (Make rule ∷ stack) rest values scope functions =
     Some (state stack rest (made rule values) (behind_rule rule scope) (functions ++ defined rule values scope))
 step_of (Close ∷ stack) rest values scope functions = Some (state stack rest values scope functions)
 
--- One step. A fault fits nothing: the derivation stops where one is next.
+-- One step. A fault fits nothing: the derivation stops if one is next.
 abbrev pub step : State → Option State
 step s = if is_fault (next_of s.rest) then None else step_of s.stack s.rest s.values s.scope s.functions
 
--- the state behind a step; where there is none, the derivation stays
+-- the state after a step; if there is none, the derivation stays
 abbrev pub stepped : State → State
 stepped s = unwrap_or (step s) s
 
--- the state behind n steps
+-- the state after n steps
 abbrev pub run : ℕ → State → State
 run zero s = s
 run (suc n) s = run n (stepped s)

@@ -81,7 +81,7 @@ level_faults symbol stack rest =
     only_if (opens symbol (next_of rest) (after_of rest))
     (only_if (nat_le most_levels (levels stack)) (fault rest code.NestedTooDeeply ∷ []))
 
--- a new name that finds no room behind so many
+-- a new name for which there is no room after so many
 abbrev pub no_room : Bool → ℕ → Code → List LocatedToken → List Fault
 no_room new count c rest = only_if new (only_if (nat_le most_names count) (fault rest c ∷ []))
 
@@ -92,7 +92,7 @@ definition_faults name scope rest =
     else (if has_begun name scope then fault rest code.FunctionDefinedTwice ∷ []
     else no_room (is_function_new name scope) (length scope.functions) code.TooManyFunctions rest)
 
--- a parameter in the list: a name that stands there already, or one variable too many
+-- a parameter in the list: a name that is there already, or one variable too many
 abbrev pub parameter_faults : List ℕ → Scope → List LocatedToken → List Fault
 parameter_faults name scope rest =
     if is_local_new name scope then no_room true (length scope.current.variables) code.TooManyVariables rest
@@ -112,7 +112,7 @@ role_faults Called name scope rest = no_room (is_function_new name scope) (lengt
 role_faults Mentioned name scope rest = no_room (is_variable_new name scope) (length scope.current.variables)
     code.TooManyVariables rest
 
--- where the next token is a name
+-- if the next token is a name
 abbrev pub name_faults : Role → Option (List ℕ) → Scope → List LocatedToken → List Fault
 name_faults role None scope rest = []
 name_faults role (Some name) scope rest = role_faults role name scope rest
@@ -145,7 +145,7 @@ item_faults profile stack rest values scope functions = []
 abbrev pub misfit : List LocatedToken → List Fault
 misfit rest = fault rest (misfit_code (next_of rest)) ∷ []
 
--- where something is still to derive, and no step leads on
+-- if something is still to derive, and no step leads on
 abbrev pub misfits : List Item → List LocatedToken → Option State → List Fault
 misfits [] rest next = []
 misfits (item ∷ stack) rest None = misfit rest
@@ -166,7 +166,7 @@ abbrev pub faults_in : Profile → ℕ → State → List Fault
 faults_in profile zero s = []
 faults_in profile (suc n) s = faults_at profile s ++ faults_in profile n (stepped s)
 
--- f stands at an earlier token than g, or at the same token with a lesser code, or is as g
+-- f is at an earlier token than g, or at the same token with a lesser code, or is as g
 abbrev pub is_first : Fault → Fault → Bool
 is_first f g =
     if nat_lt (length g.rest) (length f.rest) then true

@@ -1,4 +1,4 @@
--- What a source is where its derivation matched all tokens without a fault.
+-- What a source is if its derivation matched all tokens without a fault.
 use Rattle.std.specs.Prelude.{◌≡◌, ℕ, List, [], Some, None, Ok, Err, true, false}
 use Rattle.std.specs.Option.{is_some}
 use Rattle.tokens.specs.declared.located_tokens.LocatedToken.{LocatedToken}
@@ -40,14 +40,14 @@ Finished = (profile : Profile) (located_tokens : List LocatedToken) (scope : Sco
     line_of_undefined 0 scope.lines scope.begun ≡ None → is_some (function_number main_name scope) ≡ true
     → IsFinished profile located_tokens scope ds
 
--- one isn't: the fault stands on the line of its first mention
+-- one isn't: the fault is on the line of its first mention
 abbrev pub Undefined : Type 0
 Undefined = (profile : Profile) (located_tokens : List LocatedToken) (scope : Scope) (ds : List Definition) (line : ℕ)
     → PassesAll profile located_tokens scope ds →
     line_of_undefined 0 scope.lines scope.begun ≡ Some line
     → compiled_tokens profile located_tokens ≡ Err (diagnostic line code.FunctionNotDefined)
 
--- main isn't among them: the fault stands on the last line
+-- main isn't among them: the fault is on the last line
 abbrev pub WithoutMain : Type 0
 WithoutMain = (profile : Profile) (located_tokens : List LocatedToken) (scope : Scope) (ds : List Definition)
     → PassesAll profile located_tokens scope ds →

@@ -1,4 +1,4 @@
--- Which actions may follow those that a builder was told: what they leave open, and what each closes.
+-- Which actions may follow those reported to a builder: what they leave open, and what each closes.
 use Rattle.std.specs.Prelude.{ℕ, ℤ, pos, ◌+◌, List, [], ◌∷◌, Bool, true, false, ◌&&◌, ◌==◌, Option, Some, None, is_some}
 use Rattle.std.specs.Prelude.{IsTrue, nat_lt, nat_le, if◌then◌else◌}
 use denote.Enum.Bare.{sameb}
@@ -52,7 +52,7 @@ abbrev pub open_count : Opened → ℕ
 open_count [] = 0
 open_count (inner ∷ opened) = counts inner + open_count opened
 
--- where a statement may stand
+-- where a statement may be
 abbrev pub is_place : Opened → Bool
 is_place (InFunction parameters returned ∷ opened) = true
 is_place (InBranch ∷ opened) = true
@@ -63,12 +63,12 @@ is_place opened = false
 abbrev pub only_on : Bool → Opened → Option Opened
 only_on b opened = if b then Some opened else None
 
--- a value, a call or a right side stands inside of something
+-- a value, a call or a right side is inside of something
 abbrev pub within : Open → Opened → Option Opened
 within inner [] = None
 within inner (outer ∷ opened) = Some (inner ∷ outer ∷ opened)
 
--- behind a statement, which is `return 0;` or not
+-- after a statement, which is `return 0;` or not
 abbrev pub statement_done : Bool → Opened → Option Opened
 statement_done returned (InFunction parameters before ∷ opened) = Some (InFunction parameters returned ∷ opened)
 statement_done returned opened = only_on (is_place opened) opened
@@ -106,7 +106,7 @@ is_callee_numbered (callee.Intrinsic i) = true
 abbrev pub same_op : Op → Op → Bool
 same_op o p = sameb ops.the_type o p
 
--- what is open behind an action, where it may follow
+-- what is open after an action, if it may follow
 abbrev pub follow : Action → Opened → Option Opened
 follow (PushConstant value) opened = within (AValue (Number value)) opened
 follow (FetchVariable v) opened = if is_var_numbered v then within (AValue (Fetched v)) opened else None
@@ -142,7 +142,7 @@ abbrev pub then_follow : (Opened → Option Opened) → Option Opened → Option
 then_follow more None = None
 then_follow more (Some opened) = if few_open opened then more opened else None
 
--- what is open behind actions, where each may follow those before it
+-- what is open after actions, if each may follow those before it
 abbrev pub follow_all : List Action → Opened → Option Opened
 follow_all [] opened = Some opened
 follow_all (action ∷ acts) opened = then_follow (follow_all acts) (follow action opened)

@@ -1,4 +1,5 @@
 -- The grammar as a table: what each symbol is replaced by, chosen by the next token and the one after it.
+-- Productions.antt is the same as a plain grammar, without semantic actions and roles (a law says so).
 use Rattle.std.specs.Prelude.{ℕ, ◌+◌, List, [], ◌∷◌, Bool, true, false, Option, Some, None, nat_lt, is_some}
 use Rattle.std.specs.Prelude.{if◌then◌else◌}
 use denote.Enum.Bare.{sameb}
@@ -20,7 +21,7 @@ pub data Role : Type 0 where
   Defined : Role  -- a function's definition begins
   External : Role  -- an external is declared
   Parameter : Role  -- a parameter, in the list
-  Typed : Role  -- a parameter is declared, behind the list
+  Typed : Role  -- a parameter is declared, after the list
   Local : Role  -- a local is declared
   Called : Role  -- a function is called
   Mentioned : Role  -- a variable is mentioned
@@ -38,7 +39,7 @@ pub data Symbol : Type 0 where
   Statements : Symbol
   Statement : Symbol
   ElsePart : Symbol
-  Back : Symbol  -- what a return gives back
+  Back : Symbol  -- what a return returns
   Expression : Symbol
   Level : (n : ℕ) → Symbol  -- operators of level n and of tighter ones: levels 1 to 11
   Tail : (n : ℕ) → Symbol  -- further operators of level n
@@ -57,7 +58,7 @@ pub data SemanticAction : Type 0 where
   Store : (op : StoreOp) → SemanticAction  -- of a variable and an expression: the assignment
   StepBefore : (op : StoreOp) → SemanticAction  -- of a variable: ++v or --v
   StepBehind : (op : StoreOp) → SemanticAction  -- v++ or v--
-  Pass : SemanticAction  -- of a call and an expression: the call with this argument behind the others
+  Pass : SemanticAction  -- of a call and an expression: the call with this argument after the others
   Invoke : SemanticAction  -- of a call: the expression
   Empty : SemanticAction  -- a body without statements
   Evaluate : SemanticAction  -- of a body and an expression: the body with the expression as its last statement
@@ -100,7 +101,7 @@ abbrev pub is_fault : Token → Bool
 is_fault (token.Fault lexical_error) = true
 is_fault _ = false
 
--- an assignment, where its operator stands behind the name
+-- an assignment, if its operator follows the name
 abbrev pub assignment_or : Option StoreOp → Punctuator → List Item
 assignment_or None m = Part (Level 1) ∷ []
 assignment_or (Some op) m = AName Mentioned ∷ Exactly m ∷ Part Expression ∷ Make (Store op) ∷ Close ∷ []
@@ -110,7 +111,7 @@ abbrev pub tail_production : ℕ → Option Op → Punctuator → List Item
 tail_production n None m = []
 tail_production n (Some op) m = Exactly m ∷ Part (Level (n + 1)) ∷ Make (Operate op) ∷ Part (Tail n) ∷ []
 
--- the production of a symbol where the next token is no fault
+-- the production of a symbol if the next token is no fault
 abbrev pub choice : Symbol → Token → Token → Production
 choice Source token.End after = Some (AnEnd ∷ [])
 choice Source (token.Word word.Type) after = Some (AWord word.Type ∷ Part Types ∷ Part Head ∷ Part Source ∷ [])

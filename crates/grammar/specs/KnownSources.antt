@@ -32,11 +32,11 @@ abbrev pub from_line : ℕ → List Token → List LocatedToken
 from_line line [] = []
 from_line line (t ∷ ts) = record { token = t; line = line; end = line } ∷ from_line (line + 1) ts
 
--- with the end behind them
+-- with the end after them
 abbrev pub on_lines : List Token → List LocatedToken
 on_lines ts = from_line 1 (ts ++ token.End ∷ [])
 
--- with a fault behind them
+-- with a fault after them
 abbrev pub broken_off : List Token → LexicalError → List LocatedToken
 broken_off ts fault = from_line 1 (ts ++ token.Fault fault ∷ [])
 
@@ -314,7 +314,7 @@ pub record KnownMisfits : Type 0 where
 abbrev pub bracketed : ℕ → List Token
 bracketed n = replicate n ro ++ number 1 ∷ (replicate n rc ++ end ∷ [])
 
--- names of one byte, one behind another
+-- names of one byte, one after another
 abbrev pub statements_of_names : ℕ → List Token
 statements_of_names zero = []
 statements_of_names (suc n) = letter n ∷ end ∷ statements_of_names n
@@ -390,7 +390,7 @@ pub record KnownNeeds : Type 0 where
   pub built_with_end : built_tokens (on_lines (function f [] ++ function main [])) 20
       ≡ function_actions 0 (empty_function (codes "f"))
 
--- what is open behind these actions of a function
+-- what is open after these actions of a function
 abbrev pub opened_by : List Action → Option Opened
 opened_by acts = follow_all (Begin 0 0 ∷ acts) []
 

@@ -37,7 +37,7 @@ abbrev pub FirstFaultDecides : Type 0
 FirstFaultDecides = (profile : Profile) (located_tokens : List LocatedToken) (d : Diagnostic)
     → Fails profile (start located_tokens) d → compiled_tokens profile located_tokens ≡ Err d
 
--- a production opens a level exactly where its end closes one
+-- a production opens a level exactly if its end closes one
 abbrev pub closes : Production → ℕ
 closes None = 0
 closes (Some items) = levels items
@@ -49,14 +49,14 @@ abbrev pub LevelsAreClosed : Type 0
 LevelsAreClosed = (symbol : Symbol) (next after : Token)
     → closes (choice symbol next after) ≡ opened_levels (opens symbol next after)
 
--- the actions of a resolved file may follow one another, and leave nothing open, where no function has too much open
+-- the actions of a resolved file may follow one another, and leave nothing open, if no function has too much open
 -- at once
 abbrev pub EachFileFollows : Type 0
 EachFileFollows = (file : File) → IsResolved file
     → ((k : ℕ) (f : Function) → slice_get file.functions k ≡ Some f → body_nesting f.body ≤ 200) →
     follow_all (actions file) [] ≡ Some []
 
--- actions are a beginning of those of some functions exactly where each may follow those before it
+-- actions are a beginning of those of some functions exactly if each may follow those before it
 abbrev pub BeginningsAreInOrder : Type 0
 BeginningsAreInOrder = (acts : List Action) → IsBeginning acts → AreInOrder acts
 
@@ -68,7 +68,7 @@ abbrev pub CompiledIsResolved : Type 0
 CompiledIsResolved = (profile : Profile) (located_tokens : List LocatedToken) (file : File)
     → compiled_tokens profile located_tokens ≡ Ok file → IsResolved file
 
--- where a builder stands for a list that leaves this open, it may be told an action that may follow what is open
+-- to a builder that represents a list that leaves this open, an action may be reported that may follow what is open
 abbrev pub MayBeTold : Meaning → Type 0
 MayBeTold stands = (opened next : Opened) (action : Action) → StandsOpen stands opened
     → follow action opened ≡ Some next → open_count next ≤ 200 → MayFollow stands action
@@ -80,7 +80,7 @@ pub record KeepsFunction (known learnt : Scope) : Type 0 where
   pub name : learnt.current.name ≡ known.current.name
   pub parameters : learnt.current.parameters ≡ known.current.parameters
 
--- what stands in a function's block keeps the function, up to the block's end: there no further function is defined yet
+-- what is in a function's block keeps the function, up to the block's end: there no further function is defined yet
 abbrev pub BlocksKeepTheFunction : Type 0
 BlocksKeepTheFunction = (n : ℕ) (stack : List Item) (rest later : List LocatedToken) (values left : List Value)
     (known learnt : Scope) (functions : List Definition) →
@@ -88,8 +88,8 @@ BlocksKeepTheFunction = (n : ℕ) (stack : List Item) (rest later : List Located
     ≡ state (Make Define ∷ stack) later left learnt functions →
     KeepsFunction known learnt
 
--- Where no fault stands before these last tokens of a source, the source is needed up to the second of them, or the
--- first where it is the last.
+-- If no fault is before these last tokens of a source, the source is needed up to the second of them, or the
+-- first if it is the last.
 abbrev pub WhatWasReadIsNeeded : Type 0
 WhatWasReadIsNeeded = (profile : Profile) (bytes : List ℕ) (passed rest : List LocatedToken)
     → tokens bytes ≡ passed ++ rest →

@@ -8,7 +8,7 @@ use Rattle.grammar.specs.Faults.{fault, role_faults}
 use Rattle.grammar.specs.Grammar.{Role}
 use Rattle.grammar.specs.Scope.{Scope, behind_name}
 
--- the name has no fault, and the new scope is that behind it
+-- the name has no fault, and the new scope is that after it
 pub record Knows (role : Role) (name : List ℕ) (line : ℕ) (old new : Scope) : Type 0 where
   pub clean : (rest : List LocatedToken) → role_faults role name old rest ≡ []
   pub behind : new ≡ behind_name role name line old

@@ -1,4 +1,4 @@
--- How far a source need be read, and what a builder has been told by then.
+-- How far a source need be read, and what has been reported to a builder by then.
 use Rattle.std.specs.Prelude.{ℕ, zero, suc, List, [], ◌∷◌, ◌++◌, Bool, true, false, ◌&&◌, not, nat_le, if◌then◌else◌}
 use Rattle.tokens.specs.Tokens.{tokens}
 use Rattle.tokens.specs.declared.located_tokens.LocatedToken.{LocatedToken}
@@ -10,7 +10,7 @@ use Rattle.grammar.specs.Grammar.{Item, Make, Define}
 use Rattle.grammar.specs.Profile.{Profile}
 use Rattle.grammar.specs.Scope.{Scope}
 
--- where the token behind the next one ends, or the next one where it is the last
+-- where the token after the next one ends, or the next one if it is the last
 abbrev pub end_behind : List LocatedToken → ℕ
 end_behind [] = 0
 end_behind (located_token ∷ []) = located_token.end
@@ -22,7 +22,7 @@ last_end [] = 0
 last_end (located_token ∷ []) = located_token.end
 last_end (located_token ∷ other ∷ rest) = last_end (other ∷ rest)
 
--- up to the token behind the first fault; where there is none, all of the source
+-- up to the token after the first fault; if there is none, all of the source
 abbrev pub needed : List LocatedToken → List Fault → ℕ
 needed located_tokens [] = last_end located_tokens
 needed located_tokens (f ∷ faults) = end_behind (first_of f faults).rest
@@ -43,12 +43,12 @@ has_ahead zero count rest = true
 has_ahead (suc n) count [] = false
 has_ahead (suc n) count (located_token ∷ rest) = ends_by count located_token && has_ahead n count rest
 
--- three tokens behind a function's closing brace, which is next
+-- three tokens after a function's closing brace, which is next
 abbrev pub is_behind_brace : ℕ → List LocatedToken → Bool
 is_behind_brace count [] = false
 is_behind_brace count (brace ∷ rest) = has_ahead 3 count rest
 
--- the actions of the function whose closing brace is next, where a builder has been told them
+-- the actions of the function whose closing brace is next, if they have been reported to a builder
 abbrev pub built_of : ℕ → List Item → List LocatedToken → List Value → Scope → List Action
 built_of count (Make Define ∷ stack) rest values scope =
     if is_behind_brace count rest then function_actions scope.number (definition_of scope (last_body values)).function
@@ -63,6 +63,6 @@ built_in count (suc n) s = built_of count s.stack s.rest s.values s.scope ++ bui
 abbrev pub built_tokens : List LocatedToken → ℕ → List Action
 built_tokens located_tokens count = built_in count (enough located_tokens) (start located_tokens)
 
--- what a builder has been told for certain once so many bytes of a source were read
+-- what has been reported to a builder for certain once so many bytes of a source were read
 unfoldable pub built : List ℕ → ℕ → List Action
 built bytes count = built_tokens (tokens bytes) count

@@ -57,7 +57,7 @@ if_from n (Some b) = if nat_le n b.level then Some b else None
 abbrev pub operator_from : ℕ → Token → Option Binary
 operator_from n t = if_from n (operator_of t)
 
--- the two operators whose sides a builder is told apart
+-- the two operators between whose sides an action is reported to a builder
 abbrev pub is_logic : Op → Bool
 is_logic op.Or = true
 is_logic op.And = true

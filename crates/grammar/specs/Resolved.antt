@@ -49,7 +49,7 @@ abbrev pub IsAmong : ℕ → List ℕ → Type 0
 IsAmong k [] = ⊥
 IsAmong k (n ∷ numbers) = (k ≡ n) ⊎ IsAmong k numbers
 
--- no number stands there twice
+-- no number is there twice
 abbrev pub AreDistinct : List ℕ → Type 0
 AreDistinct [] = Unit {0}
 AreDistinct (n ∷ numbers) = (IsAmong n numbers → ⊥) × AreDistinct numbers

@@ -1,4 +1,4 @@
--- The names that are known at a place of a source, and what each stands for there.
+-- The names that are known at a place of a source, and what each names there.
 use Rattle.std.specs.Prelude.{ℕ, List, [], ◌∷◌, ◌++◌, Bool, Option, Some, None, map, length, set, unwrap_or, is_none}
 use Rattle.std.specs.Prelude.{if◌then◌else◌, ◌+◌, ◌==◌}
 use Rattle.std.specs.List.{position, list_any}
@@ -43,7 +43,7 @@ variable_named name scope =
     option_or (option_map var.Local (number_of_name name scope.current.variables))
     (option_map var.External (number_of_name name scope.externals))
 
--- a name that stands for neither is the function's next local
+-- a name of neither is the function's next local
 abbrev pub variable_of : List ℕ → Scope → Var
 variable_of name scope = unwrap_or (variable_named name scope) (var.Local (length scope.current.variables))
 
@@ -60,7 +60,7 @@ is_external_new name scope = is_none (number_of_name name scope.externals)
 abbrev pub is_function_new : List ℕ → Scope → Bool
 is_function_new name scope = if is_intrinsic name then Bool.false else is_none (function_number name scope)
 
--- a function's number, which is the next one where it is new
+-- a function's number, which is the next one if it is new
 abbrev pub number_for : List ℕ → Scope → ℕ
 number_for name scope = unwrap_or (function_number name scope) (length scope.functions)
 
@@ -129,7 +129,7 @@ end_definition scope = record scope {
   current = only_named [];
 }
 
--- what is known behind a name in a role
+-- what is known after a name in a role
 abbrev pub behind_name : Role → List ℕ → ℕ → Scope → Scope
 behind_name Defined name line scope = begin_definition name line scope
 behind_name External name line scope = if is_external_new name scope then with_external name scope else scope

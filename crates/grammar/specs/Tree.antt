@@ -22,7 +22,7 @@ mutual
     NoMore : Args
     Argument : (e : Expr) (rest : Args) → Args
 
--- a list of statements, each with those that stand behind it; a block adds its statements, and ; adds none
+-- a list of statements, each with those after it; a block adds its statements, and ; adds none
 pub data Body : Type 0 where
   Done : Body
   ExpressionStatement : (e : Expr) (rest : Body) → Body
@@ -33,7 +33,7 @@ pub data Body : Type 0 where
 
 -- -e is 0 - e, !e is e == 0, ~e is e ^ -1, ++v is v += 1, --v is v -= 1, and return; is return 0;
 
--- the arguments, and one more behind them
+-- the arguments, and one more after them
 abbrev pub add_argument : Args → Expr → Args
 add_argument NoMore e = Argument e NoMore
 add_argument (Argument a rest) e = Argument a (add_argument rest e)
@@ -47,7 +47,7 @@ join (IfElseStatement c s t rest) b = IfElseStatement c s t (join rest b)
 join (While c s rest) b = While c s (join rest b)
 join (Return e rest) b = Return e (join rest b)
 
--- a function, its variables by name: the parameters stand first
+-- a function, its variables by name: the parameters come first
 pub record Function : Type 0 where
   pub name : List ℕ
   pub parameters : ℕ

@@ -1,4 +1,4 @@
-//! The trait of what a parse builds: it is told each action in the order of the tokens.
+//! The trait of a builder: a parse reports each action to it, in the order of the tokens.
 
 ghost use Rattle.std.specs.Prelude.{◌≡◌, ℕ, ◌+◌, ◌<◌, ◌≤◌, List, [], ◌∷◌, ◌++◌, Bool, IsTrue, IsErrOf, OnOk, OnErr};
 ghost use Rattle.grammar.specs.Actions.{Action, PushConstant, FetchVariable, StoreVariable, ApplyBinop, LogicMiddle};
@@ -10,7 +10,7 @@ ghost use Rattle.grammar.specs.Profile.{Profile};
 use crate::names::{Callee, Var};
 use crate::operators::{Op, StoreOp};
 
-/// Why a builder refused an action. Then it stands for nothing, and its owner gives it up.
+/// Why a builder refused an action. Then it represents nothing, and its owner gives it up.
 #[derive(Clone, Copy, Debug, PartialEq, Eq)]
 pub enum BuildFault {
     /// The code so far and the final NOP pass the most instructions of a file.
@@ -19,12 +19,12 @@ pub enum BuildFault {
     Memory,
 }
 
-/// What is told the actions of a file.
+/// What the actions of a file are reported to.
 ///
-/// A builder stands for lists of actions: those that it was told since it was new. Its caller shows that the action
+/// A builder represents lists of actions: those reported to it since it was new. Its caller shows that the action
 /// may follow one of them. Each call that answers `Ok` adds its action at the end of each.
 pub trait Build {
-    // the builder goes by the profile and stands for the list of actions
+    // the builder goes by the profile and represents the list of actions
     ghost stands: { Self → Profile → List Action → Type 0 };
     // whether it asks for memory
     ghost allocates: { Bool };

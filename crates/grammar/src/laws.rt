@@ -28,7 +28,7 @@ pub fn levels()
     ensures { LevelsAreClosed }
 {}
 
-/// What was read of a source is needed: where no fault stands before the tokens that are next, up to the second of
+/// What was read of a source is needed: if no fault is before the tokens that are next, up to the second of
 /// them.
 pub fn reach()
     ensures { WhatWasReadIsNeeded }
@@ -55,7 +55,7 @@ pub fn resolved_files()
     ensures { CompiledIsResolved }
 {}
 
-/// A builder may be told what may follow the actions that it stands for.
+/// To a builder any action may be reported that may follow those that it represents.
 pub fn building<B: Build>()
     ensures { (builder : B) → MayBeTold (B.stands builder) }
 {}

@@ -1,4 +1,4 @@
-//! What a name of a resolved program stands for, and the intrinsic functions.
+//! What a name of a resolved program names, and the intrinsic functions.
 
 ghost use Rattle.std.specs.Prelude.{◌≡◌, ◌≤◌};
 ghost use Rattle.grammar.specs.Intrinsics.{arguments_of, name_of};

@@ -9,9 +9,9 @@ use tokens::{Punctuator, Token};
 /// `||`, `&&`, `|`, `^`, `&`, equality, order, shifts, sums, products.
 #[derive(Clone, Copy, Debug, PartialEq, Eq)]
 pub enum Op {
-    /// `||`: 1 where one of the sides isn't 0, else 0. Both sides are evaluated.
+    /// `||`: 1 if one of the sides isn't 0, else 0. Both sides are evaluated.
     Or,
-    /// `&&`: 1 where neither side is 0, else 0. Both sides are evaluated.
+    /// `&&`: 1 if neither side is 0, else 0. Both sides are evaluated.
     And,
     /// `|`
     BitOr,
@@ -84,7 +84,7 @@ pub struct Binary {
 }
 
 impl Op {
-    /// Whether a builder is told of the middle between the operator's sides: those of `&&` and `||`.
+    /// Whether the middle between the operator's sides is reported to a builder: those of `&&` and `||`.
     pub fn is_logic(self) -> bool
         ensures { result ≡ is_logic self }
     {

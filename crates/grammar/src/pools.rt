@@ -67,7 +67,7 @@ impl Function {
         self.parameters
     }
 
-    /// The names of the function's variables by number: the parameters stand first.
+    /// The names of the function's variables by number: the parameters come first.
     pub fn variables(&self) -> &[Name]
         ensures names { result.now ≡ self.now.variables }
         ensures first { self.now.parameters ≤ length result.now }
@@ -119,7 +119,7 @@ impl Function {
 
 /// The names of a file: its externals and its functions by number.
 ///
-/// A function is made in its place: the places behind the functions hold blank ones.
+/// A function is made in its place: the places after the functions hold blank ones.
 #[derive(Drop)]
 pub struct Pools {
     externals: ArrayVec<Name, MOST_NAMES>,

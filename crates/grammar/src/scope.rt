@@ -1,4 +1,4 @@
-//! The names that are known at a place of a source, and what a name in each role stands for.
+//! The names that are known at a place of a source, and what a name in each role names.
 
 ghost use Rattle.std.specs.Prelude.{◌≡◌, ◌<◌, ◌≤◌, ℕ, List, [], ◌∷◌, ◌++◌, length, Option, Some, None, IfOk, IfErr};
 ghost use Rattle.std.specs.Prelude.{IfSome, OnOk, map, nat_le, is_some, ◌==◌, true, false};
@@ -101,7 +101,7 @@ impl Scope {
         }
     }
 
-    /// The variable of a name that is mentioned. A name that stands for none becomes the function's next local.
+    /// The variable of a name that is mentioned. A name that has none becomes the function's next local.
     #[tactic(auto, using(crate::proofs::ScopeLaws::names))]
     pub fn mention(&mut self, name: Name) -> Result<Var, Code>
         ensures known { IfOk result (λ v. (v ≡ variable_of name self.old)
@@ -120,7 +120,7 @@ impl Scope {
         Ok(var)
     }
 
-    /// Declares a local. A name that is declared again stands for the same variable.
+    /// Declares a local. A name that is declared again names the same variable.
     #[tactic(auto, using(crate::proofs::ScopeLaws::names))]
     pub fn local(&mut self, name: Name) -> Result<(), Code>
         ensures known { OnOk result ((line : ℕ) → Knows Local name line self.old self.new) }
@@ -136,7 +136,7 @@ impl Scope {
         Ok(())
     }
 
-    /// Adds a parameter of the list. A name that stands there already is a fault.
+    /// Adds a parameter of the list. A name that is there already is a fault.
     #[tactic(auto, using(crate::proofs::ScopeLaws::names))]
     pub fn parameter(&mut self, name: Name) -> Result<(), Code>
         ensures known { OnOk result ((line : ℕ) → Knows Parameter name line self.old self.new) }
@@ -152,7 +152,7 @@ impl Scope {
         Ok(())
     }
 
-    /// Declares a parameter behind the list, in which it has to stand.
+    /// Declares a parameter after the list, in which it has to be.
     pub fn typed(&self, name: &Name) -> Result<(), Code>
         ensures known { OnOk result ((line : ℕ) → Knows Typed name.now line self.now self.now) }
         ensures refused { IfErr result (λ c. RefusesName Typed name.now self.now c) }
@@ -164,7 +164,7 @@ impl Scope {
         }
     }
 
-    /// Declares an external. A name that is declared again stands for the same variable.
+    /// Declares an external. A name that is declared again names the same variable.
     #[tactic(auto, using(crate::proofs::ScopeLaws::names))]
     pub fn external(&mut self, name: Name) -> Result<(), Code>
         ensures known { OnOk result ((line : ℕ) → Knows External name line self.old self.new) }
@@ -271,7 +271,7 @@ impl Scope {
         Some(Var::External(number as u8))
     }
 
-    // The number of a function of the file, which is the next one where it is new.
+    // The number of a function of the file, which is the next one if it is new.
     #[tactic(auto, using(crate::proofs::ScopeLaws::calls))]
     fn number_for(&mut self, name: Name, line: u32) -> Result<u8, Code>
         requires { intrinsic_named name ≡ None }

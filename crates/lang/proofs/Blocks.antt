@@ -20,6 +20,7 @@ use Rattle.grammar.specs.Profile.{Profile}
 use Rattle.grammar.specs.Scope.{Scope, end_definition}
 use Rattle.grammar.specs.Tree.{Body}
 use Rattle.grammar.proofs.Firsts.{too_long}
+use Rattle.grammar.proofs.Lengths.{code_length-append}
 use Rattle.grammar.proofs.Runs.{then}
 use Rattle.grammar.proofs.Steps.{make, close}
 use Rattle.parsing.specs.Advancing.{IsReady, StayedOrWentOn, Stopped}
@@ -47,10 +48,6 @@ pub braced : (before after : Meaning) (at now there : Place) → Derives 0 headi
 braced before after at now there h b = joined 0 0 definition_items (Part FunctionBlock ∷ []) at_brace [] [] [] (ABody b.tree ∷ []) [] at now there (headed at now h) b.derives (λ stack same. same)
 
 -- How long the code is.
-
-pub code_length-append : (p : Profile) (a b : List Action) → code_length p (a ++ b) ≡ code_length p a + code_length p b
-code_length-append p [] b = omega arith
-code_length-append p (x ∷ a) b = omega (arith, code_length-append p a b)
 
 -- the code of functions and one more is what was told up to its return
 code_with : (p : Profile) (functions : List Definition) (scope : Scope) (body : Body) (parameters number : ℕ) →

@@ -130,7 +130,7 @@ middle_continues o (entry_of.Body b ∷ xs) h = at_place b.heading h
     at_place (heading.Second c t) k = absurd (cc)
     at_place (heading.Loop c) k = absurd (cc)
 
--- below the right side stands the left one, past the middle if there is one
+-- below the right side is the left one, past the middle if there is one
 pub left_is : (xs : List entry.Open) → ends_in_value xs ≡ false → ends_in_value (past_middle xs) ≡ true → below xs ≡ past_middle xs
 left_is [] h k = refl
 left_is (Value e ∷ xs) h k = absurd (cc)

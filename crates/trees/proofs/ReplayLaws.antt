@@ -1,4 +1,4 @@
--- A builder is told actions, one behind another.
+-- Actions are reported to a builder, one after another.
 use Rattle.std.proofs.Common.{◌≡◌, ℕ, ◌+◌, ◌<◌, ◌≤◌, List, [], ◌∷◌, ◌++◌, length, get_or, Bool, true, false, map, take, drop, Vec, Box, Global, sym, ap, subst, ◌∙◌, refl, append_assoc, arith}
 use Rattle.std.proofs.lemmas.Bool.Decides.{nat_tests}
 use Rattle.std.proofs.lemmas.List.{append-nil, drop_more, length-replicate, take_more}
@@ -36,12 +36,12 @@ pub may_first : (before : Meaning) (x : Action) (xs : List Action) → MayFollow
 may_first before x xs may =
     record { profile = may.profile; acts = may.acts; stood = may.stood; begins = begins_with (may.acts ++ x ∷ []) xs (subst IsBeginning (sym (append_assoc may.acts (x ∷ []) xs)) may.begins) }
 
--- where the first ones were told, the others may follow
+-- if the first ones were reported, the others may follow
 pub may_then : (before behind : Meaning) (xs ys : List Action) → AppendsAll before behind xs → MayFollowAll before (xs ++ ys) → MayFollowAll behind ys
 may_then before behind xs ys added may =
     record { profile = may.profile; acts = may.acts ++ xs; stood = added may.profile may.acts may.stood; begins = subst IsBeginning (sym (append_assoc may.acts xs ys)) may.begins }
 
--- actions told one behind another
+-- actions reported one after another
 pub appends_both : (before between behind : Meaning) (xs ys : List Action) → AppendsAll before between xs → AppendsAll between behind ys → AppendsAll before behind (xs ++ ys)
 appends_both before between behind xs ys first second p acts s = subst (behind p) (append_assoc acts xs ys) (second p (acts ++ xs) (first p acts s))
 
@@ -57,7 +57,7 @@ pub over_then : (before behind : Meaning) (xs ys : List Action) → AppendsAll b
 over_then before behind xs ys added over p acts s =
     subst (λ zs. p.instructions < code_length p zs + 1) (append_assoc acts xs ys) (over p (acts ++ xs) (added p acts s))
 
--- behind a call of its own the other actions may follow
+-- after a call of its own the other actions may follow
 pub may_next : (before behind : Meaning) (x : Action) (xs : List Action) → Appends before behind x → MayFollowAll before (x ∷ xs) → MayFollowAll behind xs
 may_next before behind x xs added may = may_then before behind (x ∷ []) xs added may
 
@@ -103,7 +103,7 @@ pub actions-Function : (f : Function) →
 actions-Function f =
     ap (λ n. Begin f.number f.parameters ∷ (body_actions (body_tree f.body.items) ++ (last_return ++ Finish n ∷ []))) (length-replicate f.variables [])
 
--- Lists of arguments, of statements and of functions, of which some were told.
+-- Lists of arguments, of statements and of functions, of which some were reported.
 
 -- the next item's actions may follow
 item_may : {X : Type 0} (acts : X → List Action) (told : List X → List Action) → Tells acts told →
@@ -114,7 +114,7 @@ item_may acts told tells before behind i xs x below is added may =
     let at : drop i xs ≡ x ∷ drop (i + 1) xs = drop_more xs i x below ∙ ap (λ y. y ∷ drop (i + 1) xs) (sym is) in
     may_front behind (acts x) (told (drop (i + 1) xs)) (subst (MayFollowAll behind) (ap told at ∙ tells.more x (drop (i + 1) xs)) rest)
 
--- one item more was told
+-- one item more was reported
 items_more : {X : Type 0} (acts : X → List Action) (told : List X → List Action) → Tells acts told →
     (before between behind : Meaning) (i : ℕ) (xs : List X) (x : X) → i < length xs → x ≡ get_or xs i x → AppendsAll before between (told (take i xs)) → AppendsAll between behind (acts x) →
     AppendsAll before behind (told (take (i + 1) xs))
@@ -147,9 +147,9 @@ pub functions_more : (before between behind : Meaning) (i : ℕ) (fs : List Func
     AppendsAll before between (made_actions (take i fs)) → AppendsAll between behind (function_actions f.number (function_tree f)) → AppendsAll before behind (made_actions (take (i + 1) fs))
 functions_more = items_more _ _ tells_functions
 
--- A maker that leaves nothing open stands for the actions of its functions.
+-- A maker that leaves nothing open represents the actions of its functions.
 
--- the actions of a maker's functions, where nothing is open in it
+-- the actions of a maker's functions, if nothing is open in it
 pub record IsDone (m : Kept) : Type 0 where
   pub begins : IsBeginning (made_actions m.functions)
   pub each : (p : Profile) (acts : List Action) → Stands m p acts → acts ≡ made_actions m.functions
@@ -180,11 +180,11 @@ is_done m s = by_code (nat_lt m.code m.profile.instructions) refl
         let no : false ≡ true = sym (follow_inside s.acts [] [] s.opens) ∙ q.inside in
         absurd (cc)
 
--- the actions of a maker that leaves nothing open may be told to a builder that was told nothing
+-- the actions of a maker that leaves nothing open may be reported to a builder to which nothing was reported
 pub may_replay : (m : Kept) (before : Meaning) → StandsOpen (λ p acts. Stands m p acts) [] → StandsForNone before → MayFollowAll before (made_actions m.functions)
 may_replay m before closed none = record { profile = none.profile; acts = []; stood = none.stood; begins = (is_done m closed).begins }
 
--- all the functions were told
+-- all the functions were reported
 pub appends_those : (m : Kept) (before behind : Meaning) → StandsOpen (λ p acts. Stands m p acts) [] → AppendsAll before behind (made_actions m.functions) → AppendsThose m before behind
 appends_those m before behind closed added p acts stands = subst (AppendsAll before behind) (sym ((is_done m closed).each p acts stands)) added
 

@@ -1,4 +1,4 @@
--- What a maker of trees stands for behind each action.
+-- What a maker of trees represents after each action.
 use Rattle.std.proofs.Common.{◌≡◌, ℕ, ◌+◌, ◌<◌, ◌≤◌, min, List, [], ◌∷◌, ◌++◌, Bool, true, false, sym, ap, subst, ◌∙◌, refl, append_assoc, arith, inl, inr}
 use Rattle.std.proofs.lemmas.Bool.Decides.{nat_tests}
 use Rattle.std.proofs.lemmas.Result.{on_ok_weaker}
@@ -25,13 +25,13 @@ unfolding first_profile second_profile
 small p (inl e) = let same = ap (λ (p : Profile). p.instructions) e in omega (arith, same)
 small p (inr e) = let same = ap (λ (p : Profile). p.instructions) e in omega (arith, same)
 
--- a maker that was told nothing has room
+-- a maker to which nothing was reported has room
 pub some : (p : Profile) → IsProfile p → 0 < p.instructions
 unfolding first_profile second_profile
 some p (inl e) = let same = ap (λ (p : Profile). p.instructions) e in omega (arith, same)
 some p (inr e) = let same = ap (λ (p : Profile). p.instructions) e in omega (arith, same)
 
--- Actions one behind another.
+-- Actions one after another.
 
 -- an action that follows is allowed, and leaves little enough open
 record Next (a : Action) (o : Opened) : Type 0 where
@@ -126,7 +126,7 @@ stays_open (Begin number parameters) [] p h e = only_open _ _ p e refl
 stays_open (Begin number parameters) (x ∷ o) p h e = absurd (cc)
 stays_open (Finish variables) o p h e = absurd (cc)
 
--- where nothing is open only a function begins
+-- if nothing is open only a function begins
 opens_first : (a : Action) (p : Opened) → follow a [] ≡ Some p → (in_function false (a ∷ []) ≡ true) × (in_function true (a ∷ []) ≡ true)
 opens_first (Begin number parameters) p e = (refl, refl)
 opens_first (FetchVariable v) p e = let no : None ≡ Some p = guarded_is (is_var_numbered v) None p e in absurd (cc)
@@ -160,7 +160,7 @@ inside_append : (b : Bool) (xs ys : List Action) → in_function b (xs ++ ys) �
 inside_append b [] ys = refl
 inside_append b (x ∷ xs) ys = inside_cons b x (xs ++ ys) ∙ inside_append (in_function b (x ∷ [])) xs ys ∙ ap (λ c. in_function c ys) (sym (inside_cons b x xs))
 
--- a function is open behind actions exactly where they leave something open
+-- a function is open after actions exactly if they leave something open
 pub follow_inside : (acts : List Action) (o p : Opened) → follow_all acts o ≡ Some p → in_function (is_open o) acts ≡ is_open p
 follow_inside [] o p e = let same : o ≡ p = cc in ap is_open same
 follow_inside (a ∷ acts) o p e = next (follow a o) refl e (λ q h. follow_inside acts q p h)

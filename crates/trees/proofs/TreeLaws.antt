@@ -45,9 +45,9 @@ tree-While c s = ap statement_tree (sym (statement.rolls-While c s)) ∙ fold-ro
 pub tree-Return : (e : Expr) → statement_tree (statement.Return e) ≡ (λ rest. tree.Return (expr_tree e) rest)
 tree-Return e = ap statement_tree (sym (statement.rolls-Return e)) ∙ fold-roll-Statement (Body → Body) statement_node (Statement-F.Return e)
 
--- Items told one behind another.
+-- Items reported one after another.
 
--- a list of actions for each list of items, by which the items are told one behind another
+-- a list of actions for each list of items, by which the items are reported one after another
 pub record Tells {X : Type 0} (acts : X → List Action) (told : List X → List Action) : Type 0 where
   pub none : told [] ≡ []
   pub more : (x : X) (xs : List X) → told (x ∷ xs) ≡ acts x ++ told xs

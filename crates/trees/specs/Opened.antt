@@ -1,4 +1,4 @@
--- What stands on the stack of a maker: the actions that it was made of, and what it leaves open.
+-- What is on the stack of a maker: the actions that it was made of, and what it leaves open.
 use Rattle.std.specs.Prelude.{ℕ, ◌≡◌, List, [], ◌∷◌, ◌++◌, false, Some, is_some, IsTrue}
 use Rattle.grammar.specs.Actions.{Action, BeginCall, IfTest, ElsePart, BeginWhile, WhileTest, Begin, Finish}
 use Rattle.grammar.specs.Actions.{expr_actions, body_actions, function_actions, middle}
@@ -56,7 +56,7 @@ open_actions (x ∷ xs) = open_actions xs ++ entry_actions x
 abbrev pub IsAllowed : Action → List entry.Open → Type 0
 IsAllowed a xs = IsTrue (is_some (follow a (opened xs)))
 
--- behind the action the stack is this one: it has that action more, and leaves open what the action does
+-- after the action the stack is this one: it has that action more, and leaves open what the action does
 pub record Continues (a : Action) (before behind : List entry.Open) : Type 0 where
   pub follows : follow a (opened before) ≡ Some (opened behind)
   pub adds : open_actions before ++ a ∷ [] ≡ open_actions behind

@@ -1,26 +1,26 @@
--- What a builder is told of trees.
+-- What is reported of trees to a builder.
 use Rattle.std.specs.Prelude.{◌+◌, ◌<◌, List, [], ◌++◌}
 use Rattle.grammar.specs.Actions.{Action, code_length}
 use Rattle.grammar.specs.Building.{Meaning, AppendsAll}
 use Rattle.grammar.specs.Profile.{Profile}
 use Rattle.trees.specs.Standing.{Kept, Stands}
 
--- the empty list is stood for
+-- the empty list is represented
 pub record StandsForNone (before : Meaning) : Type 0 where
   pub profile : Profile
   pub stood : before profile []
 
--- behind these actions the code and the last NOP pass the profile's limit
+-- after these actions the code and the last NOP pass the profile's limit
 abbrev pub IsOverWith : Meaning → List Action → Type 0
 IsOverWith before more = (profile : Profile) (acts : List Action) → before profile acts
     → profile.instructions < code_length profile (acts ++ more) + 1
 
--- each list stood for before is stood for with the actions that the maker stands for
+-- each list represented before is represented with the actions that the maker represents
 abbrev pub AppendsThose : Kept → Meaning → Meaning → Type 0
 AppendsThose maker before behind = (profile : Profile) (acts : List Action) → Stands maker profile acts
     → AppendsAll before behind acts
 
--- with the actions that the maker stands for, the code passes the limit
+-- with the actions that the maker represents, the code passes the limit
 abbrev pub IsOverWithThose : Kept → Meaning → Type 0
 IsOverWithThose maker before = (profile : Profile) (acts : List Action) → Stands maker profile acts
     → IsOverWith before acts

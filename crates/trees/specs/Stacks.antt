@@ -1,4 +1,4 @@
--- What stands on the stack of a maker, the innermost first.
+-- What is on the stack of a maker, the innermost first.
 use Rattle.std.specs.Prelude.{◌≡◌, List, [], ◌∷◌, ◌++◌, Bool, true, false}
 use Rattle.trees.specs.declared.stack.Body as body_type
 use Rattle.trees.specs.declared.stack.Heading.{Heading}

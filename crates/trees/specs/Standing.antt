@@ -20,7 +20,7 @@ pub record Kept : Type 0 where
 abbrev pub Fits : Kept → Type 0
 Fits m = m.code + 1 ≤ m.profile.instructions
 
--- whether a function is open behind the actions, if one was before or not
+-- whether a function is open after the actions, if one was before or not
 abbrev pub in_function : Bool → List Action → Bool
 in_function before [] = before
 in_function before (Begin number parameters ∷ acts) = in_function true acts

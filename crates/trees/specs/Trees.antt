@@ -25,7 +25,7 @@ expr_node (Expr-F.Call callee es) = tree.Call callee (arguments es.items)
 abbrev pub expr_tree : Expr → tree.Expr
 expr_tree = fold-Expr tree.Expr expr_node
 
--- statements one behind another, each of which is told what stands behind it
+-- statements one after another, each of which is given those after it
 abbrev pub in_order : List (Body → Body) → Body
 in_order [] = Done
 in_order (s ∷ ss) = s (in_order ss)
@@ -38,7 +38,7 @@ statement_node (Statement-F.IfElseStatement c s t) rest = tree.IfElseStatement (
 statement_node (Statement-F.While c s) rest = tree.While (expr_tree c) (in_order s.items) rest
 statement_node (Statement-F.Return e) rest = tree.Return (expr_tree e) rest
 
--- a statement, and what stands behind it
+-- a statement, and what follows it
 abbrev pub statement_tree : Statement → Body → Body
 statement_tree = fold-Statement (Body → Body) statement_node
 
@@ -59,7 +59,7 @@ function_tree f = record {
   body = body_tree f.body.items;
 }
 
--- the actions of functions, one behind another
+-- the actions of functions, one after another
 abbrev pub made_actions : List Function → List Action
 made_actions [] = []
 made_actions (f ∷ fs) = function_actions f.number (function_tree f) ++ made_actions fs

@@ -11,9 +11,9 @@ use grammar::{Build, BuildFault, Callee, Op, Profile, StoreOp, Var};
 use std::alloc::Global;
 use std::marker::Model;
 
-/// Makes the tree of each function that it is told.
+/// Makes the tree of each function that is reported to it.
 ///
-/// It asks its allocator for memory, and answers `Memory` where a request is refused. Once the code and the final NOP
+/// It asks its allocator for memory, and answers `Memory` if a request is refused. Once the code and the final NOP
 /// pass the profile's instructions, it makes no more trees, and the end of that function answers `Full`.
 #[derive(Drop)]
 pub struct TreeMaker {
@@ -70,7 +70,7 @@ impl TreeMaker {
     }
 }
 
-// How many instructions stand between the sides of an operator.
+// How many instructions are between the sides of an operator.
 fn middle_length(profile: Profile, op: Op) -> u16
     ensures { result ≡ instructions profile (LogicMiddle op) }
 {
@@ -84,7 +84,7 @@ fn middle_length(profile: Profile, op: Op) -> u16
     }
 }
 
-// How many stand at the end of its right side.
+// How many are at the end of its right side.
 fn end_length(profile: Profile, op: Op) -> u16
     ensures { result ≡ instructions profile (ApplyBinop op) }
 {

@@ -175,7 +175,7 @@ impl Stack {
         self.add(Statement::Return(value))
     }
 
-    /// The last value is dropped: that of a statement, or, where two values stand open side by side, the new one of
+    /// The last value is dropped: that of a statement, or, if two values are open side by side, the new one of
     /// `v++` or `v--`.
     pub fn chop(&mut self) -> Result<(), BuildFault>
         requires { IsAllowed Chop self.old }

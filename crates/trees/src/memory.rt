@@ -7,7 +7,7 @@ use crate::tree::Expr;
 use grammar::BuildFault;
 use std::alloc::{AllocError, Global};
 
-/// Puts one more behind the items, or refuses for want of memory.
+/// Puts one more after the items, or refuses for want of memory.
 pub fn put<T: Drop>(items: &mut Vec<T>, item: T) -> Result<(), BuildFault>
     ensures ok { OnOk result (items.new.items ≡ items.old.items ++ item ∷ []) }
     ensures memory { Refuses result true }
