@@ -7,6 +7,7 @@ ghost use Rattle.std.specs.List.{position, list_any};
 ghost use Rattle.grammar.specs.Intrinsics.{intrinsic_named, is_intrinsic};
 ghost use Rattle.grammar.specs.Naming.{line_of_undefined};
 ghost use Rattle.grammar.specs.Scope.{number_of_name};
+ghost use Rattle.std.specs.Prelude.{unwrap_or};
 
 use crate::diagnostics::Code;
 use crate::names::{Callee, Intrinsic, Var};
@@ -192,7 +193,8 @@ impl Scope {
         if let Some(intrinsic) = intrinsic(&name) {
             return Ok(Callee::Intrinsic(intrinsic));
         }
-        let number = self.number_for(name, line)?;
+        let known = self.function_number(&name);
+        let number = self.number_for(known, name, line)?;
         Ok(Callee::Function(number))
     }
 
@@ -205,10 +207,11 @@ impl Scope {
         if intrinsic(&name).is_some() {
             return Err(Code::IntrinsicRedefined);
         }
-        if self.has_begun(&name) {
+        let known = self.function_number(&name);
+        if self.has_begun(known) {
             return Err(Code::FunctionDefinedTwice);
         }
-        let number = self.number_for(name, line)?;
+        let number = self.number_for(known, name, line)?;
         self.begin(number, name);
         Ok(number)
     }
@@ -273,13 +276,15 @@ impl Scope {
 
     // The number of a function of the file, which is the next one if it is new.
     #[tactic(auto, using(crate::proofs::ScopeLaws::calls))]
-    fn number_for(&mut self, name: Name, line: u32) -> Result<u8, Code>
-        requires { intrinsic_named name ≡ None }
+    fn number_for(&mut self, known: Option<usize>, name: Name, line: u32) -> Result<u8, Code>
+        requires own { intrinsic_named name ≡ None }
+        requires number { known ≡ function_number name self.old }
+        requires within { IfSome known (λ n. n < 64) }
         ensures number { IfOk result (λ n. (n ≡ number_for name self.old) × (n < 64)) }
         ensures known { OnOk result (Knows Called name line self.old self.new) }
         ensures refused { IfErr result (λ c. RefusesName Called name self.old c) }
     {
-        if let Some(number) = self.function_number(&name) {
+        if let Some(number) = known {
             return Ok(number as u8);
         }
         if self.has_most_functions() {
@@ -312,13 +317,11 @@ impl Scope {
         self.lines.push(line);
     }
 
-    // Whether a definition of the function began before.
-    fn has_begun(&self, name: &Name) -> bool
-        ensures { result ≡ has_begun name.now self.now }
+    // Whether a definition of the function began before, which is known by this number or new.
+    fn has_begun(&self, known: Option<usize>) -> bool
+        ensures { result ≡ list_any (λ k. k == unwrap_or known (length self.now.functions)) self.now.begun }
     {
-        let number = self
-            .function_number(name)
-            .unwrap_or(self.pools.functions().len());
+        let number = known.unwrap_or(self.pools.functions().len());
         is_among(self.begun.as_slice(), number)
     }
 

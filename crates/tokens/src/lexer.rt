@@ -41,7 +41,7 @@ impl Window {
         loop {
             match self.skip_blanks(feed)? {
                 None => {
-                    *here = self.last(Token::End, self.line());
+                    self.put_end(here);
                     return Ok(());
                 }
                 Some(b'/') => {
@@ -114,7 +114,7 @@ impl Window {
         if self.skip_comment(feed)? {
             Ok(false)
         } else {
-            *here = self.last(Token::Fault(LexicalError::CommentNotClosed), line);
+            self.put_open_comment(line, here);
             Ok(true)
         }
     }
@@ -325,7 +325,11 @@ impl Window {
     /// Puts the token of a whole name here, of which some bytes may have been left out.
     #[inline(always)]
     fn end_name(&self, name: &Name, is_too_long: bool, here: &mut LocatedToken)
-        ensures value { here.new ≡ record { token = name_going_on name.now is_too_long []; line = self.now.line; end = self.now.place } }
+        ensures value { here.new ≡ record {
+          token = name_going_on name.now is_too_long [];
+          line = self.now.line;
+          end = self.now.place;
+        } }
         ensures fits { FitsToken here.new.token }
     {
         if is_too_long {
@@ -349,8 +353,29 @@ impl Window {
         }
     }
 
-    /// The last token, at the end of what can be read: this one, unless the source is too long.
+    /// Puts the end of the source here.
     #[inline(never)]
+    fn put_end(&self, here: &mut LocatedToken)
+        requires { self.now.beyond ≢ Beyond.Unread }
+        ensures value { (to_come : List ℕ) → here.new
+            ≡ last_located_token Token.End self.now.line (ahead self.now to_come) }
+        ensures reached { self.now.place ≤ here.new.end }
+    {
+        *here = self.last(Token::End, self.line());
+    }
+
+    /// Puts the fault of a comment here that began on this line and is not closed.
+    #[inline(never)]
+    fn put_open_comment(&self, line: u32, here: &mut LocatedToken)
+        requires { self.now.beyond ≢ Beyond.Unread }
+        ensures value { (to_come : List ℕ) → here.new
+            ≡ last_located_token (Token.Fault LexicalError.CommentNotClosed) line (ahead self.now to_come) }
+        ensures reached { self.now.place ≤ here.new.end }
+    {
+        *here = self.last(Token::Fault(LexicalError::CommentNotClosed), line);
+    }
+
+    /// The last token, at the end of what can be read: this one, unless the source is too long.
     fn last(&self, token: Token, line: u32) -> LocatedToken
         requires { self.now.beyond ≢ Beyond.Unread }
         ensures value { (to_come : List ℕ) → result ≡ last_located_token token line (ahead self.now to_come) }

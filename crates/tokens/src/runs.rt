@@ -92,7 +92,9 @@ pub fn run_before<S: Stop>(bytes: &[u8]) -> (usize, u32)
 {
     let mut count = 0;
     let mut lines = 0;
-    while bytes.len() - count >= BLOCK {
+    // A block fits before this place.
+    let room = bytes.len().saturating_sub(BLOCK - 1);
+    while count < room {
         let (run, ended) = run_in_block::<S>(u8x16::from_slice(&bytes[count..]));
         count += run;
         lines += ended;

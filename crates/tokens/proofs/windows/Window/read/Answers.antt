@@ -13,15 +13,15 @@ pub returns-in-None-clause-tokens : goal.returns-in-None-clause-tokens
 returns-in-None-clause-tokens g c =
     let here = c.skip_blanks.new.self in
     let found = c.in_ok-skip_blanks.ensures in
-    to_read-here (followed c.last.result) located_tokens here _ (λ to_come.
+    to_read-here (followed c.put_end.new.here) located_tokens here _ (λ to_come.
     let a = ahead here to_come in
-    ap (λ x. followed x a) (c.last.ensures.value to_come ∙ ap (λ line. last_located_token variant.End line a) c.line.ensures)
+    ap (λ x. followed x a) (c.put_end.ensures.value to_come)
     ∙ nothing-left a (none-ahead here to_come found.ready (sym found.first ∙ c.in-None.is)))
     ∙ found.tokens ∙ c.loop-self.invariant.tokens
 
 pub returns-in-None-clause-progress : goal.returns-in-None-clause-progress
 returns-in-None-clause-progress g c = λ e.
-    let last : is_last c.last.result.token ≡ true = ap (λ x. is_last x.token) (c.last.ensures.value []) ∙ last-is_last variant.End c.line.result (ahead c.skip_blanks.new.self []) refl in
+    let last : is_last c.put_end.new.here.token ≡ true = ap (λ x. is_last x.token) (c.put_end.ensures.value []) ∙ last-is_last variant.End c.skip_blanks.new.self.line (ahead c.skip_blanks.new.self []) refl in
     absurd cc
 
 pub loop-self-preserved : goal.loop-self-preserved
@@ -40,4 +40,4 @@ loop-self-preserved g c =
     }
 
 pub returns-in-None-clause-fits : goal.returns-in-None-clause-fits
-returns-in-None-clause-fits g c = rw (c.last.ensures.value []) (last-fits variant.End c.line.result (ahead c.skip_blanks.new.self []) tt)
+returns-in-None-clause-fits g c = rw (c.put_end.ensures.value []) (last-fits variant.End c.skip_blanks.new.self.line (ahead c.skip_blanks.new.self []) tt)

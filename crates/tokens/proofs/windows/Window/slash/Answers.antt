@@ -33,8 +33,8 @@ pub returns-else-branch-clause-tokens : goal.returns-else-branch-clause-tokens
 returns-else-branch-clause-tokens g c =
     let line = c.line-line.result in
     let seen = c.in_ok-peek.ensures in
-    to_read-here (after_slash true c.last.result) (after_comment false line) c.skip_comment.new.self _ (λ to_come.
-    let a = ahead c.skip_comment.new.self to_come in ap (λ x. followed x a) (c.last.ensures.value to_come) ∙ last-followed (variant.Fault CommentNotClosed) line a refl)
+    to_read-here (after_slash true c.put_open_comment.new.here) (after_comment false line) c.skip_comment.new.self _ (λ to_come.
+    let a = ahead c.skip_comment.new.self to_come in ap (λ x. followed x a) (c.put_open_comment.ensures.value to_come) ∙ last-followed (variant.Fault CommentNotClosed) line a refl)
     ∙ ap (λ closed. to_read (after_comment closed line) c.skip_comment.new.self (g.F.Feed.to_come c.skip_comment.new.feed)) (sym c.if-branch.false)
     ∙ c.in_ok-skip_comment.ensures.tokens line
     ∙ to_read-pass (in_comment line) (in_slash line) _ _ _ _ 42 c.pass-2.ensures.value seen.first (star-found _ (not_false _ c.if-ne.ensures)) (star-begins line)
@@ -70,4 +70,4 @@ returns-in_err-skip_comment-clause-stopped g c =
     (c.in_err-skip_comment.ensures.stopped line))
 
 pub returns-else-branch-clause-fits : goal.returns-else-branch-clause-fits
-returns-else-branch-clause-fits g c = λ _. rw (c.last.ensures.value []) (last-fits (variant.Fault CommentNotClosed) c.line-line.result (ahead c.skip_comment.new.self []) tt)
+returns-else-branch-clause-fits g c = λ _. rw (c.put_open_comment.ensures.value []) (last-fits (variant.Fault CommentNotClosed) c.line-line.result (ahead c.skip_comment.new.self []) tt)
