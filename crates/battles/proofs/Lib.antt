@@ -5,6 +5,7 @@ pub mod Limits
 pub mod Commuting
 pub mod Turns
 pub mod Ahead
+pub mod Passed
 pub mod Spans
 pub mod Running
 pub mod Alone

@@ -4,6 +4,7 @@
 mod battles;
 mod known;
 mod outcome;
+mod passing;
 mod programs;
 mod runners;
 mod scheduler;

@@ -7,11 +7,12 @@ ghost use Rattle.battles.specs.Carrying.{AreRobotsOf, EachFits, HasReached};
 ghost use Rattle.battles.specs.Pairing.{paired};
 ghost use Rattle.battles.specs.Windows.{segment};
 
+use crate::passing::pass;
 use crate::programs::Programs;
 use crate::runners::Runner;
 use crate::windows::{UPDATE_CYCLES, window};
 use arena::Arena;
-use settings::CYCLES_MAX;
+use settings::{CYCLES_MAX, FILES_MAX};
 
 // How far a machine runs that asks nothing: a robot that dies doesn't use the cycles that its machine is ahead.
 const MOST_AHEAD: u32 = 240;
@@ -19,6 +20,7 @@ const MOST_AHEAD: u32 = 240;
 // Runs the cycles up to the next update, and the update. Reports whether that decided the battle.
 fn segment(runners: &mut [Runner], programs: &Programs, arena: &mut Arena, farthest: u32) -> bool
     requires manned { length arena.old.robots ≡ length (paired programs.now) }
+    requires few { length (paired programs.now) ≤ FILES_MAX }
     requires fits { EachFits runners.old (paired programs.now) }
     requires updates { arena.old.updates < 66666667 }
     requires far { UPDATE_CYCLES ≤ farthest }
@@ -32,7 +34,9 @@ fn segment(runners: &mut [Runner], programs: &Programs, arena: &mut Arena, farth
     ensures manned { length arena.new.robots ≡ length (paired programs.now) }
     ensures updates { arena.new.updates ≡ arena.old.updates + 1 }
 {
-    window(runners, programs, arena, UPDATE_CYCLES, farthest);
+    if !pass(runners, arena, UPDATE_CYCLES) {
+        window(runners, programs, arena, UPDATE_CYCLES, farthest);
+    }
     arena.update();
     arena.live_count() <= 1
 }
@@ -45,6 +49,7 @@ pub(crate) fn play(
     limit: u32,
 ) -> u32
     requires manned { length arena.old.robots ≡ length (paired programs.now) }
+    requires few { length (paired programs.now) ≤ FILES_MAX }
     requires fits { EachFits runners.old (paired programs.now) }
     requires updates { arena.old.updates ≡ 0 }
     requires within { limit ≤ CYCLES_MAX }

@@ -1,0 +1,175 @@
+-- Robots that go on by cycles which their machines are ahead.
+use Rattle.std.proofs.Common.{◌≡◌, ◌≢◌, ℕ, ◌+◌, ◌*◌, ◌%◌, ◌-◌, ◌<◌, ◌≤◌, zero, suc, Bool, true, false, ℤ, pos, List, [], ◌∷◌, length, set, get_or, Some, replicate, inl, inr, refl, sym, ap, ◌∙◌, arith}
+use Rattle.std.specs.Prelude.{slice_get, nat_lt, if◌then◌else◌}
+use Rattle.std.proofs.lemmas.List.{get_or-set_same, get_or-set_other, length-set}
+use Rattle.std.proofs.lemmas.Bool.{cases_eq, cases_lt}
+use Rattle.std.proofs.lemmas.Bool.Decides.{nat_tests}
+use Rattle.arena.specs.Field.{Field, is_live}
+use Rattle.arena.specs.Ground.{Ground, lives}
+use Rattle.arena.specs.Standing.{StandsFor as IsGroundOf}
+use Rattle.code.specs.Generation.{ObjectCode}
+use Rattle.code.specs.Standing.{FitsProgram}
+use Rattle.battles.specs.Battle.{Robot, Stage}
+use Rattle.battles.specs.Carrying.{Runner, AreRobotsOf, EachFits, EachIsAt, HasReached, IsAt, IsRobotOf}
+use Rattle.battles.specs.Windows.{AreAhead, AreSlots, RunsAlone, alone, rounds}
+use Rattle.battles.proofs.Ahead.{HasCome, HasGoneOn, come_on, opens, closes}
+use Rattle.battles.proofs.Alone.{quiet_alone, quiet_runs}
+use Rattle.battles.proofs.Running.{at_less, quiet_less}
+use Rattle.battles.proofs.Stages.{fits_at, fits_length, fits_set}
+use Rattle.battles.proofs.Turns.{slots_set}
+
+-- a live robot goes on
+pub goes_ahead : (runner : Runner) (code : ObjectCode) (r : Robot) (i : ℕ) (f : Field) (trace : List ℤ) (n : ℕ)
+    → n ≤ runner.ahead → is_live f i ≡ true → IsRobotOf code r → IsAt runner code trace
+    → RunsAlone r i f trace n × IsAt (record { machine = runner.machine; ahead = runner.ahead - n }) code (alone r i f trace n)
+goes_ahead runner code r i f trace n within live is at =
+    let quiet = quiet_less r trace n runner.ahead within (at.quiet r is) in (
+      quiet_runs r i f trace n live quiet,
+      rw (quiet_alone r i f trace n live quiet) (at_less runner n code trace within at),
+    )
+
+-- one robot more is ahead
+pub ahead_more : (n cycles : ℕ) (arena : Ground) (runners : List Runner) → AreAhead n cycles arena runners
+    → ((none : Runner) → lives arena n ≡ true → cycles ≤ (get_or runners n none).ahead) → AreAhead (n + 1) cycles arena runners
+ahead_more n cycles arena runners before here i none within lives = elim (cases_lt i n) [
+  | inl less ↦ before i none less lives
+  | inr last ↦
+      let same : i ≡ n = omega arith in
+      rw same (here none (rw same at lives))
+]
+
+-- So many robots have passed the window; the others are at its begin.
+pub record HavePassed (robots : List Robot) (codes : List ObjectCode) (k w : ℕ) (runners : List Runner) (arena : Ground) (opened : Stage) : Type 0 where
+  pub next : List ℕ
+  pub slots : AreSlots next
+  pub done : (i : ℕ) → i < k → 4 * w ≤ get_or next i 0
+  pub begin : (i : ℕ) → k ≤ i → i < length codes → get_or next i 0 ≡ i
+  pub past : (i : ℕ) → length codes ≤ i → i < 4 → 4 * w ≤ get_or next i 0
+  pub come : HasCome robots codes next w runners arena opened
+
+slot_of : ℕ → ℕ → ℕ → ℕ
+slot_of n w i = if nat_lt i n then i else 4 * w + i
+
+slot_in : (n w i : ℕ) → i < n → slot_of n w i ≡ i
+unfolding slot_of
+slot_in n w i inside = let yes : nat_lt i n ≡ true = grind (arith, nat_tests) in rw yes refl
+
+slot_past : (n w i : ℕ) → n ≤ i → slot_of n w i ≡ 4 * w + i
+unfolding slot_of
+slot_past n w i outside = let no : nat_lt i n ≡ false = grind (arith, nat_tests) in rw no refl
+
+slot_own : (n w i : ℕ) → i < 4 → slot_of n w i % 4 ≡ i
+slot_own n w i small = elim (cases_lt i n) [
+  | inl inside ↦ rw (slot_in n w i inside) (omega arith)
+  | inr outside ↦ rw (slot_past n w i outside) (omega arith)
+]
+
+-- the slots before the window
+slots_of : ℕ → ℕ → List ℕ
+slots_of n w = slot_of n w 0 ∷ slot_of n w 1 ∷ slot_of n w 2 ∷ slot_of n w 3 ∷ []
+
+slots_at : (n w i : ℕ) → i < 4 → get_or (slots_of n w) i 0 ≡ slot_of n w i
+unfolding slots_of
+slots_at n w zero small = refl
+slots_at n w (suc zero) small = refl
+slots_at n w (suc (suc zero)) small = refl
+slots_at n w (suc (suc (suc zero))) small = refl
+slots_at n w (suc (suc (suc (suc i)))) small = absurd (omega arith)
+
+slots_are : (n w : ℕ) → AreSlots (slots_of n w)
+unfolding slots_of
+slots_are n w = record {
+  four = refl;
+  own = λ i small. rw (slots_at n w i small) (slot_own n w i small);
+}
+
+pub none_passed : (robots : List Robot) (codes : List ObjectCode) (w : ℕ) (runners : List Runner) (arena : Ground) (s : Stage)
+    → AreRobotsOf codes robots → length codes ≤ 4 → HasReached runners codes arena s → HavePassed robots codes 0 w runners arena s
+none_passed robots codes w runners arena s are few reached =
+    let n = length codes in
+    let first : (i : ℕ) → i < n → i < 4 → get_or (slots_of n w) i 0 ≡ i = λ i inside small. slots_at n w i small ∙ slot_in n w i inside in
+    let past : (i : ℕ) → n ≤ i → i < 4 → 4 * w ≤ get_or (slots_of n w) i 0 = λ i outside small. omega (arith, slots_at n w i small, slot_past n w i outside) in
+    record {
+      next = slots_of n w;
+      slots = slots_are n w;
+      done = λ i low. absurd (omega arith);
+      begin = λ i from inside. first i inside (omega arith);
+      past = past;
+      come = opens robots codes (slots_of n w) w runners arena s are (slots_are n w) few first past reached;
+    }
+
+pub one_passes : (robots : List Robot) (codes : List ObjectCode) (k w : ℕ) (runners : List Runner) (arena : Ground) (s : Stage)
+    (code : ObjectCode) (none after : Runner)
+    → AreRobotsOf codes robots → length codes ≤ 4 → k < length codes → 0 < w → slice_get codes k ≡ Some code
+    → HavePassed robots codes k w runners arena s → HasGoneOn k code w (get_or runners k none) after arena arena
+    → HavePassed robots codes (k + 1) w (set runners k after) arena s
+one_passes robots codes k w runners arena s code none after are few inside some here passed gone =
+    let here' : get_or passed.next k 0 ≡ k = passed.begin k (omega arith) inside in
+    let four = passed.slots.four in
+    let next = set passed.next k (get_or passed.next k 0 + 4 * w) in
+    let own : get_or next k 0 ≡ get_or passed.next k 0 + 4 * w = get_or-set_same passed.next k (get_or passed.next k 0 + 4 * w) 0 (omega arith) in
+    let other = λ (i : ℕ) (distinct : i ≢ k). get_or-set_other passed.next k i (get_or passed.next k 0 + 4 * w) 0 distinct in
+    record {
+      next = next;
+      slots = slots_set passed.next k w passed.slots (omega arith);
+      done = λ i low. elim (cases_eq i k) [
+        | inl same ↦ rw (same, own) (omega arith)
+        | inr distinct ↦ rw (other i distinct) (passed.done i (omega (arith, low, distinct)))
+      ];
+      begin = λ i from within.
+          let distinct : i ≢ k = omega arith in
+          other i distinct ∙ passed.begin i (omega arith) within;
+      past = λ i from small.
+          let distinct : i ≢ k = omega arith in
+          rw (other i distinct) (passed.past i from small);
+      come = come_on robots codes passed.next w w k runners arena arena s code none after are passed.slots (omega arith) inside
+          (omega (arith, here')) some (least passed) passed.come here gone;
+    }
+  where
+    least : (p : HavePassed robots codes k w runners arena s) → (j : ℕ) → j < 4 → get_or p.next k 0 ≤ get_or p.next j 0
+    least p j small = elim (cases_lt j k) [
+      | inl low ↦ omega (arith, p.begin k (omega arith) inside, p.done j low)
+      | inr high ↦ elim (cases_lt j (length codes)) [
+        | inl within ↦ omega (arith, p.begin k (omega arith) inside, p.begin j high within)
+        | inr outside ↦ omega (arith, p.begin k (omega arith) inside, p.past j outside small)
+      ]
+    ]
+
+pub all_passed : (robots : List Robot) (codes : List ObjectCode) (w : ℕ) (runners : List Runner) (arena : Ground) (s : Stage)
+    → HavePassed robots codes (length codes) w runners arena s → HasReached runners codes arena (rounds robots w s)
+all_passed robots codes w runners arena s passed =
+    closes robots codes passed.next w runners arena s (λ i small. elim (cases_lt i (length codes)) [
+      | inl inside ↦ passed.done i inside
+      | inr outside ↦ passed.past i outside small
+    ]) passed.come
+
+-- a robot's code, and its runner
+pub code_at : (codes : List ObjectCode) (k : ℕ) → k < length codes → (code : ObjectCode) × (slice_get codes k ≡ Some code)
+code_at [] k inside = absurd (omega arith)
+code_at (code ∷ codes) zero inside = (code, refl)
+code_at (code ∷ codes) (suc k) inside = code_at codes k (omega arith)
+
+-- what a robot does alone leaves the arena as it is
+pub gone_alone : (i : ℕ) (code : ObjectCode) (n : ℕ) (runner after : Runner) (arena : Ground)
+    → ((r : Robot) (f : Field) (trace : List ℤ) → IsRobotOf code r → IsGroundOf arena f → IsAt runner code trace
+    → RunsAlone r i f trace n × IsAt after code (alone r i f trace n))
+    → HasGoneOn i code n runner after arena arena
+gone_alone i code n runner after arena on = record {
+  on = λ r f trace is ground at.
+      let now = on r f trace is ground at in (f, alone r i f trace n, inl (now.0, refl, refl), ground, now.1);
+}
+
+-- one machine stays as it is
+pub fits_still : (runners : List Runner) (codes : List ObjectCode) (k : ℕ) (none after : Runner) → k < length runners
+    → after.machine ≡ (get_or runners k none).machine → EachFits runners codes → EachFits (set runners k after) codes
+fits_still runners codes k none after inside same fits =
+    let here = code_at codes k (omega (arith, inside, fits_length runners codes fits)) in
+    let still : FitsProgram after.machine here.0 = rw same (fits_at runners codes k here.0 none fits here.1) in
+    fits_set runners codes k after here.0 fits here.1 still
+
+-- there is a runner for each code
+pub runners_length : (runners : List Runner) (codes : List ObjectCode) (traces : List (List ℤ)) → EachIsAt runners codes traces
+    → length runners ≡ length codes
+runners_length [] [] [] at = refl
+runners_length (runner ∷ runners) (code ∷ codes) (trace ∷ traces) at = ap suc (runners_length runners codes traces at.1)
+runners_length _ _ _ at = absurd at

@@ -1,0 +1,5 @@
+use Rattle.battles.specs.Windows.{AreAhead}
+use Rattle.battles.proofs.passing.are_ahead.Given as goal
+
+abbrev pub invariant-loop-robot : goal.invariant-loop-robot
+invariant-loop-robot l = AreAhead l.robot l.cycles l.arena l.runners
