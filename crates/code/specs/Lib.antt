@@ -7,6 +7,7 @@ pub mod Making
 pub mod Told
 pub mod Finishing
 pub mod Places
+pub mod Opcodes
 pub mod Standing
 pub mod Codes
 pub mod Laws

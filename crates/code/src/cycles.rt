@@ -27,8 +27,8 @@ impl Cells {
         ensures code { (trace : List ℤ) → StandsFor (state_at place self.now) program.now trace
             → result ≡ want_code program.now trace }
     {
-        let instr = self.instr(program, place);
-        self.wanted(program, place, instr)
+        let opcode = self.opcode(program, place);
+        self.wanted(program, place, opcode)
     }
 
     /// Takes the reply to what the machine wants, which isn't a restart.
@@ -40,11 +40,11 @@ impl Cells {
             → StandsFor (state_at result self.new) program.now (trace ++ reply ∷ []) }
         ensures fits { FitsProgram (state_at result self.new) program.now }
     {
-        let instr = self.instr(program, place);
-        match self.step(program, place, instr) {
-            Some(next) => next,
-            None => self.answer(place, reply),
+        let coast = self.coast(program, place, 1);
+        if coast.cycles == 1 {
+            return coast.place;
         }
+        self.reply(program, coast.place, reply)
     }
 
     /// Takes the reply to what the machine asks.
@@ -57,7 +57,7 @@ impl Cells {
             → StandsFor (state_at result self.new) program.now (trace ++ reply ∷ []) }
         ensures fits { FitsProgram (state_at result self.new) program.now }
     {
-        let _instr = self.instr(program, place);
+        let _opcode = self.opcode(program, place);
         self.answer(place, reply)
     }
 
@@ -73,8 +73,8 @@ impl Cells {
         let mut place = from;
         let mut left = most;
         while left > 0 {
-            let instr = self.instr(program, place);
-            match self.step(program, place, instr) {
+            let opcode = self.opcode(program, place);
+            match self.step(program, place, opcode) {
                 Some(next) => place = next,
                 None => {
                     return Coast {

@@ -6,6 +6,7 @@ ghost use Rattle.code.specs.Spelling.{instr_text, variable_text, callee_text};
 
 use crate::instr::Instr;
 use crate::limits::MOST_INSTRUCTIONS;
+use crate::opcode::Coded;
 use crate::operators::{operator_punctuator, store_punctuator};
 use crate::program::Program;
 use crate::text::{Line, put_in_five_columns, put_name, put_number, put_text, put_value};
@@ -146,7 +147,7 @@ fn put_name_line(line: &mut Line, names: &[Name], n: usize)
 
 // A line of the code: how many instructions there are, or one of them.
 #[tactic(auto, using(crate::proofs::Lines::instr_line_at))]
-fn put_code_line(line: &mut Line, instrs: &[Instr], n: usize)
+fn put_code_line(line: &mut Line, instrs: &[Coded], n: usize)
     requires empty { line.old.items ≡ [] }
     requires few { length instrs.now ≤ MOST_INSTRUCTIONS }
     requires within { n ≤ length instrs.now }
@@ -156,7 +157,7 @@ fn put_code_line(line: &mut Line, instrs: &[Instr], n: usize)
         put_text(line, "Code ");
         put_number(line, instrs.len() as u16);
     } else {
-        put_instr_line(line, n as u16 - 1, instrs[n - 1]);
+        put_instr_line(line, n as u16 - 1, instrs[n - 1].instr());
     }
 }
 

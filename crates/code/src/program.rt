@@ -6,8 +6,8 @@ ghost use Rattle.code.specs.Finishing.{IsOfSomeFile};
 ghost use Rattle.code.specs.Listing.{functions_lines};
 ghost use Rattle.code.specs.Machine.{names_at, address_at};
 
-use crate::instr::Instr;
 use crate::limits::{MOST_FRAMES, MOST_INSTRUCTIONS, MOST_WORDS};
+use crate::opcode::Coded;
 use arrayvec::ArrayVec;
 use grammar::{Function, MOST_NAMES, Pools, Profile};
 use std::marker::Model;
@@ -16,7 +16,7 @@ use std::marker::Model;
 #[derive(Drop)]
 pub struct Program {
     pub(crate) profile: Profile,
-    pub(crate) code: ArrayVec<Instr, MOST_INSTRUCTIONS>,
+    pub(crate) code: ArrayVec<Coded, MOST_INSTRUCTIONS>,
     pub(crate) addresses: ArrayVec<u16, MOST_NAMES>,
     pub(crate) names: Pools,
     pub(crate) main: u8,
@@ -82,7 +82,7 @@ impl Program {
 
     /// The instructions: the address of each is its place.
     #[inline(always)]
-    pub fn instructions(&self) -> &[Instr]
+    pub fn instructions(&self) -> &[Coded]
         ensures code { result.now ≡ self.now.instructions }
         ensures most { length result.now ≤ MOST_INSTRUCTIONS }
         ensures file { IsOfSomeFile self.now }

@@ -4,6 +4,7 @@ use Rattle.code.specs.declared.instr.Instr.{Instr}
 use Rattle.code.specs.declared.instr.Instr.TheVariants.{Fcall}
 use Rattle.grammar.specs.declared.names.Callee.TheVariants as callee
 use Rattle.code.specs.Machine.{done_with}
+use Rattle.code.specs.Opcodes.{instr_of}
 use Rattle.code.specs.Places.{state_at}
 use Rattle.code.proofs.Coasting.{asking, asked_frame, asked_room}
 use Rattle.code.proofs.Machines.{advances}
@@ -13,29 +14,29 @@ pub answer-requires : goal.answer-requires
 answer-requires c =
     let code = c.args.program.now in
     let m = state_at c.args.place c.args.self.now in
-    let i = c.instr-instr.result.now in
-    let asks = asking code m i c.requires.asks.0 c.requires.asks.1 c.instr-instr.ensures.here c.requires.asks.2 in
-    let frame = asked_frame code m i asks.1.0 asks.1.1 c.instr-instr.ensures.ready in
+    let i = instr_of c.opcode-opcode.result.now in
+    let asks = asking code m i c.requires.asks.0 c.requires.asks.1 c.opcode-opcode.ensures.here c.requires.asks.2 in
+    let frame = asked_frame code m i asks.1.0 asks.1.1 c.opcode-opcode.ensures.ready in
     let room = asked_room code m i asks.1.0 asks.1.1 asks.0 in
     record {
       opened = frame.0;
       there = frame.1;
-      room = omega (arith, room, c.instr-instr.ensures.words);
-      within = c.instr-instr.ensures.within;
+      room = omega (arith, room, c.opcode-opcode.ensures.words);
+      within = c.opcode-opcode.ensures.within;
     }
 
 pub returns-clause-stands : goal.returns-clause-stands
 returns-clause-stands c trace stands =
     let code = c.args.program.now in
     let m = state_at c.args.place c.args.self.now in
-    let i = c.instr-instr.result.now in
-    let asks = asking code m i c.requires.asks.0 c.requires.asks.1 c.instr-instr.ensures.here c.requires.asks.2 in
+    let i = instr_of c.opcode-opcode.result.now in
+    let asks = asking code m i c.requires.asks.0 c.requires.asks.1 c.opcode-opcode.ensures.here c.requires.asks.2 in
     let done =
     c.answer.ensures code asks.1.0
     ∙ ap (λ (reply : ℤ). done_with code reply m (Some (Fcall (callee.Intrinsic asks.1.0)))) (to_z-of_z w32 c.args.reply c.ranges.reply)
     ∙ ap (λ (i : Instr). done_with code c.args.reply m (Some i)) (sym asks.1.1)
     in
-    advances m (state_at c.answer.result c.answer.new.self) code i c.args.reply c.instr-instr.ensures.here asks.0 done trace stands
+    advances m (state_at c.answer.result c.answer.new.self) code i c.args.reply c.opcode-opcode.ensures.here asks.0 done trace stands
 
 pub returns-clause-fits : goal.returns-clause-fits
 returns-clause-fits c = record {
