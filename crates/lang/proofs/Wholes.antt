@@ -2,7 +2,7 @@
 use Rattle.std.proofs.Common.{◌≡◌, ℕ, List, [], ◌∷◌, ◌++◌, refl, sym, ap, ◌∙◌, subst, Bool, true, false, drop, ◌+◌, ◌≤◌, append_assoc, arith}
 use Rattle.std.specs.Option.{option_map}
 use Rattle.std.specs.Prelude.{Option, Some, None, Ok, Err, Result, is_some}
-use Rattle.tokens.specs.Reading.{open_reach_of, reach_of}
+use Rattle.tokens.specs.Reading.{undecided_reach_of, reach_of}
 use Rattle.tokens.specs.Tokens.{is_last, tokens}
 use Rattle.tokens.specs.Window.{Takes as TakesBytes}
 use Rattle.tokens.proofs.ReadingLemmas.{open-to_last, open-within}
@@ -35,9 +35,9 @@ use Rattle.grammar.specs.Finished.{IsFinished, PassesAll}
 use Rattle.grammar.proofs.FileLaws.{finished, undefined, without_main}
 use Rattle.parsing.specs.Position.{GoesOn, Place, Position, next_at, scope_at, tokens_at}
 use Rattle.parsing.specs.Stopping.{NoneBefore, Stop, Stops, stop_with}
-use Rattle.parsing.specs.Segment.{IsNearTo, Refused, StopsFirst, StopsOpening, Takes}
+use Rattle.parsing.specs.Segment.{IsNearTo, Refused, StopsFirst, StopsAtFirst, Takes}
 use Rattle.parsing.proofs.Segments.{functions_here, near_told, none_back, none_before, stops_here, told_goes}
-use Rattle.lang.specs.Files.{BuildsAhead, FailsBytes, HasBuilt, LeavesOpen, IsFile, IsNew, Says, StopsTaking, TakesNoMore, TakesUpTo}
+use Rattle.lang.specs.Files.{BuildsAhead, FailsBytes, HasBuilt, LeavesUndecided, IsFile, IsNew, Says, StopsTaking, TakesNoMore, TakesUpTo}
 use Rattle.lang.specs.Progress.{ADefinition, AMain, IsComplete, IsTold, Lacks, ReadsOn, StopsReading, StopsTelling, at_source}
 use Rattle.lang.proofs.Built.{IsAmongDefined, built_by_stop}
 
@@ -152,13 +152,13 @@ stopped used before after told at (refusal.Source d) allocates nothing tells h =
 stopped used before after told at refusal.Device allocates nothing tells h = tt
 stopped used before after told at refusal.Memory allocates nothing tells h = h.0
 
-first_fails : (before : Meaning) (told told' : Option (List ℕ)) (d : Diagnostic) → StopsOpening told told' (refusal.Source d) → FailsBytes before told d
+first_fails : (before : Meaning) (told told' : Option (List ℕ)) (d : Diagnostic) → StopsAtFirst told told' (refusal.Source d) → FailsBytes before told d
 first_fails before told told' d stops bytes shows profile h =
     let s : (is_fault (next_of (tokens bytes)) ≡ true) × (d ≡ diagnostic (line_of (tokens bytes)) (misfit_code (next_of (tokens bytes)))) = stops.refused.lexical_error (tokens bytes) (ap (option_map tokens) shows) in
     compiled_as profile bytes (tokens bytes) (Err d) refl
     (fault_verdict profile (tokens bytes) d (rw s.1 (at_fault profile at_source (tokens bytes) [] no_names [] s.0)))
 
-pub first_refused : (before : Meaning) (told told' : Option (List ℕ)) (f : ParseFault) (more : Bool) → StopsOpening told told' f → Says (FailsBytes before told) more f
+pub first_refused : (before : Meaning) (told told' : Option (List ℕ)) (f : ParseFault) (more : Bool) → StopsAtFirst told told' f → Says (FailsBytes before told) more f
 first_refused before told told' (refusal.Source d) more stops = first_fails before told told' d stops
 first_refused before told told' refusal.Device more stops = tt
 first_refused before told told' refusal.Memory more stops = let never : false ≡ true = stops.refused.0 in absurd (cc)
@@ -184,7 +184,7 @@ has_taken first used told between there to_come opened took same limited = recor
 }
 
 leaves_open : (profile : Profile) (bytes : List ℕ) (to_come : Option (List ℕ)) (used : ℕ) (passed rest : List LocatedToken) → tokens bytes ≡ passed ++ rest → NoneBefore profile (start (tokens bytes)) rest →
-    to_come ≡ Some (drop used bytes) → used ≤ 1048577 → used ≤ open_reach_of rest → LeavesOpen profile bytes to_come
+    to_come ≡ Some (drop used bytes) → used ≤ 1048577 → used ≤ undecided_reach_of rest → LeavesUndecided profile bytes to_come
 leaves_open profile bytes to_come used passed rest is none took limited taken =
     let up_to : reach_of rest ≤ need profile bytes = what_was_read_is_needed profile bytes passed rest is none.each in
     record { count = used; took = took; needed = omega (arith, up_to, open-within rest used taken); undecided = open-to_last bytes passed rest used is taken; limited = limited }
@@ -206,7 +206,7 @@ stops_taking used before after told to_come at refusal.Memory allocates nothing 
     let s = stops_reading before after told at (stop_with refusal.Memory used) nothing tells h.1 bytes shows profile stands in
     takes_up_to profile bytes to_come used 4096 s.passed s.rest s.is s.none_before (taken.took bytes shows) taken.limited s.taken
 
-pub first_taking : (before : Meaning) (told to_come : Option (List ℕ)) (f : ParseFault) → StopsOpening told to_come f → StopsTaking before told to_come f
+pub first_taking : (before : Meaning) (told to_come : Option (List ℕ)) (f : ParseFault) → StopsAtFirst told to_come f → StopsTaking before told to_come f
 first_taking before told to_come (refusal.Source d) stops = λ bytes shows profile stands.
     takes_up_to profile bytes to_come stops.taken 4096 [] (tokens bytes) refl (none_before profile (start (tokens bytes))) (stops.took bytes shows) stops.limited (stops.refused.taken (tokens bytes) (ap (option_map tokens) shows))
 first_taking before told to_come refusal.Device stops = λ bytes shows profile stands.
@@ -261,16 +261,16 @@ reading_builds used before after told to_come at refusal.Memory allocates device
 
 opening_builds : (before : Meaning) (told to_come : Option (List ℕ)) (used : ℕ) → HasTaken used told to_come → StopsFirst (option_map tokens told) (stop_with refusal.Device used) → BuildsAhead before before told to_come
 opening_builds before told to_come used taken stops bytes shows profile h =
-    let some : used ≤ open_reach_of (tokens bytes) = stops.taken (tokens bytes) (ap (option_map tokens) shows) in
+    let some : used ≤ undecided_reach_of (tokens bytes) = stops.taken (tokens bytes) (ap (option_map tokens) shows) in
     let s : Stops profile (start (tokens bytes)) (stop_with refusal.Device used) = stops_here profile (start (tokens bytes)) (stop_with refusal.Device used) tt some in
     builds_by before profile bytes to_come used s (taken.took bytes shows) (first_told before profile bytes used some h)
   where
-    first_told : (before : Meaning) (profile : Profile) (bytes : List ℕ) (used : ℕ) (some : used ≤ open_reach_of (tokens bytes)) → before profile [] →
+    first_told : (before : Meaning) (profile : Profile) (bytes : List ℕ) (used : ℕ) (some : used ≤ undecided_reach_of (tokens bytes)) → before profile [] →
         IsTold before profile (run (stops_here profile (start (tokens bytes)) (stop_with refusal.Device used) tt some).steps (start (tokens bytes))).functions
     first_told before profile bytes used some h = rw (functions_here profile (start (tokens bytes)) (stop_with refusal.Device used) tt some) (record { more = []; stands = h })
 
 -- at the first token nothing was told
-pub first_builds : (before : Meaning) (told to_come : Option (List ℕ)) (f : ParseFault) → refusal.Device ≡ f → StopsOpening told to_come f → BuildsAhead before before told to_come
+pub first_builds : (before : Meaning) (told to_come : Option (List ℕ)) (f : ParseFault) → refusal.Device ≡ f → StopsAtFirst told to_come f → BuildsAhead before before told to_come
 first_builds before told to_come (refusal.Source d) device stops = absurd (cc)
 first_builds before told to_come refusal.Device device stops = opening_builds before told to_come stops.taken (record { took = stops.took; limited = stops.limited }) stops.refused
 first_builds before told to_come refusal.Memory device stops = absurd (cc)

@@ -1,6 +1,6 @@
 -- What a parse gives: a file, or its first fault.
 use Rattle.std.specs.Prelude.{ℕ, ◌+◌, ◌≡◌, ◌≤◌, List, [], ◌++◌, drop, map, Bool, IsTrue, Option, Some, Ok, Err}
-use Rattle.tokens.specs.Ends.{last_open_until}
+use Rattle.tokens.specs.Ends.{last_undecided_until}
 use Rattle.tokens.specs.Tokens.{tokens}
 use Rattle.parsing.specs.Advancing.{most_bytes}
 use Rattle.grammar.specs.declared.diagnostics.Diagnostic.{Diagnostic}
@@ -53,11 +53,11 @@ pub record TakesUpTo (profile : Profile) (bytes : List ℕ) (to_come : Option (L
 
 -- from a device that tells its bytes no more were taken than may leave open what they are: none past what decides that,
 -- and if they have a bad character, fewer than with this one
-pub record LeavesOpen (profile : Profile) (bytes : List ℕ) (to_come : Option (List ℕ)) : Type 0 where
+pub record LeavesUndecided (profile : Profile) (bytes : List ℕ) (to_come : Option (List ℕ)) : Type 0 where
   pub count : ℕ
   pub took : to_come ≡ Some (drop count bytes)
   pub needed : count ≤ need profile bytes
-  pub undecided : count ≤ last_open_until (tokens bytes)
+  pub undecided : count ≤ last_undecided_until (tokens bytes)
   pub limited : count ≤ most_bytes
 
 -- so few were taken by each profile that the builder goes by, where the device tells its bytes
@@ -69,7 +69,7 @@ TakesNoMore before told to_come more =
 -- so they may leave it open by each profile that the builder goes by, where the device tells its bytes
 abbrev pub StaysUndecided : Meaning → (told to_come : Option (List ℕ)) → Type 0
 StaysUndecided before told to_come =
-    (bytes : List ℕ) → told ≡ Some bytes → (profile : Profile) → before profile [] → LeavesOpen profile bytes to_come
+    (bytes : List ℕ) → told ≡ Some bytes → (profile : Profile) → before profile [] → LeavesUndecided profile bytes to_come
 
 -- what was taken where no file is answered: a window past what decides the source at most, and where the device failed,
 -- so few bytes that they may leave it open

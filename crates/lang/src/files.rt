@@ -60,11 +60,11 @@ pub fn parse<F: Feed, B: Build>(feed: &mut F, build: &mut B) -> Result<Pools, Pa
 
 /// `source → end`, `type types head source` and `name ( params ) pdecls block source`
 fn source<F: Feed, B: Build>(parser: &mut Parser<'_, F>, build: &mut B) -> Result<(), ParseFault>
-    requires open { StandsOpen (B.stands build.old) [] }
+    requires closed { StandsOpen (B.stands build.old) [] }
     requires ready { IsReady parser.old }
     ensures reads { ReadsParts result B.allocates (B.stands build.old) (B.stands build.new)
         at_source parser.old parser.new }
-    ensures open { OnOk result (StandsOpen (B.stands build.new) []) }
+    ensures closed { OnOk result (StandsOpen (B.stands build.new) []) }
     ensures ended { OnOk result (is_end (token_of parser.new) ≡ true) }
     ensures kept { Keeps result parser.old parser.new }
 {
@@ -76,12 +76,12 @@ fn source<F: Feed, B: Build>(parser: &mut Parser<'_, F>, build: &mut B) -> Resul
 
 /// `type types head` or `name ( params ) pdecls block`
 fn part<F: Feed, B: Build>(parser: &mut Parser<'_, F>, build: &mut B) -> Result<(), ParseFault>
-    requires open { StandsOpen (B.stands build.old) [] }
+    requires closed { StandsOpen (B.stands build.old) [] }
     requires ready { IsReady parser.old }
     requires more { token_of parser.old ≡ token.End → ⊥ }
     ensures reads { ReadsParts result B.allocates (B.stands build.old) (B.stands build.new)
         at_source parser.old parser.new }
-    ensures open { OnOk result (StandsOpen (B.stands build.new) []) }
+    ensures closed { OnOk result (StandsOpen (B.stands build.new) []) }
     ensures kept { Advances result parser.old parser.new }
 {
     if is_word(&parser.peek().token, Word::Type) {
@@ -96,12 +96,12 @@ fn part<F: Feed, B: Build>(parser: &mut Parser<'_, F>, build: &mut B) -> Result<
 
 /// `type types head`
 fn typed<F: Feed, B: Build>(parser: &mut Parser<'_, F>, build: &mut B) -> Result<(), ParseFault>
-    requires open { StandsOpen (B.stands build.old) [] }
+    requires closed { StandsOpen (B.stands build.old) [] }
     requires ready { IsReady parser.old }
     requires is { is_word word.Type (token_of parser.old) ≡ true }
     ensures reads { ReadsParts result B.allocates (B.stands build.old) (B.stands build.new)
         at_source parser.old parser.new }
-    ensures open { OnOk result (StandsOpen (B.stands build.new) []) }
+    ensures closed { OnOk result (StandsOpen (B.stands build.new) []) }
     ensures kept { Advances result parser.old parser.new }
 {
     parser.expect_word(Word::Type)?;
@@ -112,11 +112,11 @@ fn typed<F: Feed, B: Build>(parser: &mut Parser<'_, F>, build: &mut B) -> Result
 
 /// `head → name ( params ) pdecls block` and `head → name more ;`
 fn head<F: Feed, B: Build>(parser: &mut Parser<'_, F>, build: &mut B) -> Result<(), ParseFault>
-    requires open { StandsOpen (B.stands build.old) [] }
+    requires closed { StandsOpen (B.stands build.old) [] }
     requires ready { IsReady parser.old }
     ensures reads { ReadsParts result B.allocates (B.stands build.old) (B.stands build.new)
         (Part Head ∷ at_source) parser.old parser.new }
-    ensures open { OnOk result (StandsOpen (B.stands build.new) []) }
+    ensures closed { OnOk result (StandsOpen (B.stands build.new) []) }
     ensures kept { Advances result parser.old parser.new }
 {
     match parser.peek().token {

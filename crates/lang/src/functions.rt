@@ -20,11 +20,11 @@ pub fn function<F: Feed, B: Build>(
     parser: &mut Parser<'_, F>,
     build: &mut B,
 ) -> Result<(), ParseFault>
-    requires open { StandsOpen (B.stands build.old) [] }
+    requires closed { StandsOpen (B.stands build.old) [] }
     requires ready { IsReady parser.old }
     ensures reads { ReadsParts result B.allocates (B.stands build.old) (B.stands build.new)
         at_definition parser.old parser.new }
-    ensures open { OnOk result (StandsOpen (B.stands build.new) []) }
+    ensures closed { OnOk result (StandsOpen (B.stands build.new) []) }
     ensures kept { Advances result parser.old parser.new }
 {
     let number = heading(parser)?;

@@ -2,7 +2,7 @@
 use Rattle.std.proofs.Common.{◌≡◌, ℕ, ◌+◌, ◌≤◌, drop, length, List, [], ◌∷◌, ◌++◌, refl, sym, ap, ◌∙◌, subst, Bool, true, false, append_assoc, arith}
 use Rattle.std.specs.Prelude.{Option, Some, None, cond}
 use Rattle.std.specs.Option.{option_map}
-use Rattle.tokens.specs.Reading.{IsNear, Reading, reach, open_reach_of, reach_of, shown, taken}
+use Rattle.tokens.specs.Reading.{IsNear, Reading, reach, undecided_reach_of, reach_of, shown, taken}
 use Rattle.tokens.specs.Tokens.{is_last, followed_by, tokens}
 use Rattle.tokens.specs.declared.located_tokens.LocatedToken.{LocatedToken}
 use Rattle.tokens.specs.declared.located_tokens.Token.{Token}
@@ -22,7 +22,7 @@ use Rattle.tokens.proofs.ReadingLemmas.{open-within}
 use Rattle.parsing.proofs.StrictEnds.{reach_limited}
 use Rattle.parsing.specs.Position.{Position, Place, place, GoesOn, tokens_at, next_at, scope_at}
 use Rattle.parsing.specs.Stopping.{IfSource, NoneBefore, Stop, Stops, StopsInside, most_taken, stop_with}
-use Rattle.parsing.specs.Segment.{Derives, FailsAt, FailsItem, GoesPast, HasLexicalError, IsNearTo, Refused, StopsAt, StopsOpening, Takes}
+use Rattle.parsing.specs.Segment.{Derives, FailsAt, FailsItem, GoesPast, HasLexicalError, IsNearTo, Refused, StopsAt, StopsAtFirst, Takes}
 
 -- The tokens at a place.
 
@@ -339,7 +339,7 @@ exit_item n depth inner front item below taken under at now more f a opens =
 -- At the first token.
 
 pub no_opening : (told told' : Option (List ℕ)) →
-    ((bytes : List ℕ) → told ≡ Some bytes → (count : ℕ) × (told' ≡ Some (drop count bytes)) × (count ≤ open_reach_of (tokens bytes))) → StopsOpening told told' refusal.Device
+    ((bytes : List ℕ) → told ≡ Some bytes → (count : ℕ) × (told' ≡ Some (drop count bytes)) × (count ≤ undecided_reach_of (tokens bytes))) → StopsAtFirst told told' refusal.Device
 no_opening None told' h = record {
   taken = 0;
   took = λ bytes e. absurd (cc);
@@ -360,7 +360,7 @@ no_opening (Some bytes) told' h =
 
 -- the first token is a fault
 pub opens_at_lexical_error : (reading : Reading) (told told' : Option (List ℕ)) → shown reading told' ≡ option_map tokens told → told' ≡ option_map (drop (taken reading)) told → IsNear reading → taken reading ≤ 1048577 →
-    is_fault reading.next.token ≡ true → StopsOpening told told' (refusal.Source (diagnostic reading.next.line (misfit_code reading.next.token)))
+    is_fault reading.next.token ≡ true → StopsAtFirst told told' (refusal.Source (diagnostic reading.next.line (misfit_code reading.next.token)))
 opens_at_lexical_error reading told told' shows took near limited lexical_error = record {
   taken = taken reading;
   took = λ bytes e. took ∙ rw e refl;

@@ -106,7 +106,7 @@ Refused stops allocates taken refusal.Device = stops (stop_with refusal.Device t
 Refused stops allocates taken refusal.Memory = IsTrue allocates × stops (stop_with refusal.Memory taken)
 
 -- what a refusal at the first token says, by the bytes to come before and behind
-pub record StopsOpening (told told' : Option (List ℕ)) (fault : ParseFault) : Type 0 where
+pub record StopsAtFirst (told told' : Option (List ℕ)) (fault : ParseFault) : Type 0 where
   pub taken : ℕ
   pub took : (bytes : List ℕ) → told ≡ Some bytes → told' ≡ Some (drop taken bytes)
   pub limited : taken ≤ 1048577

@@ -1,6 +1,6 @@
 -- Where a derivation stops: at its first fault, or where the device failed or a builder was refused memory.
 use Rattle.std.specs.Prelude.{ℕ, ◌+◌, ◌≡◌, ◌≤◌, List, ◌++◌, length}
-use Rattle.tokens.specs.Reading.{open_reach_of, reach_of}
+use Rattle.tokens.specs.Reading.{undecided_reach_of, reach_of}
 use Rattle.tokens.specs.declared.limits.TheConstants.{WINDOW}
 use Rattle.tokens.specs.declared.located_tokens.LocatedToken.{LocatedToken}
 use Rattle.grammar.specs.declared.diagnostics.Diagnostic.{Diagnostic}
@@ -29,7 +29,7 @@ IfSource refusal.Memory says = Unit {0}
 -- second of them open; else a window past it.
 abbrev pub most_taken : ParseFault → List LocatedToken → ℕ
 most_taken (refusal.Source d) rest = reach_of rest + WINDOW
-most_taken refusal.Device rest = open_reach_of rest
+most_taken refusal.Device rest = undecided_reach_of rest
 most_taken refusal.Memory rest = reach_of rest + WINDOW
 
 -- no fault of the derivation stands before these last tokens of the source

@@ -17,7 +17,7 @@ ghost use Rattle.grammar.specs.Tree.{NoMore};
 ghost use Rattle.parsing.specs.Advancing.{IsReadable, most_failures, most_bytes};
 ghost use Rattle.parsing.specs.Position.{with_scope};
 ghost use Rattle.parsing.specs.Roles.{role_of};
-ghost use Rattle.parsing.specs.Segment.{Counts, StopsOpening};
+ghost use Rattle.parsing.specs.Segment.{Counts, StopsAtFirst};
 
 use crate::roles::Declared;
 use crate::token_predicates::{is_punctuator, is_word};
@@ -69,7 +69,7 @@ pub fn first<F: Feed>(feed: &mut F) -> Result<Cursor, ParseFault>
     ensures tokens { IfOk result (λ cursor.
         shown cursor (F.to_come feed.new) ≡ option_map tokens (F.to_come feed.old)) }
     ensures ready { IfOk result IsReadable }
-    ensures refused { IfErr result (StopsOpening (F.to_come feed.old) (F.to_come feed.new)) }
+    ensures refused { IfErr result (StopsAtFirst (F.to_come feed.old) (F.to_come feed.new)) }
     ensures took { IfOk result (λ cursor.
         F.to_come feed.new ≡ option_map (drop (taken cursor)) (F.to_come feed.old)) }
     ensures counted { Counts result (F.failures feed.old) (F.failures feed.new) }

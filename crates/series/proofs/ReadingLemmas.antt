@@ -2,7 +2,7 @@
 use Rattle.std.proofs.Common.{◌≡◌, ◌≢◌, ℕ, ◌+◌, ◌-◌, ◌<◌, List, Option, None, length, drop, get_or, map, set, sym, ap, ◌∙◌, subst, arith, below_more, get_or-set_other, get_or-set_same}
 use Rattle.std.proofs.lemmas.List.{get_or-map, drop-map, length-drop, length-map, map-set}
 use Rattle.grammar.specs.Profile.{Profile}
-use Rattle.series.specs.Reading.{FailsAt, MayLeaveOpen, ReadsFirst, TakesOf, TakesOfFirst}
+use Rattle.series.specs.Reading.{FailsAt, MayLeaveUndecided, ReadsFirst, TakesOf, TakesOfFirst}
 use Rattle.series.proofs.RunsLemmas.{feed_here, rest_more}
 
 module _ {X : Type 0} where
@@ -63,10 +63,10 @@ module _ {X : Type 0} where
   -- the read of a file failed
   pub fails_at : (tells : X → Option (List ℕ)) (profile : Profile) (start feeds : List X) (file : ℕ) (x y : X) → file < length start
       → drop file feeds ≡ drop file start → TakesOfFirst profile (map tells start) (map tells feeds) file
-      → MayLeaveOpen profile (tells (get_or feeds file x)) (tells y)
+      → MayLeaveUndecided profile (tells (get_or feeds file x)) (tells y)
       → FailsAt profile (map tells start) (map tells (set feeds file y)) file
   fails_at tells profile start feeds file x y within same read takes = record {
     before = reads_before tells profile start feeds file y read;
-    here = reads_here (MayLeaveOpen profile) tells start feeds file x y within same takes;
+    here = reads_here (MayLeaveUndecided profile) tells start feeds file x y within same takes;
     unread = unread_of tells start (set feeds file y) (file + 1) (rest_more start feeds file y same);
   }

@@ -1,7 +1,7 @@
 -- How much of the source files a run reads.
 use Rattle.std.specs.Prelude.{◌≡◌, ℕ, ◌+◌, ◌<◌, List, Option, Some, None, Result, MatchResult, drop, get_or, length}
 use Rattle.grammar.specs.Profile.{Profile}
-use Rattle.lang.specs.Files.{LeavesOpen, TakesUpTo}
+use Rattle.lang.specs.Files.{LeavesUndecided, TakesUpTo}
 use Rattle.series.specs.declared.endings.RunFault.{RunFault}
 use Rattle.series.specs.declared.endings.RunFault.TheVariants as fault
 
@@ -10,8 +10,8 @@ abbrev pub TakesOf : Profile → (told later : Option (List ℕ)) → ℕ → Ty
 TakesOf profile told later more = (bytes : List ℕ) → told ≡ Some bytes → TakesUpTo profile bytes later more
 
 -- of a file whose contents are known so few bytes were taken that they may leave open what it is
-abbrev pub MayLeaveOpen : Profile → (told later : Option (List ℕ)) → Type 0
-MayLeaveOpen profile told later = (bytes : List ℕ) → told ≡ Some bytes → LeavesOpen profile bytes later
+abbrev pub MayLeaveUndecided : Profile → (told later : Option (List ℕ)) → Type 0
+MayLeaveUndecided profile told later = (bytes : List ℕ) → told ≡ Some bytes → LeavesUndecided profile bytes later
 
 -- of each of the first files a window of 4,096 bytes at most was taken past what decides it
 abbrev pub TakesOfFirst : Profile → (told later : List (Option (List ℕ))) → ℕ → Type 0
@@ -26,7 +26,7 @@ pub record ReadsFirst (profile : Profile) (told later : List (Option (List ℕ))
 -- the read of this file failed: the bytes taken of it may leave open what it is, and the files after it were not read
 pub record FailsAt (profile : Profile) (told later : List (Option (List ℕ))) (file : ℕ) : Type 0 where
   pub before : TakesOfFirst profile told later file
-  pub here : MayLeaveOpen profile (get_or told file None) (get_or later file None)
+  pub here : MayLeaveUndecided profile (get_or told file None) (get_or later file None)
   pub unread : drop (file + 1) later ≡ drop (file + 1) told
 
 -- what was read if a device stopped the run

@@ -10,7 +10,7 @@ ghost use Rattle.series.specs.Output.{Runs};
 ghost use Rattle.series.specs.Pieces.{taken, Writes, Begins};
 ghost use Rattle.series.specs.Playing.{playing};
 ghost use Rattle.sinks.specs.Portions.{Portions};
-ghost use Rattle.series.specs.Reading.{MayLeaveOpen, Reads, TakesOf};
+ghost use Rattle.series.specs.Reading.{MayLeaveUndecided, Reads, TakesOf};
 ghost use Rattle.series.specs.Runs.{AreSources, Compiles, PutsPieces, programs_by};
 ghost use Rattle.sinks.specs.Texts.{file_name};
 
@@ -208,7 +208,7 @@ pub(crate) fn compile<F: Feed>(
     ensures file { IfOk result (λ compiled. (bytes : List ℕ) → F.to_come feed.old ≡ Some bytes
         → compiled ≡ compiled_code profile bytes) }
     ensures taken { OnOk result (TakesOf profile (F.to_come feed.old) (F.to_come feed.new) 4096) }
-    ensures stopped { OnErr result (MayLeaveOpen profile (F.to_come feed.old) (F.to_come feed.new)) }
+    ensures stopped { OnErr result (MayLeaveUndecided profile (F.to_come feed.old) (F.to_come feed.new)) }
     ensures count { Counts result (F.failures feed.old) (F.failures feed.new) }
 {
     let mut maker = Maker::new(profile);

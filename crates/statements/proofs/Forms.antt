@@ -6,7 +6,7 @@ use Rattle.tokens.specs.declared.located_tokens.Token.TheVariants as token
 use Rattle.tokens.specs.declared.located_tokens.Word.TheVariants as word
 use Rattle.grammar.specs.Grammar.{AWord, Back, Block, Decide, DecideElse, Declarations, ElsePart, Empty, Evaluate, Exactly, Expression, GiveBack, Item, Make, Part, Repeat, Close, Statement, Statements, Zero, is_punctuator, is_word, opens}
 use Rattle.std.specs.Prelude.{List}
-use Rattle.statements.specs.Forms.{opens_statement}
+use Rattle.statements.specs.Forms.{begins_statement}
 use Rattle.parsing.proofs.Parts.{Chooses, punctuator_is, word_is}
 
 -- An expression for its effect.
@@ -16,7 +16,7 @@ pub record Evaluates (t : Token) : Type 0 where
   pub chosen : Chooses Statement t (Part Expression ∷ Exactly punctuator.Semicolon ∷ Make Evaluate ∷ [])
   pub shallow : (after : Token) → opens Statement t after ≡ false
 
-pub evaluates : (t : Token) → opens_statement t ≡ false → Evaluates t
+pub evaluates : (t : Token) → begins_statement t ≡ false → Evaluates t
 evaluates (token.Punctuator punctuator.Semicolon) plain = absurd (cc)
 evaluates (token.Punctuator punctuator.OpenCurly) plain = absurd (cc)
 evaluates (token.Punctuator m) plain = record { chosen = λ after. refl; shallow = λ after. refl }

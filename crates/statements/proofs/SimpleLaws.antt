@@ -12,7 +12,7 @@ use Rattle.parsing.specs.Stopping.{Stop}
 use Rattle.parsing.specs.Segment.{Derives, DerivesItem, FailsAt, FailsItem, GoesPast, StopsAt}
 use Rattle.parsing.proofs.Segments.{fails_behind, joined, stay}
 use Rattle.expressions.specs.Expressions.{AddsExpr}
-use Rattle.statements.specs.Forms.{in_brackets, opens_statement}
+use Rattle.statements.specs.Forms.{in_brackets, begins_statement}
 use Rattle.statements.specs.Statements.{AddsBody, FailsBody}
 use Rattle.statements.proofs.Forms.{Evaluates, empty_chosen, empty_shallow, evaluates, return_chosen, return_shallow, value_chosen, zero_chosen}
 use Rattle.statements.proofs.Joining.{join-done}
@@ -49,32 +49,32 @@ empty_adds at there before depth sound is matched = record {
 
 -- An expression for its effect.
 
-evaluation_stands : (at : Place) (depth : ℕ) (b : Body) → is_fault (next_at at).token ≡ false → opens_statement (next_at at).token ≡ false →
+evaluation_stands : (at : Place) (depth : ℕ) (b : Body) → is_fault (next_at at).token ≡ false → begins_statement (next_at at).token ≡ false →
     Derives depth (Part Statement ∷ []) (Part Expression ∷ Exactly punctuator.Semicolon ∷ Make Evaluate ∷ []) (ABody b ∷ []) (ABody b ∷ []) at at
 evaluation_stands at depth b sound plain =
     let e : Evaluates (next_at at).token = evaluates (next_at at).token plain in
     part_stands at depth Statement (Part Expression ∷ Exactly punctuator.Semicolon ∷ Make Evaluate ∷ []) (ABody b ∷ []) sound e.chosen (free_of depth Statement (next_at at) e.shallow)
 
-pub value_fails : (at : Place) (depth : ℕ) → is_fault (next_at at).token ≡ false → opens_statement (next_at at).token ≡ false → (d : Stop) →
+pub value_fails : (at : Place) (depth : ℕ) → is_fault (next_at at).token ≡ false → begins_statement (next_at at).token ≡ false → (d : Stop) →
     FailsAt depth (Part Expression ∷ []) [] at d → FailsBody depth (Part Statement ∷ []) at d
 value_fails at depth sound plain d fails b =
     fails_behind depth depth (Part Statement ∷ []) (Part Expression ∷ []) (Exactly punctuator.Semicolon ∷ Make Evaluate ∷ []) (ABody b ∷ []) [] (ABody b ∷ []) at at d
     (evaluation_stands at depth b sound plain) (λ stack same. same) fails
 
-value_past : (at now : Place) (before after : Meaning) (depth : ℕ) (b : Body) → is_fault (next_at at).token ≡ false → opens_statement (next_at at).token ≡ false →
+value_past : (at now : Place) (before after : Meaning) (depth : ℕ) (b : Body) → is_fault (next_at at).token ≡ false → begins_statement (next_at at).token ≡ false →
     (h : AddsExpr before after depth 1 (Part Expression ∷ []) [] at now) →
     Derives depth (Part Statement ∷ []) (Exactly punctuator.Semicolon ∷ Make Evaluate ∷ []) (ABody b ∷ []) (AnExpr h.tree ∷ ABody b ∷ []) at now
 value_past at now before after depth b sound plain h =
     joined depth depth (Part Statement ∷ []) (Part Expression ∷ []) [] (Exactly punctuator.Semicolon ∷ Make Evaluate ∷ []) (ABody b ∷ []) [] (AnExpr h.tree ∷ []) (ABody b ∷ []) at at now
     (evaluation_stands at depth b sound plain) h.derives (λ stack same. same)
 
-pub semicolon_fails : (at now : Place) (before after : Meaning) (depth : ℕ) → is_fault (next_at at).token ≡ false → opens_statement (next_at at).token ≡ false →
+pub semicolon_fails : (at now : Place) (before after : Meaning) (depth : ℕ) → is_fault (next_at at).token ≡ false → begins_statement (next_at at).token ≡ false →
     AddsExpr before after depth 1 (Part Expression ∷ []) [] at now → (d : Stop) → FailsItem (Exactly punctuator.Semicolon) now d → FailsBody depth (Part Statement ∷ []) at d
 semicolon_fails at now before after depth sound plain h d fails b =
     fails_behind depth depth (Part Statement ∷ []) (Exactly punctuator.Semicolon ∷ []) (Make Evaluate ∷ []) (ABody b ∷ []) [] (AnExpr h.tree ∷ ABody b ∷ []) at now d
     (value_past at now before after depth b sound plain h) (λ stack same. same) (fails depth)
 
-pub evaluation_adds : (at now there : Place) (before mid after : Meaning) (depth : ℕ) → is_fault (next_at at).token ≡ false → opens_statement (next_at at).token ≡ false →
+pub evaluation_adds : (at now there : Place) (before mid after : Meaning) (depth : ℕ) → is_fault (next_at at).token ≡ false → begins_statement (next_at at).token ≡ false →
     AddsExpr before mid depth 1 (Part Expression ∷ []) [] at now → DerivesItem (Exactly punctuator.Semicolon) [] [] now there → is_fault (next_at there).token ≡ false → Appends mid after Chop →
     AddsBody before after depth (Part Statement ∷ []) [] at there
 evaluation_adds at now there before mid after depth sound plain h matched sound_behind chops = record {

@@ -12,13 +12,13 @@ use Rattle.parsing.specs.Segment.{FailsAt, Refused}
 use Rattle.expressions.specs.Expressions.{AddsExpr}
 
 -- ; { if while return: any other token begins an expression, for its effect
-abbrev pub opens_statement : Token → Bool
-opens_statement (token.Punctuator punctuator.Semicolon) = true
-opens_statement (token.Punctuator punctuator.OpenCurly) = true
-opens_statement (token.Word word.If) = true
-opens_statement (token.Word word.While) = true
-opens_statement (token.Word word.Return) = true
-opens_statement next = false
+abbrev pub begins_statement : Token → Bool
+begins_statement (token.Punctuator punctuator.Semicolon) = true
+begins_statement (token.Punctuator punctuator.OpenCurly) = true
+begins_statement (token.Word word.If) = true
+begins_statement (token.Word word.While) = true
+begins_statement (token.Word word.Return) = true
+begins_statement next = false
 
 -- a condition
 abbrev pub in_brackets : List Item

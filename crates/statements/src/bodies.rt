@@ -11,7 +11,7 @@ ghost use Rattle.parsing.specs.Position.{token_of};
 ghost use Rattle.parsing.specs.Room.{HasPlace, HasRoom, room};
 ghost use Rattle.expressions.specs.Expressions.{Parses};
 ghost use Rattle.statements.specs.Branches.{HasInside, ParsesElse};
-ghost use Rattle.statements.specs.Forms.{ParsesCondition, opens_statement};
+ghost use Rattle.statements.specs.Forms.{ParsesCondition, begins_statement};
 ghost use Rattle.statements.specs.Statements.{ParsesBody};
 
 use expressions::expression;
@@ -234,7 +234,7 @@ fn evaluation<F: Feed, B: Build>(
     depth: u8,
 ) -> Result<(), ParseFault>
     requires open { HasPlace (B.stands build.old) (room depth 1) }
-    requires plain { opens_statement (token_of parser.old) ≡ false }
+    requires plain { begins_statement (token_of parser.old) ≡ false }
     requires ready { IsReady parser.old }
     ensures parses { ParsesBody result B.allocates (B.stands build.old) (B.stands build.new) depth Statement
         parser.old parser.new }

@@ -9,7 +9,7 @@ use Rattle.tokens.specs.Characters.{is_blank, is_letter, is_digit, is_name_byte}
 use Rattle.tokens.specs.Punctuators.{punctuator_of, spelling, longest_punctuator}
 use Rattle.tokens.specs.Front.{Front, Nothing, Space, Unclosed, Sign, front, comment, punctuator, up_to_close, begins_with}
 use Rattle.tokens.specs.Tokens.{Ahead, behind_byte, passed, at_end, last_located_token, is_last, cut, cut_front, located_tokens, from_start, tokens}
-use Rattle.tokens.specs.Ends.{IsRising, AllEndBy, StaysOpen}
+use Rattle.tokens.specs.Ends.{IsRising, AllEndBy, StaysUndecided}
 use Rattle.tokens.specs.declared.located_tokens.Punctuator.{Punctuator}
 use Rattle.tokens.specs.declared.located_tokens.LexicalError.TheVariants.{CommentNotClosed}
 use Rattle.tokens.specs.declared.located_tokens.Token.{Token}
@@ -106,23 +106,23 @@ cut-rising (suc n) a = by (front a.bytes) (front-inside a.bytes) (λ count. cut-
     by (Space count) i h = rising-sooner _ _ _ (place-passed count a) (h count)
     by (Sign sign count) i h = (omega arith, rest (is_last sign) (a.place + count) _ (subst (λ (p : ℕ). IsRising p (cut n (passed count a))) (place-inside count a i) (h count)))
 
-cut-open : (n : ℕ) (a : Ahead) → StaysOpen a.place (cut n a)
+cut-open : (n : ℕ) (a : Ahead) → StaysUndecided a.place (cut n a)
 cut-open zero a = tt
 cut-open (suc n) a = by (front a.bytes) (front-inside a.bytes) (front-is_piece a.bytes) (λ count. cut-open n (passed count a))
   where
-    sooner : (p q : ℕ) (xs : List LocatedToken) → q ≤ p → StaysOpen p xs → StaysOpen q xs
+    sooner : (p q : ℕ) (xs : List LocatedToken) → q ≤ p → StaysUndecided p xs → StaysUndecided q xs
     sooner p q [] h r = tt
     sooner p q (x ∷ xs) h r = (omega (arith, h, r.0), r.1)
 
-    rest : (t : Bool) (p : ℕ) (xs : List LocatedToken) → StaysOpen p xs → StaysOpen p (cond t [] xs)
+    rest : (t : Bool) (p : ℕ) (xs : List LocatedToken) → StaysUndecided p xs → StaysUndecided p (cond t [] xs)
     rest true p xs r = tt
     rest false p xs r = r
 
-    by : (f : Front) → IsInside a.bytes f → IsPiece f → ((count : ℕ) → StaysOpen (passed count a).place (cut n (passed count a))) → StaysOpen a.place (cut_front f a (cut n))
+    by : (f : Front) → IsInside a.bytes f → IsPiece f → ((count : ℕ) → StaysUndecided (passed count a).place (cut n (passed count a))) → StaysUndecided a.place (cut_front f a (cut n))
     by Nothing i p h = (omega (arith, last-open variant.End a.line (at_end a) refl, place-passed (length a.bytes) a), tt)
     by Unclosed i p h = (omega (arith, last-open (variant.Fault CommentNotClosed) a.line (at_end a) refl, place-passed (length a.bytes) a), tt)
     by (Space count) i p h = sooner _ _ _ (place-passed count a) (h count)
-    by (Sign sign count) i p h = (open-placed sign count a p, rest (is_last sign) (a.place + count) _ (subst (λ (p : ℕ). StaysOpen p (cut n (passed count a))) (place-inside count a i) (h count)))
+    by (Sign sign count) i p h = (open-placed sign count a p, rest (is_last sign) (a.place + count) _ (subst (λ (p : ℕ). StaysUndecided p (cut n (passed count a))) (place-inside count a i) (h count)))
 
 abbrev over : Bool → ℕ
 over true = 1
@@ -178,11 +178,11 @@ pub located_tokens-rising : (a : Ahead) → IsRising a.place (located_tokens a)
 unfolding located_tokens
 located_tokens-rising a = cut-rising (suc (length a.bytes)) a
 
-pub located_tokens-open : (a : Ahead) → StaysOpen a.place (located_tokens a)
+pub located_tokens-open : (a : Ahead) → StaysUndecided a.place (located_tokens a)
 unfolding located_tokens
 located_tokens-open a = cut-open (suc (length a.bytes)) a
 
-pub tokens-open : (bytes : List ℕ) → StaysOpen 0 (tokens bytes)
+pub tokens-open : (bytes : List ℕ) → StaysUndecided 0 (tokens bytes)
 unfolding tokens
 tokens-open bytes = located_tokens-open (from_start (source bytes))
 

@@ -4,10 +4,10 @@ use Rattle.std.specs.Option.{option_map}
 use Rattle.std.proofs.lemmas.Option.{same_Some}
 use Rattle.tokens.specs.Source.{source}
 use Rattle.tokens.specs.Tokens.{is_last, followed_by, located_tokens, from_start, tokens}
-use Rattle.tokens.specs.Ends.{StaysOpen, is_decided_by_last_byte, last_open_until, open_until}
+use Rattle.tokens.specs.Ends.{StaysUndecided, is_decided_by_last_byte, last_undecided_until, undecided_until}
 use Rattle.tokens.specs.Window.{Held, ahead, untouched}
 use Rattle.tokens.specs.Lexing.{to_read, followed}
-use Rattle.tokens.specs.Reading.{Reading, shown, unread, remaining, open_reach_of, reach_of}
+use Rattle.tokens.specs.Reading.{Reading, shown, unread, remaining, undecided_reach_of, reach_of}
 use Rattle.tokens.specs.declared.located_tokens.LocatedToken.{LocatedToken}
 use Rattle.tokens.proofs.EndLemmas.{located_tokens-nonempty, located_tokens-open, tokens-open}
 
@@ -77,39 +77,39 @@ remaining-ended next after after' new old n a = by (is_last next.token) (is_last
     by false false n a = absurd cc
 
 -- where a read stopped that failed
-pub open-end : (x : LocatedToken) → open_until x ≤ x.end
+pub open-end : (x : LocatedToken) → undecided_until x ≤ x.end
 open-end x = by (is_decided_by_last_byte x.token)
   where
     by : (t : Bool) → cond t (x.end - 1) x.end ≤ x.end
     by true = omega arith
     by false = omega arith
 
-reach-first : (place : ℕ) (first : LocatedToken) (others : List LocatedToken) → StaysOpen place (first ∷ others) → open_until first ≤ open_reach_of (first ∷ others)
+reach-first : (place : ℕ) (first : LocatedToken) (others : List LocatedToken) → StaysUndecided place (first ∷ others) → undecided_until first ≤ undecided_reach_of (first ∷ others)
 reach-first place first [] r = omega arith
 reach-first place first (x ∷ others) r = omega (arith, r.1.0, open-end first)
 
-pub opened-stopped : (bytes : List ℕ) (n : ℕ) (window : Held) (told : Option (List ℕ)) → window ≡ untouched → told ≡ Some bytes → ((first : LocatedToken) (others : List LocatedToken) → to_read located_tokens window told ≡ Some (first ∷ others) → n ≤ open_until first) → n ≤ open_reach_of (tokens bytes)
+pub opened-stopped : (bytes : List ℕ) (n : ℕ) (window : Held) (told : Option (List ℕ)) → window ≡ untouched → told ≡ Some bytes → ((first : LocatedToken) (others : List LocatedToken) → to_read located_tokens window told ≡ Some (first ∷ others) → n ≤ undecided_until first) → n ≤ undecided_reach_of (tokens bytes)
 unfolding tokens
 opened-stopped bytes n window told w t f =
     let some = located_tokens-nonempty (from_start (source bytes)) in
     let here = ap (λ h. to_read located_tokens h told) w ∙ ap (to_read located_tokens untouched) t ∙ shown-opened (Some bytes) in
-    let rising = subst (StaysOpen 0) some.2 (located_tokens-open (from_start (source bytes))) in
-    subst (λ (xs : List LocatedToken). n ≤ open_reach_of xs) (sym some.2)
+    let rising = subst (StaysUndecided 0) some.2 (located_tokens-open (from_start (source bytes))) in
+    subst (λ (xs : List LocatedToken). n ≤ undecided_reach_of xs) (sym some.2)
     (omega (arith, f some.0 some.1 (here ∙ ap Some some.2), reach-first 0 some.0 some.1 rising))
 
-pub second-stopped : (bytes : List ℕ) (n : ℕ) (next : LocatedToken) (first second : Held) (told told' : Option (List ℕ)) → first ≡ untouched → told ≡ Some bytes → is_last next.token ≡ false → to_read (followed next) second told' ≡ to_read located_tokens first told → ((x : LocatedToken) (others : List LocatedToken) → to_read located_tokens second told' ≡ Some (x ∷ others) → n ≤ open_until x) → n ≤ open_reach_of (tokens bytes)
+pub second-stopped : (bytes : List ℕ) (n : ℕ) (next : LocatedToken) (first second : Held) (told told' : Option (List ℕ)) → first ≡ untouched → told ≡ Some bytes → is_last next.token ≡ false → to_read (followed next) second told' ≡ to_read located_tokens first told → ((x : LocatedToken) (others : List LocatedToken) → to_read located_tokens second told' ≡ Some (x ∷ others) → n ≤ undecided_until x) → n ≤ undecided_reach_of (tokens bytes)
 unfolding to_read followed
 second-stopped bytes n next first second told told' w t last e f =
     by told' (e ∙ ap (λ h. to_read located_tokens h told) w ∙ ap (to_read located_tokens untouched) t ∙ shown-opened (Some bytes)) f
   where
-    by : (told' : Option (List ℕ)) → to_read (followed next) second told' ≡ Some (tokens bytes) → ((x : LocatedToken) (others : List LocatedToken) → to_read located_tokens second told' ≡ Some (x ∷ others) → n ≤ open_until x) → n ≤ open_reach_of (tokens bytes)
+    by : (told' : Option (List ℕ)) → to_read (followed next) second told' ≡ Some (tokens bytes) → ((x : LocatedToken) (others : List LocatedToken) → to_read located_tokens second told' ≡ Some (x ∷ others) → n ≤ undecided_until x) → n ≤ undecided_reach_of (tokens bytes)
     by None e f = absurd cc
     by (Some to_come) e f =
         let some = located_tokens-nonempty (ahead second to_come) in
         let is : tokens bytes ≡ next ∷ some.0 ∷ some.1 = sym (same_Some _ _ e) ∙ ap (λ s. next ∷ cond s [] (located_tokens (ahead second to_come))) last ∙ ap (λ xs. next ∷ xs) some.2 in
-        subst (λ (xs : List LocatedToken). n ≤ open_reach_of xs) (sym is) (f some.0 some.1 (ap Some some.2))
+        subst (λ (xs : List LocatedToken). n ≤ undecided_reach_of xs) (sym is) (f some.0 some.1 (ap Some some.2))
 
-pub advanced-stopped : (n : ℕ) (next after : LocatedToken) (window : Held) (told : Option (List ℕ)) → is_last next.token ≡ false → is_last after.token ≡ false → ((first : LocatedToken) (others : List LocatedToken) → to_read located_tokens window told ≡ Some (first ∷ others) → n ≤ open_until first) → (x : LocatedToken) (others : List LocatedToken) → shown (reading next after window) told ≡ Some (x ∷ others) → n ≤ open_reach_of others
+pub advanced-stopped : (n : ℕ) (next after : LocatedToken) (window : Held) (told : Option (List ℕ)) → is_last next.token ≡ false → is_last after.token ≡ false → ((first : LocatedToken) (others : List LocatedToken) → to_read located_tokens window told ≡ Some (first ∷ others) → n ≤ undecided_until first) → (x : LocatedToken) (others : List LocatedToken) → shown (reading next after window) told ≡ Some (x ∷ others) → n ≤ undecided_reach_of others
 unfolding to_read unread
 advanced-stopped n next after window None l m f x others e = absurd cc
 advanced-stopped n next after window (Some to_come) l m f x others e =
@@ -118,37 +118,37 @@ advanced-stopped n next after window (Some to_come) l m f x others e =
     sym (ap (λ s. next ∷ cond s [] (after ∷ cond (is_last after.token) [] (located_tokens (ahead window to_come)))) l ∙ ap (λ s. next ∷ after ∷ cond s [] (located_tokens (ahead window to_come))) m ∙ ap (λ xs. next ∷ after ∷ xs) some.2)
     ∙ same_Some _ _ e in
     let rest : after ∷ some.0 ∷ some.1 ≡ others = cc in
-    subst (λ (xs : List LocatedToken). n ≤ open_reach_of xs) rest (f some.0 some.1 (ap Some some.2))
+    subst (λ (xs : List LocatedToken). n ≤ undecided_reach_of xs) rest (f some.0 some.1 (ap Some some.2))
 
 -- How far the tokens of a source may be open.
 
-open-reach : (rest : List LocatedToken) → open_reach_of rest ≤ reach_of rest
+open-reach : (rest : List LocatedToken) → undecided_reach_of rest ≤ reach_of rest
 open-reach [] = omega arith
 open-reach (x ∷ []) = open-end x
 open-reach (x ∷ y ∷ rest) = open-end y
 
-first-last : (place : ℕ) (x : LocatedToken) (others : List LocatedToken) → StaysOpen place (x ∷ others) → open_until x ≤ last_open_until (x ∷ others)
+first-last : (place : ℕ) (x : LocatedToken) (others : List LocatedToken) → StaysUndecided place (x ∷ others) → undecided_until x ≤ last_undecided_until (x ∷ others)
 first-last place x [] s = omega arith
 first-last place x (y ∷ others) s = omega (arith, open-end x, s.1.0, first-last x.end y others s.1)
 
-reach-last : (place : ℕ) (rest : List LocatedToken) → StaysOpen place rest → open_reach_of rest ≤ last_open_until rest
+reach-last : (place : ℕ) (rest : List LocatedToken) → StaysUndecided place rest → undecided_reach_of rest ≤ last_undecided_until rest
 reach-last place [] s = omega arith
 reach-last place (x ∷ []) s = omega arith
 reach-last place (x ∷ y ∷ others) s = first-last x.end y others s.1
 
-last-behind : (x : LocatedToken) (others : List LocatedToken) → last_open_until others ≤ last_open_until (x ∷ others)
+last-behind : (x : LocatedToken) (others : List LocatedToken) → last_undecided_until others ≤ last_undecided_until (x ∷ others)
 last-behind x [] = omega arith
 last-behind x (y ∷ others) = omega arith
 
-all-last : (place : ℕ) (passed rest : List LocatedToken) → StaysOpen place (passed ++ rest) → open_reach_of rest ≤ last_open_until (passed ++ rest)
+all-last : (place : ℕ) (passed rest : List LocatedToken) → StaysUndecided place (passed ++ rest) → undecided_reach_of rest ≤ last_undecided_until (passed ++ rest)
 all-last place [] rest s = reach-last place rest s
 all-last place (x ∷ passed) rest s = omega (arith, last-behind x (passed ++ rest), all-last x.end passed rest s.1)
 
 -- what leaves the second of these tokens open ends by its end, and leaves the last token of the source open
-pub open-within : (rest : List LocatedToken) (n : ℕ) → n ≤ open_reach_of rest → n ≤ reach_of rest
+pub open-within : (rest : List LocatedToken) (n : ℕ) → n ≤ undecided_reach_of rest → n ≤ reach_of rest
 open-within rest n h = omega (arith, h, open-reach rest)
 
-pub open-to_last : (bytes : List ℕ) (passed rest : List LocatedToken) (n : ℕ) → tokens bytes ≡ passed ++ rest → n ≤ open_reach_of rest → n ≤ last_open_until (tokens bytes)
+pub open-to_last : (bytes : List ℕ) (passed rest : List LocatedToken) (n : ℕ) → tokens bytes ≡ passed ++ rest → n ≤ undecided_reach_of rest → n ≤ last_undecided_until (tokens bytes)
 open-to_last bytes passed rest n is h =
-    subst (λ (xs : List LocatedToken). n ≤ last_open_until xs) (sym is)
-    (omega (arith, h, all-last 0 passed rest (subst (StaysOpen 0) is (tokens-open bytes))))
+    subst (λ (xs : List LocatedToken). n ≤ last_undecided_until xs) (sym is)
+    (omega (arith, h, all-last 0 passed rest (subst (StaysUndecided 0) is (tokens-open bytes))))

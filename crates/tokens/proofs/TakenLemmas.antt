@@ -5,7 +5,7 @@ use Rattle.std.specs.List.{prefix_len}
 use Rattle.std.proofs.lemmas.Option.{same_Some}
 use Rattle.tokens.specs.Punctuators.{punctuator_of, spelling}
 use Rattle.tokens.specs.Words.{word_of}
-use Rattle.tokens.specs.Ends.{is_decided_by_last_byte, open_until}
+use Rattle.tokens.specs.Ends.{is_decided_by_last_byte, undecided_until}
 use Rattle.tokens.specs.Front.{Front, Nothing, Space, Unclosed, Sign, front, up_to_close, begins_with, name_or}
 use Rattle.tokens.specs.Tokens.{Ahead, behind_byte, passed, at_end, placed, last_located_token, cut, cut_front, located_tokens}
 use Rattle.tokens.specs.Window.{Held, Takes, ahead}
@@ -35,23 +35,23 @@ on_err-from (Err x) p = p
 
 -- the first token is open where it begins
 pub record EndsBehind (made : Ahead → List LocatedToken) : Type 0 where
-  pub ends : (a : Ahead) (first : LocatedToken) (others : List LocatedToken) → made a ≡ first ∷ others → a.place ≤ open_until first
+  pub ends : (a : Ahead) (first : LocatedToken) (others : List LocatedToken) → made a ≡ first ∷ others → a.place ≤ undecided_until first
 
 same_first : (x first : LocatedToken) (xs others : List LocatedToken) → x ∷ xs ≡ first ∷ others → x ≡ first
 same_first x first xs others e = cc
 
-at_most : (place : ℕ) (x first : LocatedToken) (xs others : List LocatedToken) → place ≤ open_until x → x ∷ xs ≡ first ∷ others → place ≤ open_until first
-at_most place x first xs others h e = omega (arith, h, ap open_until (same_first x first xs others e))
+at_most : (place : ℕ) (x first : LocatedToken) (xs others : List LocatedToken) → place ≤ undecided_until x → x ∷ xs ≡ first ∷ others → place ≤ undecided_until first
+at_most place x first xs others h e = omega (arith, h, ap undecided_until (same_first x first xs others e))
 
 -- a token of more than no bytes is open where it begins, and any other that isn't decided by its last byte
-pub open-placed : (token : Token) (count : ℕ) (a : Ahead) → 0 < count → a.place ≤ open_until (placed token count a)
+pub open-placed : (token : Token) (count : ℕ) (a : Ahead) → 0 < count → a.place ≤ undecided_until (placed token count a)
 open-placed token count a h = by (is_decided_by_last_byte token)
   where
     by : (t : Bool) → a.place ≤ cond t (a.place + count - 1) (a.place + count)
     by true = omega (arith, h)
     by false = omega arith
 
-open-undecided : (token : Token) (count : ℕ) (a : Ahead) → is_decided_by_last_byte token ≡ false → a.place ≤ open_until (placed token count a)
+open-undecided : (token : Token) (count : ℕ) (a : Ahead) → is_decided_by_last_byte token ≡ false → a.place ≤ undecided_until (placed token count a)
 open-undecided token count a h = by (is_decided_by_last_byte token) h
   where
     by : (t : Bool) → t ≡ false → a.place ≤ cond t (a.place + count - 1) (a.place + count)
@@ -69,14 +69,14 @@ pub place-passed : (n : ℕ) (a : Ahead) → a.place ≤ (passed n a).place
 place-passed zero a = omega arith
 place-passed (suc n) a = omega (arith, place-behind_byte a, place-passed n (behind_byte a))
 
-pub last-open : (token : Token) (line : ℕ) (end : Ahead) → is_decided_by_last_byte token ≡ false → end.place ≤ open_until (last_located_token token line end)
+pub last-open : (token : Token) (line : ℕ) (end : Ahead) → is_decided_by_last_byte token ≡ false → end.place ≤ undecided_until (last_located_token token line end)
 last-open token line end h = by end.too_long
   where
     here : (u : Bool) → u ≡ false → end.place ≤ cond u (end.place - 1) end.place
     here true h = absurd cc
     here false h = omega arith
 
-    by : (t : Bool) → end.place ≤ open_until (cond t (let x : LocatedToken = record { token = variant.Fault SourceTooLong; line = end.line; end = end.place + 1 } in x) (let x : LocatedToken = record { token = token; line = line; end = end.place } in x))
+    by : (t : Bool) → end.place ≤ undecided_until (cond t (let x : LocatedToken = record { token = variant.Fault SourceTooLong; line = end.line; end = end.place + 1 } in x) (let x : LocatedToken = record { token = token; line = line; end = end.place } in x))
     by true = omega arith
     by false = here (is_decided_by_last_byte token) h
 
@@ -87,14 +87,14 @@ last-behind token line end = by end.too_long
     by true = omega arith
     by false = omega arith
 
-last-ends : (place : ℕ) (token : Token) (line : ℕ) (a : Ahead) (first : LocatedToken) (others : List LocatedToken) → is_decided_by_last_byte token ≡ false → place ≤ a.place → last_located_token token line (at_end a) ∷ [] ≡ first ∷ others → place ≤ open_until first
+last-ends : (place : ℕ) (token : Token) (line : ℕ) (a : Ahead) (first : LocatedToken) (others : List LocatedToken) → is_decided_by_last_byte token ≡ false → place ≤ a.place → last_located_token token line (at_end a) ∷ [] ≡ first ∷ others → place ≤ undecided_until first
 last-ends place token line a first others u h e = at_most place _ first [] others (omega (arith, h, last-open token line (at_end a) u, place-passed (length a.bytes) a)) e
 
-cut-ends : (n : ℕ) (a : Ahead) (first : LocatedToken) (others : List LocatedToken) → cut n a ≡ first ∷ others → a.place ≤ open_until first
+cut-ends : (n : ℕ) (a : Ahead) (first : LocatedToken) (others : List LocatedToken) → cut n a ≡ first ∷ others → a.place ≤ undecided_until first
 cut-ends zero a first others e = absurd cc
 cut-ends (suc n) a first others e = by (front a.bytes) (front-is_piece a.bytes) (λ count. cut-ends n (passed count a) first others) e
   where
-    by : (f : Front) → IsPiece f → ((count : ℕ) → cut n (passed count a) ≡ first ∷ others → (passed count a).place ≤ open_until first) → cut_front f a (cut n) ≡ first ∷ others → a.place ≤ open_until first
+    by : (f : Front) → IsPiece f → ((count : ℕ) → cut n (passed count a) ≡ first ∷ others → (passed count a).place ≤ undecided_until first) → cut_front f a (cut n) ≡ first ∷ others → a.place ≤ undecided_until first
     by Nothing p h e = last-ends a.place variant.End a.line a first others refl (omega arith) e
     by Unclosed p h e = last-ends a.place (variant.Fault CommentNotClosed) a.line a first others refl (omega arith) e
     by (Space count) p h e = omega (arith, h count e, place-passed count a)
@@ -128,12 +128,12 @@ constant-undecided value more = by (fold (λ value digit. 10 * value + (digit - 
         either true = refl
         either false = refl
 
-grown-ends : (punctuator : Punctuator) (bytes : List ℕ) (a : Ahead) (first : LocatedToken) (others : List LocatedToken) → grown punctuator bytes a ≡ first ∷ others → a.place ≤ open_until first
+grown-ends : (punctuator : Punctuator) (bytes : List ℕ) (a : Ahead) (first : LocatedToken) (others : List LocatedToken) → grown punctuator bytes a ≡ first ∷ others → a.place ≤ undecided_until first
 unfolding followed
 grown-ends punctuator [] a first others e = at_most a.place (ending (variant.Punctuator punctuator) a) first _ others (omega arith) e
 grown-ends punctuator (b ∷ rest) a first others e = by (punctuator_of (spelling punctuator ++ b ∷ [])) (λ longer. grown-ends longer rest (behind_byte a) first others) e
   where
-    by : (o : Option Punctuator) → ((longer : Punctuator) → grown longer rest (behind_byte a) ≡ first ∷ others → (behind_byte a).place ≤ open_until first) → elim o [ None ↦ followed (ending (variant.Punctuator punctuator) a) a | Some longer ↦ grown longer rest (behind_byte a) ] ≡ first ∷ others → a.place ≤ open_until first
+    by : (o : Option Punctuator) → ((longer : Punctuator) → grown longer rest (behind_byte a) ≡ first ∷ others → (behind_byte a).place ≤ undecided_until first) → elim o [ None ↦ followed (ending (variant.Punctuator punctuator) a) a | Some longer ↦ grown longer rest (behind_byte a) ] ≡ first ∷ others → a.place ≤ undecided_until first
     by None h e = at_most a.place (ending (variant.Punctuator punctuator) a) first _ others (omega arith) e
     by (Some longer) h e = omega (arith, h longer e, place-behind_byte a)
 
@@ -145,11 +145,11 @@ pub in_comment-ends : (line : ℕ) → EndsBehind (in_comment line)
 unfolding in_comment
 in_comment-ends line = record { ends = λ a first others. by a first others (up_to_close a.bytes) }
   where
-    by : (a : Ahead) (first : LocatedToken) (others : List LocatedToken) (o : Option ℕ) → closed_at o line a ≡ first ∷ others → a.place ≤ open_until first
+    by : (a : Ahead) (first : LocatedToken) (others : List LocatedToken) (o : Option ℕ) → closed_at o line a ≡ first ∷ others → a.place ≤ undecided_until first
     by a first others None e = last-ends a.place (variant.Fault CommentNotClosed) line a first others refl (omega arith) e
     by a first others (Some count) e = omega (arith, located_tokens-end.ends (passed count a) first others e, place-passed count a)
 
-either-ends : (t : Bool) (place : ℕ) (xs ys : List LocatedToken) (first : LocatedToken) (others : List LocatedToken) → (xs ≡ first ∷ others → place ≤ open_until first) → (ys ≡ first ∷ others → place ≤ open_until first) → cond t xs ys ≡ first ∷ others → place ≤ open_until first
+either-ends : (t : Bool) (place : ℕ) (xs ys : List LocatedToken) (first : LocatedToken) (others : List LocatedToken) → (xs ≡ first ∷ others → place ≤ undecided_until first) → (ys ≡ first ∷ others → place ≤ undecided_until first) → cond t xs ys ≡ first ∷ others → place ≤ undecided_until first
 either-ends true place xs ys first others f g e = f e
 either-ends false place xs ys first others f g e = g e
 

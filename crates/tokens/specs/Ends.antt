@@ -35,18 +35,18 @@ is_decided_by_last_byte (variant.Punctuator punctuator) = false
 is_decided_by_last_byte variant.End = false
 
 -- the most bytes of a source that may leave this token open
-abbrev pub open_until : LocatedToken → ℕ
-open_until located_token =
+abbrev pub undecided_until : LocatedToken → ℕ
+undecided_until located_token =
     if is_decided_by_last_byte located_token.token then located_token.end - 1 else located_token.end
 
 -- the most bytes of a source that may leave the last of its tokens open
-abbrev pub last_open_until : List LocatedToken → ℕ
-last_open_until [] = 0
-last_open_until (located_token ∷ []) = open_until located_token
-last_open_until (located_token ∷ other ∷ others) = last_open_until (other ∷ others)
+abbrev pub last_undecided_until : List LocatedToken → ℕ
+last_undecided_until [] = 0
+last_undecided_until (located_token ∷ []) = undecided_until located_token
+last_undecided_until (located_token ∷ other ∷ others) = last_undecided_until (other ∷ others)
 
 -- each token is open at this place, or where the one ahead of it ends
-abbrev pub StaysOpen : ℕ → List LocatedToken → Type 0
-StaysOpen place [] = Unit {0}
-StaysOpen place (located_token ∷ others) =
-    (place ≤ open_until located_token) × StaysOpen located_token.end others
+abbrev pub StaysUndecided : ℕ → List LocatedToken → Type 0
+StaysUndecided place [] = Unit {0}
+StaysUndecided place (located_token ∷ others) =
+    (place ≤ undecided_until located_token) × StaysUndecided located_token.end others

@@ -6,7 +6,7 @@ use Rattle.tokens.specs.Characters.{is_name_byte, is_digit}
 use Rattle.tokens.specs.Punctuators.{punctuator_of, spelling}
 use Rattle.tokens.specs.Front.{up_to_close, name_token}
 use Rattle.tokens.specs.Tokens.{Ahead, behind_byte, passed, at_end, placed, last_located_token, followed_by, located_tokens}
-use Rattle.tokens.specs.Ends.{open_until}
+use Rattle.tokens.specs.Ends.{undecided_until}
 use Rattle.tokens.specs.Window.{Held, seen}
 use Rattle.tokens.specs.declared.located_tokens.Punctuator.{Punctuator}
 use Rattle.tokens.specs.declared.located_tokens.LexicalError.TheVariants.{CommentNotClosed, NameTooLong, ConstantTooLarge}
@@ -83,4 +83,4 @@ after_comment false line ahead = last_located_token (variant.Fault CommentNotClo
 -- no more was taken than may leave the first token open that is to be read
 abbrev pub StopsWithin : (Ahead → List LocatedToken) → Held → Held → Option (List ℕ) → Type 0
 StopsWithin made old new told = (first : LocatedToken) (others : List LocatedToken)
-    → to_read made old told ≡ Some (first ∷ others) → new.taken ≤ open_until first
+    → to_read made old told ≡ Some (first ∷ others) → new.taken ≤ undecided_until first

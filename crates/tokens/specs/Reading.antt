@@ -2,7 +2,7 @@
 use Rattle.std.specs.Prelude.{ℕ, ◌+◌, ◌-◌, ◌≤◌, List, [], ◌∷◌, Option, if◌then◌else◌}
 use Rattle.std.specs.Option.{option_map}
 use Rattle.tokens.specs.Tokens.{is_last, located_tokens, followed_by}
-use Rattle.tokens.specs.Ends.{open_until}
+use Rattle.tokens.specs.Ends.{undecided_until}
 use Rattle.tokens.specs.Window.{Held, ahead}
 use Rattle.tokens.specs.declared.located_tokens.LocatedToken.{LocatedToken}
 use Rattle.tokens.specs.declared.windows.Beyond.{Beyond}
@@ -50,7 +50,7 @@ reach_of (next ∷ []) = next.end
 reach_of (next ∷ after ∷ others) = after.end
 
 -- the most bytes that may leave the second of these tokens open, or the first, where it is the last
-abbrev pub open_reach_of : List LocatedToken → ℕ
-open_reach_of [] = 0
-open_reach_of (next ∷ []) = open_until next
-open_reach_of (next ∷ after ∷ others) = open_until after
+abbrev pub undecided_reach_of : List LocatedToken → ℕ
+undecided_reach_of [] = 0
+undecided_reach_of (next ∷ []) = undecided_until next
+undecided_reach_of (next ∷ after ∷ others) = undecided_until after

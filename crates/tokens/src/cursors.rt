@@ -6,7 +6,7 @@ ghost use Rattle.tokens.specs.Feed.{Counts};
 ghost use Rattle.tokens.specs.Tokens.{FitsToken, tokens, is_last};
 ghost use Rattle.tokens.specs.Window.{KnowsEnd, Takes};
 ghost use Rattle.tokens.specs.declared.located_tokens.LocatedToken.{LocatedToken};
-ghost use Rattle.tokens.specs.Reading.{beyond, shown, remaining, taken, IsNear, open_reach_of};
+ghost use Rattle.tokens.specs.Reading.{beyond, shown, remaining, taken, IsNear, undecided_reach_of};
 
 use crate::devices::{DeviceFault, Feed};
 use crate::located_tokens::LocatedToken;
@@ -49,7 +49,7 @@ impl Cursor {
         ensures near { IfOk result IsNear }
         ensures limited { IfOk result (λ cursor. taken cursor ≤ 1048577) }
         ensures stopped { OnErr result ((bytes : List ℕ) → F.to_come feed.old ≡ Some bytes →
-            (count : ℕ) × (F.to_come feed.new ≡ Some (drop count bytes)) × (count ≤ open_reach_of (tokens bytes))) }
+            (count : ℕ) × (F.to_come feed.new ≡ Some (drop count bytes)) × (count ≤ undecided_reach_of (tokens bytes))) }
 
         ensures count { Counts result (F.failures feed.old) (F.failures feed.new) }
 
@@ -102,7 +102,7 @@ impl Cursor {
         ensures limited { taken self.old ≤ 1048577 → taken self.new ≤ 1048577 }
         ensures stopped { OnErr result ((next : LocatedToken) (others : List LocatedToken)
             → shown self.old (F.to_come feed.old) ≡ Some (next ∷ others) →
-            taken self.new ≤ open_reach_of others) }
+            taken self.new ≤ undecided_reach_of others) }
 
         ensures count { Counts result (F.failures feed.old) (F.failures feed.new) }
         ensures known { KnowsEnd (beyond self.new) (F.ended feed.new) }

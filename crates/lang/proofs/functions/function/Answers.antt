@@ -11,11 +11,11 @@ use Rattle.lang.proofs.Closing.{begun, closed, has_place, may_begin, may_end}
 use Rattle.lang.proofs.functions.function.Goals as goal
 
 pub begin_function-requires : goal.begin_function-requires
-begin_function-requires g c = record { follows = may_begin _ c.in_ok-number.number c.parameters.result c.requires.open c.in_ok-number.ensures.begun.few c.parameters.ensures.most }
+begin_function-requires g c = record { follows = may_begin _ c.in_ok-number.number c.parameters.result c.requires.closed c.in_ok-number.ensures.begun.few c.parameters.ensures.most }
 
 pub block-requires-clause-open : goal.block-requires-clause-open
 block-requires-clause-open g c =
-    has_place _ c.parameters.result (begun _ _ c.in_ok-number.number c.parameters.result c.requires.open c.in_ok-number.ensures.begun.few c.parameters.ensures.most c.in_ok-begin_function.ensures.ok)
+    has_place _ c.parameters.result (begun _ _ c.in_ok-number.number c.parameters.result c.requires.closed c.in_ok-number.ensures.begun.few c.parameters.ensures.most c.in_ok-begin_function.ensures.ok)
 
 pub returns-in_err-number-clause-reads : goal.returns-in_err-number-clause-reads
 returns-in_err-number-clause-reads g c =
@@ -42,7 +42,7 @@ close-requires g c =
     let same : c.block.new.parser.place.position.scope.current.parameters ≡ c.parameters.result = c.in_ok-block.ensures.parses.kept.parameters ∙ sym c.parameters.ensures.count in
     record {
       «open» = may_end _ _ c.parameters.result c.variables.result c.in_ok-block.ensures.parses.tree
-          (begun _ _ c.in_ok-number.number c.parameters.result c.requires.open c.in_ok-number.ensures.begun.few c.parameters.ensures.most c.in_ok-begin_function.ensures.ok)
+          (begun _ _ c.in_ok-number.number c.parameters.result c.requires.closed c.in_ok-number.ensures.begun.few c.parameters.ensures.most c.in_ok-begin_function.ensures.ok)
           c.in_ok-block.ensures.parses.added c.in_ok-block.ensures.parses.numbered c.in_ok-block.ensures.parses.narrow (omega (arith, same, c.variables.ensures.first)) c.variables.ensures.most;
     }
 
@@ -75,10 +75,10 @@ returns-clause-reads g c =
     (ended _ _ c.end_definition.ensures) c.in_ok-begin_function.ensures.ok c.in_ok-close.ensures.closed
     c.in_ok-expect.ensures.matches (closing_sound _ c.in_ok-block.ensures.closed) c.in_ok-expect.ensures.kept.ready.sound
 
-pub returns-clause-open : goal.returns-clause-open
-returns-clause-open g c =
+pub returns-clause-closed : goal.returns-clause-closed
+returns-clause-closed g c =
     let same : c.block.new.parser.place.position.scope.current.parameters ≡ c.parameters.result = c.in_ok-block.ensures.parses.kept.parameters ∙ sym c.parameters.ensures.count in
-    closed (g.B.Build.stands c.args.build.now) (g.B.Build.stands c.close.new.build) c.in_ok-number.number c.parameters.result c.variables.result c.in_ok-block.ensures.parses.tree c.requires.open c.in_ok-number.ensures.begun.few (omega (arith, same, c.variables.ensures.first)) c.variables.ensures.most
+    closed (g.B.Build.stands c.args.build.now) (g.B.Build.stands c.close.new.build) c.in_ok-number.number c.parameters.result c.variables.result c.in_ok-block.ensures.parses.tree c.requires.closed c.in_ok-number.ensures.begun.few (omega (arith, same, c.variables.ensures.first)) c.variables.ensures.most
     c.in_ok-block.ensures.parses.numbered c.in_ok-block.ensures.parses.narrow
     (told_function (g.B.Build.stands c.args.build.now) (g.B.Build.stands c.begin_function.new.self) (g.B.Build.stands c.block.new.build) (g.B.Build.stands c.close.new.build) c.in_ok-number.number c.parameters.result c.variables.result c.in_ok-block.ensures.parses.tree c.in_ok-begin_function.ensures.ok c.in_ok-block.ensures.parses.added c.in_ok-close.ensures.closed.added)
 

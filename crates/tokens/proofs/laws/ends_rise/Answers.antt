@@ -7,5 +7,5 @@ returns-clause-rising c = tokens-rising
 pub returns-clause-within : goal.returns-clause-within
 returns-clause-within c = tokens-by
 
-pub returns-clause-stays_open : goal.returns-clause-stays_open
-returns-clause-stays_open c = tokens-open
+pub returns-clause-stays_undecided : goal.returns-clause-stays_undecided
+returns-clause-stays_undecided c = tokens-open
