@@ -26,7 +26,7 @@ returns-in_default g c =
     let sound : is_fault c.args.parser.now.place.position.reading.next.token ≡ false = cc in
     record {
       reads = rw c.misfit.ensures (head_misfits (g.B.Build.stands c.args.build.now) _ _ c.requires.ready.near sound (λ name same. c.in_default.not-Name name (ap (λ (l : LocatedToken). l.token) c.peek.ensures.value ∙ same)));
-      «open» = tt;
+      closed = tt;
       kept = rw c.misfit.ensures (record { device = refl; failures = refl; took = record { rest = λ total h. h } });
     }
 

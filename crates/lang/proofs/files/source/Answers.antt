@@ -7,7 +7,7 @@ use Rattle.lang.proofs.files.source.Goals as goal
 pub loop-parser-init : goal.loop-parser-init
 loop-parser-init g c = record {
   reads = advances_stay (g.B.Build.stands c.args.build.now) at_source _;
-  stands = c.requires.«open»;
+  stands = c.requires.closed;
   kept = stays_ready _ c.requires.ready;
 }
 
@@ -15,7 +15,7 @@ pub loop-parser-preserved : goal.loop-parser-preserved
 loop-parser-preserved g c = record {
   reads = advances_then (g.B.Build.stands c.args.build.now) (g.B.Build.stands c.loop-parser.build) (g.B.Build.stands c.part.new.build) at_source at_source at_source _ _ _
       c.loop-parser.invariant.reads c.in_ok-part.ensures.reads;
-  stands = c.in_ok-part.ensures.«open»;
+  stands = c.in_ok-part.ensures.closed;
   kept = kept_then _ _ _ c.loop-parser.invariant.kept (on _ _ c.in_ok-part.ensures.kept);
 }
 
