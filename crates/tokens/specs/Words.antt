@@ -1,29 +1,26 @@
 -- The names that the language keeps for itself.
-use Rattle.std.specs.Prelude.{ℕ, Bool, ◌||◌, List, Option, Some, None, codes, if◌then◌else◌}
+use Rattle.std.specs.Prelude.{ℕ, Bool, false, ◌||◌, List, [], ◌∷◌, Option, Some, None, codes, if◌then◌else◌}
 use Rattle.std.specs.Str.{bytes_eq}
 use Rattle.tokens.specs.declared.located_tokens.Word.{Word}
 use Rattle.tokens.specs.declared.located_tokens.Word.TheVariants as word
 
--- a name of a type
-abbrev pub is_type_word : List ℕ → Bool
-is_type_word name = bytes_eq name (codes "int") || bytes_eq name (codes "long") || bytes_eq name (codes "auto") || bytes_eq name (codes "register")
+-- whether a name is one of these
+abbrev pub is_one_of : List (List ℕ) → List ℕ → Bool
+is_one_of [] name = false
+is_one_of (this ∷ others) name = bytes_eq name this || is_one_of others name
 
--- reserved, with no use: in statements
-abbrev pub is_refused_statement : List ℕ → Bool
-is_refused_statement name =
-    bytes_eq name (codes "for") || bytes_eq name (codes "do") || bytes_eq name (codes "break") || bytes_eq name (codes "continue")
-    || bytes_eq name (codes "switch") || bytes_eq name (codes "case") || bytes_eq name (codes "default") || bytes_eq name (codes "goto")
+-- the names of types
+abbrev pub type_words : List (List ℕ)
+type_words = codes "int" ∷ codes "long" ∷ codes "auto" ∷ codes "register" ∷ []
 
--- reserved, with no use: in declarations
-abbrev pub is_refused_type : List ℕ → Bool
-is_refused_type name =
-    bytes_eq name (codes "struct") || bytes_eq name (codes "union") || bytes_eq name (codes "typedef") || bytes_eq name (codes "char")
-    || bytes_eq name (codes "float") || bytes_eq name (codes "double") || bytes_eq name (codes "void") || bytes_eq name (codes "sizeof")
-
--- reserved, with no use: before a type
-abbrev pub is_refused_prefix : List ℕ → Bool
-is_refused_prefix name =
-    bytes_eq name (codes "static") || bytes_eq name (codes "extern") || bytes_eq name (codes "short") || bytes_eq name (codes "unsigned")
+-- reserved, with no use
+abbrev pub refused_words : List (List ℕ)
+refused_words =
+    codes "for" ∷ codes "do" ∷ codes "break" ∷ codes "continue" ∷ codes "switch" ∷ codes "case" ∷ codes "default"
+    ∷ codes "goto"
+    ∷ codes "struct" ∷ codes "union" ∷ codes "typedef" ∷ codes "char" ∷ codes "float" ∷ codes "double" ∷ codes "void"
+    ∷ codes "sizeof"
+    ∷ codes "static" ∷ codes "extern" ∷ codes "short" ∷ codes "unsigned" ∷ []
 
 -- the word that a name is, if it is one
 unfoldable pub word_of : List ℕ → Option Word
@@ -32,6 +29,6 @@ word_of name =
     else (if bytes_eq name (codes "else") then Some word.Else
     else (if bytes_eq name (codes "while") then Some word.While
     else (if bytes_eq name (codes "return") then Some word.Return
-    else (if is_type_word name then Some word.Type
-    else (if is_refused_statement name || is_refused_type name || is_refused_prefix name then Some word.Refused
+    else (if is_one_of type_words name then Some word.Type
+    else (if is_one_of refused_words name then Some word.Refused
     else None)))))
