@@ -1,7 +1,7 @@
 -- How far the robots of a window have come.
 use Rattle.std.proofs.Common.{◌≡◌, ◌≢◌, ℕ, ◌+◌, ◌*◌, ◌-◌, ◌%◌, ◌<◌, ◌≤◌, zero, suc, ℤ, List, [], ◌∷◌, length, set, get_or, Some, inl, inr, refl, sym, ap, ◌∙◌, arith}
 use Rattle.std.specs.Prelude.{slice_get}
-use Rattle.std.proofs.lemmas.List.{get_or-set_same, get_or-set_other, set-set, set-get_or}
+use Rattle.std.proofs.lemmas.List.{get_or-set_same, get_or-set_other, length-set, set-set, set-get_or}
 use Rattle.std.proofs.lemmas.Bool.{cases_lt}
 use Rattle.arena.specs.Field.{Field}
 use Rattle.arena.specs.Ground.{Ground}
@@ -10,9 +10,9 @@ use Rattle.code.specs.declared.want.Want.TheVariants.{Quiet}
 use Rattle.code.specs.Generation.{ObjectCode}
 use Rattle.battles.specs.Battle.{Robot, Stage, step, turn, robot_of}
 use Rattle.battles.specs.Carrying.{Runner, AreRobotsOf, EachIsAt, HasReached, IsAt, IsRobotOf}
-use Rattle.battles.specs.Windows.{AreSlots, alone, RunsAlone, GoesOn, rounds}
+use Rattle.battles.specs.Windows.{AreSlots, HasCome, alone, RunsAlone, rest, is_left, rounds}
 use Rattle.battles.proofs.Commuting.{TurnsAlone, stage_of, turn_alone}
-use Rattle.battles.proofs.Turns.{rest, rest_all, rest_none, is_left, left_not, slots_set, next_taken}
+use Rattle.battles.proofs.Turns.{rest_all, rest_none, left_not, slots_one, slots_set, next_taken}
 use Rattle.battles.proofs.Stages.{robot_at, robots_length, stands_at, stands_set}
 
 -- a robot has run alone for so many cycles
@@ -60,21 +60,40 @@ run_taken robots next i end (suc n) s are small inside within runs =
     ∙ ap (λ slots. rest robots (is_left slots) 0 end (turn robots i (ran robots i s n))) later
     ∙ ap (rest robots (is_left (set next i (d + 4 * suc n))) 0 end) (ran_more robots i s n inside turns)
 
--- The runners and the arena are at a stage from which the turns that are left lead to the end of the window.
-pub record HasCome (robots : List Robot) (codes : List ObjectCode) (next : List ℕ) (w : ℕ) (runners : List Runner) (arena : Ground) (opened : Stage) : Type 0 where
-  pub stage : Stage
-  pub reached : HasReached runners codes arena stage
-  pub ends : rest robots (is_left next) 0 (4 * w) stage ≡ rounds robots w opened
+-- What a robot that runs alone makes of its machine and of the arena, whatever its trace and the field are.
+pub record HasRun (i : ℕ) (code : ObjectCode) (n : ℕ) (runner after : Runner) (arena grown : Ground) : Type 0 where
+  pub on : (r : Robot) (f : Field) (trace : List ℤ) → IsRobotOf code r → IsGroundOf arena f → IsAt runner code trace
+      → RunsAlone r i f trace n × IsGroundOf grown f × IsAt after code (alone r i f trace n)
 
--- What a robot makes of its runner and of the arena when it goes on, whatever its trace and the field are.
+-- And one that takes the turn that is next before it runs alone.
 pub record HasGoneOn (i : ℕ) (code : ObjectCode) (n : ℕ) (runner after : Runner) (arena grown : Ground) : Type 0 where
   pub on : (r : Robot) (f : Field) (trace : List ℤ) → IsRobotOf code r → IsGroundOf arena f → IsAt runner code trace
-      → (field : Field) × (longer : List ℤ) × GoesOn r i f trace n field longer × IsGroundOf grown field × IsAt after code longer
+      → RunsAlone r i (step r i f trace).0 (step r i f trace).1 (n - 1) × IsGroundOf grown (step r i f trace).0
+      × IsAt after code (alone r i (step r i f trace).0 (step r i f trace).1 (n - 1))
 
 traces_length : (runners : List Runner) (codes : List ObjectCode) (traces : List (List ℤ)) → EachIsAt runners codes traces → length traces ≡ length codes
 traces_length [] [] [] stands = refl
 traces_length (runner ∷ runners) (code ∷ codes) (trace ∷ traces) stands = ap suc (traces_length runners codes traces stands.1)
 traces_length _ _ _ stands = absurd stands
+
+pub come_alone : (robots : List Robot) (codes : List ObjectCode) (next : List ℕ) (w n i : ℕ) (runners : List Runner) (arena grown : Ground) (opened : Stage)
+    (code : ObjectCode) (none after : Runner)
+    → AreRobotsOf codes robots → AreSlots next → i < 4 → i < length codes → get_or next i 0 + 4 * n < 4 * w + 4
+    → HasCome robots codes next w runners arena opened → slice_get codes i ≡ Some code
+    → HasRun i code n (get_or runners i none) after arena grown
+    → HasCome robots codes (set next i (get_or next i 0 + 4 * n)) w (set runners i after) grown opened
+unfolding robot_of ran stage_of
+come_alone robots codes next w n i runners arena grown opened code none after are slots small inside within come here gone =
+    let s = come.stage in
+    let robot = robot_at codes robots i code (λ trace. Quiet) are here in
+    let at = stands_at runners codes s.traces i code none come.reached.traces here in
+    let lengths = traces_length runners codes s.traces come.reached.traces in
+    let on = gone.on (robot_of robots i) s.field (get_or s.traces i []) robot come.reached.field at in
+    record {
+      stage = ran robots i s n;
+      reached = record { field = on.1; traces = stands_set runners codes s.traces i after code _ come.reached.traces here on.2 };
+      ends = sym (run_taken robots next i (4 * w) n s slots small (omega (arith, lengths, inside)) within on.0) ∙ come.ends;
+    }
 
 pub come_on : (robots : List Robot) (codes : List ObjectCode) (next : List ℕ) (w n i : ℕ) (runners : List Runner) (arena grown : Ground) (opened : Stage)
     (code : ObjectCode) (none after : Runner)
@@ -87,30 +106,31 @@ unfolding turn robot_of ran stage_of
 come_on robots codes next w n i runners arena grown opened code none after are slots small inside within some first come here gone =
     let s = come.stage in
     let robot = robot_at codes robots i code (λ trace. Quiet) are here in
-    let stands = stands_at runners codes s.traces i code none come.reached.traces here in
+    let at = stands_at runners codes s.traces i code none come.reached.traces here in
     let lengths = traces_length runners codes s.traces come.reached.traces in
-    let on = gone.on (robot_of robots i) s.field (get_or s.traces i []) robot come.reached.field stands in
-    elim on.2 as (λ on. HasCome robots codes (set next i (get_or next i 0 + 4 * n)) w (set runners i after) grown opened) [
-      | inl alone ↦ record {
-        stage = ran robots i s n;
-        reached = record {
-          field = rw alone.1 at on.3;
-          traces = stands_set runners codes s.traces i after code _ come.reached.traces here (rw alone.2 at on.4);
-        };
-        ends = sym (run_taken robots next i (4 * w) n s slots small (omega (arith, lengths, inside)) within alone.0) ∙ come.ends;
-      }
-      | inr one ↦
-          let once : get_or next i 0 + 4 ≡ get_or next i 0 + 4 * n = omega (arith, one.0) in
-          record {
-            stage = turn robots i s;
-            reached = record {
-              field = rw one.1 at on.3;
-              traces = stands_set runners codes s.traces i after code _ come.reached.traces here (rw one.2 at on.4);
-            };
-            ends = ap (λ d. rest robots (is_left (set next i d)) 0 (4 * w) (turn robots i s)) (sym once)
-                ∙ sym (next_taken robots next i (4 * w) s slots small (omega (arith, within, some)) (inr first)) ∙ come.ends;
-          }
-    ]
+    let trace = get_or s.traces i [] in
+    let stepped = step (robot_of robots i) i s.field trace in
+    let on = gone.on (robot_of robots i) s.field trace robot come.reached.field at in
+    let four = slots.four in
+    let d = get_or next i 0 in
+    let later = set next i (d + 4) in
+    let own : get_or later i 0 ≡ d + 4 = get_or-set_same next i (d + 4) 0 (omega arith) in
+    let same : get_or (set s.traces i stepped.1) i [] ≡ stepped.1 = get_or-set_same s.traces i stepped.1 [] (omega (arith, lengths, inside)) in
+    let twice : set later i (get_or later i 0 + 4 * (n - 1)) ≡ set next i (d + 4 * n) =
+    ap (λ k. set later i (k + 4 * (n - 1))) own ∙ set-set next i (d + 4) (d + 4 + 4 * (n - 1)) ∙ ap (set next i) (omega (arith, some)) in
+    let long : length (set s.traces i stepped.1) ≡ length s.traces = length-set s.traces i stepped.1 in
+    let runs : RunsAlone (robot_of robots i) i stepped.0 (get_or (set s.traces i stepped.1) i []) (n - 1) = rw same on.0 in
+    let taken = run_taken robots later i (4 * w) (n - 1) (turn robots i s) (slots_one next i slots small) small (omega (arith, lengths, long, inside)) (omega (arith, own, within, some)) runs in
+    let moved : (ran robots i (turn robots i s) (n - 1)).traces ≡ set s.traces i (alone (robot_of robots i) i stepped.0 stepped.1 (n - 1)) =
+    ap (λ t. set (set s.traces i stepped.1) i (alone (robot_of robots i) i stepped.0 t (n - 1))) same
+    ∙ set-set s.traces i stepped.1 (alone (robot_of robots i) i stepped.0 stepped.1 (n - 1)) in
+    record {
+      stage = ran robots i (turn robots i s) (n - 1);
+      reached = record { field = on.1; traces = rw moved (stands_set runners codes s.traces i after code _ come.reached.traces here on.2) };
+      ends = ap (λ slots. rest robots (is_left slots) 0 (4 * w) (ran robots i (turn robots i s) (n - 1))) (sym twice)
+          ∙ sym taken
+          ∙ sym (next_taken robots next i (4 * w) s slots small (omega (arith, within, some)) (inr first)) ∙ come.ends;
+    }
 
 -- how many slots the robots have left
 pub left_until : ℕ → List ℕ → ℕ

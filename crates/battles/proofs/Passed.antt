@@ -1,7 +1,7 @@
 -- Robots that go on by cycles which their machines are ahead.
-use Rattle.std.proofs.Common.{◌≡◌, ◌≢◌, ℕ, ◌+◌, ◌*◌, ◌%◌, ◌-◌, ◌<◌, ◌≤◌, zero, suc, Bool, true, false, ℤ, pos, List, [], ◌∷◌, length, set, get_or, Some, replicate, inl, inr, refl, sym, ap, ◌∙◌, arith}
+use Rattle.std.proofs.Common.{◌≡◌, ◌≢◌, ℕ, ◌+◌, ◌*◌, ◌%◌, ◌-◌, ◌<◌, ◌≤◌, zero, suc, true, false, ℤ, List, [], ◌∷◌, length, set, get_or, Some, inl, inr, refl, ap, ◌∙◌, arith}
 use Rattle.std.specs.Prelude.{slice_get, nat_lt, if◌then◌else◌}
-use Rattle.std.proofs.lemmas.List.{get_or-set_same, get_or-set_other, length-set}
+use Rattle.std.proofs.lemmas.List.{get_or-set_same, get_or-set_other}
 use Rattle.std.proofs.lemmas.Bool.{cases_eq, cases_lt}
 use Rattle.std.proofs.lemmas.Bool.Decides.{nat_tests}
 use Rattle.arena.specs.Field.{Field, is_live}
@@ -11,8 +11,8 @@ use Rattle.code.specs.Generation.{ObjectCode}
 use Rattle.code.specs.Standing.{FitsProgram}
 use Rattle.battles.specs.Battle.{Robot, Stage}
 use Rattle.battles.specs.Carrying.{Runner, AreRobotsOf, EachFits, EachIsAt, HasReached, IsAt, IsRobotOf}
-use Rattle.battles.specs.Windows.{AreAhead, AreSlots, RunsAlone, alone, rounds}
-use Rattle.battles.proofs.Ahead.{HasCome, HasGoneOn, come_on, opens, closes}
+use Rattle.battles.specs.Windows.{AreAhead, AreSlots, HasCome, RunsAlone, alone, rounds}
+use Rattle.battles.proofs.Ahead.{HasRun, come_alone, opens, closes}
 use Rattle.battles.proofs.Alone.{quiet_alone, quiet_runs}
 use Rattle.battles.proofs.Running.{at_less, quiet_less}
 use Rattle.battles.proofs.Stages.{fits_at, fits_length, fits_set}
@@ -100,10 +100,10 @@ none_passed robots codes w runners arena s are few reached =
 
 pub one_passes : (robots : List Robot) (codes : List ObjectCode) (k w : ℕ) (runners : List Runner) (arena : Ground) (s : Stage)
     (code : ObjectCode) (none after : Runner)
-    → AreRobotsOf codes robots → length codes ≤ 4 → k < length codes → 0 < w → slice_get codes k ≡ Some code
-    → HavePassed robots codes k w runners arena s → HasGoneOn k code w (get_or runners k none) after arena arena
+    → AreRobotsOf codes robots → length codes ≤ 4 → k < length codes → slice_get codes k ≡ Some code
+    → HavePassed robots codes k w runners arena s → HasRun k code w (get_or runners k none) after arena arena
     → HavePassed robots codes (k + 1) w (set runners k after) arena s
-one_passes robots codes k w runners arena s code none after are few inside some here passed gone =
+one_passes robots codes k w runners arena s code none after are few inside here passed gone =
     let here' : get_or passed.next k 0 ≡ k = passed.begin k (omega arith) inside in
     let four = passed.slots.four in
     let next = set passed.next k (get_or passed.next k 0 + 4 * w) in
@@ -122,18 +122,9 @@ one_passes robots codes k w runners arena s code none after are few inside some 
       past = λ i from small.
           let distinct : i ≢ k = omega arith in
           rw (other i distinct) (passed.past i from small);
-      come = come_on robots codes passed.next w w k runners arena arena s code none after are passed.slots (omega arith) inside
-          (omega (arith, here')) some (least passed) passed.come here gone;
+      come = come_alone robots codes passed.next w w k runners arena arena s code none after are passed.slots (omega arith) inside
+          (omega (arith, here')) passed.come here gone;
     }
-  where
-    least : (p : HavePassed robots codes k w runners arena s) → (j : ℕ) → j < 4 → get_or p.next k 0 ≤ get_or p.next j 0
-    least p j small = elim (cases_lt j k) [
-      | inl low ↦ omega (arith, p.begin k (omega arith) inside, p.done j low)
-      | inr high ↦ elim (cases_lt j (length codes)) [
-        | inl within ↦ omega (arith, p.begin k (omega arith) inside, p.begin j high within)
-        | inr outside ↦ omega (arith, p.begin k (omega arith) inside, p.past j outside small)
-      ]
-    ]
 
 pub all_passed : (robots : List Robot) (codes : List ObjectCode) (w : ℕ) (runners : List Runner) (arena : Ground) (s : Stage)
     → HavePassed robots codes (length codes) w runners arena s → HasReached runners codes arena (rounds robots w s)
@@ -153,10 +144,10 @@ code_at (code ∷ codes) (suc k) inside = code_at codes k (omega arith)
 pub gone_alone : (i : ℕ) (code : ObjectCode) (n : ℕ) (runner after : Runner) (arena : Ground)
     → ((r : Robot) (f : Field) (trace : List ℤ) → IsRobotOf code r → IsGroundOf arena f → IsAt runner code trace
     → RunsAlone r i f trace n × IsAt after code (alone r i f trace n))
-    → HasGoneOn i code n runner after arena arena
+    → HasRun i code n runner after arena arena
 gone_alone i code n runner after arena on = record {
   on = λ r f trace is ground at.
-      let now = on r f trace is ground at in (f, alone r i f trace n, inl (now.0, refl, refl), ground, now.1);
+      let now = on r f trace is ground at in (now.0, ground, now.1);
 }
 
 -- one machine stays as it is

@@ -1,17 +1,12 @@
 -- The slots of a window: robot i has its turn of cycle c, counted from 0, in slot 4 * c + i.
 use Rattle.std.proofs.Common.{◌≡◌, ◌≢◌, ℕ, ◌+◌, ◌*◌, ◌%◌, ◌<◌, ◌≤◌, zero, suc, Bool, true, false, List, [], ◌∷◌, length, set, get_or, ◌⊎◌, inl, inr, refl, sym, ap, ◌∙◌, arith}
-use Rattle.std.specs.Prelude.{nat_lt, nat_le, min, if◌then◌else◌}
+use Rattle.std.specs.Prelude.{nat_lt, nat_le, min}
 use Rattle.std.proofs.lemmas.Bool.{cases_Bool, cases_eq, cases_lt, false≢true}
 use Rattle.std.proofs.lemmas.List.{get_or-set_same, get_or-set_other, length-set}
 use Rattle.std.proofs.lemmas.Bool.Decides.{nat_tests}
 use Rattle.battles.specs.Battle.{Robot, Stage, turn, turns}
-use Rattle.battles.specs.Windows.{rounds, AreSlots, alone}
+use Rattle.battles.specs.Windows.{rounds, rest, is_left, AreSlots}
 use Rattle.battles.proofs.Commuting.{TurnsAlone, alone_stays, commutes}
-
--- the turns that are left in so many slots from this one on
-pub rest : List Robot → (ℕ → Bool) → (slot count : ℕ) → Stage → Stage
-rest robots left t zero s = s
-rest robots left t (suc n) s = rest robots left (t + 1) n (if left t then turn robots (t % 4) s else s)
 
 rest_more : (robots : List Robot) (left : ℕ → Bool) (t n : ℕ) (s : Stage) → left t ≡ true
     → rest robots left t (suc n) s ≡ rest robots left (t + 1) n (turn robots (t % 4) s)
@@ -72,10 +67,6 @@ takes robots left other i d t (suc n) s own here gone same later from to ready =
   ]
 ]
 
--- Each robot has the slot of its next turn; the turn of a slot is left if that is not a later one.
-pub is_left : List ℕ → ℕ → Bool
-is_left next t = nat_le (get_or next (t % 4) 0) t
-
 le_no : (a b : ℕ) → b < a → nat_le a b ≡ false
 le_no a b later = grind (arith, nat_tests)
 
@@ -115,6 +106,11 @@ slots_set next i n are inside = record {
     | inr theirs ↦ rw (get_or-set_other next i k (get_or next i 0 + 4 * n) 0 theirs) (are.own k within)
   ];
 }
+
+pub slots_one : (next : List ℕ) (i : ℕ) → AreSlots next → i < 4 → AreSlots (set next i (get_or next i 0 + 4))
+slots_one next i are inside =
+    let once : get_or next i 0 + 4 * 1 ≡ get_or next i 0 + 4 = omega arith in
+    rw once at (slots_set next i 1 are inside)
 
 pub next_taken : (robots : List Robot) (next : List ℕ) (i end : ℕ) (s : Stage) → AreSlots next → i < 4 → get_or next i 0 < end
     → TurnsAlone robots i s ⊎ ((j : ℕ) → j < 4 → get_or next i 0 ≤ get_or next j 0)

@@ -18,7 +18,6 @@ use settings::FILES_MAX;
 pub(crate) fn pass(runners: &mut [Runner], arena: &Arena, cycles: u32) -> bool
     requires manned { length arena.now.robots ≡ length runners.old }
     requires few { length runners.old ≤ FILES_MAX }
-    requires some { 0 < cycles }
     ensures stage { result ≡ true → (codes : List ObjectCode) (robots : List Robot) (s : Stage)
         → AreRobotsOf codes robots → HasReached runners.old codes arena.now s
         → HasReached runners.new codes arena.now (rounds robots cycles s) }
@@ -52,7 +51,6 @@ fn are_ahead(runners: &[Runner], arena: &Arena, cycles: u32) -> bool
 fn go_on(runners: &mut [Runner], arena: &Arena, cycles: u32)
     requires manned { length arena.now.robots ≡ length runners.old }
     requires few { length runners.old ≤ FILES_MAX }
-    requires some { 0 < cycles }
     requires ahead { AreAhead (length runners.old) cycles arena.now runners.old }
     ensures stage { (codes : List ObjectCode) (robots : List Robot) (s : Stage)
         → AreRobotsOf codes robots → HasReached runners.old codes arena.now s

@@ -8,8 +8,8 @@ ghost use Rattle.battles.specs.Carrying.{IsAt, IsQuiet, IsRobotOf};
 use code::{Machine, Program};
 use std::marker::Model;
 
-/// A robot's machine, and how many cycles it is ahead of the robot. In these it asks nothing, so nobody can see that they
-/// were run before.
+/// A robot's machine, and how many cycles it is ahead of the robot. In these it asks nothing, so nobody can see that
+/// they were run before.
 #[derive(Drop)]
 pub(crate) struct Runner {
     pub(crate) machine: Machine,
@@ -46,7 +46,7 @@ impl Runner {
     }
 
     /// Lets the robot go on by up to so many cycles that ask nothing, and returns how many they were: fewer only if the
-    /// machine then wants a reply or a restart. If the machine has to run, it goes as far as `farthest` cycles, past those
+    /// machine then wants a reply or a restart. If the machine has to run, it goes up to `farthest` cycles, past those
     /// of the robot.
     #[inline(always)]
     pub(crate) fn coast(&mut self, program: &Program, most: u32, farthest: u32) -> u32
@@ -66,8 +66,8 @@ impl Runner {
         run
     }
 
-    // Runs the machine ahead by up to so many cycles more. It is a function of its own so that the machine's place stays in
-    // registers.
+    // Runs the machine ahead by up to so many cycles more. It is a function of its own so that the machine's place
+    // stays in registers.
     #[inline(never)]
     fn run(&mut self, program: &Program, more: u32)
         requires fits { FitsProgram self.old.machine program.now }

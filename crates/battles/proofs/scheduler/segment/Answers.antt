@@ -1,4 +1,4 @@
-use Rattle.std.proofs.Common.{◌≡◌, ◌≤◌, List, length, leb, ap, sym, ◌∙◌, arith}
+use Rattle.std.proofs.Common.{◌≤◌, List, length, leb, ap, sym, ◌∙◌, arith}
 use Rattle.battles.specs.Battle.{Robot, Stage}
 use Rattle.battles.specs.Carrying.{AreRobotsOf, HasReached}
 use Rattle.battles.specs.Pairing.{paired}

@@ -1,5 +1,5 @@
 use Rattle.std.proofs.Common.{◌≤◌, arith}
-use Rattle.battles.specs.Carrying.{Runner, IsAt}
+use Rattle.battles.specs.Carrying.{IsAt}
 use Rattle.battles.proofs.Running.{at_less, quiet_less}
 use Rattle.battles.proofs.runners.Runner.coast.Goals as goal
 use Rattle.battles.proofs.runners.Runner.coast.Goals.{then-self-most, else-self-most}
