@@ -12,6 +12,7 @@ mod listing;
 mod machine;
 mod maker;
 mod opcode;
+mod operating;
 mod operators;
 mod program;
 mod stepping;

@@ -1,6 +1,9 @@
 //! What operators and assignments make.
 
-ghost use Rattle.std.specs.Prelude.{◌≡◌};
+ghost use Rattle.std.specs.Prelude.{◌≡◌, ℤ, Some, None};
+ghost use Rattle.arith.specs.Op.{value_of};
+ghost use Rattle.arith.specs.declared.operators.Op.{Op as NumberOp};
+ghost use Rattle.grammar.specs.declared.operators.Op.{Op};
 ghost use Rattle.code.specs.Values.{combined, stored, number_op};
 
 use arith::binop;
@@ -42,23 +45,99 @@ pub fn combined(op: Op, a: i32, b: i32) -> i32
     binop(number_op(op), a, b)
 }
 
-/// What an assignment makes of the variable's value and its right side.
+/// What `+` makes of its sides.
+#[inline(always)]
+#[tactic(auto, using(arith::proofs::OpLemmas::op_steps), unfolding(crate::specs::Values::number_op))]
+pub fn sum(a: i32, b: i32) -> i32
+    ensures { result ≡ combined Op.Add a b }
+{
+    a.wrapping_add(b)
+}
+
+/// What `-` makes of its sides.
+#[inline(always)]
+#[tactic(auto, using(arith::proofs::OpLemmas::op_steps), unfolding(crate::specs::Values::number_op))]
+pub fn difference(a: i32, b: i32) -> i32
+    ensures { result ≡ combined Op.Subtract a b }
+{
+    a.wrapping_sub(b)
+}
+
+/// What `*` makes of its sides.
+#[inline(always)]
+#[tactic(auto, using(arith::proofs::OpLemmas::op_steps), unfolding(crate::specs::Values::number_op))]
+pub fn product(a: i32, b: i32) -> i32
+    ensures { result ≡ combined Op.Multiply a b }
+{
+    a.wrapping_mul(b)
+}
+
+/// What `==` makes of its sides.
+#[inline(always)]
+#[tactic(auto, using(arith::proofs::OpLemmas::op_steps), unfolding(crate::specs::Values::number_op))]
+pub fn is_equal(a: i32, b: i32) -> i32
+    ensures { result ≡ combined Op.Equal a b }
+{
+    i32::from(a == b)
+}
+
+/// What `<` makes of its sides.
+#[inline(always)]
+#[tactic(auto, using(arith::proofs::OpLemmas::op_steps), unfolding(crate::specs::Values::number_op))]
+pub fn is_less(a: i32, b: i32) -> i32
+    ensures { result ≡ combined Op.Less a b }
+{
+    i32::from(a < b)
+}
+
+/// What `>` makes of its sides.
+#[inline(always)]
+#[tactic(auto, using(arith::proofs::OpLemmas::op_steps), unfolding(crate::specs::Values::number_op))]
+pub fn is_greater(a: i32, b: i32) -> i32
+    ensures { result ≡ combined Op.Greater a b }
+{
+    i32::from(a > b)
+}
+
+/// What `%` makes of its sides.
+#[inline(always)]
+#[tactic(auto, using(arith::proofs::OpLemmas::op_steps), unfolding(crate::specs::Values::number_op))]
+pub fn rest(a: i32, b: i32) -> i32
+    ensures { result ≡ combined Op.Remainder a b }
+{
+    if b == 0 { 0 } else { a.wrapping_rem(b) }
+}
+
+// The operator of an assignment among those on numbers: none for `=`.
 #[inline(always)]
 #[tactic(auto, unfolding(crate::specs::Values::stored))]
+fn store_number(op: StoreOp) -> Option<arith::Op>
+    ensures set { result ≡ None → (old : ℤ) (x : ℤ) → stored op old x ≡ x }
+    ensures by { (number : NumberOp) → result ≡ Some number → (old : ℤ) (x : ℤ)
+        → stored op old x ≡ value_of number old x }
+{
+    match op {
+        StoreOp::Set => None,
+        StoreOp::Add => Some(arith::Op::Add),
+        StoreOp::Subtract => Some(arith::Op::Subtract),
+        StoreOp::Multiply => Some(arith::Op::Multiply),
+        StoreOp::Divide => Some(arith::Op::Divide),
+        StoreOp::Remainder => Some(arith::Op::Remainder),
+        StoreOp::ShiftLeft => Some(arith::Op::ShiftLeft),
+        StoreOp::ShiftRight => Some(arith::Op::ShiftRight),
+        StoreOp::BitAnd => Some(arith::Op::BitAnd),
+        StoreOp::BitXor => Some(arith::Op::BitXor),
+        StoreOp::BitOr => Some(arith::Op::BitOr),
+    }
+}
+
+/// What an assignment makes of the variable's value and its right side.
+#[inline(always)]
 pub fn stored(op: StoreOp, old: i32, x: i32) -> i32
     ensures { result ≡ stored op old x }
 {
-    match op {
-        StoreOp::Set => x,
-        StoreOp::Add => binop(arith::Op::Add, old, x),
-        StoreOp::Subtract => binop(arith::Op::Subtract, old, x),
-        StoreOp::Multiply => binop(arith::Op::Multiply, old, x),
-        StoreOp::Divide => binop(arith::Op::Divide, old, x),
-        StoreOp::Remainder => binop(arith::Op::Remainder, old, x),
-        StoreOp::ShiftLeft => binop(arith::Op::ShiftLeft, old, x),
-        StoreOp::ShiftRight => binop(arith::Op::ShiftRight, old, x),
-        StoreOp::BitAnd => binop(arith::Op::BitAnd, old, x),
-        StoreOp::BitXor => binop(arith::Op::BitXor, old, x),
-        StoreOp::BitOr => binop(arith::Op::BitOr, old, x),
+    match store_number(op) {
+        None => x,
+        Some(number) => binop(number, old, x),
     }
 }
