@@ -10,8 +10,10 @@ use Rattle.grammar.specs.Compiled.{compiled}
 use Rattle.grammar.specs.Tree.{File}
 use Rattle.code.specs.Generation.{ObjectCode, code_of}
 use Rattle.settings.specs.declared.settings.Mode.{Mode}
-use Rattle.series.specs.Compiling.{Source, and_file, files_of, codes_of, code_or_fault, compiled_code, pieces_of, source_pieces, compiling}
+use Rattle.series.specs.Compiling.{Source, and_file, files_of, codes_of, code_or_fault, compiled_code, pieces_of, source_pieces, status_of, compiling}
 use Rattle.series.specs.Pieces.{Taken, Writes, Begins}
+use Rattle.series.specs.Runs.{both, status_by}
+use Rattle.series.specs.declared.endings.Status.{Status}
 use Rattle.sinks.specs.Texts.{file_name}
 use Rattle.series.proofs.PiecesLemmas.{writes_then, begins_then, begins_more}
 use Rattle.series.proofs.RunsLemmas.{no_source}
@@ -36,6 +38,21 @@ files_more : (profile : Profile) (sources : List Source) (file : ℕ) → file <
 files_more profile sources file within =
     rw (take_more sources file no_source within)
     (fold-append (λ files source. and_file files (compiled profile source.bytes)) (Some []) (take file sources) (get_or sources file no_source ∷ []))
+
+-- the status of the files with one more
+both_of : (profile : Profile) (files : Option (List File)) (verdict : Result File Diagnostic)
+    → both (status_of files) (status_by (code_or_fault profile verdict)) ≡ status_of (and_file files verdict)
+both_of profile (Some files) (Ok file) = refl
+both_of profile (Some files) (Err d) = refl
+both_of profile None (Ok file) = refl
+both_of profile None (Err d) = refl
+
+-- the status of the files so far, with one source more
+pub status_more : (profile : Profile) (sources : List Source) (file : ℕ) (so_far one : Status) → file < length sources
+    → so_far ≡ status_of (files_of profile (take file sources)) → one ≡ status_by (compiled_code profile (get_or sources file no_source).bytes)
+    → both so_far one ≡ status_of (files_of profile (take (file + 1) sources))
+status_more profile sources file so_far one within is one_is = rw (files_more profile sources file within, is, one_is)
+    (both_of profile (files_of profile (take file sources)) (compiled profile (get_or sources file no_source).bytes))
 
 -- what a loop keeps, with one source more
 pub kept_more : (profile : Profile) (sources : List Source) (file : ℕ) (kept : Option (List ObjectCode)) (code : Result ObjectCode Diagnostic) → file < length sources

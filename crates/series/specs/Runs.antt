@@ -1,5 +1,6 @@
 -- What compiling leaves: what the sinks took, and the programs.
 use Rattle.std.specs.Prelude.{◌≡◌, ℕ, List, Option, Some, None, Result, Ok, Err, MatchResult, map, take}
+use Rattle.grammar.specs.declared.diagnostics.Diagnostic.{Diagnostic}
 use Rattle.code.specs.Generation.{ObjectCode}
 use Rattle.settings.specs.Setup.{Setup}
 use Rattle.series.specs.declared.endings.RunFault.{RunFault}
@@ -34,6 +35,16 @@ abbrev pub programs_by : Result Status RunFault → List ObjectCode → Result (
 programs_by (Ok Done) kept = Ok (Some kept)
 programs_by (Ok Faulty) kept = Ok None
 programs_by (Err fault) kept = Err fault
+
+-- whether a file is good
+abbrev pub status_by : Result ObjectCode Diagnostic → Status
+status_by (Ok code) = Done
+status_by (Err d) = Faulty
+
+-- a faulty part leaves no good status
+abbrev pub both : Status → Status → Status
+both Done second = second
+both Faulty second = Faulty
 
 -- the sinks took the pieces, or a beginning of them
 abbrev pub PutsPieces : {T E : Type 0} → Result T E → Taken → Taken → List Piece → Type 0

@@ -6,6 +6,7 @@ mod endings;
 mod known;
 pub mod laws;
 mod listing;
+mod listings;
 mod names;
 mod reports;
 mod runs;

@@ -12,10 +12,12 @@ ghost use Rattle.series.specs.Playing.{playing};
 ghost use Rattle.sinks.specs.Portions.{Portions};
 ghost use Rattle.series.specs.Reading.{MayLeaveUndecided, Reads, TakesOf};
 ghost use Rattle.series.specs.Runs.{AreSources, Compiles, PutsPieces, programs_by};
+ghost use Rattle.settings.specs.declared.settings.Mode.TheVariants.{Matches};
 ghost use Rattle.sinks.specs.Texts.{file_name};
 
 use crate::endings::{RunFault, SeriesFault, Status};
 use crate::listing::put_listing;
+use crate::listings::list_files;
 use crate::series::Series;
 use battles::Programs;
 use code::{Maker, Program};
@@ -53,15 +55,42 @@ pub fn run<F: Feed, O: Sink, E: Sink>(
         (failures (map F.failures feeds.old) (O.failures out.old) (E.failures err.old))
         (failures (map F.failures feeds.new) (O.failures out.new) (E.failures err.new)) }
 {
+    match settings.mode() {
+        Mode::Listing => list_files(settings, feeds, out, err),
+        Mode::Matches => play_files(settings, feeds, out, err),
+    }
+}
+
+/// Compiles the files, and plays the matches of their programs if no file has a fault.
+///
+/// The programs of four files are large: they have a frame of their own, which a run that lists its files doesn't need.
+#[inline(never)]
+fn play_files<F: Feed, O: Sink, E: Sink>(
+    settings: &Settings,
+    feeds: &mut [F],
+    out: &mut O,
+    err: &mut E,
+) -> Result<Status, RunFault>
+    requires matches { settings.now.mode ≡ Matches }
+    requires files { length feeds.old ≡ length settings.now.words }
+    requires feeds { All (λ feed. F.failures feed < 2 ^ 64 - 1) feeds.old }
+    requires not_ended { All (λ feed. F.ended feed ≡ false) feeds.old }
+    requires text { O.failures out.old < 2 ^ 64 - 1 }
+    requires faults { E.failures err.old < 2 ^ 64 - 1 }
+    ensures output { (sources : List Source) → AreSources sources settings.now.words (map F.to_come feeds.old)
+        → Runs settings.now sources result (taken (O.portions out.old) (E.portions err.old))
+        (taken (O.portions out.new) (E.portions err.new)) }
+    ensures read { Reads settings.now.profile result (map F.to_come feeds.old) (map F.to_come feeds.new) }
+    ensures failures { Accounts result
+        (failures (map F.failures feeds.old) (O.failures out.old) (E.failures err.old))
+        (failures (map F.failures feeds.new) (O.failures out.new) (E.failures err.new)) }
+{
     let mut programs = Programs::new();
     match compile_into(&mut programs, settings, feeds, out, err) {
-        Ok(Status::Done) => match settings.mode() {
-            Mode::Listing => Ok(Status::Done),
-            Mode::Matches => {
-                resolved_files();
-                play_all(&programs, settings, out)
-            }
-        },
+        Ok(Status::Done) => {
+            resolved_files();
+            play_all(&programs, settings, out)
+        }
         Ok(Status::Faulty) => Ok(Status::Faulty),
         Err(fault) => Err(fault),
     }

@@ -1,15 +1,14 @@
-use Rattle.std.proofs.Common.{sym}
 use Rattle.series.proofs.OutputLemmas.{kept_codes, plays_run, stops_run}
-use Rattle.series.proofs.runs.run.Goals as goal
+use Rattle.series.proofs.runs.play_files.Goals as goal
 
 pub play_all-requires-clause-manned : goal.play_all-requires-clause-manned
 play_all-requires-clause-manned g c = c.in-Ok-Done.ensures.manned c.in-Ok-Done.field-0-is
 
-pub returns-in-Matches-clause-output : goal.returns-in-Matches-clause-output
-returns-in-Matches-clause-output g c = λ sources are.
+pub returns-in-Ok-Done-clause-output : goal.returns-in-Ok-Done-clause-output
+returns-in-Ok-Done-clause-output g c = λ sources are.
     let compiles = rw c.in-Ok-Done.field-0-is at (c.in-Ok-Done.ensures.output sources are) in
     let kept = kept_codes c.resolved_files.ensures c.args.settings.now.profile sources c.compile_into.new.programs compiles.1 in
-    plays_run c.args.settings.now sources kept.0 _ _ _ c.play_all.result (sym c.in-Matches.ensures.value)
+    plays_run c.args.settings.now sources kept.0 _ _ _ c.play_all.result c.requires.matches
     kept.1 compiles.0 (c.play_all.ensures.output kept.0 _ kept.2) c.play_all.ensures.answer
 
 pub returns-in-Err-clause-output : goal.returns-in-Err-clause-output
