@@ -6,7 +6,7 @@ ghost use Rattle.series.specs.Compiling.{Source, compiled_code, pieces_of};
 ghost use Rattle.series.specs.Failures.{Accounts, CountsSinks, failures};
 ghost use Rattle.series.specs.Output.{Runs};
 ghost use Rattle.series.specs.Pieces.{taken};
-ghost use Rattle.series.specs.Reading.{MayLeaveOpen, Reads, TakesOf};
+ghost use Rattle.series.specs.Reading.{MayLeaveUndecided, Reads, TakesOf};
 ghost use Rattle.series.specs.Runs.{AreSources, PutsPieces, both, status_by};
 ghost use Rattle.settings.specs.declared.settings.Mode.TheVariants.{Listing};
 
@@ -93,7 +93,7 @@ fn list_file<F: Feed, O: Sink, E: Sink>(
     ensures failures { IfOk result (λ put. CountsSinks put (O.failures out.old) (E.failures err.old)
         (O.failures out.new) (E.failures err.new)) }
     ensures taken { OnOk result (TakesOf profile (F.to_come feed.old) (F.to_come feed.new) 4096) }
-    ensures stopped { OnErr result (MayLeaveOpen profile (F.to_come feed.old) (F.to_come feed.new)) }
+    ensures stopped { OnErr result (MayLeaveUndecided profile (F.to_come feed.old) (F.to_come feed.new)) }
     ensures count { Counts result (F.failures feed.old) (F.failures feed.new) }
 {
     let mut maker = Maker::new(profile);
