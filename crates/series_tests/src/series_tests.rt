@@ -1,11 +1,7 @@
 //! A series, match by match, and what it answers after a write has failed.
 
-ghost use Rattle.std.specs.Prelude.{◌≡◌, [], IfOk, length};
-
-use crate::checks::{Game, game_of_one, taken};
-use crate::runs::compile_into;
-use crate::{Programs, Recorder, Series, SeriesFault, Settings, Status, Step};
-use std::alloc::Global;
+use crate::checks::{Game, game_of_one, program_of, taken};
+use series::{Programs, Recorder, Series, SeriesFault, Step, compile_files};
 use std::test::Fail;
 use tokens::Pieces;
 
@@ -17,26 +13,11 @@ const TWO_MATCHES: Game = Game {
     first: 1,
 };
 
-/// Compiles `main(){}` in place.
-fn compile_still(alloc: Global, settings: &Settings, programs: &mut Programs) -> Result<(), Fail>
-    requires none { programs.old ≡ [] }
-    requires one { length settings.now.words ≡ 1 }
-    ensures { IfOk result (λ _. length programs.new ≡ length settings.now.words) }
-{
-    let mut feeds = [Pieces::new(b"main(){}", 4096)];
-    let mut out = Recorder::new(alloc);
-    let mut err = Recorder::new(alloc);
-    match compile_into(programs, settings, &mut feeds, &mut out, &mut err) {
-        Ok(Status::Done) => Ok(()),
-        _ => Err("it did not compile".into()),
-    }
-}
-
 #[test]
 fn matches_are_played_one_by_one(rt: HostRuntime) -> Result<(), Fail> {
     let settings = game_of_one(TWO_MATCHES, "a.r");
     let mut programs = Programs::new();
-    compile_still(rt.alloc(), &settings, &mut programs)?;
+    programs.push(program_of(b"main(){}")?);
     let mut series = Series::new(&programs, &settings);
     let mut out = Recorder::new(rt.alloc());
     assert_eq!(rt; series.next(&mut out), Ok(Step::Played(1)));
@@ -53,7 +34,7 @@ fn matches_are_played_one_by_one(rt: HostRuntime) -> Result<(), Fail> {
 fn a_series_stops_at_a_failed_report(rt: HostRuntime) -> Result<(), Fail> {
     let settings = game_of_one(TWO_MATCHES, "a.r");
     let mut programs = Programs::new();
-    compile_still(rt.alloc(), &settings, &mut programs)?;
+    programs.push(program_of(b"main(){}")?);
     let mut series = Series::new(&programs, &settings);
     let mut out = Recorder::new(rt.alloc()).with_room(10);
     assert_eq!(rt; series.next(&mut out), Err(SeriesFault::Write));
@@ -76,7 +57,7 @@ fn a_series_stops_at_failed_totals(rt: HostRuntime) -> Result<(), Fail> {
     };
     let settings = game_of_one(game, "a.r");
     let mut programs = Programs::new();
-    compile_still(rt.alloc(), &settings, &mut programs)?;
+    programs.push(program_of(b"main(){}")?);
     let mut series = Series::new(&programs, &settings);
     let mut out = Recorder::new(rt.alloc()).failing_after(1);
     assert_eq!(rt; series.next(&mut out), Ok(Step::Played(1)));
@@ -89,5 +70,32 @@ fn a_series_stops_at_failed_totals(rt: HostRuntime) -> Result<(), Fail> {
     assert_eq!(rt; series.finish(&mut out), Err(SeriesFault::Write));
     assert_eq!(rt; out.portions().len(), 1);
     assert_eq!(rt; out.failures(), 1);
+    Ok(())
+}
+
+#[test]
+fn a_series_may_own_its_programs(rt: HostRuntime) -> Result<(), Fail> {
+    let settings = game_of_one(TWO_MATCHES, "a.r");
+    let mut programs = Programs::new();
+    programs.push(program_of(b"main(){}")?);
+    let mut series = Series::new(programs, &settings);
+    let mut out = Recorder::new(rt.alloc());
+    assert_eq!(rt; series.next(&mut out), Ok(Step::Played(1)));
+    assert_eq!(rt; series.next(&mut out), Ok(Step::Played(2)));
+    assert_eq!(rt; out.portions().len(), 2);
+    Ok(())
+}
+
+#[test]
+fn programs_are_kept_without_a_run(rt: HostRuntime) -> Result<(), Fail> {
+    let settings = game_of_one(TWO_MATCHES, "a.r");
+    let mut feeds = [Pieces::new(b"main(){}", 4096)];
+    let mut out = Recorder::new(rt.alloc());
+    let mut err = Recorder::new(rt.alloc());
+    match compile_files(&settings, &mut feeds, &mut out, &mut err) {
+        Ok(Some(programs)) => assert_eq!(rt; programs.len(), 1),
+        _ => return Err("it did not compile".into()),
+    }
+    assert!(rt; out.portions().is_empty());
     Ok(())
 }

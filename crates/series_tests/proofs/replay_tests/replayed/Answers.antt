@@ -1,6 +1,6 @@
 use Rattle.std.proofs.Common.{[]}
 use Rattle.grammar.specs.Actions.{actions}
-use Rattle.series.proofs.replay_tests.replayed.Goals as goal
+use Rattle.series_tests.proofs.replay_tests.replayed.Goals as goal
 
 -- the trees are told to a maker that stood for nothing
 pub finish-requires : goal.finish-requires

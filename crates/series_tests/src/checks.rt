@@ -2,14 +2,14 @@
 
 ghost use Rattle.std.specs.Prelude.{◌≡◌, ◌<◌, ◌≤◌, length};
 
-use crate::runs::compile;
-use crate::{
+use arrayvec::ArrayVec;
+use code::{Maker, Program};
+use grammar::Profile;
+use lang::parse;
+use series::{
     CYCLES_DEFAULT, CYCLES_MAX, FILES_MAX, FIRST_MAX, MATCHES_MAX, Mode, Recorder, RunFault,
     SEED_DEFAULT, Settings, Status, run,
 };
-use arrayvec::ArrayVec;
-use code::Program;
-use grammar::Profile;
 use std::alloc::{AllocError, Global};
 use std::process::Abort;
 use std::test::Fail;
@@ -112,10 +112,11 @@ pub fn list(alloc: Global, word: &str, source: &[u8], most: usize) -> Result<End
 
 /// The program of a good source.
 pub fn program_of(source: &[u8]) -> Result<Program, Fail> {
-    let compiled = compile(Profile::first(), &mut Pieces::new(source, 4096))
-        .ok()
-        .ok_or("the device failed")?;
-    Ok(compiled.ok().ok_or("the source has a fault")?)
+    let mut maker = Maker::new(Profile::first());
+    match parse(&mut Pieces::new(source, 4096), &mut maker) {
+        Ok(names) => Ok(maker.finish(names)),
+        Err(_) => Err("the source has a fault".into()),
+    }
 }
 
 /// Lists a good file, whole and byte by byte, and compares the text.

@@ -1,10 +1,10 @@
 //! Matches of whole sources: their reports and totals.
 
-use crate::Status;
 use crate::checks::{
     Game, ONE_MATCH, check_done, check_faulty, game_of_one, game_of_two, play_one, play_two,
     text_of,
 };
+use series::Status;
 use std::test::Fail;
 
 /// A robot that shoots at its own place again and again.

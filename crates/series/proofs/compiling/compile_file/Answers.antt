@@ -1,7 +1,7 @@
 use Rattle.std.proofs.Common.{rules}
 use Rattle.code.specs.Told.{Stands}
 use Rattle.lang.specs.Files.{IsFile}
-use Rattle.series.proofs.runs.compile.Goals as goal
+use Rattle.series.proofs.compiling.compile_file.Goals as goal
 
 pub finish-requires : goal.finish-requires
 finish-requires g c =

@@ -6,7 +6,7 @@ use crate::checks::{
     EMPTY_MAIN, Ended, Game, ONE_MATCH, game_of_one, game_of_two, listing_of_one, listing_of_three,
     taken, text_of,
 };
-use crate::{Recorder, RunFault, Status, run};
+use series::{Recorder, RunFault, Status, run};
 use std::process::Abort;
 use std::test::Fail;
 use tokens::Pieces;
