@@ -1,7 +1,7 @@
 use Rattle.std.proofs.Common.{◌≡◌, ◌∙◌, List, ℕ, Option, map, ap, sym, Bor}
 use Rattle.std.proofs.lemmas.Simd.{map-map}
-use Rattle.crobots.proofs.WholeLemmas.{ends_by_run}
-use Rattle.crobots.proofs.programs.ending.Goals as goal
+use Rattle.command.proofs.WholeLemmas.{ends_by_run}
+use Rattle.command.proofs.programs.ending.Goals as goal
 
 pub returns-clause-ends : goal.returns-clause-ends
 returns-clause-ends g c =

@@ -2,7 +2,7 @@
 
 ghost use Rattle.std.specs.Prelude.{◌≡◌, ℕ, ◌+◌, ◌-◌, ◌^◌, ◌<◌, ◌≤◌, List, [], ◌∷◌, ◌++◌};
 ghost use Rattle.sinks.specs.Portions.{Puts};
-ghost use Rattle.crobots.specs.Endings.{status_of, line_of, PutsLine};
+ghost use Rattle.command.specs.Endings.{status_of, line_of, PutsLine};
 
 use series::{Pen, Sink, put_all};
 use tokens::DeviceFault;

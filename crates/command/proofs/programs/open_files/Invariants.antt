@@ -1,6 +1,6 @@
 use Rattle.std.proofs.Common.{◌≡◌, false, map, take}
 use Rattle.std.specs.Prelude.{All}
-use Rattle.crobots.proofs.programs.open_files.Given as goal
+use Rattle.command.proofs.programs.open_files.Given as goal
 
 -- a file for each word so far, of which nothing is read and which has neither failed nor ended
 abbrev pub invariant-loop-word : goal.invariant-loop-word

@@ -14,9 +14,9 @@ use Rattle.sinks.specs.Portions.{Takes, TakesFront}
 use Rattle.series.specs.Runs.{AreSources}
 use Rattle.settings.specs.declared.faults.UseFault.{UseFault}
 use Rattle.settings.specs.Setup.{Setup}
-use Rattle.crobots.specs.declared.endings.Ending.{Ending}
-use Rattle.crobots.specs.declared.endings.Ending.TheVariants.{Done, Faulty, WrongUsage, CannotOpen, CannotRead, CannotWrite, OutOfMemory}
-use Rattle.crobots.specs.Endings.{line_of, status_of}
+use Rattle.command.specs.declared.endings.Ending.{Ending}
+use Rattle.command.specs.declared.endings.Ending.TheVariants.{Done, Faulty, WrongUsage, CannotOpen, CannotRead, CannotWrite, OutOfMemory}
+use Rattle.command.specs.Endings.{line_of, status_of}
 
 -- the ending is about this file
 abbrev pub IsAbout : (Bor (List ℕ) → Ending) → Option (List ℕ) → Ending → Type 0

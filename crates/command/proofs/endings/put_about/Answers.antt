@@ -1,4 +1,4 @@
-use Rattle.crobots.proofs.endings.put_about.Goals as goal
+use Rattle.command.proofs.endings.put_about.Goals as goal
 
 pub returns : goal.returns
 returns g c =

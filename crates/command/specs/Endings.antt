@@ -1,8 +1,8 @@
 -- How the program ends.
 use Rattle.std.specs.Prelude.{◌≡◌, ◌⊎◌, ℕ, ◌+◌, List, [], ◌∷◌, ◌++◌, codes}
 use Rattle.sinks.specs.Portions.{Portions, Takes, TakesFront}
-use Rattle.crobots.specs.declared.endings.Ending.{Ending}
-use Rattle.crobots.specs.declared.endings.Ending.TheVariants.{Done, Faulty, WrongUsage, CannotOpen, CannotRead, CannotWrite, OutOfMemory}
+use Rattle.command.specs.declared.endings.Ending.{Ending}
+use Rattle.command.specs.declared.endings.Ending.TheVariants.{Done, Faulty, WrongUsage, CannotOpen, CannotRead, CannotWrite, OutOfMemory}
 
 -- the exit status
 abbrev pub status_of : Ending → ℕ

@@ -5,8 +5,8 @@ use Rattle.series.specs.Failures.{Failures}
 use Rattle.settings.specs.declared.faults.UseFault.{UseFault}
 use Rattle.settings.specs.declared.faults.UseFault.TheVariants.{Memory}
 use Rattle.settings.specs.Setup.{Setup}
-use Rattle.crobots.specs.declared.endings.Ending.{Ending}
-use Rattle.crobots.specs.Whole.{Ends, RunsTo}
+use Rattle.command.specs.declared.endings.Ending.{Ending}
+use Rattle.command.specs.Whole.{Ends, RunsTo}
 
 pub ends_by_run : (holds : List ℕ → Option (List ℕ)) (refuses : List ℕ → Type 0) (asked : Result Setup UseFault) (setup : Setup)
     (known : List (Option (List ℕ))) (ending : Ending) (before after : Taken) (failed failed_after : Failures)

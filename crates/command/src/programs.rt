@@ -4,8 +4,8 @@ ghost use Rattle.std.specs.Prelude.{◌≡◌, ◌⊎◌, ℕ, ◌+◌, ◌-◌,
 ghost use Rattle.series.specs.Pieces.{taken};
 ghost use Rattle.series.specs.Failures.{failures};
 ghost use Rattle.arguments.specs.Words.{asked};
-ghost use Rattle.crobots.specs.Endings.{Accounts};
-ghost use Rattle.crobots.specs.Whole.{Concludes, Ends, IsNotOpened, RunsTo};
+ghost use Rattle.command.specs.Endings.{Accounts};
+ghost use Rattle.command.specs.Whole.{Concludes, Ends, IsNotOpened, RunsTo};
 
 use crate::endings::Ending;
 use crate::openers::{Disk, OpenFault, Opener};
