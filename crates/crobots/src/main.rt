@@ -3,16 +3,7 @@
 
 ghost use Rattle.std.specs.Prelude.{◌≡◌, map, string_bytes, IfOk};
 
-mod devices;
-mod endings;
-mod openers;
-mod programs;
-#[cfg(test)]
-mod tests;
-
-use crate::devices::StreamSink;
-use crate::endings::Ending;
-use crate::programs::program;
+use command::{Ending, StreamSink, program};
 use std::alloc::AllocError;
 use std::io::ErrorKind;
 use std::process::ExitCode;

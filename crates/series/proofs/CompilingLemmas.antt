@@ -1,6 +1,6 @@
 -- What compiling gives and writes, file by file.
-use Rattle.std.proofs.Common.{◌≡◌, ℕ, ◌+◌, ◌<◌, Bool, true, false, List, [], ◌∷◌, ◌++◌, length, take, drop, get_or, map, Option, Some, None, Result, Ok, Err, refl, sym, ap, ◌∙◌, subst}
-use Rattle.std.specs.Prelude.{if◌then◌else◌, option_map}
+use Rattle.std.proofs.Common.{◌≡◌, ℕ, ◌+◌, ◌<◌, ◌≤◌, List, [], ◌∷◌, ◌++◌, length, take, drop, get_or, map, Option, Some, None, Result, Ok, Err, refl, sym, ap, ◌∙◌, subst, arith}
+use Rattle.std.specs.Prelude.{option_map}
 use Rattle.std.proofs.lemmas.List.Sums.{fold-append}
 use Rattle.std.proofs.lemmas.List.{take_more, map-append, take-append-drop, append-nil}
 use Rattle.std.proofs.lemmas.Grind.{flat_map-append}
@@ -12,16 +12,12 @@ use Rattle.code.specs.Generation.{ObjectCode, code_of}
 use Rattle.settings.specs.declared.settings.Mode.{Mode}
 use Rattle.series.specs.Compiling.{Source, and_file, files_of, codes_of, code_or_fault, compiled_code, pieces_of, source_pieces, status_of, compiling}
 use Rattle.series.specs.Pieces.{Taken, Writes, Begins}
-use Rattle.series.specs.Runs.{both, status_by}
+use Rattle.series.specs.Runs.{and_code, both, count_of, kept_by, status_by}
 use Rattle.series.specs.declared.endings.Status.{Status}
+use Rattle.series.specs.declared.endings.Status.TheVariants.{Done, Faulty}
 use Rattle.sinks.specs.Texts.{file_name}
 use Rattle.series.proofs.PiecesLemmas.{writes_then, begins_then, begins_more}
 use Rattle.series.proofs.RunsLemmas.{no_source}
-
--- the codes so far with that of one more file; a faulty file leaves none
-abbrev pub and_code : Option (List ObjectCode) → Result ObjectCode Diagnostic → Option (List ObjectCode)
-and_code (Some codes) (Ok code) = Some (codes ++ code ∷ [])
-and_code _ _ = None
 
 -- one more file is one more code
 codes_and_file : (profile : Profile) (files : Option (List File)) (verdict : Result File Diagnostic)
@@ -62,24 +58,20 @@ kept_more profile sources file kept code within so_far is = rw (so_far, is)
     (sym (ap (λ files. option_map (λ files. map (code_of profile) files) files) (files_more profile sources file within)
     ∙ codes_and_file profile (files_of profile (take file sources)) (compiled profile (get_or sources file no_source).bytes)))
 
--- a good file's code is kept, unless a file was faulty
-pub kept_good : (faulty later : Bool) (codes after : List ObjectCode) (code : ObjectCode) (r : Result ObjectCode Diagnostic) (x : Option (List ObjectCode))
-    → r ≡ Ok code → later ≡ faulty → after ≡ codes ++ code ∷ []
-    → and_code (if faulty then None else Some codes) r ≡ x → (if later then None else Some after) ≡ x
-kept_good faulty later codes after code r x is same more kept = rw (same, more) (by_faults faulty ∙ rw is at kept)
-  where
-    by_faults : (b : Bool) → (if b then None else Some (codes ++ code ∷ [])) ≡ and_code (if b then None else Some codes) (Ok code)
-    by_faults true = refl
-    by_faults false = refl
+-- the programs kept so far and of one more file
+pub kept_both : (so_far one : Status) (kept after : List ObjectCode) (code : Result ObjectCode Diagnostic) → kept_by one after ≡ and_code (Some kept) code
+    → kept_by (both so_far one) after ≡ and_code (kept_by so_far kept) code
+kept_both Done one kept after code is = is
+kept_both Faulty one kept after (Ok code) is = refl
+kept_both Faulty one kept after (Err d) is = refl
 
--- a faulty file leaves no code
-pub kept_fault : (kept : Option (List ObjectCode)) (later : Bool) (after : List ObjectCode) (d : Diagnostic) (r : Result ObjectCode Diagnostic) (x : Option (List ObjectCode))
-    → r ≡ Err d → later ≡ true → and_code kept r ≡ x → (if later then None else Some after) ≡ x
-kept_fault kept later after d r x is now more = rw now (by_kept kept ∙ rw is at more)
-  where
-    by_kept : (k : Option (List ObjectCode)) → None ≡ and_code k (Err d)
-    by_kept None = refl
-    by_kept (Some codes) = refl
+-- how many they are
+pub manned_more : (so_far one : Status) (file kept after : ℕ) → after ≡ kept + count_of one → kept ≤ file → (so_far ≡ Done → kept ≡ file)
+    → (after ≤ file + 1) × (both so_far one ≡ Done → after ≡ file + 1)
+manned_more Done Done file kept after is most all = (omega (arith, is, most), λ done. omega (arith, is, all refl))
+manned_more Done Faulty file kept after is most all = (omega (arith, is, most), λ done. cc)
+manned_more Faulty Done file kept after is most all = (omega (arith, is, most), λ done. cc)
+manned_more Faulty Faulty file kept after is most all = (omega (arith, is, most), λ done. cc)
 
 -- the pieces of one source more
 compiling_more : (mode : Mode) (profile : Profile) (sources : List Source) (file : ℕ) → file < length sources

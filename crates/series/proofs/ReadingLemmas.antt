@@ -12,7 +12,7 @@ module _ {X : Type 0} where
   told_there tells start feeds file x within same =
       get_or-map tells start file x None within ∙ ap tells (sym (feed_here start feeds file x same))
 
-  same_length : (start feeds : List X) (file : ℕ) → file < length start → drop file feeds ≡ drop file start → file < length feeds
+  pub same_length : (start feeds : List X) (file : ℕ) → file < length start → drop file feeds ≡ drop file start → file < length feeds
   same_length start feeds file within same =
       let rests : length feeds - file ≡ length start - file = sym (length-drop file feeds) ∙ ap length same ∙ length-drop file start in
       omega (arith, rests)

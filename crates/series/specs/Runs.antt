@@ -1,5 +1,5 @@
 -- What compiling leaves: what the sinks took, and the programs.
-use Rattle.std.specs.Prelude.{◌≡◌, ℕ, List, Option, Some, None, Result, Ok, Err, MatchResult, map, take}
+use Rattle.std.specs.Prelude.{◌≡◌, ℕ, List, [], ◌∷◌, ◌++◌, Option, Some, None, Result, Ok, Err, MatchResult, map, take}
 use Rattle.grammar.specs.declared.diagnostics.Diagnostic.{Diagnostic}
 use Rattle.code.specs.Generation.{ObjectCode}
 use Rattle.settings.specs.Setup.{Setup}
@@ -30,11 +30,24 @@ Compiles setup sources result before after = MatchResult result
     × (programs ≡ codes_of setup.profile sources))
     (λ fault. StopsCompiling setup sources fault before after)
 
--- the programs that were kept are answered if no file has a fault
+-- the codes so far with that of one more file; a faulty file leaves none
+abbrev pub and_code : Option (List ObjectCode) → Result ObjectCode Diagnostic → Option (List ObjectCode)
+and_code (Some codes) (Ok code) = Some (codes ++ code ∷ [])
+and_code _ _ = None
+
+-- the programs that were kept count if no file has a fault
+abbrev pub kept_by : Status → List ObjectCode → Option (List ObjectCode)
+kept_by Done kept = Some kept
+kept_by Faulty kept = None
+
 abbrev pub programs_by : Result Status RunFault → List ObjectCode → Result (Option (List ObjectCode)) RunFault
-programs_by (Ok Done) kept = Ok (Some kept)
-programs_by (Ok Faulty) kept = Ok None
+programs_by (Ok status) kept = Ok (kept_by status kept)
 programs_by (Err fault) kept = Err fault
+
+-- how many programs a file gives
+abbrev pub count_of : Status → ℕ
+count_of Done = 1
+count_of Faulty = 0
 
 -- whether a file is good
 abbrev pub status_by : Result ObjectCode Diagnostic → Status

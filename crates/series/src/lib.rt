@@ -1,6 +1,7 @@
 //! Series of robots: their listings, diagnostics, matches and totals, written on two channels piece by piece.
 #![tactic(auto)]
 
+mod compiling;
 mod courses;
 mod endings;
 mod known;
@@ -24,18 +25,3 @@ pub use settings::{
 };
 pub use sinks::{PAGE, Pen, Recorder, Sink, name_of, put_all, put_diagnostic};
 pub use tokens::{DeviceFault, Feed};
-
-#[cfg(test)]
-mod checks;
-#[cfg(test)]
-mod listing_tests;
-#[cfg(test)]
-mod machine_tests;
-#[cfg(test)]
-mod match_tests;
-#[cfg(test)]
-mod replay_tests;
-#[cfg(test)]
-mod run_tests;
-#[cfg(test)]
-mod series_tests;

@@ -7,9 +7,10 @@ ghost use Rattle.series.specs.Failures.{Accounts, CountsSinks, failures};
 ghost use Rattle.series.specs.Output.{Runs};
 ghost use Rattle.series.specs.Pieces.{taken};
 ghost use Rattle.series.specs.Reading.{MayLeaveUndecided, Reads, TakesOf};
-ghost use Rattle.series.specs.Runs.{AreSources, PutsPieces, both, status_by};
+ghost use Rattle.series.specs.Runs.{AreSources, PutsPieces, status_by};
 ghost use Rattle.settings.specs.declared.settings.Mode.TheVariants.{Listing};
 
+use crate::compiling::both;
 use crate::endings::{RunFault, Status};
 use crate::listing::put_listing;
 use code::Maker;
@@ -59,16 +60,6 @@ pub(crate) fn list_files<F: Feed, O: Sink, E: Sink>(
         status = both(status, listed);
     }
     Ok(status)
-}
-
-/// The status of two parts of a run.
-fn both(first: Status, second: Status) -> Status
-    ensures { result ≡ both first second }
-{
-    match first {
-        Status::Done => second,
-        Status::Faulty => Status::Faulty,
-    }
 }
 
 /// Compiles the file of a feed, and puts its listing or its diagnostic. Answers whether the file was read, and then

@@ -1,0 +1,68 @@
+-- How the program ends, by what the words ask for, what the files hold, and which can't be opened.
+use Rattle.std.specs.Prelude.{◌≡◌, ◌⊎◌, ℕ, List, Option, Some, Result, Ok, Err, map, slice_get, Contains}
+use Rattle.std.specs.Borrow.{Bor}
+use Rattle.series.specs.declared.endings.RunFault.{RunFault}
+use Rattle.series.specs.declared.endings.RunFault.TheVariants as fault
+use Rattle.series.specs.declared.endings.Status.{Status}
+use Rattle.series.specs.declared.endings.Status.TheVariants as status
+use Rattle.series.specs.Compiling.{Source}
+use Rattle.series.specs.Failures.{Failures}
+use Rattle.series.specs.Failures.{Accounts as Counts}
+use Rattle.series.specs.Output.{Runs}
+use Rattle.series.specs.Pieces.{Taken}
+use Rattle.sinks.specs.Portions.{Takes, TakesFront}
+use Rattle.series.specs.Runs.{AreSources}
+use Rattle.settings.specs.declared.faults.UseFault.{UseFault}
+use Rattle.settings.specs.Setup.{Setup}
+use Rattle.command.specs.declared.endings.Ending.{Ending}
+use Rattle.command.specs.declared.endings.Ending.TheVariants.{Done, Faulty, WrongUsage, CannotOpen, CannotRead, CannotWrite, OutOfMemory}
+use Rattle.command.specs.Endings.{line_of, status_of}
+
+-- the ending is about this file
+abbrev pub IsAbout : (Bor (List ℕ) → Ending) → Option (List ℕ) → Ending → Type 0
+IsAbout about named ending = (word : Bor (List ℕ)) × (ending ≡ about word) × (named ≡ Some word.now)
+
+-- the ending of a run over the files of these words that answers so
+abbrev pub IsEndingOf : List (List ℕ) → Result Status RunFault → Ending → Type 0
+IsEndingOf words (Ok status.Done) ending = ending ≡ Done
+IsEndingOf words (Ok status.Faulty) ending = ending ≡ Faulty
+IsEndingOf words (Err (fault.Read file)) ending = IsAbout CannotRead (slice_get words file) ending
+IsEndingOf words (Err fault.Write) ending = ending ≡ CannotWrite
+IsEndingOf words (Err fault.Memory) ending = ending ≡ OutOfMemory
+
+-- a run over files whose contents are known so ended in this way
+pub record RunsTo (setup : Setup) (known : List (Option (List ℕ))) (ending : Ending) (before after : Taken)
+    (failed failed_after : Failures) : Type 0 where
+  pub answer : Result Status RunFault
+  pub ends : IsEndingOf setup.words answer ending
+  pub output : (sources : List Source) → AreSources sources setup.words known → Runs setup sources answer before after
+  pub devices : Counts answer failed failed_after
+
+-- a file of these words was not opened, or memory was refused
+abbrev pub IsNotOpened : (List ℕ → Type 0) → List (List ℕ) → Ending → Type 0
+IsNotOpened refuses words (CannotOpen word) = Contains words word.now × refuses word.now
+IsNotOpened refuses words OutOfMemory = Unit {0}
+IsNotOpened refuses words _ = ⊥
+
+-- How the program ends, up to its own line. Refused words end it at once; else the files are opened, and then they run.
+abbrev pub Ends : (List ℕ → Option (List ℕ)) → (List ℕ → Type 0) → Result Setup UseFault → Ending → Taken → Taken
+    → Type 0
+Ends holds refuses (Err fault) ending before after = ((ending ≡ WrongUsage) ⊎ (ending ≡ OutOfMemory)) × (after ≡ before)
+Ends holds refuses (Ok setup) ending before after =
+    (IsNotOpened refuses setup.words ending × (after ≡ before))
+    ⊎ ((failed : Failures) × (failed_after : Failures)
+    × RunsTo setup (map holds setup.words) ending before after failed failed_after)
+
+-- The program ends so, puts the line of its ending, whole if the channel of faults never failed, and answers its
+-- status.
+-- The two counts say how often that channel had failed before, and has failed after.
+pub record Concludes (holds : List ℕ → Option (List ℕ)) (refuses : List ℕ → Type 0) (asked : Result Setup UseFault)
+    (result : ℕ)
+    (before after : Taken) (failed failed_after : ℕ) : Type 0 where
+  pub ending : Ending
+  pub between : Taken
+  pub ends : Ends holds refuses asked ending before between
+  pub text : after.text ≡ between.text
+  pub front : TakesFront between.faults after.faults (line_of ending)
+  pub whole : failed_after ≡ failed → Takes between.faults after.faults (line_of ending)
+  pub status : result ≡ status_of ending

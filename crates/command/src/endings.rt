@@ -1,0 +1,88 @@
+//! How the program ends: its status, and the line that it puts.
+
+ghost use Rattle.std.specs.Prelude.{◌≡◌, ℕ, ◌+◌, ◌-◌, ◌^◌, ◌<◌, ◌≤◌, List, [], ◌∷◌, ◌++◌};
+ghost use Rattle.sinks.specs.Portions.{Puts};
+ghost use Rattle.command.specs.Endings.{status_of, line_of, PutsLine};
+
+use series::{Pen, Sink, put_all};
+use tokens::DeviceFault;
+
+/// The line of wrong usage.
+const USAGE: &str =
+    "usage: crobots (-c | -mMATCHES) [-lCYCLES] [-sSEED] [-pPROFILE] [-fFIRST] FILE...\n";
+
+/// How the program ends.
+#[derive(Clone, Copy, Debug, PartialEq, Eq)]
+pub enum Ending<'a> {
+    /// Each file was good.
+    Done,
+    /// A file had a fault.
+    Faulty,
+    /// The words of the command line were wrong.
+    WrongUsage,
+    /// The file of this word was not opened.
+    CannotOpen(&'a str),
+    /// The file of this word was not read.
+    CannotRead(&'a str),
+    /// Writing failed.
+    CannotWrite,
+    /// Memory was refused.
+    OutOfMemory,
+}
+
+impl Ending<'_> {
+    /// Puts the ending's line, and answers the status, which a failure to put the line leaves as it is.
+    pub fn end<E: Sink>(self, err: &mut E) -> u8
+        requires { E.failures err.old < 2 ^ 64 - 1 }
+        ensures status { result ≡ status_of self.entry }
+        ensures line { PutsLine (E.portions err.old) (E.failures err.old) (E.portions err.new) (E.failures err.new)
+            (line_of self.entry) }
+        ensures quiet { line_of self.entry ≡ [] → E.failures err.new ≡ E.failures err.old }
+    {
+        let _ = self.put_line(err);
+        self.status()
+    }
+
+    fn status(self) -> u8
+        ensures { result ≡ status_of self.entry }
+    {
+        match self {
+            Ending::Done => 0,
+            Ending::Faulty => 1,
+            Ending::WrongUsage => 2,
+            Ending::CannotOpen(_) | Ending::CannotRead(_) => 3,
+            Ending::CannotWrite => 4,
+            Ending::OutOfMemory => 5,
+        }
+    }
+
+    #[tactic(auto, unfolding(crate::specs::Endings::usage_line))]
+    fn put_line<E: Sink>(self, err: &mut E) -> Result<(), DeviceFault>
+        requires { E.failures err.old < 2 ^ 64 - 1 }
+        ensures line { Puts result (E.portions err.old) (E.failures err.old) (E.portions err.new) (E.failures err.new)
+            (line_of self.entry) }
+        ensures quiet { line_of self.entry ≡ [] → E.failures err.new ≡ E.failures err.old }
+    {
+        match self {
+            Ending::Done | Ending::Faulty => Ok(()),
+            Ending::WrongUsage => put_all(err, USAGE.as_bytes()),
+            Ending::CannotOpen(word) => put_about(err, b"crobots: cannot open ", word),
+            Ending::CannotRead(word) => put_about(err, b"crobots: cannot read ", word),
+            Ending::CannotWrite => put_all(err, b"crobots: cannot write\n"),
+            Ending::OutOfMemory => put_all(err, b"crobots: out of memory\n"),
+        }
+    }
+}
+
+/// Puts the line that says this about a file.
+fn put_about<E: Sink>(err: &mut E, what: &[u8], word: &str) -> Result<(), DeviceFault>
+    requires { E.failures err.old < 2 ^ 64 - 1 }
+    ensures { Puts result (E.portions err.old) (E.failures err.old) (E.portions err.new) (E.failures err.new)
+        (what.now ++ word.now ++ 10 ∷ []) }
+{
+    let mut pen = Pen::new();
+    pen.add(err, what);
+    pen.add(err, word.as_bytes());
+    pen.add(err, b"\n");
+    pen.done(err)
+}

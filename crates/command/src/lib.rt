@@ -1,0 +1,14 @@
+//! The program over given words, files and streams: what it reads and writes, its own lines and its status.
+#![tactic(auto)]
+
+mod devices;
+mod endings;
+mod openers;
+mod programs;
+#[cfg(test)]
+mod tests;
+
+pub use devices::{FileFeed, StreamSink};
+pub use endings::Ending;
+pub use openers::{Disk, OpenFault, Opener};
+pub use programs::{program, program_over};

@@ -1,0 +1,105 @@
+use Rattle.std.proofs.Common.{false, ◌≡◌, ◌+◌, ◌<◌, ◌^◌, ◌-◌, ◌∙◌, sym, subst, ap, List, ℕ, length, map, refl, get_or, arith}
+use Rattle.std.proofs.lemmas.List.{length-map}
+use Rattle.std.proofs.lemmas.List.Elements.{All-get_or}
+use Rattle.series.specs.Compiling.{compiled_code}
+use Rattle.series.specs.Runs.{AreSources}
+use Rattle.series.proofs.CompilingLemmas.{kept_both, kept_more, manned_more, pieces_more, pieces_cut}
+use Rattle.series.proofs.ReadingLemmas.{fails_at, reads_first, reads_more, same_length}
+use Rattle.series.proofs.RunsLemmas.{feed_here, no_source, told_here, name_here, length_sources, none_failed, read_failed, rest_more, write_failed}
+use Rattle.series.proofs.compiling.compile_into.Goals as goal
+
+pub compile_file-requires-clause-count : goal.compile_file-requires-clause-count
+compile_file-requires-clause-count g c =
+    let within : c.loop-file.file < length c.args.feeds.now = omega arith in
+    rw (feed_here c.args.feeds.now c.loop-file.feeds c.loop-file.file c.index-feeds-file.result c.loop-file.invariant.0)
+    (All-get_or (λ feed. g.F.Feed.failures feed < 2 ^ 64 - 1) c.args.feeds.now c.loop-file.file c.index-feeds-file.result within c.requires.feeds)
+
+pub compile_file-requires-clause-not_ended : goal.compile_file-requires-clause-not_ended
+compile_file-requires-clause-not_ended g c =
+    let within : c.loop-file.file < length c.args.feeds.now = omega arith in
+    rw (feed_here c.args.feeds.now c.loop-file.feeds c.loop-file.file c.index-feeds-file.result c.loop-file.invariant.0)
+    (All-get_or (λ feed. g.F.Feed.ended feed ≡ false) c.args.feeds.now c.loop-file.file c.index-feeds-file.result within c.requires.not_ended)
+
+pub returns-in-Err-put-clause-output : goal.returns-in-Err-put-clause-output
+returns-in-Err-put-clause-output g c = λ sources are.
+    let within : c.loop-file.file < length c.args.feeds.now = omega arith in
+    let Named : List (List ℕ) → Type 0 = λ words. AreSources sources words (map g.F.Feed.to_come c.args.feeds.now) in
+    let named : Named (map (λ word. word.now) c.words-words.result.now) = subst Named (sym c.words-words.ensures.value) are in
+    let in_words : c.loop-file.file < length c.words-words.result.now =
+    omega (arith, ap length c.words-words.ensures.value, length-map c.words-words.result.now (λ word. word.now)) in
+    let in_sources : c.loop-file.file < length sources = omega (arith, length_sources sources c.args.settings.now.words _ are) in
+    let told = told_here g.F.Feed.to_come c.args.feeds.now c.loop-file.feeds sources c.args.settings.now.words
+    c.loop-file.file c.index-feeds-file.result are c.requires.files within c.loop-file.invariant.0 in
+    pieces_cut c.args.settings.now.mode c.args.settings.now.profile sources c.loop-file.file _ _ _ _ in_sources
+    (c.loop-file.invariant.3 sources are).0 refl
+    (rw (
+      c.mode-mode.ensures.value,
+      c.profile-profile.ensures.value,
+      name_here (λ word. word.now) c.words-words.result.now sources _ c.loop-file.file _ c.as_bytes.result.now c.name_of-name.result.now
+          named in_words c.as_bytes.ensures.value c.name_of-name.ensures,
+    ) at ((rw c.in-Err-put.is at c.in-Ok.ensures.output) _ told))
+
+pub returns-in-Err-put-clause-read : goal.returns-in-Err-put-clause-read
+returns-in-Err-put-clause-read g c = (
+  c.loop-file.file + 1,
+  reads_first g.F.Feed.to_come c.args.settings.now.profile c.args.feeds.now _ (c.loop-file.file + 1)
+      (rest_more c.args.feeds.now c.loop-file.feeds c.loop-file.file c.compile_file.new.feed c.loop-file.invariant.0)
+      (reads_more g.F.Feed.to_come c.args.settings.now.profile c.args.feeds.now c.loop-file.feeds c.loop-file.file c.index-feeds-file.result c.compile_file.new.feed
+      (omega arith) c.loop-file.invariant.0 c.loop-file.invariant.4 (rw c.profile-profile.ensures.value at c.in-Ok.ensures.taken)),
+)
+
+pub returns-in-Err-clause-read : goal.returns-in-Err-clause-read
+returns-in-Err-clause-read g c =
+    fails_at g.F.Feed.to_come c.args.settings.now.profile c.args.feeds.now c.loop-file.feeds c.loop-file.file c.index-feeds-file.result c.compile_file.new.feed
+    (omega arith) c.loop-file.invariant.0 c.loop-file.invariant.4 (rw c.profile-profile.ensures.value at c.in-Err.ensures.stopped)
+
+pub loop-file-preserved : goal.loop-file-preserved
+loop-file-preserved g c = (
+  rest_more c.args.feeds.now c.loop-file.feeds c.loop-file.file c.compile_file.new.feed c.loop-file.invariant.0,
+  rw (
+    none_failed g.F.Feed.failures c.loop-file.feeds c.loop-file.file c.index-feeds-file.result c.compile_file.new.feed c.in-Ok.ensures.count,
+    (rw c.in-Ok-put.is at c.in-Ok.ensures.failures).0,
+    (rw c.in-Ok-put.is at c.in-Ok.ensures.failures).1,
+  ) c.loop-file.invariant.1,
+  rw c.both-status.ensures
+      (manned_more c.loop-file.status c.in-Ok-put.compiled c.loop-file.file (length c.loop-file.programs) (length c.compile_file.new.programs)
+      (rw c.in-Ok-put.is at c.in-Ok.ensures.manned) c.loop-file.invariant.2.0 c.loop-file.invariant.2.1),
+  λ sources are.
+      let within : c.loop-file.file < length c.args.feeds.now = omega arith in
+      let Named : List (List ℕ) → Type 0 = λ words. AreSources sources words (map g.F.Feed.to_come c.args.feeds.now) in
+      let named : Named (map (λ word. word.now) c.words-words.result.now) = subst Named (sym c.words-words.ensures.value) are in
+      let in_words : c.loop-file.file < length c.words-words.result.now =
+      omega (arith, ap length c.words-words.ensures.value, length-map c.words-words.result.now (λ word. word.now)) in
+      let in_sources : c.loop-file.file < length sources = omega (arith, length_sources sources c.args.settings.now.words _ are) in
+      let told = told_here g.F.Feed.to_come c.args.feeds.now c.loop-file.feeds sources c.args.settings.now.words
+      c.loop-file.file c.index-feeds-file.result are c.requires.files within c.loop-file.invariant.0 in (
+        pieces_more c.args.settings.now.mode c.args.settings.now.profile sources c.loop-file.file _ _ _ _ in_sources (c.loop-file.invariant.3 sources are).0 refl
+            (rw (
+              c.mode-mode.ensures.value,
+              c.profile-profile.ensures.value,
+              name_here (λ word. word.now) c.words-words.result.now sources _ c.loop-file.file _ c.as_bytes.result.now c.name_of-name.result.now
+                  named in_words c.as_bytes.ensures.value c.name_of-name.ensures,
+            ) at ((rw c.in-Ok-put.is at c.in-Ok.ensures.output) _ told)),
+        rw c.both-status.ensures
+            (kept_both c.loop-file.status c.in-Ok-put.compiled c.loop-file.programs c.compile_file.new.programs
+            (compiled_code c.args.settings.now.profile (get_or sources c.loop-file.file no_source).bytes)
+            (rw c.profile-profile.ensures.value at ((rw c.in-Ok-put.is at c.in-Ok.ensures.kept) _ told))
+            ∙ kept_more c.args.settings.now.profile sources c.loop-file.file _ _ in_sources (c.loop-file.invariant.3 sources are).1 refl),
+      ),
+  reads_more g.F.Feed.to_come c.args.settings.now.profile c.args.feeds.now c.loop-file.feeds c.loop-file.file c.index-feeds-file.result c.compile_file.new.feed
+      (omega arith) c.loop-file.invariant.0 c.loop-file.invariant.4 (rw c.profile-profile.ensures.value at c.in-Ok.ensures.taken),
+)
+
+pub returns-in-Err-clause-failures : goal.returns-in-Err-clause-failures
+returns-in-Err-clause-failures g c =
+    let within : c.loop-file.file < length c.args.feeds.now = omega arith in (
+      rw (length-map c.args.feeds.now g.F.Feed.failures) within,
+      rw (c.in-Err.ensures.quiet.0, c.in-Err.ensures.quiet.1)
+          (read_failed g.F.Feed.failures c.args.feeds.now c.loop-file.feeds c.loop-file.file _ _ _ _ c.index-feeds-file.result c.compile_file.new.feed
+          c.loop-file.invariant.1 (same_length c.args.feeds.now c.loop-file.feeds c.loop-file.file within c.loop-file.invariant.0) c.in-Err.ensures.count),
+    )
+
+pub returns-in-Err-put-clause-failures : goal.returns-in-Err-put-clause-failures
+returns-in-Err-put-clause-failures g c =
+    write_failed g.F.Feed.failures c.args.feeds.now c.loop-file.feeds c.loop-file.file _ _ _ _ _ _ c.index-feeds-file.result c.compile_file.new.feed
+    c.loop-file.invariant.1 c.in-Ok.ensures.count (rw c.in-Err-put.is at c.in-Ok.ensures.failures)

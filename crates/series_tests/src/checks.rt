@@ -1,0 +1,313 @@
+//! Runs over files and sinks in memory, for tests.
+
+ghost use Rattle.std.specs.Prelude.{◌≡◌, ◌<◌, ◌≤◌, length};
+
+use arrayvec::ArrayVec;
+use code::{Maker, Program};
+use grammar::Profile;
+use lang::parse;
+use series::{
+    CYCLES_DEFAULT, CYCLES_MAX, FILES_MAX, FIRST_MAX, MATCHES_MAX, Mode, Recorder, RunFault,
+    SEED_DEFAULT, Settings, Status, run,
+};
+use std::alloc::{AllocError, Global};
+use std::process::Abort;
+use std::test::Fail;
+use tokens::Pieces;
+
+/// The lines of the listing of `main(){}`.
+pub const EMPTY_MAIN: &[&str] = &[
+    "File a.r",
+    "Externals 0",
+    "Function 0 main vars 0 at 0",
+    "Code 3",
+    "    0 CONST 0",
+    "    1 RETSUB",
+    "    2 NOP",
+];
+
+/// Lines as text.
+pub fn text_of(alloc: Global, lines: &[&str]) -> Result<Vec<u8>, AllocError> {
+    let mut text = Vec::new(alloc);
+    for line in lines {
+        text.extend_from_slice(line.as_bytes())?;
+        text.push(b'\n')?;
+    }
+    Ok(text)
+}
+
+/// The bytes that a sink took.
+pub fn taken(alloc: Global, sink: &Recorder) -> Result<Vec<u8>, AllocError> {
+    let mut all = Vec::new(alloc);
+    for portion in sink.portions() {
+        all.extend_from_slice(portion)?;
+    }
+    Ok(all)
+}
+
+/// The settings of a run that lists these files.
+pub fn listing<'a>(words: ArrayVec<&'a str, FILES_MAX>) -> Settings<'a>
+    requires some { 0 < length words.items }
+    ensures words { length result.words ≡ length words.entry.items }
+    ensures mode { result.mode ≡ Mode.Listing }
+{
+    Settings::new(
+        Mode::Listing,
+        1,
+        CYCLES_DEFAULT,
+        SEED_DEFAULT,
+        Profile::first(),
+        1,
+        words,
+    )
+}
+
+/// The settings of a run that lists one file.
+pub fn listing_of_one(word: &str) -> Settings<'_>
+    ensures words { length result.words ≡ 1 }
+    ensures mode { result.mode ≡ Mode.Listing }
+{
+    let mut words = ArrayVec::new();
+    words.push(word);
+    listing(words)
+}
+
+/// The settings of a run that lists three files.
+pub fn listing_of_three() -> Settings<'static>
+    ensures words { length result.words ≡ 3 }
+    ensures mode { result.mode ≡ Mode.Listing }
+{
+    let mut words = ArrayVec::new();
+    words.push("a.r");
+    words.push("k/b.r");
+    words.push("c.r");
+    listing(words)
+}
+
+/// How a run ended, and the bytes that the sinks took.
+#[derive(Drop)]
+pub struct Ended {
+    /// The run's answer.
+    pub answer: Result<Status, RunFault>,
+    /// What the sink of texts took.
+    pub text: Vec<u8>,
+    /// What the sink of faults took.
+    pub faults: Vec<u8>,
+}
+
+/// Lists a file whose device gives at most so many bytes at a read.
+pub fn list(alloc: Global, word: &str, source: &[u8], most: usize) -> Result<Ended, AllocError>
+    requires { 0 < most }
+{
+    let mut out = Recorder::new(alloc);
+    let mut err = Recorder::new(alloc);
+    let mut feeds = [Pieces::new(source, most)];
+    let answer = run(&listing_of_one(word), &mut feeds, &mut out, &mut err);
+    Ok(Ended {
+        answer,
+        text: taken(alloc, &out)?,
+        faults: taken(alloc, &err)?,
+    })
+}
+
+/// The program of a good source.
+pub fn program_of(source: &[u8]) -> Result<Program, Fail> {
+    let mut maker = Maker::new(Profile::first());
+    match parse(&mut Pieces::new(source, 4096), &mut maker) {
+        Ok(names) => Ok(maker.finish(names)),
+        Err(_) => Err("the source has a fault".into()),
+    }
+}
+
+/// Lists a good file, whole and byte by byte, and compares the text.
+pub fn check_listing(
+    rt: &(impl Abort + AllocGlobal),
+    word: &str,
+    source: &[u8],
+    lines: &[&str],
+) -> Result<(), Fail> {
+    for most in [4096, 1] {
+        let ended = list(rt.alloc(), word, source, most)?;
+        assert_eq!(rt; ended.answer, Ok(Status::Done), "{word}");
+        assert_eq!(rt;
+            ended.text.as_slice(),
+            text_of(rt.alloc(), lines)?.as_slice(),
+            "{word}"
+        );
+        assert!(rt; ended.faults.is_empty(), "{word}");
+    }
+    Ok(())
+}
+
+/// Lists a good file, whole and byte by byte, and compares the first lines and the last one.
+pub fn check_long_listing(
+    rt: &(impl Abort + AllocGlobal),
+    source: &[u8],
+    first: &[&str],
+    last: &str,
+) -> Result<(), Fail> {
+    for most in [4096, 1] {
+        let ended = list(rt.alloc(), "a.r", source, most)?;
+        assert_eq!(rt; ended.answer, Ok(Status::Done), "{last}");
+        assert!(rt;
+            ended
+                .text
+                .starts_with(text_of(rt.alloc(), first)?.as_slice()),
+            "{last}"
+        );
+        assert!(rt;
+            ended
+                .text
+                .ends_with(text_of(rt.alloc(), &[last])?.as_slice()),
+            "{last}"
+        );
+        assert!(rt; ended.faults.is_empty(), "{last}");
+    }
+    Ok(())
+}
+
+/// Lists a faulty file, whole and byte by byte, and compares the diagnostic.
+pub fn check_fault(
+    rt: &(impl Abort + AllocGlobal),
+    word: &str,
+    source: &[u8],
+    diagnostic: &str,
+) -> Result<(), Fail> {
+    for most in [4096, 1] {
+        let ended = list(rt.alloc(), word, source, most)?;
+        assert_eq!(rt; ended.answer, Ok(Status::Faulty), "{diagnostic}");
+        assert!(rt; ended.text.is_empty(), "{diagnostic}");
+        assert_eq!(rt;
+            ended.faults.as_slice(),
+            text_of(rt.alloc(), &[diagnostic])?.as_slice(),
+            "{diagnostic}"
+        );
+    }
+    Ok(())
+}
+
+/// What a run of matches is asked for.
+#[derive(Clone, Copy)]
+pub struct Game {
+    /// How many matches it plays.
+    pub matches: u32,
+    /// The most cycles of each.
+    pub limit: u32,
+    /// Whether its files are of the second profile.
+    pub short_circuit: bool,
+    /// The number of the first match.
+    pub first: u32,
+}
+
+/// One match of as many cycles as are played if none are asked for.
+pub const ONE_MATCH: Game = Game {
+    matches: 1,
+    limit: CYCLES_DEFAULT,
+    short_circuit: false,
+    first: 1,
+};
+
+/// The settings of a game of these files, whose numbers are brought within their limits.
+pub fn game_of<'a>(game: Game, words: ArrayVec<&'a str, FILES_MAX>) -> Settings<'a>
+    requires some { 0 < length words.items }
+    ensures words { length result.words ≡ length words.entry.items }
+{
+    let profile = if game.short_circuit {
+        Profile::second()
+    } else {
+        Profile::first()
+    };
+    Settings::new(
+        Mode::Matches,
+        game.matches.max(1).min(MATCHES_MAX),
+        game.limit.max(1).min(CYCLES_MAX),
+        SEED_DEFAULT,
+        profile,
+        game.first.max(1).min(FIRST_MAX),
+        words,
+    )
+}
+
+/// The settings of a game of one file.
+pub fn game_of_one<'a>(game: Game, word: &'a str) -> Settings<'a>
+    ensures words { length result.words ≡ 1 }
+{
+    let mut words = ArrayVec::new();
+    words.push(word);
+    game_of(game, words)
+}
+
+/// The settings of a game of two files, one of them in a folder.
+pub fn game_of_two(game: Game) -> Settings<'static>
+    ensures words { length result.words ≡ 2 }
+{
+    let mut words = ArrayVec::new();
+    words.push("a.r");
+    words.push("k/b.r");
+    game_of(game, words)
+}
+
+/// Runs what the settings ask for, over one file that is read whole.
+pub fn play_one(alloc: Global, settings: &Settings, source: &[u8]) -> Result<Ended, AllocError>
+    requires { length settings.now.words ≡ 1 }
+{
+    let mut out = Recorder::new(alloc);
+    let mut err = Recorder::new(alloc);
+    let mut feeds = [Pieces::new(source, 4096)];
+    let answer = run(settings, &mut feeds, &mut out, &mut err);
+    Ok(Ended {
+        answer,
+        text: taken(alloc, &out)?,
+        faults: taken(alloc, &err)?,
+    })
+}
+
+/// Runs what the settings ask for, over two files that are read whole.
+pub fn play_two(
+    alloc: Global,
+    settings: &Settings,
+    source: &[u8],
+    other: &[u8],
+) -> Result<Ended, AllocError>
+    requires { length settings.now.words ≡ 2 }
+{
+    let mut out = Recorder::new(alloc);
+    let mut err = Recorder::new(alloc);
+    let mut feeds = [Pieces::new(source, 4096), Pieces::new(other, 4096)];
+    let answer = run(settings, &mut feeds, &mut out, &mut err);
+    Ok(Ended {
+        answer,
+        text: taken(alloc, &out)?,
+        faults: taken(alloc, &err)?,
+    })
+}
+
+/// Compares the whole text of a run, and that it is done.
+pub fn check_done(
+    rt: &(impl Abort + AllocGlobal),
+    ended: &Ended,
+    lines: &[&str],
+) -> Result<(), Fail> {
+    assert_eq!(rt; ended.answer, Ok(Status::Done));
+    assert_eq!(rt;
+        ended.text.as_slice(),
+        text_of(rt.alloc(), lines)?.as_slice()
+    );
+    assert!(rt; ended.faults.is_empty());
+    Ok(())
+}
+
+/// Compares the faults of a run, and that it wrote no text.
+pub fn check_faulty(
+    rt: &(impl Abort + AllocGlobal),
+    ended: &Ended,
+    diagnostics: &[&str],
+) -> Result<(), Fail> {
+    assert_eq!(rt; ended.answer, Ok(Status::Faulty));
+    assert!(rt; ended.text.is_empty());
+    assert_eq!(rt;
+        ended.faults.as_slice(),
+        text_of(rt.alloc(), diagnostics)?.as_slice()
+    );
+    Ok(())
+}
