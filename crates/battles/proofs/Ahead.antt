@@ -10,43 +10,44 @@ use Rattle.code.specs.declared.want.Want.TheVariants.{Quiet}
 use Rattle.code.specs.Generation.{ObjectCode}
 use Rattle.battles.specs.Battle.{Robot, Stage, step, turn, robot_of}
 use Rattle.battles.specs.Carrying.{Runner, AreRobotsOf, EachIsAt, HasReached, IsAt, IsRobotOf}
-use Rattle.battles.specs.Windows.{AreSlots, HasCome, alone, RunsAlone, rest, is_left, rounds}
-use Rattle.battles.proofs.Commuting.{TurnsAlone, stage_of, turn_alone}
+use Rattle.battles.specs.Windows.{AreSlots, HasCome, HasRun, IsLike, alone, RunsAlone, rest, is_left, rounds}
+use Rattle.battles.proofs.Alike.{stands_like, stages_refl, like_same, stages_trans}
+use Rattle.battles.proofs.Commuting.{TurnsAlone}
 use Rattle.battles.proofs.Turns.{rest_all, rest_none, left_not, slots_one, slots_set, next_taken}
 use Rattle.battles.proofs.Stages.{robot_at, robots_length, stands_at, stands_set}
 
 -- a robot has run alone for so many cycles
 unfoldable pub ran : List Robot → ℕ → Stage → ℕ → Stage
-ran robots i s n = stage_of s.field (set s.traces i (alone (robot_of robots i) i s.field (get_or s.traces i []) n))
+ran robots i s n =
+    let run = alone (robot_of robots i) i s.field (get_or s.traces i []) n in
+    record { field = run.0; traces = set s.traces i run.1 }
 
 ran_none : (robots : List Robot) (i : ℕ) (s : Stage) → ran robots i s 0 ≡ s
-unfolding ran alone stage_of
-ran_none robots i s = ap (stage_of s.field) (set-get_or s.traces i [])
+unfolding ran alone
+ran_none robots i s = ap (λ traces. record s { traces = traces }) (set-get_or s.traces i [])
 
-ran_more : (robots : List Robot) (i : ℕ) (s : Stage) (n : ℕ) → i < length s.traces → TurnsAlone robots i (ran robots i s n)
+ran_more : (robots : List Robot) (i : ℕ) (s : Stage) (n : ℕ) → i < length s.traces
     → turn robots i (ran robots i s n) ≡ ran robots i s (suc n)
-unfolding ran alone stage_of
-ran_more robots i s n inside turns =
+unfolding ran alone turn
+ran_more robots i s n inside =
     let robot = robot_of robots i in
-    let trace = alone robot i s.field (get_or s.traces i []) n in
-    turn_alone robots i (stage_of s.field (set s.traces i trace)) turns
-    ∙ ap (λ t. stage_of s.field (set (set s.traces i trace) i (step robot i s.field t).1)) (get_or-set_same s.traces i trace [] inside)
-    ∙ ap (stage_of s.field) (set-set s.traces i trace (step robot i s.field trace).1)
+    let run = alone robot i s.field (get_or s.traces i []) n in
+    rw (get_or-set_same s.traces i run.1 [] inside, set-set s.traces i run.1 (step robot i run.0 run.1).1) refl
 
 ran_alone : (robots : List Robot) (i : ℕ) (s : Stage) (n k : ℕ) → i < length s.traces
     → RunsAlone (robot_of robots i) i s.field (get_or s.traces i []) n → k < n → TurnsAlone robots i (ran robots i s k)
-unfolding ran stage_of TurnsAlone
+unfolding ran TurnsAlone
 ran_alone robots i s n k inside runs within = λ live.
     let robot = robot_of robots i in
-    rw (get_or-set_same s.traces i (alone robot i s.field (get_or s.traces i []) k) [] inside) (runs k within live)
+    rw (get_or-set_same s.traces i (alone robot i s.field (get_or s.traces i []) k).1 [] inside) (runs k within live)
 
 -- its turns are no longer left
 pub run_taken : (robots : List Robot) (next : List ℕ) (i end n : ℕ) (s : Stage) → AreSlots next → i < 4 → i < length s.traces
     → get_or next i 0 + 4 * n < end + 4 → RunsAlone (robot_of robots i) i s.field (get_or s.traces i []) n
-    → rest robots (is_left next) 0 end s ≡ rest robots (is_left (set next i (get_or next i 0 + 4 * n))) 0 end (ran robots i s n)
+    → IsLike (rest robots (is_left (set next i (get_or next i 0 + 4 * n))) 0 end (ran robots i s n)) (rest robots (is_left next) 0 end s)
 run_taken robots next i end zero s are small inside within runs =
     let same : get_or next i 0 + 4 * 0 ≡ get_or next i 0 = omega arith in
-    rw (ran_none robots i s, same, set-get_or next i 0) refl
+    rw (ran_none robots i s, same, set-get_or next i 0) (stages_refl _)
 run_taken robots next i end (suc n) s are small inside within runs =
     let four = are.four in
     let d = get_or next i 0 in
@@ -55,21 +56,20 @@ run_taken robots next i end (suc n) s are small inside within runs =
     let turns = ran_alone robots i s (suc n) n inside runs (omega arith) in
     let later : set before i (get_or before i 0 + 4) ≡ set next i (d + 4 * suc n) =
     ap (λ k. set before i (k + 4)) slot ∙ set-set next i (d + 4 * n) (d + 4 * n + 4) ∙ ap (set next i) (omega arith) in
-    run_taken robots next i end n s are small inside (omega arith) (λ k low. runs k (omega arith))
-    ∙ next_taken robots before i end (ran robots i s n) (slots_set next i n are small) small (omega (arith, slot)) (inl turns)
-    ∙ ap (λ slots. rest robots (is_left slots) 0 end (turn robots i (ran robots i s n))) later
-    ∙ ap (rest robots (is_left (set next i (d + 4 * suc n))) 0 end) (ran_more robots i s n inside turns)
+    let last : IsLike (rest robots (is_left (set next i (d + 4 * suc n))) 0 end (ran robots i s (suc n))) (rest robots (is_left before) 0 end (ran robots i s n)) =
+    rw (later, ran_more robots i s n inside) at
+    (next_taken robots before i end (ran robots i s n) (slots_set next i n are small) small (omega (arith, slot)) (inl turns)) in
+    stages_trans _ _ _ last (run_taken robots next i end n s are small inside (omega arith) (λ k low. runs k (omega arith)))
 
 -- What a robot that runs alone makes of its machine and of the arena, whatever its trace and the field are.
-pub record HasRun (i : ℕ) (code : ObjectCode) (n : ℕ) (runner after : Runner) (arena grown : Ground) : Type 0 where
+pub record Runs (i : ℕ) (code : ObjectCode) (n : ℕ) (runner after : Runner) (arena grown : Ground) : Type 0 where
   pub on : (r : Robot) (f : Field) (trace : List ℤ) → IsRobotOf code r → IsGroundOf arena f → IsAt runner code trace
-      → RunsAlone r i f trace n × IsGroundOf grown f × IsAt after code (alone r i f trace n)
+      → HasRun r i f trace n code after grown
 
 -- And one that takes the turn that is next before it runs alone.
-pub record HasGoneOn (i : ℕ) (code : ObjectCode) (n : ℕ) (runner after : Runner) (arena grown : Ground) : Type 0 where
+pub record GoesOn (i : ℕ) (code : ObjectCode) (n : ℕ) (runner after : Runner) (arena grown : Ground) : Type 0 where
   pub on : (r : Robot) (f : Field) (trace : List ℤ) → IsRobotOf code r → IsGroundOf arena f → IsAt runner code trace
-      → RunsAlone r i (step r i f trace).0 (step r i f trace).1 (n - 1) × IsGroundOf grown (step r i f trace).0
-      × IsAt after code (alone r i (step r i f trace).0 (step r i f trace).1 (n - 1))
+      → HasRun r i (step r i f trace).0 (step r i f trace).1 (n - 1) code after grown
 
 traces_length : (runners : List Runner) (codes : List ObjectCode) (traces : List (List ℤ)) → EachIsAt runners codes traces → length traces ≡ length codes
 traces_length [] [] [] stands = refl
@@ -80,9 +80,9 @@ pub come_alone : (robots : List Robot) (codes : List ObjectCode) (next : List �
     (code : ObjectCode) (none after : Runner)
     → AreRobotsOf codes robots → AreSlots next → i < 4 → i < length codes → get_or next i 0 + 4 * n < 4 * w + 4
     → HasCome robots codes next w runners arena opened → slice_get codes i ≡ Some code
-    → HasRun i code n (get_or runners i none) after arena grown
+    → Runs i code n (get_or runners i none) after arena grown
     → HasCome robots codes (set next i (get_or next i 0 + 4 * n)) w (set runners i after) grown opened
-unfolding robot_of ran stage_of
+unfolding robot_of ran
 come_alone robots codes next w n i runners arena grown opened code none after are slots small inside within come here gone =
     let s = come.stage in
     let robot = robot_at codes robots i code (λ trace. Quiet) are here in
@@ -91,8 +91,8 @@ come_alone robots codes next w n i runners arena grown opened code none after ar
     let on = gone.on (robot_of robots i) s.field (get_or s.traces i []) robot come.reached.field at in
     record {
       stage = ran robots i s n;
-      reached = record { field = on.1; traces = stands_set runners codes s.traces i after code _ come.reached.traces here on.2 };
-      ends = sym (run_taken robots next i (4 * w) n s slots small (omega (arith, lengths, inside)) within on.0) ∙ come.ends;
+      reached = record { field = on.stands; traces = stands_set runners codes s.traces i after code _ come.reached.traces here on.at };
+      ends = stages_trans _ _ _ (run_taken robots next i (4 * w) n s slots small (omega (arith, lengths, inside)) within on.steps) come.ends;
     }
 
 pub come_on : (robots : List Robot) (codes : List ObjectCode) (next : List ℕ) (w n i : ℕ) (runners : List Runner) (arena grown : Ground) (opened : Stage)
@@ -100,9 +100,9 @@ pub come_on : (robots : List Robot) (codes : List ObjectCode) (next : List ℕ) 
     → AreRobotsOf codes robots → AreSlots next → i < 4 → i < length codes → get_or next i 0 + 4 * n < 4 * w + 4 → 0 < n
     → ((j : ℕ) → j < 4 → get_or next i 0 ≤ get_or next j 0)
     → HasCome robots codes next w runners arena opened → slice_get codes i ≡ Some code
-    → HasGoneOn i code n (get_or runners i none) after arena grown
+    → GoesOn i code n (get_or runners i none) after arena grown
     → HasCome robots codes (set next i (get_or next i 0 + 4 * n)) w (set runners i after) grown opened
-unfolding turn robot_of ran stage_of
+unfolding turn robot_of ran
 come_on robots codes next w n i runners arena grown opened code none after are slots small inside within some first come here gone =
     let s = come.stage in
     let robot = robot_at codes robots i code (λ trace. Quiet) are here in
@@ -119,17 +119,16 @@ come_on robots codes next w n i runners arena grown opened code none after are s
     let twice : set later i (get_or later i 0 + 4 * (n - 1)) ≡ set next i (d + 4 * n) =
     ap (λ k. set later i (k + 4 * (n - 1))) own ∙ set-set next i (d + 4) (d + 4 + 4 * (n - 1)) ∙ ap (set next i) (omega (arith, some)) in
     let long : length (set s.traces i stepped.1) ≡ length s.traces = length-set s.traces i stepped.1 in
-    let runs : RunsAlone (robot_of robots i) i stepped.0 (get_or (set s.traces i stepped.1) i []) (n - 1) = rw same on.0 in
+    let runs : RunsAlone (robot_of robots i) i stepped.0 (get_or (set s.traces i stepped.1) i []) (n - 1) = rw same on.steps in
     let taken = run_taken robots later i (4 * w) (n - 1) (turn robots i s) (slots_one next i slots small) small (omega (arith, lengths, long, inside)) (omega (arith, own, within, some)) runs in
-    let moved : (ran robots i (turn robots i s) (n - 1)).traces ≡ set s.traces i (alone (robot_of robots i) i stepped.0 stepped.1 (n - 1)) =
-    ap (λ t. set (set s.traces i stepped.1) i (alone (robot_of robots i) i stepped.0 t (n - 1))) same
-    ∙ set-set s.traces i stepped.1 (alone (robot_of robots i) i stepped.0 stepped.1 (n - 1)) in
+    let moved : (ran robots i (turn robots i s) (n - 1)).traces ≡ set s.traces i (alone (robot_of robots i) i stepped.0 stepped.1 (n - 1)).1 =
+    ap (λ t. set (set s.traces i stepped.1) i (alone (robot_of robots i) i stepped.0 t (n - 1)).1) same
+    ∙ set-set s.traces i stepped.1 (alone (robot_of robots i) i stepped.0 stepped.1 (n - 1)).1 in
     record {
       stage = ran robots i (turn robots i s) (n - 1);
-      reached = record { field = on.1; traces = rw moved (stands_set runners codes s.traces i after code _ come.reached.traces here on.2) };
-      ends = ap (λ slots. rest robots (is_left slots) 0 (4 * w) (ran robots i (turn robots i s) (n - 1))) (sym twice)
-          ∙ sym taken
-          ∙ sym (next_taken robots next i (4 * w) s slots small (omega (arith, within, some)) (inr first)) ∙ come.ends;
+      reached = record { field = rw same on.stands; traces = rw moved (stands_set runners codes s.traces i after code _ come.reached.traces here on.at) };
+      ends = stages_trans _ _ _ (stages_trans _ _ _ (rw twice at taken)
+          (next_taken robots next i (4 * w) s slots small (omega (arith, within, some)) (inr first))) come.ends;
     }
 
 -- how many slots the robots have left
@@ -157,7 +156,7 @@ pub opens : (robots : List Robot) (codes : List ObjectCode) (next : List ℕ) (w
     → HasReached runners codes arena s → HasCome robots codes next w runners arena s
 opens robots codes next w runners arena s are slots most first past reached =
     let all = robots_length codes robots are in
-    record { stage = s; reached = reached; ends = rest_all robots next (length codes) w s slots (sym all) most (λ i low. first i low (omega arith)) past }
+    record { stage = s; reached = reached; ends = like_same _ _ (rest_all robots next (length codes) w s slots (sym all) most (λ i low. first i low (omega arith)) past) }
 
 -- and ends
 pub closes : (robots : List Robot) (codes : List ObjectCode) (next : List ℕ) (w : ℕ) (runners : List Runner) (arena : Ground) (s : Stage)
@@ -166,7 +165,11 @@ pub closes : (robots : List Robot) (codes : List ObjectCode) (next : List ℕ) (
 closes robots codes next w runners arena s past come =
     let done : rest robots (is_left next) 0 (4 * w) come.stage ≡ come.stage =
     rest_none robots (is_left next) 0 (4 * w) come.stage (λ t from to. left_not next t (omega (arith, past (t % 4) (omega arith), to))) in
-    rw (sym come.ends, done) come.reached
+    let like : IsLike come.stage (rounds robots w s) = rw done at come.ends in
+    record {
+      field = stands_like arena come.stage.field (rounds robots w s).field like.field come.reached.field;
+      traces = rw like.traces come.reached.traces;
+    }
 
 -- the slot that is next is that of a robot
 pub is_robot : (next : List ℕ) (slot end n : ℕ) → get_or next (slot % 4) 0 ≡ slot → slot < end

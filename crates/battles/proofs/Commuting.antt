@@ -1,21 +1,24 @@
--- Between updates, a turn that doesn't change the field commutes with the turns of the other robots.
-use Rattle.std.proofs.Common.{◌≡◌, ◌≢◌, ℕ, ◌+◌, zero, suc, Bool, true, false, ℤ, List, [], ◌∷◌, ◌++◌, map, take, drop, length, set, get_or, inl, inr, refl, sym, ap, ◌∙◌}
-use Rattle.std.specs.Prelude.{filter, flat_map, nat_lt, if◌then◌else◌, pos}
-use Rattle.std.proofs.lemmas.Bool.{cases_Bool, false≢true}
-use Rattle.std.proofs.lemmas.List.{get_or-set_other, take-map, drop-map, map-append}
+-- Between updates, turns of two robots commute unless both draw a random number: no robot can tell their order.
+use Rattle.std.proofs.Common.{◌≡◌, ◌≢◌, ℕ, ◌+◌, ◌<◌, zero, suc, Bool, true, false, ℤ, List, [], ◌∷◌, ◌++◌, map, take, drop, length, set, get_or, All, inl, inr, refl, sym, ap, ◌∙◌, arith}
+use Rattle.std.specs.Prelude.{filter, flat_map, nat_lt, min, sum, ◌==◌, if◌then◌else◌, pos}
+use Rattle.std.proofs.lemmas.Bool.{cases_Bool, cases_eq, true≢false}
+use Rattle.std.proofs.lemmas.Bool.Decides.{nat_tests}
+use Rattle.std.proofs.lemmas.List.{append-nil, get_or-set_other, take-map, drop-map, map-append}
+use Rattle.std.proofs.lemmas.List.Elements.{All-append}
 use Rattle.grammar.specs.declared.names.Intrinsic.{Intrinsic}
 use Rattle.grammar.specs.declared.names.Intrinsic.TheVariants.{Scan, Cannon, Drive, Damage, Speed, LocX, LocY, Rand}
-use Rattle.arena.specs.Answer.{answer, argument, fired, directed, wanting}
+use Rattle.arena.specs.Answer.{answer, argument, fired, directed, random_number, wanting}
 use Rattle.arena.specs.Collisions.{others}
-use Rattle.arena.specs.Field.{Field, Robot as Body, no_robot, robot_at, is_live, is_alive, damage_of, metres_x, metres_y}
+use Rattle.arena.specs.Field.{Field, Shot, Robot as Body, no_robot, robot_at, is_live, is_alive, damage_of, metres_x, metres_y}
 use Rattle.arena.specs.Leg.{brought, way_east, way_north, candidate_x, candidate_y, place_x, place_y}
 use Rattle.arith.specs.Degree.{degree_of}
-use Rattle.arena.specs.Shots.{in_air}
+use Rattle.arena.specs.Shots.{in_air, shot}
 use Rattle.arena.specs.Scan.{east_to, north_to, in_arc, sees, range_of, nearest, scanned}
 use Rattle.code.specs.declared.want.Want.{Want}
 use Rattle.code.specs.declared.want.Want.TheVariants.{Ask}
 use Rattle.battles.specs.Battle.{Robot, Stage, granted, step, robot_of, turn}
-use Rattle.battles.specs.Windows.{IsAlone, StepsAlone, changes_field}
+use Rattle.battles.specs.Windows.{IsAlone, StepsAlone, SameShots, AreAlike, IsLike, draws}
+use Rattle.battles.proofs.Alike.{like_refl, air_append, all_front, all_back, pushed, fires}
 
 robots_of_fired : (f : Field) (i degree range : ℕ) → (fired f i degree range).1.robots ≡ f.robots
 unfolding fired
@@ -79,36 +82,188 @@ scans_same f i j Drive a degree resolution distinct =
     (ap nearest (ranges_same (sees from degree resolution) (range_of from) f.robots i j _ no_robot refl refl))
 scans_same f i j _ a degree resolution distinct = refl
 
--- What a robot does alone leaves the field as it is,
-alone_field : (want : Want) (i : ℕ) (f : Field) (trace : List ℤ) → IsAlone want → (granted want i f trace).0 ≡ f
-unfolding granted answer changes_field
-alone_field (Ask Cannon a) i f trace is = absurd (false≢true (sym is))
-alone_field (Ask Drive a) i f trace is = absurd (false≢true (sym is))
-alone_field (Ask Rand a) i f trace is = absurd (false≢true (sym is))
-alone_field (Ask _ a) i f trace is = refl
-alone_field _ i f trace is = refl
+-- What is in the air of a robot's own doesn't depend on what others fire,
+none_of_others : (f : Field) (i j degree range : ℕ) → i ≢ j → in_air f.updates i (pushed f j degree range) ≡ []
+unfolding pushed in_air shot
+none_of_others f i j degree range distinct =
+    let no : (j == i) ≡ false = grind (arith, nat_tests) in
+    elim (cases_Bool (nat_lt (length (in_air f.updates j f.shots)) 2)) [
+      | inl may ↦ rw (may, no) refl
+      | inr not ↦ rw not refl
+    ]
 
--- and doesn't depend on what others do.
-reply_same : (intrinsic other : Intrinsic) (a b : List ℤ) (i j : ℕ) (f : Field) → IsAlone (Ask intrinsic a) → i ≢ j
+own_air : (f : Field) (shots : List Shot) (i j degree range : ℕ) → i ≢ j
+    → in_air f.updates i (shots ++ pushed f j degree range) ≡ in_air f.updates i shots
+own_air f shots i j degree range distinct =
+    air_append f.updates i shots (pushed f j degree range)
+    ∙ ap (λ air. in_air f.updates i shots ++ air) (none_of_others f i j degree range distinct)
+    ∙ append-nil (in_air f.updates i shots)
+
+-- and shots of two robots can be fired in either order.
+shots_swap : (f : Field) (i j degree range towards far : ℕ) → i ≢ j
+    → SameShots f.updates ((f.shots ++ pushed f i degree range) ++ pushed f j towards far)
+    ((f.shots ++ pushed f j towards far) ++ pushed f i degree range)
+shots_swap f i j degree range towards far distinct =
+    let mine = pushed f i degree range in
+    let theirs = pushed f j towards far in
+    let back : j ≢ i = λ same. distinct (sym same) in
+    record {
+      in_air = λ k. elim (cases_eq k i) [
+        | inl own ↦
+            let apart : k ≢ j = λ same. distinct (sym own ∙ same) in
+            air_append f.updates k (f.shots ++ theirs) mine
+            ∙ ap (λ air. air ++ in_air f.updates k mine) (own_air f f.shots k j towards far apart)
+            ∙ sym (air_append f.updates k f.shots mine)
+            ∙ sym (own_air f (f.shots ++ mine) k j towards far apart)
+        | inr other ↦
+            own_air f (f.shots ++ theirs) k i degree range other
+            ∙ air_append f.updates k f.shots theirs
+            ∙ ap (λ air. air ++ in_air f.updates k theirs) (sym (own_air f f.shots k i degree range other))
+            ∙ sym (air_append f.updates k (f.shots ++ mine) theirs)
+      ];
+      owned = λ n all.
+          let Owned : Shot → Type 0 = λ s. s.owner < n in
+          let first = all_front Owned (f.shots ++ mine) theirs all in
+          All-append Owned (f.shots ++ theirs) mine
+          (All-append Owned f.shots theirs (all_front Owned f.shots mine first) (all_back Owned (f.shots ++ mine) theirs all))
+          (all_back Owned f.shots mine first);
+    }
+
+pub fired_field : (f : Field) (i degree range : ℕ) → fired f i degree range ≡ ((fired f i degree range).0, record f { shots = f.shots ++ pushed f i degree range })
+fired_field f i degree range = fires f f.shots i degree range refl
+
+pushed_same : (f : Field) (i j degree range towards speed : ℕ) → i ≢ j
+    → pushed (directed f j towards speed) i degree range ≡ pushed f i degree range
+unfolding pushed directed robot_at
+pushed_same f i j degree range towards speed distinct =
+    rw (get_or-set_other f.robots j i (record (robot_at f j) { leg = wanting (robot_at f j).leg towards speed }) no_robot distinct) refl
+
+fires_after_drive : (f : Field) (i j degree range towards speed : ℕ)
+    → (fired (directed f j towards speed) i degree range).0 ≡ (fired f i degree range).0
+unfolding fired directed
+fires_after_drive f i j degree range towards speed = elim (cases_Bool (nat_lt (length (in_air f.updates i f.shots)) 2)) [
+  | inl may ↦ rw may refl
+  | inr not ↦ rw not refl
+]
+
+fires_after_word : (f : Field) (i degree range : ℕ)
+    → (fired (record f { drawn = f.drawn + 1 }) i degree range).0 ≡ (fired f i degree range).0
+unfolding fired
+fires_after_word f i degree range = elim (cases_Bool (nat_lt (length (in_air f.updates i f.shots)) 2)) [
+  | inl may ↦ rw may refl
+  | inr not ↦ rw not refl
+]
+
+-- What a robot is answered doesn't depend on what others do, unless both draw a random number.
+reply_same : (intrinsic other : Intrinsic) (a b : List ℤ) (i j : ℕ) (f : Field) → (draws intrinsic ≡ true → draws other ≡ false) → i ≢ j
     → (answer (answer f j other b).1 i intrinsic a).0 ≡ (answer f i intrinsic a).0
-unfolding answer changes_field
-reply_same Cannon other a b i j f is distinct = absurd (false≢true (sym is))
-reply_same Drive other a b i j f is distinct = absurd (false≢true (sym is))
-reply_same Rand other a b i j f is distinct = absurd (false≢true (sym is))
-reply_same Scan other a b i j f is distinct = ap pos (scans_same f i j other b (degree_of (argument a 0)) (brought 10 (argument a 1)) distinct)
-reply_same Damage other a b i j f is distinct = ap (λ r. pos (damage_of r)) (others_stay f i j other b distinct)
-reply_same Speed other a b i j f is distinct = ap (λ (r : Body). pos r.leg.speed) (others_stay f i j other b distinct)
-reply_same LocX other a b i j f is distinct = ap (λ r. pos (metres_x r)) (others_stay f i j other b distinct)
-reply_same LocY other a b i j f is distinct = ap (λ r. pos (metres_y r)) (others_stay f i j other b distinct)
-reply_same _ other a b i j f is distinct = refl
+unfolding answer draws directed random_number
+reply_same Scan other a b i j f either distinct = ap pos (scans_same f i j other b (degree_of (argument a 0)) (brought 10 (argument a 1)) distinct)
+reply_same Damage other a b i j f either distinct = ap (λ r. pos (damage_of r)) (others_stay f i j other b distinct)
+reply_same Speed other a b i j f either distinct = ap (λ (r : Body). pos r.leg.speed) (others_stay f i j other b distinct)
+reply_same LocX other a b i j f either distinct = ap (λ r. pos (metres_x r)) (others_stay f i j other b distinct)
+reply_same LocY other a b i j f either distinct = ap (λ r. pos (metres_y r)) (others_stay f i j other b distinct)
+reply_same Rand Rand a b i j f either distinct = absurd (true≢false (either refl))
+reply_same Rand Cannon a b i j f either distinct =
+    rw (fired_field f j (degree_of (argument b 0)) (brought 700 (argument b 1))) refl
+reply_same Rand _ a b i j f either distinct = refl
+reply_same Cannon Cannon a b i j f either distinct =
+    let towards = degree_of (argument b 0) in
+    let far = brought 700 (argument b 1) in
+    rw (fired_field f j towards far)
+    (ap (λ (asked : ℤ × Field). asked.0) (fires f (f.shots ++ pushed f j towards far) i (degree_of (argument a 0)) (brought 700 (argument a 1))
+    (own_air f f.shots i j towards far distinct)))
+reply_same Cannon Drive a b i j f either distinct = fires_after_drive f i j (degree_of (argument a 0)) (brought 700 (argument a 1)) (degree_of (argument b 0)) (brought 100 (argument b 1))
+reply_same Cannon Rand a b i j f either distinct = fires_after_word f i (degree_of (argument a 0)) (brought 700 (argument a 1))
+reply_same Cannon _ a b i j f either distinct = refl
+reply_same _ other a b i j f either distinct = refl
+
+set_swap : {A : Type 0} (l : List A) (i j : ℕ) (x y : A) → i ≢ j → set (set l i x) j y ≡ set (set l j y) i x
+set_swap [] i j x y distinct = refl
+set_swap (z ∷ l) zero zero x y distinct = absurd (distinct refl)
+set_swap (z ∷ l) zero (suc j) x y distinct = refl
+set_swap (z ∷ l) (suc i) zero x y distinct = refl
+set_swap (z ∷ l) (suc i) (suc j) x y distinct = ap (λ rest. z ∷ rest) (set_swap l i j x y (λ same. distinct (ap suc same)))
+
+driven_twice : (f : Field) (i j degree speed towards fast : ℕ) → i ≢ j
+    → directed (directed f i degree speed) j towards fast ≡ directed (directed f j towards fast) i degree speed
+unfolding directed robot_at
+driven_twice f i j degree speed towards fast distinct =
+    let mine = record (robot_at f i) { leg = wanting (robot_at f i).leg degree speed } in
+    let theirs = record (robot_at f j) { leg = wanting (robot_at f j).leg towards fast } in
+    let back : j ≢ i = λ same. distinct (sym same) in
+    rw (get_or-set_other f.robots i j mine no_robot back, get_or-set_other f.robots j i theirs no_robot distinct)
+    (ap (λ robots. record f { robots = robots }) (set_swap f.robots i j mine theirs distinct))
+
+-- Nor can the order be seen on the field.
+fields_alike : (intrinsic other : Intrinsic) (a b : List ℤ) (i j : ℕ) (f : Field) → draws intrinsic ≡ false → i ≢ j
+    → AreAlike (answer (answer f i intrinsic a).1 j other b).1 (answer (answer f j other b).1 i intrinsic a).1
+unfolding answer draws directed robot_at pushed
+fields_alike Rand other a b i j f is distinct = absurd (true≢false is)
+fields_alike Cannon Cannon a b i j f is distinct =
+    let degree = degree_of (argument a 0) in
+    let range = brought 700 (argument a 1) in
+    let towards = degree_of (argument b 0) in
+    let far = brought 700 (argument b 1) in
+    let back : j ≢ i = λ same. distinct (sym same) in
+    rw (
+      fired_field f i degree range,
+      fired_field f j towards far,
+      fires f (f.shots ++ pushed f i degree range) j towards far (own_air f f.shots j i degree range back),
+      fires f (f.shots ++ pushed f j towards far) i degree range (own_air f f.shots i j towards far distinct),
+    ) (record {
+      shots = (f.shots ++ pushed f j towards far) ++ pushed f i degree range;
+      is = refl;
+      same = shots_swap f i j degree range towards far distinct;
+    })
+fields_alike Cannon Drive a b i j f is distinct =
+    let degree = degree_of (argument a 0) in
+    let range = brought 700 (argument a 1) in
+    let towards = degree_of (argument b 0) in
+    let speed = brought 100 (argument b 1) in
+    rw (fired_field f i degree range, fired_field (directed f j towards speed) i degree range, pushed_same f i j degree range towards speed distinct)
+    (like_refl _)
+fields_alike Cannon Rand a b i j f is distinct =
+    let degree = degree_of (argument a 0) in
+    let range = brought 700 (argument a 1) in
+    rw (fired_field f i degree range, fired_field (record f { drawn = f.drawn + 1 }) i degree range) (like_refl _)
+fields_alike Cannon _ a b i j f is distinct = like_refl _
+fields_alike Drive Cannon a b i j f is distinct =
+    let degree = degree_of (argument a 0) in
+    let speed = brought 100 (argument a 1) in
+    let towards = degree_of (argument b 0) in
+    let far = brought 700 (argument b 1) in
+    let back : j ≢ i = λ same. distinct (sym same) in
+    rw (fired_field f j towards far, fired_field (directed f i degree speed) j towards far, pushed_same f j i towards far degree speed back)
+    (like_refl _)
+fields_alike Drive Drive a b i j f is distinct =
+    let degree = degree_of (argument a 0) in
+    let speed = brought 100 (argument a 1) in
+    let towards = degree_of (argument b 0) in
+    let fast = brought 100 (argument b 1) in
+    let back : j ≢ i = λ same. distinct (sym same) in
+    rw (driven_twice f i j degree speed towards fast distinct) (like_refl _)
+fields_alike Drive _ a b i j f is distinct = like_refl _
+fields_alike _ other a b i j f is distinct = like_refl _
+
+-- The same of what a robot wants.
+wants_alike : (want other : Want) (i j : ℕ) (f : Field) (trace others : List ℤ) → IsAlone want → i ≢ j
+    → AreAlike (granted other j (granted want i f trace).0 others).0 (granted want i (granted other j f others).0 trace).0
+unfolding granted
+wants_alike (Ask intrinsic a) (Ask asked b) i j f trace others is distinct = fields_alike intrinsic asked a b i j f is distinct
+wants_alike (Ask intrinsic a) _ i j f trace others is distinct = like_refl _
+wants_alike _ other i j f trace others is distinct = like_refl _
 
 trace_same : (want other : Want) (i j : ℕ) (f : Field) (trace others : List ℤ) → IsAlone want → i ≢ j
-    → (granted want i (granted other j f others).0 trace).1 ≡ (granted want i f trace).1
+    → ((granted want i (granted other j f others).0 trace).1 ≡ (granted want i f trace).1)
+    × ((granted other j (granted want i f trace).0 others).1 ≡ (granted other j f others).1)
 unfolding granted
-trace_same (Ask intrinsic a) (Ask asked b) i j f trace others is distinct =
-    ap (λ reply. trace ++ reply ∷ []) (reply_same intrinsic asked a b i j f is distinct)
-trace_same (Ask intrinsic a) _ i j f trace others is distinct = refl
-trace_same _ other i j f trace others is distinct = refl
+trace_same (Ask intrinsic a) (Ask asked b) i j f trace others is distinct = (
+  ap (λ reply. trace ++ reply ∷ []) (reply_same intrinsic asked a b i j f (λ draws. absurd (true≢false (sym draws ∙ is))) distinct),
+  ap (λ reply. others ++ reply ∷ []) (reply_same asked intrinsic b a j i f (λ draws. is) (λ same. distinct (sym same))),
+)
+trace_same (Ask intrinsic a) _ i j f trace others is distinct = (refl, refl)
+trace_same _ other i j f trace others is distinct = (refl, refl)
 
 granted_stays : (want : Want) (i j : ℕ) (f : Field) (trace : List ℤ) → i ≢ j
     → robot_at (granted want j f trace).0 i ≡ robot_at f i
@@ -121,14 +276,6 @@ step_stays : (robot : Robot) (i j : ℕ) (f : Field) (trace : List ℤ) → i �
 unfolding step
 step_stays robot i j f trace distinct = elim (cases_Bool (is_live f j)) [
   | inl live ↦ rw live (granted_stays (robot trace) i j f trace distinct)
-  | inr dead ↦ rw dead refl
-]
-
-pub step_field : (robot : Robot) (i : ℕ) (f : Field) (trace : List ℤ) → StepsAlone robot i f trace
-    → (step robot i f trace).0 ≡ f
-unfolding step
-step_field robot i f trace steps = elim (cases_Bool (is_live f i)) [
-  | inl live ↦ rw live (alone_field (robot trace) i f trace (steps live))
   | inr dead ↦ rw dead refl
 ]
 
@@ -146,40 +293,67 @@ step_dead : (robot : Robot) (i : ℕ) (f : Field) (trace : List ℤ) → is_live
 unfolding step
 step_dead robot i f trace dead = rw dead refl
 
-step_trace : (robot other : Robot) (i j : ℕ) (f : Field) (trace others : List ℤ) → StepsAlone robot i f trace → i ≢ j
-    → (step robot i (step other j f others).0 trace).1 ≡ (step robot i f trace).1
-step_trace robot other i j f trace others steps distinct =
-    let still = live_same other i j f others distinct in
+-- An answer leaves the robot itself as alive as it is.
+keeps_hurts : (l : List Body) (i : ℕ) (x none : Body) → x.hurts ≡ (get_or l i none).hurts
+    → (get_or (set l i x) i none).hurts ≡ (get_or l i none).hurts
+keeps_hurts [] i x none same = refl
+keeps_hurts (y ∷ l) zero x none same = same
+keeps_hurts (y ∷ l) (suc i) x none same = keeps_hurts l i x none same
+
+answer_lives : (intrinsic : Intrinsic) (a : List ℤ) (i : ℕ) (f : Field) → is_live (answer f i intrinsic a).1 i ≡ is_live f i
+unfolding answer directed is_live is_alive damage_of robot_at
+answer_lives Cannon a i f = ap (λ robots. is_alive (get_or robots i no_robot)) (robots_of_fired f i _ _)
+answer_lives Drive a i f =
+    ap (λ hurts. nat_lt (min (sum hurts) 100) 100)
+    (keeps_hurts f.robots i (record (robot_at f i) { leg = wanting (robot_at f i).leg (degree_of (argument a 0)) (brought 100 (argument a 1)) }) no_robot refl)
+answer_lives _ a i f = refl
+
+granted_lives : (want : Want) (i : ℕ) (f : Field) (trace : List ℤ) → is_live (granted want i f trace).0 i ≡ is_live f i
+unfolding granted
+granted_lives (Ask intrinsic a) i f trace = answer_lives intrinsic a i f
+granted_lives _ i f trace = refl
+
+pub step_lives : (robot : Robot) (i : ℕ) (f : Field) (trace : List ℤ) → is_live (step robot i f trace).0 i ≡ is_live f i
+step_lives robot i f trace = elim (cases_Bool (is_live f i)) [
+  | inl live ↦ ap (λ (stepped : Field × List ℤ). is_live stepped.0 i) (step_live robot i f trace live) ∙ granted_lives (robot trace) i f trace
+  | inr dead ↦ ap (λ (stepped : Field × List ℤ). is_live stepped.0 i) (step_dead robot i f trace dead)
+]
+
+-- The same of two robots: the first one's step is one that it does alone.
+steps_alike : (robot other : Robot) (i j : ℕ) (f : Field) (trace others : List ℤ) → StepsAlone robot i f trace → i ≢ j
+    → AreAlike (step other j (step robot i f trace).0 others).0 (step robot i (step other j f others).0 trace).0
+    × ((step robot i (step other j f others).0 trace).1 ≡ (step robot i f trace).1)
+    × ((step other j (step robot i f trace).0 others).1 ≡ (step other j f others).1)
+steps_alike robot other i j f trace others steps distinct =
+    let back : j ≢ i = λ same. distinct (sym same) in
+    let mine = live_same robot j i f trace back in
+    let theirs = live_same other i j f others distinct in
     elim (cases_Bool (is_live f i)) [
-      | inl live ↦
-          rw (step_live robot i f trace live, step_live robot i (step other j f others).0 trace (still ∙ live))
-          (elim (cases_Bool (is_live f j)) [
-            | inl moves ↦ rw (step_live other j f others moves) (trace_same (robot trace) (other others) i j f trace others (steps live) distinct)
-            | inr rests ↦ rw (step_dead other j f others rests) refl
-          ])
-      | inr dead ↦ rw (step_dead robot i f trace dead, step_dead robot i (step other j f others).0 trace (still ∙ dead)) refl
+      | inl live ↦ elim (cases_Bool (is_live f j)) [
+        | inl moves ↦
+            let same = trace_same (robot trace) (other others) i j f trace others (steps live) distinct in
+            rw (
+              step_live robot i f trace live,
+              step_live other j f others moves,
+              step_live robot i (granted (other others) j f others).0 trace (rw (step_live other j f others moves) at theirs ∙ live),
+              step_live other j (granted (robot trace) i f trace).0 others (rw (step_live robot i f trace live) at mine ∙ moves),
+            ) (wants_alike (robot trace) (other others) i j f trace others (steps live) distinct, same.0, same.1)
+        | inr rests ↦
+            rw (
+              step_dead other j f others rests,
+              step_dead other j (step robot i f trace).0 others (mine ∙ rests),
+            ) (like_refl _, refl, refl)
+      ]
+      | inr dead ↦
+          rw (
+            step_dead robot i f trace dead,
+            step_dead robot i (step other j f others).0 trace (theirs ∙ dead),
+          ) (like_refl _, refl, refl)
     ]
 
 -- The same of whole stages: the next turn of a robot is one that it does alone.
 unfoldable pub TurnsAlone : List Robot → ℕ → Stage → Type 0
 TurnsAlone robots i s = StepsAlone (robot_of robots i) i s.field (get_or s.traces i [])
-
-set_swap : {A : Type 0} (l : List A) (i j : ℕ) (x y : A) → i ≢ j → set (set l i x) j y ≡ set (set l j y) i x
-set_swap [] i j x y distinct = refl
-set_swap (z ∷ l) zero zero x y distinct = absurd (distinct refl)
-set_swap (z ∷ l) zero (suc j) x y distinct = refl
-set_swap (z ∷ l) (suc i) zero x y distinct = refl
-set_swap (z ∷ l) (suc i) (suc j) x y distinct = ap (λ rest. z ∷ rest) (set_swap l i j x y (λ same. distinct (ap suc same)))
-
-unfoldable pub stage_of : Field → List (List ℤ) → Stage
-stage_of field traces = record { field = field; traces = traces }
-
-pub turn_alone : (robots : List Robot) (i : ℕ) (s : Stage) → TurnsAlone robots i s
-    → turn robots i s ≡ stage_of s.field (set s.traces i (step (robot_of robots i) i s.field (get_or s.traces i [])).1)
-unfolding turn stage_of TurnsAlone
-turn_alone robots i s alone =
-    ap (λ f. stage_of f (set s.traces i (step (robot_of robots i) i s.field (get_or s.traces i [])).1))
-    (step_field (robot_of robots i) i s.field (get_or s.traces i []) alone)
 
 pub alone_stays : (robots : List Robot) (i j : ℕ) (s : Stage) → TurnsAlone robots i s → i ≢ j → TurnsAlone robots i (turn robots j s)
 unfolding turn TurnsAlone
@@ -189,19 +363,18 @@ alone_stays robots i j s alone distinct = λ live.
     (alone (sym (live_same other i j s.field (get_or s.traces j []) distinct) ∙ live))
 
 pub commutes : (robots : List Robot) (i j : ℕ) (s : Stage) → TurnsAlone robots i s → i ≢ j
-    → turn robots j (turn robots i s) ≡ turn robots i (turn robots j s)
-unfolding turn stage_of TurnsAlone
+    → IsLike (turn robots j (turn robots i s)) (turn robots i (turn robots j s))
+unfolding turn TurnsAlone
 commutes robots i j s alone distinct =
-    let mine = step (robot_of robots i) i s.field (get_or s.traces i []) in
-    let theirs = step (robot_of robots j) j s.field (get_or s.traces j []) in
-    let first : turn robots j (turn robots i s) ≡ stage_of theirs.0 (set (set s.traces i mine.1) j theirs.1) =
-    ap (turn robots j) (turn_alone robots i s alone)
-    ∙ ap (λ t. stage_of (step (robot_of robots j) j s.field t).0 (set (set s.traces i mine.1) j (step (robot_of robots j) j s.field t).1))
-    (get_or-set_other s.traces i j mine.1 [] (λ same. distinct (sym same))) in
-    let second : turn robots i (turn robots j s) ≡ stage_of theirs.0 (set (set s.traces j theirs.1) i mine.1) =
-    turn_alone robots i (turn robots j s) (alone_stays robots i j s alone distinct)
-    ∙ ap (λ t. stage_of theirs.0 (set (set s.traces j theirs.1) i (step (robot_of robots i) i theirs.0 t).1))
-    (get_or-set_other s.traces j i theirs.1 [] distinct)
-    ∙ ap (λ t. stage_of theirs.0 (set (set s.traces j theirs.1) i t))
-    (step_trace (robot_of robots i) (robot_of robots j) i j s.field (get_or s.traces i []) (get_or s.traces j []) alone distinct) in
-    first ∙ ap (stage_of theirs.0) (set_swap s.traces i j mine.1 theirs.1 distinct) ∙ sym second
+    let trace = get_or s.traces i [] in
+    let others = get_or s.traces j [] in
+    let mine = step (robot_of robots i) i s.field trace in
+    let theirs = step (robot_of robots j) j s.field others in
+    let alike = steps_alike (robot_of robots i) (robot_of robots j) i j s.field trace others alone distinct in
+    let back : j ≢ i = λ same. distinct (sym same) in
+    rw (get_or-set_other s.traces i j mine.1 [] back, get_or-set_other s.traces j i theirs.1 [] distinct) (record {
+      field = alike.0;
+      traces = ap (set (set s.traces j theirs.1) i) alike.1
+          ∙ sym (set_swap s.traces i j mine.1 theirs.1 distinct)
+          ∙ ap (set (set s.traces i mine.1) j) (sym alike.2);
+    })

@@ -2,6 +2,7 @@ pub mod ProgramsLemmas
 pub mod Stages
 pub mod Cycles
 pub mod Limits
+pub mod Alike
 pub mod Commuting
 pub mod Turns
 pub mod Ahead

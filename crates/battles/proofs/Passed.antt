@@ -11,22 +11,24 @@ use Rattle.code.specs.Generation.{ObjectCode}
 use Rattle.code.specs.Standing.{FitsProgram}
 use Rattle.battles.specs.Battle.{Robot, Stage}
 use Rattle.battles.specs.Carrying.{Runner, AreRobotsOf, EachFits, EachIsAt, HasReached, IsAt, IsRobotOf}
-use Rattle.battles.specs.Windows.{AreAhead, AreSlots, HasCome, RunsAlone, alone, rounds}
-use Rattle.battles.proofs.Ahead.{HasRun, come_alone, opens, closes}
+use Rattle.battles.specs.Windows.{AreAhead, AreSlots, HasCome, HasRun, rounds}
+use Rattle.battles.proofs.Ahead.{Runs, come_alone, opens, closes}
 use Rattle.battles.proofs.Alone.{quiet_alone, quiet_runs}
 use Rattle.battles.proofs.Running.{at_less, quiet_less}
 use Rattle.battles.proofs.Stages.{fits_at, fits_length, fits_set}
 use Rattle.battles.proofs.Turns.{slots_set}
 
 -- a live robot goes on
-pub goes_ahead : (runner : Runner) (code : ObjectCode) (r : Robot) (i : ℕ) (f : Field) (trace : List ℤ) (n : ℕ)
-    → n ≤ runner.ahead → is_live f i ≡ true → IsRobotOf code r → IsAt runner code trace
-    → RunsAlone r i f trace n × IsAt (record { machine = runner.machine; ahead = runner.ahead - n }) code (alone r i f trace n)
-goes_ahead runner code r i f trace n within live is at =
-    let quiet = quiet_less r trace n runner.ahead within (at.quiet r is) in (
-      quiet_runs r i f trace n live quiet,
-      rw (quiet_alone r i f trace n live quiet) (at_less runner n code trace within at),
-    )
+pub goes_ahead : (runner : Runner) (code : ObjectCode) (r : Robot) (i : ℕ) (f : Field) (trace : List ℤ) (n : ℕ) (arena : Ground)
+    → n ≤ runner.ahead → is_live f i ≡ true → IsRobotOf code r → IsGroundOf arena f → IsAt runner code trace
+    → HasRun r i f trace n code (record { machine = runner.machine; ahead = runner.ahead - n }) arena
+goes_ahead runner code r i f trace n arena within live is ground at =
+    let quiet = quiet_less r trace n runner.ahead within (at.quiet r is) in
+    record {
+      steps = quiet_runs r i f trace n live quiet;
+      stands = rw (quiet_alone r i f trace n live quiet) ground;
+      at = rw (quiet_alone r i f trace n live quiet) (at_less runner n code trace within at);
+    }
 
 -- one robot more is ahead
 pub ahead_more : (n cycles : ℕ) (arena : Ground) (runners : List Runner) → AreAhead n cycles arena runners
@@ -101,7 +103,7 @@ none_passed robots codes w runners arena s are few reached =
 pub one_passes : (robots : List Robot) (codes : List ObjectCode) (k w : ℕ) (runners : List Runner) (arena : Ground) (s : Stage)
     (code : ObjectCode) (none after : Runner)
     → AreRobotsOf codes robots → length codes ≤ 4 → k < length codes → slice_get codes k ≡ Some code
-    → HavePassed robots codes k w runners arena s → HasRun k code w (get_or runners k none) after arena arena
+    → HavePassed robots codes k w runners arena s → Runs k code w (get_or runners k none) after arena arena
     → HavePassed robots codes (k + 1) w (set runners k after) arena s
 one_passes robots codes k w runners arena s code none after are few inside here passed gone =
     let here' : get_or passed.next k 0 ≡ k = passed.begin k (omega arith) inside in
@@ -139,16 +141,6 @@ pub code_at : (codes : List ObjectCode) (k : ℕ) → k < length codes → (code
 code_at [] k inside = absurd (omega arith)
 code_at (code ∷ codes) zero inside = (code, refl)
 code_at (code ∷ codes) (suc k) inside = code_at codes k (omega arith)
-
--- what a robot does alone leaves the arena as it is
-pub gone_alone : (i : ℕ) (code : ObjectCode) (n : ℕ) (runner after : Runner) (arena : Ground)
-    → ((r : Robot) (f : Field) (trace : List ℤ) → IsRobotOf code r → IsGroundOf arena f → IsAt runner code trace
-    → RunsAlone r i f trace n × IsAt after code (alone r i f trace n))
-    → HasRun i code n runner after arena arena
-gone_alone i code n runner after arena on = record {
-  on = λ r f trace is ground at.
-      let now = on r f trace is ground at in (now.0, ground, now.1);
-}
 
 -- one machine stays as it is
 pub fits_still : (runners : List Runner) (codes : List ObjectCode) (k : ℕ) (none after : Runner) → k < length runners

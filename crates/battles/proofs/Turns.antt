@@ -5,7 +5,8 @@ use Rattle.std.proofs.lemmas.Bool.{cases_Bool, cases_eq, cases_lt, false≢true}
 use Rattle.std.proofs.lemmas.List.{get_or-set_same, get_or-set_other, length-set}
 use Rattle.std.proofs.lemmas.Bool.Decides.{nat_tests}
 use Rattle.battles.specs.Battle.{Robot, Stage, turn, turns}
-use Rattle.battles.specs.Windows.{rounds, rest, is_left, AreSlots}
+use Rattle.battles.specs.Windows.{rounds, rest, is_left, AreSlots, IsLike}
+use Rattle.battles.proofs.Alike.{like_same, stages_trans, rest_like}
 use Rattle.battles.proofs.Commuting.{TurnsAlone, alone_stays, commutes}
 
 rest_more : (robots : List Robot) (left : ℕ → Bool) (t n : ℕ) (s : Stage) → left t ≡ true
@@ -38,14 +39,15 @@ rest_none robots left t (suc n) s none =
 takes : (robots : List Robot) (left other : ℕ → Bool) (i d t n : ℕ) (s : Stage) → d % 4 ≡ i → left d ≡ true → other d ≡ false
     → ((k : ℕ) → k ≢ d → left k ≡ other k) → ((k : ℕ) → k < d → k % 4 ≡ i → left k ≡ false) → t ≤ d → d < t + n
     → TurnsAlone robots i s ⊎ ((k : ℕ) → t ≤ k → k < d → left k ≡ false)
-    → rest robots left t n s ≡ rest robots other t n (turn robots i s)
+    → IsLike (rest robots other t n (turn robots i s)) (rest robots left t n s)
 takes robots left other i d t zero s own here gone same later from to ready = absurd (omega arith)
 takes robots left other i d t (suc n) s own here gone same later from to ready = elim (cases_eq t d) [
   | inl now ↦
       let still : (k : ℕ) → t + 1 ≤ k → k < t + 1 + n → left k ≡ other k = λ k from to. same k (omega (arith, from, now)) in
+      like_same _ _ (sym (
       rest_more robots left t n s (rw now here)
       ∙ rw (now, own) (rest_same robots left other (d + 1) n (turn robots i s) (rw now at still))
-      ∙ sym (rest_less robots other t n (turn robots i s) (rw now gone))
+      ∙ sym (rest_less robots other t n (turn robots i s) (rw now gone))))
   | inr before ↦ elim (cases_Bool (left t)) [
     | inl held ↦
         let distinct : i ≢ t % 4 = λ same. false≢true (sym (later t (omega arith) (sym same)) ∙ held) in
@@ -53,17 +55,17 @@ takes robots left other i d t (suc n) s own here gone same later from to ready =
           | inl alone ↦ alone
           | inr none ↦ absurd (false≢true (sym (none t (omega arith) (omega arith)) ∙ held))
         ] in
-        rest_more robots left t n s held
-        ∙ takes robots left other i d (t + 1) n (turn robots (t % 4) s) own here gone same later (omega arith) (omega arith) (inl (alone_stays robots i (t % 4) s alone distinct))
-        ∙ ap (rest robots other (t + 1) n) (sym (commutes robots i (t % 4) s alone distinct))
-        ∙ sym (rest_more robots other t n (turn robots i s) (sym (same t before) ∙ held))
+        let after = turn robots (t % 4) s in
+        rw (rest_more robots left t n s held, rest_more robots other t n (turn robots i s) (sym (same t before) ∙ held))
+        (stages_trans (rest robots other (t + 1) n (turn robots (t % 4) (turn robots i s))) (rest robots other (t + 1) n (turn robots i after)) (rest robots left (t + 1) n after)
+        (rest_like robots other (t + 1) n (turn robots (t % 4) (turn robots i s)) (turn robots i after) (commutes robots i (t % 4) s alone distinct))
+        (takes robots left other i d (t + 1) n after own here gone same later (omega arith) (omega arith) (inl (alone_stays robots i (t % 4) s alone distinct))))
     | inr free ↦
-        rest_less robots left t n s free
-        ∙ takes robots left other i d (t + 1) n s own here gone same later (omega arith) (omega arith) (elim ready as (λ r. TurnsAlone robots i s ⊎ ((k : ℕ) → t + 1 ≤ k → k < d → left k ≡ false)) [
+        rw (rest_less robots left t n s free, rest_less robots other t n (turn robots i s) (sym (same t before) ∙ free))
+        (takes robots left other i d (t + 1) n s own here gone same later (omega arith) (omega arith) (elim ready as (λ r. TurnsAlone robots i s ⊎ ((k : ℕ) → t + 1 ≤ k → k < d → left k ≡ false)) [
           | inl alone ↦ inl alone
           | inr none ↦ inr (λ k from to. none k (omega arith) to)
-        ])
-        ∙ sym (rest_less robots other t n (turn robots i s) (sym (same t before) ∙ free))
+        ]))
   ]
 ]
 
@@ -114,7 +116,7 @@ slots_one next i are inside =
 
 pub next_taken : (robots : List Robot) (next : List ℕ) (i end : ℕ) (s : Stage) → AreSlots next → i < 4 → get_or next i 0 < end
     → TurnsAlone robots i s ⊎ ((j : ℕ) → j < 4 → get_or next i 0 ≤ get_or next j 0)
-    → rest robots (is_left next) 0 end s ≡ rest robots (is_left (set next i (get_or next i 0 + 4))) 0 end (turn robots i s)
+    → IsLike (rest robots (is_left (set next i (get_or next i 0 + 4))) 0 end (turn robots i s)) (rest robots (is_left next) 0 end s)
 unfolding is_left
 next_taken robots next i end s are inside within ready =
     let four = are.four in
