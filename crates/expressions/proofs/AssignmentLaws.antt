@@ -15,7 +15,7 @@ use Rattle.grammar.specs.Actions.{StoreVariable, expr_actions}
 use Rattle.grammar.specs.Building.{Meaning, AppendsAll, MayFollow}
 use Rattle.grammar.specs.Compiled.{diagnostic}
 use Rattle.grammar.specs.Derivation.{AnExpr, AVariable, name_of_token}
-use Rattle.grammar.specs.Grammar.{AName, Exactly, Expression, Level, Make, Mentioned, Part, Close, Store, choice, is_fault, is_punctuator, opens}
+use Rattle.grammar.specs.Grammar.{AName, Exactly, Expression, Level, Make, Mentioned, Part, Close, Store, choice, is_fault, is_punctuator, enters}
 use Rattle.grammar.specs.Nesting.{nesting}
 use Rattle.grammar.specs.Operators.{store_of, store_operator}
 use Rattle.grammar.specs.Resolved.{InExpr, IsVariable}
@@ -28,7 +28,7 @@ use Rattle.parsing.proofs.Segments.{exit, exit_item, joined}
 use Rattle.expressions.specs.Expressions.{AddsExpr}
 use Rattle.expressions.proofs.NameLaws.{behind_name_is}
 use Rattle.parsing.proofs.Parts.{MakesOnly}
-use Rattle.expressions.proofs.Productions.{Chooses, OpensLevel, chosen, chosen_within, item_done, makes_and_closes, punctuator_ends, punctuator_past, name_too_deep, same_self}
+use Rattle.expressions.proofs.Productions.{Chooses, EntersLevel, chosen, chosen_within, item_done, makes_and_closes, punctuator_ends, punctuator_past, name_too_deep, same_self}
 use Rattle.expressions.proofs.TellingLaws.{appends_then, next_follows, room_within}
 use Rattle.expressions.proofs.VariableLaws.{IsNamed, after_name, is_named, named_sound, tree_follows}
 
@@ -38,9 +38,9 @@ plain_choice : (t after : Token) → (is_some (name_of_token t) ≡ true → sto
 plain_choice (token.Name name) (token.Punctuator m) none = let e : store_of m ≡ None = none refl in rw e refl
 plain_choice t after none = refl
 
-plain_opens : (t after : Token) → (is_some (name_of_token t) ≡ true → store_operator after ≡ None) → opens Expression t after ≡ false
-plain_opens (token.Name name) (token.Punctuator m) none = let e : store_of m ≡ None = none refl in rw e refl
-plain_opens t after none = refl
+plain_enters : (t after : Token) → (is_some (name_of_token t) ≡ true → store_operator after ≡ None) → enters Expression t after ≡ false
+plain_enters (token.Name name) (token.Punctuator m) none = let e : store_of m ≡ None = none refl in rw e refl
+plain_enters t after none = refl
 
 -- no operator of an assignment stands behind a name
 abbrev pub NoAssignment : Place → Type 0
@@ -52,7 +52,7 @@ none_behind at after none more h = rw (after_name at after (is_named (next_at at
 plain_stands : (at : Place) (depth : ℕ) → is_fault (next_at at).token ≡ false → NoAssignment at → Derives depth (Part Expression ∷ []) (Part (Level 1) ∷ []) [] [] at at
 plain_stands at depth sound none =
     chosen at depth Expression (Part (Level 1) ∷ []) []
-    (record { sound = sound; is = λ after more. plain_choice (next_at at).token after (none_behind at after none more) }) (λ after more. plain_opens (next_at at).token after (none_behind at after none more))
+    (record { sound = sound; is = λ after more. plain_choice (next_at at).token after (none_behind at after none more) }) (λ after more. plain_enters (next_at at).token after (none_behind at after none more))
 
 pub plain_refused : (used : ℕ) (at : Place) (depth : ℕ) (allocates : Bool) (f : ParseFault) → is_fault (next_at at).token ≡ false → NoAssignment at →
     Refused (FailsAt depth (Part (Level 1) ∷ []) [] at) allocates used f → Refused (FailsAt depth (Part Expression ∷ []) [] at) allocates used f
@@ -91,8 +91,8 @@ store_goes_on o t is = let s : SpellsStore o t = spells_store o t is in rw s.is 
 store_choice : (name : List ℕ) (m : Punctuator) (o : StoreOp) → store_of m ≡ Some o → choice Expression (token.Name name) (token.Punctuator m) ≡ Some (AName Mentioned ∷ Exactly m ∷ Part Expression ∷ Make (Store o) ∷ Close ∷ [])
 store_choice name m o is = rw is refl
 
-store_opens : (name : List ℕ) (m : Punctuator) (o : StoreOp) → store_of m ≡ Some o → opens Expression (token.Name name) (token.Punctuator m) ≡ true
-store_opens name m o is = rw is refl
+store_enters : (name : List ℕ) (m : Punctuator) (o : StoreOp) → store_of m ≡ Some o → enters Expression (token.Name name) (token.Punctuator m) ≡ true
+store_enters name m o is = rw is refl
 
 -- a name is next, and the operator of an assignment behind it
 pub record IsAssignment (at : Place) (o : StoreOp) : Type 0 where
@@ -108,14 +108,14 @@ store_chooses at o a s = record {
   is = λ after more. let n : (next_at at).token ≡ token.Name a.named.name = a.named.is in rw (n, after_name at after a.named more, s.is) (store_choice a.named.name s.m o s.store);
 }
 
-store_opens_level : (at : Place) (o : StoreOp) (a : IsAssignment at o) (s : SpellsStore o (after_at at)) → OpensLevel at Expression
-store_opens_level at o a s after more = let n : (next_at at).token ≡ token.Name a.named.name = a.named.is in rw (n, after_name at after a.named more, s.is) (store_opens a.named.name s.m o s.store)
+store_enters_level : (at : Place) (o : StoreOp) (a : IsAssignment at o) (s : SpellsStore o (after_at at)) → EntersLevel at Expression
+store_enters_level at o a s after more = let n : (next_at at).token ≡ token.Name a.named.name = a.named.is in rw (n, after_name at after a.named more, s.is) (store_enters a.named.name s.m o s.store)
 
 pub store_too_deep : (at : Place) (used : ℕ) (near : IsNearTo at used) (depth : ℕ) (o : StoreOp) → IsAssignment at o → 64 ≤ depth → FailsAt depth (Part Expression ∷ []) [] at (stop_with (refusal.Source (diagnostic (next_at at).line code.NestedTooDeeply)) used)
 store_too_deep at used near depth o a deep =
     let s : SpellsStore o (after_at at) = sign_of at o a in
     let n : (next_at at).token ≡ token.Name a.named.name = a.named.is in
-    name_too_deep at used near depth Expression Mentioned a.named.name (Exactly s.m ∷ Part Expression ∷ Make (Store o) ∷ Close ∷ []) (store_chooses at o a s) (store_opens_level at o a s) (rw n refl) deep
+    name_too_deep at used near depth Expression Mentioned a.named.name (Exactly s.m ∷ Part Expression ∷ Make (Store o) ∷ Close ∷ []) (store_chooses at o a s) (store_enters_level at o a s) (rw n refl) deep
 
 store_stands : (at : Place) (depth : ℕ) (o : StoreOp) (a : IsAssignment at o) → depth < 64 → (s : SpellsStore o (after_at at)) →
     Derives depth (Part Expression ∷ []) (AName Mentioned ∷ Exactly s.m ∷ Part Expression ∷ Make (Store o) ∷ Close ∷ []) [] [] at at

@@ -26,7 +26,7 @@ use Rattle.parsing.specs.Segment.{IsNearTo, Derives, DerivesItem, FailsAt, Fails
 use Rattle.parsing.proofs.Segments.{exit_item, fails_behind, joined, refused_map, halts}
 use Rattle.expressions.specs.Expressions.{AddsArgs, AddsExpr, FailsArgs}
 use Rattle.parsing.proofs.Parts.{MakesOnly, make_stands, punctuator_is}
-use Rattle.expressions.proofs.Productions.{Chooses, OpensLevel, chosen, chosen_within, item_done, makes_and_closes, punctuator_sound, name_too_deep}
+use Rattle.expressions.proofs.Productions.{Chooses, EntersLevel, chosen, chosen_within, item_done, makes_and_closes, punctuator_sound, name_too_deep}
 use Rattle.expressions.proofs.TellingLaws.{all_follow, appends_then, first_follows, next_follows, room_behind, room_behind_args}
 use Rattle.expressions.proofs.VariableLaws.{IsNamed, after_name, named_sound, tree_follows}
 
@@ -180,13 +180,13 @@ call_chooses at n fits = record {
   is = λ after more. let t : after_at at ≡ token.Punctuator punctuator.OpenRound = punctuator_is punctuator.OpenRound (after_at at) fits in rw (n.is, after_name at after n more, t) refl;
 }
 
-call_opens : (at : Place) → IsNamed (next_at at).token → is_punctuator punctuator.OpenRound (after_at at) ≡ true → OpensLevel at Primary
-call_opens at n fits after more = let t : after_at at ≡ token.Punctuator punctuator.OpenRound = punctuator_is punctuator.OpenRound (after_at at) fits in rw (n.is, after_name at after n more, t) refl
+call_enters : (at : Place) → IsNamed (next_at at).token → is_punctuator punctuator.OpenRound (after_at at) ≡ true → EntersLevel at Primary
+call_enters at n fits after more = let t : after_at at ≡ token.Punctuator punctuator.OpenRound = punctuator_is punctuator.OpenRound (after_at at) fits in rw (n.is, after_name at after n more, t) refl
 
 pub call_too_deep : (at : Place) (used : ℕ) (near : IsNearTo at used) (depth : ℕ) → IsNamed (next_at at).token → is_punctuator punctuator.OpenRound (after_at at) ≡ true → 64 ≤ depth →
     FailsAt depth (Part Primary ∷ []) [] at (stop_with (refusal.Source (diagnostic (next_at at).line code.NestedTooDeeply)) used)
 call_too_deep at used near depth n fits deep =
-    name_too_deep at used near depth Primary Called n.name (Exactly punctuator.OpenRound ∷ Part Arguments ∷ Exactly punctuator.CloseRound ∷ Make Invoke ∷ Close ∷ []) (call_chooses at n fits) (call_opens at n fits) (rw n.is refl) deep
+    name_too_deep at used near depth Primary Called n.name (Exactly punctuator.OpenRound ∷ Part Arguments ∷ Exactly punctuator.CloseRound ∷ Make Invoke ∷ Close ∷ []) (call_chooses at n fits) (call_enters at n fits) (rw n.is refl) deep
 
 -- what a call was found to be, and up to where
 pub record IsCall (at : Place) (depth : ℕ) : Type 0 where

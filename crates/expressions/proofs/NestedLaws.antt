@@ -11,7 +11,7 @@ use Rattle.grammar.specs.Building.{Meaning}
 use Rattle.grammar.specs.Compiled.{diagnostic}
 use Rattle.grammar.specs.Derivation.{AnExpr}
 use Rattle.grammar.specs.Faults.{misfit_code}
-use Rattle.grammar.specs.Grammar.{Exactly, Expression, Part, Primary, Close, Unary, choice, is_fault, is_punctuator, opens}
+use Rattle.grammar.specs.Grammar.{Exactly, Expression, Part, Primary, Close, Unary, choice, is_fault, is_punctuator, enters}
 use Rattle.grammar.specs.Nesting.{nesting}
 use Rattle.parsing.specs.Position.{Place, next_at}
 use Rattle.parsing.specs.Room.{HasRoom, room}
@@ -25,7 +25,7 @@ use Rattle.expressions.specs.declared.signs.Step.TheVariants as step
 use Rattle.expressions.specs.Expressions.{AddsExpr}
 use Rattle.expressions.specs.Signs.{sign_punctuator, step_punctuator}
 use Rattle.parsing.proofs.Parts.{punctuator_is, close_stands}
-use Rattle.expressions.proofs.Productions.{Chooses, OpensLevel, chosen, chosen_within, item_done, punctuator_ends, punctuator_past, punctuator_sound, punctuator_too_deep, none_chosen}
+use Rattle.expressions.proofs.Productions.{Chooses, EntersLevel, chosen, chosen_within, item_done, punctuator_ends, punctuator_past, punctuator_sound, punctuator_too_deep, none_chosen}
 use Rattle.expressions.proofs.TellingLaws.{room_within}
 
 -- Brackets.
@@ -36,11 +36,11 @@ open_chooses at fits = record {
   is = λ after more. let t : (next_at at).token ≡ token.Punctuator punctuator.OpenRound = punctuator_is punctuator.OpenRound (next_at at).token fits in rw t refl;
 }
 
-open_opens : (at : Place) → is_punctuator punctuator.OpenRound (next_at at).token ≡ true → OpensLevel at Primary
-open_opens at fits after more = let t : (next_at at).token ≡ token.Punctuator punctuator.OpenRound = punctuator_is punctuator.OpenRound (next_at at).token fits in rw t refl
+open_enters : (at : Place) → is_punctuator punctuator.OpenRound (next_at at).token ≡ true → EntersLevel at Primary
+open_enters at fits after more = let t : (next_at at).token ≡ token.Punctuator punctuator.OpenRound = punctuator_is punctuator.OpenRound (next_at at).token fits in rw t refl
 
 pub bracket_too_deep : (at : Place) (used : ℕ) (near : IsNearTo at used) (depth : ℕ) → is_punctuator punctuator.OpenRound (next_at at).token ≡ true → 64 ≤ depth → FailsAt depth (Part Primary ∷ []) [] at (stop_with (refusal.Source (diagnostic (next_at at).line code.NestedTooDeeply)) used)
-bracket_too_deep at used near depth fits deep = punctuator_too_deep at used near depth Primary punctuator.OpenRound (Part Expression ∷ Exactly punctuator.CloseRound ∷ Close ∷ []) (open_chooses at fits) (open_opens at fits) fits deep
+bracket_too_deep at used near depth fits deep = punctuator_too_deep at used near depth Primary punctuator.OpenRound (Part Expression ∷ Exactly punctuator.CloseRound ∷ Close ∷ []) (open_chooses at fits) (open_enters at fits) fits deep
 
 open_stands : (at : Place) (depth : ℕ) → is_punctuator punctuator.OpenRound (next_at at).token ≡ true → depth < 64 →
     Derives depth (Part Primary ∷ []) (Exactly punctuator.OpenRound ∷ Part Expression ∷ Exactly punctuator.CloseRound ∷ Close ∷ []) [] [] at at
@@ -103,11 +103,11 @@ primary_choice (token.Punctuator punctuator.PlusPlus) after signs steps = let e 
 primary_choice (token.Punctuator punctuator.MinusMinus) after signs steps = let e : is_punctuator (step_punctuator step.Down) (token.Punctuator punctuator.MinusMinus) ≡ false = steps step.Down in absurd (cc)
 primary_choice t after signs steps = refl
 
-primary_opens : (t after : Token) → ((s : Sign) → is_punctuator (sign_punctuator s) t ≡ false) → opens Unary t after ≡ false
-primary_opens (token.Punctuator punctuator.Minus) after signs = let e : is_punctuator (sign_punctuator sign.Negation) (token.Punctuator punctuator.Minus) ≡ false = signs sign.Negation in absurd (cc)
-primary_opens (token.Punctuator punctuator.Not) after signs = let e : is_punctuator (sign_punctuator sign.Denial) (token.Punctuator punctuator.Not) ≡ false = signs sign.Denial in absurd (cc)
-primary_opens (token.Punctuator punctuator.Tilde) after signs = let e : is_punctuator (sign_punctuator sign.Complement) (token.Punctuator punctuator.Tilde) ≡ false = signs sign.Complement in absurd (cc)
-primary_opens t after signs = refl
+primary_enters : (t after : Token) → ((s : Sign) → is_punctuator (sign_punctuator s) t ≡ false) → enters Unary t after ≡ false
+primary_enters (token.Punctuator punctuator.Minus) after signs = let e : is_punctuator (sign_punctuator sign.Negation) (token.Punctuator punctuator.Minus) ≡ false = signs sign.Negation in absurd (cc)
+primary_enters (token.Punctuator punctuator.Not) after signs = let e : is_punctuator (sign_punctuator sign.Denial) (token.Punctuator punctuator.Not) ≡ false = signs sign.Denial in absurd (cc)
+primary_enters (token.Punctuator punctuator.Tilde) after signs = let e : is_punctuator (sign_punctuator sign.Complement) (token.Punctuator punctuator.Tilde) ≡ false = signs sign.Complement in absurd (cc)
+primary_enters t after signs = refl
 
 -- the next token is no operator before an operand
 pub record NoOperator (t : Token) : Type 0 where
@@ -117,7 +117,7 @@ pub record NoOperator (t : Token) : Type 0 where
 
 primary_stands : (at : Place) (depth : ℕ) → NoOperator (next_at at).token → Derives depth (Part Unary ∷ []) (Part Primary ∷ []) [] [] at at
 primary_stands at depth n =
-    chosen at depth Unary (Part Primary ∷ []) [] (record { sound = n.sound; is = λ after more. primary_choice (next_at at).token after n.signs n.steps }) (λ after more. primary_opens (next_at at).token after n.signs)
+    chosen at depth Unary (Part Primary ∷ []) [] (record { sound = n.sound; is = λ after more. primary_choice (next_at at).token after n.signs n.steps }) (λ after more. primary_enters (next_at at).token after n.signs)
 
 pub primary_refused : (used : ℕ) (at : Place) (depth : ℕ) (allocates : Bool) (f : ParseFault) → NoOperator (next_at at).token →
     Refused (FailsAt depth (Part Primary ∷ []) [] at) allocates used f → Refused (FailsAt depth (Part Unary ∷ []) [] at) allocates used f
@@ -146,11 +146,11 @@ no_primary (token.Name name) after n = absurd (n.name name refl)
 no_primary (token.Punctuator punctuator.OpenRound) after n = let e : is_punctuator punctuator.OpenRound (token.Punctuator punctuator.OpenRound) ≡ false = n.bracket in absurd (cc)
 no_primary t after n = refl
 
-no_primary_opens : (t after : Token) → NoPrimary t → opens Primary t after ≡ false
-no_primary_opens (token.Name name) after n = absurd (n.name name refl)
-no_primary_opens (token.Punctuator punctuator.OpenRound) after n = let e : is_punctuator punctuator.OpenRound (token.Punctuator punctuator.OpenRound) ≡ false = n.bracket in absurd (cc)
-no_primary_opens t after n = refl
+no_primary_enters : (t after : Token) → NoPrimary t → enters Primary t after ≡ false
+no_primary_enters (token.Name name) after n = absurd (n.name name refl)
+no_primary_enters (token.Punctuator punctuator.OpenRound) after n = let e : is_punctuator punctuator.OpenRound (token.Punctuator punctuator.OpenRound) ≡ false = n.bracket in absurd (cc)
+no_primary_enters t after n = refl
 
 pub primary_misfits : (at : Place) (used : ℕ) (near : IsNearTo at used) (depth : ℕ) → is_fault (next_at at).token ≡ false → NoPrimary (next_at at).token →
     FailsAt depth (Part Primary ∷ []) [] at (stop_with (refusal.Source (diagnostic (next_at at).line (misfit_code (next_at at).token))) used)
-primary_misfits at used near depth sound n = none_chosen at used near depth Primary sound (λ after more. no_primary (next_at at).token after n) (λ after more. no_primary_opens (next_at at).token after n)
+primary_misfits at used near depth sound n = none_chosen at used near depth Primary sound (λ after more. no_primary (next_at at).token after n) (λ after more. no_primary_enters (next_at at).token after n)

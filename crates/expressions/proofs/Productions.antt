@@ -15,7 +15,7 @@ use Rattle.grammar.specs.declared.diagnostics.ParseFault.TheVariants as refusal
 use Rattle.grammar.specs.Compiled.{diagnostic}
 use Rattle.grammar.specs.Derivation.{Value, name_of_token, next_of}
 use Rattle.grammar.specs.Faults.{fault, levels, misfit_code, most_levels, only_if}
-use Rattle.grammar.specs.Grammar.{Item, AName, Exactly, Make, Part, Role, SemanticAction, Close, Symbol, choice, is_fault, is_punctuator, opens, same_punctuator}
+use Rattle.grammar.specs.Grammar.{Item, AName, Exactly, Make, Part, Role, SemanticAction, Close, Symbol, choice, is_fault, is_punctuator, enters, same_punctuator}
 use Rattle.grammar.proofs.Firsts.{no_part, too_deep, too_deep_name}
 use Rattle.grammar.proofs.Runs.{then}
 use Rattle.grammar.proofs.Steps.{part, close}
@@ -60,13 +60,13 @@ pub record Chooses (at : Place) (symbol : Symbol) (items : List Item) : Type 0 w
   pub sound : is_fault (next_at at).token ≡ false
   pub is : WithAfter at (λ after. choice symbol (next_at at).token after ≡ Some items)
 
--- the production opens no level
-abbrev pub OpensNone : Place → Symbol → Type 0
-OpensNone at symbol = WithAfter at (λ after. opens symbol (next_at at).token after ≡ false)
+-- the production enters no level
+abbrev pub EntersNone : Place → Symbol → Type 0
+EntersNone at symbol = WithAfter at (λ after. enters symbol (next_at at).token after ≡ false)
 
--- it opens one
-abbrev pub OpensLevel : Place → Symbol → Type 0
-OpensLevel at symbol = WithAfter at (λ after. opens symbol (next_at at).token after ≡ true)
+-- it enters one
+abbrev pub EntersLevel : Place → Symbol → Type 0
+EntersLevel at symbol = WithAfter at (λ after. enters symbol (next_at at).token after ≡ true)
 
 next_behind : (at : Place) (tail : List LocatedToken) → IsBehind at.position.reading tail → is_last (next_at at).token ≡ false → next_of tail ≡ after_at at
 next_behind at tail b more = ap next_of (b.is more)
@@ -74,13 +74,13 @@ next_behind at tail b more = ap next_of (b.is more)
 free : (n : ℕ) (opened : Bool) (rest : List LocatedToken) → opened ≡ false → only_if opened (only_if (nat_le most_levels n) (fault rest code.NestedTooDeeply ∷ [])) ≡ []
 free n opened rest none = rw none refl
 
--- a production that opens no level is chosen
-pub chosen : (at : Place) (depth : ℕ) (symbol : Symbol) (items : List Item) (kept : List Value) → Chooses at symbol items → OpensNone at symbol →
+-- a production that enters no level is chosen
+pub chosen : (at : Place) (depth : ℕ) (symbol : Symbol) (items : List Item) (kept : List Value) → Chooses at symbol items → EntersNone at symbol →
     Derives depth (Part symbol ∷ []) items kept kept at at
 chosen at depth symbol items kept c none = stand at depth (Part symbol ∷ []) items kept kept (λ tail b. record {
   passes = λ profile stack values functions depths.
       part profile symbol items stack (next_at at ∷ tail) (kept ++ values) (scope_at at) functions c.sound (c.is (next_of tail) (next_behind at tail b))
-      (free (levels stack) (opens symbol (next_at at).token (next_of tail)) (next_at at ∷ tail) (none (next_of tail) (next_behind at tail b)));
+      (free (levels stack) (enters symbol (next_at at).token (next_of tail)) (next_at at ∷ tail) (none (next_of tail) (next_behind at tail b)));
 })
 
 -- one that may open a level, where there is a level left
@@ -88,32 +88,32 @@ pub chosen_within : (at : Place) (depth : ℕ) (symbol : Symbol) (items : List I
 chosen_within at depth symbol items c shallow = stand at depth (Part symbol ∷ []) items [] [] (λ tail b. record {
   passes = λ profile stack values functions depths.
       part profile symbol items stack (next_at at ∷ tail) values (scope_at at) functions c.sound (c.is (next_of tail) (next_behind at tail b))
-      (within (opens symbol (next_at at).token (next_of tail)) (levels stack) (next_at at ∷ tail) (rw depths shallow));
+      (within (enters symbol (next_at at).token (next_of tail)) (levels stack) (next_at at ∷ tail) (rw depths shallow));
 })
 
 -- one that would open a level beyond the last one, by a punctuator
-pub punctuator_too_deep : (at : Place) (used : ℕ) (near : IsNearTo at used) (depth : ℕ) (symbol : Symbol) (m : Punctuator) (items : List Item) → Chooses at symbol (Exactly m ∷ items) → OpensLevel at symbol →
+pub punctuator_too_deep : (at : Place) (used : ℕ) (near : IsNearTo at used) (depth : ℕ) (symbol : Symbol) (m : Punctuator) (items : List Item) → Chooses at symbol (Exactly m ∷ items) → EntersLevel at symbol →
     is_punctuator m (next_at at).token ≡ true → 64 ≤ depth → FailsAt depth (Part symbol ∷ []) [] at (stop_with (refusal.Source (diagnostic (next_at at).line code.NestedTooDeeply)) used)
 punctuator_too_deep at used near depth symbol m items c opened fits deep =
     fails_at_next depth (Part symbol ∷ []) [] at _ used near (λ tail b profile stack values functions depths.
     too_deep profile symbol m items stack (next_at at) tail values (scope_at at) functions c.sound (c.is (next_of tail) (next_behind at tail b)) fits
-    (beyond (opens symbol (next_at at).token (next_of tail)) (levels stack) (next_at at ∷ tail) (opened (next_of tail) (next_behind at tail b)) (rw depths deep)))
+    (beyond (enters symbol (next_at at).token (next_of tail)) (levels stack) (next_at at ∷ tail) (opened (next_of tail) (next_behind at tail b)) (rw depths deep)))
 
 -- by a name
-pub name_too_deep : (at : Place) (used : ℕ) (near : IsNearTo at used) (depth : ℕ) (symbol : Symbol) (role : Role) (name : List ℕ) (items : List Item) → Chooses at symbol (AName role ∷ items) → OpensLevel at symbol →
+pub name_too_deep : (at : Place) (used : ℕ) (near : IsNearTo at used) (depth : ℕ) (symbol : Symbol) (role : Role) (name : List ℕ) (items : List Item) → Chooses at symbol (AName role ∷ items) → EntersLevel at symbol →
     name_of_token (next_at at).token ≡ Some name → 64 ≤ depth → FailsAt depth (Part symbol ∷ []) [] at (stop_with (refusal.Source (diagnostic (next_at at).line code.NestedTooDeeply)) used)
 name_too_deep at used near depth symbol role name items c opened fits deep =
     fails_at_next depth (Part symbol ∷ []) [] at _ used near (λ tail b profile stack values functions depths.
     too_deep_name profile symbol role name items stack (next_at at) tail values (scope_at at) functions c.sound (c.is (next_of tail) (next_behind at tail b)) fits
-    (beyond (opens symbol (next_at at).token (next_of tail)) (levels stack) (next_at at ∷ tail) (opened (next_of tail) (next_behind at tail b)) (rw depths deep)))
+    (beyond (enters symbol (next_at at).token (next_of tail)) (levels stack) (next_at at ∷ tail) (opened (next_of tail) (next_behind at tail b)) (rw depths deep)))
 
 -- no production fits
-pub none_chosen : (at : Place) (used : ℕ) (near : IsNearTo at used) (depth : ℕ) (symbol : Symbol) → is_fault (next_at at).token ≡ false → WithAfter at (λ after. choice symbol (next_at at).token after ≡ None) → OpensNone at symbol →
+pub none_chosen : (at : Place) (used : ℕ) (near : IsNearTo at used) (depth : ℕ) (symbol : Symbol) → is_fault (next_at at).token ≡ false → WithAfter at (λ after. choice symbol (next_at at).token after ≡ None) → EntersNone at symbol →
     FailsAt depth (Part symbol ∷ []) [] at (stop_with (refusal.Source (diagnostic (next_at at).line (misfit_code (next_at at).token))) used)
 none_chosen at used near depth symbol sound none opened =
     fails_at_next depth (Part symbol ∷ []) [] at _ used near (λ tail b profile stack values functions depths.
     no_part profile symbol stack (next_at at ∷ tail) values (scope_at at) functions sound (none (next_of tail) (next_behind at tail b))
-    (free (levels stack) (opens symbol (next_at at).token (next_of tail)) (next_at at ∷ tail) (opened (next_of tail) (next_behind at tail b))))
+    (free (levels stack) (enters symbol (next_at at).token (next_of tail)) (next_at at ∷ tail) (opened (next_of tail) (next_behind at tail b))))
 
 -- The trees made.
 
@@ -132,9 +132,9 @@ makes_and_closes at depth rule taken left sound m = stand at depth (Make rule �
 pub item_exit : (used : ℕ) (whole item : Item) (below : List Item) (under : List Value) (at now : Place) (more : Bool) (f : ParseFault) →
     ((depth : ℕ) → Derives depth (whole ∷ []) (item ∷ below) [] under at now) → ((depth : ℕ) (stack : List Item) → levels stack ≡ depth → levels (below ++ stack) ≡ depth) →
     Refused (FailsItem item now) false used f → Refused (FailsItem whole at) more used f
-item_exit used whole item below under at now more f a opens =
+item_exit used whole item below under at now more f a enters =
     refused_map used (FailsItem item now) (FailsItem whole at) false more f
-    (λ d h depth. fails_behind depth depth (whole ∷ []) (item ∷ []) below [] [] under at now d (a depth) (opens depth) (h depth)) (λ never. absurd (cc))
+    (λ d h depth. fails_behind depth depth (whole ∷ []) (item ∷ []) below [] [] under at now d (a depth) (enters depth) (h depth)) (λ never. absurd (cc))
 
 -- the next item is done, and its trees stand on the others
 pub item_done : (depth inner : ℕ) (front : List Item) (item : Item) (below : List Item) (taken left under : List Value) (at now there : Place) →

@@ -11,7 +11,7 @@ use Rattle.grammar.specs.Building.{Meaning, AppendsAll, MayFollowAll}
 use Rattle.grammar.specs.Compiled.{diagnostic}
 use Rattle.grammar.specs.Derivation.{AnExpr}
 use Rattle.grammar.specs.Following.{AValue, Number, open_count}
-use Rattle.grammar.specs.Grammar.{Exactly, Make, Part, Close, Unary, choice, is_fault, is_punctuator, opens}
+use Rattle.grammar.specs.Grammar.{Exactly, Make, Part, Close, Unary, choice, is_fault, is_punctuator, enters}
 use Rattle.grammar.specs.Nesting.{nesting}
 use Rattle.grammar.specs.Resolved.{InExpr}
 use Rattle.grammar.specs.Tree.{Expr}
@@ -26,7 +26,7 @@ use Rattle.expressions.specs.declared.signs.Sign.TheVariants as sign
 use Rattle.expressions.specs.Expressions.{AddsExpr}
 use Rattle.expressions.specs.Signs.{before_operand, behind_operand, sign_punctuator, sign_rule, signed}
 use Rattle.parsing.proofs.Parts.{MakesOnly, punctuator_is}
-use Rattle.expressions.proofs.Productions.{Chooses, OpensLevel, chosen_within, item_done, makes_and_closes, punctuator_ends, punctuator_past, punctuator_sound, punctuator_too_deep}
+use Rattle.expressions.proofs.Productions.{Chooses, EntersLevel, chosen_within, item_done, makes_and_closes, punctuator_ends, punctuator_past, punctuator_sound, punctuator_too_deep}
 use Rattle.expressions.proofs.TellingLaws.{all_follow, appends_then, others_follow, room_behind}
 
 -- The derivation.
@@ -36,10 +36,10 @@ sign_choice sign.Negation after = refl
 sign_choice sign.Denial after = refl
 sign_choice sign.Complement after = refl
 
-sign_opens : (s : Sign) (after : Token) → opens Unary (token.Punctuator (sign_punctuator s)) after ≡ true
-sign_opens sign.Negation after = refl
-sign_opens sign.Denial after = refl
-sign_opens sign.Complement after = refl
+sign_enters : (s : Sign) (after : Token) → enters Unary (token.Punctuator (sign_punctuator s)) after ≡ true
+sign_enters sign.Negation after = refl
+sign_enters sign.Denial after = refl
+sign_enters sign.Complement after = refl
 
 sign_chooses : (at : Place) (s : Sign) → is_punctuator (sign_punctuator s) (next_at at).token ≡ true → Chooses at Unary (Exactly (sign_punctuator s) ∷ Part Unary ∷ Make (sign_rule s) ∷ Close ∷ [])
 sign_chooses at s fits = record {
@@ -47,8 +47,8 @@ sign_chooses at s fits = record {
   is = λ after more. let t : (next_at at).token ≡ token.Punctuator (sign_punctuator s) = punctuator_is (sign_punctuator s) (next_at at).token fits in rw t (sign_choice s after);
 }
 
-sign_opens_level : (at : Place) (s : Sign) → is_punctuator (sign_punctuator s) (next_at at).token ≡ true → OpensLevel at Unary
-sign_opens_level at s fits after more = let t : (next_at at).token ≡ token.Punctuator (sign_punctuator s) = punctuator_is (sign_punctuator s) (next_at at).token fits in rw t (sign_opens s after)
+sign_enters_level : (at : Place) (s : Sign) → is_punctuator (sign_punctuator s) (next_at at).token ≡ true → EntersLevel at Unary
+sign_enters_level at s fits after more = let t : (next_at at).token ≡ token.Punctuator (sign_punctuator s) = punctuator_is (sign_punctuator s) (next_at at).token fits in rw t (sign_enters s after)
 
 sign_makes : (s : Sign) (e : Expr) → MakesOnly (sign_rule s) (AnExpr e ∷ []) (AnExpr (signed s e) ∷ [])
 sign_makes sign.Negation e = record { makes = λ values. refl; clean = λ profile stack rest values scope functions. refl; learns = λ scope. refl; defines = λ values scope. refl }
@@ -57,7 +57,7 @@ sign_makes sign.Complement e = record { makes = λ values. refl; clean = λ prof
 
 pub sign_too_deep : (at : Place) (used : ℕ) (near : IsNearTo at used) (depth : ℕ) (s : Sign) → is_punctuator (sign_punctuator s) (next_at at).token ≡ true → 64 ≤ depth →
     FailsAt depth (Part Unary ∷ []) [] at (stop_with (refusal.Source (diagnostic (next_at at).line code.NestedTooDeeply)) used)
-sign_too_deep at used near depth s fits deep = punctuator_too_deep at used near depth Unary (sign_punctuator s) (Part Unary ∷ Make (sign_rule s) ∷ Close ∷ []) (sign_chooses at s fits) (sign_opens_level at s fits) fits deep
+sign_too_deep at used near depth s fits deep = punctuator_too_deep at used near depth Unary (sign_punctuator s) (Part Unary ∷ Make (sign_rule s) ∷ Close ∷ []) (sign_chooses at s fits) (sign_enters_level at s fits) fits deep
 
 sign_stands : (at : Place) (depth : ℕ) (s : Sign) → is_punctuator (sign_punctuator s) (next_at at).token ≡ true → depth < 64 →
     Derives depth (Part Unary ∷ []) (Exactly (sign_punctuator s) ∷ Part Unary ∷ Make (sign_rule s) ∷ Close ∷ []) [] [] at at

@@ -14,7 +14,7 @@ use Rattle.grammar.specs.Actions.{Chop, FetchVariable, PushConstant, StoreVariab
 use Rattle.grammar.specs.Building.{Meaning, AppendsAll, MayFollow, MayFollowAll}
 use Rattle.grammar.specs.Derivation.{AnExpr, AVariable, constant_value, name_of_token}
 use Rattle.grammar.specs.Following.{AValue, Number, open_count}
-use Rattle.grammar.specs.Grammar.{AConstant, AName, Exactly, Fetch, Make, Mentioned, Part, Primary, StepBefore, StepBehind, Unary, choice, is_fault, is_punctuator, opens}
+use Rattle.grammar.specs.Grammar.{AConstant, AName, Exactly, Fetch, Make, Mentioned, Part, Primary, StepBefore, StepBehind, Unary, choice, is_fault, is_punctuator, enters}
 use Rattle.grammar.specs.Nesting.{nesting}
 use Rattle.grammar.specs.Resolved.{InExpr, IsVariable}
 use Rattle.grammar.specs.Scope.{Scope}
@@ -31,7 +31,7 @@ use Rattle.expressions.specs.declared.signs.Step.TheVariants as step
 use Rattle.expressions.specs.Expressions.{AddsExpr}
 use Rattle.expressions.specs.Signs.{step_punctuator, step_store}
 use Rattle.parsing.proofs.Parts.{MakesOnly, make_stands, punctuator_is}
-use Rattle.expressions.proofs.Productions.{Chooses, OpensNone, chosen, item_done, item_exit, punctuator_ends, punctuator_past, punctuator_sound}
+use Rattle.expressions.proofs.Productions.{Chooses, EntersNone, chosen, item_done, item_exit, punctuator_ends, punctuator_past, punctuator_sound}
 use Rattle.expressions.proofs.TellingLaws.{all_follow, appends_then, first_follows}
 
 -- Names.
@@ -66,8 +66,8 @@ after_name at after n more = more (named_goes_on (next_at at).token n)
 constant_chooses : (at : Place) (value : ℕ) → (next_at at).token ≡ token.Constant value → Chooses at Primary (AConstant ∷ [])
 constant_chooses at value is = record { sound = rw is refl; is = λ after more. rw is refl }
 
-constant_opens : (at : Place) (value : ℕ) → (next_at at).token ≡ token.Constant value → OpensNone at Primary
-constant_opens at value is after more = rw is refl
+constant_enters : (at : Place) (value : ℕ) → (next_at at).token ≡ token.Constant value → EntersNone at Primary
+constant_enters at value is after more = rw is refl
 
 constant_leads : (located_token : LocatedToken) (value : ℕ) → located_token.token ≡ token.Constant value → (depth : ℕ) (known : Scope) (rest : List LocatedToken) →
     Leads depth (AConstant ∷ []) [] [] (AnExpr (Constant (pos value)) ∷ []) known known (located_token ∷ rest) rest
@@ -84,7 +84,7 @@ constant_past at there value is goes depth =
     (λ rest b. constant_leads (next_at at) value is depth (scope_at at) rest)
 
 constant_stands : (at : Place) (value : ℕ) → (next_at at).token ≡ token.Constant value → (depth : ℕ) → Derives depth (Part Primary ∷ []) (AConstant ∷ []) [] [] at at
-constant_stands at value is depth = chosen at depth Primary (AConstant ∷ []) [] (constant_chooses at value is) (constant_opens at value is)
+constant_stands at value is depth = chosen at depth Primary (AConstant ∷ []) [] (constant_chooses at value is) (constant_enters at value is)
 
 pub constant_ends : (used : ℕ) (at : Place) (value : ℕ) (more : Bool) (f : ParseFault) → (next_at at).token ≡ token.Constant value → Refused (StopsAt at) false used f → Refused (FailsItem (Part Primary) at) more used f
 constant_ends used at value more f is stop =
@@ -125,12 +125,12 @@ fetch_choice name (token.Punctuator punctuator.PlusPlus) call up down = absurd (
 fetch_choice name (token.Punctuator punctuator.MinusMinus) call up down = absurd (cc)
 fetch_choice name after call up down = refl
 
-name_opens : (name : List ℕ) (after : Token) → is_punctuator punctuator.OpenRound after ≡ false → opens Primary (token.Name name) after ≡ false
-name_opens name (token.Punctuator punctuator.OpenRound) call = absurd (cc)
-name_opens name after call = refl
+name_enters : (name : List ℕ) (after : Token) → is_punctuator punctuator.OpenRound after ≡ false → enters Primary (token.Name name) after ≡ false
+name_enters name (token.Punctuator punctuator.OpenRound) call = absurd (cc)
+name_enters name after call = refl
 
-name_opens_none : (at : Place) → IsNamed (next_at at).token → is_punctuator punctuator.OpenRound (after_at at) ≡ false → OpensNone at Primary
-name_opens_none at n call after more = rw (n.is, after_name at after n more) (name_opens n.name (after_at at) call)
+name_enters_none : (at : Place) → IsNamed (next_at at).token → is_punctuator punctuator.OpenRound (after_at at) ≡ false → EntersNone at Primary
+name_enters_none at n call after more = rw (n.is, after_name at after n more) (name_enters n.name (after_at at) call)
 
 -- it isn't followed by ++ or --
 abbrev pub NoStep : Place → Type 0
@@ -144,7 +144,7 @@ fetch_chooses at n call none = record {
 
 fetch_stands : (at : Place) → IsNamed (next_at at).token → is_punctuator punctuator.OpenRound (after_at at) ≡ false → NoStep at → (depth : ℕ) →
     Derives depth (Part Primary ∷ []) (AName Mentioned ∷ Make Fetch ∷ []) [] [] at at
-fetch_stands at n call none depth = chosen at depth Primary (AName Mentioned ∷ Make Fetch ∷ []) [] (fetch_chooses at n call none) (name_opens_none at n call)
+fetch_stands at n call none depth = chosen at depth Primary (AName Mentioned ∷ Make Fetch ∷ []) [] (fetch_chooses at n call none) (name_enters_none at n call)
 
 pub fetch_ends : (used : ℕ) (at : Place) (more : Bool) (f : ParseFault) → IsNamed (next_at at).token → is_punctuator punctuator.OpenRound (after_at at) ≡ false → NoStep at →
     Refused (FailsItem (AName Mentioned) at) false used f → Refused (FailsItem (Part Primary) at) more used f
@@ -173,9 +173,9 @@ behind_choice : (name : List ℕ) (s : Step) → choice Primary (token.Name name
 behind_choice name step.Up = refl
 behind_choice name step.Down = refl
 
-behind_opens : (name : List ℕ) (s : Step) → opens Primary (token.Name name) (token.Punctuator (step_punctuator s)) ≡ false
-behind_opens name step.Up = refl
-behind_opens name step.Down = refl
+behind_enters : (name : List ℕ) (s : Step) → enters Primary (token.Name name) (token.Punctuator (step_punctuator s)) ≡ false
+behind_enters name step.Up = refl
+behind_enters name step.Down = refl
 
 behind_chooses : (at : Place) (s : Step) → IsNamed (next_at at).token → is_punctuator (step_punctuator s) (after_at at) ≡ true →
     Chooses at Primary (AName Mentioned ∷ Exactly (step_punctuator s) ∷ Make (StepBehind (step_store s)) ∷ [])
@@ -184,14 +184,14 @@ behind_chooses at s n fits = record {
   is = λ after more. let t : after_at at ≡ token.Punctuator (step_punctuator s) = punctuator_is (step_punctuator s) (after_at at) fits in rw (n.is, after_name at after n more, t) (behind_choice n.name s);
 }
 
-behind_opens_none : (at : Place) (s : Step) → IsNamed (next_at at).token → is_punctuator (step_punctuator s) (after_at at) ≡ true → OpensNone at Primary
-behind_opens_none at s n fits after more =
-    let t : after_at at ≡ token.Punctuator (step_punctuator s) = punctuator_is (step_punctuator s) (after_at at) fits in rw (n.is, after_name at after n more, t) (behind_opens n.name s)
+behind_enters_none : (at : Place) (s : Step) → IsNamed (next_at at).token → is_punctuator (step_punctuator s) (after_at at) ≡ true → EntersNone at Primary
+behind_enters_none at s n fits after more =
+    let t : after_at at ≡ token.Punctuator (step_punctuator s) = punctuator_is (step_punctuator s) (after_at at) fits in rw (n.is, after_name at after n more, t) (behind_enters n.name s)
 
 behind_stands : (at : Place) (s : Step) → IsNamed (next_at at).token → is_punctuator (step_punctuator s) (after_at at) ≡ true → (depth : ℕ) →
     Derives depth (Part Primary ∷ []) (AName Mentioned ∷ Exactly (step_punctuator s) ∷ Make (StepBehind (step_store s)) ∷ []) [] [] at at
 behind_stands at s n fits depth =
-    chosen at depth Primary (AName Mentioned ∷ Exactly (step_punctuator s) ∷ Make (StepBehind (step_store s)) ∷ []) [] (behind_chooses at s n fits) (behind_opens_none at s n fits)
+    chosen at depth Primary (AName Mentioned ∷ Exactly (step_punctuator s) ∷ Make (StepBehind (step_store s)) ∷ []) [] (behind_chooses at s n fits) (behind_enters_none at s n fits)
 
 pub behind_name_ends : (used : ℕ) (at : Place) (s : Step) (more : Bool) (f : ParseFault) → IsNamed (next_at at).token → is_punctuator (step_punctuator s) (after_at at) ≡ true →
     Refused (FailsItem (AName Mentioned) at) false used f → Refused (FailsItem (Part Primary) at) more used f
@@ -240,16 +240,16 @@ before_choice : (s : Step) (after : Token) → choice Unary (token.Punctuator (s
 before_choice step.Up after = refl
 before_choice step.Down after = refl
 
-before_opens : (s : Step) (after : Token) → opens Unary (token.Punctuator (step_punctuator s)) after ≡ false
-before_opens step.Up after = refl
-before_opens step.Down after = refl
+before_enters : (s : Step) (after : Token) → enters Unary (token.Punctuator (step_punctuator s)) after ≡ false
+before_enters step.Up after = refl
+before_enters step.Down after = refl
 
 before_stands : (at : Place) (s : Step) → is_punctuator (step_punctuator s) (next_at at).token ≡ true → (depth : ℕ) →
     Derives depth (Part Unary ∷ []) (Exactly (step_punctuator s) ∷ AName Mentioned ∷ Make (StepBefore (step_store s)) ∷ []) [] [] at at
 before_stands at s fits depth =
     let t : (next_at at).token ≡ token.Punctuator (step_punctuator s) = punctuator_is (step_punctuator s) (next_at at).token fits in
     chosen at depth Unary (Exactly (step_punctuator s) ∷ AName Mentioned ∷ Make (StepBefore (step_store s)) ∷ []) []
-    (record { sound = punctuator_sound (step_punctuator s) (next_at at).token fits; is = λ after more. rw t (before_choice s after) }) (λ after more. rw t (before_opens s after))
+    (record { sound = punctuator_sound (step_punctuator s) (next_at at).token fits; is = λ after more. rw t (before_choice s after) }) (λ after more. rw t (before_enters s after))
 
 pub before_punctuator_ends : (used : ℕ) (at : Place) (s : Step) (more : Bool) (f : ParseFault) → is_punctuator (step_punctuator s) (next_at at).token ≡ true → Refused (StopsAt at) false used f → Refused (FailsItem (Part Unary) at) more used f
 before_punctuator_ends used at s more f fits stop =

@@ -23,6 +23,7 @@ use parsing::{MOST_LEVELS, Parser, is_punctuator};
 use tokens::{Feed, Punctuator, Token};
 
 /// `expr → name asg expr` and `expr → level1`
+#[inline(never)]
 #[cycle(expressions)]
 pub fn expression<F: Feed, B: Build>(
     parser: &mut Parser<'_, F>,
@@ -72,6 +73,7 @@ fn assignment<F: Feed, B: Build>(
 
 /// `levelN → level(N+1) tailN`, down to `level11`: an operand, and the operators from this level on by precedence
 /// climbing
+#[inline(always)]
 #[cycle(expressions)]
 fn levels<F: Feed, B: Build>(
     parser: &mut Parser<'_, F>,
@@ -95,6 +97,7 @@ fn levels<F: Feed, B: Build>(
 }
 
 /// `tailN → operator level(N+1) tailN`, up to the next `tailN`
+#[inline(never)]
 #[cycle(expressions)]
 fn operand<F: Feed, B: Build>(
     parser: &mut Parser<'_, F>,
@@ -118,6 +121,7 @@ fn operand<F: Feed, B: Build>(
 }
 
 /// `level11 → operator level11`, `level11 → operator name` and `level11 → primary`
+#[inline(always)]
 #[cycle(expressions)]
 fn unary<F: Feed, B: Build>(
     parser: &mut Parser<'_, F>,
@@ -142,6 +146,7 @@ fn unary<F: Feed, B: Build>(
 }
 
 /// `level11 → operator level11`
+#[inline(never)]
 #[cycle(expressions)]
 fn signed<F: Feed, B: Build>(
     parser: &mut Parser<'_, F>,
@@ -168,6 +173,7 @@ fn signed<F: Feed, B: Build>(
 }
 
 /// `primary → constant`, `name ( args )`, `name operator`, `name` and `( expr )`
+#[inline(always)]
 #[cycle(expressions)]
 fn primary<F: Feed, B: Build>(
     parser: &mut Parser<'_, F>,
@@ -196,6 +202,7 @@ fn primary<F: Feed, B: Build>(
 }
 
 /// `primary → name ( args )`
+#[inline(never)]
 #[cycle(expressions)]
 fn call<F: Feed, B: Build>(
     parser: &mut Parser<'_, F>,
@@ -248,6 +255,7 @@ fn arguments<F: Feed, B: Build>(
 }
 
 /// `primary → ( expr )`
+#[inline(never)]
 #[cycle(expressions)]
 fn bracketed<F: Feed, B: Build>(
     parser: &mut Parser<'_, F>,

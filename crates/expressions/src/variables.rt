@@ -16,6 +16,7 @@ use parsing::Parser;
 use tokens::Feed;
 
 /// `primary → constant`
+#[inline(always)]
 pub fn constant<F: Feed, B: Build>(
     parser: &mut Parser<'_, F>,
     build: &mut B,
@@ -35,6 +36,7 @@ pub fn constant<F: Feed, B: Build>(
 }
 
 /// `primary → name operator` and `primary → name`
+#[inline(always)]
 pub fn variable<F: Feed, B: Build>(
     parser: &mut Parser<'_, F>,
     build: &mut B,
@@ -57,6 +59,7 @@ pub fn variable<F: Feed, B: Build>(
 }
 
 /// `primary → name operator`
+#[inline(never)]
 fn step_behind<F: Feed, B: Build>(
     parser: &mut Parser<'_, F>,
     build: &mut B,
@@ -80,6 +83,7 @@ fn step_behind<F: Feed, B: Build>(
 }
 
 /// `level11 → operator name`
+#[inline(never)]
 pub fn step_before<F: Feed, B: Build>(
     parser: &mut Parser<'_, F>,
     build: &mut B,

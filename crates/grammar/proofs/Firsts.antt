@@ -11,7 +11,7 @@ use Rattle.grammar.specs.declared.diagnostics.Code.TheVariants as code
 use Rattle.grammar.specs.Compiled.{diagnostic}
 use Rattle.grammar.specs.Derivation.{State, state, Value, Definition, definition_of, last_body, stepped, run, next_of, after_of, line_of, name_of_token}
 use Rattle.grammar.specs.Faults.{Fault, fault, faults_at, is_first, item_faults, level_faults, length_faults, name_faults, role_faults, no_room, misfits, misfit_code, levels, number_of, most_levels, most_names, is_too_long, only_if}
-use Rattle.grammar.specs.Grammar.{Item, Exactly, AWord, AName, AConstant, AnEnd, Part, Make, Close, Symbol, Role, Defined, External, Parameter, Typed, Local, Called, Mentioned, Define, choice, opens, is_punctuator, is_word, is_fault}
+use Rattle.grammar.specs.Grammar.{Item, Exactly, AWord, AName, AConstant, AnEnd, Part, Make, Close, Symbol, Role, Defined, External, Parameter, Typed, Local, Called, Mentioned, Define, choice, enters, is_punctuator, is_word, is_fault}
 use Rattle.grammar.specs.Intrinsics.{is_intrinsic}
 use Rattle.grammar.specs.Parsing.{IsIn, IsFirstFault, Fails}
 use Rattle.grammar.specs.Profile.{Profile}
@@ -128,7 +128,7 @@ item_rest profile g (AName role ∷ stack) rest values scope functions h = name_
 item_rest profile g (AnEnd ∷ stack) rest values scope functions h = absurd h
 item_rest profile g (AConstant ∷ stack) rest values scope functions h = absurd h
 item_rest profile g (Part symbol ∷ stack) rest values scope functions h =
-    only_if_rest g (opens symbol (next_of rest) (after_of rest)) (only_if (nat_le most_levels (levels stack)) (fault rest code.NestedTooDeeply ∷ [])) rest
+    only_if_rest g (enters symbol (next_of rest) (after_of rest)) (only_if (nat_le most_levels (levels stack)) (fault rest code.NestedTooDeeply ∷ [])) rest
     (only_if_rest g (nat_le most_levels (levels stack)) (fault rest code.NestedTooDeeply ∷ []) rest (single_rest g rest code.NestedTooDeeply)) h
 item_rest profile g (Make Define ∷ stack) rest values scope functions h =
     only_if_rest g (is_too_long profile (functions ++ definition_of scope (last_body values) ∷ [])) (fault rest code.TooMuchCode ∷ []) rest (single_rest g rest code.TooMuchCode) h

@@ -130,6 +130,21 @@ room_begun functions lines begun n kept within new =
     let most = length-le_from_distinct_below (begun ++ n ∷ []) (length functions) more.once more.known in
     omega (arith, most, kept.few, length-append begun (n ∷ []))
 
+eqb_swapped : (a b : ℕ) → eqb a b ≡ eqb b a
+eqb_swapped a b = grind (arith, nat_tests)
+
+any_swapped : (q : ℕ) (xs : List ℕ) → list_any (λ k. eqb k q) xs ≡ list_any (eqb q) xs
+any_swapped q [] = refl
+any_swapped q (x ∷ xs) = ap₂ (λ a b. a || b) (eqb_swapped x q) (any_swapped q xs)
+
+-- a function that wasn't mentioned has no definition
+pub not_begun : {F : Type 0} (functions : List F) (lines begun : List ℕ) → IsKept functions lines begun → false ≡ list_any (λ k. eqb k (length functions)) begun
+not_begun functions lines begun kept = by (list_any (λ k. eqb k (length functions)) begun) refl
+  where
+    by : (b : Bool) → list_any (λ k. eqb k (length functions)) begun ≡ b → false ≡ list_any (λ k. eqb k (length functions)) begun
+    by true e = let less = kept.known (length functions) (sym (any_swapped (length functions) begun) ∙ e) in absurd (omega (arith, less))
+    by false e = sym e
+
 -- a function of the pools changes in its place
 pub ruleset in_place = (take-set-lt)
 

@@ -13,7 +13,7 @@ use Rattle.grammar.specs.Actions.{Action, code_length, function_actions}
 use Rattle.grammar.specs.Derivation.{State, Value, Definition, definition_of, last_body, step_of, stepped, next_of}
 use Rattle.grammar.specs.Derivation.{after_of, name_of_token}
 use Rattle.grammar.specs.Grammar.{Item, AName, Part, Make, Close, Define, Symbol, Role, Defined, External, Parameter}
-use Rattle.grammar.specs.Grammar.{Typed, Local, Called, Mentioned, is_fault, opens}
+use Rattle.grammar.specs.Grammar.{Typed, Local, Called, Mentioned, is_fault, enters}
 use Rattle.grammar.specs.Intrinsics.{is_intrinsic}
 use Rattle.grammar.specs.Profile.{Profile}
 use Rattle.grammar.specs.Scope.{Scope, has_begun, is_external_new, is_function_new, is_local_new, is_variable_new}
@@ -75,10 +75,10 @@ levels (item ∷ stack) = levels stack
 abbrev pub only_if : Bool → List Fault → List Fault
 only_if b faults = if b then faults else []
 
--- a symbol opens a level beyond the last one
+-- a symbol enters a level beyond the last one
 abbrev pub level_faults : Symbol → List Item → List LocatedToken → List Fault
 level_faults symbol stack rest =
-    only_if (opens symbol (next_of rest) (after_of rest))
+    only_if (enters symbol (next_of rest) (after_of rest))
     (only_if (nat_le most_levels (levels stack)) (fault rest code.NestedTooDeeply ∷ []))
 
 -- a new name for which there is no room after so many

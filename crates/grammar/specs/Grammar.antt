@@ -200,17 +200,17 @@ choice MoreArguments (token.Punctuator punctuator.Comma) after = Some
     (Exactly punctuator.Comma ∷ Part Expression ∷ Make Pass ∷ Part MoreArguments ∷ [])
 choice MoreArguments next after = Some []
 
--- Whether the production chosen opens a level: a block, an `if`, a `while`, an assignment, a unary `-`, `!` or `~`,
+-- Whether the production chosen enters a level: a block, an `if`, a `while`, an assignment, a unary `-`, `!` or `~`,
 -- an expression in brackets, a call.
-abbrev pub opens : Symbol → Token → Token → Bool
-opens FunctionBlock (token.Punctuator punctuator.OpenCurly) after = true
-opens Block (token.Punctuator punctuator.OpenCurly) after = true
-opens Statement (token.Word word.If) after = true
-opens Statement (token.Word word.While) after = true
-opens Expression (token.Name name) (token.Punctuator m) = is_some (store_of m)
-opens Unary (token.Punctuator punctuator.Minus) after = true
-opens Unary (token.Punctuator punctuator.Not) after = true
-opens Unary (token.Punctuator punctuator.Tilde) after = true
-opens Primary (token.Name name) (token.Punctuator punctuator.OpenRound) = true
-opens Primary (token.Punctuator punctuator.OpenRound) after = true
-opens symbol next after = false
+abbrev pub enters : Symbol → Token → Token → Bool
+enters FunctionBlock (token.Punctuator punctuator.OpenCurly) after = true
+enters Block (token.Punctuator punctuator.OpenCurly) after = true
+enters Statement (token.Word word.If) after = true
+enters Statement (token.Word word.While) after = true
+enters Expression (token.Name name) (token.Punctuator m) = is_some (store_of m)
+enters Unary (token.Punctuator punctuator.Minus) after = true
+enters Unary (token.Punctuator punctuator.Not) after = true
+enters Unary (token.Punctuator punctuator.Tilde) after = true
+enters Primary (token.Name name) (token.Punctuator punctuator.OpenRound) = true
+enters Primary (token.Punctuator punctuator.OpenRound) after = true
+enters symbol next after = false

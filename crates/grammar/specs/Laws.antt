@@ -13,7 +13,7 @@ use Rattle.grammar.specs.Actions.{Action, actions}
 use Rattle.grammar.specs.Building.{Meaning, MayFollow, StandsOpen}
 use Rattle.grammar.specs.Beginning.{IsBeginning}
 use Rattle.grammar.specs.Following.{AreInOrder, Opened, follow, follow_all, open_count}
-use Rattle.grammar.specs.Grammar.{Symbol, Declarations, Statements, Item, Part, Make, Define, Production, choice, opens}
+use Rattle.grammar.specs.Grammar.{Symbol, Declarations, Statements, Item, Part, Make, Define, Production, choice, enters}
 use Rattle.grammar.specs.Need.{need}
 use Rattle.grammar.specs.Nesting.{body_nesting}
 use Rattle.grammar.specs.Parsing.{Fails, IsFault, Passes}
@@ -37,17 +37,17 @@ abbrev pub FirstFaultDecides : Type 0
 FirstFaultDecides = (profile : Profile) (located_tokens : List LocatedToken) (d : Diagnostic)
     → Fails profile (start located_tokens) d → compiled_tokens profile located_tokens ≡ Err d
 
--- a production opens a level exactly if its end closes one
+-- a production enters a level exactly if its end closes one
 abbrev pub closes : Production → ℕ
 closes None = 0
 closes (Some items) = levels items
 
-abbrev pub opened_levels : Bool → ℕ
-opened_levels b = if b then 1 else 0
+abbrev pub entered_levels : Bool → ℕ
+entered_levels b = if b then 1 else 0
 
 abbrev pub LevelsAreClosed : Type 0
 LevelsAreClosed = (symbol : Symbol) (next after : Token)
-    → closes (choice symbol next after) ≡ opened_levels (opens symbol next after)
+    → closes (choice symbol next after) ≡ entered_levels (enters symbol next after)
 
 -- the actions of a resolved file may follow one another, and leave nothing open, if no function has too much open
 -- at once

@@ -93,6 +93,7 @@ impl Op {
 }
 
 /// Returns the operator that a token spells, with its level, if that is this level or a tighter one.
+#[inline(always)]
 pub fn operator_from(token: &Token, level: u8) -> Option<Binary>
     ensures { result ≡ operator_from level token.now }
 {
@@ -105,31 +106,55 @@ pub fn operator_from(token: &Token, level: u8) -> Option<Binary>
     }
 }
 
+/// The binary operators with their levels, in the order of the punctuators.
+static BINARIES: [Option<(u8, Op)>; 39] = [
+    Some((9, Op::Add)),
+    Some((9, Op::Subtract)),
+    Some((10, Op::Multiply)),
+    Some((10, Op::Divide)),
+    Some((10, Op::Remainder)),
+    Some((5, Op::BitAnd)),
+    Some((3, Op::BitOr)),
+    Some((4, Op::BitXor)),
+    None,
+    None,
+    Some((7, Op::Less)),
+    Some((7, Op::Greater)),
+    None,
+    Some((8, Op::ShiftLeft)),
+    Some((8, Op::ShiftRight)),
+    Some((7, Op::LessOrEqual)),
+    Some((7, Op::GreaterOrEqual)),
+    Some((6, Op::Equal)),
+    Some((6, Op::NotEqual)),
+    Some((2, Op::And)),
+    Some((1, Op::Or)),
+    None,
+    None,
+    None,
+    None,
+    None,
+    None,
+    None,
+    None,
+    None,
+    None,
+    None,
+    None,
+    None,
+    None,
+    None,
+    None,
+    None,
+    None,
+];
+
 /// The binary operator that a punctuator spells.
+#[inline(always)]
 fn binary_of(punctuator: Punctuator) -> Option<Binary>
     ensures { result ≡ binary_of punctuator }
 {
-    let (level, op) = match punctuator {
-        Punctuator::OrOr => (1, Op::Or),
-        Punctuator::AndAnd => (2, Op::And),
-        Punctuator::Or => (3, Op::BitOr),
-        Punctuator::Xor => (4, Op::BitXor),
-        Punctuator::And => (5, Op::BitAnd),
-        Punctuator::EqualsEquals => (6, Op::Equal),
-        Punctuator::NotEquals => (6, Op::NotEqual),
-        Punctuator::Less => (7, Op::Less),
-        Punctuator::Greater => (7, Op::Greater),
-        Punctuator::LessEquals => (7, Op::LessOrEqual),
-        Punctuator::GreaterEquals => (7, Op::GreaterOrEqual),
-        Punctuator::ShiftLeft => (8, Op::ShiftLeft),
-        Punctuator::ShiftRight => (8, Op::ShiftRight),
-        Punctuator::Plus => (9, Op::Add),
-        Punctuator::Minus => (9, Op::Subtract),
-        Punctuator::Star => (10, Op::Multiply),
-        Punctuator::Slash => (10, Op::Divide),
-        Punctuator::Percent => (10, Op::Remainder),
-        _ => return None,
-    };
+    let (level, op) = BINARIES[punctuator as usize]?;
     Some(Binary { level, op })
 }
 

@@ -17,6 +17,7 @@ use std::marker::Model;
 use tokens::Name;
 
 /// The number of a name among names.
+#[inline(always)]
 pub fn number_of(names: &[Name], name: &Name) -> Option<usize>
     ensures { result ≡ number_of_name name.now names.now }
 {
@@ -103,6 +104,7 @@ impl Scope {
     }
 
     /// The variable of a name that is mentioned. A name that has none becomes the function's next local.
+    #[inline(always)]
     #[tactic(auto, using(crate::proofs::ScopeLaws::names))]
     pub fn mention(&mut self, name: Name) -> Result<Var, Code>
         ensures known { IfOk result (λ v. (v ≡ variable_of name self.old)
@@ -252,7 +254,7 @@ impl Scope {
     pub fn has_main(&self) -> bool
         ensures { result ≡ is_some (function_number main_name self.now) }
     {
-        function_number(self.pools.functions(), b"main").is_some()
+        function_number(self.pools.functions(), &name_of(b"main")).is_some()
     }
 
     /// The names of the file.
@@ -263,6 +265,7 @@ impl Scope {
     }
 
     // The variable of a name: one of the function's, or else an external.
+    #[inline(always)]
     fn variable(&self, name: &Name) -> Option<Var>
         ensures value { result ≡ variable_named name.now self.now }
         ensures within { IfSome result (IsVariable 64 64) }
@@ -300,7 +303,7 @@ impl Scope {
         ensures number { result ≡ function_number name.now self.now }
         ensures within { IfSome result (λ n. n < 64) }
     {
-        function_number(self.pools.functions(), name.as_bytes())
+        function_number(self.pools.functions(), name)
     }
 
     fn has_most_functions(&self) -> bool
@@ -321,8 +324,10 @@ impl Scope {
     fn has_begun(&self, known: Option<usize>) -> bool
         ensures { result ≡ list_any (λ k. k == unwrap_or known (length self.now.functions)) self.now.begun }
     {
-        let number = known.unwrap_or(self.pools.functions().len());
-        is_among(self.begun.as_slice(), number)
+        match known {
+            Some(number) => is_among(self.begun.as_slice(), number),
+            None => false,
+        }
     }
 
     // The definition of the function of this number and name begins.
@@ -391,15 +396,27 @@ impl Scope {
 
 /// The number of a function that was mentioned.
 #[tactic(auto, using(crate::proofs::ScopeLaws::there, crate::proofs::ScopeLaws::not_there))]
-fn function_number(functions: &[Function], name: &[u8]) -> Option<usize>
+fn function_number(functions: &[Function], name: &Name) -> Option<usize>
     ensures { result ≡ number_of_name name.now (map (λ f. f.name) functions.now) }
 {
     for (number, function) in functions.iter().enumerate() {
-        if name == function.name().as_bytes() {
+        if name.same(function.name()) {
             return Some(number);
         }
     }
     None
+}
+
+/// The name of these bytes.
+fn name_of(bytes: &[u8]) -> Name
+    requires { length bytes.now ≤ 31 }
+    ensures { result ≡ bytes.now }
+{
+    let mut name = Name::new();
+    for &byte in bytes {
+        name.push(byte);
+    }
+    name
 }
 
 /// The line of the first function, by number, whose definition didn't begin.

@@ -13,7 +13,7 @@ use Rattle.grammar.specs.Building.{Meaning}
 use Rattle.grammar.specs.Compiled.{diagnostic}
 use Rattle.grammar.specs.Derivation.{next_of}
 use Rattle.grammar.specs.Faults.{misfit_code}
-use Rattle.grammar.specs.Grammar.{Item, AName, AWord, Defined, Exactly, External, FunctionBlock, Head, More, ParameterTypes, Parameters, Part, Source, Symbol, Types, choice, is_fault, is_punctuator, is_word, opens}
+use Rattle.grammar.specs.Grammar.{Item, AName, AWord, Defined, Exactly, External, FunctionBlock, Head, More, ParameterTypes, Parameters, Part, Source, Symbol, Types, choice, is_fault, is_punctuator, is_word, enters}
 use Rattle.grammar.proofs.Firsts.{no_part}
 use Rattle.grammar.proofs.Steps.{part}
 use Rattle.parsing.specs.Position.{Place, after_at, next_at, scope_at}
@@ -24,8 +24,8 @@ use Rattle.parsing.proofs.Segments.{IsBehind, Leads, refused_map, stand}
 use Rattle.lang.specs.Progress.{ReadsOn, StopsReading, at_definition, at_source}
 use Rattle.lang.proofs.Advancing.{advances_then, leave, stops_then, segment_advances, segment_stops, reading_fails_at_next}
 
--- a symbol that opens no level was replaced
-symbol_leads : (symbol : Symbol) (items : List Item) (located_token : LocatedToken) (tail : List LocatedToken) (at : Place) → is_fault located_token.token ≡ false → choice symbol located_token.token (next_of tail) ≡ Some items → opens symbol located_token.token (next_of tail) ≡ false →
+-- a symbol that enters no level was replaced
+symbol_leads : (symbol : Symbol) (items : List Item) (located_token : LocatedToken) (tail : List LocatedToken) (at : Place) → is_fault located_token.token ≡ false → choice symbol located_token.token (next_of tail) ≡ Some items → enters symbol located_token.token (next_of tail) ≡ false →
     Leads 0 (Part symbol ∷ []) items [] [] (scope_at at) (scope_at at) (located_token ∷ tail) (located_token ∷ tail)
 symbol_leads symbol items located_token tail at sound chosen flat = record {
   passes = λ profile stack values functions depths. part profile symbol items stack (located_token ∷ tail) values (scope_at at) functions sound chosen (rw flat refl);

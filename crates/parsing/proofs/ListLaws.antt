@@ -7,7 +7,7 @@ use Rattle.tokens.specs.declared.located_tokens.Token.TheVariants as token
 use Rattle.tokens.specs.declared.located_tokens.Word.TheVariants as word
 use Rattle.grammar.specs.declared.diagnostics.ParseFault.{ParseFault}
 use Rattle.grammar.specs.Faults.{levels}
-use Rattle.grammar.specs.Grammar.{Item, AName, AWord, Exactly, More, Part, Role, Symbol, Types, is_fault, is_punctuator, is_word, opens}
+use Rattle.grammar.specs.Grammar.{Item, AName, AWord, Exactly, More, Part, Role, Symbol, Types, is_fault, is_punctuator, is_word, enters}
 use Rattle.parsing.specs.declared.roles.Declared.{Declared}
 use Rattle.parsing.specs.declared.roles.Declared.TheVariants as kind
 use Rattle.parsing.specs.Matching.{Matches}
@@ -21,7 +21,7 @@ use Rattle.parsing.specs.Declarations.{IsInFunction, declaration_items, declarat
 -- the symbol is replaced by these items, whatever stands behind the next token, and no level is opened
 pub record Gives (symbol : Symbol) (next : Token) (items : List Item) : Type 0 where
   pub chosen : Chooses symbol next items
-  pub plain : (after : Token) → opens symbol next after ≡ false
+  pub plain : (after : Token) → enters symbol next after ≡ false
 
 pub replaces : (at : Place) (depth : ℕ) (symbol : Symbol) (items : List Item) → is_fault (next_at at).token ≡ false → Gives symbol (next_at at).token items →
     Derives depth (Part symbol ∷ []) items [] [] at at

@@ -15,7 +15,7 @@ use Rattle.grammar.specs.declared.diagnostics.ParseFault.TheVariants as refusal
 use Rattle.grammar.specs.Compiled.{diagnostic}
 use Rattle.grammar.specs.Derivation.{State, Value, Definition, behind_rule, defined, made, next_of, state}
 use Rattle.grammar.specs.Faults.{fault, item_faults, level_faults, levels, most_levels, only_if}
-use Rattle.grammar.specs.Grammar.{AWord, Exactly, Item, Make, Part, SemanticAction, Close, Symbol, choice, is_fault, is_punctuator, is_word, opens}
+use Rattle.grammar.specs.Grammar.{AWord, Exactly, Item, Make, Part, SemanticAction, Close, Symbol, choice, is_fault, is_punctuator, is_word, enters}
 use Rattle.grammar.specs.Parsing.{Passes}
 use Rattle.grammar.specs.Profile.{Profile}
 use Rattle.grammar.specs.Scope.{Scope}
@@ -47,7 +47,7 @@ word_is w (token.Fault lexical_error) is = absurd (cc)
 
 -- Levels.
 
--- with so many levels open the symbol opens none beyond the last
+-- with so many levels open the symbol enters none beyond the last
 abbrev pub IsFree : ℕ → Symbol → LocatedToken → Type 0
 IsFree depth symbol located_token = (stack : List Item) (rest : List LocatedToken) → levels stack ≡ depth → level_faults symbol stack (located_token ∷ rest) ≡ []
 
@@ -69,9 +69,9 @@ beyond opened n rest is large = rw (is, above n large) refl
     above n large = grind (arith, nat_tests)
 
 pub free_below : (depth : ℕ) (symbol : Symbol) (located_token : LocatedToken) → depth < 64 → IsFree depth symbol located_token
-free_below depth symbol located_token small stack rest depths = within (opens symbol located_token.token (next_of rest)) (levels stack) (located_token ∷ rest) (rw depths small)
+free_below depth symbol located_token small stack rest depths = within (enters symbol located_token.token (next_of rest)) (levels stack) (located_token ∷ rest) (rw depths small)
 
-pub free_of : (depth : ℕ) (symbol : Symbol) (located_token : LocatedToken) → ((after : Token) → opens symbol located_token.token after ≡ false) → IsFree depth symbol located_token
+pub free_of : (depth : ℕ) (symbol : Symbol) (located_token : LocatedToken) → ((after : Token) → enters symbol located_token.token after ≡ false) → IsFree depth symbol located_token
 free_of depth symbol located_token none stack rest depths = rw (none (next_of rest)) refl
 
 -- Productions.
@@ -138,20 +138,20 @@ punctuator_stops at d depth symbol m items trees sound chosen fits free stop =
 -- A level beyond the last one.
 
 pub word_too_deep : (at : Place) (n : ℕ) (near : IsNearTo at n) (depth : ℕ) (symbol : Symbol) (w : Word) (items : List Item) (trees : List Value) → is_fault (next_at at).token ≡ false →
-    Chooses symbol (next_at at).token (AWord w ∷ items) → is_word w (next_at at).token ≡ true → ((after : Token) → opens symbol (next_at at).token after ≡ true) → 64 ≤ depth →
+    Chooses symbol (next_at at).token (AWord w ∷ items) → is_word w (next_at at).token ≡ true → ((after : Token) → enters symbol (next_at at).token after ≡ true) → 64 ≤ depth →
     FailsAt depth (Part symbol ∷ []) trees at (stop_with (refusal.Source (diagnostic (next_at at).line code.NestedTooDeeply)) n)
 word_too_deep at n near depth symbol w items trees sound chosen fits opened deep =
     fails_at_next depth (Part symbol ∷ []) trees at _ n near (λ tail b profile stack values functions depths.
     too_deep_word profile symbol w items stack (next_at at) tail _ (scope_at at) functions sound (chosen (next_of tail)) fits
-    (beyond (opens symbol (next_at at).token (next_of tail)) (levels stack) (next_at at ∷ tail) (opened (next_of tail)) (rw depths deep)))
+    (beyond (enters symbol (next_at at).token (next_of tail)) (levels stack) (next_at at ∷ tail) (opened (next_of tail)) (rw depths deep)))
 
 pub punctuator_too_deep : (at : Place) (n : ℕ) (near : IsNearTo at n) (depth : ℕ) (symbol : Symbol) (m : Punctuator) (items : List Item) (trees : List Value) → is_fault (next_at at).token ≡ false →
-    Chooses symbol (next_at at).token (Exactly m ∷ items) → is_punctuator m (next_at at).token ≡ true → ((after : Token) → opens symbol (next_at at).token after ≡ true) → 64 ≤ depth →
+    Chooses symbol (next_at at).token (Exactly m ∷ items) → is_punctuator m (next_at at).token ≡ true → ((after : Token) → enters symbol (next_at at).token after ≡ true) → 64 ≤ depth →
     FailsAt depth (Part symbol ∷ []) trees at (stop_with (refusal.Source (diagnostic (next_at at).line code.NestedTooDeeply)) n)
 punctuator_too_deep at n near depth symbol m items trees sound chosen fits opened deep =
     fails_at_next depth (Part symbol ∷ []) trees at _ n near (λ tail b profile stack values functions depths.
     too_deep profile symbol m items stack (next_at at) tail _ (scope_at at) functions sound (chosen (next_of tail)) fits
-    (beyond (opens symbol (next_at at).token (next_of tail)) (levels stack) (next_at at ∷ tail) (opened (next_of tail)) (rw depths deep)))
+    (beyond (enters symbol (next_at at).token (next_of tail)) (levels stack) (next_at at ∷ tail) (opened (next_of tail)) (rw depths deep)))
 
 -- Trees.
 

@@ -123,6 +123,8 @@ impl<'a, F: Feed> Parser<'a, F> {
     }
 
     /// Returns the refusal of the next token, which doesn't fit.
+    #[cold]
+    #[inline(never)]
     pub fn misfit(&self) -> ParseFault
         ensures { result ≡
             ParseFault.Source (diagnostic (next_at self.now.place).line (misfit_code (token_of self.now))) }
@@ -131,6 +133,8 @@ impl<'a, F: Feed> Parser<'a, F> {
     }
 
     /// Returns the refusal of the next token for this fault.
+    #[cold]
+    #[inline(never)]
     pub fn refusal(&self, code: Code) -> ParseFault
         ensures { result ≡ ParseFault.Source (diagnostic (next_at self.now.place).line code) }
     {
@@ -144,6 +148,7 @@ impl<'a, F: Feed> Parser<'a, F> {
     ///
     /// # Errors
     /// `Source` if the token after it is a lexical error, before the parser is at it; `Device` if the device failed.
+    #[inline(always)]
     pub fn advance(&mut self) -> Result<(), ParseFault>
         requires more { is_last (token_of self.old) ≡ false }
         requires ready { IsReady self.old }
@@ -186,6 +191,7 @@ impl<'a, F: Feed> Parser<'a, F> {
     }
 
     /// Consumes the name of a variable that is mentioned, which has to be the next token, and returns the variable.
+    #[inline(always)]
     pub fn mention(&mut self) -> Result<Var, ParseFault>
         requires ready { IsReady self.old }
         ensures matches { Matches result (AName Mentioned ∷ []) (λ v. AVariable v ∷ []) self.old self.new }
@@ -331,6 +337,8 @@ fn declare(scope: &mut Scope, name: Name, declared: Declared) -> Result<(), Code
 }
 
 // The refusal of a token that doesn't fit.
+#[cold]
+#[inline(never)]
 fn misfit(located_token: &LocatedToken) -> ParseFault
     ensures { result ≡ ParseFault.Source (diagnostic located_token.now.line (misfit_code located_token.now.token)) }
 {

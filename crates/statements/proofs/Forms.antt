@@ -4,7 +4,7 @@ use Rattle.tokens.specs.declared.located_tokens.Punctuator.TheVariants as punctu
 use Rattle.tokens.specs.declared.located_tokens.Token.{Token}
 use Rattle.tokens.specs.declared.located_tokens.Token.TheVariants as token
 use Rattle.tokens.specs.declared.located_tokens.Word.TheVariants as word
-use Rattle.grammar.specs.Grammar.{AWord, Back, Block, Decide, DecideElse, Declarations, ElsePart, Empty, Evaluate, Exactly, Expression, GiveBack, Item, Make, Part, Repeat, Close, Statement, Statements, Zero, is_punctuator, is_word, opens}
+use Rattle.grammar.specs.Grammar.{AWord, Back, Block, Decide, DecideElse, Declarations, ElsePart, Empty, Evaluate, Exactly, Expression, GiveBack, Item, Make, Part, Repeat, Close, Statement, Statements, Zero, is_punctuator, is_word, enters}
 use Rattle.std.specs.Prelude.{List}
 use Rattle.statements.specs.Forms.{begins_statement}
 use Rattle.parsing.proofs.Parts.{Chooses, punctuator_is, word_is}
@@ -14,7 +14,7 @@ use Rattle.parsing.proofs.Parts.{Chooses, punctuator_is, word_is}
 -- a token that begins no form of its own
 pub record Evaluates (t : Token) : Type 0 where
   pub chosen : Chooses Statement t (Part Expression ∷ Exactly punctuator.Semicolon ∷ Make Evaluate ∷ [])
-  pub shallow : (after : Token) → opens Statement t after ≡ false
+  pub shallow : (after : Token) → enters Statement t after ≡ false
 
 pub evaluates : (t : Token) → begins_statement t ≡ false → Evaluates t
 evaluates (token.Punctuator punctuator.Semicolon) plain = absurd (cc)
@@ -76,7 +76,7 @@ value_chosen (token.Fault lexical_error) other = λ after. refl
 pub empty_chosen : (t : Token) → is_punctuator punctuator.Semicolon t ≡ true → Chooses Statement t (Exactly punctuator.Semicolon ∷ [])
 empty_chosen t is after = let at : t ≡ token.Punctuator punctuator.Semicolon = punctuator_is punctuator.Semicolon t is in rw at refl
 
-pub empty_shallow : (t : Token) → is_punctuator punctuator.Semicolon t ≡ true → (after : Token) → opens Statement t after ≡ false
+pub empty_shallow : (t : Token) → is_punctuator punctuator.Semicolon t ≡ true → (after : Token) → enters Statement t after ≡ false
 empty_shallow t is after = let at : t ≡ token.Punctuator punctuator.Semicolon = punctuator_is punctuator.Semicolon t is in rw at refl
 
 -- what stands behind the opening brace of a block
@@ -85,9 +85,9 @@ in_braces = Part Declarations ∷ Part Statements ∷ Exactly punctuator.CloseCu
 
 pub record BeginsBlock (t : Token) : Type 0 where
   pub statement : Chooses Statement t (Part Block ∷ [])
-  pub shallow : (after : Token) → opens Statement t after ≡ false
+  pub shallow : (after : Token) → enters Statement t after ≡ false
   pub chosen : Chooses Block t (Exactly punctuator.OpenCurly ∷ in_braces)
-  pub opened : (after : Token) → opens Block t after ≡ true
+  pub opened : (after : Token) → enters Block t after ≡ true
 
 pub begins_block : (t : Token) → is_punctuator punctuator.OpenCurly t ≡ true → BeginsBlock t
 begins_block t is =
@@ -108,17 +108,17 @@ conditioned items = Exactly punctuator.OpenRound ∷ Part Expression ∷ Exactly
 pub if_chosen : (t : Token) → is_word word.If t ≡ true → Chooses Statement t (AWord word.If ∷ conditioned behind_if)
 if_chosen t is after = let at : t ≡ token.Word word.If = word_is word.If t is in rw at refl
 
-pub if_opens : (t : Token) → is_word word.If t ≡ true → (after : Token) → opens Statement t after ≡ true
-if_opens t is after = let at : t ≡ token.Word word.If = word_is word.If t is in rw at refl
+pub if_enters : (t : Token) → is_word word.If t ≡ true → (after : Token) → enters Statement t after ≡ true
+if_enters t is after = let at : t ≡ token.Word word.If = word_is word.If t is in rw at refl
 
 pub while_chosen : (t : Token) → is_word word.While t ≡ true → Chooses Statement t (AWord word.While ∷ conditioned behind_while)
 while_chosen t is after = let at : t ≡ token.Word word.While = word_is word.While t is in rw at refl
 
-pub while_opens : (t : Token) → is_word word.While t ≡ true → (after : Token) → opens Statement t after ≡ true
-while_opens t is after = let at : t ≡ token.Word word.While = word_is word.While t is in rw at refl
+pub while_enters : (t : Token) → is_word word.While t ≡ true → (after : Token) → enters Statement t after ≡ true
+while_enters t is after = let at : t ≡ token.Word word.While = word_is word.While t is in rw at refl
 
 pub return_chosen : (t : Token) → is_word word.Return t ≡ true → Chooses Statement t (AWord word.Return ∷ Part Back ∷ Exactly punctuator.Semicolon ∷ Make GiveBack ∷ [])
 return_chosen t is after = let at : t ≡ token.Word word.Return = word_is word.Return t is in rw at refl
 
-pub return_shallow : (t : Token) → is_word word.Return t ≡ true → (after : Token) → opens Statement t after ≡ false
+pub return_shallow : (t : Token) → is_word word.Return t ≡ true → (after : Token) → enters Statement t after ≡ false
 return_shallow t is after = let at : t ≡ token.Word word.Return = word_is word.Return t is in rw at refl

@@ -23,7 +23,7 @@ use Rattle.statements.specs.Branches.{AddsElse, FailsElse, IsElseNumbered, befor
 use Rattle.expressions.specs.Expressions.{AddsExpr}
 use Rattle.statements.specs.Forms.{in_brackets}
 use Rattle.statements.specs.Statements.{AddsBody, FailsBody}
-use Rattle.statements.proofs.Forms.{BeginsBlock, begins_block, behind_if, behind_while, else_chosen, end_chosen, if_chosen, if_opens, in_braces, more_chosen, no_else_chosen, while_chosen, while_opens}
+use Rattle.statements.proofs.Forms.{BeginsBlock, begins_block, behind_if, behind_while, else_chosen, end_chosen, if_chosen, if_enters, in_braces, more_chosen, no_else_chosen, while_chosen, while_enters}
 use Rattle.statements.proofs.Joining.{actions_join, join-done, join_assoc, join_narrow, join_numbered}
 use Rattle.parsing.proofs.Parts.{free_below, free_of, make_stands, punctuator_past, punctuator_stops, punctuator_too_deep, part_stands, close_stands, word_past, word_stops, word_too_deep}
 use Rattle.expressions.proofs.TellingLaws.{appends_then}
@@ -135,12 +135,12 @@ while_stops at depth sound is shallow d stop b =
 pub if_too_deep : (at : Place) (used : ℕ) (near : IsNearTo at used) (depth : ℕ) → is_fault (next_at at).token ≡ false → is_word word.If (next_at at).token ≡ true → 64 ≤ depth →
     FailsBody depth (Part Statement ∷ []) at (stop_with (refusal.Source (diagnostic (next_at at).line code.NestedTooDeeply)) used)
 if_too_deep at used near depth sound is deep b =
-    word_too_deep at used near depth Statement word.If (in_brackets ++ behind_if) (ABody b ∷ []) sound (if_chosen _ is) is (if_opens _ is) deep
+    word_too_deep at used near depth Statement word.If (in_brackets ++ behind_if) (ABody b ∷ []) sound (if_chosen _ is) is (if_enters _ is) deep
 
 pub while_too_deep : (at : Place) (used : ℕ) (near : IsNearTo at used) (depth : ℕ) → is_fault (next_at at).token ≡ false → is_word word.While (next_at at).token ≡ true → 64 ≤ depth →
     FailsBody depth (Part Statement ∷ []) at (stop_with (refusal.Source (diagnostic (next_at at).line code.NestedTooDeeply)) used)
 while_too_deep at used near depth sound is deep b =
-    word_too_deep at used near depth Statement word.While (in_brackets ++ behind_while) (ABody b ∷ []) sound (while_chosen _ is) is (while_opens _ is) deep
+    word_too_deep at used near depth Statement word.While (in_brackets ++ behind_while) (ABody b ∷ []) sound (while_chosen _ is) is (while_enters _ is) deep
 
 -- the items behind the first statement keep one level open
 abbrev pub ClosesOne : List Item → Type 0
