@@ -13,3 +13,4 @@ pub mod CommentLemmas
 pub mod BeginLemmas
 pub mod EndLemmas
 pub mod ReadingLemmas
+pub mod AtHandLemmas

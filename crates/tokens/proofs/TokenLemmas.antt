@@ -202,3 +202,9 @@ punctuator-whole old located_token here told whole x =
     by : (a : Ahead) (bytes : List ℕ) → a.bytes ≡ bytes → followed (ending (variant.Punctuator old) a) a ≡ in_punctuator old a
     by a [] e = punctuator-ends-none old a e
     by a (b ∷ rest) e = punctuator-ends-at old a b rest e (whole b)
+
+-- one before a byte that makes no longer one
+pub punctuator-ended : (old : Punctuator) (located_token : LocatedToken) (here : Held) (told : Option (List ℕ)) (b : ℕ) → Some b ≡ slice_get here.at_hand 0 → punctuator_of (spelling old ++ b ∷ []) ≡ None → ((to_come : List ℕ) → located_token ≡ ending (variant.Punctuator old) (ahead here to_come)) → to_read (followed located_token) here told ≡ to_read (in_punctuator old) here told
+punctuator-ended old located_token here told b f h x = to_read-here (followed located_token) (in_punctuator old) here told (λ to_come.
+    let r = first-ahead here b to_come (sym f) in
+    ap (λ l. followed l (ahead here to_come)) (x to_come) ∙ punctuator-ends-at old (ahead here to_come) b r.0 r.1 h)

@@ -53,6 +53,16 @@ run-passed q line start taken next filled count lines beyond bytes e f =
     let p : start + (next + count) ≡ start + next + count = omega arith in
     rw (← e) (rw b (rw (d, p, f) refl))
 
+-- behind bytes at hand of which none ends a line
+pub in_line : (line start taken next filled count : ℕ) (beyond : Beyond) (bytes : List ℕ) → count ≤ length (between next filled bytes) → count_by (λ b. eqb b 10) (take count (between next filled bytes)) ≡ 0
+    → held line (start + (next + count)) (between (next + count) filled bytes) taken beyond ≡ behind count (held line (start + next) (between next filled bytes) taken beyond)
+in_line line start taken next filled count beyond bytes h z =
+    let b = behind-is line (start + next) taken beyond count (between next filled bytes) h in
+    let d = between-further bytes next count filled in
+    let p : start + (next + count) ≡ start + next + count = omega arith in
+    let l : line + 0 ≡ line = omega arith in
+    rw b (rw (d, p, z, l) refl)
+
 ltb-same : (a b c d : ℕ) → (a < b → c < d) → (c < d → a < b) → ltb a b ≡ ltb c d
 ltb-same a b c d f g = grind (arith, nat_tests)
 

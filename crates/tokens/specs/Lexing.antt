@@ -1,5 +1,5 @@
 -- What is still to be read, at a token's begin or inside of one.
-use Rattle.std.specs.Prelude.{ℕ, Bool, true, false, List, [], ◌∷◌, ◌++◌, Option, Some, None, take, fold, ◌+◌, ◌*◌, ◌-◌, ◌≤◌, ◌≡◌, if◌then◌else◌, nat_le}
+use Rattle.std.specs.Prelude.{ℕ, Bool, true, false, List, [], ◌∷◌, ◌++◌, Option, Some, None, length, take, fold, ◌+◌, ◌*◌, ◌-◌, ◌<◌, ◌≤◌, ◌≡◌, if◌then◌else◌, nat_le}
 use Rattle.std.specs.List.{prefix_len}
 use Rattle.std.specs.Option.{option_map}
 use Rattle.tokens.specs.Characters.{is_name_byte, is_digit}
@@ -84,3 +84,20 @@ after_comment false line ahead = last_located_token (variant.Fault CommentNotClo
 abbrev pub StopsWithin : (Ahead → List LocatedToken) → Held → Held → Option (List ℕ) → Type 0
 StopsWithin made old new told = (first : LocatedToken) (others : List LocatedToken)
     → to_read made old told ≡ Some (first ∷ others) → new.taken ≤ undecided_until first
+
+-- a name that begins with a byte and goes on with the rest, in which it ends
+pub record BeginsName (first : ℕ) (rest name : List ℕ) : Type 0 where
+  pub is : name ≡ first ∷ take (prefix_len is_name_byte rest) rest
+  pub ended : prefix_len is_name_byte rest < length rest
+
+-- the value of a constant that begins with a digit and so many of the rest, in which it ends
+pub record BeginsConstant (first : ℕ) (rest : List ℕ) (value count : ℕ) : Type 0 where
+  pub is : value ≡ fold (λ value digit. 10 * value + (digit - 48)) (first - 48) (take count rest)
+  pub fits : value ≤ 2147483647
+  pub digits : count ≡ prefix_len is_digit rest
+  pub ended : count < length rest
+
+-- no longer punctuator begins with this one, before this byte, or before any if it is not known
+abbrev pub EndsBefore : Punctuator → Option ℕ → Type 0
+EndsBefore punctuator (Some b) = punctuator_of (spelling punctuator ++ b ∷ []) ≡ None
+EndsBefore punctuator None = (b : ℕ) → punctuator_of (spelling punctuator ++ b ∷ []) ≡ None

@@ -5,7 +5,7 @@ ghost use Rattle.tokens.specs.Characters.{is_digit, is_blank};
 ghost use Rattle.tokens.specs.Feed.{Counts};
 ghost use Rattle.tokens.specs.Tokens.{FitsToken, is_last, located_tokens, last_located_token};
 ghost use Rattle.tokens.specs.Window.{IsAtHandOrEnd, KnowsEnd, Takes, ahead};
-ghost use Rattle.tokens.specs.Lexing.{to_read, StopsWithin, followed, after_slash, after_comment, in_name, in_constant, in_punctuator, in_comment, name_going_on, value_token};
+ghost use Rattle.tokens.specs.Lexing.{to_read, StopsWithin, followed, after_slash, after_comment, in_name, in_constant, in_punctuator, in_comment, name_going_on, value_token, BeginsConstant};
 
 use crate::characters::{is_blank, is_digit, is_letter, is_name_byte};
 use crate::devices::{DeviceFault, Feed};
@@ -16,11 +16,38 @@ use crate::windows::{Beyond, Window};
 
 impl Window {
     /// Puts the next token here. After an `Err` what stood here stays.
+    #[inline(never)]
     pub fn read<F: Feed>(
         &mut self,
         here: &mut LocatedToken,
         feed: &mut F,
     ) -> Result<(), DeviceFault>
+        requires countable { F.failures feed.old < 2 ^ 64 - 1 }
+        requires known { KnowsEnd self.old.beyond (F.ended feed.old) }
+        ensures tokens { OnOk result (to_read (followed here.new) self.new (F.to_come feed.new)
+            ≡ to_read located_tokens self.old (F.to_come feed.old)) }
+        ensures progress { OnOk result (is_last here.new.token ≡ false
+            → self.old.place < self.new.place) }
+        ensures stopped { OnErr result (StopsWithin located_tokens self.old self.new (F.to_come feed.old)) }
+        ensures reached { OnOk result (self.new.place ≤ here.new.end) }
+        ensures took { Takes self.old.taken self.new.taken (F.to_come feed.old) (F.to_come feed.new) }
+        ensures near { self.new.taken ≤ self.new.place + 4096 }
+        ensures limited { self.new.taken ≤ 1048577 }
+        ensures within { self.new.place ≤ 1048576 }
+        ensures fits { OnOk result (FitsToken here.new.token) }
+        ensures unread { OnErr result (here.new ≡ here.old) }
+        ensures count { Counts result (F.failures feed.old) (F.failures feed.new) }
+        ensures known { KnowsEnd self.new.beyond (F.ended feed.new) }
+    {
+        match self.first() {
+            Some(b) if !is_blank(b) && b != b'/' => self.token(b, here, feed),
+            _ => self.read_on(here, feed),
+        }
+    }
+
+    /// The same, behind blanks and comments.
+    #[inline(never)]
+    fn read_on<F: Feed>(&mut self, here: &mut LocatedToken, feed: &mut F) -> Result<(), DeviceFault>
         requires countable { F.failures feed.old < 2 ^ 64 - 1 }
         requires known { KnowsEnd self.old.beyond (F.ended feed.old) }
         ensures tokens { OnOk result (to_read (followed here.new) self.new (F.to_come feed.new)
@@ -186,7 +213,7 @@ impl Window {
         } else if is_digit(first) {
             self.constant(first, here, feed)
         } else if let Some(punctuator) = Punctuator::of_byte(first) {
-            if punctuator.is_whole() {
+            if punctuator.ends_before(self.first()) {
                 *here = self.ending(Token::Punctuator(punctuator));
                 return Ok(());
             }
@@ -198,8 +225,41 @@ impl Window {
     }
 
     /// The name of which the first byte was passed.
-    #[inline(always)]
+    #[inline(never)]
     fn name<F: Feed>(
+        &mut self,
+        first: u8,
+        here: &mut LocatedToken,
+        feed: &mut F,
+    ) -> Result<(), DeviceFault>
+        requires countable { F.failures feed.old < 2 ^ 64 - 1 }
+        requires known { KnowsEnd self.old.beyond (F.ended feed.old) }
+        ensures tokens { OnOk result (to_read (followed here.new) self.new (F.to_come feed.new)
+            ≡ to_read (in_name (first ∷ []) false) self.old (F.to_come feed.old)) }
+        ensures forward { self.old.place ≤ self.new.place }
+        ensures stopped { OnErr result (StopsWithin (in_name (first ∷ []) false) self.old self.new
+            (F.to_come feed.old)) }
+        ensures reached { OnOk result (self.new.place ≤ here.new.end) }
+        ensures took { Takes self.old.taken self.new.taken (F.to_come feed.old) (F.to_come feed.new) }
+        ensures near { self.new.taken ≤ self.new.place + 4096 }
+        ensures limited { self.new.taken ≤ 1048577 }
+        ensures within { self.new.place ≤ 1048576 }
+        ensures fits { OnOk result (FitsToken here.new.token) }
+        ensures unread { OnErr result (here.new ≡ here.old) }
+        ensures count { Counts result (F.failures feed.old) (F.failures feed.new) }
+        ensures known { KnowsEnd self.new.beyond (F.ended feed.new) }
+    {
+        if let Some(name) = Name::begun(first, self.at_hand()) {
+            self.pass_in_line(name.len() - 1);
+            self.end_name(&name, false, here);
+            return Ok(());
+        }
+        self.name_in_pieces(first, here, feed)
+    }
+
+    /// The same of a name that is not all at hand, or long.
+    #[inline(never)]
+    fn name_in_pieces<F: Feed>(
         &mut self,
         first: u8,
         here: &mut LocatedToken,
@@ -244,8 +304,41 @@ impl Window {
     }
 
     /// The constant of which the first digit was passed.
-    #[inline(always)]
+    #[inline(never)]
     fn constant<F: Feed>(
+        &mut self,
+        first: u8,
+        here: &mut LocatedToken,
+        feed: &mut F,
+    ) -> Result<(), DeviceFault>
+        requires countable { F.failures feed.old < 2 ^ 64 - 1 }
+        requires known { KnowsEnd self.old.beyond (F.ended feed.old) }
+        requires digit { is_digit first ≡ true }
+        ensures tokens { OnOk result (to_read (followed here.new) self.new (F.to_come feed.new)
+            ≡ to_read (in_constant (first - 48)) self.old (F.to_come feed.old)) }
+        ensures forward { self.old.place ≤ self.new.place }
+        ensures stopped { OnErr result (StopsWithin (in_constant (first - 48)) self.old self.new (F.to_come feed.old)) }
+        ensures reached { OnOk result (self.new.place ≤ here.new.end) }
+        ensures took { Takes self.old.taken self.new.taken (F.to_come feed.old) (F.to_come feed.new) }
+        ensures near { self.new.taken ≤ self.new.place + 4096 }
+        ensures limited { self.new.taken ≤ 1048577 }
+        ensures within { self.new.place ≤ 1048576 }
+        ensures fits { OnOk result (FitsToken here.new.token) }
+        ensures unread { OnErr result (here.new ≡ here.old) }
+        ensures count { Counts result (F.failures feed.old) (F.failures feed.new) }
+        ensures known { KnowsEnd self.new.beyond (F.ended feed.new) }
+    {
+        if let Some((value, count)) = constant_begun(first, self.at_hand()) {
+            self.pass_in_line(count);
+            *here = self.ending(Token::Constant(value));
+            return Ok(());
+        }
+        self.constant_in_pieces(first, here, feed)
+    }
+
+    /// The same of a constant that is not all at hand, or large.
+    #[inline(never)]
+    fn constant_in_pieces<F: Feed>(
         &mut self,
         first: u8,
         here: &mut LocatedToken,
@@ -284,7 +377,7 @@ impl Window {
     }
 
     /// The longest punctuator that begins with this one, which was passed.
-    #[inline(always)]
+    #[inline(never)]
     fn punctuator<F: Feed>(
         &mut self,
         mut punctuator: Punctuator,
@@ -397,8 +490,31 @@ impl Window {
     }
 }
 
+/// The greatest value of eight digits. With one digit more it is a constant still.
+const LARGEST_OF_EIGHT_DIGITS: u32 = 99_999_999;
+
 /// A value above the greatest constant, in place of all such values.
 const TOO_LARGE: u64 = CONSTANT_MAX as u64 + 1;
+
+/// The value of a constant of at most nine digits that ends within these bytes, and how many of its digits they begin
+/// with.
+#[inline(always)]
+fn constant_begun(first: u8, rest: &[u8]) -> Option<(u32, usize)>
+    requires digit { is_digit first ≡ true }
+    ensures { IfSome result (λ begun. BeginsConstant first rest.now begun.0 begun.1) }
+{
+    let mut value = u32::from(first - b'0');
+    for (i, b) in rest.iter().enumerate() {
+        if !is_digit(*b) {
+            return Some((value, i));
+        }
+        if value > LARGEST_OF_EIGHT_DIGITS {
+            return None;
+        }
+        value = 10 * value + u32::from(*b - b'0');
+    }
+    None
+}
 
 /// The token of a constant of this value.
 fn constant_token(value: u64) -> Token

@@ -1,8 +1,10 @@
 //! Names, of fixed size.
 
-ghost use Rattle.std.specs.Prelude.{◌≡◌, ◌∷◌, [], ◌++◌, ◌<◌, ◌≤◌, ◌↔◌, IsTrue, true, length};
+ghost use Rattle.std.specs.Prelude.{◌≡◌, ◌∷◌, [], ◌++◌, ◌<◌, ◌≤◌, ◌↔◌, IsTrue, true, length, IfSome};
 ghost use Rattle.std.specs.Str.{bytes_eq};
+ghost use Rattle.tokens.specs.Lexing.{BeginsName};
 
+use crate::characters::is_name_byte;
 use crate::limits::NAME_BYTES;
 use std::marker::Model;
 
@@ -45,6 +47,29 @@ impl Name {
             bytes: [0; NAME_BYTES],
             len: 0,
         }
+    }
+
+    /// The name that begins with this byte, and goes on with the rest, if it ends within the rest and is not too long.
+    #[inline(always)]
+    pub(crate) fn begun(first: u8, rest: &[u8]) -> Option<Name>
+        ensures { IfSome result (λ name. BeginsName first rest.now name) }
+    {
+        let mut bytes = [0; NAME_BYTES];
+        bytes[0] = first;
+        for (i, b) in rest.iter().enumerate() {
+            let len = i + 1;
+            if !is_name_byte(*b) {
+                return Some(Name {
+                    bytes,
+                    len: len as u8,
+                });
+            }
+            if len == NAME_BYTES {
+                return None;
+            }
+            bytes[len] = *b;
+        }
+        None
     }
 
     /// How many bytes it has.

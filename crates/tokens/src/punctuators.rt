@@ -1,8 +1,9 @@
 //! The punctuators by their bytes.
 
-ghost use Rattle.std.specs.Prelude.{◌≡◌, ℕ, [], ◌∷◌, ◌++◌, None, true};
+ghost use Rattle.std.specs.Prelude.{◌≡◌, ℕ, [], ◌∷◌, ◌++◌, None, true, false};
 ghost use Rattle.std.specs.Option.{option_and_then};
 ghost use Rattle.tokens.specs.Punctuators.{punctuator_of, spelling};
+ghost use Rattle.tokens.specs.Lexing.{EndsBefore};
 
 use crate::located_tokens::Punctuator;
 
@@ -36,10 +37,30 @@ impl Punctuator {
         })
     }
 
+    /// Whether it ends here, as the next byte at hand shows, or whatever it is.
+    #[inline(always)]
+    pub(crate) fn ends_before(self, next: Option<u8>) -> bool
+        ensures { result ≡ true → EndsBefore self next }
+    {
+        match next {
+            Some(b) => self.is_whole() || !self.may_grow_by(b),
+            None => self.is_whole(),
+        }
+    }
+
+    /// Whether the byte is the last of a punctuator of more than one.
+    #[inline(always)]
+    #[tactic(auto, unfolding(crate::specs::Punctuators::punctuator_of))]
+    fn may_grow_by(self, b: u8) -> bool
+        ensures { result ≡ false → punctuator_of (spelling self ++ b ∷ []) ≡ None }
+    {
+        matches!(b, b'=' | b'+' | b'-' | b'&' | b'|' | b'<' | b'>')
+    }
+
     /// Whether no longer punctuator begins with this one, so that the next byte is of no account.
     #[inline(always)]
     #[tactic(auto, unfolding(crate::specs::Punctuators::punctuator_of))]
-    pub(crate) fn is_whole(self) -> bool
+    fn is_whole(self) -> bool
         ensures { result ≡ true → (b : ℕ) → punctuator_of (spelling self ++ b ∷ []) ≡ None }
     {
         matches!(

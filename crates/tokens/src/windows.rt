@@ -1,9 +1,10 @@
 //! The window of fixed size through which a source is read.
 
-ghost use Rattle.std.specs.Prelude.{◌≡◌, ◌≢◌, ℕ, ◌+◌, ◌-◌, ◌^◌, ◌<◌, ◌≤◌, List, [], length, slice_get, OnOk, OnErr, IfOk};
+ghost use Rattle.std.specs.Prelude.{◌≡◌, ◌≢◌, ℕ, ◌+◌, ◌-◌, ◌^◌, ◌<◌, ◌≤◌, List, [], ◌==◌, length, take, slice_get, OnOk, OnErr, IfOk};
+ghost use Rattle.std.specs.List.{count_by};
 ghost use Rattle.tokens.specs.Source.{source};
 ghost use Rattle.tokens.specs.Feed.{Counts};
-ghost use Rattle.tokens.specs.Window.{seen, untouched, behind_first, behind_blanks, behind_plain, Cuts, IsAtSamePlace, IsAtHandOrEnd, KnowsEnd, Takes};
+ghost use Rattle.tokens.specs.Window.{seen, untouched, behind, behind_first, behind_blanks, behind_plain, Cuts, IsAtSamePlace, IsAtHandOrEnd, KnowsEnd, Takes};
 
 use crate::devices::{DeviceFault, Feed};
 use crate::limits::{SOURCE_BYTES, WINDOW};
@@ -130,6 +131,31 @@ impl Window {
         self.next += 1;
     }
 
+    /// The bytes at hand.
+    #[inline(always)]
+    pub fn at_hand(&self) -> &[u8]
+        ensures value { result.now ≡ self.now.at_hand }
+        ensures few { length result.now ≤ 4096 }
+    {
+        &self.bytes[self.next..self.filled]
+    }
+
+    /// Goes behind so many bytes at hand, none of which ends a line.
+    #[inline(always)]
+    pub fn pass_in_line(&mut self, count: usize)
+        requires within { count ≤ length self.old.at_hand }
+        requires in_line { count_by (λ b. b == 10) (take count self.old.at_hand) ≡ 0 }
+        ensures value { self.new ≡ behind count self.old }
+        ensures forward { self.new.place ≡ self.old.place + count }
+        ensures kept { self.new.taken ≡ self.old.taken }
+        ensures beyond { self.new.beyond ≡ self.old.beyond }
+        ensures within { self.new.place ≤ 1048576 }
+        ensures near { self.new.taken ≤ self.new.place + 4096 }
+        ensures limited { self.new.taken ≤ 1048577 }
+    {
+        self.next += count;
+    }
+
     /// Goes behind the bytes at hand that stand before the next `*`.
     pub fn pass_plain(&mut self)
         ensures value { self.new ≡ behind_plain self.old }
@@ -160,7 +186,9 @@ impl Window {
         self.line += lines;
     }
 
-    fn first(&self) -> Option<u8>
+    /// The next byte, if one is at hand.
+    #[inline(always)]
+    pub fn first(&self) -> Option<u8>
         ensures { result ≡ slice_get self.now.at_hand 0 }
     {
         if self.next < self.filled {

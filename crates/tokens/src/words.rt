@@ -12,6 +12,9 @@ impl Word {
     pub(crate) fn of_name(name: &[u8]) -> Option<Word>
         ensures { result ≡ word_of name.now }
     {
+        if name.len() < 2 {
+            return None;
+        }
         match name.first()? {
             b'a' => Word::Type.when(is(name, b"auto")),
             b'b' => Word::Refused.when(is(name, b"break")),

@@ -2,7 +2,7 @@ use Rattle.std.proofs.Common.{◌≡◌, ◌-◌, ◌≤◌}
 use Rattle.tokens.specs.Tokens.{located_tokens}
 use Rattle.tokens.specs.Window.{KnowsEnd, Takes}
 use Rattle.tokens.specs.Lexing.{to_read}
-use Rattle.tokens.proofs.windows.Window.read.Given as goal
+use Rattle.tokens.proofs.windows.Window.read_on.Given as goal
 
 abbrev pub invariant-loop-self : goal.invariant-loop-self
 invariant-loop-self g l = record {

@@ -7,7 +7,7 @@ use Rattle.tokens.proofs.ToRead.{to_read-here, none-ahead}
 use Rattle.tokens.proofs.TokenLemmas.{nothing-left}
 use Rattle.tokens.proofs.BeginLemmas.{last-is_last, last-fits}
 use Rattle.tokens.proofs.TakenLemmas.{Takes-then}
-use Rattle.tokens.proofs.windows.Window.read.Goals as goal
+use Rattle.tokens.proofs.windows.Window.read_on.Goals as goal
 
 pub returns-in-None-clause-tokens : goal.returns-in-None-clause-tokens
 returns-in-None-clause-tokens g c =
