@@ -2,10 +2,7 @@ pub mod KnownOutputs
 pub mod RunsLemmas
 pub mod ReadingLemmas
 pub mod CompilingLemmas
-pub mod CoursesLemmas
 pub mod OutputLemmas
 pub mod PlayingLemmas
 pub mod SameReport
 pub mod PiecesLemmas
-pub mod LinesLemmas
-pub mod SeriesTextsLemmas

@@ -36,7 +36,3 @@ abbrev pub CountsSinks : {T E : Type 0} → Result T E → ℕ → ℕ → ℕ �
 CountsSinks result text faults later_text later_faults = MatchResult result
     (λ _. (later_text ≡ text) × (later_faults ≡ faults))
     (λ _. ((later_text ≡ text + 1) × (later_faults ≡ faults)) ⊎ ((later_text ≡ text) × (later_faults ≡ faults + 1)))
-
--- the sink failed once if the call failed, and else not
-abbrev pub CountsSink : {T E : Type 0} → Result T E → ℕ → ℕ → Type 0
-CountsSink result before after = MatchResult result (λ _. after ≡ before) (λ _. after ≡ before + 1)

@@ -1,14 +1,9 @@
-pub mod Lines
-pub mod Names
 pub mod Pieces
 pub mod Compiling
-pub mod Reports
-pub mod Totals
 pub mod Playing
 pub mod Output
 pub mod Runs
 pub mod Reading
 pub mod Failures
-pub mod Courses
 pub mod SameReport
 pub mod KnownOutputs

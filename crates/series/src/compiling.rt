@@ -10,10 +10,10 @@ ghost use Rattle.series.specs.Runs.{AreSources, Compiles, PutsPieces, and_code, 
 
 use crate::endings::{RunFault, Status};
 use crate::listing::put_listing;
-use battles::Programs;
 use code::Maker;
 use grammar::{Diagnostic, ParseFault, Profile};
 use lang::parse;
+use matches::Programs;
 use settings::{FILES_MAX, Mode, Settings};
 use sinks::{Sink, name_of, put_diagnostic};
 use tokens::{DeviceFault, Feed};

@@ -4,7 +4,8 @@ ghost use Rattle.std.specs.Prelude.{◌≡◌, ◌-◌, ◌^◌, ◌<◌, List, 
 ghost use Rattle.code.specs.Codes.{AreCodesOf};
 ghost use Rattle.grammar.specs.Tree.{File};
 ghost use Rattle.series.specs.Compiling.{Source};
-ghost use Rattle.series.specs.Failures.{Accounts, CountsSink, failures};
+ghost use Rattle.matches.specs.Counts.{CountsSink};
+ghost use Rattle.series.specs.Failures.{Accounts, failures};
 ghost use Rattle.series.specs.Output.{Runs};
 ghost use Rattle.series.specs.Pieces.{taken};
 ghost use Rattle.series.specs.Playing.{playing};
@@ -14,11 +15,10 @@ ghost use Rattle.series.specs.Runs.{AreSources, Compiles, PutsPieces};
 ghost use Rattle.settings.specs.declared.settings.Mode.TheVariants.{Matches};
 
 use crate::compiling::compile_into;
-use crate::endings::{RunFault, SeriesFault, Status};
+use crate::endings::{RunFault, Status};
 use crate::listings::list_files;
-use crate::series::Series;
-use battles::Programs;
 use grammar::laws::resolved_files;
+use matches::{Programs, Series, SeriesFault};
 use settings::{Mode, Settings};
 use sinks::Sink;
 use tokens::Feed;
