@@ -31,7 +31,7 @@ impl Cells {
         self.wanted(program, place, opcode)
     }
 
-    /// Returns what a machine wants that goes on by no quiet cycle: a reply or a restart.
+    /// Returns what the machine wants if it wants something: a reply or a restart.
     #[inline(always)]
     pub(crate) fn stopped(&self, program: &Program, place: Place) -> Want
         requires fits { FitsProgram (state_at place self.now) program.now }
