@@ -1,6 +1,6 @@
 //! The cells of a machine from cycle to cycle, along the replies.
 
-ghost use Rattle.std.specs.Prelude.{◌≡◌, ◌<◌, ◌≤◌, ◌≢◌, ℤ, List, [], ◌∷◌, ◌++◌};
+ghost use Rattle.std.specs.Prelude.{◌≡◌, ◌-◌, ◌<◌, ◌≤◌, ◌≢◌, ℤ, List, [], ◌∷◌, ◌++◌};
 ghost use Rattle.grammar.specs.declared.names.Intrinsic.{Intrinsic};
 ghost use Rattle.code.specs.Machine.{want_next, want_code};
 ghost use Rattle.code.specs.Places.{state_at};
@@ -11,11 +11,11 @@ use crate::cells::{Cells, Place};
 use crate::program::Program;
 use crate::want::Want;
 
-/// Where a run without questions led, and how many cycles it took.
+/// Where a run without questions led, and how many of its cycles were left.
 #[derive(Clone, Copy, Drop)]
 pub(crate) struct Coast {
     pub(crate) place: Place,
-    pub(crate) cycles: u32,
+    pub(crate) left: u32,
 }
 
 impl Cells {
@@ -31,6 +31,17 @@ impl Cells {
         self.wanted(program, place, opcode)
     }
 
+    /// Returns what a machine wants that goes on by no quiet cycle: a reply or a restart.
+    #[inline(always)]
+    pub(crate) fn stopped(&self, program: &Program, place: Place) -> Want
+        requires fits { FitsProgram (state_at place self.now) program.now }
+        requires stopped { want_next program.now (state_at place self.now) ≢ Want.Quiet }
+        ensures { result ≡ want_next program.now (state_at place self.now) }
+    {
+        let opcode = self.opcode(program, place);
+        self.asked_or_restart(program, place, opcode)
+    }
+
     /// Takes the reply to what the machine wants, which isn't a restart.
     #[inline(always)]
     pub(crate) fn advance(&mut self, program: &Program, place: Place, reply: i32) -> Place
@@ -41,7 +52,7 @@ impl Cells {
         ensures fits { FitsProgram (state_at result self.new) program.now }
     {
         let coast = self.coast(program, place, 1);
-        if coast.cycles == 1 {
+        if coast.left == 0 {
             return coast.place;
         }
         self.reply(program, coast.place, reply)
@@ -61,33 +72,26 @@ impl Cells {
         self.answer(place, reply)
     }
 
-    /// Runs up to so many cycles that ask nothing: fewer only if the machine then wants a reply or a restart.
+    /// Runs up to so many cycles that ask nothing: some are left only if the machine then wants a reply or a restart.
     #[inline(always)]
     pub(crate) fn coast(&mut self, program: &Program, from: Place, most: u32) -> Coast
         requires { FitsProgram (state_at from self.old) program.now }
-        ensures most { result.cycles ≤ most }
-        ensures coasted { HasCoasted program.now (state_at from self.old) result.cycles
+        ensures most { result.left ≤ most }
+        ensures coasted { HasCoasted program.now (state_at from self.old) (most - result.left)
             (state_at result.place self.new) }
-        ensures ends { result.cycles < most → want_next program.now (state_at result.place self.new) ≢ Want.Quiet }
+        ensures ends { 0 < result.left → want_next program.now (state_at result.place self.new) ≢ Want.Quiet }
     {
+        let room = program.words();
         let mut place = from;
         let mut left = most;
         while left > 0 {
             let opcode = self.opcode(program, place);
-            match self.step(program, place, opcode) {
+            match self.step(program, room, place, opcode) {
                 Some(next) => place = next,
-                None => {
-                    return Coast {
-                        place,
-                        cycles: most - left,
-                    };
-                }
+                None => break,
             }
             left -= 1;
         }
-        Coast {
-            place,
-            cycles: most,
-        }
+        Coast { place, left }
     }
 }

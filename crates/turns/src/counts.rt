@@ -1,6 +1,7 @@
 //! What a machine wants over many cycles.
 
-ghost use Rattle.std.specs.Prelude.{◌+◌, ◌-◌, ◌^◌, ◌<◌, ◌≤◌};
+ghost use Rattle.std.specs.Prelude.{◌+◌, ◌-◌, ◌^◌, ◌<◌, ◌≤◌, ◌≢◌};
+ghost use Rattle.code.specs.Machine.{want_next};
 ghost use Rattle.code.specs.Standing.{FitsProgram};
 
 use code::{Machine, Program, Want};
@@ -34,22 +35,23 @@ pub fn counted(program: &Program, cycles: u32) -> Counts
     counts
 }
 
-// Runs one cycle, and counts it if it asked or restarted.
+// Runs the cycle in which the machine asks or restarts, and counts it.
 fn count(machine: &mut Machine, program: &Program, counts: &mut Counts)
     requires fits { FitsProgram machine.old program.now }
+    requires stopped { want_next program.now machine.old ≢ Want.Quiet }
     requires room { counts.old.asks + counts.old.restarts < 2 ^ 32 - 1 }
     ensures fits { FitsProgram machine.new program.now }
     ensures one { counts.new.asks + counts.new.restarts ≤ counts.old.asks + counts.old.restarts + 1 }
 {
-    match machine.next(program) {
+    match machine.stopped(program) {
         Want::Restart => {
             machine.restart(program);
             counts.restarts += 1;
         }
         Want::Ask(..) => {
-            machine.advance(program, 0);
+            machine.reply(program, 0);
             counts.asks += 1;
         }
-        Want::Quiet => machine.advance(program, 0),
+        Want::Quiet => {}
     }
 }

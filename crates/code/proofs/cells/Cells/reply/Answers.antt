@@ -1,4 +1,4 @@
-use Rattle.std.proofs.Common.{◌≡◌, ◌∙◌, ℤ, List, [], ◌∷◌, ◌++◌, Some, sym, ap, arith, w32}
+use Rattle.std.proofs.Common.{◌∙◌, ℤ, [], ◌∷◌, ◌++◌, Some, sym, ap, arith, w32}
 use Rattle.std.proofs.lemmas.Int.{to_z-of_z}
 use Rattle.code.specs.declared.instr.Instr.{Instr}
 use Rattle.code.specs.declared.instr.Instr.TheVariants.{Fcall}
