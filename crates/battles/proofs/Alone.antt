@@ -1,5 +1,5 @@
 -- A robot that runs alone: quiet cycles, and steps one after the other.
-use Rattle.std.proofs.Common.{◌≡◌, ℕ, ◌+◌, ◌<◌, zero, suc, true, false, ℤ, pos, List, [], ◌∷◌, ◌++◌, replicate, append_assoc, inl, inr, refl, sym, ap, ◌∙◌, arith, add-one}
+use Rattle.std.proofs.Common.{◌≡◌, ℕ, ◌+◌, ◌-◌, ◌<◌, ◌≤◌, zero, suc, true, false, ℤ, pos, List, [], ◌∷◌, ◌++◌, replicate, append_assoc, inl, inr, refl, sym, ap, ◌∙◌, arith, add-one}
 use Rattle.std.proofs.lemmas.Bool.{cases_lt, false≢true}
 use Rattle.std.proofs.lemmas.List.{replicate_more, append-nil}
 use Rattle.arena.specs.Field.{Field, is_live}
@@ -12,10 +12,13 @@ use Rattle.grammar.specs.Resolved.{IsResolved}
 use Rattle.grammar.specs.Tree.{File}
 use Rattle.code.specs.Generation.{ObjectCode, IsProgramOf}
 use Rattle.code.specs.Meaning.{want}
-use Rattle.battles.specs.Carrying.{Runner, IsRobotOf, IsAt, IsQuiet}
+use Rattle.code.specs.Machine.{State}
+use Rattle.code.specs.Standing.{StandsFor}
+use Rattle.battles.specs.Carrying.{Runner, IsRobotOf, IsAt}
 use Rattle.battles.specs.Battle.{Robot, granted, step}
 use Rattle.battles.specs.Windows.{IsAlone, StepsAlone, RunsAlone, HasRun, alone}
 use Rattle.battles.proofs.Commuting.{step_lives}
+use Rattle.battles.proofs.Running.{Coasts, at_end, at_less, at_more, quiet_less}
 
 -- no step yet, and one more
 pub alone_none : (r : Robot) (i : ℕ) (f : Field) (trace : List ℤ) → alone r i f trace 0 ≡ (f, trace)
@@ -104,24 +107,89 @@ dead_runs r i f trace n code runner arena dead ground at = record {
   at = rw (dead_alone r i f trace n dead) at;
 }
 
--- a robot has run alone, and then coasted for so many cycles
-pub coasted : (r : Robot) (i : ℕ) (f : Field) (trace : List ℤ) (n k : ℕ) (code : ObjectCode) (runner after : Runner) (arena : Ground)
-    → IsRobotOf code r → is_live f i ≡ true → HasRun r i f trace n code runner arena
-    → ((robot : Robot) (replies : List ℤ) → IsRobotOf code robot → IsAt runner code replies
-    → IsQuiet robot replies k × IsAt after code (replies ++ replicate k (pos 0)))
-    → HasRun r i f trace (n + k) code after arena
-coasted r i f trace n k code runner after arena is live ran on =
+-- A robot has run alone, and its machine is at this cycle, which may be a later one: in between nothing is asked.
+pub record RunsTo (r : Robot) (i : ℕ) (f : Field) (trace : List ℤ) (cycle most : ℕ) (code : ObjectCode) (machine : State) (arena : Ground) : Type 0 where
+  pub run : ℕ
+  pub within : run ≤ cycle
+  pub below : run ≤ most
+  pub ran : HasRun r i f trace run code (record { machine = machine; ahead = cycle - run }) arena
+
+pub to_begin : (r : Robot) (i : ℕ) (f : Field) (trace : List ℤ) (most : ℕ) (code : ObjectCode) (runner : Runner) (arena : Ground)
+    → IsGroundOf arena f → IsAt runner code trace → RunsTo r i f trace runner.ahead most code runner.machine arena
+to_begin r i f trace most code runner arena ground at =
+    let all : runner.ahead - 0 ≡ runner.ahead = omega arith in
+    record {
+      run = 0;
+      within = omega arith;
+      below = omega arith;
+      ran = record {
+        steps = λ k within. absurd (omega arith);
+        stands = rw (alone_none r i f trace) ground;
+        at = rw (alone_none r i f trace, all) at;
+      };
+    }
+
+-- the machine coasts for so many cycles
+pub to_coast : (r : Robot) (i : ℕ) (f : Field) (trace : List ℤ) (cycle most n : ℕ) (code : ObjectCode) (machine after : State) (arena : Ground)
+    → Coasts code machine n after → RunsTo r i f trace cycle most code machine arena → RunsTo r i f trace (cycle + n) most code after arena
+to_coast r i f trace cycle most n code machine after arena on to =
+    let further : cycle + n - to.run ≡ cycle - to.run + n = omega (arith, to.within) in
+    record {
+      run = to.run;
+      within = omega (arith, to.within);
+      below = to.below;
+      ran = record {
+        steps = to.ran.steps;
+        stands = to.ran.stands;
+        at = rw further (at_more machine after (cycle - to.run) n code (alone r i f trace to.run).1 to.ran.at on);
+      };
+    }
+
+-- the robot follows its machine up to a cycle
+pub to_cycle : (r : Robot) (i : ℕ) (f : Field) (trace : List ℤ) (cycle most end : ℕ) (code : ObjectCode) (machine : State) (arena : Ground)
+    → IsRobotOf code r → is_live f i ≡ true → (to : RunsTo r i f trace cycle most code machine arena) → to.run ≤ end → end ≤ cycle
+    → HasRun r i f trace end code (record { machine = machine; ahead = cycle - end }) arena
+to_cycle r i f trace cycle most end code machine arena is live to from within =
+    let n = to.run in
+    let k = end - n in
     let field = (alone r i f trace n).0 in
     let replies = (alone r i f trace n).1 in
     let lives : is_live field i ≡ true = alone_lives r i f trace n ∙ live in
-    let now = on r replies is ran.at in
-    let all : alone r i f trace (n + k) ≡ (field, replies ++ replicate k (pos 0)) =
-    alone_plus r i f trace n k ∙ quiet_alone r i field replies k lives now.0 in
+    let quiet = quiet_less r replies k (cycle - n) (omega arith) (to.ran.at.quiet r is) in
+    let sum : n + k ≡ end = omega arith in
+    let less : cycle - n - k ≡ cycle - end = omega arith in
+    let all : alone r i f trace end ≡ (field, replies ++ replicate k (pos 0)) =
+    ap (alone r i f trace) (sym sum) ∙ alone_plus r i f trace n k ∙ quiet_alone r i field replies k lives quiet in
     record {
-      steps = runs_plus r i f trace n k ran.steps (quiet_runs r i field replies k lives now.0);
-      stands = rw all ran.stands;
-      at = rw all now.1;
+      steps = rw sum at (runs_plus r i f trace n k to.ran.steps (quiet_runs r i field replies k lives quiet));
+      stands = rw all to.ran.stands;
+      at = rw (all, sym less) (at_less (record { machine = machine; ahead = cycle - n }) k code replies (omega arith) to.ran.at);
     }
+
+-- up to where the machine is
+pub to_stop : (r : Robot) (i : ℕ) (f : Field) (trace : List ℤ) (cycle most : ℕ) (code : ObjectCode) (machine : State) (arena : Ground)
+    → IsRobotOf code r → is_live f i ≡ true → RunsTo r i f trace cycle most code machine arena
+    → HasRun r i f trace cycle code (record { machine = machine; ahead = 0 }) arena
+to_stop r i f trace cycle most code machine arena is live to =
+    let none : cycle - cycle ≡ 0 = omega arith in
+    rw none at (to_cycle r i f trace cycle most cycle code machine arena is live to to.within (omega arith))
+
+-- and takes a turn
+pub to_next : (r : Robot) (i : ℕ) (f : Field) (trace : List ℤ) (cycle most : ℕ) (code : ObjectCode) (machine : State) (arena : Ground)
+    → cycle < most → RunsAlone r i f trace cycle → StepsAlone r i (alone r i f trace cycle).0 (alone r i f trace cycle).1
+    → IsGroundOf arena (step r i (alone r i f trace cycle).0 (alone r i f trace cycle).1).0
+    → StandsFor machine code (step r i (alone r i f trace cycle).0 (alone r i f trace cycle).1).1
+    → RunsTo r i f trace (cycle + 1) most code machine arena
+to_next r i f trace cycle most code machine arena below runs steps ground stands = record {
+  run = cycle + 1;
+  within = omega arith;
+  below = omega arith;
+  ran = record {
+    steps = runs_next r i f trace cycle runs steps;
+    stands = rw (alone_next r i f trace cycle) ground;
+    at = rw (alone_next r i f trace cycle) (at_end machine (cycle + 1 - (cycle + 1)) code _ (omega arith) stands);
+  };
+}
 
 pub want_alone : (want other : Want) → want ≡ other → IsAlone other → IsAlone want
 want_alone want other same is = rw same is

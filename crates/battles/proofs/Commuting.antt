@@ -1,5 +1,5 @@
 -- Between updates, turns of two robots commute unless both draw a random number: no robot can tell their order.
-use Rattle.std.proofs.Common.{◌≡◌, ◌≢◌, ℕ, ◌+◌, ◌<◌, zero, suc, Bool, true, false, ℤ, List, [], ◌∷◌, ◌++◌, map, take, drop, length, set, get_or, All, inl, inr, refl, sym, ap, ◌∙◌, arith}
+use Rattle.std.proofs.Common.{◌≡◌, ◌≢◌, ℕ, ◌+◌, ◌<◌, zero, suc, Bool, true, false, ℤ, List, [], ◌∷◌, ◌++◌, map, take, drop, length, set, get_or, inl, inr, refl, sym, ap, ◌∙◌, arith}
 use Rattle.std.specs.Prelude.{filter, flat_map, nat_lt, min, sum, ◌==◌, if◌then◌else◌, pos}
 use Rattle.std.proofs.lemmas.Bool.{cases_Bool, cases_eq, true≢false}
 use Rattle.std.proofs.lemmas.Bool.Decides.{nat_tests}
