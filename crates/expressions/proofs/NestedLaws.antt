@@ -1,6 +1,7 @@
 -- Brackets, and what begins no primary.
 use Rattle.std.proofs.Common.{◌≡◌, ℕ, ◌+◌, ◌<◌, ◌≤◌, List, [], ◌∷◌, refl, ap, Bool, true, false, arith}
 use Rattle.std.specs.Prelude.{Some, None}
+use Rattle.tokens.specs.declared.located_tokens.Punctuator.{Punctuator}
 use Rattle.tokens.specs.declared.located_tokens.Punctuator.TheVariants as punctuator
 use Rattle.tokens.specs.declared.located_tokens.Token.{Token}
 use Rattle.tokens.specs.declared.located_tokens.Token.TheVariants as token
@@ -114,6 +115,18 @@ pub record NoOperator (t : Token) : Type 0 where
   pub sound : is_fault t ≡ false
   pub signs : (s : Sign) → is_punctuator (sign_punctuator s) t ≡ false
   pub steps : (s : Step) → is_punctuator (step_punctuator s) t ≡ false
+
+no_punctuator : (m : Punctuator) (t : Token) → ((n : Punctuator) → t ≡ token.Punctuator n → ⊥) → is_punctuator m t ≡ false
+no_punctuator m (token.Punctuator n) none = absurd (none n refl)
+no_punctuator m t none = refl
+
+-- a token that is no punctuator is none
+pub plain_operand : (t : Token) → is_fault t ≡ false → ((n : Punctuator) → t ≡ token.Punctuator n → ⊥) → NoOperator t
+plain_operand t sound none = record {
+  sound = sound;
+  signs = λ s. no_punctuator (sign_punctuator s) t none;
+  steps = λ s. no_punctuator (step_punctuator s) t none;
+}
 
 primary_stands : (at : Place) (depth : ℕ) → NoOperator (next_at at).token → Derives depth (Part Unary ∷ []) (Part Primary ∷ []) [] [] at at
 primary_stands at depth n =

@@ -135,6 +135,29 @@ fn unary<F: Feed, B: Build>(
     ensures grown { Grows result (B.stands build.old) (B.stands build.new) }
     ensures kept { Advances result parser.old parser.new }
 {
+    if let Token::Punctuator(_) = parser.peek().token {
+        from_punctuator(parser, build, depth)?;
+    } else {
+        primary(parser, build, depth)?;
+    }
+    Ok(())
+}
+
+/// `level11` from a punctuator on: apart from the names and constants that most operands are
+#[inline(never)]
+#[cycle(expressions)]
+fn from_punctuator<F: Feed, B: Build>(
+    parser: &mut Parser<'_, F>,
+    build: &mut B,
+    depth: u8,
+) -> Result<(), ParseFault>
+    requires open { HasRoom (B.stands build.old) (room depth 11) }
+    requires ready { IsReady parser.old }
+    ensures parses { Parses result B.allocates (B.stands build.old) (B.stands build.new)
+        depth 11 Unary parser.old parser.new }
+    ensures grown { Grows result (B.stands build.old) (B.stands build.new) }
+    ensures kept { Advances result parser.old parser.new }
+{
     if let Some(sign) = sign_of(&parser.peek().token) {
         signed(parser, build, sign, depth)?;
     } else if let Some(step) = step_of(&parser.peek().token) {

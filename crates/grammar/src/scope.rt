@@ -342,6 +342,7 @@ impl Scope {
         self.current.restart(name);
     }
 
+    #[inline(always)]
     fn is_local_new(&self, name: &Name) -> bool
         ensures { result ≡ is_local_new name.now self.now }
     {

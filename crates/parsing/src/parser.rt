@@ -337,8 +337,6 @@ fn declare(scope: &mut Scope, name: Name, declared: Declared) -> Result<(), Code
 }
 
 // The refusal of a token that doesn't fit.
-#[cold]
-#[inline(never)]
 fn misfit(located_token: &LocatedToken) -> ParseFault
     ensures { result ≡ ParseFault.Source (diagnostic located_token.now.line (misfit_code located_token.now.token)) }
 {

@@ -13,7 +13,7 @@ use Rattle.parsing.proofs.Growing.{grown, grown_behind, grown_nothing, refuses, 
 use Rattle.parsing.proofs.Segments.{halts, halts_here}
 use Rattle.expressions.proofs.AssignmentLaws.{IsAssignment, assignment_adds, plain_adds, plain_refused, sign_goes_on, sign_refused, store_follows, store_too_deep, target_refused, value_refused}
 use Rattle.expressions.proofs.CallLaws.{IsCall, callee_halts, argument_adds, argument_refused, arguments_end, arguments_refused, arguments_room, begin_follows, call_adds, call_close_refused, call_open_refused, call_too_deep, callee_refused, comma_refused, end_follows, first_adds, first_refused, next_argument_room, no_arguments}
-use Rattle.expressions.proofs.NestedLaws.{NoOperator, NoPrimary, bracket_adds, bracket_too_deep, close_refused, inside_refused, open_ends, primary_adds, primary_misfits, primary_refused}
+use Rattle.expressions.proofs.NestedLaws.{NoOperator, NoPrimary, plain_operand, bracket_adds, bracket_too_deep, close_refused, inside_refused, open_ends, primary_adds, primary_misfits, primary_refused}
 use Rattle.expressions.proofs.ClimbingLaws.{at_its_own, climb_refused, climbs_end, climbs_first, climbs_on, first_stops, found, left_open, ten_levels}
 use Rattle.expressions.proofs.OperatorLaws.{apply_follows, middle_follows, operand_adds, operator_ends, right_has_room, right_refused}
 use Rattle.expressions.proofs.SignLaws.{before_follows, behind_follows, operand_refused, operand_room, sign_adds, sign_ends, sign_too_deep}
@@ -326,8 +326,8 @@ primary-returns-in_default-2 g t c =
       kept = rw c.misfit.ensures (record { device = refl; failures = refl; took = record { rest = λ total h. h } });
     }
 
-pub unary-returns-in_err-primary-clause-parses : goal.unary-returns-in_err-primary-clause-parses
-unary-returns-in_err-primary-clause-parses g t c =
+pub from_punctuator-returns-in_err-primary-clause-parses : goal.from_punctuator-returns-in_err-primary-clause-parses
+from_punctuator-returns-in_err-primary-clause-parses g t c =
     let none : NoOperator c.args.parser.now.place.position.reading.next.token = record {
       sound = rw c.peek.ensures.value at c.peek.ensures.sound;
       signs = λ s. rw c.peek.ensures.value at (c.in_default.ensures.none s);
@@ -336,13 +336,26 @@ unary-returns-in_err-primary-clause-parses g t c =
     let p = err_from_is_err_and c.from_residual-in_err-primary.result c.from_residual-in_err-primary.ensures.1 in
     rw (p.1, p.2) (primary_refused _ c.args.parser.now.place c.args.depth _ c.in_err-primary.field-0.0 none c.in_err-primary.ensures.parses)
 
-pub unary-returns-in_ok-primary-clause-parses : goal.unary-returns-in_ok-primary-clause-parses
-unary-returns-in_ok-primary-clause-parses g t c =
+pub from_punctuator-returns-in_ok-primary-clause-parses : goal.from_punctuator-returns-in_ok-primary-clause-parses
+from_punctuator-returns-in_ok-primary-clause-parses g t c =
     let none : NoOperator c.args.parser.now.place.position.reading.next.token = record {
       sound = rw c.peek.ensures.value at c.peek.ensures.sound;
       signs = λ s. rw c.peek.ensures.value at (c.in_default.ensures.none s);
       steps = λ s. rw c.peek-in_default.ensures.value at (c.in_default-step_of.ensures.none s);
     } in
+    primary_adds _ _ c.args.parser.now.place _ c.args.depth none c.in_ok-primary.ensures.parses
+
+pub unary-returns-in_err-primary-clause-parses : goal.unary-returns-in_err-primary-clause-parses
+unary-returns-in_err-primary-clause-parses g t c =
+    let none : NoOperator c.args.parser.now.place.position.reading.next.token = plain_operand _ c.requires.ready.sound
+    (λ m same. c.in_default.not-Punctuator m (ap (λ (l : LocatedToken). l.token) c.peek.ensures.value ∙ same)) in
+    let p = err_from_is_err_and c.from_residual-in_err-primary.result c.from_residual-in_err-primary.ensures.1 in
+    rw (p.1, p.2) (primary_refused _ c.args.parser.now.place c.args.depth _ c.in_err-primary.field-0.0 none c.in_err-primary.ensures.parses)
+
+pub unary-returns-in_ok-primary-clause-parses : goal.unary-returns-in_ok-primary-clause-parses
+unary-returns-in_ok-primary-clause-parses g t c =
+    let none : NoOperator c.args.parser.now.place.position.reading.next.token = plain_operand _ c.requires.ready.sound
+    (λ m same. c.in_default.not-Punctuator m (ap (λ (l : LocatedToken). l.token) c.peek.ensures.value ∙ same)) in
     primary_adds _ _ c.args.parser.now.place _ c.args.depth none c.in_ok-primary.ensures.parses
 
 pub bracketed-returns-clause-kept : goal.bracketed-returns-clause-kept
@@ -468,8 +481,8 @@ expression-returns-in_err-levels-clause-grown g t c =
     let p = err_from_is_err_and c.from_residual-in_err-levels.result c.from_residual-in_err-levels.ensures.1 in
     rw (p.1, p.2) (c.in_err-levels.ensures.grown)
 
-pub unary-returns-in_err-primary-clause-grown : goal.unary-returns-in_err-primary-clause-grown
-unary-returns-in_err-primary-clause-grown g t c =
+pub from_punctuator-returns-in_err-primary-clause-grown : goal.from_punctuator-returns-in_err-primary-clause-grown
+from_punctuator-returns-in_err-primary-clause-grown g t c =
     let p = err_from_is_err_and c.from_residual-in_err-primary.result c.from_residual-in_err-primary.ensures.1 in
     rw (p.1, p.2) (c.in_err-primary.ensures.grown)
 

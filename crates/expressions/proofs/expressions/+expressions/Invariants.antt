@@ -19,7 +19,10 @@ abbrev pub decreases-operand : goal.decreases-operand
 decreases-operand g l = (64 - l.depth) * 64 + 19 + 2 * (11 - l.binary.level)
 
 abbrev pub decreases-unary : goal.decreases-unary
-decreases-unary g l = (64 - l.depth) * 64 + 15
+decreases-unary g l = (64 - l.depth) * 64 + 16
+
+abbrev pub decreases-from_punctuator : goal.decreases-from_punctuator
+decreases-from_punctuator g l = (64 - l.depth) * 64 + 15
 
 abbrev pub decreases-signed : goal.decreases-signed
 decreases-signed g l = (64 - l.depth) * 64 + 14
