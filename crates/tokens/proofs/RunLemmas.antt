@@ -18,7 +18,7 @@ map-agree f g [] fits all = refl
 map-agree f g (x ∷ xs) fits all = ap₂ (λ t ts. t ∷ ts) (agree_below_at f g 256 x all fits.0.fits) (map-agree f g xs fits.1 all)
 
 -- the bits of a block whose lanes were computed from its bytes
-pub bits_are : (test : ℕ → Bool) (f : ℕ → ℕ) (v : List ℕ) {z : List ℕ} → length v ≡ 16 → Each1 (Fits w8) v → z ≡ map f v → agree_below (λ x. top 7 (f x)) test 256 ≡ true
+pub bits_are : (test : ℕ → Bool) (f : ℕ → ℕ) (v : List ℕ) {z : List ℕ} → length v ≡ 32 → Each1 (Fits w8) v → z ≡ map f v → agree_below (λ x. top 7 (f x)) test 256 ≡ true
     → mask_l (map (top 7) z) % 2 ^ 64 ≡ mask_l (map test v)
 bits_are test f v long fits lanes all =
     let tested = ap (map (top 7)) lanes ∙ map-map (top 7) f v ∙ map-agree (λ x. top 7 (f x)) test v fits all in
@@ -43,11 +43,11 @@ mask_l-take ms n h =
     ∙ mod_low (mask_l (drop n ms)) n (mask_l (take n ms)) (rw l at (mask_l-lt (take n ms)))
 
 -- how many bytes of a block pass a test, by its bits
-pub ones_whole : (test : ℕ → Bool) (v : List ℕ) {m : ℕ} → length v ≡ 16 → m ≡ mask_l (map test v) → count_ones m ≡ count_by test (take 16 v)
-ones_whole test v long e = ap count_ones e ∙ ones-mask_l test v ∙ ap (count_by test) (sym (take_all 16 v (omega (arith, long))))
+pub ones_whole : (test : ℕ → Bool) (v : List ℕ) {m : ℕ} → length v ≡ 32 → m ≡ mask_l (map test v) → count_ones m ≡ count_by test (take 32 v)
+ones_whole test v long e = ap count_ones e ∙ ones-mask_l test v ∙ ap (count_by test) (sym (take_all 32 v (omega (arith, long))))
 
 -- and how many of the first few
-pub ones_below : (test : ℕ → Bool) (v : List ℕ) (r : ℕ) {m : ℕ} → length v ≡ 16 → r ≤ 16 → m ≡ mask_l (map test v) → count_ones (m % (1 * 2 ^ r % 2 ^ 64)) ≡ count_by test (take r v)
+pub ones_below : (test : ℕ → Bool) (v : List ℕ) (r : ℕ) {m : ℕ} → length v ≡ 32 → r ≤ 32 → m ≡ mask_l (map test v) → count_ones (m % (1 * 2 ^ r % 2 ^ 64)) ≡ count_by test (take r v)
 ones_below test v r {m} long few e =
     ap (λ k. count_ones (m % k)) (one_shl r 64 (omega (arith, few)))
     ∙ ap (λ k. count_ones (k % 2 ^ r)) e
@@ -56,18 +56,18 @@ ones_below test v r {m} long few e =
     ∙ ones-mask_l test (take r v)
 
 -- a block with no stop is passed, and the run goes on behind it
-pub block_passed : (q : ℕ → Bool) (xs : List ℕ) (i r : ℕ) → i + 16 ≤ length xs → r ≡ prefix_len q (chunk i 16 xs) → r ≡ 16 → prefix_len q (drop i xs) ≡ 16 + prefix_len q (drop (i + 16) xs)
+pub block_passed : (q : ℕ → Bool) (xs : List ℕ) (i r : ℕ) → i + 32 ≤ length xs → r ≡ prefix_len q (chunk i 32 xs) → r ≡ 32 → prefix_len q (drop i xs) ≡ 32 + prefix_len q (drop (i + 32) xs)
 block_passed q xs i r room e whole =
-    let long = length-chunk i 16 xs room in
-    ap (prefix_len q) (chunk-drop i 16 xs) ∙ prefix_len-append q (chunk i 16 xs) (drop (i + 16) xs)
-    ∙ cond-true _ _ _ (eq-eqb _ _ (sym e ∙ whole ∙ sym long)) ∙ ap (λ k. k + prefix_len q (drop (i + 16) xs)) long
+    let long = length-chunk i 32 xs room in
+    ap (prefix_len q) (chunk-drop i 32 xs) ∙ prefix_len-append q (chunk i 32 xs) (drop (i + 32) xs)
+    ∙ cond-true _ _ _ (eq-eqb _ _ (sym e ∙ whole ∙ sym long)) ∙ ap (λ k. k + prefix_len q (drop (i + 32) xs)) long
 
 -- the run ends within a block
-pub block_stops : (q : ℕ → Bool) (xs : List ℕ) (i r : ℕ) → i + 16 ≤ length xs → r ≡ prefix_len q (chunk i 16 xs) → r < 16 → prefix_len q (drop i xs) ≡ r
+pub block_stops : (q : ℕ → Bool) (xs : List ℕ) (i r : ℕ) → i + 32 ≤ length xs → r ≡ prefix_len q (chunk i 32 xs) → r < 32 → prefix_len q (drop i xs) ≡ r
 block_stops q xs i r room e short =
-    let long = length-chunk i 16 xs room in
-    ap (prefix_len q) (chunk-drop i 16 xs) ∙ prefix_len-append q (chunk i 16 xs) (drop (i + 16) xs)
-    ∙ cond-false _ _ _ (ne_eqb (prefix_len q (chunk i 16 xs)) (length (chunk i 16 xs)) (λ same. omega (arith, same, long, e, short))) ∙ sym e
+    let long = length-chunk i 32 xs room in
+    ap (prefix_len q) (chunk-drop i 32 xs) ∙ prefix_len-append q (chunk i 32 xs) (drop (i + 32) xs)
+    ∙ cond-false _ _ _ (ne_eqb (prefix_len q (chunk i 32 xs)) (length (chunk i 32 xs)) (λ same. omega (arith, same, long, e, short))) ∙ sym e
 
 -- the bytes of two segments, one behind the other
 pub counts_more : (test : ℕ → Bool) (xs : List ℕ) (n m : ℕ) → n ≤ length xs → count_by test (take (n + m) xs) ≡ count_by test (take n xs) + count_by test (take m (drop n xs))
@@ -78,9 +78,9 @@ counts_more test xs n m h =
     ap (count_by test) t ∙ sum_by-append (λ b. cond (test b) 1 0) (take n xs) (take m (drop n xs))
 
 -- a block's, behind those before it
-pub counts_block : (test : ℕ → Bool) (xs : List ℕ) (i r a b : ℕ) → i ≤ length xs → r ≤ 16 → a ≡ count_by test (take i xs) → b ≡ count_by test (take r (chunk i 16 xs)) → a + b ≡ count_by test (take (i + r) xs)
+pub counts_block : (test : ℕ → Bool) (xs : List ℕ) (i r a b : ℕ) → i ≤ length xs → r ≤ 32 → a ≡ count_by test (take i xs) → b ≡ count_by test (take r (chunk i 32 xs)) → a + b ≡ count_by test (take (i + r) xs)
 counts_block test xs i r a b h few e f =
-    ap₂ (λ x y. x + y) e (f ∙ ap (count_by test) (take-take r 16 (drop i xs) few)) ∙ sym (counts_more test xs i r h)
+    ap₂ (λ x y. x + y) e (f ∙ ap (count_by test) (take-take r 32 (drop i xs) few)) ∙ sym (counts_more test xs i r h)
 
 -- those of the bytes behind the blocks
 pub counts_rest : (test : ℕ → Bool) (xs : List ℕ) (i r a b : ℕ) → i ≤ length xs → a ≡ count_by test (take i xs) → b ≡ count_by test (take r (slice_range xs i (length xs))) → a + b ≡ count_by test (take (i + r) xs)

@@ -143,6 +143,15 @@ abbrev pub StopsAt : (ℕ → Bool) → Option ℕ → Type 0
 StopsAt test None = Unit {0}
 StopsAt test (Some b) = test b ≡ false
 
+-- no blank is at hand first
+pub no-blanks : (here : Held) (first : Option ℕ) → first ≡ slice_get here.at_hand 0 → StopsAt is_blank first → here ≡ behind_blanks here
+no-blanks here first f stops = sym (ap (λ n. behind n here) (by here.at_hand first f stops))
+  where
+    by : (xs : List ℕ) (o : Option ℕ) → o ≡ slice_get xs 0 → StopsAt is_blank o → prefix_len is_blank xs ≡ 0
+    by [] o f stops = refl
+    by (x ∷ xs) None f stops = absurd cc
+    by (x ∷ xs) (Some b) f stops = let d : b ≡ x = cc in other (is_blank x) _ _ (ap is_blank (sym d) ∙ stops)
+
 pub run-stops : (test : ℕ → Bool) (token_of : List ℕ → Token) (located_token : LocatedToken) (token : Token) (here : Held) (told : Option (List ℕ)) (first : Option ℕ) → IsAtHandOrEnd here → first ≡ slice_get here.at_hand 0 → StopsAt test first → ((to_come : List ℕ) → located_token ≡ ending token (ahead here to_come)) → token ≡ token_of [] → to_read (followed located_token) here told ≡ to_read (in_run test token_of) here told
 run-stops test token_of located_token token here told first ready f stops x t =
     to_read-here (followed located_token) (in_run test token_of) here told (λ to_come.

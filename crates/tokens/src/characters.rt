@@ -5,7 +5,7 @@ ghost use Rattle.tokens.specs.Characters.{is_blank, is_letter, is_digit, is_name
 
 /// 2 for each byte that is a letter or `_`, 1 for each digit, and 0 for any other.
 #[rattlefmt::skip]
-static NAME_BYTES: [u8; 256] = [
+static NAME_CLASSES: [u8; 256] = [
     0, 0, 0, 0, 0, 0, 0, 0, 0, 0, 0, 0, 0, 0, 0, 0, 0, 0, 0, 0, 0, 0, 0, 0, 0, 0, 0, 0, 0, 0, 0, 0,
     0, 0, 0, 0, 0, 0, 0, 0, 0, 0, 0, 0, 0, 0, 0, 0, 1, 1, 1, 1, 1, 1, 1, 1, 1, 1, 0, 0, 0, 0, 0, 0,
     0, 2, 2, 2, 2, 2, 2, 2, 2, 2, 2, 2, 2, 2, 2, 2, 2, 2, 2, 2, 2, 2, 2, 2, 2, 2, 2, 0, 0, 0, 0, 2,
@@ -37,7 +37,7 @@ pub fn is_digit(b: u8) -> bool
 pub fn is_letter(b: u8) -> bool
     ensures { result ≡ is_letter b }
 {
-    NAME_BYTES[usize::from(b)] == 2
+    NAME_CLASSES[usize::from(b)] == 2
 }
 
 /// Whether a name goes on with this byte.
@@ -45,5 +45,5 @@ pub fn is_letter(b: u8) -> bool
 pub fn is_name_byte(b: u8) -> bool
     ensures { result ≡ is_name_byte b }
 {
-    NAME_BYTES[usize::from(b)] != 0
+    NAME_CLASSES[usize::from(b)] != 0
 }

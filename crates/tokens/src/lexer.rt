@@ -3,6 +3,7 @@
 ghost use Rattle.std.specs.Prelude.{◌≡◌, ◌≢◌, ◌∷◌, [], ◌+◌, ◌-◌, ◌^◌, ◌<◌, ◌≤◌, ℕ, List, Some, true, false, slice_get, IfOk, IfSome, OnOk, OnErr};
 ghost use Rattle.tokens.specs.Characters.{is_digit, is_blank};
 ghost use Rattle.tokens.specs.Feed.{Counts};
+ghost use Rattle.tokens.specs.Front.{name_token};
 ghost use Rattle.tokens.specs.Tokens.{FitsToken, is_last, located_tokens, last_located_token};
 ghost use Rattle.tokens.specs.Window.{IsAtHandOrEnd, KnowsEnd, Takes, ahead};
 ghost use Rattle.tokens.specs.Lexing.{to_read, StopsWithin, followed, after_slash, after_comment, in_name, in_constant, in_punctuator, in_comment, name_going_on, value_token, BeginsConstant};
@@ -134,7 +135,7 @@ impl Window {
         let line = self.line();
         self.pass();
         if self.peek(feed)? != Some(b'*') {
-            self.punctuator(Punctuator::Slash, here, feed)?;
+            self.punctuator(here, feed, Punctuator::Slash)?;
             return Ok(true);
         }
         self.pass();
@@ -209,15 +210,15 @@ impl Window {
     {
         self.pass();
         if is_letter(first) {
-            self.name(first, here, feed)
+            self.name(here, feed, first)
         } else if is_digit(first) {
-            self.constant(first, here, feed)
+            self.constant(here, feed, first)
         } else if let Some(punctuator) = Punctuator::of_byte(first) {
             if punctuator.ends_before(self.first()) {
                 *here = self.ending(Token::Punctuator(punctuator));
                 return Ok(());
             }
-            self.punctuator(punctuator, here, feed)
+            self.punctuator(here, feed, punctuator)
         } else {
             *here = self.ending(Token::Fault(LexicalError::BadCharacter));
             Ok(())
@@ -228,9 +229,9 @@ impl Window {
     #[inline(never)]
     fn name<F: Feed>(
         &mut self,
-        first: u8,
         here: &mut LocatedToken,
         feed: &mut F,
+        first: u8,
     ) -> Result<(), DeviceFault>
         requires countable { F.failures feed.old < 2 ^ 64 - 1 }
         requires known { KnowsEnd self.old.beyond (F.ended feed.old) }
@@ -249,21 +250,22 @@ impl Window {
         ensures count { Counts result (F.failures feed.old) (F.failures feed.new) }
         ensures known { KnowsEnd self.new.beyond (F.ended feed.new) }
     {
-        if let Some(name) = Name::begun(first, self.at_hand()) {
+        let mut name = Name::new();
+        if name.begin(first, self.at_hand()) {
             self.pass_in_line(name.len() - 1);
             self.end_name(&name, false, here);
             return Ok(());
         }
-        self.name_in_pieces(first, here, feed)
+        self.name_in_pieces(here, feed, first)
     }
 
     /// The same of a name that is not all at hand, or long.
     #[inline(never)]
     fn name_in_pieces<F: Feed>(
         &mut self,
-        first: u8,
         here: &mut LocatedToken,
         feed: &mut F,
+        first: u8,
     ) -> Result<(), DeviceFault>
         requires countable { F.failures feed.old < 2 ^ 64 - 1 }
         requires known { KnowsEnd self.old.beyond (F.ended feed.old) }
@@ -307,9 +309,9 @@ impl Window {
     #[inline(never)]
     fn constant<F: Feed>(
         &mut self,
-        first: u8,
         here: &mut LocatedToken,
         feed: &mut F,
+        first: u8,
     ) -> Result<(), DeviceFault>
         requires countable { F.failures feed.old < 2 ^ 64 - 1 }
         requires known { KnowsEnd self.old.beyond (F.ended feed.old) }
@@ -333,16 +335,16 @@ impl Window {
             *here = self.ending(Token::Constant(value));
             return Ok(());
         }
-        self.constant_in_pieces(first, here, feed)
+        self.constant_in_pieces(here, feed, first)
     }
 
     /// The same of a constant that is not all at hand, or large.
     #[inline(never)]
     fn constant_in_pieces<F: Feed>(
         &mut self,
-        first: u8,
         here: &mut LocatedToken,
         feed: &mut F,
+        first: u8,
     ) -> Result<(), DeviceFault>
         requires countable { F.failures feed.old < 2 ^ 64 - 1 }
         requires known { KnowsEnd self.old.beyond (F.ended feed.old) }
@@ -380,9 +382,9 @@ impl Window {
     #[inline(never)]
     fn punctuator<F: Feed>(
         &mut self,
-        mut punctuator: Punctuator,
         here: &mut LocatedToken,
         feed: &mut F,
+        mut punctuator: Punctuator,
     ) -> Result<(), DeviceFault>
         requires countable { F.failures feed.old < 2 ^ 64 - 1 }
         requires known { KnowsEnd self.old.beyond (F.ended feed.old) }
@@ -427,11 +429,27 @@ impl Window {
     {
         if is_too_long {
             *here = self.ending(Token::Fault(LexicalError::NameTooLong));
-        } else if let Some(word) = Word::of_name(name.as_bytes()) {
-            *here = self.ending(Token::Word(word));
+        } else if Word::may_be(name.as_bytes()) {
+            self.put_name_or_word(name, here);
         } else {
             *here = self.ending(Token::Name(*name));
         }
+    }
+
+    /// Puts a name here, or the word that it is.
+    #[inline(never)]
+    fn put_name_or_word(&self, name: &Name, here: &mut LocatedToken)
+        ensures value { here.new ≡ record {
+          token = name_token name.now;
+          line = self.now.line;
+          end = self.now.place;
+        } }
+        ensures fits { FitsToken here.new.token }
+    {
+        *here = self.ending(match Word::of_name(name.as_bytes()) {
+            Some(word) => Token::Word(word),
+            None => Token::Name(*name),
+        });
     }
 
     /// A token that ends before the next byte, on the same line.

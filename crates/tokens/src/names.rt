@@ -1,6 +1,6 @@
 //! Names, of fixed size.
 
-ghost use Rattle.std.specs.Prelude.{◌≡◌, ◌∷◌, [], ◌++◌, ◌<◌, ◌≤◌, ◌↔◌, IsTrue, true, length, IfSome};
+ghost use Rattle.std.specs.Prelude.{◌≡◌, ◌∷◌, [], ◌++◌, ◌<◌, ◌≤◌, ◌↔◌, IsTrue, true, length};
 ghost use Rattle.std.specs.Str.{bytes_eq};
 ghost use Rattle.tokens.specs.Lexing.{BeginsName};
 
@@ -49,27 +49,24 @@ impl Name {
         }
     }
 
-    /// The name that begins with this byte, and goes on with the rest, if it ends within the rest and is not too long.
+    /// Takes the bytes of a name that begins with this one and goes on with the rest, as far as there is room. Answers
+    /// whether it ends within the rest.
     #[inline(always)]
-    pub(crate) fn begun(first: u8, rest: &[u8]) -> Option<Name>
-        ensures { IfSome result (λ name. BeginsName first rest.now name) }
+    pub(crate) fn begin(&mut self, first: u8, rest: &[u8]) -> bool
+        requires { self.old ≡ [] }
+        ensures { result ≡ true → BeginsName first rest.now self.new }
     {
-        let mut bytes = [0; NAME_BYTES];
-        bytes[0] = first;
-        for (i, b) in rest.iter().enumerate() {
-            let len = i + 1;
-            if !is_name_byte(*b) {
-                return Some(Name {
-                    bytes,
-                    len: len as u8,
-                });
+        self.bytes[0] = first;
+        let most = rest.len().min(NAME_BYTES - 1);
+        for i in 0..most {
+            if !is_name_byte(rest[i]) {
+                self.len = i as u8 + 1;
+                return true;
             }
-            if len == NAME_BYTES {
-                return None;
-            }
-            bytes[len] = *b;
+            self.bytes[i + 1] = rest[i];
         }
-        None
+        self.len = most as u8 + 1;
+        false
     }
 
     /// How many bytes it has.

@@ -9,6 +9,7 @@ use crate::located_tokens::Punctuator;
 
 impl Punctuator {
     /// The punctuator of one byte.
+    #[inline(always)]
     #[tactic(auto, unfolding(crate::specs::Punctuators::punctuator_of))]
     pub(crate) fn of_byte(b: u8) -> Option<Punctuator>
         ensures { result ≡ punctuator_of (b ∷ []) }
@@ -42,9 +43,12 @@ impl Punctuator {
     pub(crate) fn ends_before(self, next: Option<u8>) -> bool
         ensures { result ≡ true → EndsBefore self next }
     {
+        if self.is_whole() {
+            return true;
+        }
         match next {
-            Some(b) => self.is_whole() || !self.may_grow_by(b),
-            None => self.is_whole(),
+            Some(b) => !self.may_grow_by(b),
+            None => false,
         }
     }
 

@@ -15,7 +15,7 @@ const END_BYTE: u8 = 26;
 pub const LINE_FEED: u8 = 10;
 
 /// How many bytes are looked at together.
-const BLOCK: usize = 16;
+const BLOCK: usize = 32;
 
 /// A kind of bytes that ends a run of others.
 pub trait Stop {
@@ -27,7 +27,7 @@ pub trait Stop {
         ensures { result ≡ stops b };
 
     /// The same of each byte of a block, as a bit.
-    fn bits(block: u8x16) -> u64
+    fn bits(block: u8x32) -> u64
         ensures { result ≡ mask_l (map stops block) };
 }
 
@@ -43,8 +43,8 @@ impl Stop for Star {
     }
 
     #[inline(always)]
-    fn bits(block: u8x16) -> u64 {
-        block.simd_eq(u8x16::splat(b'*')).to_bitmask()
+    fn bits(block: u8x32) -> u64 {
+        block.simd_eq(u8x32::splat(b'*')).to_bitmask()
     }
 }
 
@@ -60,8 +60,8 @@ impl Stop for End {
     }
 
     #[inline(always)]
-    fn bits(block: u8x16) -> u64 {
-        block.simd_eq(u8x16::splat(END_BYTE)).to_bitmask()
+    fn bits(block: u8x32) -> u64 {
+        block.simd_eq(u8x32::splat(END_BYTE)).to_bitmask()
     }
 }
 
@@ -77,9 +77,9 @@ impl Stop for Ink {
     }
 
     #[inline(always)]
-    fn bits(block: u8x16) -> u64 {
-        let no_space = block.simd_ne(u8x16::splat(b' '));
-        let no_control = (block - u8x16::splat(9)).simd_gt(u8x16::splat(4));
+    fn bits(block: u8x32) -> u64 {
+        let no_space = block.simd_ne(u8x32::splat(b' '));
+        let no_control = (block - u8x32::splat(9)).simd_gt(u8x32::splat(4));
         (no_space & no_control).to_bitmask()
     }
 }
@@ -95,7 +95,7 @@ pub fn run_before<S: Stop>(bytes: &[u8]) -> (usize, u32)
     // A block fits before this place.
     let room = bytes.len().saturating_sub(BLOCK - 1);
     while count < room {
-        let (run, ended) = run_in_block::<S>(u8x16::from_slice(&bytes[count..]));
+        let (run, ended) = run_in_block::<S>(u8x32::from_slice(&bytes[count..]));
         count += run;
         lines += ended;
         if run < BLOCK {
@@ -108,13 +108,13 @@ pub fn run_before<S: Stop>(bytes: &[u8]) -> (usize, u32)
 
 /// The same of a block.
 #[inline(always)]
-fn run_in_block<S: Stop>(block: u8x16) -> (usize, u32)
+fn run_in_block<S: Stop>(block: u8x32) -> (usize, u32)
     ensures count { result.0 ≡ prefix_len (λ b. not (S.stops b)) block }
     ensures lines { result.1 ≡ count_by (λ b. b == 10) (take result.0 block) }
-    ensures within { result.0 ≤ 16 }
+    ensures within { result.0 ≤ 32 }
 {
     let stops = S::bits(block);
-    let feeds = block.simd_eq(u8x16::splat(LINE_FEED)).to_bitmask();
+    let feeds = block.simd_eq(u8x32::splat(LINE_FEED)).to_bitmask();
     if stops == 0 {
         return (BLOCK, feeds.count_ones());
     }

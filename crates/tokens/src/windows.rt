@@ -6,6 +6,7 @@ ghost use Rattle.tokens.specs.Source.{source};
 ghost use Rattle.tokens.specs.Feed.{Counts};
 ghost use Rattle.tokens.specs.Window.{seen, untouched, behind, behind_first, behind_blanks, behind_plain, Cuts, IsAtSamePlace, IsAtHandOrEnd, KnowsEnd, Takes};
 
+use crate::characters::is_blank;
 use crate::devices::{DeviceFault, Feed};
 use crate::limits::{SOURCE_BYTES, WINDOW};
 use crate::runs::{End, Ink, LINE_FEED, Star, run_before};
@@ -181,6 +182,11 @@ impl Window {
         ensures near { self.new.taken ≤ self.new.place + 4096 }
         ensures limited { self.new.taken ≤ 1048577 }
     {
+        // Most blanks stand alone.
+        match self.first() {
+            Some(b) if is_blank(b) => {}
+            _ => return,
+        }
         let (count, lines) = run_before::<Ink>(&self.bytes[self.next..self.filled]);
         self.next += count;
         self.line += lines;

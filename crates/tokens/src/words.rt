@@ -1,20 +1,26 @@
 //! The names that the language keeps for itself.
 
-ghost use Rattle.std.specs.Prelude.{◌≡◌, ◌||◌, codes, Some, None, if◌then◌else◌};
+ghost use Rattle.std.specs.Prelude.{◌≡◌, ◌||◌, codes, Some, None, false, if◌then◌else◌};
 ghost use Rattle.std.specs.Str.{bytes_eq};
 ghost use Rattle.tokens.specs.Words.{word_of};
 
 use crate::located_tokens::Word;
 
 impl Word {
+    /// Whether a name may be a word. No word has a single byte.
+    #[inline(always)]
+    #[tactic(auto, unfolding(crate::specs::Words::word_of))]
+    pub(crate) fn may_be(name: &[u8]) -> bool
+        ensures { result ≡ false → word_of name.now ≡ None }
+    {
+        name.len() >= 2
+    }
+
     /// The word that a name is, if it is one. Its first byte leaves few to compare it with.
     #[tactic(auto, unfolding(crate::specs::Words::word_of))]
     pub(crate) fn of_name(name: &[u8]) -> Option<Word>
         ensures { result ≡ word_of name.now }
     {
-        if name.len() < 2 {
-            return None;
-        }
         match name.first()? {
             b'a' => Word::Type.when(is(name, b"auto")),
             b'b' => Word::Refused.when(is(name, b"break")),

@@ -17,7 +17,7 @@ pub loop-count-preserved : goal.loop-count-preserved
 loop-count-preserved g c =
     let e = c.run_in_block-run.ensures in
     let n = c.loop-count.invariant in
-    let whole : c.run_in_block-run.result.0 ≡ 16 = omega (arith, e.within) in
+    let whole : c.run_in_block-run.result.0 ≡ 32 = omega (arith, e.within) in
     let passed = block_passed (λ b. not (g.S.Stop.stops b)) c.args.bytes.now c.loop-count.count c.run_in_block-run.result.0 (omega arith) e.count whole in
     record {
       within = omega (arith, whole);

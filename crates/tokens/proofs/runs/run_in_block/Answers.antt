@@ -10,7 +10,7 @@ returns-then-stops-eq0-clause-count g c =
     sym (leading_from_mask_l g.S.Stop.stops c.args.block (sym c.bits-stops.ensures ∙ c.if-stops-eq0.true) ∙ c.fits-block.0)
 
 pub returns-then-stops-eq0-clause-lines : goal.returns-then-stops-eq0-clause-lines
-returns-then-stops-eq0-clause-lines g c = ones_whole (λ b. eqb b 10) c.args.block c.fits-block.0 (bitmask_splat w8 eqb c.args.block 16 10 c.fits-block.0 (omega arith))
+returns-then-stops-eq0-clause-lines g c = ones_whole (λ b. eqb b 10) c.args.block c.fits-block.0 (bitmask_splat w8 eqb c.args.block 32 10 c.fits-block.0 (omega arith))
 
 pub returns-clause-count : goal.returns-clause-count
 returns-clause-count g c =
@@ -23,7 +23,7 @@ returns-clause-lines g c =
     ∙ trailing_mask_l g.S.Stop.stops 64 c.args.block (omega (arith, c.fits-block.0)) (omega (arith, c.bits-stops.ensures, c.if-stops-eq0.false)) in
     ones_below (λ b. eqb b 10) c.args.block (count_trailing_zeros 64 c.bits-stops.result) c.fits-block.0
     (omega (arith, count, c.fits-block.0, prefix_len-le-length (λ b. not (g.S.Stop.stops b)) c.args.block))
-    (bitmask_splat w8 eqb c.args.block 16 10 c.fits-block.0 (omega arith))
+    (bitmask_splat w8 eqb c.args.block 32 10 c.fits-block.0 (omega arith))
 
 pub returns-clause-within : goal.returns-clause-within
 returns-clause-within g c =

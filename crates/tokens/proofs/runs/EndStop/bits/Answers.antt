@@ -3,4 +3,4 @@ use Rattle.std.proofs.lemmas.Simd.{bitmask_splat}
 use Rattle.tokens.proofs.runs.EndStop.bits.Goals as goal
 
 pub returns : goal.returns
-returns c = bitmask_splat w8 eqb c.args.block 16 26 c.fits-block.0 (omega arith)
+returns c = bitmask_splat w8 eqb c.args.block 32 26 c.fits-block.0 (omega arith)

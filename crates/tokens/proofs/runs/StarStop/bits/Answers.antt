@@ -3,4 +3,4 @@ use Rattle.std.proofs.lemmas.Simd.{bitmask_splat}
 use Rattle.tokens.proofs.runs.StarStop.bits.Goals as goal
 
 pub returns : goal.returns
-returns c = bitmask_splat w8 eqb c.args.block 16 42 c.fits-block.0 (omega arith)
+returns c = bitmask_splat w8 eqb c.args.block 32 42 c.fits-block.0 (omega arith)

@@ -1,9 +1,19 @@
-use Rattle.std.proofs.Common.{◌∙◌}
+use Rattle.std.proofs.Common.{◌∙◌, sym, subst}
 use Rattle.std.specs.List.{between}
 use Rattle.tokens.specs.Characters.{is_blank}
 use Rattle.tokens.proofs.RunLemmas.{turned_twice}
+use Rattle.tokens.proofs.TokenLemmas.{no-blanks, StopsAt}
 use Rattle.tokens.proofs.WindowLemmas.{run-passed}
 use Rattle.tokens.proofs.windows.Window.pass_blanks.Goals as goal
+use Rattle.tokens.proofs.windows.Window.pass_blanks.Goals.{in_default-via-in-Some+else-is_blank, in_default-via-in_default}
+
+pub returns-in_default-clause-value : goal.returns-in_default-clause-value
+returns-in_default-clause-value c =
+    let stops : StopsAt is_blank c.first.result = elim c.in_default.branch [
+      | in_default-via-in-Some+else-is_blank w ↦ subst (StopsAt is_blank) (sym w.in-Some.is) (sym w.if-is_blank.ensures)
+      | in_default-via-in_default w ↦ subst (StopsAt is_blank) (sym w.in_default.is) tt
+    ] in
+    no-blanks c.args.self.now c.first.result c.first.ensures stops
 
 pub returns-clause-value : goal.returns-clause-value
 returns-clause-value c =
