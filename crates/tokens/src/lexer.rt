@@ -6,7 +6,7 @@ ghost use Rattle.tokens.specs.Feed.{Counts};
 ghost use Rattle.tokens.specs.Front.{name_token};
 ghost use Rattle.tokens.specs.Tokens.{FitsToken, is_last, located_tokens, last_located_token};
 ghost use Rattle.tokens.specs.Window.{IsAtHandOrEnd, KnowsEnd, Takes, ahead};
-ghost use Rattle.tokens.specs.Lexing.{to_read, StopsWithin, followed, after_slash, after_comment, in_name, in_constant, in_punctuator, in_comment, name_going_on, value_token, BeginsConstant};
+ghost use Rattle.tokens.specs.Lexing.{to_read, StopsWithin, followed, after_slash, after_comment, in_name, in_constant, in_punctuator, in_comment, name_going_on, value_token, BeginsConstant, EndsBefore};
 
 use crate::characters::{is_blank, is_digit, is_letter, is_name_byte};
 use crate::devices::{DeviceFault, Feed};
@@ -214,7 +214,7 @@ impl Window {
         } else if is_digit(first) {
             self.constant(here, feed, first)
         } else if let Some(punctuator) = Punctuator::of_byte(first) {
-            if punctuator.ends_before(self.first()) {
+            if self.ends(punctuator) {
                 *here = self.ending(Token::Punctuator(punctuator));
                 return Ok(());
             }
@@ -417,6 +417,15 @@ impl Window {
         }
     }
 
+    /// Whether a punctuator that was passed ends here, as far as the bytes at hand show.
+    #[inline(always)]
+    #[tactic(auto, using(crate::proofs::AtHandLemmas::whole_ends))]
+    fn ends(&self, punctuator: Punctuator) -> bool
+        ensures { result ≡ true → EndsBefore punctuator (slice_get self.now.at_hand 0) }
+    {
+        punctuator.is_whole() || punctuator.ends_before(self.first())
+    }
+
     /// Puts the token of a whole name here, of which some bytes may have been left out.
     #[inline(always)]
     fn end_name(&self, name: &Name, is_too_long: bool, here: &mut LocatedToken)
@@ -446,10 +455,11 @@ impl Window {
         } }
         ensures fits { FitsToken here.new.token }
     {
-        *here = self.ending(match Word::of_name(name.as_bytes()) {
-            Some(word) => Token::Word(word),
-            None => Token::Name(*name),
-        });
+        if let Some(word) = Word::of_name(name.as_bytes()) {
+            *here = self.ending(Token::Word(word));
+        } else {
+            *here = self.ending(Token::Name(*name));
+        }
     }
 
     /// A token that ends before the next byte, on the same line.

@@ -38,14 +38,11 @@ impl Punctuator {
         })
     }
 
-    /// Whether it ends here, as the next byte at hand shows, or whatever it is.
+    /// Whether the next byte shows that it ends here, which is at hand.
     #[inline(always)]
     pub(crate) fn ends_before(self, next: Option<u8>) -> bool
         ensures { result ≡ true → EndsBefore self next }
     {
-        if self.is_whole() {
-            return true;
-        }
         match next {
             Some(b) => !self.may_grow_by(b),
             None => false,
@@ -64,7 +61,7 @@ impl Punctuator {
     /// Whether no longer punctuator begins with this one, so that the next byte is of no account.
     #[inline(always)]
     #[tactic(auto, unfolding(crate::specs::Punctuators::punctuator_of))]
-    fn is_whole(self) -> bool
+    pub(crate) fn is_whole(self) -> bool
         ensures { result ≡ true → (b : ℕ) → punctuator_of (spelling self ++ b ∷ []) ≡ None }
     {
         matches!(

@@ -24,16 +24,16 @@ returns-then-is_digit-clause-tokens g c =
     let begins = to_read-pass (in_constant (b - 48)) located_tokens _ _ (g.F.Feed.to_come c.args.feed.now) (Some b) b c.pass.ensures.value (sym c.requires.first) refl (constant-begins b c.requires.no_blank (sym c.if-is_letter.ensures) (sym c.if-is_digit.ensures)) in
     on_ok_weaker c.constant.result (λ h. h ∙ begins) c.constant.ensures.tokens
 
-pub returns-else-ends_before-clause-tokens : goal.returns-else-ends_before-clause-tokens
-returns-else-ends_before-clause-tokens g c =
+pub returns-else-ends-clause-tokens : goal.returns-else-ends-clause-tokens
+returns-else-ends-clause-tokens g c =
     let b = c.args.first in
     let begins = to_read-pass (in_punctuator c.in-Some.punctuator) located_tokens _ _ (g.F.Feed.to_come c.args.feed.now) (Some b) b c.pass.ensures.value (sym c.requires.first) refl (other-begins c.in-Some.punctuator b c.requires.no_blank (sym c.if-is_letter.ensures) (sym c.if-is_digit.ensures) c.requires.no_slash (sym c.in-Some.ensures)) in
     on_ok_weaker c.punctuator.result (λ h. h ∙ begins) c.punctuator.ensures.tokens
 
-pub returns-then-ends_before-clause-tokens : goal.returns-then-ends_before-clause-tokens
-returns-then-ends_before-clause-tokens g c =
+pub returns-then-ends-clause-tokens : goal.returns-then-ends-clause-tokens
+returns-then-ends-clause-tokens g c =
     let b = c.args.first in
-    punctuator-ends_before c.in-Some.punctuator c.ending.result c.pass.new.self _ _ c.first.ensures (c.ends_before.ensures c.if-ends_before.true) (λ _. c.ending.ensures)
+    punctuator-ends_before c.in-Some.punctuator c.ending.result c.pass.new.self _ _ refl (c.ends.ensures c.if-ends.true) (λ _. c.ending.ensures)
     ∙ to_read-pass (in_punctuator c.in-Some.punctuator) located_tokens _ _ (g.F.Feed.to_come c.args.feed.now) (Some b) b c.pass.ensures.value (sym c.requires.first) refl (other-begins c.in-Some.punctuator b c.requires.no_blank (sym c.if-is_letter.ensures) (sym c.if-is_digit.ensures) c.requires.no_slash (sym c.in-Some.ensures))
 
 pub returns-in_default-clause-tokens : goal.returns-in_default-clause-tokens
@@ -55,8 +55,8 @@ returns-then-is_digit-clause-stopped g c =
     let begins = to_read-pass (in_constant (b - 48)) located_tokens _ _ (g.F.Feed.to_come c.args.feed.now) (Some b) b c.pass.ensures.value (sym c.requires.first) refl (constant-begins b c.requires.no_blank (sym c.if-is_letter.ensures) (sym c.if-is_digit.ensures)) in
     on_err_weaker c.constant.result (stops-from (in_constant (b - 48)) located_tokens _ _ c.constant.new.self _ _ begins) c.constant.ensures.stopped
 
-pub returns-else-ends_before-clause-stopped : goal.returns-else-ends_before-clause-stopped
-returns-else-ends_before-clause-stopped g c =
+pub returns-else-ends-clause-stopped : goal.returns-else-ends-clause-stopped
+returns-else-ends-clause-stopped g c =
     let b = c.args.first in
     let begins = to_read-pass (in_punctuator c.in-Some.punctuator) located_tokens _ _ (g.F.Feed.to_come c.args.feed.now) (Some b) b c.pass.ensures.value (sym c.requires.first) refl (other-begins c.in-Some.punctuator b c.requires.no_blank (sym c.if-is_letter.ensures) (sym c.if-is_digit.ensures) c.requires.no_slash (sym c.in-Some.ensures)) in
     on_err_weaker c.punctuator.result (stops-from (in_punctuator c.in-Some.punctuator) located_tokens _ _ c.punctuator.new.self _ _ begins) c.punctuator.ensures.stopped
