@@ -106,7 +106,6 @@ shots_swap : (f : Field) (i j degree range towards far : ℕ) → i ≢ j
 shots_swap f i j degree range towards far distinct =
     let mine = pushed f i degree range in
     let theirs = pushed f j towards far in
-    let back : j ≢ i = λ same. distinct (sym same) in
     record {
       in_air = λ k. elim (cases_eq k i) [
         | inl own ↦
@@ -129,7 +128,7 @@ shots_swap f i j degree range towards far distinct =
           (all_back Owned f.shots mine first);
     }
 
-pub fired_field : (f : Field) (i degree range : ℕ) → fired f i degree range ≡ ((fired f i degree range).0, record f { shots = f.shots ++ pushed f i degree range })
+fired_field : (f : Field) (i degree range : ℕ) → fired f i degree range ≡ ((fired f i degree range).0, record f { shots = f.shots ++ pushed f i degree range })
 fired_field f i degree range = fires f f.shots i degree range refl
 
 pushed_same : (f : Field) (i j degree range towards speed : ℕ) → i ≢ j
@@ -138,18 +137,10 @@ unfolding pushed directed robot_at
 pushed_same f i j degree range towards speed distinct =
     rw (get_or-set_other f.robots j i (record (robot_at f j) { leg = wanting (robot_at f j).leg towards speed }) no_robot distinct) refl
 
-fires_after_drive : (f : Field) (i j degree range towards speed : ℕ)
-    → (fired (directed f j towards speed) i degree range).0 ≡ (fired f i degree range).0
-unfolding fired directed
-fires_after_drive f i j degree range towards speed = elim (cases_Bool (nat_lt (length (in_air f.updates i f.shots)) 2)) [
-  | inl may ↦ rw may refl
-  | inr not ↦ rw not refl
-]
-
-fires_after_word : (f : Field) (i degree range : ℕ)
-    → (fired (record f { drawn = f.drawn + 1 }) i degree range).0 ≡ (fired f i degree range).0
+fired_reply : (f : Field) (i degree range : ℕ)
+    → (fired f i degree range).0 ≡ (if nat_lt (length (in_air f.updates i f.shots)) 2 then pos 1 else pos 0)
 unfolding fired
-fires_after_word f i degree range = elim (cases_Bool (nat_lt (length (in_air f.updates i f.shots)) 2)) [
+fired_reply f i degree range = elim (cases_Bool (nat_lt (length (in_air f.updates i f.shots)) 2)) [
   | inl may ↦ rw may refl
   | inr not ↦ rw not refl
 ]
@@ -173,8 +164,10 @@ reply_same Cannon Cannon a b i j f either distinct =
     rw (fired_field f j towards far)
     (ap (λ (asked : ℤ × Field). asked.0) (fires f (f.shots ++ pushed f j towards far) i (degree_of (argument a 0)) (brought 700 (argument a 1))
     (own_air f f.shots i j towards far distinct)))
-reply_same Cannon Drive a b i j f either distinct = fires_after_drive f i j (degree_of (argument a 0)) (brought 700 (argument a 1)) (degree_of (argument b 0)) (brought 100 (argument b 1))
-reply_same Cannon Rand a b i j f either distinct = fires_after_word f i (degree_of (argument a 0)) (brought 700 (argument a 1))
+reply_same Cannon Drive a b i j f either distinct =
+    fired_reply (directed f j (degree_of (argument b 0)) (brought 100 (argument b 1))) i _ _ ∙ sym (fired_reply f i _ _)
+reply_same Cannon Rand a b i j f either distinct =
+    fired_reply (record f { drawn = f.drawn + 1 }) i _ _ ∙ sym (fired_reply f i _ _)
 reply_same Cannon _ a b i j f either distinct = refl
 reply_same _ other a b i j f either distinct = refl
 
