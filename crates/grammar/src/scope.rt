@@ -109,7 +109,7 @@ impl Scope {
     pub fn mention(&mut self, name: Name) -> Result<Var, Code>
         ensures known { IfOk result (λ v. (v ≡ variable_of name self.old)
             × ((line : ℕ) → Knows Mentioned name line self.old self.new)) }
-        ensures within { IfOk result (IsVariable 64 64) }
+        ensures within { IfOk result (IsVariable MOST_NAMES MOST_NAMES) }
         ensures refused { IfErr result (λ c. RefusesName Mentioned name self.old c) }
     {
         if let Some(var) = self.variable(&name) {
@@ -189,7 +189,7 @@ impl Scope {
     pub fn call(&mut self, name: Name, line: u32) -> Result<Callee, Code>
         ensures known { IfOk result (λ callee. (callee ≡ callee_of name self.old)
             × Knows Called name line self.old self.new) }
-        ensures within { IfOk result (IsCallable 64) }
+        ensures within { IfOk result (IsCallable MOST_NAMES) }
         ensures refused { IfErr result (λ c. RefusesName Called name self.old c) }
     {
         if let Some(intrinsic) = intrinsic(&name) {
@@ -202,7 +202,7 @@ impl Scope {
 
     /// The number of a function whose definition begins at this name, on this line.
     pub fn define(&mut self, name: Name, line: u32) -> Result<u8, Code>
-        ensures number { IfOk result (λ n. (n ≡ number_for name self.old) × (n < 64)) }
+        ensures number { IfOk result (λ n. (n ≡ number_for name self.old) × (n < MOST_NAMES)) }
         ensures known { OnOk result (Knows Defined name line self.old self.new) }
         ensures refused { IfErr result (λ c. RefusesName Defined name self.old c) }
     {
@@ -229,7 +229,7 @@ impl Scope {
     /// How many parameters the function that is being defined has so far.
     pub fn parameters(&self) -> u8
         ensures count { result ≡ self.now.current.parameters }
-        ensures most { result ≤ 64 }
+        ensures most { result ≤ MOST_NAMES }
     {
         self.current.parameters()
     }
@@ -238,7 +238,7 @@ impl Scope {
     pub fn variables(&self) -> u8
         ensures count { result ≡ length self.now.current.variables }
         ensures first { self.now.current.parameters ≤ result }
-        ensures most { result ≤ 64 }
+        ensures most { result ≤ MOST_NAMES }
     {
         self.current.variables().len() as u8
     }
@@ -268,7 +268,7 @@ impl Scope {
     #[inline(always)]
     fn variable(&self, name: &Name) -> Option<Var>
         ensures value { result ≡ variable_named name.now self.now }
-        ensures within { IfSome result (IsVariable 64 64) }
+        ensures within { IfSome result (IsVariable MOST_NAMES MOST_NAMES) }
     {
         if let Some(number) = number_of(self.current.variables(), name) {
             return Some(Var::Local(number as u8));
@@ -282,8 +282,8 @@ impl Scope {
     fn number_for(&mut self, known: Option<usize>, name: Name, line: u32) -> Result<u8, Code>
         requires own { intrinsic_named name ≡ None }
         requires number { known ≡ function_number name self.old }
-        requires within { IfSome known (λ n. n < 64) }
-        ensures number { IfOk result (λ n. (n ≡ number_for name self.old) × (n < 64)) }
+        requires within { IfSome known (λ n. n < MOST_NAMES) }
+        ensures number { IfOk result (λ n. (n ≡ number_for name self.old) × (n < MOST_NAMES)) }
         ensures known { OnOk result (Knows Called name line self.old self.new) }
         ensures refused { IfErr result (λ c. RefusesName Called name self.old c) }
     {
@@ -301,19 +301,19 @@ impl Scope {
     // The number of a function that was mentioned.
     fn function_number(&self, name: &Name) -> Option<usize>
         ensures number { result ≡ function_number name.now self.now }
-        ensures within { IfSome result (λ n. n < 64) }
+        ensures within { IfSome result (λ n. n < MOST_NAMES) }
     {
         function_number(self.pools.functions(), name)
     }
 
     fn has_most_functions(&self) -> bool
-        ensures most { result ≡ nat_le 64 (length self.now.functions) }
+        ensures most { result ≡ nat_le MOST_NAMES (length self.now.functions) }
     {
         self.pools.functions().len() >= MOST_NAMES
     }
 
     fn add_function(&mut self, name: Name, line: u32)
-        requires { length self.old.functions < 64 }
+        requires { length self.old.functions < MOST_NAMES }
         ensures { self.new ≡ with_new_function name line self.old }
     {
         self.pools.add_function(name);
@@ -356,13 +356,13 @@ impl Scope {
     }
 
     fn has_most_variables(&self) -> bool
-        ensures most { result ≡ nat_le 64 (length self.now.current.variables) }
+        ensures most { result ≡ nat_le MOST_NAMES (length self.now.current.variables) }
     {
         self.current.variables().len() >= MOST_NAMES
     }
 
     fn has_most_externals(&self) -> bool
-        ensures most { result ≡ nat_le 64 (length self.now.externals) }
+        ensures most { result ≡ nat_le MOST_NAMES (length self.now.externals) }
     {
         self.pools.externals().len() >= MOST_NAMES
     }
@@ -374,21 +374,21 @@ impl Scope {
     }
 
     fn add_variable(&mut self, name: Name)
-        requires { length self.old.current.variables < 64 }
+        requires { length self.old.current.variables < MOST_NAMES }
         ensures { self.new ≡ with_variable name self.old }
     {
         self.current.add_local(name);
     }
 
     fn add_parameter(&mut self, name: Name)
-        requires { length self.old.current.variables < 64 }
+        requires { length self.old.current.variables < MOST_NAMES }
         ensures { self.new ≡ with_parameter name self.old }
     {
         self.current.add_parameter(name);
     }
 
     fn add_external(&mut self, name: Name)
-        requires { length self.old.externals < 64 }
+        requires { length self.old.externals < MOST_NAMES }
         ensures { self.new ≡ with_external name self.old }
     {
         self.pools.add_external(name);
@@ -423,7 +423,7 @@ fn name_of(bytes: &[u8]) -> Name
 /// The line of the first function, by number, whose definition didn't begin.
 #[tactic(auto, using(crate::proofs::ScopeLaws::undefined_here))]
 fn line_of_undefined(lines: &[u32], begun: &[u8]) -> Option<u32>
-    requires { length lines.now ≤ 64 }
+    requires { length lines.now ≤ MOST_NAMES }
     ensures { result ≡ line_of_undefined 0 lines.now begun.now }
 {
     for (number, &line) in lines.iter().enumerate() {

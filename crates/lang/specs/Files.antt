@@ -2,7 +2,7 @@
 use Rattle.std.specs.Prelude.{ℕ, ◌+◌, ◌≡◌, ◌≤◌, List, [], ◌++◌, drop, map, Bool, IsTrue, Option, Some, Ok, Err}
 use Rattle.tokens.specs.Ends.{last_undecided_until}
 use Rattle.tokens.specs.Tokens.{tokens}
-use Rattle.parsing.specs.Advancing.{most_bytes}
+use Rattle.tokens.specs.Limits.{most_bytes, window_bytes}
 use Rattle.grammar.specs.declared.diagnostics.Diagnostic.{Diagnostic}
 use Rattle.grammar.specs.declared.diagnostics.ParseFault.{ParseFault}
 use Rattle.grammar.specs.declared.diagnostics.ParseFault.TheVariants as refusal
@@ -74,9 +74,9 @@ StaysUndecided before told to_come =
 -- what was taken where no file is answered: a window past what decides the source at most, and where the device failed,
 -- so few bytes that they may leave it open
 abbrev pub StopsTaking : Meaning → (told to_come : Option (List ℕ)) → ParseFault → Type 0
-StopsTaking before told to_come (refusal.Source d) = TakesNoMore before told to_come 4096
+StopsTaking before told to_come (refusal.Source d) = TakesNoMore before told to_come window_bytes
 StopsTaking before told to_come refusal.Device = StaysUndecided before told to_come
-StopsTaking before told to_come refusal.Memory = TakesNoMore before told to_come 4096
+StopsTaking before told to_come refusal.Memory = TakesNoMore before told to_come window_bytes
 
 -- From a device that tells its bytes so many were taken, and the builder stands for the actions of the functions that
 -- these decide for certain, and further ones.

@@ -1,6 +1,7 @@
 //! Files: one pass from a device's bytes to a builder, and the names of the file.
 
 ghost use Rattle.std.specs.Prelude.{◌≡◌, ◌-◌, ◌<◌, ◌^◌, ◌∷◌, [], IfErr, IfOk, OnOk, false, true};
+ghost use Rattle.tokens.specs.Limits.{window_bytes};
 ghost use Rattle.tokens.specs.declared.located_tokens.Token.TheVariants as token;
 ghost use Rattle.tokens.specs.declared.located_tokens.Word.TheVariants as word;
 ghost use Rattle.grammar.specs.Building.{StandsOpen};
@@ -41,7 +42,7 @@ pub fn parse<F: Feed, B: Build>(feed: &mut F, build: &mut B) -> Result<Pools, Pa
     ensures closed { OnOk result (StandsOpen (B.stands build.new) []) }
     ensures refused { IfErr result (λ fault.
         Says (FailsBytes (B.stands build.old) (F.to_come feed.old)) B.allocates fault) }
-    ensures taken { OnOk result (TakesNoMore (B.stands build.old) (F.to_come feed.old) (F.to_come feed.new) 4096) }
+    ensures taken { OnOk result (TakesNoMore (B.stands build.old) (F.to_come feed.old) (F.to_come feed.new) window_bytes) }
     ensures stopped { IfErr result (StopsTaking (B.stands build.old) (F.to_come feed.old) (F.to_come feed.new)) }
     ensures built { IfErr result (λ fault. ParseFault.Device ≡ fault →
         BuildsAhead (B.stands build.old) (B.stands build.new) (F.to_come feed.old) (F.to_come feed.new)) }

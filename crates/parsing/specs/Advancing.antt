@@ -1,5 +1,6 @@
 -- What each call of a parser needs and keeps. Every contract of the front end cites these facts.
 use Rattle.std.specs.Prelude.{ℕ, ◌-◌, ◌^◌, ◌≡◌, ◌<◌, ◌≤◌, false, Result, Ok, Err}
+use Rattle.tokens.specs.Limits.{most_bytes}
 use Rattle.tokens.specs.Reading.{IsNear, Reading, taken}
 use Rattle.tokens.specs.Window.{Takes}
 use Rattle.grammar.specs.declared.diagnostics.ParseFault.{ParseFault}
@@ -10,10 +11,6 @@ use Rattle.parsing.specs.Segment.{counted}
 -- how many failures of a device can be counted
 abbrev pub most_failures : ℕ
 most_failures = 2 ^ 64 - 1
-
--- the most bytes that are taken of a source: as many as it may have, and one that shows it to be too long
-abbrev pub most_bytes : ℕ
-most_bytes = 1048577
 
 -- A cursor that a parser can be made of: its next token is no lexical error, and no more bytes were taken than a window
 -- past the two tokens that it holds, and than the most.

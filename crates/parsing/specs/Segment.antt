@@ -2,6 +2,7 @@
 use Rattle.std.specs.Prelude.{ℕ, ◌+◌, ◌≡◌, ◌<◌, ◌≤◌, List, [], ◌∷◌, ◌++◌, drop, length, Bool, true, false, IsTrue}
 use Rattle.std.specs.Prelude.{Option, Some, None, Result, Ok, Err}
 use Rattle.std.specs.Option.{option_map}
+use Rattle.tokens.specs.Limits.{most_bytes}
 use Rattle.tokens.specs.Reading.{reach}
 use Rattle.tokens.specs.Tokens.{is_last, tokens}
 use Rattle.tokens.specs.declared.limits.TheConstants.{WINDOW}
@@ -109,7 +110,7 @@ Refused stops allocates taken refusal.Memory = IsTrue allocates × stops (stop_w
 pub record StopsAtFirst (told told' : Option (List ℕ)) (fault : ParseFault) : Type 0 where
   pub taken : ℕ
   pub took : (bytes : List ℕ) → told ≡ Some bytes → told' ≡ Some (drop taken bytes)
-  pub limited : taken ≤ 1048577
+  pub limited : taken ≤ most_bytes
   pub refused : Refused (StopsFirst (option_map tokens told)) false taken fault
 
 -- failures of a device, before and behind: one more where it is the device that is answered

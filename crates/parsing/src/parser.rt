@@ -14,7 +14,8 @@ ghost use Rattle.grammar.specs.Naming.{Knows, RefusesName, line_of_undefined};
 ghost use Rattle.grammar.specs.Resolved.{IsCallable, IsVariable};
 ghost use Rattle.grammar.specs.Scope.{end_definition, function_number, no_names};
 ghost use Rattle.grammar.specs.Tree.{NoMore};
-ghost use Rattle.parsing.specs.Advancing.{IsReadable, most_failures, most_bytes};
+ghost use Rattle.parsing.specs.Advancing.{IsReadable, most_failures};
+ghost use Rattle.tokens.specs.Limits.{most_bytes};
 ghost use Rattle.parsing.specs.Position.{with_scope};
 ghost use Rattle.parsing.specs.Roles.{role_of};
 ghost use Rattle.parsing.specs.Segment.{Counts, StopsAtFirst};
@@ -44,7 +45,7 @@ impl<'a, F: Feed> Model for Parser<'a, F> {
     ghost use Rattle.tokens.specs.Reading.{beyond, taken};
     ghost use Rattle.tokens.specs.Window.{KnowsEnd};
     ghost use Rattle.grammar.specs.Grammar.{is_fault};
-    ghost use Rattle.parsing.specs.Advancing.{most_bytes};
+    ghost use Rattle.tokens.specs.Limits.{most_bytes};
     ghost use Rattle.parsing.specs.Position.{Standing, place};
 
     ghost Value = { Standing };

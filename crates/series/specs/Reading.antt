@@ -1,5 +1,6 @@
 -- How much of the source files a run reads.
 use Rattle.std.specs.Prelude.{◌≡◌, ℕ, ◌+◌, ◌<◌, List, Option, Some, None, Result, MatchResult, drop, get_or, length}
+use Rattle.tokens.specs.Limits.{window_bytes}
 use Rattle.grammar.specs.Profile.{Profile}
 use Rattle.lang.specs.Files.{LeavesUndecided, TakesUpTo}
 use Rattle.series.specs.declared.endings.RunFault.{RunFault}
@@ -16,7 +17,7 @@ MayLeaveUndecided profile told later = (bytes : List ℕ) → told ≡ Some byte
 -- of each of the first files a window of 4,096 bytes at most was taken past what decides it
 abbrev pub TakesOfFirst : Profile → (told later : List (Option (List ℕ))) → ℕ → Type 0
 TakesOfFirst profile told later count = (file : ℕ) → file < count
-    → TakesOf profile (get_or told file None) (get_or later file None) 4096
+    → TakesOf profile (get_or told file None) (get_or later file None) window_bytes
 
 -- so many files were read, and the others not
 pub record ReadsFirst (profile : Profile) (told later : List (Option (List ℕ))) (count : ℕ) : Type 0 where

@@ -1,6 +1,7 @@
 //! Files are compiled, and the programs of all are kept.
 
 ghost use Rattle.std.specs.Prelude.{◌≡◌, ℕ, ◌+◌, ◌-◌, ◌^◌, ◌<◌, ◌≤◌, List, [], Some, false, length, map, All, IfOk, OnOk, OnErr};
+ghost use Rattle.tokens.specs.Limits.{window_bytes};
 ghost use Rattle.tokens.specs.Feed.{Counts};
 ghost use Rattle.series.specs.Compiling.{Source, compiled_code, pieces_of};
 ghost use Rattle.series.specs.Failures.{Accounts, CountsSinks, failures};
@@ -100,7 +101,7 @@ fn compile_file<F: Feed, O: Sink, E: Sink>(
     ensures quiet { OnErr result ((out.new ≡ out.old) × (err.new ≡ err.old)) }
     ensures failures { IfOk result (λ put. CountsSinks put (O.failures out.old) (E.failures err.old)
         (O.failures out.new) (E.failures err.new)) }
-    ensures taken { OnOk result (TakesOf profile (F.to_come feed.old) (F.to_come feed.new) 4096) }
+    ensures taken { OnOk result (TakesOf profile (F.to_come feed.old) (F.to_come feed.new) window_bytes) }
     ensures stopped { OnErr result (MayLeaveUndecided profile (F.to_come feed.old) (F.to_come feed.new)) }
     ensures count { Counts result (F.failures feed.old) (F.failures feed.new) }
 {

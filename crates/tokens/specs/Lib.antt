@@ -7,6 +7,7 @@ pub mod Words
 pub mod Punctuators
 pub mod Front
 pub mod Tokens
+pub mod Limits
 pub mod Window
 pub mod Lexing
 pub mod Ends

@@ -1,6 +1,7 @@
 -- What a cursor stands for: the next token, the one behind it, and what was read behind that.
 use Rattle.std.specs.Prelude.{ℕ, ◌+◌, ◌-◌, ◌≤◌, List, [], ◌∷◌, Option, if◌then◌else◌}
 use Rattle.std.specs.Option.{option_map}
+use Rattle.tokens.specs.Limits.{source_bytes, window_bytes}
 use Rattle.tokens.specs.Tokens.{is_last, located_tokens, followed_by}
 use Rattle.tokens.specs.Ends.{undecided_until}
 use Rattle.tokens.specs.Window.{Held, ahead}
@@ -25,7 +26,7 @@ shown reading told = option_map (λ to_come. followed_by reading.next
 unfoldable pub remaining : Reading → ℕ
 remaining reading =
     if is_last reading.next.token then 0
-    else (if is_last reading.after.token then 1 else 2 + (1048576 - reading.behind.place))
+    else (if is_last reading.after.token then 1 else 2 + (source_bytes - reading.behind.place))
 
 -- how many bytes were taken from the device so far
 abbrev pub taken : Reading → ℕ
@@ -41,7 +42,7 @@ reach reading = if is_last reading.next.token then reading.next.end else reading
 
 -- no more was taken than a window behind these
 abbrev pub IsNear : Reading → Type 0
-IsNear reading = taken reading ≤ reach reading + 4096
+IsNear reading = taken reading ≤ reach reading + window_bytes
 
 -- where the second of these tokens ends, or the first, where it is the last
 abbrev pub reach_of : List LocatedToken → ℕ

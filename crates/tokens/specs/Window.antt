@@ -2,6 +2,7 @@
 use Rattle.std.specs.Prelude.{◌≡◌, ◌≢◌, ℕ, zero, suc, ◌+◌, ◌-◌, ◌<◌, ◌≤◌, Bool, true, false, not, List, [], ◌∷◌, ◌++◌, length, take, drop, Option, nat_lt, ◌==◌}
 use Rattle.std.specs.List.{prefix_len}
 use Rattle.std.specs.Option.{option_map}
+use Rattle.tokens.specs.Limits.{most_bytes, source_bytes, window_bytes}
 use Rattle.tokens.specs.Characters.{is_blank}
 use Rattle.tokens.specs.Source.{source}
 use Rattle.tokens.specs.Tokens.{Ahead, line_behind}
@@ -19,13 +20,13 @@ pub record Held : Type 0 where
 
 -- the bytes behind those at hand, up to the limit, by the device's bytes to come
 abbrev pub later : Beyond → ℕ → List ℕ → List ℕ
-later Unread taken to_come = take (1048576 - taken) (source to_come)
+later Unread taken to_come = take (source_bytes - taken) (source to_come)
 later Nothing taken to_come = []
 later TooMuch taken to_come = []
 
 -- whether the source goes on behind the limit
 abbrev pub goes_on : Beyond → ℕ → List ℕ → Bool
-goes_on Unread taken to_come = nat_lt (1048576 - taken) (length (source to_come))
+goes_on Unread taken to_come = nat_lt (source_bytes - taken) (length (source to_come))
 goes_on Nothing taken to_come = false
 goes_on TooMuch taken to_come = true
 
@@ -91,12 +92,12 @@ KnowsEnd beyond ended = beyond ≡ Unread → ended ≡ false
 -- how the fields of a window go together
 pub record IsWindow (next filled start taken line : ℕ) (beyond : Beyond) : Type 0 where
   pub ordered : next ≤ filled
-  pub fits : filled ≤ 4096
-  pub within : start + filled ≤ 1048576
+  pub fits : filled ≤ window_bytes
+  pub within : start + filled ≤ source_bytes
   pub lines : line ≤ start + next + 1
   pub all_taken : beyond ≡ Unread → start + filled ≡ taken
-  pub bounded : taken ≤ 1048577
-  pub near : taken ≤ start + 4096
+  pub bounded : taken ≤ most_bytes
+  pub near : taken ≤ start + window_bytes
 
 -- what a device has still to give is all but the bytes taken, of which there were so many before and are so many now
 pub record Takes (before now : ℕ) (told told' : Option (List ℕ)) : Type 0 where

@@ -2,6 +2,7 @@
 
 ghost use Rattle.std.specs.Prelude.{◌≡◌, ◌-◌, ◌^◌, ◌<◌, ◌≤◌, ◌∷◌, ℕ, List, Some, drop, false, IfOk, OnOk, OnErr};
 ghost use Rattle.std.specs.Option.{option_map};
+ghost use Rattle.tokens.specs.Limits.{most_bytes};
 ghost use Rattle.tokens.specs.Feed.{Counts};
 ghost use Rattle.tokens.specs.Tokens.{FitsToken, tokens, is_last};
 ghost use Rattle.tokens.specs.Window.{KnowsEnd, Takes};
@@ -47,7 +48,7 @@ impl Cursor {
         ensures took { IfOk result (λ cursor. F.to_come feed.new
             ≡ option_map (drop (taken cursor)) (F.to_come feed.old)) }
         ensures near { IfOk result IsNear }
-        ensures limited { IfOk result (λ cursor. taken cursor ≤ 1048577) }
+        ensures limited { IfOk result (λ cursor. taken cursor ≤ most_bytes) }
         ensures stopped { OnErr result ((bytes : List ℕ) → F.to_come feed.old ≡ Some bytes →
             (count : ℕ) × (F.to_come feed.new ≡ Some (drop count bytes)) × (count ≤ undecided_reach_of (tokens bytes))) }
 
@@ -99,7 +100,7 @@ impl Cursor {
         // The bytes taken since the cursor was opened, as of `open`.
         ensures took { Takes (taken self.old) (taken self.new) (F.to_come feed.old) (F.to_come feed.new) }
         ensures near { OnOk result (IsNear self.old → IsNear self.new) }
-        ensures limited { taken self.old ≤ 1048577 → taken self.new ≤ 1048577 }
+        ensures limited { taken self.old ≤ most_bytes → taken self.new ≤ most_bytes }
         ensures stopped { OnErr result ((next : LocatedToken) (others : List LocatedToken)
             → shown self.old (F.to_come feed.old) ≡ Some (next ∷ others) →
             taken self.new ≤ undecided_reach_of others) }

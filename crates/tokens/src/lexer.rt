@@ -1,6 +1,7 @@
 //! The tokens of a source that is read through a window.
 
 ghost use Rattle.std.specs.Prelude.{◌≡◌, ◌≢◌, ◌∷◌, [], ◌+◌, ◌-◌, ◌^◌, ◌<◌, ◌≤◌, ℕ, List, Some, true, false, slice_get, IfOk, IfSome, OnOk, OnErr};
+ghost use Rattle.tokens.specs.Limits.{most_bytes, source_bytes, window_bytes};
 ghost use Rattle.tokens.specs.Characters.{is_digit, is_blank};
 ghost use Rattle.tokens.specs.Feed.{Counts};
 ghost use Rattle.tokens.specs.Front.{name_token};
@@ -32,9 +33,9 @@ impl Window {
         ensures stopped { OnErr result (StopsWithin located_tokens self.old self.new (F.to_come feed.old)) }
         ensures reached { OnOk result (self.new.place ≤ here.new.end) }
         ensures took { Takes self.old.taken self.new.taken (F.to_come feed.old) (F.to_come feed.new) }
-        ensures near { self.new.taken ≤ self.new.place + 4096 }
-        ensures limited { self.new.taken ≤ 1048577 }
-        ensures within { self.new.place ≤ 1048576 }
+        ensures near { self.new.taken ≤ self.new.place + window_bytes }
+        ensures limited { self.new.taken ≤ most_bytes }
+        ensures within { self.new.place ≤ source_bytes }
         ensures fits { OnOk result (FitsToken here.new.token) }
         ensures unread { OnErr result (here.new ≡ here.old) }
         ensures count { Counts result (F.failures feed.old) (F.failures feed.new) }
@@ -58,9 +59,9 @@ impl Window {
         ensures stopped { OnErr result (StopsWithin located_tokens self.old self.new (F.to_come feed.old)) }
         ensures reached { OnOk result (self.new.place ≤ here.new.end) }
         ensures took { Takes self.old.taken self.new.taken (F.to_come feed.old) (F.to_come feed.new) }
-        ensures near { self.new.taken ≤ self.new.place + 4096 }
-        ensures limited { self.new.taken ≤ 1048577 }
-        ensures within { self.new.place ≤ 1048576 }
+        ensures near { self.new.taken ≤ self.new.place + window_bytes }
+        ensures limited { self.new.taken ≤ most_bytes }
+        ensures within { self.new.place ≤ source_bytes }
         ensures fits { OnOk result (FitsToken here.new.token) }
         ensures unread { OnErr result (here.new ≡ here.old) }
         ensures count { Counts result (F.failures feed.old) (F.failures feed.new) }
@@ -95,9 +96,9 @@ impl Window {
         ensures forward { self.old.place ≤ self.new.place }
         ensures stopped { OnErr result (StopsWithin located_tokens self.old self.new (F.to_come feed.old)) }
         ensures took { Takes self.old.taken self.new.taken (F.to_come feed.old) (F.to_come feed.new) }
-        ensures near { self.new.taken ≤ self.new.place + 4096 }
-        ensures limited { self.new.taken ≤ 1048577 }
-        ensures within { self.new.place ≤ 1048576 }
+        ensures near { self.new.taken ≤ self.new.place + window_bytes }
+        ensures limited { self.new.taken ≤ most_bytes }
+        ensures within { self.new.place ≤ source_bytes }
         ensures count { Counts result (F.failures feed.old) (F.failures feed.new) }
         ensures known { KnowsEnd self.new.beyond (F.ended feed.new) }
     {
@@ -123,9 +124,9 @@ impl Window {
         ensures stopped { OnErr result (StopsWithin located_tokens self.old self.new (F.to_come feed.old)) }
         ensures reached { IfOk result (λ found. found ≡ true → self.new.place ≤ here.new.end) }
         ensures took { Takes self.old.taken self.new.taken (F.to_come feed.old) (F.to_come feed.new) }
-        ensures near { self.new.taken ≤ self.new.place + 4096 }
-        ensures limited { self.new.taken ≤ 1048577 }
-        ensures within { self.new.place ≤ 1048576 }
+        ensures near { self.new.taken ≤ self.new.place + window_bytes }
+        ensures limited { self.new.taken ≤ most_bytes }
+        ensures within { self.new.place ≤ source_bytes }
         ensures fits { IfOk result (λ found. found ≡ true → FitsToken here.new.token) }
         ensures unread { IfOk result (λ found. found ≡ false → here.new ≡ here.old) }
         ensures failed { OnErr result (here.new ≡ here.old) }
@@ -159,9 +160,9 @@ impl Window {
         ensures stopped { OnErr result ((line : ℕ)
             → StopsWithin (in_comment line) self.old self.new (F.to_come feed.old)) }
         ensures took { Takes self.old.taken self.new.taken (F.to_come feed.old) (F.to_come feed.new) }
-        ensures near { self.new.taken ≤ self.new.place + 4096 }
-        ensures limited { self.new.taken ≤ 1048577 }
-        ensures within { self.new.place ≤ 1048576 }
+        ensures near { self.new.taken ≤ self.new.place + window_bytes }
+        ensures limited { self.new.taken ≤ most_bytes }
+        ensures within { self.new.place ≤ source_bytes }
         ensures count { Counts result (F.failures feed.old) (F.failures feed.new) }
         ensures known { KnowsEnd self.new.beyond (F.ended feed.new) }
     {
@@ -200,9 +201,9 @@ impl Window {
         ensures stopped { OnErr result (StopsWithin located_tokens self.old self.new (F.to_come feed.old)) }
         ensures reached { OnOk result (self.new.place ≤ here.new.end) }
         ensures took { Takes self.old.taken self.new.taken (F.to_come feed.old) (F.to_come feed.new) }
-        ensures near { self.new.taken ≤ self.new.place + 4096 }
-        ensures limited { self.new.taken ≤ 1048577 }
-        ensures within { self.new.place ≤ 1048576 }
+        ensures near { self.new.taken ≤ self.new.place + window_bytes }
+        ensures limited { self.new.taken ≤ most_bytes }
+        ensures within { self.new.place ≤ source_bytes }
         ensures fits { OnOk result (FitsToken here.new.token) }
         ensures unread { OnErr result (here.new ≡ here.old) }
         ensures count { Counts result (F.failures feed.old) (F.failures feed.new) }
@@ -242,9 +243,9 @@ impl Window {
             (F.to_come feed.old)) }
         ensures reached { OnOk result (self.new.place ≤ here.new.end) }
         ensures took { Takes self.old.taken self.new.taken (F.to_come feed.old) (F.to_come feed.new) }
-        ensures near { self.new.taken ≤ self.new.place + 4096 }
-        ensures limited { self.new.taken ≤ 1048577 }
-        ensures within { self.new.place ≤ 1048576 }
+        ensures near { self.new.taken ≤ self.new.place + window_bytes }
+        ensures limited { self.new.taken ≤ most_bytes }
+        ensures within { self.new.place ≤ source_bytes }
         ensures fits { OnOk result (FitsToken here.new.token) }
         ensures unread { OnErr result (here.new ≡ here.old) }
         ensures count { Counts result (F.failures feed.old) (F.failures feed.new) }
@@ -276,9 +277,9 @@ impl Window {
             (F.to_come feed.old)) }
         ensures reached { OnOk result (self.new.place ≤ here.new.end) }
         ensures took { Takes self.old.taken self.new.taken (F.to_come feed.old) (F.to_come feed.new) }
-        ensures near { self.new.taken ≤ self.new.place + 4096 }
-        ensures limited { self.new.taken ≤ 1048577 }
-        ensures within { self.new.place ≤ 1048576 }
+        ensures near { self.new.taken ≤ self.new.place + window_bytes }
+        ensures limited { self.new.taken ≤ most_bytes }
+        ensures within { self.new.place ≤ source_bytes }
         ensures fits { OnOk result (FitsToken here.new.token) }
         ensures unread { OnErr result (here.new ≡ here.old) }
         ensures count { Counts result (F.failures feed.old) (F.failures feed.new) }
@@ -322,9 +323,9 @@ impl Window {
         ensures stopped { OnErr result (StopsWithin (in_constant (first - 48)) self.old self.new (F.to_come feed.old)) }
         ensures reached { OnOk result (self.new.place ≤ here.new.end) }
         ensures took { Takes self.old.taken self.new.taken (F.to_come feed.old) (F.to_come feed.new) }
-        ensures near { self.new.taken ≤ self.new.place + 4096 }
-        ensures limited { self.new.taken ≤ 1048577 }
-        ensures within { self.new.place ≤ 1048576 }
+        ensures near { self.new.taken ≤ self.new.place + window_bytes }
+        ensures limited { self.new.taken ≤ most_bytes }
+        ensures within { self.new.place ≤ source_bytes }
         ensures fits { OnOk result (FitsToken here.new.token) }
         ensures unread { OnErr result (here.new ≡ here.old) }
         ensures count { Counts result (F.failures feed.old) (F.failures feed.new) }
@@ -355,9 +356,9 @@ impl Window {
         ensures stopped { OnErr result (StopsWithin (in_constant (first - 48)) self.old self.new (F.to_come feed.old)) }
         ensures reached { OnOk result (self.new.place ≤ here.new.end) }
         ensures took { Takes self.old.taken self.new.taken (F.to_come feed.old) (F.to_come feed.new) }
-        ensures near { self.new.taken ≤ self.new.place + 4096 }
-        ensures limited { self.new.taken ≤ 1048577 }
-        ensures within { self.new.place ≤ 1048576 }
+        ensures near { self.new.taken ≤ self.new.place + window_bytes }
+        ensures limited { self.new.taken ≤ most_bytes }
+        ensures within { self.new.place ≤ source_bytes }
         ensures fits { OnOk result (FitsToken here.new.token) }
         ensures unread { OnErr result (here.new ≡ here.old) }
         ensures count { Counts result (F.failures feed.old) (F.failures feed.new) }
@@ -394,9 +395,9 @@ impl Window {
         ensures stopped { OnErr result (StopsWithin (in_punctuator punctuator) self.old self.new (F.to_come feed.old)) }
         ensures reached { OnOk result (self.new.place ≤ here.new.end) }
         ensures took { Takes self.old.taken self.new.taken (F.to_come feed.old) (F.to_come feed.new) }
-        ensures near { self.new.taken ≤ self.new.place + 4096 }
-        ensures limited { self.new.taken ≤ 1048577 }
-        ensures within { self.new.place ≤ 1048576 }
+        ensures near { self.new.taken ≤ self.new.place + window_bytes }
+        ensures limited { self.new.taken ≤ most_bytes }
+        ensures within { self.new.place ≤ source_bytes }
         ensures fits { OnOk result (FitsToken here.new.token) }
         ensures unread { OnErr result (here.new ≡ here.old) }
         ensures count { Counts result (F.failures feed.old) (F.failures feed.new) }

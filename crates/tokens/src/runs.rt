@@ -3,6 +3,7 @@
 ghost use Rattle.std.specs.Prelude.{◌≡◌, ℕ, ◌≤◌, Bool, not, ◌==◌, length, map, take};
 ghost use Rattle.std.specs.List.{prefix_len, count_by};
 ghost use Rattle.std.specs.Simd.Lanes.{mask_l};
+ghost use Rattle.tokens.specs.Limits.{window_bytes};
 ghost use Rattle.tokens.specs.Characters.{is_blank};
 
 use crate::characters::is_blank;
@@ -86,7 +87,7 @@ impl Stop for Ink {
 
 /// How many bytes there are before the first of this kind, and how many of them end a line.
 pub fn run_before<S: Stop>(bytes: &[u8]) -> (usize, u32)
-    requires { length bytes.now ≤ 4096 }
+    requires { length bytes.now ≤ window_bytes }
     ensures count { result.0 ≡ prefix_len (λ b. not (S.stops b)) bytes.now }
     ensures lines { result.1 ≡ count_by (λ b. b == 10) (take result.0 bytes.now) }
 {
@@ -124,7 +125,7 @@ fn run_in_block<S: Stop>(block: u8x32) -> (usize, u32)
 
 /// The same, a byte at a time.
 fn run_by_one<S: Stop>(bytes: &[u8]) -> (usize, u32)
-    requires { length bytes.now ≤ 4096 }
+    requires { length bytes.now ≤ window_bytes }
     ensures count { result.0 ≡ prefix_len (λ b. not (S.stops b)) bytes.now }
     ensures lines { result.1 ≡ count_by (λ b. b == 10) (take result.0 bytes.now) }
 {

@@ -2,6 +2,7 @@
 
 ghost use Rattle.std.specs.Prelude.{◌≡◌, ◌≢◌, ℕ, ◌+◌, ◌-◌, ◌^◌, ◌<◌, ◌≤◌, List, [], ◌==◌, length, take, slice_get, OnOk, OnErr, IfOk};
 ghost use Rattle.std.specs.List.{count_by};
+ghost use Rattle.tokens.specs.Limits.{most_bytes, source_bytes, window_bytes};
 ghost use Rattle.tokens.specs.Source.{source};
 ghost use Rattle.tokens.specs.Feed.{Counts};
 ghost use Rattle.tokens.specs.Window.{seen, untouched, behind, behind_first, behind_blanks, behind_plain, Cuts, IsAtSamePlace, IsAtHandOrEnd, KnowsEnd, Takes};
@@ -78,7 +79,7 @@ impl Window {
     /// How many bytes of the source stand before the next one.
     pub fn place(&self) -> u32
         ensures value { result ≡ self.now.place }
-        ensures within { result ≤ 1048576 }
+        ensures within { result ≤ source_bytes }
     {
         self.start + self.next as u32
     }
@@ -101,9 +102,9 @@ impl Window {
         ensures place { IsAtSamePlace self.old self.new }
         ensures took { Takes self.old.taken self.new.taken (F.to_come feed.old) (F.to_come feed.new) }
         ensures failed { OnErr result (self.new.taken ≡ self.new.place) }
-        ensures within { self.new.place ≤ 1048576 }
-        ensures near { self.new.taken ≤ self.new.place + 4096 }
-        ensures limited { self.new.taken ≤ 1048577 }
+        ensures within { self.new.place ≤ source_bytes }
+        ensures near { self.new.taken ≤ self.new.place + window_bytes }
+        ensures limited { self.new.taken ≤ most_bytes }
         ensures count { Counts result (F.failures feed.old) (F.failures feed.new) }
         ensures known { KnowsEnd self.new.beyond (F.ended feed.new) }
     {
@@ -122,9 +123,9 @@ impl Window {
         ensures forward { self.new.place ≡ self.old.place + 1 }
         ensures kept { self.new.taken ≡ self.old.taken }
         ensures beyond { self.new.beyond ≡ self.old.beyond }
-        ensures within { self.new.place ≤ 1048576 }
-        ensures near { self.new.taken ≤ self.new.place + 4096 }
-        ensures limited { self.new.taken ≤ 1048577 }
+        ensures within { self.new.place ≤ source_bytes }
+        ensures near { self.new.taken ≤ self.new.place + window_bytes }
+        ensures limited { self.new.taken ≤ most_bytes }
     {
         if self.bytes[self.next] == LINE_FEED {
             self.line += 1;
@@ -136,7 +137,7 @@ impl Window {
     #[inline(always)]
     pub fn at_hand(&self) -> &[u8]
         ensures value { result.now ≡ self.now.at_hand }
-        ensures few { length result.now ≤ 4096 }
+        ensures few { length result.now ≤ window_bytes }
     {
         &self.bytes[self.next..self.filled]
     }
@@ -150,9 +151,9 @@ impl Window {
         ensures forward { self.new.place ≡ self.old.place + count }
         ensures kept { self.new.taken ≡ self.old.taken }
         ensures beyond { self.new.beyond ≡ self.old.beyond }
-        ensures within { self.new.place ≤ 1048576 }
-        ensures near { self.new.taken ≤ self.new.place + 4096 }
-        ensures limited { self.new.taken ≤ 1048577 }
+        ensures within { self.new.place ≤ source_bytes }
+        ensures near { self.new.taken ≤ self.new.place + window_bytes }
+        ensures limited { self.new.taken ≤ most_bytes }
     {
         self.next += count;
     }
@@ -163,9 +164,9 @@ impl Window {
         ensures forward { self.old.place ≤ self.new.place }
         ensures kept { self.new.taken ≡ self.old.taken }
         ensures beyond { self.new.beyond ≡ self.old.beyond }
-        ensures within { self.new.place ≤ 1048576 }
-        ensures near { self.new.taken ≤ self.new.place + 4096 }
-        ensures limited { self.new.taken ≤ 1048577 }
+        ensures within { self.new.place ≤ source_bytes }
+        ensures near { self.new.taken ≤ self.new.place + window_bytes }
+        ensures limited { self.new.taken ≤ most_bytes }
     {
         let (count, lines) = run_before::<Star>(&self.bytes[self.next..self.filled]);
         self.next += count;
@@ -178,9 +179,9 @@ impl Window {
         ensures forward { self.old.place ≤ self.new.place }
         ensures kept { self.new.taken ≡ self.old.taken }
         ensures beyond { self.new.beyond ≡ self.old.beyond }
-        ensures within { self.new.place ≤ 1048576 }
-        ensures near { self.new.taken ≤ self.new.place + 4096 }
-        ensures limited { self.new.taken ≤ 1048577 }
+        ensures within { self.new.place ≤ source_bytes }
+        ensures near { self.new.taken ≤ self.new.place + window_bytes }
+        ensures limited { self.new.taken ≤ most_bytes }
     {
         // Most blanks stand alone.
         match self.first() {
@@ -214,8 +215,8 @@ impl Window {
         ensures place { IsAtSamePlace self.old self.new }
         ensures took { Takes self.old.taken self.new.taken (F.to_come feed.old) (F.to_come feed.new) }
         ensures failed { OnErr result (self.new.taken ≡ self.new.place) }
-        ensures near { self.new.taken ≤ self.new.place + 4096 }
-        ensures limited { self.new.taken ≤ 1048577 }
+        ensures near { self.new.taken ≤ self.new.place + window_bytes }
+        ensures limited { self.new.taken ≤ most_bytes }
         ensures count { Counts result (F.failures feed.old) (F.failures feed.new) }
         ensures known { KnowsEnd self.new.beyond (F.ended feed.new) }
     {
@@ -239,7 +240,7 @@ impl Window {
 #[tactic(auto, using(crate::proofs::SourceLemmas::cutting))]
 fn cut(bytes: &[u8], room: usize) -> (usize, Beyond)
     requires room { length bytes.now ≤ room + 1 }
-    requires few { length bytes.now ≤ 4096 }
+    requires few { length bytes.now ≤ window_bytes }
     ensures { Cuts bytes.now room result.0 result.1 }
 {
     let length = source_len(bytes);
@@ -257,7 +258,7 @@ fn cut(bytes: &[u8], room: usize) -> (usize, Beyond)
 /// How many bytes there are before the first that ends a source.
 #[tactic(auto, using(crate::proofs::RunLemmas::ends_source))]
 fn source_len(bytes: &[u8]) -> usize
-    requires { length bytes.now ≤ 4096 }
+    requires { length bytes.now ≤ window_bytes }
     ensures { result ≡ length (source bytes.now) }
 {
     run_before::<End>(bytes).0

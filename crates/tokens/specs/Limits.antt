@@ -1,0 +1,14 @@
+-- How much of a source is read.
+use Rattle.std.specs.Prelude.{ℕ}
+
+-- the bytes of the window through which a source is read
+abbrev pub window_bytes : ℕ
+window_bytes = 4096
+
+-- the most bytes of a source
+abbrev pub source_bytes : ℕ
+source_bytes = 1048576
+
+-- the most bytes that are taken of a source: as many as it may have, and one that shows it to be too long
+abbrev pub most_bytes : ℕ
+most_bytes = 1048577
