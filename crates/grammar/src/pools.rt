@@ -25,7 +25,7 @@ impl Model for Function {
 
     ghost view = { λ f. record { name = f.name; parameters = f.parameters; variables = f.variables.items } };
 
-    ghost invariant = { λ f. (f.parameters ≤ length f.variables.items) × (f.parameters ≤ MOST_NAMES) };
+    ghost invariant = { λ f. (f.parameters ≤ length f.variables.items) × (f.parameters ≤ 64) };
 }
 
 impl Default for Function {
@@ -135,7 +135,7 @@ impl Model for Pools {
 
     ghost view = { λ p. record { externals = p.externals.items; functions = take p.count p.functions } };
 
-    ghost invariant = { λ p. p.count ≤ MOST_NAMES };
+    ghost invariant = { λ p. p.count ≤ 64 };
 }
 
 impl Pools {
