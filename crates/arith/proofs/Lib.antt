@@ -8,3 +8,4 @@ pub mod BearingLemmas
 pub mod LaneLemmas
 mod Turning
 mod Arcs
+mod Reached

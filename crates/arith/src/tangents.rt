@@ -34,13 +34,23 @@ pub fn atan(ratio: i32) -> i32
     if ratio < 0 { -degrees } else { degrees }
 }
 
-/// How many of the degrees from 1 to 90 begin at a number or before it.
-#[tactic(auto, unfolding(crate::specs::Arctangent::degrees_reached))]
+/// Counts the degrees from 1 to 90 that begin at a number or before it. Each begins after the one
+/// before it, so a binary search finds the last of them.
 fn degrees_reached(size: u32) -> i32
     ensures value { result ≡ pos (degrees_reached size) }
     ensures within_quarter { unsigned_abs result ≤ 90 }
 {
-    (1..91).filter(|degree| bound(*degree) <= size).count() as i32
+    let mut reached = 0u16;
+    let mut missed = 91u16;
+    'halves: while reached + 1 < missed {
+        let middle = (reached + missed) / 2;
+        if bound(middle) <= size {
+            reached = middle;
+        } else {
+            missed = middle;
+        }
+    }
+    i32::from(reached)
 }
 
 /// Where a degree from 1 to 90 begins: half way between the tangent before it and its own.
