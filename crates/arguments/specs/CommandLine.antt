@@ -20,6 +20,7 @@ files_rule id = record (new_rule id) { action = Some Append; required = true }
 unfoldable pub robots : App
 robots = on_top (λ top. record top {
   no_binary_name = true;
-  rules = flag_rule (codes "c") 99 ∷ option_rule (codes "m") 109 ∷ option_rule (codes "l") 108 ∷ option_rule (codes "s") 115
-      ∷ option_rule (codes "p") 112 ∷ option_rule (codes "f") 102 ∷ files_rule (codes "FILE") ∷ [];
+  rules = flag_rule (codes "c") 99 ∷ option_rule (codes "m") 109 ∷ option_rule (codes "l") 108
+      ∷ option_rule (codes "s") 115 ∷ option_rule (codes "p") 112 ∷ option_rule (codes "f") 102
+      ∷ files_rule (codes "FILE") ∷ [];
 }) (new_app (codes "crobots"))

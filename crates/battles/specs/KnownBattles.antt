@@ -66,16 +66,24 @@ pub record KnownBattles : Type 0 where
   pub damages : map (λ n. damages_of 2 (shooting_stage n).field) (15 ∷ 30 ∷ 45 ∷ 60 ∷ 75 ∷ 90 ∷ [])
       ≡ (20 ∷ 20 ∷ []) ∷ (30 ∷ 30 ∷ []) ∷ (50 ∷ 50 ∷ []) ∷ (70 ∷ 70 ∷ []) ∷ (80 ∷ 80 ∷ []) ∷ (100 ∷ 100 ∷ []) ∷ []
   pub stopped_before : Fights first_profile (shooting ∷ []) (shooting_file ∷ []) 89 (after 89 (80 ∷ 80 ∷ []))
-  pub one_survives : Fights first_profile (shooting ∷ codes "main(){while(1);}" ∷ []) (shooting_file ∷ idle_file ∷ []) 500000 (after 90 (100 ∷ 0 ∷ []))
-  pub both_sides : Fights first_profile (codes "main(){0 && cannon(0,0);}" ∷ []) (beside_shot op.And 0 ∷ []) 15 (after 15 (20 ∷ 20 ∷ []))
-  pub late_read : Fights first_profile (codes "int x; f(){x=1;return 1;} main(){x+=f(); if(x==2) cannon(0,0); while(1);}" ∷ []) (late_read_file ∷ [])
-      30 (after 30 (10 ∷ 10 ∷ []))
-  pub restart : Fights first_profile (codes "int n; main(){n=n+1; if(n==2) cannon(0,0);}" ∷ []) (counting_file ∷ []) 30 (after 30 (0 ∷ 0 ∷ []))
+  pub one_survives : Fights first_profile (shooting ∷ codes "main(){while(1);}" ∷ [])
+      (shooting_file ∷ idle_file ∷ []) 500000 (after 90 (100 ∷ 0 ∷ []))
+  pub both_sides : Fights first_profile (codes "main(){0 && cannon(0,0);}" ∷ [])
+      (beside_shot op.And 0 ∷ []) 15 (after 15 (20 ∷ 20 ∷ []))
+  pub late_read : Fights first_profile
+      (codes "int x; f(){x=1;return 1;} main(){x+=f(); if(x==2) cannon(0,0); while(1);}" ∷ [])
+      (late_read_file ∷ []) 30 (after 30 (10 ∷ 10 ∷ []))
+  pub restart : Fights first_profile (codes "int n; main(){n=n+1; if(n==2) cannon(0,0);}" ∷ [])
+      (counting_file ∷ []) 30 (after 30 (0 ∷ 0 ∷ []))
 
 -- The second profile leaves out the right side of && and || if the left side decides.
 pub record KnownShortBattles : Type 0 where
-  pub left_out : Fights second_profile (codes "main(){0 && cannon(0,0);}" ∷ []) (beside_shot op.And 0 ∷ []) 15 (after 15 (0 ∷ 0 ∷ []))
-  pub taken : Fights second_profile (codes "main(){0 || cannon(0,0);}" ∷ []) (beside_shot op.Or 0 ∷ []) 15 (after 15 (10 ∷ 10 ∷ []))
-  pub decided : Fights second_profile (codes "main(){1 || cannon(0,0);}" ∷ []) (beside_shot op.Or 1 ∷ []) 15 (after 15 (0 ∷ 0 ∷ []))
-  pub truth : Fights second_profile (codes "main(){if((2&&3)==1) cannon(0,0); while(1);}" ∷ []) (truth_file ∷ []) 30 (after 30 (10 ∷ 10 ∷ []))
+  pub left_out : Fights second_profile (codes "main(){0 && cannon(0,0);}" ∷ [])
+      (beside_shot op.And 0 ∷ []) 15 (after 15 (0 ∷ 0 ∷ []))
+  pub taken : Fights second_profile (codes "main(){0 || cannon(0,0);}" ∷ [])
+      (beside_shot op.Or 0 ∷ []) 15 (after 15 (10 ∷ 10 ∷ []))
+  pub decided : Fights second_profile (codes "main(){1 || cannon(0,0);}" ∷ [])
+      (beside_shot op.Or 1 ∷ []) 15 (after 15 (0 ∷ 0 ∷ []))
+  pub truth : Fights second_profile (codes "main(){if((2&&3)==1) cannon(0,0); while(1);}" ∷ [])
+      (truth_file ∷ []) 30 (after 30 (10 ∷ 10 ∷ []))
   pub none_survives : Fights second_profile (shooting ∷ []) (shooting_file ∷ []) 500000 (after 90 (100 ∷ 100 ∷ []))

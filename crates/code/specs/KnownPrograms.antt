@@ -38,7 +38,12 @@ sum_file = file_of_main [] (ExpressionStatement (Binary op.Add (constant 1) (con
 -- f(a){return a+damage();} main(){f(5);}
 abbrev pub asking_file : File
 asking_file = file_of_two
-    (record { name = codes "f"; parameters = 1; variables = codes "a" ∷ []; body = Return (Binary op.Add (local 0) (Call (callee.Intrinsic intrinsic.Damage) NoMore)) Done })
+    (record {
+      name = codes "f";
+      parameters = 1;
+      variables = codes "a" ∷ [];
+      body = Return (Binary op.Add (local 0) (Call (callee.Intrinsic intrinsic.Damage) NoMore)) Done;
+    })
     (ExpressionStatement (Call (callee.Function 0) (Argument (constant 5) NoMore)) Done)
 
 -- int e; main(){g();} f(){} g(){e-=-1;}: g is mentioned before f, and defined behind it
@@ -47,7 +52,13 @@ defined_behind_file = record {
   externals = codes "e" ∷ [];
   functions =
       main_of [] (ExpressionStatement (call_of 1) Done)
-      ∷ record { name = codes "g"; parameters = 0; variables = []; body = ExpressionStatement (Assign store.Subtract (var.External 0) (Binary op.Subtract (constant 0) (constant 1))) Done }
+      ∷ record {
+        name = codes "g";
+        parameters = 0;
+        variables = [];
+        body = ExpressionStatement
+            (Assign store.Subtract (var.External 0) (Binary op.Subtract (constant 0) (constant 1))) Done;
+      }
       ∷ record { name = codes "f"; parameters = 0; variables = []; body = Done }
       ∷ [];
   order = 0 ∷ 2 ∷ 1 ∷ [];
@@ -84,54 +95,80 @@ pub record KnownListings : Type 0 where
       ≡ codes "Externals 0" ∷ codes "Function 0 main vars 0 at 0" ∷ codes "Code 7"
       ∷ codes "    0 CONST 1" ∷ codes "    1 CONST 2" ∷ codes "    2 BINOP +" ∷ codes "    3 CHOP"
       ∷ codes "    4 CONST 0" ∷ codes "    5 RETSUB" ∷ codes "    6 NOP" ∷ []
-  pub sum_of_postfix : listing_lines first_profile (file_of_main (codes "x" ∷ codes "a" ∷ codes "b" ∷ []) sum_of_postfix_tree)
-      ≡ codes "Externals 0" ∷ codes "Function 0 main vars 3 at 0" ∷ codes "  0 x" ∷ codes "  1 a" ∷ codes "  2 b" ∷ codes "Code 11"
+  pub sum_of_postfix :
+      listing_lines first_profile (file_of_main (codes "x" ∷ codes "a" ∷ codes "b" ∷ []) sum_of_postfix_tree)
+      ≡ codes "Externals 0" ∷ codes "Function 0 main vars 3 at 0" ∷ codes "  0 x" ∷ codes "  1 a" ∷ codes "  2 b"
+      ∷ codes "Code 11"
       ∷ codes "    0 FETCH L1" ∷ codes "    1 CONST 1" ∷ codes "    2 STORE L1 +=" ∷ codes "    3 CHOP"
       ∷ codes "    4 FETCH L2" ∷ codes "    5 BINOP +" ∷ codes "    6 STORE L0 =" ∷ codes "    7 CHOP"
       ∷ codes "    8 CONST 0" ∷ codes "    9 RETSUB" ∷ codes "   10 NOP" ∷ []
   pub distance : listing_lines first_profile distance_file
-      ≡ codes "Externals 0" ∷ codes "Function 0 d vars 2 at 0" ∷ codes "  0 x" ∷ codes "  1 y" ∷ codes "Function 1 main vars 0 at 10" ∷ codes "Code 17"
-      ∷ codes "    0 FETCH L0" ∷ codes "    1 FETCH L0" ∷ codes "    2 BINOP *" ∷ codes "    3 FETCH L1" ∷ codes "    4 FETCH L1" ∷ codes "    5 BINOP *"
+      ≡ codes "Externals 0" ∷ codes "Function 0 d vars 2 at 0" ∷ codes "  0 x" ∷ codes "  1 y"
+      ∷ codes "Function 1 main vars 0 at 10" ∷ codes "Code 17"
+      ∷ codes "    0 FETCH L0" ∷ codes "    1 FETCH L0" ∷ codes "    2 BINOP *" ∷ codes "    3 FETCH L1"
+      ∷ codes "    4 FETCH L1" ∷ codes "    5 BINOP *"
       ∷ codes "    6 BINOP +" ∷ codes "    7 RETSUB" ∷ codes "    8 CONST 0" ∷ codes "    9 RETSUB"
-      ∷ codes "   10 FRAME" ∷ codes "   11 CONST 3" ∷ codes "   12 FCALL 0" ∷ codes "   13 CHOP" ∷ codes "   14 CONST 0" ∷ codes "   15 RETSUB" ∷ codes "   16 NOP" ∷ []
-  pub nearest_else : listing_lines first_profile (file_of_main (codes "a" ∷ codes "b" ∷ codes "c" ∷ codes "d" ∷ []) nearest_else_tree)
-      ≡ codes "Externals 0" ∷ codes "Function 0 main vars 4 at 0" ∷ codes "  0 a" ∷ codes "  1 b" ∷ codes "  2 c" ∷ codes "  3 d" ∷ codes "Code 13"
-      ∷ codes "    0 FETCH L0" ∷ codes "    1 BRANCH 10" ∷ codes "    2 FETCH L1" ∷ codes "    3 BRANCH 8" ∷ codes "    4 FETCH L2" ∷ codes "    5 CHOP"
-      ∷ codes "    6 CONST 0" ∷ codes "    7 BRANCH 10" ∷ codes "    8 FETCH L3" ∷ codes "    9 CHOP" ∷ codes "   10 CONST 0" ∷ codes "   11 RETSUB" ∷ codes "   12 NOP" ∷ []
+      ∷ codes "   10 FRAME" ∷ codes "   11 CONST 3" ∷ codes "   12 FCALL 0" ∷ codes "   13 CHOP" ∷ codes "   14 CONST 0"
+      ∷ codes "   15 RETSUB" ∷ codes "   16 NOP" ∷ []
+  pub nearest_else : listing_lines first_profile
+      (file_of_main (codes "a" ∷ codes "b" ∷ codes "c" ∷ codes "d" ∷ []) nearest_else_tree)
+      ≡ codes "Externals 0" ∷ codes "Function 0 main vars 4 at 0" ∷ codes "  0 a" ∷ codes "  1 b" ∷ codes "  2 c"
+      ∷ codes "  3 d" ∷ codes "Code 13"
+      ∷ codes "    0 FETCH L0" ∷ codes "    1 BRANCH 10" ∷ codes "    2 FETCH L1" ∷ codes "    3 BRANCH 8"
+      ∷ codes "    4 FETCH L2" ∷ codes "    5 CHOP"
+      ∷ codes "    6 CONST 0" ∷ codes "    7 BRANCH 10" ∷ codes "    8 FETCH L3" ∷ codes "    9 CHOP"
+      ∷ codes "   10 CONST 0" ∷ codes "   11 RETSUB" ∷ codes "   12 NOP" ∷ []
   pub late_read : listing_lines first_profile late_read_file
-      ≡ codes "Externals 1" ∷ codes "  0 x" ∷ codes "Function 0 f vars 0 at 0" ∷ codes "Function 1 main vars 0 at 7" ∷ codes "Code 27"
-      ∷ codes "    0 CONST 1" ∷ codes "    1 STORE E0 =" ∷ codes "    2 CHOP" ∷ codes "    3 CONST 1" ∷ codes "    4 RETSUB" ∷ codes "    5 CONST 0" ∷ codes "    6 RETSUB"
+      ≡ codes "Externals 1" ∷ codes "  0 x" ∷ codes "Function 0 f vars 0 at 0" ∷ codes "Function 1 main vars 0 at 7"
+      ∷ codes "Code 27"
+      ∷ codes "    0 CONST 1" ∷ codes "    1 STORE E0 =" ∷ codes "    2 CHOP" ∷ codes "    3 CONST 1"
+      ∷ codes "    4 RETSUB" ∷ codes "    5 CONST 0" ∷ codes "    6 RETSUB"
       ∷ codes "    7 FRAME" ∷ codes "    8 FCALL 0" ∷ codes "    9 STORE E0 +=" ∷ codes "   10 CHOP"
       ∷ codes "   11 FETCH E0" ∷ codes "   12 CONST 2" ∷ codes "   13 BINOP ==" ∷ codes "   14 BRANCH 20"
-      ∷ codes "   15 FRAME" ∷ codes "   16 CONST 0" ∷ codes "   17 CONST 0" ∷ codes "   18 FCALL cannon" ∷ codes "   19 CHOP"
-      ∷ codes "   20 CONST 1" ∷ codes "   21 BRANCH 24" ∷ codes "   22 CONST 0" ∷ codes "   23 BRANCH 20" ∷ codes "   24 CONST 0" ∷ codes "   25 RETSUB" ∷ codes "   26 NOP" ∷ []
+      ∷ codes "   15 FRAME" ∷ codes "   16 CONST 0" ∷ codes "   17 CONST 0" ∷ codes "   18 FCALL cannon"
+      ∷ codes "   19 CHOP"
+      ∷ codes "   20 CONST 1" ∷ codes "   21 BRANCH 24" ∷ codes "   22 CONST 0" ∷ codes "   23 BRANCH 20"
+      ∷ codes "   24 CONST 0" ∷ codes "   25 RETSUB" ∷ codes "   26 NOP" ∷ []
   pub asking : listing_lines first_profile asking_file
-      ≡ codes "Externals 0" ∷ codes "Function 0 f vars 1 at 0" ∷ codes "  0 a" ∷ codes "Function 1 main vars 0 at 7" ∷ codes "Code 14"
-      ∷ codes "    0 FETCH L0" ∷ codes "    1 FRAME" ∷ codes "    2 FCALL damage" ∷ codes "    3 BINOP +" ∷ codes "    4 RETSUB" ∷ codes "    5 CONST 0" ∷ codes "    6 RETSUB"
-      ∷ codes "    7 FRAME" ∷ codes "    8 CONST 5" ∷ codes "    9 FCALL 0" ∷ codes "   10 CHOP" ∷ codes "   11 CONST 0" ∷ codes "   12 RETSUB" ∷ codes "   13 NOP" ∷ []
+      ≡ codes "Externals 0" ∷ codes "Function 0 f vars 1 at 0" ∷ codes "  0 a" ∷ codes "Function 1 main vars 0 at 7"
+      ∷ codes "Code 14"
+      ∷ codes "    0 FETCH L0" ∷ codes "    1 FRAME" ∷ codes "    2 FCALL damage" ∷ codes "    3 BINOP +"
+      ∷ codes "    4 RETSUB" ∷ codes "    5 CONST 0" ∷ codes "    6 RETSUB"
+      ∷ codes "    7 FRAME" ∷ codes "    8 CONST 5" ∷ codes "    9 FCALL 0" ∷ codes "   10 CHOP" ∷ codes "   11 CONST 0"
+      ∷ codes "   12 RETSUB" ∷ codes "   13 NOP" ∷ []
   pub defined_behind : listing_lines first_profile defined_behind_file
-      ≡ codes "Externals 1" ∷ codes "  0 e" ∷ codes "Function 0 main vars 0 at 0" ∷ codes "Function 1 g vars 0 at 7" ∷ codes "Function 2 f vars 0 at 5" ∷ codes "Code 15"
-      ∷ codes "    0 FRAME" ∷ codes "    1 FCALL 1" ∷ codes "    2 CHOP" ∷ codes "    3 CONST 0" ∷ codes "    4 RETSUB" ∷ codes "    5 CONST 0" ∷ codes "    6 RETSUB"
-      ∷ codes "    7 CONST 0" ∷ codes "    8 CONST 1" ∷ codes "    9 BINOP -" ∷ codes "   10 STORE E0 -=" ∷ codes "   11 CHOP" ∷ codes "   12 CONST 0" ∷ codes "   13 RETSUB" ∷ codes "   14 NOP" ∷ []
+      ≡ codes "Externals 1" ∷ codes "  0 e" ∷ codes "Function 0 main vars 0 at 0" ∷ codes "Function 1 g vars 0 at 7"
+      ∷ codes "Function 2 f vars 0 at 5" ∷ codes "Code 15"
+      ∷ codes "    0 FRAME" ∷ codes "    1 FCALL 1" ∷ codes "    2 CHOP" ∷ codes "    3 CONST 0" ∷ codes "    4 RETSUB"
+      ∷ codes "    5 CONST 0" ∷ codes "    6 RETSUB"
+      ∷ codes "    7 CONST 0" ∷ codes "    8 CONST 1" ∷ codes "    9 BINOP -" ∷ codes "   10 STORE E0 -="
+      ∷ codes "   11 CHOP" ∷ codes "   12 CONST 0" ∷ codes "   13 RETSUB" ∷ codes "   14 NOP" ∷ []
   pub left_out : listing_lines second_profile (says []
       (Binary op.And (constant 0) (cannon_of (constant 0) (constant 0))))
       ≡ codes "Externals 0" ∷ codes "Function 0 main vars 0 at 0" ∷ codes "Code 14"
-      ∷ codes "    0 CONST 0" ∷ codes "    1 BRANCH 9" ∷ codes "    2 FRAME" ∷ codes "    3 CONST 0" ∷ codes "    4 CONST 0" ∷ codes "    5 FCALL cannon"
-      ∷ codes "    6 TRUTH" ∷ codes "    7 CONST 0" ∷ codes "    8 BRANCH 10" ∷ codes "    9 CONST 0" ∷ codes "   10 CHOP"
+      ∷ codes "    0 CONST 0" ∷ codes "    1 BRANCH 9" ∷ codes "    2 FRAME" ∷ codes "    3 CONST 0"
+      ∷ codes "    4 CONST 0" ∷ codes "    5 FCALL cannon"
+      ∷ codes "    6 TRUTH" ∷ codes "    7 CONST 0" ∷ codes "    8 BRANCH 10" ∷ codes "    9 CONST 0"
+      ∷ codes "   10 CHOP"
       ∷ codes "   11 CONST 0" ∷ codes "   12 RETSUB" ∷ codes "   13 NOP" ∷ []
   pub decided : listing_lines second_profile (says [] (Binary op.Or (constant 0) (constant 3)))
       ≡ codes "Externals 0" ∷ codes "Function 0 main vars 0 at 0" ∷ codes "Code 11"
-      ∷ codes "    0 CONST 0" ∷ codes "    1 BRANCH 5" ∷ codes "    2 CONST 1" ∷ codes "    3 CONST 0" ∷ codes "    4 BRANCH 7" ∷ codes "    5 CONST 3"
+      ∷ codes "    0 CONST 0" ∷ codes "    1 BRANCH 5" ∷ codes "    2 CONST 1" ∷ codes "    3 CONST 0"
+      ∷ codes "    4 BRANCH 7" ∷ codes "    5 CONST 3"
       ∷ codes "    6 TRUTH" ∷ codes "    7 CHOP" ∷ codes "    8 CONST 0" ∷ codes "    9 RETSUB" ∷ codes "   10 NOP" ∷ []
   pub truth : listing_lines second_profile truth_file
       ≡ codes "Externals 0" ∷ codes "Function 0 main vars 0 at 0" ∷ codes "Code 22"
-      ∷ codes "    0 CONST 2" ∷ codes "    1 BRANCH 6" ∷ codes "    2 CONST 3" ∷ codes "    3 TRUTH" ∷ codes "    4 CONST 0" ∷ codes "    5 BRANCH 7"
+      ∷ codes "    0 CONST 2" ∷ codes "    1 BRANCH 6" ∷ codes "    2 CONST 3" ∷ codes "    3 TRUTH"
+      ∷ codes "    4 CONST 0" ∷ codes "    5 BRANCH 7"
       ∷ codes "    6 CONST 0" ∷ codes "    7 CONST 1" ∷ codes "    8 BINOP ==" ∷ codes "    9 BRANCH 15"
-      ∷ codes "   10 FRAME" ∷ codes "   11 CONST 0" ∷ codes "   12 CONST 0" ∷ codes "   13 FCALL cannon" ∷ codes "   14 CHOP"
-      ∷ codes "   15 CONST 1" ∷ codes "   16 BRANCH 19" ∷ codes "   17 CONST 0" ∷ codes "   18 BRANCH 15" ∷ codes "   19 CONST 0" ∷ codes "   20 RETSUB" ∷ codes "   21 NOP" ∷ []
+      ∷ codes "   10 FRAME" ∷ codes "   11 CONST 0" ∷ codes "   12 CONST 0" ∷ codes "   13 FCALL cannon"
+      ∷ codes "   14 CHOP"
+      ∷ codes "   15 CONST 1" ∷ codes "   16 BRANCH 19" ∷ codes "   17 CONST 0" ∷ codes "   18 BRANCH 15"
+      ∷ codes "   19 CONST 0" ∷ codes "   20 RETSUB" ∷ codes "   21 NOP" ∷ []
   pub both_sides : listing_lines first_profile (says [] (Binary op.And (constant 0) (constant 3)))
       ≡ codes "Externals 0" ∷ codes "Function 0 main vars 0 at 0" ∷ codes "Code 7"
-      ∷ codes "    0 CONST 0" ∷ codes "    1 CONST 3" ∷ codes "    2 BINOP &&" ∷ codes "    3 CHOP" ∷ codes "    4 CONST 0" ∷ codes "    5 RETSUB" ∷ codes "    6 NOP" ∷ []
+      ∷ codes "    0 CONST 0" ∷ codes "    1 CONST 3" ∷ codes "    2 BINOP &&" ∷ codes "    3 CHOP"
+      ∷ codes "    4 CONST 0" ∷ codes "    5 RETSUB" ∷ codes "    6 NOP" ∷ []
 
 -- The trees and the instructions want the same after these replies.
 pub record Wants (p : Profile) (file : File) (trace : List ℤ) (event : Want) : Type 0 where
@@ -208,7 +245,8 @@ passing_file = file_of_two
 -- main(){int x; x=45; cannon(x OP 3,x);}
 abbrev pub storing_file : StoreOp → File
 storing_file o =
-    says_then (codes "x" ∷ []) (Assign store.Set (var.Local 0) (constant 45)) (cannon_of (Assign o (var.Local 0) (constant 3)) (local 0))
+    says_then (codes "x" ∷ []) (Assign store.Set (var.Local 0) (constant 45))
+    (cannon_of (Assign o (var.Local 0) (constant 3)) (local 0))
 
 -- the variable's new value is the assignment's value too
 abbrev pub Stores : StoreOp → ℕ → Type 0
@@ -225,10 +263,12 @@ pub record KnownValues : Type 0 where
   pub no_argument : InCycle first_profile (says [] (ask intrinsic.Drive NoMore)) 2
       (asks intrinsic.Drive (pos 0) (pos 0))
   pub arguments_in_order :
-      InCycle first_profile (says (codes "x" ∷ []) (cannon_of (Postfix store.Add (var.Local 0)) (local 0))) 7 (asks_cannon (pos 0) (pos 1))
+      InCycle first_profile (says (codes "x" ∷ []) (cannon_of (Postfix store.Add (var.Local 0)) (local 0))) 7
+      (asks_cannon (pos 0) (pos 1))
   pub assignment_of_assignment :
       InCycle first_profile
-      (says_then (codes "x" ∷ codes "y" ∷ []) (Assign store.Set (var.Local 0) (Assign store.Set (var.Local 1) (constant 2))) (cannon_of (local 0) (local 1)))
+      (says_then (codes "x" ∷ codes "y" ∷ [])
+      (Assign store.Set (var.Local 0) (Assign store.Set (var.Local 1) (constant 2))) (cannon_of (local 0) (local 1)))
       8 (asks_cannon (pos 2) (pos 2))
   pub sides_in_order :
       InCycle first_profile (says [] (cannon_of (Binary op.Subtract (constant 7) (constant 2))
@@ -290,7 +330,9 @@ pub record RestartsIn (p : Profile) (cycle : ℕ) (file : File) : Type 0 where
 
 -- a function f with so many locals that does something, and a main that calls it
 abbrev pub calls_f : ℕ → Body → File
-calls_f locals body = file_of_two (record { name = codes "f"; parameters = 0; variables = replicate locals (codes "a"); body = body }) statement_of_call
+calls_f locals body = file_of_two
+    (record { name = codes "f"; parameters = 0; variables = replicate locals (codes "a"); body = body })
+    statement_of_call
 
 -- damage(); and then these statements
 abbrev pub damage_then : Body → Body

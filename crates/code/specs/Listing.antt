@@ -26,7 +26,8 @@ instr_line at instr = in_five_columns at ++ codes " " ++ instr_text instr
 
 unfoldable pub function_line : ℕ → FunctionNames → ℕ → List ℕ
 function_line number f at =
-    codes "Function " ++ decimal number ++ codes " " ++ f.name ++ codes " vars " ++ decimal (length f.variables) ++ codes " at " ++ decimal at
+    codes "Function " ++ decimal number ++ codes " " ++ f.name ++ codes " vars " ++ decimal (length f.variables)
+    ++ codes " at " ++ decimal at
 
 -- a function and its variables
 abbrev pub function_lines : ℕ → FunctionNames → ℕ → List (List ℕ)

@@ -19,7 +19,10 @@ fn name_of(bytes: &[u8]) -> Name
 
 // The names of a file with a function `main` alone.
 fn main_alone() -> Pools
-    ensures { result ≡ record { externals = []; functions = record { name = codes "main"; parameters = 0; variables = [] } ∷ [] } }
+    ensures { result ≡ record {
+      externals = [];
+      functions = record { name = codes "main"; parameters = 0; variables = [] } ∷ [];
+    } }
 {
     let mut names = Pools::new();
     names.define(Function::new(name_of(b"main")));

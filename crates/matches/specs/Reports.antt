@@ -16,7 +16,8 @@ state_text false = codes "dead "
 -- `  {i}) alive damage {d:>3}% {name}` or `  {i}) dead  damage {d:>3}% {name}`, with the robots counted from 1
 abbrev pub robot_line : ℕ → Bool → ℕ → List ℕ → List ℕ
 robot_line i is_alive damage name =
-    codes "  " ++ decimal (i + 1) ++ codes ") " ++ state_text is_alive ++ codes " damage " ++ column 3 damage ++ codes "% " ++ name
+    codes "  " ++ decimal (i + 1) ++ codes ") " ++ state_text is_alive ++ codes " damage " ++ column 3 damage
+    ++ codes "% " ++ name
 
 abbrev pub robot_lines : List (List ℕ) → Outcome → List (List ℕ)
 robot_lines names outcome =

@@ -35,8 +35,8 @@ totals_line matches = codes "Totals: " ++ decimal matches ++ codes " matches"
 -- `  {i}) won {w} tied {t} lost {l} {name}`, with the robots counted from 1
 abbrev pub score_line : ℕ → Score → List ℕ → List ℕ
 score_line i score name =
-    codes "  " ++ decimal (i + 1) ++ codes ") won " ++ decimal score.won ++ codes " tied " ++ decimal score.tied ++ codes " lost " ++ decimal score.lost
-    ++ codes " " ++ name
+    codes "  " ++ decimal (i + 1) ++ codes ") won " ++ decimal score.won ++ codes " tied " ++ decimal score.tied
+    ++ codes " lost " ++ decimal score.lost ++ codes " " ++ name
 
 abbrev pub score_lines : List (List ℕ) → (ℕ → Score) → List (List ℕ)
 score_lines names scores = map (λ i. score_line i (scores i) (get_or names i [])) (range_with_len 0 (length names))

@@ -61,20 +61,26 @@ pub record KnownOutputs : Type 0 where
       ≡ record {
         pieces = record {
           channel = Text;
-          bytes = codes "File a.r\nExternals 0\nFunction 0 main vars 0 at 0\nCode 7\n    0 CONST 1\n    1 CONST 2\n    2 BINOP +\n    3 CHOP\n    4 CONST 0\n    5 RETSUB\n    6 NOP\n";
+          bytes = codes "File a.r\nExternals 0\nFunction 0 main vars 0 at 0\nCode 7\n    0 CONST 1\n    1 CONST 2\n"
+              ++ codes "    2 BINOP +\n    3 CHOP\n    4 CONST 0\n    5 RETSUB\n    6 NOP\n";
         } ∷ [];
         status = Done;
       }
-  pub faulty : listing_output (record { word = codes "e.r"; bytes = [] } ∷ record { word = codes "c.r"; bytes = codes "main(){\nbreak; }" } ∷ [])
+  pub faulty : listing_output (record { word = codes "e.r"; bytes = [] }
+      ∷ record { word = codes "c.r"; bytes = codes "main(){\nbreak; }" } ∷ [])
       ≡ record {
         pieces = record { channel = Faults; bytes = codes "e.r:1: no main function\n" }
             ∷ record { channel = Faults; bytes = codes "c.r:2: reserved word\n" } ∷ [];
         status = Faulty;
       }
   pub mixed : listing_output
-      (record { word = codes "a.r"; bytes = codes "main(){}" } ∷ record { word = codes "b.r"; bytes = codes "main(){ f(); }" } ∷ record { word = codes "c.r"; bytes = codes "main(){\nbreak; }" } ∷ [])
+      (record { word = codes "a.r"; bytes = codes "main(){}" } ∷ record { word = codes "b.r"; bytes = codes "main(){ f(); }" }
+      ∷ record { word = codes "c.r"; bytes = codes "main(){\nbreak; }" } ∷ [])
       ≡ record {
-        pieces = record { channel = Text; bytes = codes "File a.r\nExternals 0\nFunction 0 main vars 0 at 0\nCode 3\n    0 CONST 0\n    1 RETSUB\n    2 NOP\n" }
+        pieces = record {
+          channel = Text;
+          bytes = codes "File a.r\nExternals 0\nFunction 0 main vars 0 at 0\nCode 3\n    0 CONST 0\n    1 RETSUB\n    2 NOP\n";
+        }
             ∷ record { channel = Faults; bytes = codes "b.r:1: function not defined\n" }
             ∷ record { channel = Faults; bytes = codes "c.r:2: reserved word\n" } ∷ [];
         status = Faulty;

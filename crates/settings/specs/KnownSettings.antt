@@ -2,12 +2,34 @@
 use Rattle.std.specs.Prelude.{◌≡◌, ℕ, List, [], ◌∷◌, true, false, Some, None, Ok, Err, codes}
 use Rattle.grammar.specs.Profile.{first_profile, second_profile}
 use Rattle.settings.specs.declared.faults.UseFault.TheVariants.{Number, TooMany, NoMode}
+use Rattle.settings.specs.declared.settings.Mode.{Mode}
 use Rattle.settings.specs.declared.settings.Mode.TheVariants.{Listing, Matches}
 use Rattle.settings.specs.Given.{Given, settled}
+use Rattle.settings.specs.Setup.{Setup}
 
 -- one file, and nothing else
 abbrev bare : Given
-bare = record { listing = false; matches = None; limit = None; seed = None; profile = None; first = None; files = codes "a.r" ∷ [] }
+bare = record {
+  listing = false;
+  matches = None;
+  limit = None;
+  seed = None;
+  profile = None;
+  first = None;
+  files = codes "a.r" ∷ [];
+}
+
+-- what is settled for one file if nothing is said of the rest
+abbrev usual : Mode → ℕ → ℕ → Setup
+usual mode matches limit = record {
+  mode = mode;
+  matches = matches;
+  limit = limit;
+  seed = 1;
+  profile = first_profile;
+  first = 1;
+  words = codes "a.r" ∷ [];
+}
 
 abbrev five : List (List ℕ)
 five = codes "a.r" ∷ codes "b" ∷ codes "c" ∷ codes "d" ∷ codes "e" ∷ []
@@ -15,13 +37,13 @@ five = codes "a.r" ∷ codes "b" ∷ codes "c" ∷ codes "d" ∷ codes "e" ∷ [
 pub record KnownSettings : Type 0 where
   -- `-c a.r`
   pub listing : settled (record bare { listing = true })
-      ≡ Ok (record { mode = Listing; matches = 1; limit = 500000; seed = 1; profile = first_profile; first = 1; words = codes "a.r" ∷ [] })
+      ≡ Ok (usual Listing 1 500000)
   -- `-c -m3 a.r`
   pub listing_beside : settled (record bare { listing = true; matches = Some (codes "3") })
-      ≡ Ok (record { mode = Listing; matches = 3; limit = 500000; seed = 1; profile = first_profile; first = 1; words = codes "a.r" ∷ [] })
+      ≡ Ok (usual Listing 3 500000)
   -- `-m0001 -l15 a.r`
   pub zeros : settled (record bare { matches = Some (codes "0001"); limit = Some (codes "15") })
-      ≡ Ok (record { mode = Matches; matches = 1; limit = 15; seed = 1; profile = first_profile; first = 1; words = codes "a.r" ∷ [] })
+      ≡ Ok (usual Matches 1 15)
   -- the greatest values of `-m`, `-l`, `-s` and `-f`, and the second profile
   pub greatest : settled (record bare {
     matches = Some (codes "1000000");
@@ -40,8 +62,10 @@ pub record KnownSettings : Type 0 where
   })
   -- values that are past their limits, or no numbers
   pub too_many_matches : settled (record bare { matches = Some (codes "1000001") }) ≡ Err Number
-  pub too_many_cycles : settled (record bare { matches = Some (codes "1"); limit = Some (codes "1000000001") }) ≡ Err Number
-  pub too_great_seed : settled (record bare { matches = Some (codes "1"); seed = Some (codes "18446744073709551616") }) ≡ Err Number
+  pub too_many_cycles : settled (record bare { matches = Some (codes "1"); limit = Some (codes "1000000001") })
+      ≡ Err Number
+  pub too_great_seed : settled (record bare { matches = Some (codes "1"); seed = Some (codes "18446744073709551616") })
+      ≡ Err Number
   pub no_match : settled (record bare { matches = Some (codes "0") }) ≡ Err Number
   pub no_match_listed : settled (record bare { listing = true; matches = Some (codes "0") }) ≡ Err Number
   pub sign : settled (record bare { matches = Some (codes "+1") }) ≡ Err Number
@@ -50,9 +74,11 @@ pub record KnownSettings : Type 0 where
   pub profile_3 : settled (record bare { matches = Some (codes "1"); profile = Some (codes "3") }) ≡ Err Number
   pub profile_x : settled (record bare { matches = Some (codes "1"); profile = Some (codes "x") }) ≡ Err Number
   pub first_0 : settled (record bare { matches = Some (codes "1"); first = Some (codes "0") }) ≡ Err Number
-  pub first_too_great : settled (record bare { matches = Some (codes "1"); first = Some (codes "1000001") }) ≡ Err Number
+  pub first_too_great : settled (record bare { matches = Some (codes "1"); first = Some (codes "1000001") })
+      ≡ Err Number
   -- the order of the refusals
-  pub number_first : settled (record bare { matches = Some (codes "1"); limit = Some (codes "x"); files = five }) ≡ Err Number
+  pub number_first : settled (record bare { matches = Some (codes "1"); limit = Some (codes "x"); files = five })
+      ≡ Err Number
   pub then_files : settled (record bare { files = five }) ≡ Err TooMany
   pub files_listed : settled (record bare { listing = true; files = five }) ≡ Err TooMany
   pub then_mode : settled (record bare { limit = Some (codes "15") }) ≡ Err NoMode
