@@ -13,8 +13,6 @@ mod robots;
 mod scans;
 mod slots;
 mod starts;
-#[cfg(test)]
-mod tests;
 mod updates;
 mod words;
 

@@ -11,5 +11,4 @@ pub mod Spans
 pub mod Running
 pub mod Alone
 pub mod Beginnings
-pub mod TestFiles
 pub mod KnownBattles

@@ -15,6 +15,3 @@ pub use battles::battle;
 pub use known::known_battles;
 pub use outcome::Outcome;
 pub use programs::Programs;
-
-#[cfg(test)]
-mod tests;

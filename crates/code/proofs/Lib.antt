@@ -12,7 +12,6 @@ pub mod Steps
 pub mod Open
 pub mod Told
 pub mod Finished
-pub mod TestFiles
 pub mod Mains
 pub mod Bounds
 pub mod Programs

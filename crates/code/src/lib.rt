@@ -16,8 +16,6 @@ mod operating;
 mod operators;
 mod program;
 mod stepping;
-#[cfg(test)]
-mod tests;
 mod text;
 mod values;
 mod want;

@@ -5,8 +5,6 @@ mod devices;
 mod endings;
 mod openers;
 mod programs;
-#[cfg(test)]
-mod tests;
 
 pub use devices::{FileFeed, StreamSink};
 pub use endings::Ending;

@@ -14,24 +14,3 @@ pub use grammar::{
 pub use round_trip::laws;
 pub use tokens::{DeviceFault, Feed, Name};
 pub use trees::{Expr, Function as FunctionTree, Statement, TreeMaker};
-
-#[cfg(test)]
-mod builder_tests;
-#[cfg(test)]
-mod checks;
-#[cfg(test)]
-mod device_tests;
-#[cfg(test)]
-mod fault_tests;
-#[cfg(test)]
-mod limit_tests;
-#[cfg(test)]
-mod memory_tests;
-#[cfg(test)]
-mod piece_tests;
-#[cfg(test)]
-mod refuser;
-#[cfg(test)]
-mod sources;
-#[cfg(test)]
-mod tree_tests;

@@ -158,6 +158,29 @@ const SHOT_LISTED: &[&str] = &[
     "   26 NOP",
 ];
 
+/// The lines of the listing of `main(){while(1) if(0) 2; else 3;}`.
+const TURNING: &[&str] = &[
+    "File a.r",
+    "Externals 0",
+    "Function 0 main vars 0 at 0",
+    "Code 15",
+    "    0 CONST 1",
+    "    1 BRANCH 12",
+    "    2 CONST 0",
+    "    3 BRANCH 8",
+    "    4 CONST 2",
+    "    5 CHOP",
+    "    6 CONST 0",
+    "    7 BRANCH 10",
+    "    8 CONST 3",
+    "    9 CHOP",
+    "   10 CONST 0",
+    "   11 BRANCH 0",
+    "   12 CONST 0",
+    "   13 RETSUB",
+    "   14 NOP",
+];
+
 /// The lines of the listing of `main(){2147483647;}`.
 const GREATEST: &[&str] = &[
     "File a.r",
@@ -198,27 +221,30 @@ const ONE: &[&str] = &[
     "    4 NOP",
 ];
 
-#[test]
-fn good_files_are_listed(rt: HostRuntime) -> Result<(), Fail> {
-    check_listing(&rt, "a.r", b"main(){}", EMPTY_MAIN)?;
-    check_listing(&rt, "k/a.r", b"main(){1+2;}", SUM)?;
-    check_listing(&rt, "a.r", b"main(){ x = a+++b; }", POSTFIX)?;
-    check_listing(
-        &rt,
+/// Good files: the word, the source and the lines of the listing.
+const LISTINGS: &[(&str, &[u8], &[&str])] = &[
+    ("a.r", b"main(){}", EMPTY_MAIN),
+    ("k/a.r", b"main(){1+2;}", SUM),
+    ("a.r", b"main(){ x = a+++b; }", POSTFIX),
+    (
         "a.r",
         b"d(x,y) int x,y; {return(x*x+y*y);} main(){d(3);}",
         PARAMETERS,
-    )?;
-    check_listing(
-        &rt,
-        "a.r",
-        b"f(a){return a+damage();} main(){f(5);}",
-        ASKING,
-    )?;
-    check_listing(&rt, "a.r", b"main(){if(a) if(b) c; else d;}", NEAREST_IF)?;
-    check_listing(&rt, "a.r", SHOT, SHOT_LISTED)?;
+    ),
+    ("a.r", b"f(a){return a+damage();} main(){f(5);}", ASKING),
+    ("a.r", b"main(){if(a) if(b) c; else d;}", NEAREST_IF),
+    ("a.r", b"main(){while(1) if(0) 2; else 3;}", TURNING),
+    ("a.r", SHOT, SHOT_LISTED),
     // the byte 26 ends a source
-    check_listing(&rt, "a.r", b"main(){}\x1a/* x", EMPTY_MAIN)
+    ("a.r", b"main(){}\x1a/* x", EMPTY_MAIN),
+];
+
+#[test]
+fn good_files_are_listed(rt: HostRuntime) -> Result<(), Fail> {
+    for (word, source, lines) in LISTINGS {
+        check_listing(&rt, word, source, lines)?;
+    }
+    Ok(())
 }
 
 /// Faulty files: the word, the source and the diagnostic.

@@ -29,6 +29,8 @@ fn asks_and_restart(alloc: Global, program: &Program) -> Result<Vec<u32>, AllocE
 /// Sources, and their cycles that ask or restart up to the first restart.
 const RESTARTS: &[(&[u8], &[u32])] = &[
     (b"main(){return 5;}", &[2]),
+    (b"main(){damage();}", &[2, 5]),
+    (b"main(){while(1) if(0) 2; else 3;}", &[]),
     (b"main(){while(1) while(1) return;}", &[6]),
     (b"main(){main();}", &[127]),
     (

@@ -58,6 +58,37 @@ const GAMES: &[(&[u8], Game, &[&str])] = &[
             "  2) won 0 tied 1 lost 0 a.r",
         ],
     ),
+    // it restarts in each seventh cycle, and shoots in cycles 4, 11, 18 and so on; the shot of cycle 60 comes while two
+    // missiles are in the air: so each update takes 20
+    (
+        b"main(){cannon(0,0);}",
+        Game {
+            matches: 1,
+            limit: 74,
+            short_circuit: false,
+            first: 1,
+        },
+        &[
+            "Match 1: cycles = 74",
+            "  1) alive damage  80% a.r",
+            "  2) alive damage  80% a.r",
+            "Totals: 1 matches",
+            "  1) won 0 tied 1 lost 0 a.r",
+            "  2) won 0 tied 1 lost 0 a.r",
+        ],
+    ),
+    (
+        b"main(){cannon(0,0);}",
+        ONE_MATCH,
+        &[
+            "Match 1: cycles = 75",
+            "  1) dead  damage 100% a.r",
+            "  2) dead  damage 100% a.r",
+            "Totals: 1 matches",
+            "  1) won 0 tied 0 lost 1 a.r",
+            "  2) won 0 tied 0 lost 1 a.r",
+        ],
+    ),
     (
         b"main(){}",
         Game {

@@ -1,0 +1,119 @@
+//! Parses of sources in memory, and what they are compared with, for tests.
+
+ghost use Rattle.std.specs.Prelude.{◌≡◌, ◌<◌, ◌-◌, ◌^◌, false};
+
+use lang::{Code, Diagnostic, FunctionTree, ParseFault, Pools, Profile, TreeMaker, parse};
+use std::alloc::Global;
+use std::process::Abort;
+use std::str;
+use std::test::Fail;
+use tokens::{Name, Pieces};
+
+/// The sizes of pieces: small ones, those about the window's size, and whole sources.
+pub const SIZES: [usize; 7] = [1, 2, 3, 4_095, 4_096, 4_097, usize::MAX];
+
+/// What a parse gave.
+#[derive(Drop)]
+pub struct Outcome {
+    /// Its answer.
+    pub answer: Result<Pools, ParseFault>,
+    /// The builder.
+    pub trees: TreeMaker,
+    /// How many bytes the device gave.
+    pub taken: usize,
+    /// How often the device failed.
+    pub failures: u64,
+}
+
+impl Outcome {
+    /// The refusal, if it is one.
+    pub fn fault(&self) -> Option<ParseFault> {
+        match &self.answer {
+            Ok(_) => None,
+            Err(fault) => Some(*fault),
+        }
+    }
+}
+
+/// Parses what a device gives into a new builder of the first profile.
+pub fn parsed(alloc: Global, mut feed: Pieces) -> Outcome
+    requires count { feed.failures < 2 ^ 64 - 1 }
+    requires not_ended { feed.ended ≡ false }
+{
+    let mut trees = TreeMaker::new(alloc, Profile::first());
+    let answer = parse(&mut feed, &mut trees);
+    Outcome {
+        answer,
+        trees,
+        taken: feed.taken(),
+        failures: feed.failures(),
+    }
+}
+
+/// The fault of a source at this line.
+pub fn source_fault(line: u32, code: Code) -> ParseFault {
+    ParseFault::Source(Diagnostic { line, code })
+}
+
+/// Compares what is wrong with a source, for pieces of each size.
+pub fn check_fault(
+    rt: &(impl Abort + AllocGlobal),
+    source: &[u8],
+    wanted: Option<(u32, Code)>,
+) -> Result<(), Fail> {
+    let wanted = wanted.map(|(line, code)| source_fault(line, code));
+    let front = String::from_utf8_lossy(rt.alloc(), &source[..source.len().min(70)])?;
+    for most in SIZES {
+        let outcome = parsed(rt.alloc(), Pieces::new(source, most));
+        assert_eq!(rt; outcome.fault(), wanted, "{most} bytes at once of {front}");
+    }
+    Ok(())
+}
+
+/// What a parse made, in lines: the externals, and for each function its names and its tree.
+pub fn shown(alloc: Global, outcome: &Outcome) -> Result<String, Fail> {
+    let mut text = String::new(alloc);
+    if let Ok(names) = &outcome.answer {
+        text.push_str("externals")?;
+        add_names(&mut text, names.externals())?;
+        for tree in outcome.trees.functions() {
+            text.push_str("\n")?;
+            add_function(&mut text, names, tree)?;
+        }
+    }
+    Ok(text)
+}
+
+// Adds a function's name, those of its variables, and its tree.
+fn add_function(text: &mut String, names: &Pools, tree: &FunctionTree) -> Result<(), Fail> {
+    if let Some(function) = names.functions().get(tree.number as usize) {
+        text.push_str(str::from_utf8(function.name().as_bytes())?)?;
+        add_names(text, function.variables())?;
+    }
+    write!(text, ": {tree:?}")?;
+    Ok(())
+}
+
+// Adds names, each behind a space.
+fn add_names(text: &mut String, names: &[Name]) -> Result<(), Fail> {
+    for name in names {
+        text.push_str(" ")?;
+        text.push_str(str::from_utf8(name.as_bytes())?)?;
+    }
+    Ok(())
+}
+
+/// Compares what a source's parse makes with these lines, for pieces of each size.
+pub fn check_trees(
+    rt: &(impl Abort + AllocGlobal),
+    source: &[u8],
+    lines: &[&str],
+) -> Result<(), Fail> {
+    let wanted = lines.join(rt.alloc(), "\n")?;
+    for most in SIZES {
+        let outcome = parsed(rt.alloc(), Pieces::new(source, most));
+        let made = shown(rt.alloc(), &outcome)?;
+        assert_eq!(rt; made.as_str(), wanted.as_str(), "{most} bytes at once");
+    }
+    Ok(())
+}
