@@ -6,7 +6,7 @@ use super::*;
 use code::{Maker, Program};
 use grammar::{Build, BuildFault, Callee, Function, Intrinsic, Name, Pools, Profile};
 
-// A name of these bytes.
+// Makes a name of these bytes.
 fn name_of(bytes: &[u8]) -> Name
     requires { length bytes.now ≤ 31 }
     ensures { result ≡ bytes.now }
@@ -18,7 +18,7 @@ fn name_of(bytes: &[u8]) -> Name
     name
 }
 
-// The names of a file with a function `main` alone.
+// Makes the names of a file with a function `main` alone.
 fn main_alone() -> Pools
     ensures { result ≡ record { externals = []; functions = record { name = codes "main"; parameters = 0; variables = [] } ∷ [] } }
 {
@@ -27,7 +27,7 @@ fn main_alone() -> Pools
     names
 }
 
-// `main(){}`
+// Builds `main(){}`.
 fn resting() -> Result<Program, BuildFault> {
     let mut maker = Maker::new(Profile::first());
     maker.begin_function(0, 0)?;
@@ -37,7 +37,7 @@ fn resting() -> Result<Program, BuildFault> {
     Ok(maker.finish(main_alone()))
 }
 
-// `main(){cannon(0,0);}`: it restarts in each 7th cycle, and shoots at its feet in cycles 4, 11, 18 and so on.
+// Builds `main(){cannon(0,0);}`: it restarts in each 7th cycle, and shoots at its feet in cycles 4, 11, 18 and so on.
 fn shooting() -> Result<Program, BuildFault> {
     let mut maker = Maker::new(Profile::first());
     maker.begin_function(0, 0)?;

@@ -63,7 +63,7 @@ pub(crate) fn compile_into<F: Feed, O: Sink, E: Sink>(
     Ok(status)
 }
 
-/// The status of two parts of a run.
+/// Returns the status of two parts of a run: `Faulty` if one of them has it.
 pub(crate) fn both(first: Status, second: Status) -> Status
     ensures { result ≡ both first second }
 {
