@@ -73,9 +73,9 @@ pub(crate) fn both(first: Status, second: Status) -> Status
     }
 }
 
-/// Compiles the file of a feed. Keeps a good file's program, and puts its listing if listings are asked for; of a faulty
-/// one puts the diagnostic. Answers whether the file was read, and then whether all was put, and then whether the file is
-/// good.
+/// Compiles the file of a feed. Keeps a good file's program, and puts its listing if listings are asked for; of a
+/// faulty one puts the diagnostic. Answers whether the file was read, and then whether all was put, and then whether
+/// the file is good.
 #[inline(never)]
 fn compile_file<F: Feed, O: Sink, E: Sink>(
     programs: &mut Programs,
