@@ -89,7 +89,7 @@ impl Default for Motion {
 }
 
 impl Motion {
-    /// Stands at a place, at rest.
+    /// Makes the motion of a robot that stands at a place in tenths of a metre, at rest.
     pub fn standing(x: u16, y: u16) -> Motion
         requires x { x ≤ 9999 }
         requires y { y ≤ 9999 }
@@ -202,7 +202,7 @@ impl Motion {
         }
     }
 
-    // Stands at rest at a place, as the origin of a new leg with the same heading.
+    // Stops at a place, which is the origin of a new leg with the same heading.
     fn stopped_at(self, x: u16, y: u16) -> Motion
         requires x { x ≤ 9999 }
         requires y { y ≤ 9999 }
@@ -283,7 +283,7 @@ impl Motion {
         self.steered().sped().forward()
     }
 
-    /// Stands at rest at the place where it was before the update.
+    /// Stops at the place where it was before the update.
     pub fn put_back(self, x: u16, y: u16) -> Motion
         requires x { x ≤ 9999 }
         requires y { y ≤ 9999 }

@@ -51,7 +51,7 @@ impl Default for Robot {
 }
 
 impl Robot {
-    /// Stands at a place in tenths of a metre, at rest and unhurt.
+    /// Makes a robot that stands at a place in tenths of a metre, at rest and unhurt.
     #[tactic(auto, unfolding(crate::specs::Ground::body_of, crate::specs::Field::damage_of, crate::specs::Start::standing))]
     pub fn standing(x: u16, y: u16) -> Robot
         requires x { x ≤ 9999 }

@@ -20,7 +20,7 @@ const HIGH_HALF: u32 = 6000;
 
 const PLACES: u32 = 3000;
 
-/// Robots at drawn places: the first word chooses the quadrant of robot 0, the others follow in the
+/// Makes robots at drawn places: the first word chooses the quadrant of robot 0, the others follow in the
 /// next ones, and each draws x and then y.
 pub(crate) fn drawn_robots(random: &mut Pcg32, n: usize) -> ArrayVec<Robot, MOST_ROBOTS>
     requires { n ≤ MOST_ROBOTS }
@@ -65,7 +65,7 @@ fn drawn_place(half: u32, word: u32) -> u16
     (from + word % PLACES) as u16
 }
 
-/// Robots at given places, in tenths of a metre.
+/// Makes robots at given places, in tenths of a metre.
 pub(crate) fn placed_robots(
     places: &ArrayVec<(i32, i32), MOST_ROBOTS>,
 ) -> ArrayVec<Robot, MOST_ROBOTS>

@@ -26,7 +26,7 @@ pub const EMPTY_MAIN: &[&str] = &[
     "    2 NOP",
 ];
 
-/// Lines as text.
+/// Makes a text of lines.
 pub fn text_of(alloc: Global, lines: &[&str]) -> Result<Vec<u8>, AllocError> {
     let mut text = Vec::new(alloc);
     for line in lines {

@@ -283,7 +283,7 @@ fn externals_have_a_limit(rt: HostRuntime) -> Result<(), Fail> {
     check_fault(&rt, "a.r", &source, "a.r:10: too many variables")
 }
 
-/// Bytes at the end of a source, so many times.
+/// Adds bytes at the end of a source, so many times.
 fn add_times(source: &mut Vec<u8>, bytes: &[u8], times: usize) -> Result<(), AllocError> {
     for _ in 0..times {
         source.extend_from_slice(bytes)?;

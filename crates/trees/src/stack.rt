@@ -102,7 +102,7 @@ impl Stack {
         self.items.pop().unwrap()
     }
 
-    /// Leaves the innermost, if there is one.
+    /// Drops the innermost, if there is one.
     pub fn leave(&mut self)
         ensures { self.new ≡ below self.old }
     {
