@@ -13,7 +13,7 @@ pub enum Part {
     Numbered(&'static [u8], usize, &'static [u8]),
 }
 
-/// The source of these parts.
+/// Makes the source of these parts.
 pub fn source_of(alloc: Global, parts: &[Part]) -> Result<Vec<u8>, AllocError> {
     let mut source = Vec::new(alloc);
     for part in parts {
