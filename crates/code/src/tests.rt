@@ -5,7 +5,7 @@ ghost use Rattle.std.specs.Prelude.{◌≡◌, ◌≤◌, [], ◌∷◌, codes, 
 use super::*;
 use grammar::{Build, BuildFault, Callee, Function, Intrinsic, Name, Op, Pools, Profile};
 
-// A name of these bytes.
+// Makes a name of these bytes.
 fn name_of(bytes: &[u8]) -> Name
     requires { length bytes.now ≤ 31 }
     ensures { result ≡ bytes.now }
@@ -17,7 +17,7 @@ fn name_of(bytes: &[u8]) -> Name
     name
 }
 
-// The names of a file with a function `main` alone.
+// Makes the names of a file with a function `main` alone.
 fn main_alone() -> Pools
     ensures { result ≡ record { externals = []; functions = record { name = codes "main"; parameters = 0; variables = [] } ∷ [] } }
 {
@@ -26,7 +26,7 @@ fn main_alone() -> Pools
     names
 }
 
-// `main(){damage();}`
+// Builds `main(){damage();}`.
 fn asking_main() -> Result<Program, BuildFault> {
     let mut maker = Maker::new(Profile::first());
     maker.begin_function(0, 0)?;
@@ -39,7 +39,7 @@ fn asking_main() -> Result<Program, BuildFault> {
     Ok(maker.finish(main_alone()))
 }
 
-// `main(){while(1) if(0) 2; else 3;}`
+// Builds `main(){while(1) if(0) 2; else 3;}`.
 fn turning_main() -> Result<Program, BuildFault> {
     let mut maker = Maker::new(Profile::first());
     maker.begin_function(0, 0)?;
@@ -61,7 +61,7 @@ fn turning_main() -> Result<Program, BuildFault> {
     Ok(maker.finish(main_alone()))
 }
 
-// `main(){0 && 3;}`, by the second profile
+// Builds `main(){0 && 3;}`, by the second profile.
 fn deciding_main() -> Result<Program, BuildFault> {
     let mut maker = Maker::new(Profile::second());
     maker.begin_function(0, 0)?;
@@ -76,7 +76,7 @@ fn deciding_main() -> Result<Program, BuildFault> {
     Ok(maker.finish(main_alone()))
 }
 
-// Whether the listing has these lines behind the line that names the file.
+// Reports whether the listing has these lines after the line that names the file.
 fn lists(program: &Program, lines: &[&str]) -> bool {
     let mut line = Line::new();
     for (n, expected) in lines.iter().enumerate() {
@@ -154,7 +154,7 @@ fn a_decided_and_leaves_out_its_right_side(rt: HostRuntime) {
     assert_eq!(rt; first_restart(&program), Some(6));
 }
 
-// The first cycle whose instruction doesn't fit, where every reply is 0; no cycle, where that is past 200.
+// Returns the first cycle whose instruction doesn't fit, if every reply is 0; no cycle, if that is past 200.
 fn first_restart(program: &Program) -> Option<u32> {
     let mut machine = Machine::new(program);
     for cycle in 1..=200 {
@@ -193,7 +193,7 @@ fn asks_in_its_cycle(rt: HostRuntime) {
     assert_eq!(rt; first_restart(&program), Some(5));
 }
 
-// A main function with this many statements `1;`.
+// Builds a main function with this many statements `1;`.
 fn ends(profile: Profile, statements: u32) -> Result<(), BuildFault> {
     let mut maker = Maker::new(profile);
     maker.begin_function(0, 0)?;
