@@ -38,7 +38,7 @@ impl Punctuator {
         })
     }
 
-    /// Reports whether the next byte, which is at hand, shows that it ends here.
+    /// Reports whether the next byte, if it is at hand, shows that it ends here.
     #[inline(always)]
     pub(crate) fn ends_before(self, next: Option<u8>) -> bool
         ensures { result ≡ true → EndsBefore self next }
@@ -49,7 +49,7 @@ impl Punctuator {
         }
     }
 
-    /// Reports whether the byte is the last of a punctuator of more than one.
+    /// Reports whether the byte is the last of a punctuator of more than one byte.
     #[inline(always)]
     #[tactic(auto, unfolding(crate::specs::Punctuators::punctuator_of))]
     fn may_grow_by(self, b: u8) -> bool
