@@ -6,7 +6,7 @@ use Rattle.arena.specs.Field.{Shot, Robot, Field, is_alive, robot_at}
 use Rattle.arena.specs.Collisions.{mover, touches}
 use Rattle.arena.specs.Shots.{bursts}
 
--- a robot that collides stands again at its old place, at rest, with the heading that it turned to
+-- a robot that collides is at its old place again, at rest, with the heading that it turned to
 unfoldable pub put_back : Leg → Leg → Leg
 put_back old leg = record leg {
   origin_x = place_x old;

@@ -158,7 +158,7 @@ impl Arena {
         self.robot(robot).is_alive()
     }
 
-    /// A robot's damage so far, in percent.
+    /// Returns a robot's damage so far, in percent.
     pub fn damage(&self, robot: usize) -> u8
         requires { robot < length self.now.robots }
         ensures most { result ≤ 100 }
@@ -167,7 +167,7 @@ impl Arena {
         self.robot(robot).damage()
     }
 
-    /// A robot's place, east and north, in tenths of a metre from 0 to 9,999.
+    /// Returns a robot's place, east and north, in tenths of a metre from 0 to 9,999.
     pub fn place(&self, robot: usize) -> (u16, u16)
         requires { robot < length self.now.robots }
         ensures x { (f : Field) → StandsFor self.now f → result.0 ≡ place_x (robot_at f robot).leg }
@@ -179,21 +179,21 @@ impl Arena {
         (robot.x(), robot.y())
     }
 
-    /// How many robots live.
+    /// Returns how many robots live.
     pub fn live_count(&self) -> usize
         ensures { (f : Field) → StandsFor self.now f → result ≡ live_count f }
     {
         living(self.robots.as_slice())
     }
 
-    // No robot has more than two missiles in the air.
+    // Proves that no robot has more than two missiles in the air.
     pub(crate) fn keeps_two(&self)
         ensures { All (λ s. length s ≤ 2) self.now.slots }
     {
         let _ = &self.updates;
     }
 
-    // The robot of a number.
+    // Returns the robot of a number.
     fn robot(&self, robot: usize) -> &Robot
         requires { robot < length self.now.robots }
         ensures value { result.now ≡ slice_index_or self.now.robots robot (body_of no_robot) }
@@ -202,7 +202,7 @@ impl Arena {
         &self.robots[robot]
     }
 
-    // The range of the nearest robot in an arc, or 0.
+    // Returns the range in metres of the nearest robot in an arc, or 0.
     fn scan(&self, robot: usize, degree: i32, resolution: i32) -> i32
         requires { robot < length self.now.robots }
         ensures { (f : Field) → StandsFor self.now f
@@ -255,14 +255,14 @@ impl Arena {
     }
 }
 
-// How many of some robots live.
+// Returns how many of some robots live.
 fn living(robots: &[Robot]) -> usize
     ensures { result ≡ count_by (λ (b : Body). nat_lt b.damage 100) robots.now }
 {
     robots.iter().filter(|robot| robot.is_alive()).count()
 }
 
-// A number, or the end of 0..=most that it lies beyond.
+// Returns a number from 0 to `most` as it is, and the nearer end of that range for any other.
 #[tactic(auto, unfolding(crate::specs::Leg::brought))]
 fn brought(number: i32, most: u16) -> u16
     ensures value { result ≡ brought most number }

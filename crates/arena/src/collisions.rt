@@ -32,7 +32,8 @@ impl Model for Mover {
 }
 
 impl Mover {
-    /// A robot at a place, live or not, with a candidate for the next place.
+    /// Makes the mover of a robot, live or not, from its place and its candidate for the next one, in tenths of a
+    /// metre.
     pub fn new(live: bool, from_x: u16, from_y: u16, x: u16, y: u16) -> Mover
         requires from_x { from_x ≤ 9999 }
         requires from_y { from_y ≤ 9999 }
@@ -56,7 +57,7 @@ impl Mover {
         self.live
     }
 
-    /// The place before the update on the axis to the east.
+    /// Returns the place before the update on the axis to the east, in tenths of a metre.
     pub fn from_x(&self) -> u16
         ensures value { result ≡ self.now.from_x }
         ensures most { result ≤ 9999 }
@@ -64,7 +65,7 @@ impl Mover {
         self.from_x
     }
 
-    /// The place before the update on the axis to the north.
+    /// Returns the place before the update on the axis to the north, in tenths of a metre.
     pub fn from_y(&self) -> u16
         ensures value { result ≡ self.now.from_y }
         ensures most { result ≤ 9999 }
@@ -110,7 +111,7 @@ impl Mover {
     }
 }
 
-/// The squared distance of two points of the field, in tenths of a metre.
+/// Returns the squared distance of two points of the field, whose coordinates are in tenths of a metre.
 #[tactic(auto, unfolding(crate::specs::Collisions::square))]
 pub fn square(x: u16, y: u16, to_x: u16, to_y: u16) -> u32
     requires x { x ≤ 9999 }
@@ -124,14 +125,14 @@ pub fn square(x: u16, y: u16, to_x: u16, to_y: u16) -> u32
     dx * dx + dy * dy
 }
 
-// How many of some robots a robot collides with.
+// Returns how many of some robots a robot collides with.
 fn hits(mover: &Mover, others: &[Mover]) -> usize
     ensures { result ≡ count_by (collides mover.now) others.now }
 {
     others.iter().filter(|other| mover.collides(other)).count()
 }
 
-/// How many others a robot collides with.
+/// Returns how many others a robot collides with.
 #[tactic(auto, unfolding(crate::specs::Collisions::touches, crate::specs::Collisions::others))]
 pub fn touches(movers: &[Mover], robot: usize) -> usize
     requires { robot < length movers.now }

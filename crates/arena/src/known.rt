@@ -2,7 +2,7 @@
 
 ghost use Rattle.arena.specs.KnownFields.{Scans, Starts, Drives, Knocks, Rings, Missiles};
 
-/// The definitions give these values in known fields.
+/// Proves that the definitions give these values in known fields.
 pub fn known_fields()
     ensures scans { Scans }
     ensures starts { Starts }

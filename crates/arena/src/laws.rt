@@ -7,7 +7,7 @@ ghost use Rattle.arena.specs.Standing.{StandsFor};
 
 use crate::arenas::Arena;
 
-/// No robot has more than two missiles in the air, in any field that an arena represents.
+/// Proves that no robot has more than two missiles in the air, in any field that an arena represents.
 pub fn two_missiles(arena: &Arena)
     ensures { (f : Field) (i : ℕ) → StandsFor arena.now f → length (in_air f.updates i f.shots) ≤ 2 }
 {

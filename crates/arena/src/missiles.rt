@@ -33,7 +33,7 @@ impl Model for Missiles {
 }
 
 impl Missiles {
-    /// No missile in the air, for so many robots.
+    /// Makes the missiles of so many robots, none of them in the air.
     pub fn none(robots: usize) -> Missiles
         requires { robots ≤ MOST_ROBOTS }
         ensures count { length result ≡ robots }
@@ -84,7 +84,7 @@ impl Missiles {
         update < self.next
     }
 
-    /// The damage that the bursts of an update do at a place in tenths of a metre.
+    /// Returns the damage in percent that the bursts of an update do at a place in tenths of a metre.
     pub fn damage_at(&self, update: u32, x: u16, y: u16) -> u8
         requires x { x ≤ 9999 }
         requires y { y ≤ 9999 }

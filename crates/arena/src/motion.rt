@@ -89,7 +89,7 @@ impl Default for Motion {
 }
 
 impl Motion {
-    /// Stands at a place, at rest.
+    /// Makes the motion of a robot that stands at a place in tenths of a metre, at rest.
     pub fn standing(x: u16, y: u16) -> Motion
         requires x { x ≤ 9999 }
         requires y { y ≤ 9999 }
@@ -110,7 +110,7 @@ impl Motion {
         }
     }
 
-    /// The place on the axis to the east, in tenths of a metre.
+    /// Returns the place on the axis to the east, in tenths of a metre.
     pub fn x(&self) -> u16
         ensures value { result ≡ self.now.x }
         ensures most { result ≤ 9999 }
@@ -118,7 +118,7 @@ impl Motion {
         self.x
     }
 
-    /// The place on the axis to the north, in tenths of a metre.
+    /// Returns the place on the axis to the north, in tenths of a metre.
     pub fn y(&self) -> u16
         ensures value { result ≡ self.now.y }
         ensures most { result ≤ 9999 }
@@ -126,7 +126,7 @@ impl Motion {
         self.y
     }
 
-    /// The present speed.
+    /// Returns the present speed, in percent.
     pub fn speed(&self) -> u8
         ensures value { result ≡ self.now.speed }
         ensures most { result ≤ 100 }
@@ -155,7 +155,7 @@ impl Motion {
         }
     }
 
-    // A new leg from the present place.
+    // Begins a new leg at the present place.
     fn begun(self) -> Motion
         ensures leg { (leg : Leg) → self ≡ track_of leg → result ≡ track_of (begun leg) }
         ensures way { (result.east ≡ pos 0) × (result.north ≡ pos 0) }
@@ -202,7 +202,7 @@ impl Motion {
         }
     }
 
-    // Stands at rest at a place, as the origin of a new leg with the same heading.
+    // Stops at a place, which is the origin of a new leg with the same heading.
     fn stopped_at(self, x: u16, y: u16) -> Motion
         requires x { x ≤ 9999 }
         requires y { y ≤ 9999 }
@@ -283,7 +283,7 @@ impl Motion {
         self.steered().sped().forward()
     }
 
-    /// Stands at rest at the place where it was before the update.
+    /// Stops at the place where it was before the update.
     pub fn put_back(self, x: u16, y: u16) -> Motion
         requires x { x ≤ 9999 }
         requires y { y ≤ 9999 }
@@ -295,7 +295,7 @@ impl Motion {
     }
 }
 
-// The way on an axis after an update at this speed.
+// Returns the way on an axis after an update at this speed.
 fn further(way: i64, speed: u8, part: i32) -> i64
     requires way { unsigned_abs way < 2 ^ 50 }
     requires speed { speed ≤ 100 }
@@ -306,7 +306,7 @@ fn further(way: i64, speed: u8, part: i32) -> i64
     way + i64::from(speed) * i64::from(part)
 }
 
-/// The coordinate to which a way leads from an origin, perhaps beyond a wall.
+/// Returns the coordinate to which a way leads from an origin, in tenths of a metre, perhaps beyond a wall.
 #[tactic(auto, unfolding(crate::specs::Leg::along))]
 pub(crate) fn along(origin: u16, way: i64) -> i64
     requires { unsigned_abs way < 2 ^ 51 }
@@ -330,7 +330,7 @@ fn hits_wall(x: i64, y: i64) -> bool
     is_outside(x) || is_outside(y)
 }
 
-/// The nearest place of the field.
+/// Returns the place of the field that is nearest to a coordinate.
 #[tactic(auto, unfolding(crate::specs::Leg::brought))]
 pub(crate) fn brought(z: i64) -> u16
     ensures value { result ≡ brought last_place z }
@@ -339,7 +339,7 @@ pub(crate) fn brought(z: i64) -> u16
     z.clamp(0, i64::from(LAST_PLACE)) as u16
 }
 
-/// The speed after an update, towards the wanted one.
+/// Returns the speed after an update, towards the wanted one.
 #[tactic(auto, using(std::proofs::lemmas::Bool::Decides::nat_tests), unfolding(crate::specs::Leg::approached))]
 fn approached(speed: u8, wanted: u8) -> u8
     requires speed { speed ≤ 100 }

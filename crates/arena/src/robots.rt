@@ -51,7 +51,7 @@ impl Default for Robot {
 }
 
 impl Robot {
-    /// Stands at a place in tenths of a metre, at rest and unhurt.
+    /// Makes a robot that stands at a place in tenths of a metre, at rest and unhurt.
     #[tactic(auto, unfolding(crate::specs::Ground::body_of, crate::specs::Field::damage_of, crate::specs::Start::standing))]
     pub fn standing(x: u16, y: u16) -> Robot
         requires x { x ≤ 9999 }
@@ -79,7 +79,7 @@ impl Robot {
         !self.is_alive() || self.motion.rests()
     }
 
-    /// The damage so far, in percent.
+    /// Returns the damage so far, in percent.
     pub fn damage(&self) -> u8
         ensures value { result ≡ self.now.damage }
         ensures most { result ≤ 100 }
@@ -87,7 +87,7 @@ impl Robot {
         self.damage
     }
 
-    /// The place on the axis to the east, in whole metres rounded down.
+    /// Returns the place on the axis to the east, in whole metres rounded down.
     #[tactic(auto, unfolding(crate::specs::Field::metres_x, crate::specs::Ground::body_of, crate::specs::Ground::track_of))]
     pub fn metres_x(&self) -> u16
         ensures value { (robot : FieldRobot) → self.now ≡ body_of robot → result ≡ metres_x robot }
@@ -96,7 +96,7 @@ impl Robot {
         self.x() / TENTHS
     }
 
-    /// The place on the axis to the north, in whole metres rounded down.
+    /// Returns the place on the axis to the north, in whole metres rounded down.
     #[tactic(auto, unfolding(crate::specs::Field::metres_y, crate::specs::Ground::body_of, crate::specs::Ground::track_of))]
     pub fn metres_y(&self) -> u16
         ensures value { (robot : FieldRobot) → self.now ≡ body_of robot → result ≡ metres_y robot }
@@ -105,7 +105,7 @@ impl Robot {
         self.y() / TENTHS
     }
 
-    /// The present speed, in percent.
+    /// Returns the present speed, in percent.
     pub fn speed(&self) -> u8
         ensures value { result ≡ self.now.track.speed }
         ensures most { result ≤ 100 }
@@ -146,7 +146,7 @@ impl Robot {
         }
     }
 
-    /// The robot as collisions see it, with what it would drive on its own.
+    /// Returns the robot as collisions see it, with what it would drive on its own.
     #[tactic(auto, unfolding(crate::specs::Drive::drive_of, crate::specs::Collisions::mover, crate::specs::Ground::body_of, crate::specs::Ground::track_of, crate::specs::Field::is_alive))]
     pub fn mover(&self, drive: &Drive) -> Mover
         ensures { (robot : FieldRobot) → self.now ≡ body_of robot → drive.now ≡ drive_of robot → result ≡ mover robot }
@@ -160,7 +160,7 @@ impl Robot {
         )
     }
 
-    /// Moves on for an update, as far as walls let it, and tells what collisions have to know; a dead robot stays.
+    /// Moves on for an update, as far as walls let it, and returns what collisions have to know; a dead robot stays.
     pub fn drive_on(&mut self) -> Mover
         requires east { unsigned_abs self.old.track.east < 2 ^ 50 }
         requires north { unsigned_abs self.old.track.north < 2 ^ 50 }
@@ -176,7 +176,7 @@ impl Robot {
         mover
     }
 
-    /// The motion of a live robot that has moved on, given how many others it collides with.
+    /// Returns the motion of a live robot that has moved on, given how many others it collides with.
     pub fn settled(&self, seen: &Mover, touched: usize) -> Motion
         ensures leg { (robot : FieldRobot) → self.now ≡ ahead robot → seen.now ≡ mover robot
             → is_alive robot ≡ true → result ≡ track_of (settled robot.leg touched) }
@@ -188,7 +188,7 @@ impl Robot {
         self.motion
     }
 
-    /// A robot with this motion and this damage in percent.
+    /// Makes a robot with this motion and this damage in percent.
     pub fn new(motion: Motion, damage: u8) -> Robot
         requires { damage ≤ 100 }
         ensures { result ≡ record { track = motion; damage = damage } }
@@ -196,7 +196,7 @@ impl Robot {
         Robot { motion, damage }
     }
 
-    /// The place on the axis to the east, in tenths of a metre.
+    /// Returns the place on the axis to the east, in tenths of a metre.
     pub fn x(&self) -> u16
         ensures value { result ≡ self.now.track.x }
         ensures most { result ≤ 9999 }
@@ -204,7 +204,7 @@ impl Robot {
         self.motion.x()
     }
 
-    /// The place on the axis to the north, in tenths of a metre.
+    /// Returns the place on the axis to the north, in tenths of a metre.
     pub fn y(&self) -> u16
         ensures value { result ≡ self.now.track.y }
         ensures most { result ≤ 9999 }
@@ -213,7 +213,7 @@ impl Robot {
     }
 }
 
-// The damage in percent of a robot that perhaps drove against a wall.
+// Returns the damage in percent of a robot that perhaps drove against a wall.
 fn walled(damage: u8, walled: bool) -> u8
     requires { damage ≤ 100 }
     ensures value { result ≡ min (damage + (if walled then WALL else 0)) 100 }
@@ -225,7 +225,7 @@ fn walled(damage: u8, walled: bool) -> u8
     (damage + WALL).min(DEADLY)
 }
 
-/// The damage in percent when so many other robots and bursts hurt a robot.
+/// Returns the damage in percent after so many other robots and so much damage by bursts hurt a robot.
 pub fn worn(damage: u8, touched: usize, bursts: u8) -> u8
     requires damage { damage ≤ 100 }
     requires touched { touched ≤ 4 }

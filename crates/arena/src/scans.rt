@@ -13,8 +13,8 @@ use crate::collisions::square;
 use crate::robots::Robot;
 use arith::{bears_within, root};
 
-/// The range in metres of the nearest live robot whose bearing differs from a degree by at most the
-/// resolution of at most 10, or 0.
+/// Returns the range in metres of the nearest live robot whose bearing differs from a degree by at most the resolution
+/// of at most 10, or 0.
 pub(crate) fn scan(robots: &[Robot], robot: usize, degree: u16, resolution: u16) -> u16
     requires inside { robot < length robots.now }
     requires degree { degree < 360 }
@@ -27,7 +27,7 @@ pub(crate) fn scan(robots: &[Robot], robot: usize, degree: u16, resolution: u16)
     distance(square)
 }
 
-// The squared distance of the nearest of some robots that are seen, if nearer than one so far; 0 is none.
+// Returns the squared distance of the nearest of some robots that are seen, if nearer than one so far; 0 is none.
 fn nearest(from: &Robot, others: &[Robot], degree: u16, resolution: u16, so_far: u32) -> u32
     requires degree { degree < 360 }
     requires resolution { resolution ≤ 10 }
@@ -43,8 +43,8 @@ fn nearest(from: &Robot, others: &[Robot], degree: u16, resolution: u16, so_far:
     nearest
 }
 
-// The squared distance of a robot, if it is seen and nearer than the one so far, of which 0 is none. Whether one is
-// seen that isn't nearer need not be known.
+// Returns the squared distance of a robot if it is seen and nearer than the one so far, else the one so far, of which 0
+// is none. Whether one is seen that isn't nearer need not be known.
 fn nearer(from: &Robot, other: &Robot, degree: u16, resolution: u16, so_far: u32) -> u32
     requires degree { degree < 360 }
     requires resolution { resolution ≤ 10 }
@@ -109,7 +109,7 @@ fn in_arc(x: u16, y: u16, to_x: u16, to_y: u16, degree: u16, resolution: u16) ->
     bears_within(east, north, degree, resolution)
 }
 
-// The squared distance of two robots, in metres: at least 1.
+// Returns the squared distance of two robots, in metres: at least 1.
 #[tactic(auto, unfolding(crate::specs::Scan::square_to))]
 fn square_to(from: &Robot, to: &Robot) -> u32
     ensures value { (a b : FieldRobot) → from.now ≡ body_of a → to.now ≡ body_of b → result ≡ square_to a b }
@@ -124,7 +124,7 @@ fn square_to(from: &Robot, to: &Robot) -> u32
     square.max(1)
 }
 
-// The whole root of a squared distance.
+// Returns the whole root of a squared distance.
 fn distance(square: u32) -> u16
     requires { square ≤ 2000000 }
     ensures { result ≡ unsigned_abs (root_of (pos square)) }

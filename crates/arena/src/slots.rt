@@ -41,8 +41,8 @@ impl Model for Missile {
 }
 
 impl Missile {
-    /// A missile that is fired after so many updates from a place in tenths of a metre, in the
-    /// direction of a degree and at a range in metres.
+    /// Makes a missile that is fired after so many updates from a place in tenths of a metre, in the direction of a
+    /// degree and at a range in metres.
     #[tactic(auto, unfolding(crate::specs::Shots::aimed_x, crate::specs::Shots::aimed_y))]
     pub fn new(updates: u32, x: u16, y: u16, degree: u16, range: u16) -> Missile
         requires updates { updates ≤ 66666667 }
@@ -63,7 +63,7 @@ impl Missile {
         }
     }
 
-    /// The update in which the missile bursts.
+    /// Returns the update in which the missile bursts.
     pub fn burst(&self) -> u32
         ensures { result ≡ self.now.burst }
     {
@@ -77,7 +77,7 @@ impl Missile {
         update < self.burst
     }
 
-    // The damage that the missile does in an update at a place.
+    // Returns the damage in percent that the missile does in an update at a place.
     #[tactic(auto, unfolding(crate::specs::Shots::bursts, crate::specs::Shots::due_at, crate::specs::Ground::shot_of))]
     fn damage_at(&self, update: u32, x: u16, y: u16) -> u8
         requires x { x ≤ 9999 }
@@ -93,7 +93,7 @@ impl Missile {
     }
 }
 
-// How many updates a missile flies to this range in metres.
+// Returns how many updates a missile flies to this range in metres.
 #[tactic(auto, unfolding(crate::specs::Shots::flight))]
 fn flight(range: u16) -> u32
     requires { range ≤ 700 }
@@ -103,7 +103,7 @@ fn flight(range: u16) -> u32
     u32::from(range.div_ceil(FLIGHT).max(1))
 }
 
-// Where a missile bursts on an axis, from a place in tenths and at a range in metres, by the part of
+// Returns where a missile bursts on an axis, from a place in tenths of a metre and at a range in metres, by the part of
 // the range that lies on the axis.
 fn aimed(from: u16, range: u16, part: i32) -> u16
     requires from { from ≤ 9999 }
@@ -116,7 +116,7 @@ fn aimed(from: u16, range: u16, part: i32) -> u16
     brought(along(from, way))
 }
 
-// The damage of a burst at a squared distance in tenths of a metre: by the smallest ring of 5, 20
+// Returns the damage in percent of a burst at a squared distance in tenths of a metre: by the smallest ring of 5, 20
 // and 40 metres.
 #[tactic(auto, unfolding(crate::specs::Shots::ring))]
 fn ring(square: u32) -> u8
@@ -181,7 +181,7 @@ impl Slots {
         self.missiles.push(missile);
     }
 
-    // The damage that the missiles do in an update at a place.
+    // Returns the damage in percent that the missiles do in an update at a place.
     fn damage_at(&self, update: u32, x: u16, y: u16) -> u8
         requires x { x ≤ 9999 }
         requires y { y ≤ 9999 }
@@ -195,7 +195,7 @@ impl Slots {
         damage
     }
 
-    // An update before which none of the missiles bursts: the next one with a burst.
+    // Returns an update before which none of the missiles bursts: the next one with a burst.
     fn next_burst(&self) -> u32
         ensures { All (λ m. result ≤ m.burst) self.now }
     {
@@ -235,7 +235,7 @@ impl Slots {
     }
 }
 
-/// No missile in the air, for so many robots.
+/// Makes the missiles of so many robots, none of them in the air.
 pub fn no_missiles(n: usize) -> ArrayVec<Slots, MOST_ROBOTS>
     requires { n ≤ MOST_ROBOTS }
     ensures count { length result.items ≡ n }
@@ -284,7 +284,7 @@ pub fn fire(slots: &mut [Slots], robot: usize, missile: Missile)
     slots[robot].add(missile);
 }
 
-/// An update before which no missile bursts: the next one with a burst.
+/// Returns an update before which no missile bursts: the next one with a burst.
 pub fn next_burst(slots: &[Slots]) -> u32
     ensures { NoneBefore result slots.now }
 {
@@ -295,7 +295,7 @@ pub fn next_burst(slots: &[Slots]) -> u32
     next
 }
 
-/// The damage that the bursts of an update do at a place in tenths of a metre.
+/// Returns the damage in percent that the bursts of an update do at a place in tenths of a metre.
 pub fn damage_at(slots: &[Slots], update: u32, x: u16, y: u16) -> u8
     requires robots { length slots.now ≤ MOST_ROBOTS }
     requires x { x ≤ 9999 }

@@ -20,7 +20,7 @@ const HIGH_HALF: u32 = 6000;
 
 const PLACES: u32 = 3000;
 
-/// Robots at drawn places: the first word chooses the quadrant of robot 0, the others follow in the
+/// Makes robots at drawn places: the first word chooses the quadrant of robot 0, the others follow in the
 /// next ones, and each draws x and then y.
 pub(crate) fn drawn_robots(random: &mut Pcg32, n: usize) -> ArrayVec<Robot, MOST_ROBOTS>
     requires { n ≤ MOST_ROBOTS }
@@ -40,7 +40,7 @@ pub(crate) fn drawn_robots(random: &mut Pcg32, n: usize) -> ArrayVec<Robot, MOST
     robots
 }
 
-// A robot at a drawn place of a quadrant, of which bit 0 is the east half and bit 1 the north half.
+// Draws a robot's place in a quadrant, of which bit 0 is the east half and bit 1 the north half.
 fn drawn_robot(random: &mut Pcg32, quadrant: u32) -> Robot
     requires { quadrant < 4 }
     ensures robot { (seed number drawn : ℕ) → random.old ≡ generator seed number drawn
@@ -55,7 +55,7 @@ fn drawn_robot(random: &mut Pcg32, quadrant: u32) -> Robot
     Robot::standing(x, y)
 }
 
-// The place of a word in the low half of an axis, or in the high one.
+// Returns the place of a word in the low half of an axis, or in the high one.
 #[tactic(auto, unfolding(crate::specs::Start::drawn_place))]
 fn drawn_place(half: u32, word: u32) -> u16
     ensures value { result ≡ drawn_place half word }
@@ -65,7 +65,7 @@ fn drawn_place(half: u32, word: u32) -> u16
     (from + word % PLACES) as u16
 }
 
-/// Robots at given places, in tenths of a metre.
+/// Makes robots at given places, in tenths of a metre.
 pub(crate) fn placed_robots(
     places: &ArrayVec<(i32, i32), MOST_ROBOTS>,
 ) -> ArrayVec<Robot, MOST_ROBOTS>
@@ -81,7 +81,7 @@ pub(crate) fn placed_robots(
     robots
 }
 
-// A given coordinate.
+// Returns a given coordinate as a place of the field.
 #[tactic(auto, unfolding(crate::specs::Leg::brought))]
 fn coordinate(z: i32) -> u16
     requires least { pos 0 ≤ℤ z }

@@ -35,7 +35,7 @@ fn all_stay(robots: &[Robot]) -> bool
     true
 }
 
-// Moves robots on, each as far as walls let it, and tells what collisions have to know.
+// Moves robots on, each as far as walls let it, and returns what collisions have to know.
 fn drive_on(robots: &mut [Robot]) -> ArrayVec<Mover, MOST_ROBOTS>
     requires most { length robots.old ≤ MOST_ROBOTS }
     requires way { All (λ (b : Body). IsWithin (2 ^ 50 - 1) b.track) robots.old }
@@ -52,7 +52,7 @@ fn drive_on(robots: &mut [Robot]) -> ArrayVec<Mover, MOST_ROBOTS>
     movers
 }
 
-// One robot after the update, from where it has moved on, given how many others it collides with.
+// Returns one robot after the update, from where it has moved on, given how many others it collides with.
 fn finished(robot: &Robot, seen: &Mover, touched: usize, missiles: &Missiles, update: u32) -> Robot
     requires { touched ≤ 4 }
     ensures robot { (r : FieldRobot) (updates : ℕ) (shots : List Shot) → update ≡ updates + 1
@@ -84,7 +84,7 @@ fn finish(robots: &mut [Robot], movers: &[Mover], missiles: &Missiles, update: u
     }
 }
 
-/// Leads robots to where they are after an update, of which this is the number. Most updates have no burst, and no two
+/// Moves robots to where they are after an update, of which this is the number. Most updates have no burst, and no two
 /// robots near each other.
 pub fn move_on(robots: &mut [Robot], missiles: &Missiles, update: u32)
     requires most { length robots.old ≤ MOST_ROBOTS }

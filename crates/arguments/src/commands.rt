@@ -32,7 +32,7 @@ pub(crate) fn parsed<'a>(alloc: Global, words: &'a [&'a str]) -> Result<ArgMatch
     }
 }
 
-/// Whether `clap` refused the words, or was refused memory.
+/// Returns whether `clap` refused the words, or was refused memory.
 fn fault_by(error: &Error) -> UseFault
     ensures memory { kind_of error.now ≡ ErrorKind.OutOfMemory → result ≡ UseFault.Memory }
     ensures usage { kind_of error.now ≢ ErrorKind.OutOfMemory → result ≡ UseFault.Usage }
@@ -45,7 +45,7 @@ fn fault_by(error: &Error) -> UseFault
     }
 }
 
-/// The command: a flag, five options, and one or more files.
+/// Makes the command: a flag, five options, and one or more files.
 fn command<'a>(alloc: Global) -> Result<Command<'a>, AllocError>
     ensures { IfOk result (λ c. app_of c ≡ robots) }
 {
@@ -60,7 +60,7 @@ fn command<'a>(alloc: Global) -> Result<Command<'a>, AllocError>
         .arg(files(alloc, "FILE"))
 }
 
-/// A flag of one letter.
+/// Makes a flag of one letter.
 fn flag<'a>(alloc: Global, id: &'a str, letter: char) -> Arg<'a>
     ensures rule { rule_of result ≡ flag_rule id.entry.now letter }
     ensures local { result.global ≡ false }
@@ -68,7 +68,7 @@ fn flag<'a>(alloc: Global, id: &'a str, letter: char) -> Arg<'a>
     Arg::new(alloc, id).short(letter).action(ArgAction::SetTrue)
 }
 
-/// An option of one letter, with one text.
+/// Makes an option of one letter, with one text.
 fn option<'a>(alloc: Global, id: &'a str, letter: char) -> Arg<'a>
     ensures rule { rule_of result ≡ option_rule id.entry.now letter }
     ensures local { result.global ≡ false }
@@ -76,7 +76,7 @@ fn option<'a>(alloc: Global, id: &'a str, letter: char) -> Arg<'a>
     Arg::new(alloc, id).short(letter).action(ArgAction::Set)
 }
 
-/// One or more words at any place.
+/// Makes the argument of one or more words at any place.
 fn files<'a>(alloc: Global, id: &'a str) -> Arg<'a>
     ensures rule { rule_of result ≡ files_rule id.entry.now }
     ensures local { result.global ≡ false }

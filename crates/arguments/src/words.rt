@@ -27,7 +27,7 @@ pub fn read_words<'a>(alloc: Global, words: &'a [&'a str]) -> Result<Settings<'a
     }
 }
 
-/// What the matches give for each option, and the files, of which there is one at least.
+/// Returns what the matches give for each option, and the files, of which there is one at least.
 fn given<'w, 'a>(matches: &'w ArgMatches<'a>) -> Given<'w, 'a>
     requires { 0 < length (files_in (rows_of (found_of matches.now))) }
     ensures { result ≡ given_by (rows_of (found_of matches.now)) }
@@ -46,7 +46,7 @@ fn given<'w, 'a>(matches: &'w ArgMatches<'a>) -> Given<'w, 'a>
     }
 }
 
-/// Whether `-c` is given.
+/// Reports whether `-c` is given.
 fn is_listing(matches: &ArgMatches<'_>) -> bool
     ensures { result ≡ is_set (codes "c") (rows_of (found_of matches.now)) }
 {

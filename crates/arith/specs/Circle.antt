@@ -16,7 +16,7 @@ sine_at d =
 unfoldable pub cosine_at : ℕ → ℤ
 cosine_at d = sine_at ((d + 90) % 360)
 
--- of any number, by the degree that it stands for
+-- of any number, by its degree of the round
 unfoldable pub sine_of : ℤ → ℤ
 sine_of n = sine_at (degree_of n)
 

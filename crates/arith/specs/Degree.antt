@@ -2,7 +2,7 @@
 use Rattle.std.specs.Prelude.{◌≡◌, ℕ, ◌-◌, ◌%◌, ◌<◌, min, ℤ, pos, negsuc, ◌+ℤ◌, ◌*ℤ◌}
 use Rattle.std.specs.Int.{abs_diff}
 
--- the degree that a number stands for: what is left of it modulo 360, a negative one counted back from 360
+-- the degree of the round of a number: what is left of it modulo 360, a negative one counted back from 360
 unfoldable pub degree_of : ℤ → ℕ
 degree_of (pos n) = n % 360
 degree_of (negsuc n) = 359 - n % 360

@@ -8,7 +8,7 @@ pub record IsRoot (a root : ℤ) : Type 0 where
   pub fits : size * size ≤ unsigned_abs a
   pub greatest : (n : ℕ) → n * n ≤ unsigned_abs a → n ≤ size
 
--- The same number, computed: the root of a quarter, doubled, and one more where that square still fits.
+-- The same number, computed: the root of a quarter, doubled, and one more if that square still fits.
 -- It is right for numbers below 4 to the power `digits`.
 unfoldable pub root_by_quarters : ℕ → ℕ → ℕ
 root_by_quarters zero n = 0

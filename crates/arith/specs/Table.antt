@@ -1,4 +1,4 @@
--- The two tables of the field, scaled by 100,000. They are the definition: no formula stands behind them.
+-- The two tables of the field, scaled by 100,000. They are the definition: they follow from no formula.
 use Rattle.std.specs.Prelude.{ℕ, List, [], ◌∷◌}
 
 -- the sines of 0 to 90 degrees, ten a line

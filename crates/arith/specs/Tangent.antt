@@ -10,6 +10,6 @@ tangent_at d =
     else if d == 90 then pos 2147483647
     else neg_ℤ (pos (slice_index tangents (180 - d)))
 
--- of any number, by the degree that it stands for
+-- of any number, by its degree of the round
 unfoldable pub tangent_of : ℤ → ℤ
 tangent_of n = tangent_at (degree_of n % 180)

@@ -13,8 +13,8 @@ use std::simd::prelude::*;
 /// How often the lanes fill the round of 360 degrees.
 const CHUNKS: u16 = 45;
 
-/// The bearing of a point `dx` metres east and `dy` metres north, both from -999 to 999: the least
-/// degree, 0 to 359, at which it reaches furthest (docs/numbers.md, "Bearing").
+/// Returns the bearing of a point `dx` metres east and `dy` metres north, both from -999 to 999: the least degree, 0 to
+/// 359, at which it reaches furthest (docs/numbers.md, "Bearing").
 pub fn bearing(dx: i32, dy: i32) -> u16
     requires dx_in_field { unsigned_abs dx ≤ 999 }
     requires dy_in_field { unsigned_abs dy ≤ 999 }
@@ -64,7 +64,7 @@ fn leads(dx: i32, dy: i32, degree: u16, other: u16) -> bool
     }
 }
 
-/// How far a point reaches in the direction of a degree, scaled by 100,000.
+/// Returns how far a point reaches in the direction of a degree, scaled by 100,000.
 #[tactic(auto, using(crate::proofs::BearingLemmas::reach_steps), unfolding(crate::specs::Bearing::reach_of))]
 fn reach(dx: i32, dy: i32, degree: u16) -> i32
     requires dx_in_field { unsigned_abs dx ≤ 999 }
@@ -75,7 +75,7 @@ fn reach(dx: i32, dy: i32, degree: u16) -> i32
     dx * cosine_at(degree) + dy * sine_at(degree)
 }
 
-/// The greatest reach of a point over the round, scaled by 100,000.
+/// Returns the greatest reach of a point over the round, scaled by 100,000.
 fn furthest_reach(dx: i32, dy: i32) -> i32
     requires dx_in_field { unsigned_abs dx ≤ 999 }
     requires dy_in_field { unsigned_abs dy ≤ 999 }
@@ -88,7 +88,7 @@ fn furthest_reach(dx: i32, dy: i32) -> i32
     greatest(most.to_array())
 }
 
-/// How far a point reaches in the direction of each degree of a chunk, scaled by 100,000.
+/// Returns how far a point reaches in the direction of each degree of a chunk, scaled by 100,000.
 #[inline(always)]
 fn chunk_reaches(dx: i32, dy: i32, chunk: u16) -> i32x8
     requires dx_in_field { unsigned_abs dx ≤ 999 }
@@ -102,7 +102,7 @@ fn chunk_reaches(dx: i32, dy: i32, chunk: u16) -> i32x8
     i32x8::splat(dx) * cosines + i32x8::splat(dy) * sines
 }
 
-/// The greatest of eight numbers.
+/// Returns the greatest of eight numbers.
 #[inline(always)]
 fn greatest(numbers: [i32; 8]) -> i32
     ensures { IsGreatest numbers result }
@@ -114,7 +114,7 @@ fn greatest(numbers: [i32; 8]) -> i32
     most
 }
 
-/// The first lane of a chunk at whose degree a point reaches this far.
+/// Returns the first lane of a chunk at whose degree a point reaches this far, if any does.
 #[inline(always)]
 fn lane_of_reach(dx: i32, dy: i32, chunk: u16, reach: i32) -> Option<u16>
     requires dx_in_field { unsigned_abs dx ≤ 999 }

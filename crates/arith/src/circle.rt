@@ -6,7 +6,7 @@ ghost use Rattle.arith.specs.Circle.{sine_at, cosine_at, sine_of, cosine_of};
 use crate::degrees::norm_degree;
 use crate::tables::round_entry;
 
-/// The sine of any number of degrees, scaled by 100,000 (docs/numbers.md, "Sine and cosine").
+/// Returns the sine of any number of degrees, scaled by 100,000 (docs/numbers.md, "Sine and cosine").
 #[tactic(auto, unfolding(crate::specs::Circle::sine_of))]
 pub fn sin(degrees: i32) -> i32
     ensures value { result ≡ sine_of degrees }
@@ -15,7 +15,7 @@ pub fn sin(degrees: i32) -> i32
     sine_at(norm_degree(degrees))
 }
 
-/// The cosine of any number of degrees, scaled by 100,000 (docs/numbers.md, "Sine and cosine").
+/// Returns the cosine of any number of degrees, scaled by 100,000 (docs/numbers.md, "Sine and cosine").
 #[tactic(auto, unfolding(crate::specs::Circle::cosine_of))]
 pub fn cos(degrees: i32) -> i32
     ensures value { result ≡ cosine_of degrees }
@@ -24,7 +24,7 @@ pub fn cos(degrees: i32) -> i32
     cosine_at(norm_degree(degrees))
 }
 
-/// The sine of a degree from 0 to 359, scaled by 100,000 (docs/numbers.md, "Sine and cosine").
+/// Returns the sine of a degree from 0 to 359, scaled by 100,000 (docs/numbers.md, "Sine and cosine").
 /// For a heading, which lies on the round already.
 pub fn sine_at(degree: u16) -> i32
     requires { degree < 360 }
@@ -34,7 +34,7 @@ pub fn sine_at(degree: u16) -> i32
     round_entry(degree)
 }
 
-/// The cosine of a degree from 0 to 359, scaled by 100,000 (docs/numbers.md, "Sine and cosine").
+/// Returns the cosine of a degree from 0 to 359, scaled by 100,000 (docs/numbers.md, "Sine and cosine").
 /// For a heading, which lies on the round already.
 #[tactic(auto, unfolding(crate::specs::Circle::cosine_at))]
 pub fn cosine_at(degree: u16) -> i32

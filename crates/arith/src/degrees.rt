@@ -3,8 +3,8 @@
 ghost use Rattle.std.specs.Prelude.{◌≡◌, ◌<◌};
 ghost use Rattle.arith.specs.Degree.{degree_of};
 
-/// The degree of the round, 0 to 359, that any number of degrees stands for: the one that differs
-/// from it by whole rounds (docs/numbers.md, "Degrees").
+/// Returns the degree of the round, 0 to 359, of any number of degrees: the one that differs from it by whole rounds
+/// (docs/numbers.md, "Degrees").
 #[tactic(auto, unfolding(crate::specs::Degree::degree_of))]
 pub fn norm_degree(degrees: i32) -> u16
     ensures value { result ≡ degree_of degrees }

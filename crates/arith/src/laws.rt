@@ -9,30 +9,30 @@ ghost use Rattle.arith.specs.Circle.{IsNearlyOnCircle};
 ghost use Rattle.arith.specs.Bearing.{reach_of, bearing_of};
 ghost use Rattle.arith.specs.KnownValues.{OperatorValues, DegreeValues, RootValues, BearingValues};
 
-/// The degree of a number is 0 to 359 and differs from the number by whole rounds.
+/// Proves that the degree of a number is 0 to 359 and differs from the number by whole rounds.
 pub fn degree_differs_by_rounds(number: i32)
     ensures { IsDegreeOf number (degree_of number) }
 {}
 
-/// For 0 to 90 degrees the squares of sine and cosine add up to the square of the scale, 10^10,
-/// within 150,000.
+/// Proves that for 0 to 90 degrees the squares of sine and cosine add up to the square of the scale, 10^10, within
+/// 150,000.
 pub fn circle_is_nearly_round(degree: u16)
     requires { degree ≤ 90 }
     ensures { IsNearlyOnCircle degree }
 {}
 
-/// The tangents rise from 0 to 89 degrees.
+/// Proves that the tangents rise from 0 to 89 degrees.
 pub fn tangents_rise()
     ensures { IsStrictlyIncreasing tangents }
 {}
 
-/// A point other than the origin reaches forward in the direction of its bearing.
+/// Proves that a point other than the origin reaches forward in the direction of its bearing.
 pub fn bearing_points_forward(dx: i32, dy: i32)
     requires { dx ≡ pos 0 → dy ≡ pos 0 → ⊥ }
     ensures { pos 0 <ℤ reach_of dx dy (bearing_of dx dy) }
 {}
 
-/// The definitions give these known values.
+/// Proves that the definitions give these known values.
 pub fn known_values()
     ensures operators { OperatorValues }
     ensures degrees { DegreeValues }

@@ -7,9 +7,9 @@ ghost use Rattle.arith.specs.Op.{value_of, quotient, remainder};
 /// A binary operator on two numbers `a` and `b` (docs/numbers.md, "Operators").
 #[derive(Clone, Copy, Debug, PartialEq, Eq)]
 pub enum Op {
-    /// `||`: 1 where `a` or `b` is not 0, else 0.
+    /// `||`: 1 if `a` or `b` is not 0, else 0.
     Or,
-    /// `&&`: 1 where neither is 0, else 0.
+    /// `&&`: 1 if neither is 0, else 0.
     And,
     /// `|`: the bits that are in one of the two.
     BitOr,
@@ -45,8 +45,8 @@ pub enum Op {
     Remainder,
 }
 
-/// What an operator makes of any two numbers. Both have been worked out before, also for `&&` and
-/// `||` (docs/numbers.md, "Operators").
+/// Returns what an operator makes of any two numbers. Both have been worked out before, also for `&&` and `||`
+/// (docs/numbers.md, "Operators").
 #[inline(always)]
 #[tactic(auto, using(crate::proofs::OpLemmas::op_steps))]
 pub fn binop(op: Op, a: i32, b: i32) -> i32
@@ -74,7 +74,7 @@ pub fn binop(op: Op, a: i32, b: i32) -> i32
     }
 }
 
-/// The quotient, rounded towards 0; by 0 it is 0. The least number by -1 wraps round to itself.
+/// Returns the quotient, rounded towards 0; by 0 it is 0. The least number by -1 wraps round to itself.
 #[inline(always)]
 #[tactic(auto, using(crate::proofs::OpLemmas::op_steps))]
 fn quotient(a: i32, b: i32) -> i32
@@ -83,7 +83,7 @@ fn quotient(a: i32, b: i32) -> i32
     if b == 0 { 0 } else { a.wrapping_div(b) }
 }
 
-/// The remainder of the quotient, with the sign of `a`; by 0 it is 0.
+/// Returns the remainder of the quotient, with the sign of `a`; by 0 it is 0.
 #[inline(always)]
 fn remainder(a: i32, b: i32) -> i32
     ensures { result ≡ int_wrap w32 (remainder a b) }

@@ -3,7 +3,7 @@
 ghost use Rattle.std.specs.Prelude.{◌≡◌, ◌+◌, ◌*◌, ◌^◌, ◌<◌, ◌≤◌};
 ghost use Rattle.arith.specs.Root.{IsRoot, root_of};
 
-/// The whole square root of a number's size, the greatest n with n * n at most |a|, for any number a
+/// Returns the whole square root of a number's size, the greatest n with n * n at most |a|, for any number a
 /// (docs/numbers.md, "Root").
 #[tactic(auto, using(crate::proofs::RootLemmas::root_steps))]
 pub fn root(number: i32) -> i32
@@ -13,8 +13,8 @@ pub fn root(number: i32) -> i32
     whole_root(number.unsigned_abs()) as i32
 }
 
-/// The whole square root, by Newton's steps down from a guess above it: a step that leads no further
-/// down starts from the root.
+/// Returns the whole square root, by Newton's steps down from a guess above it: a step that leads no further down
+/// starts from the root.
 fn whole_root(square: u32) -> u32
     requires { square ≤ 2 ^ 31 }
     ensures fits { result * result ≤ square }
@@ -33,7 +33,7 @@ fn whole_root(square: u32) -> u32
     guess
 }
 
-/// A power of 2 that isn't below the root, and at most twice the root.
+/// Returns a power of 2 that is above the root, and at most twice the root.
 fn guess_above(square: u32) -> u32
     requires some { 0 < square }
     requires most { square ≤ 2 ^ 31 }
@@ -44,8 +44,8 @@ fn guess_above(square: u32) -> u32
     1 << (half + 1)
 }
 
-/// The mean of a guess and of how often it goes into the square: it isn't below the root, and it isn't
-/// below the guess only if the guess isn't above the root.
+/// Returns the mean of a guess and of how often it goes into the square: it isn't below the root, and it isn't below
+/// the guess only if the guess isn't above the root.
 fn step(square: u32, guess: u32) -> u32
     requires most { square ≤ 2 ^ 31 }
     requires some { 0 < guess }

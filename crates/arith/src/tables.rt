@@ -73,7 +73,7 @@ static TANGENTS: [u32; 90] = [
     567128, 631375, 711537, 814435, 951436, 1143005, 1430067, 1908114, 2863625, 5728996, // 80 to 89
 ];
 
-/// The sine of a degree from 0 to 449, scaled by 100,000.
+/// Returns the sine of a degree from 0 to 449, scaled by 100,000.
 pub(crate) fn round_entry(degree: u16) -> i32
     requires { degree < 450 }
     ensures value { result ≡ sine_at (degree % 360) }
@@ -82,7 +82,7 @@ pub(crate) fn round_entry(degree: u16) -> i32
     ROUND[usize::from(degree)]
 }
 
-/// The sines of eight degrees from this one on, up to 449, scaled by 100,000.
+/// Returns the sines of eight degrees from this one on, up to 449, scaled by 100,000.
 #[inline(always)]
 pub(crate) fn round_entries(degree: u16) -> i32x8
     requires { degree + LANES ≤ 450 }
@@ -92,7 +92,7 @@ pub(crate) fn round_entries(degree: u16) -> i32x8
     i32x8::from_slice(entries)
 }
 
-/// The tangent of a degree from 0 to 89, scaled by 100,000.
+/// Returns the tangent of a degree from 0 to 89, scaled by 100,000.
 pub(crate) fn tangent_entry(degree: u16) -> u32
     requires { degree < 90 }
     ensures value { result ≡ slice_index tangents degree }

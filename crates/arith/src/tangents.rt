@@ -10,8 +10,8 @@ use crate::tables::tangent_entry;
 /// Where 90 degrees begin, which have no tangent of their own: at twice the tangent of 89.
 const UPRIGHT_BOUND: u32 = 11_457_992;
 
-/// The tangent of any number of degrees, scaled by 100,000; at 90 and 270 it is the greatest number
-/// of 32 bits (docs/numbers.md, "Tangent").
+/// Returns the tangent of any number of degrees, scaled by 100,000; at 90 and 270 it is the greatest number of 32 bits
+/// (docs/numbers.md, "Tangent").
 #[tactic(auto, unfolding(crate::specs::Tangent::tangent_of, crate::specs::Tangent::tangent_at))]
 pub fn tan(degrees: i32) -> i32
     ensures { result ≡ tangent_of degrees }
@@ -23,8 +23,8 @@ pub fn tan(degrees: i32) -> i32
     }
 }
 
-/// The degree from -90 to 90 that any number belongs to as a tangent scaled by 100,000
-/// (docs/numbers.md, "Arctangent").
+/// Returns the degree from -90 to 90 that any number belongs to as a tangent scaled by 100,000 (docs/numbers.md,
+/// "Arctangent").
 #[tactic(auto, unfolding(crate::specs::Arctangent::arctangent_of))]
 pub fn atan(ratio: i32) -> i32
     ensures value { result ≡ arctangent_of ratio }
@@ -53,7 +53,7 @@ fn degrees_reached(size: u32) -> i32
     i32::from(reached)
 }
 
-/// Where a degree from 1 to 90 begins: half way between the tangent before it and its own.
+/// Returns where a degree from 1 to 90 begins: half way between the tangent before it and its own.
 #[tactic(auto, unfolding(crate::specs::Arctangent::bound_of))]
 fn bound(degree: u16) -> u32
     requires from_one { 1 ≤ degree }

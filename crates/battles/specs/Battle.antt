@@ -17,7 +17,7 @@ pub record Stage : Type 0 where
   pub field : Field
   pub traces : List (List ℤ)
 
--- What a want of the robot with this index makes of the field and of its trace. Where nothing is asked, the reply is 0.
+-- What a want of the robot with this index makes of the field and of its trace. If nothing is asked, the reply is 0.
 unfoldable pub granted : Want → ℕ → Field → List ℤ → Field × List ℤ
 granted Quiet i field trace = (field, trace ++ pos 0 ∷ [])
 granted (Ask intrinsic arguments) i field trace =

@@ -2,8 +2,8 @@
 
 ghost use Rattle.code.specs.KnownPrograms.{KnownChoices, KnownListings, KnownOperators, KnownRestarts, KnownValues, KnownWants};
 
-/// The definitions give these listings of known programs, and their trees and their instructions want the same in
-/// these cycles.
+/// Proves that the definitions give these listings of known programs, and that their trees and their instructions want
+/// the same in these cycles.
 pub fn known_programs()
     ensures listings { KnownListings }
     ensures wants { KnownWants }

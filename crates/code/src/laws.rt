@@ -2,7 +2,8 @@
 
 ghost use Rattle.code.specs.Laws.{HasLengthOfActions};
 
-/// By every profile, the code of a file that may be compiled has as many instructions as its actions make, and one NOP.
+/// Proves that the code of a file that may be compiled has, by every profile, as many instructions as its actions make,
+/// and one NOP.
 pub fn length_of_code()
     ensures { HasLengthOfActions }
 {}

@@ -5,7 +5,7 @@ ghost use Rattle.code.specs.Spelling.{operator_text, store_text};
 
 use grammar::{Op, StoreOp};
 
-/// The punctuator that spells an operator.
+/// Returns the punctuator that spells an operator.
 #[tactic(auto, unfolding(crate::specs::Spelling::operator_text))]
 pub fn operator_punctuator(op: Op) -> &'static str
     ensures punctuator { result.now ≡ operator_text op }
@@ -33,7 +33,7 @@ pub fn operator_punctuator(op: Op) -> &'static str
     }
 }
 
-/// The punctuator that spells an assignment's operator.
+/// Returns the punctuator that spells an assignment's operator.
 #[tactic(auto, unfolding(crate::specs::Spelling::store_text))]
 pub fn store_punctuator(op: StoreOp) -> &'static str
     ensures punctuator { result.now ≡ store_text op }

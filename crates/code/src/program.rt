@@ -53,7 +53,7 @@ impl Model for Program {
 }
 
 impl Program {
-    /// The profile by which the program was made.
+    /// Returns the profile by which the program was made.
     #[inline(always)]
     pub fn profile(&self) -> Profile
         ensures profile { result ≡ self.now.profile }
@@ -62,7 +62,7 @@ impl Program {
         self.profile
     }
 
-    // The words of a machine's stack.
+    // Returns the words of a machine's stack.
     #[inline(always)]
     pub(crate) fn words(&self) -> usize
         ensures words { result ≡ self.now.profile.words }
@@ -71,7 +71,7 @@ impl Program {
         self.profile.words() as usize
     }
 
-    // The most frames that are open at once.
+    // Returns the most frames that are open at once.
     #[inline(always)]
     pub(crate) fn frames(&self) -> usize
         ensures frames { result ≡ self.now.profile.frames }
@@ -80,7 +80,7 @@ impl Program {
         self.profile.frames() as usize
     }
 
-    /// The instructions: the address of each is its place.
+    /// Returns the instructions: the address of each is its place.
     #[inline(always)]
     pub fn instructions(&self) -> &[Coded]
         ensures code { result.now ≡ self.now.instructions }
@@ -91,7 +91,7 @@ impl Program {
         self.code.as_slice()
     }
 
-    /// The address of each function, by number.
+    /// Returns the address of each function, by number.
     #[inline(always)]
     pub fn addresses(&self) -> &[u16]
         ensures addresses { result.now ≡ self.now.addresses }
@@ -100,7 +100,7 @@ impl Program {
         self.addresses.as_slice()
     }
 
-    // How many lines the functions have in a listing.
+    // Returns how many lines the functions have in a listing.
     #[inline(always)]
     pub(crate) fn function_lines(&self) -> u16
         ensures { result ≡ length (functions_lines self.now.addresses 0 self.now.names.functions) }
@@ -108,7 +108,7 @@ impl Program {
         self.function_lines
     }
 
-    /// The names of the externals, the functions and their variables.
+    /// Returns the names of the externals, the functions and their variables.
     #[inline(always)]
     pub fn names(&self) -> &Pools
         ensures { result.now ≡ self.now.names }
@@ -116,7 +116,7 @@ impl Program {
         &self.names
     }
 
-    /// The number of the function `main`.
+    /// Returns the number of the function `main`.
     pub fn main(&self) -> u8
         ensures main { result ≡ self.now.main }
         ensures known { result < length self.now.names.functions }
@@ -124,7 +124,7 @@ impl Program {
         self.main
     }
 
-    // The names of the function of this number.
+    // Returns the names of the function of this number.
     #[inline(always)]
     #[tactic(auto, using(crate::proofs::Programs::function_is))]
     pub(crate) fn function(&self, number: u8) -> &Function
@@ -134,7 +134,7 @@ impl Program {
         &self.names.functions()[number as usize]
     }
 
-    // The address of the function of this number.
+    // Returns the address of the function of this number.
     #[inline(always)]
     pub(crate) fn address(&self, number: u8) -> u16
         requires { number < length self.now.names.functions }

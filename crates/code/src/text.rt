@@ -101,7 +101,7 @@ pub fn put_in_five_columns(line: &mut Line, number: u16)
     put_decimal(line, u32::from(number));
 }
 
-// How many digits a number has.
+// Returns how many digits a number has.
 #[tactic(auto, using(crate::proofs::Numbers::length_more, crate::proofs::Numbers::length_one, crate::proofs::Numbers::five_digits))]
 fn digits_of(number: u16) -> usize
     ensures value { result ≡ length (decimal number) }

@@ -9,7 +9,7 @@ ghost use Rattle.code.specs.Values.{combined, stored, number_op};
 use arith::binop;
 use grammar::{Op, StoreOp};
 
-// The operator among those on numbers.
+// Returns the operator among those on numbers.
 #[inline(always)]
 #[tactic(auto, unfolding(crate::specs::Values::number_op))]
 fn number_op(op: Op) -> arith::Op
@@ -37,7 +37,7 @@ fn number_op(op: Op) -> arith::Op
     }
 }
 
-/// What an operator makes of its sides.
+/// Returns what an operator makes of its sides.
 #[inline(always)]
 pub fn combined(op: Op, a: i32, b: i32) -> i32
     ensures { result ≡ combined op a b }
@@ -45,7 +45,7 @@ pub fn combined(op: Op, a: i32, b: i32) -> i32
     binop(number_op(op), a, b)
 }
 
-/// What `+` makes of its sides.
+/// Returns what `+` makes of its sides.
 #[inline(always)]
 #[tactic(auto, using(arith::proofs::OpLemmas::op_steps), unfolding(crate::specs::Values::number_op))]
 pub fn sum(a: i32, b: i32) -> i32
@@ -54,7 +54,7 @@ pub fn sum(a: i32, b: i32) -> i32
     a.wrapping_add(b)
 }
 
-/// What `-` makes of its sides.
+/// Returns what `-` makes of its sides.
 #[inline(always)]
 #[tactic(auto, using(arith::proofs::OpLemmas::op_steps), unfolding(crate::specs::Values::number_op))]
 pub fn difference(a: i32, b: i32) -> i32
@@ -63,7 +63,7 @@ pub fn difference(a: i32, b: i32) -> i32
     a.wrapping_sub(b)
 }
 
-/// What `*` makes of its sides.
+/// Returns what `*` makes of its sides.
 #[inline(always)]
 #[tactic(auto, using(arith::proofs::OpLemmas::op_steps), unfolding(crate::specs::Values::number_op))]
 pub fn product(a: i32, b: i32) -> i32
@@ -72,7 +72,7 @@ pub fn product(a: i32, b: i32) -> i32
     a.wrapping_mul(b)
 }
 
-/// What `==` makes of its sides.
+/// Returns what `==` makes of its sides.
 #[inline(always)]
 #[tactic(auto, using(arith::proofs::OpLemmas::op_steps), unfolding(crate::specs::Values::number_op))]
 pub fn is_equal(a: i32, b: i32) -> i32
@@ -81,7 +81,7 @@ pub fn is_equal(a: i32, b: i32) -> i32
     i32::from(a == b)
 }
 
-/// What `<` makes of its sides.
+/// Returns what `<` makes of its sides.
 #[inline(always)]
 #[tactic(auto, using(arith::proofs::OpLemmas::op_steps), unfolding(crate::specs::Values::number_op))]
 pub fn is_less(a: i32, b: i32) -> i32
@@ -90,7 +90,7 @@ pub fn is_less(a: i32, b: i32) -> i32
     i32::from(a < b)
 }
 
-/// What `>` makes of its sides.
+/// Returns what `>` makes of its sides.
 #[inline(always)]
 #[tactic(auto, using(arith::proofs::OpLemmas::op_steps), unfolding(crate::specs::Values::number_op))]
 pub fn is_greater(a: i32, b: i32) -> i32
@@ -99,7 +99,7 @@ pub fn is_greater(a: i32, b: i32) -> i32
     i32::from(a > b)
 }
 
-/// What `%` makes of its sides.
+/// Returns what `%` makes of its sides.
 #[inline(always)]
 #[tactic(auto, using(arith::proofs::OpLemmas::op_steps), unfolding(crate::specs::Values::number_op))]
 pub fn rest(a: i32, b: i32) -> i32
@@ -108,7 +108,7 @@ pub fn rest(a: i32, b: i32) -> i32
     if b == 0 { 0 } else { a.wrapping_rem(b) }
 }
 
-// The operator of an assignment among those on numbers: none for `=`.
+// Returns the operator of an assignment among those on numbers: none for `=`.
 #[inline(always)]
 #[tactic(auto, unfolding(crate::specs::Values::stored))]
 fn store_number(op: StoreOp) -> Option<arith::Op>
@@ -131,7 +131,7 @@ fn store_number(op: StoreOp) -> Option<arith::Op>
     }
 }
 
-/// What an assignment makes of the variable's value and its right side.
+/// Returns what an assignment makes of the variable's value and its right side.
 #[inline(always)]
 pub fn stored(op: StoreOp, old: i32, x: i32) -> i32
     ensures { result ≡ stored op old x }

@@ -17,7 +17,7 @@ pub struct FileFeed<F> {
 }
 
 impl<F> FileFeed<F> {
-    /// A file that has not failed, and not ended.
+    /// Makes the feed of a file that has not failed, and not ended.
     pub fn new(file: F) -> FileFeed<F>
         ensures { result ≡ record { file = file; failures = 0; ended = false } }
     {
@@ -71,7 +71,7 @@ pub struct StreamSink<W> {
 }
 
 impl<W> StreamSink<W> {
-    /// A stream that has not failed.
+    /// Makes the sink of a stream that has not failed.
     pub fn new(stream: W) -> StreamSink<W>
         ensures { result ≡ record { stream = stream; failures = 0 } }
     {

@@ -42,7 +42,7 @@ pub struct Disk<'r, R> {
 }
 
 impl<'r, R> Disk<'r, R> {
-    /// The files that this runtime opens.
+    /// Makes the disk whose files this runtime opens.
     pub fn new(rt: &'r R) -> Disk<'r, R>
         ensures { result.rt ≡ rt.entry }
     {

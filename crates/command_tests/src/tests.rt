@@ -22,7 +22,7 @@ const USAGE: &[u8] =
 const EMPTY: &str =
     "Externals 0\nFunction 0 main vars 0 at 0\nCode 3\n    0 CONST 0\n    1 RETSUB\n    2 NOP\n";
 
-/// The bytes that a recorder took.
+/// Returns the bytes that a recorder took.
 fn taken(rt: &impl AllocGlobal, sink: &Recorder) -> Result<Vec<u8>, Fail> {
     let mut all = Vec::new(rt.alloc());
     for portion in sink.portions() {

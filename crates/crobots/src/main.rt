@@ -23,14 +23,14 @@ fn main(rt: HostRuntime) -> ExitCode {
     ExitCode::from(status)
 }
 
-/// The words of the command line after the program's name. Words that are no text are an error.
+/// Returns the words of the command line after the program's name. Words that are no text are an error.
 fn arguments(rt: &HostRuntime) -> io::Result<Vec<String>> {
     let mut words = env::args(rt)?;
     let _ = words.next();
     Ok(words.collect(rt.alloc())?)
 }
 
-/// The words as texts.
+/// Returns the words as texts.
 fn borrowed<'a>(rt: &HostRuntime, words: &'a [String]) -> Result<Vec<&'a str>, AllocError>
     ensures { IfOk result (λ texts. map (λ text. text.now) texts.items ≡ map string_bytes words.now) }
 {

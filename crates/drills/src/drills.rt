@@ -13,7 +13,8 @@ const MOST_UPDATES: u32 = 10_000_000;
 /// After so many updates the robots turn, and shoot again as far as they can: a missile flies so long.
 const ROUND: u32 = 14;
 
-/// Four robots that march to and fro, with two missiles each in the air; answers the damage of the first one.
+/// Lets four robots march to and fro for so many updates, with two missiles each in the air, and returns the damage in
+/// percent of the first one.
 pub fn marches(updates: u32) -> u8 {
     let mut arena = far_apart();
     for update in 0..updates.min(MOST_UPDATES) {
@@ -27,7 +28,8 @@ pub fn marches(updates: u32) -> u8 {
     arena.damage(0)
 }
 
-/// Four robots that stand still, with nothing in the air; answers the damage of the first one.
+/// Lets four robots stand still for so many updates, with nothing in the air, and returns the damage in percent of the
+/// first one.
 pub fn rests(updates: u32) -> u8 {
     let mut arena = far_apart();
     for _update in 0..updates.min(MOST_UPDATES) {
@@ -36,7 +38,7 @@ pub fn rests(updates: u32) -> u8 {
     arena.damage(0)
 }
 
-/// Scans that see three robots; answers the range of the nearest.
+/// Makes so many scans that see three robots, and returns the last range in metres: that of the nearest.
 pub fn scans(times: u32) -> i32 {
     let mut arena = in_a_row();
     let mut range = 0;
@@ -48,7 +50,7 @@ pub fn scans(times: u32) -> i32 {
     range
 }
 
-/// Bearings of points all over the field; answers the last one.
+/// Works out so many bearings of points all over the field, and returns the last one in degrees.
 pub fn bearings(times: u32) -> u16 {
     let mut degree = 0;
     for n in 0..times {
@@ -77,7 +79,7 @@ fn order(arena: &mut Arena, robot: usize, is_east: bool)
     }
 }
 
-/// Four robots, each in a corner of its own, none within the reach of another's bursts.
+/// Places four robots, each in a corner of its own, none within the reach of another's bursts.
 fn far_apart() -> Arena
     ensures begun { result.updates ≡ 0 }
     ensures robots { length result.robots ≡ MOST_ROBOTS }
@@ -89,7 +91,7 @@ fn far_apart() -> Arena
     )
 }
 
-/// Four robots nearly on one line: the first one sees the three others.
+/// Places four robots nearly on one line: the first one sees the three others.
 fn in_a_row() -> Arena
     ensures begun { result.updates ≡ 0 }
     ensures robots { length result.robots ≡ MOST_ROBOTS }

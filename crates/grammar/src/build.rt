@@ -29,104 +29,104 @@ pub trait Build {
     // whether it asks for memory
     ghost allocates: { Bool };
 
-    /// A constant is the next value.
+    /// Takes a constant as the next value.
     fn constant(&mut self, value: i32) -> Result<(), BuildFault>
         requires follows { MayFollow (stands self.old) (PushConstant value) }
         ensures ok { OnOk result (Appends (stands self.old) (stands self.new) (PushConstant value)) }
         ensures memory { Refuses result allocates };
 
-    /// The value of a variable is the next value.
+    /// Takes the value of a variable as the next value.
     fn fetch(&mut self, var: Var) -> Result<(), BuildFault>
         requires follows { MayFollow (stands self.old) (FetchVariable var) }
         ensures ok { OnOk result (Appends (stands self.old) (stands self.new) (FetchVariable var)) }
         ensures memory { Refuses result allocates };
 
-    /// A variable takes the last value, or the operator's result of its own value and the last one. The new value
+    /// Sets a variable to the last value, or to the operator's result of its own value and the last one. The new value
     /// stays.
     fn store(&mut self, var: Var, op: StoreOp) -> Result<(), BuildFault>
         requires follows { MayFollow (stands self.old) (StoreVariable var op) }
         ensures ok { OnOk result (Appends (stands self.old) (stands self.new) (StoreVariable var op)) }
         ensures memory { Refuses result allocates };
 
-    /// The last two values become the operator's.
+    /// Replaces the last two values by the operator's value.
     fn binop(&mut self, op: Op) -> Result<(), BuildFault>
         requires follows { MayFollow (stands self.old) (ApplyBinop op) }
         ensures ok { OnOk result (Appends (stands self.old) (stands self.new) (ApplyBinop op)) }
         ensures memory { Refuses result allocates };
 
-    /// The left side of `&&` or `||` is done, and its right side follows.
+    /// Ends the left side of `&&` or `||`, whose right side follows.
     fn logic_middle(&mut self, op: Op) -> Result<(), BuildFault>
         requires follows { MayFollow (stands self.old) (LogicMiddle op) }
         ensures ok { OnOk result (Appends (stands self.old) (stands self.new) (LogicMiddle op)) }
         ensures memory { Refuses result allocates };
 
-    /// A call begins: its arguments follow.
+    /// Begins a call, whose arguments follow.
     fn begin_call(&mut self) -> Result<(), BuildFault>
         requires follows { MayFollow (stands self.old) BeginCall }
         ensures ok { OnOk result (Appends (stands self.old) (stands self.new) BeginCall) }
         ensures memory { Refuses result allocates };
 
-    /// The arguments of a call are done, and become the value of what it calls.
+    /// Ends the arguments of a call, which become the value of what it calls.
     fn end_call(&mut self, callee: Callee) -> Result<(), BuildFault>
         requires follows { MayFollow (stands self.old) (EndCall callee) }
         ensures ok { OnOk result (Appends (stands self.old) (stands self.new) (EndCall callee)) }
         ensures memory { Refuses result allocates };
 
-    /// The condition of an `if` is done, and its first branch follows.
+    /// Ends the condition of an `if`, whose first branch follows.
     fn if_test(&mut self) -> Result<(), BuildFault>
         requires follows { MayFollow (stands self.old) IfTest }
         ensures ok { OnOk result (Appends (stands self.old) (stands self.new) IfTest) }
         ensures memory { Refuses result allocates };
 
-    /// The first branch is done, and the second follows.
+    /// Ends the first branch, and the second follows.
     fn else_part(&mut self) -> Result<(), BuildFault>
         requires follows { MayFollow (stands self.old) ElsePart }
         ensures ok { OnOk result (Appends (stands self.old) (stands self.new) ElsePart) }
         ensures memory { Refuses result allocates };
 
-    /// An `if` ends.
+    /// Ends an `if`.
     fn end_if(&mut self) -> Result<(), BuildFault>
         requires follows { MayFollow (stands self.old) EndIf }
         ensures ok { OnOk result (Appends (stands self.old) (stands self.new) EndIf) }
         ensures memory { Refuses result allocates };
 
-    /// A `while` begins: its condition follows.
+    /// Begins a `while`, whose condition follows.
     fn begin_while(&mut self) -> Result<(), BuildFault>
         requires follows { MayFollow (stands self.old) BeginWhile }
         ensures ok { OnOk result (Appends (stands self.old) (stands self.new) BeginWhile) }
         ensures memory { Refuses result allocates };
 
-    /// The condition of a `while` is done, and its body follows.
+    /// Ends the condition of a `while`, whose body follows.
     fn while_test(&mut self) -> Result<(), BuildFault>
         requires follows { MayFollow (stands self.old) WhileTest }
         ensures ok { OnOk result (Appends (stands self.old) (stands self.new) WhileTest) }
         ensures memory { Refuses result allocates };
 
-    /// A `while` ends.
+    /// Ends a `while`.
     fn end_while(&mut self) -> Result<(), BuildFault>
         requires follows { MayFollow (stands self.old) EndWhile }
         ensures ok { OnOk result (Appends (stands self.old) (stands self.new) EndWhile) }
         ensures memory { Refuses result allocates };
 
-    /// The function returns the last value.
+    /// Lets the function return the last value.
     fn give_back(&mut self) -> Result<(), BuildFault>
         requires follows { MayFollow (stands self.old) GiveBack }
         ensures ok { OnOk result (Appends (stands self.old) (stands self.new) GiveBack) }
         ensures memory { Refuses result allocates };
 
-    /// The last value is dropped: that of a statement, or the new one of `v++` and `v--`.
+    /// Drops the last value: that of a statement, or the new one of `v++` and `v--`.
     fn chop(&mut self) -> Result<(), BuildFault>
         requires follows { MayFollow (stands self.old) Chop }
         ensures ok { OnOk result (Appends (stands self.old) (stands self.new) Chop) }
         ensures memory { Refuses result allocates };
 
-    /// The function of this number begins, with so many parameters.
+    /// Begins the function of this number, with so many parameters.
     fn begin_function(&mut self, number: u8, parameters: u8) -> Result<(), BuildFault>
         requires follows { MayFollow (stands self.old) (Begin number parameters) }
         ensures ok { OnOk result (Appends (stands self.old) (stands self.new) (Begin number parameters)) }
         ensures memory { Refuses result allocates };
 
-    /// The function ends, with so many variables, parameters among them.
+    /// Ends the function, with so many variables, parameters among them.
     ///
     /// Answers `Full` exactly if the code so far and the final NOP pass the most instructions of a file.
     fn end_function(&mut self, variables: u8) -> Result<(), BuildFault>

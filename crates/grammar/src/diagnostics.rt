@@ -45,7 +45,7 @@ pub enum Code {
 }
 
 impl Code {
-    /// The text of the diagnostic, as the program prints it after the file's name and the line.
+    /// Returns the text of the diagnostic, as the program prints it after the file's name and the line.
     #[tactic(auto, unfolding(crate::specs::Texts::text_of))]
     pub fn text(self) -> &'static str
         ensures { result.now ≡ text_of self }
@@ -71,7 +71,7 @@ impl Code {
     }
 }
 
-/// The code of a fault within a token.
+/// Returns the code of a lexical error.
 pub fn code_of(lexical_error: LexicalError) -> Code
     ensures { result ≡ lexical_error_code lexical_error }
 {
@@ -119,7 +119,7 @@ impl From<BuildFault> for ParseFault {
 
     ghost from_gives = { λ _ e. e ≡ Memory };
 
-    // `Full` comes from a function's end alone, and becomes a diagnostic there.
+    // Makes it a refusal of memory: `Full` comes from a function's end alone, and becomes a diagnostic there.
     fn from(_fault: BuildFault) -> ParseFault {
         ParseFault::Memory
     }

@@ -4,7 +4,7 @@ ghost use Rattle.grammar.specs.KnownSources.{KnownBeginnings, KnownLimits, Known
 ghost use Rattle.grammar.specs.KnownSources.{KnownTrees};
 ghost use Rattle.grammar.specs.KnownTexts.{KnownTexts};
 
-/// The definitions give these trees and faults of known sources.
+/// Proves that the definitions give these trees and faults of known sources.
 pub fn known_sources()
     ensures trees { KnownTrees }
     ensures misfits { KnownMisfits }
@@ -14,7 +14,7 @@ pub fn known_sources()
     ensures beginnings { KnownBeginnings }
 {}
 
-/// So they do of known texts, through their tokens.
+/// Proves that they do so of known texts, through their tokens.
 pub fn known_texts()
     ensures { KnownTexts }
 {}

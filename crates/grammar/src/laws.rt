@@ -8,60 +8,60 @@ ghost use Rattle.grammar.specs.Laws.{LevelsAreClosed, MayBeTold, WhatIsInOrderBe
 
 use crate::build::Build;
 
-/// The derivation of each list of tokens ends, and what it leads to is what the source is: a file, or its first fault.
+/// Proves that the derivation of each list of tokens ends, and leads to what the source is: a file, or its first fault.
 pub fn derivations()
     ensures ends { EachDerivationEnds }
     ensures faultless { FaultlessIsResolved }
     ensures first_fault { FirstFaultDecides }
 {}
 
-/// A source whose derivation ends without a fault is a file, or a function that it mentions isn't defined, or it has
-/// no function main.
+/// Proves that a source whose derivation ends without a fault is a file, or a function that it mentions isn't defined,
+/// or it has no function main.
 pub fn finished()
     ensures file { Finished }
     ensures undefined { Undefined }
     ensures without_main { WithoutMain }
 {}
 
-/// The grammar's productions close each level that they open.
+/// Proves that the grammar's productions close each level that they open.
 pub fn levels()
     ensures { LevelsAreClosed }
 {}
 
-/// What was read of a source is needed: if no fault is before the tokens that are next, up to the second of
+/// Proves that what was read of a source is needed: if no fault is before the tokens that are next, up to the second of
 /// them.
 pub fn reach()
     ensures { WhatWasReadIsNeeded }
 {}
 
-/// A function's block changes neither which function is being defined, nor its name, nor its parameters.
+/// Proves that a function's block changes neither which function is being defined, nor its name, nor its parameters.
 pub fn blocks()
     ensures { BlocksKeepTheFunction }
 {}
 
-/// The actions of a file may follow one another.
+/// Proves that the actions of a file may follow one another.
 pub fn actions()
     ensures { EachFileFollows }
 {}
 
-/// Actions are a beginning of those of some functions exactly if each may follow those before it.
+/// Proves that actions are a beginning of those of some functions exactly if each may follow those before it.
 pub fn beginnings()
     ensures in_order { BeginningsAreInOrder }
     ensures begins { WhatIsInOrderBegins }
 {}
 
-/// A file that compiles is resolved: its names are within the pools, and each function is defined once.
+/// Proves that a file that compiles is resolved: its names are within the pools, and each function is defined once.
 pub fn resolved_files()
     ensures { CompiledIsResolved }
 {}
 
-/// To a builder any action may be reported that may follow those that it represents.
+/// Proves that any action may be reported to a builder that may follow those that it represents.
 pub fn building<B: Build>()
     ensures { (builder : B) → MayBeTold (B.stands builder) }
 {}
 
-/// The productions that the tokens choose are those of the plain grammar, with the semantic actions listed for them,
-/// and each name in a production has the production's role.
+/// Proves that the productions that the tokens choose are those of the plain grammar, with the semantic actions listed
+/// for them, and that each name in a production has the production's role.
 pub fn productions()
     ensures rows { ChoosesRows }
     ensures actions { ActsByRows }

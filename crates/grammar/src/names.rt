@@ -53,7 +53,7 @@ pub enum Callee {
 }
 
 impl Intrinsic {
-    /// How many arguments the function uses: 0 to 2. Further ones are evaluated and dropped.
+    /// Returns how many arguments the function uses: 0 to 2. Further ones are evaluated and dropped.
     pub fn arguments(self) -> u8
         ensures value { result ≡ arguments_of self }
         ensures most { result ≤ 2 }
@@ -70,7 +70,7 @@ impl Intrinsic {
         }
     }
 
-    /// The function's name, as a program spells it and a listing prints it.
+    /// Returns the function's name, as a program spells it and a listing prints it.
     #[tactic(auto, unfolding(crate::specs::Intrinsics::name_of))]
     pub fn name(self) -> &'static str
         ensures { result.now ≡ name_of self }

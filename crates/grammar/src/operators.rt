@@ -84,7 +84,7 @@ pub struct Binary {
 }
 
 impl Op {
-    /// Whether the middle between the operator's sides is reported to a builder: those of `&&` and `||`.
+    /// Reports whether the middle between the operator's sides is reported to a builder: those of `&&` and `||`.
     pub fn is_logic(self) -> bool
         ensures { result ≡ is_logic self }
     {
@@ -149,7 +149,7 @@ static BINARIES: [Option<(u8, Op)>; 39] = [
     None,
 ];
 
-/// The binary operator that a punctuator spells.
+/// Returns the binary operator that a punctuator spells.
 #[inline(always)]
 fn binary_of(punctuator: Punctuator) -> Option<Binary>
     ensures { result ≡ binary_of punctuator }
@@ -158,7 +158,7 @@ fn binary_of(punctuator: Punctuator) -> Option<Binary>
     Some(Binary { level, op })
 }
 
-/// The operator of an assignment that the token spells.
+/// Returns the operator of an assignment that the token spells.
 pub fn store_operator(token: &Token) -> Option<StoreOp>
     ensures { result ≡ store_operator token.now }
 {
@@ -168,7 +168,7 @@ pub fn store_operator(token: &Token) -> Option<StoreOp>
     }
 }
 
-/// The operator of an assignment that a punctuator spells.
+/// Returns the operator of an assignment that a punctuator spells.
 fn store_of(punctuator: Punctuator) -> Option<StoreOp>
     ensures { result ≡ store_of punctuator }
 {

@@ -41,7 +41,7 @@ impl Default for Function {
 }
 
 impl Function {
-    /// A function without variables.
+    /// Makes a function without variables.
     pub fn new(name: Name) -> Function
         ensures { result ≡ record { name = name; parameters = 0; variables = [] } }
     {
@@ -52,14 +52,14 @@ impl Function {
         }
     }
 
-    /// The function's name.
+    /// Returns the function's name.
     pub fn name(&self) -> &Name
         ensures { result.now ≡ self.now.name }
     {
         &self.name
     }
 
-    /// How many parameters the function has.
+    /// Returns how many parameters the function has.
     pub fn parameters(&self) -> u8
         ensures count { result ≡ self.now.parameters }
         ensures most { result ≤ MOST_NAMES }
@@ -67,7 +67,7 @@ impl Function {
         self.parameters
     }
 
-    /// The names of the function's variables by number: the parameters come first.
+    /// Returns the names of the function's variables by number: the parameters come first.
     pub fn variables(&self) -> &[Name]
         ensures names { result.now ≡ self.now.variables }
         ensures first { self.now.parameters ≤ length result.now }
@@ -141,7 +141,7 @@ impl Model for Pools {
 impl Pools {
     ghost use Rattle.grammar.specs.Scope.{only_named};
 
-    /// No names.
+    /// Makes pools without names.
     pub fn new() -> Pools
         ensures { result ≡ record { externals = []; functions = [] } }
     {
@@ -152,7 +152,7 @@ impl Pools {
         }
     }
 
-    /// The names of the externals by number.
+    /// Returns the names of the externals by number.
     pub fn externals(&self) -> &[Name]
         ensures names { result.now ≡ self.now.externals }
         ensures most { length result.now ≤ MOST_NAMES }
@@ -160,7 +160,7 @@ impl Pools {
         self.externals.as_slice()
     }
 
-    /// The functions by number.
+    /// Returns the functions by number.
     pub fn functions(&self) -> &[Function]
         ensures names { result.now ≡ self.now.functions }
         ensures most { length result.now ≤ MOST_NAMES }
@@ -197,7 +197,7 @@ impl Pools {
         self.count += 1;
     }
 
-    /// The function of this number becomes the same as another. Past the functions nothing does.
+    /// Makes the function of this number the same as another. Does nothing past the functions.
     #[tactic(auto, using(crate::proofs::ScopeLaws::in_place))]
     pub(crate) fn set_function(&mut self, number: u8, function: &Function)
         ensures { self.new ≡ record self.old { functions = set self.old.functions number function.now } }

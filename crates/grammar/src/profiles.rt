@@ -42,7 +42,8 @@ impl Model for Profile {
 }
 
 impl Profile {
-    /// `&&` and `||` evaluate both sides. A program has at most 2,000 instructions, 500 words of stack and 64 frames.
+    /// Makes the first profile: `&&` and `||` evaluate both sides. A program has at most 2,000 instructions, 500 words
+    /// of stack and 64 frames.
     #[tactic(auto, unfolding(crate::specs::Profile::first_profile))]
     pub fn first() -> Profile
         ensures { result ≡ first_profile }
@@ -55,8 +56,8 @@ impl Profile {
         }
     }
 
-    /// `&&` and `||` leave out their right side, as in C. A program has at most 4,000 instructions, 1,000 words of
-    /// stack and 128 frames.
+    /// Makes the second profile: `&&` and `||` leave out their right side, as in C. A program has at most 4,000
+    /// instructions, 1,000 words of stack and 128 frames.
     #[tactic(auto, unfolding(crate::specs::Profile::second_profile))]
     pub fn second() -> Profile
         ensures { result ≡ second_profile }
@@ -69,7 +70,7 @@ impl Profile {
         }
     }
 
-    /// The most instructions of a program, with the NOP that ends its code.
+    /// Returns the most instructions of a program, with the NOP that ends its code.
     pub fn instructions(self) -> u16
         ensures value { result ≡ self.instructions }
         ensures known { IsProfile self }
@@ -77,7 +78,7 @@ impl Profile {
         self.instructions
     }
 
-    /// The words of a robot's stack.
+    /// Returns the words of a robot's stack.
     pub fn words(self) -> u16
         ensures value { result ≡ self.words }
         ensures known { IsProfile self }
@@ -85,7 +86,7 @@ impl Profile {
         self.words
     }
 
-    /// The most frames that are open at once.
+    /// Returns the most frames that are open at once.
     pub fn frames(self) -> u16
         ensures value { result ≡ self.frames }
         ensures known { IsProfile self }
@@ -93,7 +94,7 @@ impl Profile {
         self.frames
     }
 
-    /// Whether `&&` and `||` leave out their right side.
+    /// Reports whether `&&` and `||` leave out their right side.
     pub fn short_circuit(self) -> bool
         ensures value { result ≡ self.short_circuit }
         ensures known { IsProfile self }

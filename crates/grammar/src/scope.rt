@@ -16,7 +16,7 @@ use arrayvec::ArrayVec;
 use std::marker::Model;
 use tokens::Name;
 
-/// The number of a name among names.
+/// Returns the number of a name among names.
 #[inline(always)]
 pub fn number_of(names: &[Name], name: &Name) -> Option<usize>
     ensures { result ≡ number_of_name name.now names.now }
@@ -40,7 +40,7 @@ const INTRINSICS: [Intrinsic; 13] = [
     Intrinsic::Atan,
 ];
 
-/// The intrinsic function of this name.
+/// Returns the intrinsic function of this name.
 #[tactic(auto, unfolding(crate::specs::Intrinsics::intrinsic_named))]
 pub fn intrinsic(name: &Name) -> Option<Intrinsic>
     ensures { result ≡ intrinsic_named name.now }
@@ -89,7 +89,7 @@ impl Scope {
     ghost use Rattle.grammar.specs.Scope.{variable_named, variable_of, callee_of, with_begun, with_new_function};
     ghost use Rattle.grammar.specs.Scope.{function_number};
 
-    /// Nothing is known before a file's first token.
+    /// Makes the scope before a file's first token, in which nothing is known.
     #[tactic(auto, using(crate::proofs::ScopeLaws::kept_nothing))]
     pub fn new() -> Scope
         ensures { result ≡ no_names }
@@ -103,7 +103,7 @@ impl Scope {
         }
     }
 
-    /// The variable of a name that is mentioned. A name that has none becomes the function's next local.
+    /// Resolves a mentioned name to its variable. A name that has none becomes the function's next local.
     #[inline(always)]
     #[tactic(auto, using(crate::proofs::ScopeLaws::names))]
     pub fn mention(&mut self, name: Name) -> Result<Var, Code>
@@ -183,8 +183,7 @@ impl Scope {
         Ok(())
     }
 
-    /// What a name that is called calls. A function of the file that is new is known from here on, by the line of this
-    /// name.
+    /// Resolves a called name. A function of the file that is new is known from here on, by the line of this name.
     #[tactic(auto, using(crate::proofs::ScopeLaws::names))]
     pub fn call(&mut self, name: Name, line: u32) -> Result<Callee, Code>
         ensures known { IfOk result (λ callee. (callee ≡ callee_of name self.old)
@@ -200,7 +199,7 @@ impl Scope {
         Ok(Callee::Function(number))
     }
 
-    /// The number of a function whose definition begins at this name, on this line.
+    /// Begins the definition of a function at this name, on this line, and returns the function's number.
     pub fn define(&mut self, name: Name, line: u32) -> Result<u8, Code>
         ensures number { IfOk result (λ n. (n ≡ number_for name self.old) × (n < MOST_NAMES)) }
         ensures known { OnOk result (Knows Defined name line self.old self.new) }
@@ -218,7 +217,7 @@ impl Scope {
         Ok(number)
     }
 
-    /// The definition that began last ends: its function's parameters and variables are known.
+    /// Ends the definition that began last: its function's parameters and variables are known.
     pub fn end_definition(&mut self)
         ensures { self.new ≡ end_definition self.old }
     {
@@ -226,7 +225,7 @@ impl Scope {
         self.current.restart(Name::new());
     }
 
-    /// How many parameters the function that is being defined has so far.
+    /// Returns how many parameters the function that is being defined has so far.
     pub fn parameters(&self) -> u8
         ensures count { result ≡ self.now.current.parameters }
         ensures most { result ≤ MOST_NAMES }
@@ -234,7 +233,7 @@ impl Scope {
         self.current.parameters()
     }
 
-    /// How many variables it has so far, its parameters among them.
+    /// Returns how many variables it has so far, its parameters among them.
     pub fn variables(&self) -> u8
         ensures count { result ≡ length self.now.current.variables }
         ensures first { self.now.current.parameters ≤ result }
@@ -243,28 +242,28 @@ impl Scope {
         self.current.variables().len() as u8
     }
 
-    /// The line of the first mention of the earliest mentioned function whose definition didn't begin.
+    /// Returns the line of the first mention of the earliest mentioned function whose definition didn't begin.
     pub fn undefined(&self) -> Option<u32>
         ensures { result ≡ line_of_undefined 0 self.now.lines self.now.begun }
     {
         line_of_undefined(self.lines.as_slice(), self.begun.as_slice())
     }
 
-    /// Whether a function main was mentioned.
+    /// Reports whether a function main was mentioned.
     pub fn has_main(&self) -> bool
         ensures { result ≡ is_some (function_number main_name self.now) }
     {
         function_number(self.pools.functions(), &name_of(b"main")).is_some()
     }
 
-    /// The names of the file.
+    /// Returns the names of the file.
     pub fn into_pools(self) -> Pools
         ensures { result ≡ record { externals = self.externals; functions = self.functions } }
     {
         self.pools
     }
 
-    // The variable of a name: one of the function's, or else an external.
+    // Returns the variable of a name: one of the function's, or else an external.
     #[inline(always)]
     fn variable(&self, name: &Name) -> Option<Var>
         ensures value { result ≡ variable_named name.now self.now }
@@ -277,7 +276,7 @@ impl Scope {
         Some(Var::External(number as u8))
     }
 
-    // The number of a function of the file, which is the next one if it is new.
+    // Returns the number of a function of the file, which is the next one if it is new.
     #[tactic(auto, using(crate::proofs::ScopeLaws::calls))]
     fn number_for(&mut self, known: Option<usize>, name: Name, line: u32) -> Result<u8, Code>
         requires own { intrinsic_named name ≡ None }
@@ -298,7 +297,7 @@ impl Scope {
         Ok(number)
     }
 
-    // The number of a function that was mentioned.
+    // Returns the number of a function that was mentioned.
     fn function_number(&self, name: &Name) -> Option<usize>
         ensures number { result ≡ function_number name.now self.now }
         ensures within { IfSome result (λ n. n < MOST_NAMES) }
@@ -320,7 +319,7 @@ impl Scope {
         self.lines.push(line);
     }
 
-    // Whether a definition of the function began before, which is known by this number or new.
+    // Reports whether a definition of the function began before, which is known by this number or new.
     fn has_begun(&self, known: Option<usize>) -> bool
         ensures { result ≡ list_any (λ k. k == unwrap_or known (length self.now.functions)) self.now.begun }
     {
@@ -330,7 +329,7 @@ impl Scope {
         }
     }
 
-    // The definition of the function of this number and name begins.
+    // Begins the definition of the function of this number and name.
     #[tactic(auto, using(crate::proofs::ScopeLaws::beginnings))]
     fn begin(&mut self, number: u8, name: Name)
         requires within { number < length self.old.functions }
@@ -395,7 +394,7 @@ impl Scope {
     }
 }
 
-/// The number of a function that was mentioned.
+/// Returns the number of a function that was mentioned.
 #[tactic(auto, using(crate::proofs::ScopeLaws::there, crate::proofs::ScopeLaws::not_there))]
 fn function_number(functions: &[Function], name: &Name) -> Option<usize>
     ensures { result ≡ number_of_name name.now (map (λ f. f.name) functions.now) }
@@ -408,7 +407,7 @@ fn function_number(functions: &[Function], name: &Name) -> Option<usize>
     None
 }
 
-/// The name of these bytes.
+/// Makes the name of these bytes.
 fn name_of(bytes: &[u8]) -> Name
     requires { length bytes.now ≤ 31 }
     ensures { result ≡ bytes.now }
@@ -420,7 +419,7 @@ fn name_of(bytes: &[u8]) -> Name
     name
 }
 
-/// The line of the first function, by number, whose definition didn't begin.
+/// Returns the line of the first function, by number, whose definition didn't begin.
 #[tactic(auto, using(crate::proofs::ScopeLaws::undefined_here))]
 fn line_of_undefined(lines: &[u32], begun: &[u8]) -> Option<u32>
     requires { length lines.now ≤ MOST_NAMES }
@@ -434,7 +433,7 @@ fn line_of_undefined(lines: &[u32], begun: &[u8]) -> Option<u32>
     None
 }
 
-/// Whether a number is one of these.
+/// Reports whether a number is one of these.
 fn is_among(numbers: &[u8], number: usize) -> bool
     ensures { result ≡ list_any (λ k. k == number) numbers.now }
 {

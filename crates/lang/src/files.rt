@@ -18,7 +18,7 @@ use grammar::{Build, Code, Diagnostic, ParseFault, Pools};
 use parsing::{Parser, externals, first, is_punctuator, is_word, type_words};
 use tokens::{Feed, Punctuator, Token, Word};
 
-/// Reads a source from the device in one pass, tells the builder its actions, and returns its names.
+/// Reads a source from the device in one pass, reports its actions to the builder, and returns its names.
 ///
 /// The device gives its bytes in pieces of any size. The source ends before the first byte 26, or where the device has
 /// no more bytes; it is too long past 1,048,576 bytes. At most 64 levels may be open at once, which bounds the

@@ -26,7 +26,7 @@ pub struct Outcome {
 }
 
 impl Outcome {
-    /// The refusal, if it is one.
+    /// Returns the refusal, if it is one.
     pub fn fault(&self) -> Option<ParseFault> {
         match &self.answer {
             Ok(_) => None,
@@ -50,7 +50,7 @@ pub fn parsed(alloc: Global, mut feed: Pieces) -> Outcome
     }
 }
 
-/// The fault of a source at this line.
+/// Makes the fault of a source at this line.
 pub fn source_fault(line: u32, code: Code) -> ParseFault {
     ParseFault::Source(Diagnostic { line, code })
 }
@@ -70,7 +70,7 @@ pub fn check_fault(
     Ok(())
 }
 
-/// What a parse made, in lines: the externals, and for each function its names and its tree.
+/// Returns what a parse made, in lines: the externals, and for each function its names and its tree.
 pub fn shown(alloc: Global, outcome: &Outcome) -> Result<String, Fail> {
     let mut text = String::new(alloc);
     if let Ok(names) = &outcome.answer {
@@ -94,7 +94,7 @@ fn add_function(text: &mut String, names: &Pools, tree: &FunctionTree) -> Result
     Ok(())
 }
 
-// Adds names, each behind a space.
+// Adds names, each after a space.
 fn add_names(text: &mut String, names: &[Name]) -> Result<(), Fail> {
     for name in names {
         text.push_str(" ")?;

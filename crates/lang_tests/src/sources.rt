@@ -11,7 +11,7 @@ pub enum Part {
     Times(&'static [u8], usize),
 }
 
-/// The source of these parts.
+/// Makes the source of these parts.
 pub fn source_of(alloc: Global, parts: &[Part]) -> Result<Vec<u8>, AllocError> {
     let mut source = Vec::new(alloc);
     for part in parts {

@@ -73,7 +73,7 @@ fn add_robot<S: Sink>(pen: &mut Pen, sink: &mut S, outcome: &Outcome, robot: usi
     pen.add(sink, b"\n");
 }
 
-/// The word for a robot that is alive, or for one that isn't, in five columns.
+/// Returns the word for a robot that is alive, or for one that isn't, in five columns.
 fn state_text(is_alive: bool) -> &'static [u8]
     ensures { result.now ≡ state_text is_alive }
 {

@@ -31,7 +31,7 @@ impl<B> Depths<B> {
         self.deepest[usize::from(function)]
     }
 
-    /// A level begins.
+    /// Opens a level.
     fn open(&mut self)
         ensures { self.new.inner ≡ self.old.inner }
     {
@@ -40,7 +40,7 @@ impl<B> Depths<B> {
         self.deepest[function] = self.deepest[function].max(self.depth);
     }
 
-    /// A level ends.
+    /// Closes a level.
     fn close(&mut self)
         ensures { self.new.inner ≡ self.old.inner }
     {

@@ -311,7 +311,7 @@ impl<'a, F: Feed> Parser<'a, F> {
         (scope.into_pools(), feed)
     }
 
-    // The name that the next token has to be.
+    // Returns the name that the next token has to be.
     fn name(&self) -> Result<&Name, ParseFault>
         ensures found { IfOk result (λ name. token_of self.now ≡ token.Name name.now) }
         ensures other { IfErr result (IsNoName (next_at self.now.place)) }
@@ -337,7 +337,7 @@ fn declare(scope: &mut Scope, name: Name, declared: Declared) -> Result<(), Code
     Ok(())
 }
 
-// The refusal of a token that doesn't fit.
+// Returns the refusal of a token that doesn't fit.
 fn misfit(located_token: &LocatedToken) -> ParseFault
     ensures { result ≡ ParseFault.Source (diagnostic located_token.now.line (misfit_code located_token.now.token)) }
 {

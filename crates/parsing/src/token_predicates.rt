@@ -5,14 +5,14 @@ ghost use Rattle.grammar.specs.Grammar.{is_punctuator, is_word};
 
 use tokens::{Punctuator, Token, Word};
 
-/// Whether the token is this punctuator.
+/// Returns whether the token is this punctuator.
 pub fn is_punctuator(token: &Token, punctuator: Punctuator) -> bool
     ensures { result ≡ is_punctuator punctuator token.now }
 {
     matches!(token, Token::Punctuator(found) if *found == punctuator)
 }
 
-/// Whether the token is this word.
+/// Returns whether the token is this word.
 pub fn is_word(token: &Token, word: Word) -> bool
     ensures { result ≡ is_word word token.now }
 {

@@ -1,4 +1,4 @@
--- The law on the grammar: what is spelled in brackets and braces, the derivation gives back.
+-- The round-trip law: the derivation returns what is spelled in brackets and braces.
 use Rattle.std.specs.Prelude.{◌≡◌, ℕ, List, [], ◌∷◌, map}
 use Rattle.tokens.specs.declared.located_tokens.LocatedToken.{LocatedToken}
 use Rattle.tokens.specs.declared.located_tokens.Token.{Token}
@@ -45,7 +45,7 @@ GivesBackStatements = (s : Statement) (located_tokens : List LocatedToken)
     → tokens_of located_tokens ≡ in_main (spell_statement s) →
     DerivesMain located_tokens (body_of s in_body) (behind_statement s in_body)
 
--- each expression, with ; behind it
+-- each expression, followed by ;
 abbrev pub GivesBackExpressions : Type 0
 GivesBackExpressions = (e : Expression) (located_tokens : List LocatedToken)
     → tokens_of located_tokens ≡ in_main (closed (spell e)) →

@@ -24,7 +24,7 @@ said_of (AName role ∷ stack) rest = says role (name_of_token (next_of rest))
 said_of (Make Define ∷ stack) rest = Ends ∷ []
 said_of stack rest = []
 
--- in one step: none is taken where a fault is next
+-- in one step: none is taken if a fault is next
 abbrev pub said : State → History
 said s = if is_fault (next_of s.rest) then [] else said_of s.stack s.rest
 
@@ -64,7 +64,7 @@ pub record MakesCall (history : History) (name : List ℕ) (s : State) : Type 0 
   pub makes : (stepped s).values ≡ ACall callee NoMore ∷ s.values
   pub right : IsCalleeOf history name callee
 
--- where the steps before have no fault
+-- if the steps before have no fault
 abbrev pub CallsAreNumbered : Type 0
 CallsAreNumbered = (profile : Profile) (located_tokens : List LocatedToken) (n : ℕ) (name : List ℕ)
     → faults_in profile n (start located_tokens) ≡ [] → IsNamed (state_at n located_tokens) Called name →

@@ -1,4 +1,4 @@
--- The numbers of names by the rules on names. A source says names one behind another. The number of a variable or of a
+-- The numbers of names by the rules on names. A source says names one after another. The number of a variable or of a
 -- function is the place of its name among the distinct names that were said up to there.
 use Rattle.std.specs.Prelude.{◌≡◌, ℕ, ◌+◌, List, [], ◌∷◌, ◌++◌, Bool, true, false, Some, slice_get, if◌then◌else◌}
 use Rattle.std.specs.Str.{bytes_eq}
@@ -27,7 +27,7 @@ abbrev pub without : List ℕ → List (List ℕ) → List (List ℕ)
 without name [] = []
 without name (other ∷ names) = if bytes_eq name other then without name names else other ∷ without name names
 
--- each name once, where it stands first
+-- each name once, where it is first
 abbrev pub distinct : List (List ℕ) → List (List ℕ)
 distinct [] = []
 distinct (name ∷ names) = name ∷ without name (distinct names)

@@ -43,7 +43,7 @@ mutual
     ReturnValue : (e : Expression) → Statement  -- return e;
     Block : (body : Statements) → Statement
 
-  -- statements one behind another
+  -- statements one after another
   pub data Statements : Type 0 where
     Done : Statements
     Next : (s : Statement) (rest : Statements) → Statements

@@ -7,9 +7,10 @@ ghost use Rattle.round_trip.specs.Numbered.{MentionsAreNumbered};
 
 use grammar::laws::derivations;
 
-/// What is spelled with each compound part in brackets and each body in braces, the derivation gives back:
-/// every expression with `;` behind it, and every statement, as the one statement of `main`, wherever the tokens stand.
-/// It holds for any depth: a level too many is a fault of the source, and the derivation goes on behind it.
+/// Proves the round-trip law: for tokens spelled with each compound part in brackets and each body in braces the
+/// derivation returns what was spelled. It holds for every expression followed by `;`, and for every statement, as the
+/// one statement of `main`, on any lines and for any depth: a level too many is a fault of the source, and the
+/// derivation goes on after it.
 pub fn bracketed()
     ensures expressions { GivesBackExpressions }
     ensures statements { GivesBackStatements }
@@ -18,9 +19,9 @@ pub fn bracketed()
     derivations();
 }
 
-/// The variables and functions of a derivation have the numbers of the rules on names: the number of a name is its
-/// place among the distinct names that were said up to its token. A mention means a variable of the function, or else
-/// an external.
+/// Proves that the variables and functions of a derivation have the numbers of the rules on names: the number of a name
+/// is its place among the distinct names that were said up to its token. A mention means a variable of the function, or
+/// else an external.
 pub fn numbered()
     ensures mentions { MentionsAreNumbered }
     ensures calls { CallsAreNumbered }

@@ -31,7 +31,7 @@ abbrev pub TakesFrontOn : Channel → Taken → Taken → List ℕ → Type 0
 TakesFrontOn Text before after bytes = TakesFront before.text after.text bytes × (after.faults ≡ before.faults)
 TakesFrontOn Faults before after bytes = TakesFront before.faults after.faults bytes × (after.text ≡ before.text)
 
--- the sinks took these pieces, each whole, in this order, by portions of its own
+-- the sinks took these pieces, each whole, in this order; no write mixes two pieces
 abbrev pub Writes : Taken → Taken → List Piece → Type 0
 Writes before after [] = after ≡ before
 Writes before after (piece ∷ pieces) = (between : Taken) × TakesOn piece.channel before between piece.bytes

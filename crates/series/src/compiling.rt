@@ -63,7 +63,7 @@ pub(crate) fn compile_into<F: Feed, O: Sink, E: Sink>(
     Ok(status)
 }
 
-/// The status of two parts of a run.
+/// Returns the status of two parts of a run: `Faulty` if one of them has it.
 pub(crate) fn both(first: Status, second: Status) -> Status
     ensures { result ≡ both first second }
 {
@@ -74,8 +74,8 @@ pub(crate) fn both(first: Status, second: Status) -> Status
 }
 
 /// Compiles the file of a feed. Keeps a good file's program, and puts its listing if listings are asked for; of a
-/// faulty one puts the diagnostic. Returns whether the file was read, and then whether all was put, and then whether the
-/// file is good.
+/// faulty one puts the diagnostic. Answers whether the file was read, and then whether all was put, and then whether
+/// the file is good.
 #[inline(never)]
 fn compile_file<F: Feed, O: Sink, E: Sink>(
     programs: &mut Programs,

@@ -2,7 +2,8 @@
 
 ghost use Rattle.series.specs.SameReport.{SameReport};
 
-/// The report of a match is the same text in each series that contains it, whatever the series' first number and count.
+/// Proves that the report of a match is the same text in each series that contains it, whatever the series' first
+/// number and count.
 pub fn same_report()
     ensures { SameReport }
 {}

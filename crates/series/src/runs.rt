@@ -117,7 +117,7 @@ fn play_all<O: Sink>(
     }
 }
 
-/// Compiles each file and lists it, or puts its diagnostic. Answers the programs where no file has a fault.
+/// Compiles each file and lists it, or puts its diagnostic. Returns the programs if no file has a fault.
 pub fn compile_files<F: Feed, O: Sink, E: Sink>(
     settings: &Settings,
     feeds: &mut [F],

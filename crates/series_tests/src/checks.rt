@@ -26,7 +26,7 @@ pub const EMPTY_MAIN: &[&str] = &[
     "    2 NOP",
 ];
 
-/// Lines as text.
+/// Makes a text of lines.
 pub fn text_of(alloc: Global, lines: &[&str]) -> Result<Vec<u8>, AllocError> {
     let mut text = Vec::new(alloc);
     for line in lines {
@@ -36,7 +36,7 @@ pub fn text_of(alloc: Global, lines: &[&str]) -> Result<Vec<u8>, AllocError> {
     Ok(text)
 }
 
-/// The bytes that a sink took.
+/// Returns the bytes that a sink took.
 pub fn taken(alloc: Global, sink: &Recorder) -> Result<Vec<u8>, AllocError> {
     let mut all = Vec::new(alloc);
     for portion in sink.portions() {
@@ -45,7 +45,7 @@ pub fn taken(alloc: Global, sink: &Recorder) -> Result<Vec<u8>, AllocError> {
     Ok(all)
 }
 
-/// The settings of a run that lists these files.
+/// Makes the settings of a run that lists these files.
 pub fn listing<'a>(words: ArrayVec<&'a str, FILES_MAX>) -> Settings<'a>
     requires some { 0 < length words.items }
     ensures words { length result.words ≡ length words.entry.items }
@@ -62,7 +62,7 @@ pub fn listing<'a>(words: ArrayVec<&'a str, FILES_MAX>) -> Settings<'a>
     )
 }
 
-/// The settings of a run that lists one file.
+/// Makes the settings of a run that lists one file.
 pub fn listing_of_one(word: &str) -> Settings<'_>
     ensures words { length result.words ≡ 1 }
     ensures mode { result.mode ≡ Mode.Listing }
@@ -72,7 +72,7 @@ pub fn listing_of_one(word: &str) -> Settings<'_>
     listing(words)
 }
 
-/// The settings of a run that lists three files.
+/// Makes the settings of a run that lists three files.
 pub fn listing_of_three() -> Settings<'static>
     ensures words { length result.words ≡ 3 }
     ensures mode { result.mode ≡ Mode.Listing }
@@ -110,7 +110,7 @@ pub fn list(alloc: Global, word: &str, source: &[u8], most: usize) -> Result<End
     })
 }
 
-/// The program of a good source.
+/// Compiles a good source.
 pub fn program_of(source: &[u8]) -> Result<Program, Fail> {
     let mut maker = Maker::new(Profile::first());
     match parse(&mut Pieces::new(source, 4096), &mut maker) {
@@ -207,7 +207,7 @@ pub const ONE_MATCH: Game = Game {
     first: 1,
 };
 
-/// The settings of a game of these files, whose numbers are brought within their limits.
+/// Makes the settings of a game of these files, and brings its numbers within their limits.
 pub fn game_of<'a>(game: Game, words: ArrayVec<&'a str, FILES_MAX>) -> Settings<'a>
     requires some { 0 < length words.items }
     ensures words { length result.words ≡ length words.entry.items }
@@ -228,7 +228,7 @@ pub fn game_of<'a>(game: Game, words: ArrayVec<&'a str, FILES_MAX>) -> Settings<
     )
 }
 
-/// The settings of a game of one file.
+/// Makes the settings of a game of one file.
 pub fn game_of_one<'a>(game: Game, word: &'a str) -> Settings<'a>
     ensures words { length result.words ≡ 1 }
 {
@@ -237,7 +237,7 @@ pub fn game_of_one<'a>(game: Game, word: &'a str) -> Settings<'a>
     game_of(game, words)
 }
 
-/// The settings of a game of two files, one of them in a folder.
+/// Makes the settings of a game of two files, one of them in a folder.
 pub fn game_of_two(game: Game) -> Settings<'static>
     ensures words { length result.words ≡ 2 }
 {

@@ -309,7 +309,7 @@ fn externals_have_a_limit(rt: HostRuntime) -> Result<(), Fail> {
     check_fault(&rt, "a.r", &source, "a.r:10: too many variables")
 }
 
-/// Bytes at the end of a source, so many times.
+/// Adds bytes at the end of a source, so many times.
 fn add_times(source: &mut Vec<u8>, bytes: &[u8], times: usize) -> Result<(), AllocError> {
     for _ in 0..times {
         source.extend_from_slice(bytes)?;
@@ -317,7 +317,7 @@ fn add_times(source: &mut Vec<u8>, bytes: &[u8], times: usize) -> Result<(), All
     Ok(())
 }
 
-/// `main(){((..1..));}` with so many pairs of brackets.
+/// Makes `main(){((..1..));}` with so many pairs of brackets.
 fn in_brackets(alloc: Global, pairs: usize) -> Result<Vec<u8>, AllocError> {
     let mut source = Vec::from_slice(alloc, b"main(){")?;
     add_times(&mut source, b"(", pairs)?;
@@ -334,7 +334,7 @@ fn levels_have_a_limit(rt: HostRuntime) -> Result<(), Fail> {
     check_fault(&rt, "a.r", &deep, "a.r:1: nested too deeply")
 }
 
-/// `main(){1;1;..}` with so many statements.
+/// Makes `main(){1;1;..}` with so many statements.
 fn ones(alloc: Global, statements: usize) -> Result<Vec<u8>, AllocError> {
     let mut source = Vec::from_slice(alloc, b"main(){")?;
     add_times(&mut source, b"1;", statements)?;
@@ -354,7 +354,7 @@ fn code_has_a_limit(rt: HostRuntime) -> Result<(), Fail> {
     check_fault(&rt, "a.r", &ones(rt.alloc(), 999)?, "a.r:1: too much code")
 }
 
-/// `main(){}` and spaces, of so many bytes in all.
+/// Makes `main(){}` and spaces, of so many bytes in all.
 fn spaced(alloc: Global, len: usize) -> Result<Vec<u8>, AllocError> {
     let mut source = Vec::from_slice(alloc, b"main(){}")?;
     add_times(&mut source, b" ", len.saturating_sub(8))?;

@@ -9,7 +9,7 @@ use std::alloc::{AllocError, Global};
 use std::process::Abort;
 use std::test::Fail;
 
-/// The cycles that ask before the first restart, and the restart's own behind them, where each reply is 0.
+/// Returns the cycles that ask before the first restart, and the restart's own after them, if each reply is 0.
 fn asks_and_restart(alloc: Global, program: &Program) -> Result<Vec<u32>, AllocError> {
     let mut cycles = Vec::new(alloc);
     let mut machine = Machine::new(program);

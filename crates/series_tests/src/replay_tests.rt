@@ -8,7 +8,7 @@ use std::alloc::Global;
 use std::test::Fail;
 use tokens::Pieces;
 
-/// The program of a good source, whose trees are made first and then told to the maker.
+/// Compiles a good source, whose trees are made first and then replayed to the maker.
 fn replayed(alloc: Global, source: &[u8]) -> Option<Program> {
     let profile = Profile::first();
     let mut trees = TreeMaker::new(alloc, profile);

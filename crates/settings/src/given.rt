@@ -102,7 +102,7 @@ impl Model for Numbers {
 }
 
 impl Numbers {
-    /// The settings of these numbers, this mode and these files.
+    /// Makes the settings of these numbers, this mode and these files.
     fn settings<'a>(self, mode: Mode, words: ArrayVec<&'a str, FILES_MAX>) -> Settings<'a>
         requires { 0 < length words.items }
         ensures { result ≡ setup_of self mode (map (λ word. word.now) words.entry.items) }
@@ -119,7 +119,7 @@ impl Numbers {
     }
 }
 
-/// The numbers that are asked for, if each value is one within its limits.
+/// Returns the numbers that are asked for, if each value is one within its limits.
 #[tactic(auto, unfolding(crate::specs::Given::numbers_of))]
 fn read_numbers(given: &Given<'_, '_>) -> Option<Numbers>
     ensures { result ≡ numbers_of given.now }
@@ -149,7 +149,7 @@ fn value(given: Option<&str>, least: u64, most: u64, default: u64) -> Option<u64
     }
 }
 
-/// The profile of a number, 1 or 2.
+/// Returns the profile of a number, 1 or 2.
 fn profile_of(number: u64) -> Profile
     ensures { result ≡ profile_by number }
 {
@@ -160,7 +160,7 @@ fn profile_of(number: u64) -> Profile
     }
 }
 
-/// The mode that is asked for, if any.
+/// Returns the mode that is asked for, if any.
 fn mode(given: &Given<'_, '_>) -> Option<Mode>
     ensures { result ≡ mode_of given.now }
 {

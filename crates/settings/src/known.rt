@@ -2,7 +2,7 @@
 
 ghost use Rattle.settings.specs.KnownSettings.{KnownSettings};
 
-/// The definitions give these settings and refusals for what these command lines gave.
+/// Proves that the definitions give these settings and refusals for what these command lines gave.
 pub fn known_settings()
     ensures { KnownSettings }
 {}

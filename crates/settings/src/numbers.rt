@@ -19,7 +19,7 @@ pub fn number(text: &str, least: u64, most: u64) -> Option<u64>
     }
 }
 
-/// Whether a text begins with `+`.
+/// Reports whether a text begins with `+`.
 fn has_plus(text: &str) -> bool
     ensures { result ≡ (slice_index text.now 0 == 43) }
 {

@@ -55,7 +55,7 @@ impl<'a> Model for Settings<'a> {
 }
 
 impl<'a> Settings<'a> {
-    /// The settings of these parts.
+    /// Makes the settings of these parts.
     pub fn new(
         mode: Mode,
         matches: u32,
@@ -95,7 +95,7 @@ impl<'a> Settings<'a> {
         }
     }
 
-    /// Whether files are listed or play matches.
+    /// Returns whether files are listed or play matches.
     pub fn mode(&self) -> Mode
         ensures value { result ≡ self.now.mode }
         ensures within { IsSetup self.now }
@@ -103,7 +103,7 @@ impl<'a> Settings<'a> {
         self.mode
     }
 
-    /// How many matches are played, 1 to 1,000,000. No match is played if files are listed.
+    /// Returns how many matches are played, 1 to 1,000,000. No match is played if files are listed.
     pub fn matches(&self) -> u32
         ensures value { result ≡ self.now.matches }
         ensures within { IsSetup self.now }
@@ -111,7 +111,7 @@ impl<'a> Settings<'a> {
         self.matches
     }
 
-    /// The most cycles of a match, 1 to 1,000,000,000.
+    /// Returns the most cycles of a match, 1 to 1,000,000,000.
     pub fn limit(&self) -> u32
         ensures value { result ≡ self.now.limit }
         ensures within { IsSetup self.now }
@@ -119,7 +119,7 @@ impl<'a> Settings<'a> {
         self.limit
     }
 
-    /// The seed of the random numbers.
+    /// Returns the seed of the random numbers.
     pub fn seed(&self) -> u64
         ensures value { result ≡ self.now.seed }
         ensures within { IsSetup self.now }
@@ -127,7 +127,7 @@ impl<'a> Settings<'a> {
         self.seed
     }
 
-    /// The language profile of all files.
+    /// Returns the language profile of all files.
     pub fn profile(&self) -> Profile
         ensures value { result ≡ self.now.profile }
         ensures within { IsSetup self.now }
@@ -135,7 +135,7 @@ impl<'a> Settings<'a> {
         self.profile
     }
 
-    /// The number of the first match, 1 to 1,000,000.
+    /// Returns the number of the first match, 1 to 1,000,000.
     pub fn first(&self) -> u32
         ensures value { result ≡ self.now.first }
         ensures within { IsSetup self.now }
@@ -143,7 +143,7 @@ impl<'a> Settings<'a> {
         self.first
     }
 
-    /// The words that name the files, one to four.
+    /// Returns the words that name the files, one to four.
     pub fn words(&self) -> &[&'a str]
         ensures value { map (λ word. word.now) result.now ≡ self.now.words }
         ensures within { IsSetup self.now }

@@ -11,12 +11,12 @@ pub record Draft : Type 0 where
 abbrev pub blank : Draft
 blank = record { page = []; failed = false }
 
--- where no put has failed, the sink's count of failures can rise by one
+-- if no put has failed, the sink's count of failures can rise by one
 abbrev pub MayFail : Draft → ℕ → Type 0
 MayFail pen failures = pen.failed ≡ false → failures < 2 ^ 64 - 1
 
 -- Since the pen began, before which the sink had taken `before` and failed n times:
--- while no put has failed, the sink took the text but for what stands on the page;
+-- while no put has failed, the sink took the text but for what is on the page;
 -- once one has failed, it took a front of the text.
 pub record WritesSoFar (before now : Portions) (n failures : ℕ) (pen : Draft) (text : List ℕ) : Type 0 where
   pub going : pen.failed ≡ false → TakesAllBut before now text pen.page

@@ -2,7 +2,7 @@
 use Rattle.std.specs.Prelude.{◌≡◌, ℕ, ◌+◌, List, ◌++◌, Option, Some, None, Result, MatchResult}
 use Rattle.std.specs.List.{concat}
 
--- what a sink tells of the portions that it took so far; it may tell nothing
+-- the portions that a sink took so far, if its contents are known
 abbrev pub Portions : Type 0
 Portions = Option (List (List ℕ))
 

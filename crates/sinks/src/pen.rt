@@ -14,8 +14,8 @@ pub const PAGE: usize = 512;
 
 /// Gathers the fragments of one piece on a page and puts the page on a sink when it is full.
 ///
-/// A failure is kept until `done` answers it: from then on nothing more is put. The page ends with the
-/// piece, so no portion holds bytes of two pieces. Each call takes the same sink.
+/// A failure is kept until `done` answers it: from then on nothing more is put. The page ends with the piece, so no
+/// write mixes two pieces. Each call takes the same sink.
 pub struct Pen {
     page: ArrayVec<u8, PAGE>,
     failed: bool,
@@ -28,7 +28,7 @@ impl Model for Pen {
 }
 
 impl Pen {
-    /// A pen at the begin of a piece.
+    /// Makes a pen at the begin of a piece.
     pub fn new() -> Pen
         ensures blank { result ≡ blank }
         ensures text { (now : Portions) (n : ℕ) → WritesSoFar now now n n result [] }
@@ -71,7 +71,7 @@ impl Pen {
         }
     }
 
-    /// Puts a fragment behind an empty page.
+    /// Puts a fragment after an empty page.
     fn put<S: Sink>(&mut self, sink: &mut S, bytes: &[u8])
         requires countable { MayFail self.old (S.failures sink.old) }
         requires empty { self.old.failed ≡ false → self.old.page ≡ [] }
@@ -84,7 +84,7 @@ impl Pen {
         }
     }
 
-    /// Ends the piece: puts what stands on the page, and answers whether the sink took the whole piece.
+    /// Ends the piece: puts what is on the page, and answers whether the sink took the whole piece.
     pub fn done<S: Sink>(self, sink: &mut S) -> Result<(), DeviceFault>
         requires { MayFail self (S.failures sink.old) }
         ensures { (before : Portions) (n : ℕ) (text : List ℕ)

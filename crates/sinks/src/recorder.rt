@@ -10,7 +10,7 @@ use std::marker::Model;
 use tokens::DeviceFault;
 
 /// A sink in memory that keeps each portion, and that can be made to take only so many bytes a call or in
-/// all, or to fail at one call. It fails too where memory is refused.
+/// all, or to fail at one call. It fails too if memory is refused.
 #[derive(Debug, Drop)]
 pub struct Recorder {
     portions: Vec<Vec<u8>>,
@@ -33,7 +33,7 @@ impl Model for Recorder {
 }
 
 impl Recorder {
-    /// A sink that takes all that it is given.
+    /// Makes a sink that takes all that it is given.
     pub fn new(alloc: Global) -> Recorder
         ensures { result ≡ record { portions = []; most = usize.MAX; room = usize.MAX; failing = None; failures = 0 } }
     {
@@ -46,21 +46,21 @@ impl Recorder {
         }
     }
 
-    /// The same, but a call takes at most so many bytes.
+    /// Limits each call to at most so many bytes.
     pub fn with_most(self, most: usize) -> Recorder
         ensures { result ≡ record self { most = most } }
     {
         Recorder { most, ..self }
     }
 
-    /// The same, but it takes only so many bytes more and then fails.
+    /// Lets it take only so many bytes more and then fail.
     pub fn with_room(self, room: usize) -> Recorder
         ensures { result ≡ record self { room = room } }
     {
         Recorder { room, ..self }
     }
 
-    /// The same, but the call after so many more fails.
+    /// Lets the call after so many more fail.
     pub fn failing_after(self, calls: u64) -> Recorder
         ensures { result ≡ record self { failing = Some calls } }
     {
@@ -70,21 +70,21 @@ impl Recorder {
         }
     }
 
-    /// The portions that it took.
+    /// Returns the portions that it took.
     pub fn portions(&self) -> &[Vec<u8>]
         ensures { map (λ v. v.items) result.now ≡ self.now.portions }
     {
         self.portions.as_slice()
     }
 
-    /// How often it failed.
+    /// Returns how often it failed.
     pub fn failures(&self) -> u64
         ensures { result ≡ self.now.failures }
     {
         self.failures
     }
 
-    /// How many of so many bytes the next call takes; it takes none where it fails.
+    /// Returns how many of so many bytes the next call takes, which is none if it fails, and counts the call.
     fn next_size(&mut self, len: usize) -> usize
         ensures size { result ≡ size_of_next self.old len }
         ensures failing { self.new ≡ record self.old { failing = failing_then self.old.failing } }

@@ -8,7 +8,7 @@ use tokens::DeviceFault;
 /// A device that takes bytes.
 ///
 /// `failures` counts the calls that failed; `portions` are those taken so far, one for each call that
-/// succeeded, where the device tells them. Joined in order they are the bytes that it took.
+/// succeeded, if the device's contents are known. Joined in order they are the bytes that it took.
 pub trait Sink {
     ghost failures: { Self → ℕ };
 
@@ -27,7 +27,7 @@ pub trait Sink {
         ensures counted { OnErr result (failures self.new ≡ failures self.old + 1) };
 }
 
-/// Writes all of `bytes`, by as many calls as the sink needs; fails where the sink does.
+/// Writes all of `bytes`, by as many calls as the sink needs; fails if the sink does.
 pub fn put_all<S: Sink>(sink: &mut S, bytes: &[u8]) -> Result<(), DeviceFault>
     requires countable { S.failures sink.old < 2 ^ 64 - 1 }
     ensures { Puts result (S.portions sink.old) (S.failures sink.old) (S.portions sink.new) (S.failures sink.new)

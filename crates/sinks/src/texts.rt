@@ -50,7 +50,7 @@ impl Pen {
     }
 }
 
-/// The name that texts give the file of this word: the word after its last `/`.
+/// Returns the name that texts give the file of this word: the word after its last `/`.
 pub fn name_of(word: &[u8]) -> &[u8]
     ensures { result.now ≡ file_name word.now }
 {

@@ -16,7 +16,7 @@ static NAME_CLASSES: [u8; 256] = [
     0, 0, 0, 0, 0, 0, 0, 0, 0, 0, 0, 0, 0, 0, 0, 0, 0, 0, 0, 0, 0, 0, 0, 0, 0, 0, 0, 0, 0, 0, 0, 0,
 ];
 
-/// Whether a byte is a space, TAB, LF, VT, FF or CR.
+/// Reports whether a byte is a space, TAB, LF, VT, FF or CR.
 #[inline(always)]
 pub fn is_blank(b: u8) -> bool
     ensures { result ≡ is_blank b }
@@ -24,7 +24,7 @@ pub fn is_blank(b: u8) -> bool
     b == b' ' || (9 <= b && b <= 13)
 }
 
-/// Whether a byte is a decimal digit.
+/// Reports whether a byte is a decimal digit.
 #[inline(always)]
 pub fn is_digit(b: u8) -> bool
     ensures { result ≡ is_digit b }
@@ -32,7 +32,7 @@ pub fn is_digit(b: u8) -> bool
     b'0' <= b && b <= b'9'
 }
 
-/// Whether a byte is an ASCII letter or `_`.
+/// Reports whether a byte is an ASCII letter or `_`.
 #[inline(always)]
 pub fn is_letter(b: u8) -> bool
     ensures { result ≡ is_letter b }
@@ -40,7 +40,7 @@ pub fn is_letter(b: u8) -> bool
     NAME_CLASSES[usize::from(b)] == 2
 }
 
-/// Whether a name goes on with this byte.
+/// Reports whether a name goes on with this byte.
 #[inline(always)]
 pub fn is_name_byte(b: u8) -> bool
     ensures { result ≡ is_name_byte b }

@@ -36,7 +36,7 @@ impl Model for Cursor {
 }
 
 impl Cursor {
-    /// A cursor at the first token of a device's bytes. The only error is that of the device.
+    /// Opens a cursor at the first token of a device's bytes. The only error is that of the device.
     pub fn open<F: Feed>(feed: &mut F) -> Result<Cursor, DeviceFault>
         requires countable { F.failures feed.old < 2 ^ 64 - 1 }
         requires not_ended { F.ended feed.old ≡ false }
@@ -71,7 +71,7 @@ impl Cursor {
         })
     }
 
-    /// The next token.
+    /// Returns the next token.
     pub fn peek(&self) -> &LocatedToken
         ensures value { result.now ≡ self.now.next }
         ensures fits { FitsToken result.now.token }
@@ -79,7 +79,7 @@ impl Cursor {
         &self.next
     }
 
-    /// The token behind the next one. Where the next is the last, there is none, and what this gives says nothing.
+    /// Returns the token after the next one. If the next is the last, there is none, and the result says nothing.
     pub fn after(&self) -> &LocatedToken
         ensures value { result.now ≡ self.now.after }
         ensures fits { FitsToken result.now.token }
@@ -87,7 +87,7 @@ impl Cursor {
         &self.after
     }
 
-    /// Goes behind the next token. After an `Err`, which is the device's, the cursor is of no more use.
+    /// Goes past the next token. After an `Err`, which is the device's, the cursor is of no more use.
     pub fn advance<F: Feed>(&mut self, feed: &mut F) -> Result<(), DeviceFault>
         requires not_last { is_last self.old.next.token ≡ false }
         requires countable { F.failures feed.old < 2 ^ 64 - 1 }

@@ -6,14 +6,15 @@ ghost use Rattle.tokens.specs.Source.{source};
 ghost use Rattle.tokens.specs.Tokens.{tokens};
 ghost use Rattle.tokens.specs.Ends.{IsRising, AllEndBy, StaysUndecided};
 
-/// Tokens end one behind the other, and none behind the source. None is decided before the one ahead of it ends.
+/// Proves that tokens end one after the other, and none after the source. None is decided before the one ahead of it
+/// ends.
 pub fn ends_rise()
     ensures rising { (bytes : List ℕ) → IsRising 0 (tokens bytes) }
     ensures within { (bytes : List ℕ) → AllEndBy (length (source bytes)) (tokens bytes) }
     ensures stays_undecided { (bytes : List ℕ) → StaysUndecided 0 (tokens bytes) }
 {}
 
-/// Small sources have these tokens.
+/// Proves that small sources have these tokens.
 pub fn known_tokens()
     ensures { KnownTokens }
 {}

@@ -47,7 +47,7 @@ impl Window {
         }
     }
 
-    /// The same, behind blanks and comments.
+    /// Does the same after blanks and comments.
     #[inline(never)]
     fn read_on<F: Feed>(&mut self, here: &mut LocatedToken, feed: &mut F) -> Result<(), DeviceFault>
         requires countable { F.failures feed.old < 2 ^ 64 - 1 }
@@ -83,7 +83,7 @@ impl Window {
         }
     }
 
-    /// Skips blanks. Answers the byte behind them, or `None` at the end.
+    /// Skips blanks. Answers the byte after them, or `None` at the end.
     #[inline(always)]
     fn skip_blanks<F: Feed>(&mut self, feed: &mut F) -> Result<Option<u8>, DeviceFault>
         requires countable { F.failures feed.old < 2 ^ 64 - 1 }
@@ -113,7 +113,7 @@ impl Window {
         }
     }
 
-    /// At a `/`, skips a comment, or puts the token that begins there here. Answers whether there was one.
+    /// Skips a comment at a `/`, or puts the token that begins there here. Answers whether there was one.
     fn slash<F: Feed>(&mut self, here: &mut LocatedToken, feed: &mut F) -> Result<bool, DeviceFault>
         requires countable { F.failures feed.old < 2 ^ 64 - 1 }
         requires known { KnowsEnd self.old.beyond (F.ended feed.old) }
@@ -148,7 +148,7 @@ impl Window {
         }
     }
 
-    /// Inside a comment, goes behind its `*/`. Answers `false` where there is none.
+    /// Goes past the `*/` of a comment that it is inside. Answers `false` if there is none.
     fn skip_comment<F: Feed>(&mut self, feed: &mut F) -> Result<bool, DeviceFault>
         requires countable { F.failures feed.old < 2 ^ 64 - 1 }
         requires known { KnowsEnd self.old.beyond (F.ended feed.old) }
@@ -182,7 +182,7 @@ impl Window {
         }
     }
 
-    /// The token that begins with this byte, which is the next one, no blank and no `/`.
+    /// Puts the token here that begins with this byte, which is the next one, no blank and no `/`.
     #[inline(always)]
     fn token<F: Feed>(
         &mut self,
@@ -226,7 +226,7 @@ impl Window {
         }
     }
 
-    /// The name of which the first byte was passed.
+    /// Puts the name here of which the first byte was passed.
     #[inline(never)]
     fn name<F: Feed>(
         &mut self,
@@ -260,7 +260,7 @@ impl Window {
         self.name_in_pieces(here, feed, first)
     }
 
-    /// The same of a name that is not all at hand, or long.
+    /// Does the same for a name that is not all at hand, or long.
     #[inline(never)]
     fn name_in_pieces<F: Feed>(
         &mut self,
@@ -306,7 +306,7 @@ impl Window {
         }
     }
 
-    /// The constant of which the first digit was passed.
+    /// Puts the constant here of which the first digit was passed.
     #[inline(never)]
     fn constant<F: Feed>(
         &mut self,
@@ -339,7 +339,7 @@ impl Window {
         self.constant_in_pieces(here, feed, first)
     }
 
-    /// The same of a constant that is not all at hand, or large.
+    /// Does the same for a constant that is not all at hand, or large.
     #[inline(never)]
     fn constant_in_pieces<F: Feed>(
         &mut self,
@@ -379,7 +379,7 @@ impl Window {
         }
     }
 
-    /// The longest punctuator that begins with this one, which was passed.
+    /// Puts the longest punctuator here that begins with this one, which was passed.
     #[inline(never)]
     fn punctuator<F: Feed>(
         &mut self,
@@ -418,7 +418,7 @@ impl Window {
         }
     }
 
-    /// Whether a punctuator that was passed ends here, as far as the bytes at hand show.
+    /// Reports whether a punctuator that was passed ends here, as far as the bytes at hand show.
     #[inline(always)]
     #[tactic(auto, using(crate::proofs::AtHandLemmas::whole_ends))]
     fn ends(&self, punctuator: Punctuator) -> bool
@@ -463,7 +463,7 @@ impl Window {
         }
     }
 
-    /// A token that ends before the next byte, on the same line.
+    /// Makes a token that ends before the next byte, on the same line.
     #[inline(always)]
     fn ending(&self, token: Token) -> LocatedToken
         ensures { result ≡ record { token = token; line = self.now.line; end = self.now.place } }
@@ -497,7 +497,7 @@ impl Window {
         *here = self.last(Token::Fault(LexicalError::CommentNotClosed), line);
     }
 
-    /// The last token, at the end of what can be read: this one, unless the source is too long.
+    /// Makes the last token, at the end of what can be read: this one, unless the source is too long.
     fn last(&self, token: Token, line: u32) -> LocatedToken
         requires { self.now.beyond ≢ Beyond.Unread }
         ensures value { (to_come : List ℕ) → result ≡ last_located_token token line (ahead self.now to_come) }
@@ -525,8 +525,8 @@ const LARGEST_OF_EIGHT_DIGITS: u32 = 99_999_999;
 /// A value above the greatest constant, in place of all such values.
 const TOO_LARGE: u64 = CONSTANT_MAX as u64 + 1;
 
-/// The value of a constant of at most nine digits that ends within these bytes, and how many of its digits they begin
-/// with.
+/// Returns the value of a constant of at most nine digits that ends within these bytes, and how many of its digits they
+/// begin with.
 #[inline(always)]
 fn constant_begun(first: u8, rest: &[u8]) -> Option<(u32, usize)>
     requires digit { is_digit first ≡ true }
@@ -545,7 +545,7 @@ fn constant_begun(first: u8, rest: &[u8]) -> Option<(u32, usize)>
     None
 }
 
-/// The token of a constant of this value.
+/// Makes the token of a constant of this value.
 fn constant_token(value: u64) -> Token
     ensures token { result ≡ value_token value }
     ensures fits { FitsToken result }

@@ -150,7 +150,7 @@ pub struct LocatedToken {
 impl Token {
     ghost use Rattle.tokens.specs.Tokens.{is_last};
 
-    /// Whether no token is behind this one: a fault is the last token, or else the end is.
+    /// Reports whether no token follows this one: a fault is the last token, or else the end is.
     pub fn is_last(&self) -> bool
         ensures { result ≡ is_last self.now }
     {
@@ -159,7 +159,7 @@ impl Token {
 }
 
 impl LocatedToken {
-    /// What stands where no token was read yet.
+    /// Makes what fills the place of a token before one is read.
     pub(crate) fn none() -> LocatedToken {
         LocatedToken {
             token: Token::End,

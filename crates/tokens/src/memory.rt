@@ -36,7 +36,7 @@ impl<'a> Model for Pieces<'a> {
 }
 
 impl<'a> Pieces<'a> {
-    /// A device of these bytes, which gives at most so many at a read.
+    /// Makes a device of these bytes, which gives at most so many at a read.
     pub fn new(bytes: &'a [u8], most: usize) -> Self
         requires { 0 < most }
         ensures { result ≡ record {
@@ -51,7 +51,7 @@ impl<'a> Pieces<'a> {
         Pieces::failing_at(bytes, most, usize::MAX)
     }
 
-    /// The same, where each read fails from this one on, counted from 0.
+    /// Makes the same device, but each read fails from this one on, counted from 0.
     pub fn failing_at(bytes: &'a [u8], most: usize, read: usize) -> Self
         requires { 0 < most }
         ensures { result ≡ record {
@@ -73,14 +73,14 @@ impl<'a> Pieces<'a> {
         }
     }
 
-    /// How many bytes it has given.
+    /// Returns how many bytes it has given.
     pub fn taken(&self) -> usize
         ensures { result ≡ self.now.taken }
     {
         self.place
     }
 
-    /// How many reads have failed.
+    /// Returns how many reads have failed.
     pub fn failures(&self) -> u64
         ensures { result ≡ self.now.failures }
     {

@@ -39,7 +39,7 @@ impl Default for Name {
 }
 
 impl Name {
-    /// The name of no bytes.
+    /// Makes the name of no bytes.
     pub fn new() -> Self
         ensures { result ≡ [] }
     {
@@ -69,7 +69,7 @@ impl Name {
         false
     }
 
-    /// How many bytes it has.
+    /// Returns how many bytes it has.
     pub fn len(&self) -> usize
         ensures value { result ≡ length self.now }
         ensures bounded { result ≤ 31 }
@@ -77,14 +77,14 @@ impl Name {
         self.len as usize
     }
 
-    /// Whether it has no bytes.
+    /// Reports whether it has no bytes.
     pub fn is_empty(&self) -> bool
         ensures { IsTrue result ↔ (length self.now ≡ 0) }
     {
         self.len == 0
     }
 
-    /// Whether it can take no further byte.
+    /// Reports whether it can take no further byte.
     pub fn is_full(&self) -> bool
         ensures { IsTrue result ↔ (31 ≤ length self.now) }
     {
@@ -100,7 +100,7 @@ impl Name {
         self.len += 1;
     }
 
-    /// Its bytes.
+    /// Returns its bytes.
     pub fn as_bytes(&self) -> &[u8]
         ensures value { result.now ≡ self.now }
         ensures bounded { length result.now ≤ 31 }
@@ -108,7 +108,7 @@ impl Name {
         &self.bytes[..self.len as usize]
     }
 
-    /// Whether it is this name. Most others differ in their length or in one of their first bytes.
+    /// Reports whether it is this name. Most others differ in their length or in one of their first bytes.
     #[inline(always)]
     #[tactic(auto, using(crate::proofs::NameLemmas::other_name))]
     pub fn same(&self, other: &Name) -> bool
@@ -117,7 +117,7 @@ impl Name {
         self.begins_as(other) && self.as_bytes() == other.as_bytes()
     }
 
-    // Whether the length and the first two bytes are those of a name: a short name has zeros there.
+    // Reports whether the length and the first two bytes are those of a name: a short name has zeros there.
     #[inline(always)]
     #[tactic(auto, using(crate::proofs::NameLemmas::same_kept))]
     fn begins_as(&self, other: &Name) -> bool
@@ -126,7 +126,7 @@ impl Name {
         self.len == other.len && self.bytes[0] == other.bytes[0] && self.bytes[1] == other.bytes[1]
     }
 
-    /// Whether it has these bytes.
+    /// Reports whether it has these bytes.
     pub fn is(&self, bytes: &[u8]) -> bool
         ensures { result ≡ bytes_eq self.now bytes.now }
     {

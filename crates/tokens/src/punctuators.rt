@@ -8,7 +8,7 @@ ghost use Rattle.tokens.specs.Lexing.{EndsBefore};
 use crate::located_tokens::Punctuator;
 
 impl Punctuator {
-    /// The punctuator of one byte.
+    /// Returns the punctuator of one byte.
     #[inline(always)]
     #[tactic(auto, unfolding(crate::specs::Punctuators::punctuator_of))]
     pub(crate) fn of_byte(b: u8) -> Option<Punctuator>
@@ -38,7 +38,7 @@ impl Punctuator {
         })
     }
 
-    /// Whether the next byte shows that it ends here, which is at hand.
+    /// Reports whether the next byte, if it is at hand, shows that it ends here.
     #[inline(always)]
     pub(crate) fn ends_before(self, next: Option<u8>) -> bool
         ensures { result ≡ true → EndsBefore self next }
@@ -49,7 +49,7 @@ impl Punctuator {
         }
     }
 
-    /// Whether the byte is the last of a punctuator of more than one.
+    /// Reports whether the byte is the last of a punctuator of more than one byte.
     #[inline(always)]
     #[tactic(auto, unfolding(crate::specs::Punctuators::punctuator_of))]
     fn may_grow_by(self, b: u8) -> bool
@@ -58,7 +58,7 @@ impl Punctuator {
         matches!(b, b'=' | b'+' | b'-' | b'&' | b'|' | b'<' | b'>')
     }
 
-    /// Whether no longer punctuator begins with this one, so that the next byte is of no account.
+    /// Reports whether no longer punctuator begins with this one, so that the next byte is of no account.
     #[inline(always)]
     #[tactic(auto, unfolding(crate::specs::Punctuators::punctuator_of))]
     pub(crate) fn is_whole(self) -> bool
@@ -75,7 +75,7 @@ impl Punctuator {
         )
     }
 
-    /// The punctuator that is spelled as this one and the next byte, if there is one.
+    /// Returns the punctuator that is spelled as this one and the next byte, if there is one.
     #[inline(always)]
     pub(crate) fn longer(self, next: Option<u8>) -> Option<Punctuator>
         ensures { result ≡ option_and_then (λ b. punctuator_of (spelling self ++ b ∷ [])) next }

@@ -23,11 +23,11 @@ pub trait Stop {
     // whether a byte is of the kind
     ghost stops: { ℕ → Bool };
 
-    /// Whether a byte is of the kind.
+    /// Reports whether a byte is of the kind.
     fn is(b: u8) -> bool
         ensures { result ≡ stops b };
 
-    /// The same of each byte of a block, as a bit.
+    /// Does the same for each byte of a block, as a bit.
     fn bits(block: u8x32) -> u64
         ensures { result ≡ mask_l (map stops block) };
 }
@@ -85,7 +85,7 @@ impl Stop for Ink {
     }
 }
 
-/// How many bytes there are before the first of this kind, and how many of them end a line.
+/// Returns how many bytes there are before the first of this kind, and how many of them end a line.
 pub fn run_before<S: Stop>(bytes: &[u8]) -> (usize, u32)
     requires { length bytes.now ≤ window_bytes }
     ensures count { result.0 ≡ prefix_len (λ b. not (S.stops b)) bytes.now }
@@ -107,7 +107,7 @@ pub fn run_before<S: Stop>(bytes: &[u8]) -> (usize, u32)
     (count + run, lines + ended)
 }
 
-/// The same of a block.
+/// Does the same for a block.
 #[inline(always)]
 fn run_in_block<S: Stop>(block: u8x32) -> (usize, u32)
     ensures count { result.0 ≡ prefix_len (λ b. not (S.stops b)) block }
@@ -123,7 +123,7 @@ fn run_in_block<S: Stop>(block: u8x32) -> (usize, u32)
     (run as usize, (feeds % (1 << run)).count_ones())
 }
 
-/// The same, a byte at a time.
+/// Does the same, a byte at a time.
 fn run_by_one<S: Stop>(bytes: &[u8]) -> (usize, u32)
     requires { length bytes.now ≤ window_bytes }
     ensures count { result.0 ≡ prefix_len (λ b. not (S.stops b)) bytes.now }

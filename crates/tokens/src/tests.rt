@@ -258,7 +258,7 @@ impl Feed for Many {
     }
 }
 
-/// The first token of many line ends and then perhaps another byte.
+/// Returns the first token of many line ends and then perhaps another byte.
 fn behind_lines(left: u32, last: Option<u8>) -> Result<(Token, u32, u32), DeviceFault> {
     let mut feed = Many {
         byte: b'\n',

@@ -54,7 +54,7 @@ impl Model for Window {
 }
 
 impl Window {
-    /// A window of a source of which nothing was read.
+    /// Makes a window of a source of which nothing was read.
     pub fn new() -> Self
         ensures { result ≡ untouched }
     {
@@ -69,14 +69,14 @@ impl Window {
         }
     }
 
-    /// The line of the next byte, from 1.
+    /// Returns the line of the next byte, from 1.
     pub fn line(&self) -> u32
         ensures { result ≡ self.now.line }
     {
         self.line
     }
 
-    /// How many bytes of the source stand before the next one.
+    /// Returns how many bytes of the source are before the next one.
     pub fn place(&self) -> u32
         ensures value { result ≡ self.now.place }
         ensures within { result ≤ source_bytes }
@@ -84,14 +84,14 @@ impl Window {
         self.start + self.next as u32
     }
 
-    /// What is known of the source behind the bytes at hand.
+    /// Returns what is known of the source after the bytes at hand.
     pub fn beyond(&self) -> Beyond
         ensures { result ≡ self.now.beyond }
     {
         self.beyond
     }
 
-    /// The next byte, or `None` at the end. The device is asked only where no byte is at hand.
+    /// Returns the next byte, or `None` at the end. The device is asked only if no byte is at hand.
     #[inline(always)]
     pub fn peek<F: Feed>(&mut self, feed: &mut F) -> Result<Option<u8>, DeviceFault>
         requires countable { F.failures feed.old < 2 ^ 64 - 1 }
@@ -115,7 +115,7 @@ impl Window {
         Ok(self.first())
     }
 
-    /// Goes behind the next byte.
+    /// Goes past the next byte.
     #[inline(always)]
     pub fn pass(&mut self)
         requires { 0 < length self.old.at_hand }
@@ -133,7 +133,7 @@ impl Window {
         self.next += 1;
     }
 
-    /// The bytes at hand.
+    /// Returns the bytes at hand.
     #[inline(always)]
     pub fn at_hand(&self) -> &[u8]
         ensures value { result.now ≡ self.now.at_hand }
@@ -142,7 +142,7 @@ impl Window {
         &self.bytes[self.next..self.filled]
     }
 
-    /// Goes behind so many bytes at hand, none of which ends a line.
+    /// Goes past so many bytes at hand, none of which ends a line.
     #[inline(always)]
     pub fn pass_in_line(&mut self, count: usize)
         requires within { count ≤ length self.old.at_hand }
@@ -158,7 +158,7 @@ impl Window {
         self.next += count;
     }
 
-    /// Goes behind the bytes at hand that stand before the next `*`.
+    /// Goes past the bytes at hand that are before the next `*`.
     pub fn pass_plain(&mut self)
         ensures value { self.new ≡ behind_plain self.old }
         ensures forward { self.old.place ≤ self.new.place }
@@ -173,7 +173,7 @@ impl Window {
         self.line += lines;
     }
 
-    /// Goes behind the blanks at hand.
+    /// Goes past the blanks at hand.
     pub fn pass_blanks(&mut self)
         ensures value { self.new ≡ behind_blanks self.old }
         ensures forward { self.old.place ≤ self.new.place }
@@ -193,7 +193,7 @@ impl Window {
         self.line += lines;
     }
 
-    /// The next byte, if one is at hand.
+    /// Returns the next byte, if one is at hand.
     #[inline(always)]
     pub fn first(&self) -> Option<u8>
         ensures { result ≡ slice_get self.now.at_hand 0 }
@@ -236,7 +236,7 @@ impl Window {
     }
 }
 
-/// How many of these bytes belong to the source, of which there is room for so many, and what follows them.
+/// Returns how many of these bytes belong to the source, of which there is room for so many, and what follows them.
 #[tactic(auto, using(crate::proofs::SourceLemmas::cutting))]
 fn cut(bytes: &[u8], room: usize) -> (usize, Beyond)
     requires room { length bytes.now ≤ room + 1 }
@@ -255,7 +255,7 @@ fn cut(bytes: &[u8], room: usize) -> (usize, Beyond)
     }
 }
 
-/// How many bytes there are before the first that ends a source.
+/// Returns how many bytes there are before the first that ends a source.
 #[tactic(auto, using(crate::proofs::RunLemmas::ends_source))]
 fn source_len(bytes: &[u8]) -> usize
     requires { length bytes.now ≤ window_bytes }

@@ -7,7 +7,7 @@ ghost use Rattle.tokens.specs.Words.{word_of};
 use crate::located_tokens::Word;
 
 impl Word {
-    /// Whether a name may be a word. No word has a single byte.
+    /// Reports whether a name may be a word. No word has a single byte.
     #[inline(always)]
     #[tactic(auto, unfolding(crate::specs::Words::word_of))]
     pub(crate) fn may_be(name: &[u8]) -> bool
@@ -16,7 +16,7 @@ impl Word {
         name.len() >= 2
     }
 
-    /// The word that a name is, if it is one. Its first byte leaves few to compare it with.
+    /// Returns the word that a name is, if it is one. Its first byte leaves few to compare it with.
     #[tactic(auto, unfolding(crate::specs::Words::word_of))]
     pub(crate) fn of_name(name: &[u8]) -> Option<Word>
         ensures { result ≡ word_of name.now }
@@ -51,7 +51,7 @@ impl Word {
         }
     }
 
-    // This word, where a name is it.
+    // Returns this word, if a name is it.
     fn when(self, is: bool) -> Option<Word>
         ensures { result ≡ (if is then Some self else None) }
     {

@@ -86,14 +86,14 @@ fn recorded(rt: &HostRuntime, wish: &Wish<'_>) -> Result<Recording, Fault> {
     ))
 }
 
-/// The words of the command line after the program's name. Words that are no text are an error.
+/// Returns the words of the command line after the program's name. Words that are no text are an error.
 fn arguments(rt: &HostRuntime) -> io::Result<Vec<String>> {
     let mut words = env::args(rt)?;
     let _ = words.next();
     Ok(words.collect(rt.alloc())?)
 }
 
-/// The words as texts.
+/// Returns the words as texts.
 fn borrowed<'a>(rt: &HostRuntime, words: &'a [String]) -> Result<Vec<&'a str>, AllocError> {
     let mut texts = Vec::new(rt.alloc());
     for word in words {

@@ -18,7 +18,7 @@ const PIECES: usize = 16;
 /// The distance between two lines of the grid: 100 metres.
 const GRID: u32 = 100;
 
-/// What stands before the field: the picture's size, and a burst, whose three rings are 40, 20 and 5 metres from it.
+/// What comes before the field: the picture's size, and a burst, whose three rings are 40, 20 and 5 metres from it.
 const HEAD: &str =
     "<svg xmlns=\"http://www.w3.org/2000/svg\" viewBox=\"0 0 1500 1100\" font-family=\"sans-serif\" font-size=\"18\">
 <defs><g id=\"burst\" stroke-width=\"1\"><circle r=\"40\" fill=\"#ffe9a8\" fill-opacity=\".35\" stroke=\"#e0b040\"/>\
@@ -186,7 +186,7 @@ fn add_piece(
     text.push_str("\"/>\n")
 }
 
-/// Adds a point of a path where it is another one than the last. Returns its column and row.
+/// Adds a point of a path if it is another one than the last. Returns its column and row.
 fn add_point(
     text: &mut String,
     place: Place,

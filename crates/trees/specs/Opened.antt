@@ -32,7 +32,7 @@ abbrev pub opened : List entry.Open → Opened
 opened [] = []
 opened (x ∷ xs) = open_of x ∷ opened xs
 
--- the actions in front of the first statement of a body
+-- the actions before the first statement of a body
 abbrev pub heading_actions : Heading → List Action
 heading_actions (heading.Function number parameters) = Begin number parameters ∷ []
 heading_actions (heading.First c) = expr_actions (expr_tree c) ++ IfTest ∷ []

@@ -37,7 +37,7 @@ impl Model for TreeMaker {
 }
 
 impl TreeMaker {
-    /// A maker without trees, which keeps this allocator and goes by this profile.
+    /// Makes a maker without trees, which keeps this allocator and goes by this profile.
     pub fn new(alloc: Global, profile: Profile) -> TreeMaker
         ensures { Stands result profile [] }
     {
@@ -50,7 +50,7 @@ impl TreeMaker {
         }
     }
 
-    /// The functions that are done, in the order of their definitions.
+    /// Returns the functions that are done, in the order of their definitions.
     pub fn functions(&self) -> &[Function]
         ensures { result.now ≡ self.now.functions }
     {
@@ -70,7 +70,7 @@ impl TreeMaker {
     }
 }
 
-// How many instructions are between the sides of an operator.
+// Returns how many instructions are between the sides of an operator.
 fn middle_length(profile: Profile, op: Op) -> u16
     ensures { result ≡ instructions profile (LogicMiddle op) }
 {
@@ -84,7 +84,7 @@ fn middle_length(profile: Profile, op: Op) -> u16
     }
 }
 
-// How many are at the end of its right side.
+// Returns how many instructions are at the end of an operator's right side.
 fn end_length(profile: Profile, op: Op) -> u16
     ensures { result ≡ instructions profile (ApplyBinop op) }
 {

@@ -14,7 +14,7 @@ use crate::tree::{Expr, Function, Statement};
 use grammar::{BuildFault, Callee, Op, StoreOp, Var};
 
 impl Stack {
-    /// A constant is the next value.
+    /// Takes a constant as the next value.
     pub fn constant(&mut self, value: i32) -> Result<(), BuildFault>
         requires { IsAllowed (PushConstant value) self.old }
         ensures ok { OnOk result (Continues (PushConstant value) self.old self.new) }
@@ -23,7 +23,7 @@ impl Stack {
         self.push(Open::Value(Expr::Constant(value)))
     }
 
-    /// The value of a variable is the next value.
+    /// Takes the value of a variable as the next value.
     pub fn fetch(&mut self, var: Var) -> Result<(), BuildFault>
         requires { IsAllowed (FetchVariable var) self.old }
         ensures ok { OnOk result (Continues (FetchVariable var) self.old self.new) }
@@ -32,7 +32,7 @@ impl Stack {
         self.push(Open::Value(Expr::Variable(var)))
     }
 
-    /// The last value is stored in a variable.
+    /// Stores the last value in a variable.
     pub fn store(&mut self, var: Var, op: StoreOp) -> Result<(), BuildFault>
         requires { IsAllowed (StoreVariable var op) self.old }
         ensures ok { OnOk result (Continues (StoreVariable var op) self.old self.new) }
@@ -43,7 +43,7 @@ impl Stack {
         self.push(Open::Value(Expr::Assign(op, var, right)))
     }
 
-    /// The last two values are the sides of an operator.
+    /// Makes the last two values the sides of an operator.
     pub fn binop(&mut self, op: Op) -> Result<(), BuildFault>
         requires { IsAllowed (ApplyBinop op) self.old }
         ensures ok { OnOk result (Continues (ApplyBinop op) self.old self.new) }
@@ -56,7 +56,7 @@ impl Stack {
         self.push(Open::Value(Expr::Binary(op, left, right)))
     }
 
-    /// The right side of `&&` or `||` follows.
+    /// Begins the right side of `&&` or `||`.
     pub fn logic_middle(&mut self, op: Op) -> Result<(), BuildFault>
         requires { IsAllowed (LogicMiddle op) self.old }
         ensures ok { OnOk result (Continues (LogicMiddle op) self.old self.new) }
@@ -65,7 +65,7 @@ impl Stack {
         self.push(Open::RightSide(op))
     }
 
-    /// A call begins.
+    /// Begins a call.
     pub fn begin_call(&mut self) -> Result<(), BuildFault>
         requires { IsAllowed BeginCall self.old }
         ensures ok { OnOk result (Continues BeginCall self.old self.new) }
@@ -74,7 +74,7 @@ impl Stack {
         self.push(Open::Call)
     }
 
-    /// The call's arguments are done.
+    /// Ends the call's arguments.
     pub fn end_call(&mut self, callee: Callee) -> Result<(), BuildFault>
         requires { IsAllowed (EndCall callee) self.old }
         ensures ok { OnOk result (Continues (EndCall callee) self.old self.new) }
@@ -84,7 +84,7 @@ impl Stack {
         self.push(Open::Value(Expr::Call(callee, arguments)))
     }
 
-    /// The condition of an `if` is done.
+    /// Ends the condition of an `if`.
     pub fn if_test(&mut self) -> Result<(), BuildFault>
         requires { IsAllowed IfTest self.old }
         ensures ok { OnOk result (Continues IfTest self.old self.new) }
@@ -94,7 +94,7 @@ impl Stack {
         self.begin(Heading::First(condition))
     }
 
-    /// The first branch is done, and a second one follows.
+    /// Ends the first branch, and begins a second one.
     pub fn else_part(&mut self) -> Result<(), BuildFault>
         requires { IsAllowed ElsePart self.old }
         ensures ok { OnOk result (Continues ElsePart self.old self.new) }
@@ -110,7 +110,7 @@ impl Stack {
         self.begin(Heading::Second(condition, statements))
     }
 
-    /// An `if` ends.
+    /// Ends an `if`.
     pub fn end_if(&mut self) -> Result<(), BuildFault>
         requires { IsAllowed EndIf self.old }
         ensures ok { OnOk result (Continues EndIf self.old self.new) }
@@ -129,7 +129,7 @@ impl Stack {
         }
     }
 
-    /// A `while` begins.
+    /// Begins a `while`.
     pub fn begin_while(&mut self) -> Result<(), BuildFault>
         requires { IsAllowed BeginWhile self.old }
         ensures ok { OnOk result (Continues BeginWhile self.old self.new) }
@@ -138,7 +138,7 @@ impl Stack {
         self.push(Open::Test)
     }
 
-    /// The condition of a `while` is done.
+    /// Ends the condition of a `while`.
     pub fn while_test(&mut self) -> Result<(), BuildFault>
         requires { IsAllowed WhileTest self.old }
         ensures ok { OnOk result (Continues WhileTest self.old self.new) }
@@ -149,7 +149,7 @@ impl Stack {
         self.begin(Heading::Loop(condition))
     }
 
-    /// A `while` ends.
+    /// Ends a `while`.
     pub fn end_while(&mut self) -> Result<(), BuildFault>
         requires { IsAllowed EndWhile self.old }
         ensures ok { OnOk result (Continues EndWhile self.old self.new) }
@@ -165,7 +165,7 @@ impl Stack {
         self.add(Statement::While(condition, statements))
     }
 
-    /// The function returns the last value.
+    /// Lets the function return the last value.
     pub fn give_back(&mut self) -> Result<(), BuildFault>
         requires { IsAllowed GiveBack self.old }
         ensures ok { OnOk result (Continues GiveBack self.old self.new) }
@@ -175,8 +175,8 @@ impl Stack {
         self.add(Statement::Return(value))
     }
 
-    /// The last value is dropped: that of a statement, or, if two values are open side by side, the new one of
-    /// `v++` or `v--`.
+    /// Drops the last value: that of a statement, or, if two values are open side by side, the new one of `v++` or
+    /// `v--`.
     pub fn chop(&mut self) -> Result<(), BuildFault>
         requires { IsAllowed Chop self.old }
         ensures ok { OnOk result (Continues Chop self.old self.new) }
@@ -193,7 +193,7 @@ impl Stack {
         self.push(Open::Value(Expr::Postfix(op, var)))
     }
 
-    /// A function begins.
+    /// Begins a function.
     pub fn begin_function(&mut self, number: u8, parameters: u8) -> Result<(), BuildFault>
         requires { IsAllowed (Begin number parameters) self.old }
         ensures ok { OnOk result (Continues (Begin number parameters) self.old self.new) }
@@ -202,7 +202,7 @@ impl Stack {
         self.begin(Heading::Function(number, parameters))
     }
 
-    /// The function that ends, without its last `return 0;`.
+    /// Ends the function, and returns it without its last `return 0;`.
     pub fn end_function(&mut self, variables: u8) -> Function
         requires { IsAllowed (Finish variables) self.old }
         ensures { Ends variables self.old self.new result }
@@ -224,7 +224,7 @@ impl Stack {
     }
 }
 
-// Leaves the last statement.
+// Drops the last statement.
 fn leave_last(statements: &mut Vec<Statement>)
     ensures { statements.new.items ≡ without_last statements.old.items }
 {

@@ -15,7 +15,7 @@ pub fn put<T: Drop>(items: &mut Vec<T>, item: T) -> Result<(), BuildFault>
     items.push(item).map_err(AllocError::from).map_err(refused)
 }
 
-/// An expression in a place of its own, or a refusal for want of memory.
+/// Moves an expression to a place of its own, or refuses for want of memory.
 pub fn boxed(alloc: Global, expr: Expr) -> Result<Box<Expr>, BuildFault>
     ensures ok { IfOk result (λ b. b.value ≡ expr) }
     ensures memory { Refuses result true }
@@ -25,7 +25,7 @@ pub fn boxed(alloc: Global, expr: Expr) -> Result<Box<Expr>, BuildFault>
         .map_err(refused)
 }
 
-// The refusal that want of memory is.
+// Returns the refusal for want of memory.
 fn refused(_error: AllocError) -> BuildFault
     ensures { result ≡ BuildFault.Memory }
 {

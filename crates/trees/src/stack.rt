@@ -71,7 +71,7 @@ impl Model for Stack {
 }
 
 impl Stack {
-    /// A stack on which nothing is open.
+    /// Makes a stack on which nothing is open.
     pub fn new(alloc: Global) -> Stack
         ensures { result ≡ [] }
     {
@@ -81,7 +81,7 @@ impl Stack {
         }
     }
 
-    /// The allocator.
+    /// Returns the allocator.
     pub fn allocator(&self) -> Global {
         self.alloc
     }
@@ -102,14 +102,14 @@ impl Stack {
         self.items.pop().unwrap()
     }
 
-    /// Leaves the innermost, if there is one.
+    /// Drops the innermost, if there is one.
     pub fn leave(&mut self)
         ensures { self.new ≡ below self.old }
     {
         self.items.pop();
     }
 
-    /// Whether the innermost is a value.
+    /// Reports whether the innermost is a value.
     pub fn ends_in_value(&self) -> bool
         ensures { result ≡ ends_in_value self.now }
     {

@@ -15,7 +15,7 @@ pub struct Counts {
     pub restarts: u32,
 }
 
-/// Counts over so many cycles of a new machine, where each reply is 0.
+/// Counts over so many cycles of a new machine, if each reply is 0.
 pub fn counted(program: &Program, cycles: u32) -> Counts
     ensures { result.asks + result.restarts ≤ cycles }
 {

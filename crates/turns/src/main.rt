@@ -27,7 +27,7 @@ const ROBOT: &[u8] = b"
     }
 ";
 
-/// The cycles where none are asked for: ten runs of the robot up to its restart.
+/// The cycles if none are asked for: ten runs of the robot up to its restart.
 const CYCLES: u32 = 29_060;
 
 fn main(rt: HostRuntime) -> io::Result<()> {
@@ -40,7 +40,7 @@ fn main(rt: HostRuntime) -> io::Result<()> {
     Ok(())
 }
 
-/// How many cycles are asked for by the first word behind the program's name.
+/// Returns how many cycles are asked for by the first word after the program's name.
 fn cycles(rt: &HostRuntime) -> io::Result<u32> {
     let mut words = env::args(rt)?;
     let _ = words.next();
@@ -50,7 +50,7 @@ fn cycles(rt: &HostRuntime) -> io::Result<u32> {
     }
 }
 
-/// The program of a source without a fault.
+/// Compiles a source without a fault.
 fn compiled(source: &[u8]) -> Option<Program> {
     let mut maker = Maker::new(Profile::first());
     let names = parse(&mut Pieces::new(source, 4096), &mut maker).ok()?;

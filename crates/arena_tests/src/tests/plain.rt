@@ -43,7 +43,7 @@ impl Robot {
         (x.clamp(0, 9999), y.clamp(0, 9999))
     }
 
-    // A new leg from here.
+    // Begins a new leg at the present place.
     fn starting(self) -> Robot {
         let (origin_x, origin_y) = self.place();
         Robot {
@@ -54,7 +54,7 @@ impl Robot {
         }
     }
 
-    // Where it tried to go, or put back where it is if it touched others.
+    // Returns it as it tried to move, or put back where it is if it touched others.
     fn moved(self, tried: Robot, touched: i64) -> Robot {
         if touched == 0 {
             return tried;
@@ -72,7 +72,7 @@ impl Robot {
         }
     }
 
-    // At rest here, hurt by this much.
+    // Stops at the present place, hurt by so much more.
     fn resting(self, hurt: i64) -> Robot {
         Robot {
             speed: 0,
@@ -106,7 +106,7 @@ impl Robot {
         }
     }
 
-    // After heading, speed, distance and walls, if there were no other robots.
+    // Moves on by heading, speed, distance and walls, as if there were no other robots.
     fn tried(self) -> Robot {
         if !self.is_alive() {
             return self;
@@ -124,7 +124,7 @@ impl Robot {
     }
 }
 
-// A distance in tenths from an origin, by the part of it that lies on the axis.
+// Returns a coordinate at a distance in tenths from an origin, by the part of the distance that lies on the axis.
 fn along(origin: i64, distance: i64, part: i32) -> i64 {
     origin.wrapping_add(distance.wrapping_mul(i64::from(part)) / 100_000)
 }
@@ -224,7 +224,7 @@ impl Field {
         self.robots.iter().filter(|robot| robot.is_alive()).count()
     }
 
-    // What the bursts of this update take at a place.
+    // Returns the damage that the bursts of this update do at a place.
     fn burst_at(&self, place: (i64, i64)) -> i64 {
         let mut damage = 0i64;
         for shot in self.shots.as_slice() {
@@ -245,7 +245,7 @@ fn ring(square: i64) -> i64 {
     }
 }
 
-// How many others a robot collides with.
+// Returns how many others a robot collides with.
 fn touches(before: &[Robot; 4], tries: &[Robot; 4], i: usize) -> i64
     requires { i < 4 }
 {
@@ -258,7 +258,7 @@ fn touches(before: &[Robot; 4], tries: &[Robot; 4], i: usize) -> i64
     touched
 }
 
-// Whether two robots collide, each as it was and as it would be.
+// Reports whether two robots collide, each given as it was and as it would be.
 fn collide(a: (Robot, Robot), b: (Robot, Robot)) -> bool {
     let old = (a.0.place(), b.0.place());
     let new = (a.1.place(), b.1.place());
@@ -277,7 +277,7 @@ fn collide(a: (Robot, Robot), b: (Robot, Robot)) -> bool {
 struct Dice(u64);
 
 impl Dice {
-    // A number below the limit.
+    // Returns a number below the limit.
     fn roll(&mut self, limit: u16) -> u16
         requires { 0 < limit }
     {
@@ -318,7 +318,7 @@ fn play(rt: &impl Abort, places: &[(u16, u16)], updates: u32, dice: &mut Dice)
     }
 }
 
-// A live robot drives now and then, and fires.
+// Lets a live robot drive now and then, and fire.
 fn ask(rt: &impl Abort, arena: &mut Arena, field: &mut Field, robot: usize, dice: &mut Dice)
     requires robot { robot < length arena.old.robots }
     requires four { robot < 4 }
