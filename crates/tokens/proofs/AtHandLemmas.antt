@@ -95,8 +95,3 @@ constant-at_hand first value count rest located_token here new told r n p x =
 pub punctuator-ends_before : (punctuator : Punctuator) (located_token : LocatedToken) (here : Held) (told : Option (List ℕ)) (first : Option ℕ) → first ≡ slice_get here.at_hand 0 → EndsBefore punctuator first → ((to_come : List ℕ) → located_token ≡ ending (variant.Punctuator punctuator) (ahead here to_come)) → to_read (followed located_token) here told ≡ to_read (in_punctuator punctuator) here told
 punctuator-ends_before punctuator located_token here told None f ends x = punctuator-whole punctuator located_token here told ends x
 punctuator-ends_before punctuator located_token here told (Some b) f ends x = punctuator-ended punctuator located_token here told b f ends x
-
--- one with which no longer one begins
-pub whole_ends : (punctuator : Punctuator) (first : Option ℕ) → ((b : ℕ) → punctuator_of (spelling punctuator ++ b ∷ []) ≡ None) → EndsBefore punctuator first
-whole_ends punctuator None whole = whole
-whole_ends punctuator (Some b) whole = whole b

@@ -1,10 +1,14 @@
 -- The punctuators by their spellings: a punctuator's beginnings are punctuators.
-use Rattle.std.proofs.Common.{◌≡◌, ◌∙◌, ℕ, ◌+◌, ◌<◌, ◌≤◌, Bool, true, false, cond, Option, Some, None, List, [], ◌∷◌, map, ◌++◌, length, refl, sym, ap, subst, arith, lit<, lit≤}
+use Rattle.std.proofs.Common.{◌≡◌, ◌∙◌, ℕ, ◌+◌, ◌<◌, ◌≤◌, Bool, true, false, cond, eqb, Option, Some, None, List, [], ◌∷◌, map, ◌++◌, length, refl, sym, ap, subst, arith, lit<, lit≤}
 use Rattle.std.specs.Str.{bytes_eq}
 use Rattle.std.proofs.lemmas.Slice.Eq.{bytes_eq-Decides}
+use Rattle.std.proofs.lemmas.Bool.{agree_below, agree_below_at, lt-leb}
+use Rattle.std.specs.Prelude.{◌&&◌, is_some, nat_le, slice_index}
 use Rattle.tokens.specs.Punctuators.{spelling, row, entry, all_punctuators, punctuator_of}
 use Rattle.tokens.specs.Tokens.{Ahead, placed, passed}
-use Rattle.tokens.specs.Lexing.{ending}
+use Rattle.tokens.specs.Lexing.{ending, IsWhole}
+use Rattle.tokens.specs.Characters.{is_digit}
+use Rattle.tokens.proofs.CharacterLemmas.{kinds, by_kind}
 use Rattle.tokens.specs.declared.located_tokens.Token.TheVariants as variant
 use Rattle.tokens.specs.declared.located_tokens.Punctuator.{Punctuator}
 use Rattle.tokens.specs.declared.located_tokens.Punctuator.TheVariants.{Plus, Minus, Star, Slash, Percent, And, Or, Xor, Tilde, Not, Less, Greater, Equals, ShiftLeft, ShiftRight, LessEquals, GreaterEquals, EqualsEquals, NotEquals, AndAnd, OrOr, PlusPlus, MinusMinus, PlusEquals, MinusEquals, StarEquals, SlashEquals, PercentEquals, ShiftLeftEquals, ShiftRightEquals, AndEquals, XorEquals, OrEquals, OpenRound, CloseRound, OpenCurly, CloseCurly, Comma, Semicolon}
@@ -265,3 +269,129 @@ pub punctuator-located_token : (m : Punctuator) (a : Ahead) (rest : List ℕ) �
 punctuator-located_token m a rest e =
     subst (λ (xs : List ℕ). let b : Ahead = record { line = a.line; place = a.place; bytes = xs; too_long = a.too_long } in placed (variant.Punctuator m) (length (spelling m)) b ≡ ending (variant.Punctuator m) (passed (length (spelling m)) b)) (sym e)
     (located_token-here m a.line a.place rest a.too_long)
+
+-- the punctuator of a byte, by its kind
+of_kind : (kind c : ℕ) (o : Option Punctuator) → agree_below (λ x. eqb (slice_index kinds x) kind) (λ x. eqb x c) 256 ≡ true → punctuator_of (c ∷ []) ≡ o → (b : ℕ) → b < 256 → slice_index kinds b ≡ kind → o ≡ punctuator_of (b ∷ [])
+of_kind kind c o all is b h e = sym (ap (λ x. punctuator_of (x ∷ [])) (by_kind kind c all b h e) ∙ is)
+
+as_whole : (b : ℕ) (m : Punctuator) → Some m ≡ punctuator_of (b ∷ []) → ((n : ℕ) → punctuator_of (spelling m ++ n ∷ []) ≡ None) → IsWhole b m
+as_whole b m is ends = record { is = sym is; ends = ends }
+
+pub kind-open_round : (b : ℕ) → b < 256 → slice_index kinds b ≡ 3 → Some OpenRound ≡ punctuator_of (b ∷ [])
+unfolding kinds punctuator_of
+kind-open_round = of_kind 3 40 (Some OpenRound) refl refl
+
+pub kind-close_round : (b : ℕ) → b < 256 → slice_index kinds b ≡ 4 → Some CloseRound ≡ punctuator_of (b ∷ [])
+unfolding kinds punctuator_of
+kind-close_round = of_kind 4 41 (Some CloseRound) refl refl
+
+pub kind-open_curly : (b : ℕ) → b < 256 → slice_index kinds b ≡ 5 → Some OpenCurly ≡ punctuator_of (b ∷ [])
+unfolding kinds punctuator_of
+kind-open_curly = of_kind 5 123 (Some OpenCurly) refl refl
+
+pub kind-close_curly : (b : ℕ) → b < 256 → slice_index kinds b ≡ 6 → Some CloseCurly ≡ punctuator_of (b ∷ [])
+unfolding kinds punctuator_of
+kind-close_curly = of_kind 6 125 (Some CloseCurly) refl refl
+
+pub kind-comma : (b : ℕ) → b < 256 → slice_index kinds b ≡ 7 → Some Comma ≡ punctuator_of (b ∷ [])
+unfolding kinds punctuator_of
+kind-comma = of_kind 7 44 (Some Comma) refl refl
+
+pub kind-semicolon : (b : ℕ) → b < 256 → slice_index kinds b ≡ 8 → Some Semicolon ≡ punctuator_of (b ∷ [])
+unfolding kinds punctuator_of
+kind-semicolon = of_kind 8 59 (Some Semicolon) refl refl
+
+pub kind-plus : (b : ℕ) → b < 256 → slice_index kinds b ≡ 9 → Some Plus ≡ punctuator_of (b ∷ [])
+unfolding kinds punctuator_of
+kind-plus = of_kind 9 43 (Some Plus) refl refl
+
+pub kind-minus : (b : ℕ) → b < 256 → slice_index kinds b ≡ 10 → Some Minus ≡ punctuator_of (b ∷ [])
+unfolding kinds punctuator_of
+kind-minus = of_kind 10 45 (Some Minus) refl refl
+
+pub kind-star : (b : ℕ) → b < 256 → slice_index kinds b ≡ 11 → Some Star ≡ punctuator_of (b ∷ [])
+unfolding kinds punctuator_of
+kind-star = of_kind 11 42 (Some Star) refl refl
+
+pub kind-slash : (b : ℕ) → b < 256 → slice_index kinds b ≡ 12 → Some Slash ≡ punctuator_of (b ∷ [])
+unfolding kinds punctuator_of
+kind-slash = of_kind 12 47 (Some Slash) refl refl
+
+pub kind-percent : (b : ℕ) → b < 256 → slice_index kinds b ≡ 13 → Some Percent ≡ punctuator_of (b ∷ [])
+unfolding kinds punctuator_of
+kind-percent = of_kind 13 37 (Some Percent) refl refl
+
+pub kind-and : (b : ℕ) → b < 256 → slice_index kinds b ≡ 14 → Some And ≡ punctuator_of (b ∷ [])
+unfolding kinds punctuator_of
+kind-and = of_kind 14 38 (Some And) refl refl
+
+pub kind-or : (b : ℕ) → b < 256 → slice_index kinds b ≡ 15 → Some Or ≡ punctuator_of (b ∷ [])
+unfolding kinds punctuator_of
+kind-or = of_kind 15 124 (Some Or) refl refl
+
+pub kind-xor : (b : ℕ) → b < 256 → slice_index kinds b ≡ 16 → Some Xor ≡ punctuator_of (b ∷ [])
+unfolding kinds punctuator_of
+kind-xor = of_kind 16 94 (Some Xor) refl refl
+
+pub kind-tilde : (b : ℕ) → b < 256 → slice_index kinds b ≡ 17 → Some Tilde ≡ punctuator_of (b ∷ [])
+unfolding kinds punctuator_of
+kind-tilde = of_kind 17 126 (Some Tilde) refl refl
+
+pub kind-not : (b : ℕ) → b < 256 → slice_index kinds b ≡ 18 → Some Not ≡ punctuator_of (b ∷ [])
+unfolding kinds punctuator_of
+kind-not = of_kind 18 33 (Some Not) refl refl
+
+pub kind-less : (b : ℕ) → b < 256 → slice_index kinds b ≡ 19 → Some Less ≡ punctuator_of (b ∷ [])
+unfolding kinds punctuator_of
+kind-less = of_kind 19 60 (Some Less) refl refl
+
+pub kind-greater : (b : ℕ) → b < 256 → slice_index kinds b ≡ 20 → Some Greater ≡ punctuator_of (b ∷ [])
+unfolding kinds punctuator_of
+kind-greater = of_kind 20 62 (Some Greater) refl refl
+
+pub kind-equals : (b : ℕ) → b < 256 → slice_index kinds b ≡ 21 → Some Equals ≡ punctuator_of (b ∷ [])
+unfolding kinds punctuator_of
+kind-equals = of_kind 21 61 (Some Equals) refl refl
+
+pub whole-open_round : (b : ℕ) → b < 256 → slice_index kinds b ≡ 3 → IsWhole b OpenRound
+unfolding punctuator_of
+whole-open_round b h e = as_whole b OpenRound (kind-open_round b h e) (λ n. refl)
+
+pub whole-close_round : (b : ℕ) → b < 256 → slice_index kinds b ≡ 4 → IsWhole b CloseRound
+unfolding punctuator_of
+whole-close_round b h e = as_whole b CloseRound (kind-close_round b h e) (λ n. refl)
+
+pub whole-open_curly : (b : ℕ) → b < 256 → slice_index kinds b ≡ 5 → IsWhole b OpenCurly
+unfolding punctuator_of
+whole-open_curly b h e = as_whole b OpenCurly (kind-open_curly b h e) (λ n. refl)
+
+pub whole-close_curly : (b : ℕ) → b < 256 → slice_index kinds b ≡ 6 → IsWhole b CloseCurly
+unfolding punctuator_of
+whole-close_curly b h e = as_whole b CloseCurly (kind-close_curly b h e) (λ n. refl)
+
+pub whole-comma : (b : ℕ) → b < 256 → slice_index kinds b ≡ 7 → IsWhole b Comma
+unfolding punctuator_of
+whole-comma b h e = as_whole b Comma (kind-comma b h e) (λ n. refl)
+
+pub whole-semicolon : (b : ℕ) → b < 256 → slice_index kinds b ≡ 8 → IsWhole b Semicolon
+unfolding punctuator_of
+whole-semicolon b h e = as_whole b Semicolon (kind-semicolon b h e) (λ n. refl)
+
+-- no punctuator begins with a byte of another kind
+pub kind-none : (b : ℕ) → b < 256 → slice_index kinds b < 3 → None ≡ punctuator_of (b ∷ [])
+unfolding kinds punctuator_of
+kind-none b h low = by (punctuator_of (b ∷ [])) (sym (agree_below_at (λ x. nat_le 3 (slice_index kinds x)) (λ x. is_some (punctuator_of (x ∷ []))) 256 b refl h) ∙ lt-leb _ _ low)
+  where
+    by : (o : Option Punctuator) → is_some o ≡ false → None ≡ o
+    by None e = refl
+    by (Some m) e = absurd cc
+
+-- no punctuator is a digit
+pub no-digit : (b : ℕ) (m : Punctuator) → b < 256 → punctuator_of (b ∷ []) ≡ Some m → is_digit b ≡ false
+unfolding punctuator_of
+no-digit b m h e = by (is_digit b) (punctuator_of (b ∷ [])) (agree_below_at (λ x. is_digit x && is_some (punctuator_of (x ∷ []))) (λ x. false) 256 b refl h) e
+  where
+    by : (t : Bool) (o : Option Punctuator) → (t && is_some o) ≡ false → o ≡ Some m → t ≡ false
+    by false o none is = refl
+    by true None none is = absurd cc
+    by true (Some x) none is = absurd cc

@@ -38,6 +38,14 @@ none-ahead here to_come h e = by here.at_hand here.beyond h e
     by [] TooMuch h e = refl
     by (x ∷ xs) beyond h e = absurd cc
 
+-- a byte is at hand
+pub is-at_hand : (here : Held) (b : ℕ) → Some b ≡ slice_get here.at_hand 0 → IsAtHandOrEnd here
+is-at_hand here b f e = by here.at_hand f e
+  where
+    by : (xs : List ℕ) → Some b ≡ slice_get xs 0 → xs ≡ [] → here.beyond ≢ Unread
+    by [] f e = absurd cc
+    by (x ∷ xs) f e = absurd cc
+
 -- one byte further on
 pub ahead-behind_first : (here : Held) (b : ℕ) (to_come : List ℕ) → slice_get here.at_hand 0 ≡ Some b → ahead (behind_first here) to_come ≡ behind_byte (ahead here to_come)
 ahead-behind_first here b to_come e = by here.at_hand e

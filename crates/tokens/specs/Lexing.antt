@@ -97,6 +97,11 @@ pub record BeginsConstant (first : ℕ) (rest : List ℕ) (value count : ℕ) : 
   pub digits : count ≡ prefix_len is_digit rest
   pub ended : count < length rest
 
+-- the punctuator of a byte, with which no longer one begins
+pub record IsWhole (b : ℕ) (punctuator : Punctuator) : Type 0 where
+  pub is : punctuator_of (b ∷ []) ≡ Some punctuator
+  pub ends : (next : ℕ) → punctuator_of (spelling punctuator ++ next ∷ []) ≡ None
+
 -- no longer punctuator begins with this one, before this byte, or before any if it is not known
 abbrev pub EndsBefore : Punctuator → Option ℕ → Type 0
 EndsBefore punctuator (Some b) = punctuator_of (spelling punctuator ++ b ∷ []) ≡ None

@@ -89,6 +89,12 @@ IsAtHandOrEnd held = held.at_hand ≡ [] → held.beyond ≢ Unread
 abbrev pub KnowsEnd : Beyond → Bool → Type 0
 KnowsEnd beyond ended = beyond ≡ Unread → ended ≡ false
 
+-- a window took no more bytes than a window past its place, and than the most, and its place is within the source
+pub record IsBounded (held : Held) : Type 0 where
+  pub near : held.taken ≤ held.place + window_bytes
+  pub limited : held.taken ≤ most_bytes
+  pub within : held.place ≤ source_bytes
+
 -- how the fields of a window go together
 pub record IsWindow (next filled start taken line : ℕ) (beyond : Beyond) : Type 0 where
   pub ordered : next ≤ filled

@@ -7,7 +7,7 @@ ghost use Rattle.tokens.specs.Feed.{Counts};
 ghost use Rattle.tokens.specs.Front.{name_token};
 ghost use Rattle.tokens.specs.Tokens.{FitsToken, is_last, located_tokens, last_located_token};
 ghost use Rattle.tokens.specs.Window.{IsAtHandOrEnd, KnowsEnd, Takes, ahead};
-ghost use Rattle.tokens.specs.Lexing.{to_read, StopsWithin, followed, after_slash, after_comment, in_name, in_constant, in_punctuator, in_comment, name_going_on, value_token, BeginsConstant, EndsBefore};
+ghost use Rattle.tokens.specs.Lexing.{to_read, StopsWithin, followed, after_slash, after_comment, in_name, in_constant, in_punctuator, in_comment, name_going_on, value_token, BeginsConstant};
 
 use crate::characters::{is_blank, is_digit, is_letter, is_name_byte};
 use crate::devices::{DeviceFault, Feed};
@@ -41,6 +41,70 @@ impl Window {
         ensures count { Counts result (F.failures feed.old) (F.failures feed.new) }
         ensures known { KnowsEnd self.new.beyond (F.ended feed.new) }
     {
+        match self.first() {
+            Some(b) if !is_blank(b) && b != b'/' => self.token(b, here, feed),
+            _ => self.read_past(here, feed),
+        }
+    }
+
+    /// The same, where no token begins with the next byte, or a `/`.
+    #[inline(never)]
+    fn read_past<F: Feed>(
+        &mut self,
+        here: &mut LocatedToken,
+        feed: &mut F,
+    ) -> Result<(), DeviceFault>
+        requires countable { F.failures feed.old < 2 ^ 64 - 1 }
+        requires known { KnowsEnd self.old.beyond (F.ended feed.old) }
+        ensures tokens { OnOk result (to_read (followed here.new) self.new (F.to_come feed.new)
+            ≡ to_read located_tokens self.old (F.to_come feed.old)) }
+        ensures progress { OnOk result (is_last here.new.token ≡ false
+            → self.old.place < self.new.place) }
+        ensures stopped { OnErr result (StopsWithin located_tokens self.old self.new (F.to_come feed.old)) }
+        ensures reached { OnOk result (self.new.place ≤ here.new.end) }
+        ensures took { Takes self.old.taken self.new.taken (F.to_come feed.old) (F.to_come feed.new) }
+        ensures near { self.new.taken ≤ self.new.place + window_bytes }
+        ensures limited { self.new.taken ≤ most_bytes }
+        ensures within { self.new.place ≤ source_bytes }
+        ensures fits { OnOk result (FitsToken here.new.token) }
+        ensures unread { OnErr result (here.new ≡ here.old) }
+        ensures count { Counts result (F.failures feed.old) (F.failures feed.new) }
+        ensures known { KnowsEnd self.new.beyond (F.ended feed.new) }
+    {
+        match self.first() {
+            Some(b) if is_blank(b) => self.read_behind(b, here, feed),
+            _ => self.read_on(here, feed),
+        }
+    }
+
+    /// The same, behind a blank, which is the next byte. Most blanks stand alone.
+    #[inline(always)]
+    fn read_behind<F: Feed>(
+        &mut self,
+        blank: u8,
+        here: &mut LocatedToken,
+        feed: &mut F,
+    ) -> Result<(), DeviceFault>
+        requires countable { F.failures feed.old < 2 ^ 64 - 1 }
+        requires known { KnowsEnd self.old.beyond (F.ended feed.old) }
+        requires first { slice_get self.old.at_hand 0 ≡ Some blank }
+        requires blank { is_blank blank ≡ true }
+        ensures tokens { OnOk result (to_read (followed here.new) self.new (F.to_come feed.new)
+            ≡ to_read located_tokens self.old (F.to_come feed.old)) }
+        ensures progress { OnOk result (is_last here.new.token ≡ false
+            → self.old.place < self.new.place) }
+        ensures stopped { OnErr result (StopsWithin located_tokens self.old self.new (F.to_come feed.old)) }
+        ensures reached { OnOk result (self.new.place ≤ here.new.end) }
+        ensures took { Takes self.old.taken self.new.taken (F.to_come feed.old) (F.to_come feed.new) }
+        ensures near { self.new.taken ≤ self.new.place + window_bytes }
+        ensures limited { self.new.taken ≤ most_bytes }
+        ensures within { self.new.place ≤ source_bytes }
+        ensures fits { OnOk result (FitsToken here.new.token) }
+        ensures unread { OnErr result (here.new ≡ here.old) }
+        ensures count { Counts result (F.failures feed.old) (F.failures feed.new) }
+        ensures known { KnowsEnd self.new.beyond (F.ended feed.new) }
+    {
+        self.pass();
         match self.first() {
             Some(b) if !is_blank(b) && b != b'/' => self.token(b, here, feed),
             _ => self.read_on(here, feed),
@@ -212,10 +276,13 @@ impl Window {
         self.pass();
         if is_letter(first) {
             self.name(here, feed, first)
+        } else if let Some(punctuator) = Punctuator::whole(first) {
+            *here = self.ending(Token::Punctuator(punctuator));
+            Ok(())
         } else if is_digit(first) {
             self.constant(here, feed, first)
         } else if let Some(punctuator) = Punctuator::of_byte(first) {
-            if self.ends(punctuator) {
+            if punctuator.ends_before(self.first()) {
                 *here = self.ending(Token::Punctuator(punctuator));
                 return Ok(());
             }
@@ -226,9 +293,43 @@ impl Window {
         }
     }
 
-    /// Puts the name here of which the first byte was passed.
-    #[inline(never)]
+    /// Puts the name here of which the first byte was passed. Many names are a letter.
+    #[inline(always)]
     fn name<F: Feed>(
+        &mut self,
+        here: &mut LocatedToken,
+        feed: &mut F,
+        first: u8,
+    ) -> Result<(), DeviceFault>
+        requires countable { F.failures feed.old < 2 ^ 64 - 1 }
+        requires known { KnowsEnd self.old.beyond (F.ended feed.old) }
+        ensures tokens { OnOk result (to_read (followed here.new) self.new (F.to_come feed.new)
+            ≡ to_read (in_name (first ∷ []) false) self.old (F.to_come feed.old)) }
+        ensures forward { self.old.place ≤ self.new.place }
+        ensures stopped { OnErr result (StopsWithin (in_name (first ∷ []) false) self.old self.new
+            (F.to_come feed.old)) }
+        ensures reached { OnOk result (self.new.place ≤ here.new.end) }
+        ensures took { Takes self.old.taken self.new.taken (F.to_come feed.old) (F.to_come feed.new) }
+        ensures near { self.new.taken ≤ self.new.place + window_bytes }
+        ensures limited { self.new.taken ≤ most_bytes }
+        ensures within { self.new.place ≤ source_bytes }
+        ensures fits { OnOk result (FitsToken here.new.token) }
+        ensures unread { OnErr result (here.new ≡ here.old) }
+        ensures count { Counts result (F.failures feed.old) (F.failures feed.new) }
+        ensures known { KnowsEnd self.new.beyond (F.ended feed.new) }
+    {
+        match self.first() {
+            Some(b) if !is_name_byte(b) => {
+                self.end_name(&Name::of_byte(first), false, here);
+                Ok(())
+            }
+            _ => self.longer_name(here, feed, first),
+        }
+    }
+
+    /// The same of a name of more than a byte, or that is not all at hand.
+    #[inline(never)]
+    fn longer_name<F: Feed>(
         &mut self,
         here: &mut LocatedToken,
         feed: &mut F,
@@ -416,15 +517,6 @@ impl Window {
                 }
             }
         }
-    }
-
-    /// Reports whether a punctuator that was passed ends here, as far as the bytes at hand show.
-    #[inline(always)]
-    #[tactic(auto, using(crate::proofs::AtHandLemmas::whole_ends))]
-    fn ends(&self, punctuator: Punctuator) -> bool
-        ensures { result ≡ true → EndsBefore punctuator (slice_get self.now.at_hand 0) }
-    {
-        punctuator.is_whole() || punctuator.ends_before(self.first())
     }
 
     /// Puts the token of a whole name here, of which some bytes may have been left out.

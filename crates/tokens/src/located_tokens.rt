@@ -4,7 +4,7 @@ ghost use Rattle.std.specs.Prelude.{◌≡◌};
 
 use crate::names::Name;
 
-/// An operator or a punctuation punctuator.
+/// An operator or a punctuation mark.
 #[derive(Clone, Copy, Debug, PartialEq, Eq)]
 pub enum Punctuator {
     /// `+`
@@ -128,11 +128,11 @@ pub enum Token {
     Word(Word),
     /// A constant, at most `CONSTANT_MAX`.
     Constant(u32),
-    /// An operator or a punctuation punctuator.
+    /// An operator or a punctuation mark.
     Punctuator(Punctuator),
     /// The end of the source, the last token.
     End,
-    /// A lexical fault, the last token.
+    /// A lexical error, the last token.
     Fault(LexicalError),
 }
 

@@ -49,6 +49,16 @@ impl Name {
         }
     }
 
+    /// The name of this byte.
+    #[inline(always)]
+    pub(crate) fn of_byte(byte: u8) -> Self
+        ensures { result ≡ byte ∷ [] }
+    {
+        let mut bytes = [0; NAME_BYTES];
+        bytes[0] = byte;
+        Name { bytes, len: 1 }
+    }
+
     /// Takes the bytes of a name that begins with this one and goes on with the rest, as far as there is room. Answers
     /// whether it ends within the rest.
     #[inline(always)]

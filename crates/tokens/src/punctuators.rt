@@ -1,39 +1,39 @@
 //! The punctuators by their bytes.
 
-ghost use Rattle.std.specs.Prelude.{◌≡◌, ℕ, [], ◌∷◌, ◌++◌, None, true, false};
+ghost use Rattle.std.specs.Prelude.{◌≡◌, ℕ, [], ◌∷◌, ◌++◌, IfSome, None, true, false};
 ghost use Rattle.std.specs.Option.{option_and_then};
 ghost use Rattle.tokens.specs.Punctuators.{punctuator_of, spelling};
-ghost use Rattle.tokens.specs.Lexing.{EndsBefore};
+ghost use Rattle.tokens.specs.Lexing.{EndsBefore, IsWhole};
 
+use crate::characters::KINDS;
 use crate::located_tokens::Punctuator;
 
 impl Punctuator {
     /// Returns the punctuator of one byte.
     #[inline(always)]
-    #[tactic(auto, unfolding(crate::specs::Punctuators::punctuator_of))]
     pub(crate) fn of_byte(b: u8) -> Option<Punctuator>
         ensures { result ≡ punctuator_of (b ∷ []) }
     {
-        Some(match b {
-            b'+' => Punctuator::Plus,
-            b'-' => Punctuator::Minus,
-            b'*' => Punctuator::Star,
-            b'/' => Punctuator::Slash,
-            b'%' => Punctuator::Percent,
-            b'&' => Punctuator::And,
-            b'|' => Punctuator::Or,
-            b'^' => Punctuator::Xor,
-            b'~' => Punctuator::Tilde,
-            b'!' => Punctuator::Not,
-            b'<' => Punctuator::Less,
-            b'>' => Punctuator::Greater,
-            b'=' => Punctuator::Equals,
-            b'(' => Punctuator::OpenRound,
-            b')' => Punctuator::CloseRound,
-            b'{' => Punctuator::OpenCurly,
-            b'}' => Punctuator::CloseCurly,
-            b',' => Punctuator::Comma,
-            b';' => Punctuator::Semicolon,
+        Some(match KINDS[usize::from(b)] {
+            3 => Punctuator::OpenRound,
+            4 => Punctuator::CloseRound,
+            5 => Punctuator::OpenCurly,
+            6 => Punctuator::CloseCurly,
+            7 => Punctuator::Comma,
+            8 => Punctuator::Semicolon,
+            9 => Punctuator::Plus,
+            10 => Punctuator::Minus,
+            11 => Punctuator::Star,
+            12 => Punctuator::Slash,
+            13 => Punctuator::Percent,
+            14 => Punctuator::And,
+            15 => Punctuator::Or,
+            16 => Punctuator::Xor,
+            17 => Punctuator::Tilde,
+            18 => Punctuator::Not,
+            19 => Punctuator::Less,
+            20 => Punctuator::Greater,
+            21 => Punctuator::Equals,
             _ => return None,
         })
     }
@@ -58,21 +58,24 @@ impl Punctuator {
         matches!(b, b'=' | b'+' | b'-' | b'&' | b'|' | b'<' | b'>')
     }
 
-    /// Reports whether no longer punctuator begins with this one, so that the next byte is of no account.
+    /// Returns the punctuator of a byte with which no longer one begins, so that the next byte is of no account.
     #[inline(always)]
-    #[tactic(auto, unfolding(crate::specs::Punctuators::punctuator_of))]
-    pub(crate) fn is_whole(self) -> bool
-        ensures { result ≡ true → (b : ℕ) → punctuator_of (spelling self ++ b ∷ []) ≡ None }
+    pub(crate) fn whole(b: u8) -> Option<Punctuator>
+        ensures { IfSome result (IsWhole b) }
     {
-        matches!(
-            self,
-            Punctuator::OpenRound
-                | Punctuator::CloseRound
-                | Punctuator::OpenCurly
-                | Punctuator::CloseCurly
-                | Punctuator::Comma
-                | Punctuator::Semicolon
-        )
+        let kind = KINDS[usize::from(b)];
+        if kind < 3 {
+            return None;
+        }
+        match kind {
+            3 => Some(Punctuator::OpenRound),
+            4 => Some(Punctuator::CloseRound),
+            5 => Some(Punctuator::OpenCurly),
+            6 => Some(Punctuator::CloseCurly),
+            7 => Some(Punctuator::Comma),
+            8 => Some(Punctuator::Semicolon),
+            _ => None,
+        }
     }
 
     /// Returns the punctuator that is spelled as this one and the next byte, if there is one.

@@ -5,7 +5,7 @@ ghost use Rattle.std.specs.List.{count_by};
 ghost use Rattle.tokens.specs.Limits.{most_bytes, source_bytes, window_bytes};
 ghost use Rattle.tokens.specs.Source.{source};
 ghost use Rattle.tokens.specs.Feed.{Counts};
-ghost use Rattle.tokens.specs.Window.{seen, untouched, behind, behind_first, behind_blanks, behind_plain, Cuts, IsAtSamePlace, IsAtHandOrEnd, KnowsEnd, Takes};
+ghost use Rattle.tokens.specs.Window.{seen, untouched, behind, behind_first, behind_blanks, behind_plain, Cuts, IsAtSamePlace, IsAtHandOrEnd, IsBounded, KnowsEnd, Takes};
 
 use crate::characters::is_blank;
 use crate::devices::{DeviceFault, Feed};
@@ -196,7 +196,8 @@ impl Window {
     /// Returns the next byte, if one is at hand.
     #[inline(always)]
     pub fn first(&self) -> Option<u8>
-        ensures { result ≡ slice_get self.now.at_hand 0 }
+        ensures value { result ≡ slice_get self.now.at_hand 0 }
+        ensures bounded { IsBounded self.now }
     {
         if self.next < self.filled {
             Some(self.bytes[self.next])

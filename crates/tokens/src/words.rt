@@ -70,8 +70,18 @@ fn is_refused_with_s(name: &[u8]) -> bool
         || is(name, b"short")
 }
 
+// Whether a name is this word. The loop is unrolled for each word.
+#[inline(always)]
 fn is(name: &[u8], word: &[u8]) -> bool
     ensures { result ≡ bytes_eq name.now word.now }
 {
-    name == word
+    if name.len() != word.len() {
+        return false;
+    }
+    for i in 0..word.len() {
+        if name[i] != word[i] {
+            return false;
+        }
+    }
+    true
 }

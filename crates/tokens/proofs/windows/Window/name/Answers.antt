@@ -1,8 +1,16 @@
-use Rattle.tokens.proofs.AtHandLemmas.{name-in_line, name-at_hand}
+use Rattle.std.proofs.Common.{◌∙◌, ◌∷◌, [], sym, ap, subst, refl, false}
+use Rattle.tokens.specs.Characters.{is_name_byte}
+use Rattle.tokens.specs.Lexing.{to_read, in_name, name_going_on}
+use Rattle.tokens.proofs.ToRead.{is-at_hand}
+use Rattle.tokens.proofs.TokenLemmas.{run-stops, StopsAt}
 use Rattle.tokens.proofs.windows.Window.name.Goals as goal
 
-pub pass_in_line-requires-clause-in_line : goal.pass_in_line-requires-clause-in_line
-pass_in_line-requires-clause-in_line g c = name-in_line c.args.first c.len.result c.at_hand.result.now c.begin.new.self c.args.self.now c.at_hand.ensures.value c.len.ensures.value (c.begin.ensures c.if-begin.true)
-
-pub returns-then-begin-clause-tokens : goal.returns-then-begin-clause-tokens
-returns-then-begin-clause-tokens g c = name-at_hand c.args.first c.len.result c.at_hand.result.now c.begin.new.self c.end_name.new.here c.args.self.now c.pass_in_line.new.self _ c.at_hand.ensures.value c.len.ensures.value (c.begin.ensures c.if-begin.true) c.pass_in_line.ensures.value c.end_name.ensures.value
+pub returns-in-Some-clause-tokens : goal.returns-in-Some-clause-tokens
+returns-in-Some-clause-tokens g c =
+    let here = c.args.self.now in
+    let told = g.F.Feed.to_come c.args.feed.now in
+    let name = c.of_byte.result in
+    let stops : StopsAt is_name_byte c.first.result = subst (StopsAt is_name_byte) (sym c.in-Some.is) (sym c.if-not-is_name_byte.ensures) in
+    run-stops is_name_byte (name_going_on name false) c.end_name.new.here (name_going_on name false []) here told c.first.result
+    (is-at_hand here c.in-Some.b (sym c.in-Some.is ∙ c.first.ensures.value)) c.first.ensures.value stops (λ _. c.end_name.ensures.value) refl
+    ∙ ap (λ name. to_read (in_name name false) here told) c.of_byte.ensures

@@ -13,7 +13,7 @@ returns-in_default-clause-value c =
       | in_default-via-in-Some+else-is_blank w ↦ subst (StopsAt is_blank) (sym w.in-Some.is) (sym w.if-is_blank.ensures)
       | in_default-via-in_default w ↦ subst (StopsAt is_blank) (sym w.in_default.is) tt
     ] in
-    no-blanks c.args.self.now c.first.result c.first.ensures stops
+    no-blanks c.args.self.now c.first.result c.first.ensures.value stops
 
 pub returns-clause-value : goal.returns-clause-value
 returns-clause-value c =
