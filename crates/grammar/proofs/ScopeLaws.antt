@@ -51,12 +51,14 @@ pub parameter_full : (name : List ℕ) (scope : Scope) (rest : List LocatedToken
 parameter_full name scope rest new large = rw new (full true (length scope.current.variables) code.TooManyVariables rest refl large)
 
 -- a name that none of the functions has
-pub not_there : (name : List ℕ) (fs : List FunctionNames) (n : ℕ) → NoneBefore n name fs → length fs ≤ n → None ≡ number_of_name name (map (λ f. f.name) fs)
-not_there name fs n none past = sym (position_of_map (bytes_eq name) (λ f. f.name) fs
-    ∙ at (position_or_len_is (λ f. bytes_eq name f.name) fs (length fs) (only_named []) (omega arith) (λ k h. none.none k (omega (arith, h, past)) h) (λ h. absurd (omega (arith, h)))))
+pub not_there : (name : List ℕ) (fs : List FunctionNames) → ((k : ℕ) → k < length fs → bytes_eq name (slice_index_or fs k (only_named [])).name ≡ false) → None ≡ number_of_name name (map (λ f. f.name) fs)
+not_there name fs none = sym (position_of_map (bytes_eq name) (λ f. f.name) fs ∙ at (position_or_len_is (λ f. bytes_eq name f.name) fs (length fs) (only_named []) (omega arith) none (λ h. absurd (omega (arith, h)))))
   where
     at : {n : ℕ} → n ≡ length fs → cond (nat_lt n (length fs)) (Some n) None ≡ None
     at e = rw e (rw (le-ltb (length fs) (length fs) (omega arith)) refl)
+
+pub nowhere : (name : List ℕ) (fs : List FunctionNames) (n : ℕ) → NoneBefore n name fs → length fs ≤ n → None ≡ number_of_name name (map (λ f. f.name) fs)
+nowhere name fs n none past = not_there name fs (λ k h. none.none k (omega (arith, h, past)) h)
 
 -- within a list the default counts for nothing
 any_default : {A : Type 0} (xs : List A) (n : ℕ) (d e : A) → n < length xs → slice_index_or xs n d ≡ slice_index_or xs n e
@@ -65,14 +67,16 @@ any_default (x ∷ xs) zero d e h = refl
 any_default (x ∷ xs) (suc n) d e h = any_default xs n d e (omega (arith, h))
 
 -- the first function that has it
-pub there : (name : List ℕ) (fs : List FunctionNames) (n : ℕ) (f : FunctionNames) → n < length fs → NoneBefore n name fs
+pub there : (name : List ℕ) (fs : List FunctionNames) (n : ℕ) (f : FunctionNames) → n < length fs → ((k : ℕ) → k < n → bytes_eq name (slice_index_or fs k (only_named [])).name ≡ false)
     → f ≡ slice_index_or fs n f → bytes_eq name f.name ≡ true → Some n ≡ number_of_name name (map (λ f. f.name) fs)
 there name fs n f h none here is = sym (position_of_map (bytes_eq name) (λ f. f.name) fs
-    ∙ at (position_or_len_is (λ f. bytes_eq name f.name) fs n (only_named []) (omega (arith, h)) (λ k l. none.none k l (omega (arith, h, l)))
-    (λ l. ap (λ f. bytes_eq name f.name) (sym (here ∙ any_default fs n f (only_named []) h)) ∙ is)))
+    ∙ at (position_or_len_is (λ f. bytes_eq name f.name) fs n (only_named []) (omega (arith, h)) none (λ l. ap (λ f. bytes_eq name f.name) (sym (here ∙ any_default fs n f (only_named []) h)) ∙ is)))
   where
     at : {m : ℕ} → m ≡ n → cond (nat_lt m (length fs)) (Some m) None ≡ Some n
     at e = rw e (rw (lt-ltb n (length fs) h) refl)
+
+pub first_there : (name : List ℕ) (fs : List FunctionNames) (n : ℕ) (f : FunctionNames) → n < length fs → NoneBefore n name fs → f ≡ slice_index_or fs n f → bytes_eq name f.name ≡ true → Some n ≡ number_of_name name (map (λ f. f.name) fs)
+first_there name fs n f h none here is = there name fs n f h (λ k l. none.none k l (omega (arith, h, l))) here is
 
 -- one function more that hasn't
 pub none_more : (name : List ℕ) (fs : List FunctionNames) (n : ℕ) (f : FunctionNames) → n < length fs → NoneBefore n name fs → f ≡ slice_index_or fs n f → bytes_eq name f.name ≡ false → NoneBefore (n + 1) name fs

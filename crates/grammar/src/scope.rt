@@ -411,7 +411,7 @@ impl Scope {
 }
 
 /// The number of a function that was mentioned. No function before the start has the name.
-#[tactic(auto, using(crate::proofs::ScopeLaws::there, crate::proofs::ScopeLaws::not_there))]
+#[tactic(auto, using(crate::proofs::ScopeLaws::first_there, crate::proofs::ScopeLaws::nowhere))]
 fn function_number(functions: &[Function], start: usize, name: &Name) -> Option<usize>
     requires { NoneBefore start name.now functions.now }
     ensures { result ≡ number_of_name name.now (map (λ f. f.name) functions.now) }
