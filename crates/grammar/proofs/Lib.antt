@@ -21,6 +21,7 @@ pub mod Beginnings
 pub mod Phases
 pub mod Soundness
 pub mod ResolvedLaws
+pub mod IndexLaws
 pub mod ScopeLaws
 pub mod LastTokens
 pub mod Bottoms

@@ -1,5 +1,5 @@
 -- What a name in a role does, by what is known of it.
-use Rattle.std.proofs.Common.{◌≡◌, ℕ, zero, suc, ◌+◌, ◌<◌, List, [], ◌∷◌, ◌++◌, refl, sym, ap, ◌∙◌, Bool, true, false, arith, length, map, Option, Some, None, cond, drop, not, ap₂, lt-ltb, le-ltb, eqb, ◌||◌}
+use Rattle.std.proofs.Common.{◌≡◌, ℕ, zero, suc, ◌+◌, ◌<◌, ◌≤◌, List, [], ◌∷◌, ◌++◌, refl, sym, ap, ◌∙◌, Bool, true, false, arith, length, map, Option, Some, None, cond, drop, not, ap₂, lt-ltb, le-ltb, eqb, ◌||◌}
 use Rattle.std.proofs.lemmas.Bool.{or_parts}
 use Rattle.std.proofs.lemmas.List.Folds.{list_any-append}
 use Rattle.std.proofs.lemmas.Map.Steps.{length-le_from_distinct_below}
@@ -16,6 +16,7 @@ use Rattle.grammar.specs.declared.diagnostics.Code.TheVariants as code
 use Rattle.grammar.specs.Faults.{fault, no_room, most_names, parameter_faults}
 use Rattle.grammar.specs.Grammar.{Called}
 use Rattle.grammar.specs.Intrinsics.{intrinsic_named}
+use Rattle.grammar.specs.Index.{NoneBefore}
 use Rattle.grammar.specs.Naming.{IsKept, Knows, line_of_undefined}
 use Rattle.grammar.specs.Pools.{FunctionNames}
 use Rattle.grammar.specs.Scope.{Scope, is_local_new, is_function_new, function_number, number_of_name, only_named, with_new_function}
@@ -56,6 +57,9 @@ not_there name fs none = sym (position_of_map (bytes_eq name) (λ f. f.name) fs 
     at : {n : ℕ} → n ≡ length fs → cond (nat_lt n (length fs)) (Some n) None ≡ None
     at e = rw e (rw (le-ltb (length fs) (length fs) (omega arith)) refl)
 
+pub nowhere : (name : List ℕ) (fs : List FunctionNames) (n : ℕ) → NoneBefore n name fs → length fs ≤ n → None ≡ number_of_name name (map (λ f. f.name) fs)
+nowhere name fs n none past = not_there name fs (λ k h. none.none k (omega (arith, h, past)) h)
+
 -- within a list the default counts for nothing
 any_default : {A : Type 0} (xs : List A) (n : ℕ) (d e : A) → n < length xs → slice_index_or xs n d ≡ slice_index_or xs n e
 any_default [] n d e h = absurd (omega (arith, h))
@@ -70,6 +74,19 @@ there name fs n f h none here is = sym (position_of_map (bytes_eq name) (λ f. f
   where
     at : {m : ℕ} → m ≡ n → cond (nat_lt m (length fs)) (Some m) None ≡ Some n
     at e = rw e (rw (lt-ltb n (length fs) h) refl)
+
+pub first_there : (name : List ℕ) (fs : List FunctionNames) (n : ℕ) (f : FunctionNames) → n < length fs → NoneBefore n name fs → f ≡ slice_index_or fs n f → bytes_eq name f.name ≡ true → Some n ≡ number_of_name name (map (λ f. f.name) fs)
+first_there name fs n f h none here is = there name fs n f h (λ k l. none.none k l (omega (arith, h, l))) here is
+
+-- one function more that hasn't
+pub none_more : (name : List ℕ) (fs : List FunctionNames) (n : ℕ) (f : FunctionNames) → n < length fs → NoneBefore n name fs → f ≡ slice_index_or fs n f → bytes_eq name f.name ≡ false → NoneBefore (n + 1) name fs
+none_more name fs n f h none here other = record { none = λ k less within. by k less within (nat_lt k n) refl }
+  where
+    by : (k : ℕ) → k < n + 1 → k < length fs → (b : Bool) → nat_lt k n ≡ b → bytes_eq name (slice_index_or fs k (only_named [])).name ≡ false
+    by k less within true e = none.none k (grind (arith, nat_tests)) within
+    by k less within false e =
+        let last : k ≡ n = grind (arith, nat_tests) in
+        ap (λ j. bytes_eq name (slice_index_or fs j (only_named [])).name) last ∙ ap (λ g. bytes_eq name g.name) (sym (here ∙ any_default fs n f (only_named []) h)) ∙ other
 
 pub function_new : (name : List ℕ) (scope : Scope) → intrinsic_named name ≡ None → function_number name scope ≡ None → is_function_new name scope ≡ true
 function_new name scope own unknown = rw (own, unknown) refl

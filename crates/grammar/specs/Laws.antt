@@ -13,7 +13,8 @@ use Rattle.grammar.specs.Actions.{Action, actions}
 use Rattle.grammar.specs.Building.{Meaning, MayFollow, StandsOpen}
 use Rattle.grammar.specs.Beginning.{IsBeginning}
 use Rattle.grammar.specs.Following.{AreInOrder, Opened, follow, follow_all, open_count}
-use Rattle.grammar.specs.Grammar.{Symbol, Declarations, Statements, Item, Part, Make, Define, Production, choice, enters}
+use Rattle.grammar.specs.Grammar.{Symbol, Declarations, Statements, Item, Part, Make, Define, Production, choice}
+use Rattle.grammar.specs.Grammar.{enters}
 use Rattle.grammar.specs.Need.{need}
 use Rattle.grammar.specs.Nesting.{body_nesting}
 use Rattle.grammar.specs.Parsing.{Fails, IsFault, Passes}

@@ -23,5 +23,6 @@ pub mod Laws
 pub mod Texts
 pub mod KnownSources
 pub mod Naming
+pub mod Index
 pub mod KnownTexts
 pub mod Finished

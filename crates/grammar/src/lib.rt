@@ -4,6 +4,7 @@
 
 mod build;
 mod diagnostics;
+mod index;
 mod known;
 pub mod laws;
 mod names;

@@ -20,12 +20,13 @@ pub struct Function {
 impl Model for Function {
     ghost use Rattle.std.specs.Prelude.{◌≤◌, length};
     ghost use Rattle.grammar.specs.Pools.{FunctionNames};
+    ghost use Rattle.grammar.specs.declared.pools.TheConstants.{MOST_NAMES};
 
     ghost Value = { FunctionNames };
 
     ghost view = { λ f. record { name = f.name; parameters = f.parameters; variables = f.variables.items } };
 
-    ghost invariant = { λ f. (f.parameters ≤ length f.variables.items) × (f.parameters ≤ 64) };
+    ghost invariant = { λ f. (f.parameters ≤ length f.variables.items) × (f.parameters ≤ MOST_NAMES) };
 }
 
 impl Default for Function {
@@ -77,18 +78,18 @@ impl Function {
     }
 
     /// Adds a local, with the next number.
-    pub(crate) fn add_local(&mut self, name: Name)
+    pub(crate) fn add_local(&mut self, name: &Name)
         requires { length self.old.variables < MOST_NAMES }
-        ensures { self.new ≡ record self.old { variables = self.old.variables ++ name ∷ [] } }
+        ensures { self.new ≡ record self.old { variables = self.old.variables ++ name.now ∷ [] } }
     {
-        self.variables.push(name);
+        self.variables.push(*name);
     }
 
     /// Becomes a function without variables, in its place: only the names that were there are blanked.
-    pub(crate) fn restart(&mut self, name: Name)
-        ensures { self.new ≡ record { name = name; parameters = 0; variables = [] } }
+    pub(crate) fn restart(&mut self, name: &Name)
+        ensures { self.new ≡ record { name = name.now; parameters = 0; variables = [] } }
     {
-        self.name = name;
+        self.name = *name;
         self.parameters = 0;
         self.variables.clear();
     }
@@ -97,7 +98,7 @@ impl Function {
     pub(crate) fn copy_from(&mut self, other: &Function)
         ensures { self.new ≡ other.now }
     {
-        self.restart(other.name);
+        self.restart(&other.name);
         for name in other.variables.as_slice() {
             self.variables.push(*name);
         }
@@ -105,14 +106,14 @@ impl Function {
     }
 
     /// Adds a parameter, with the next number.
-    pub(crate) fn add_parameter(&mut self, name: Name)
+    pub(crate) fn add_parameter(&mut self, name: &Name)
         requires { length self.old.variables < MOST_NAMES }
         ensures { self.new ≡ record self.old {
           parameters = self.old.parameters + 1;
-          variables = self.old.variables ++ name ∷ [];
+          variables = self.old.variables ++ name.now ∷ [];
         } }
     {
-        self.variables.push(name);
+        self.variables.push(*name);
         self.parameters += 1;
     }
 }
@@ -130,12 +131,13 @@ pub struct Pools {
 impl Model for Pools {
     ghost use Rattle.std.specs.Prelude.{◌≤◌, take};
     ghost use Rattle.grammar.specs.Pools.{Names};
+    ghost use Rattle.grammar.specs.declared.pools.TheConstants.{MOST_NAMES};
 
     ghost Value = { Names };
 
     ghost view = { λ p. record { externals = p.externals.items; functions = take p.count p.functions } };
 
-    ghost invariant = { λ p. p.count ≤ 64 };
+    ghost invariant = { λ p. p.count ≤ MOST_NAMES };
 }
 
 impl Pools {
@@ -181,17 +183,17 @@ impl Pools {
     }
 
     /// Adds an external, with the next number.
-    pub(crate) fn add_external(&mut self, name: Name)
+    pub(crate) fn add_external(&mut self, name: &Name)
         requires { length self.old.externals < MOST_NAMES }
-        ensures { self.new ≡ record self.old { externals = self.old.externals ++ name ∷ [] } }
+        ensures { self.new ≡ record self.old { externals = self.old.externals ++ name.now ∷ [] } }
     {
-        self.externals.push(name);
+        self.externals.push(*name);
     }
 
     /// Adds a function without variables, with the next number.
-    pub(crate) fn add_function(&mut self, name: Name)
+    pub(crate) fn add_function(&mut self, name: &Name)
         requires { length self.old.functions < MOST_NAMES }
-        ensures { self.new ≡ record self.old { functions = self.old.functions ++ only_named name ∷ [] } }
+        ensures { self.new ≡ record self.old { functions = self.old.functions ++ only_named name.now ∷ [] } }
     {
         self.functions[self.count as usize].restart(name);
         self.count += 1;

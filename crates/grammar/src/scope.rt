@@ -4,17 +4,19 @@ ghost use Rattle.std.specs.Prelude.{◌≡◌, ◌<◌, ◌≤◌, ℕ, List, []
 ghost use Rattle.std.specs.Prelude.{IfSome, OnOk, map, nat_le, is_some, ◌==◌, true, false};
 ghost use Rattle.std.specs.Str.{bytes_eq};
 ghost use Rattle.std.specs.List.{position, list_any};
-ghost use Rattle.grammar.specs.Intrinsics.{intrinsic_named, is_intrinsic};
+ghost use Rattle.grammar.specs.Intrinsics.{intrinsic_named, is_intrinsic, name_of as intrinsic_name};
+ghost use Rattle.grammar.specs.Index.{NoneBefore};
 ghost use Rattle.grammar.specs.Naming.{line_of_undefined};
 ghost use Rattle.grammar.specs.Scope.{number_of_name};
-ghost use Rattle.std.specs.Prelude.{unwrap_or};
+ghost use Rattle.std.specs.Prelude.{unwrap_or, if◌then◌else◌};
 
 use crate::diagnostics::Code;
+use crate::index::Index;
 use crate::names::{Callee, Intrinsic, Var};
 use crate::pools::{Function, MOST_NAMES, Pools};
 use arrayvec::ArrayVec;
 use std::marker::Model;
-use tokens::Name;
+use tokens::{NAME_BYTES, Name};
 
 /// Returns the number of a name among names.
 #[inline(always)]
@@ -24,31 +26,36 @@ pub fn number_of(names: &[Name], name: &Name) -> Option<usize>
     names.iter().position(|other| name.same(other))
 }
 
-const INTRINSICS: [Intrinsic; 13] = [
-    Intrinsic::Scan,
-    Intrinsic::Cannon,
-    Intrinsic::Drive,
-    Intrinsic::Damage,
-    Intrinsic::Speed,
-    Intrinsic::LocX,
-    Intrinsic::LocY,
-    Intrinsic::Rand,
-    Intrinsic::Sqrt,
-    Intrinsic::Sin,
-    Intrinsic::Cos,
-    Intrinsic::Tan,
-    Intrinsic::Atan,
-];
-
-/// Returns the intrinsic function of this name.
-#[tactic(auto, unfolding(crate::specs::Intrinsics::intrinsic_named))]
+/// Returns the intrinsic function of this name. Its first byte leaves few to compare it with.
+#[tactic(auto, unfolding(crate::specs::Intrinsics::intrinsic_named, crate::specs::Intrinsics::name_of))]
 pub fn intrinsic(name: &Name) -> Option<Intrinsic>
     ensures { result ≡ intrinsic_named name.now }
 {
-    INTRINSICS
-        .iter()
-        .copied()
-        .find(|intrinsic| name.is(intrinsic.name().as_bytes()))
+    match name.as_bytes().first()? {
+        b'a' => called(Intrinsic::Atan, name),
+        b'c' => called(Intrinsic::Cannon, name).or(called(Intrinsic::Cos, name)),
+        b'd' => called(Intrinsic::Drive, name).or(called(Intrinsic::Damage, name)),
+        b'l' => called(Intrinsic::LocX, name).or(called(Intrinsic::LocY, name)),
+        b'r' => called(Intrinsic::Rand, name),
+        b's' => called(Intrinsic::Scan, name)
+            .or(called(Intrinsic::Speed, name))
+            .or(called(Intrinsic::Sqrt, name))
+            .or(called(Intrinsic::Sin, name)),
+        b't' => called(Intrinsic::Tan, name),
+        _ => None,
+    }
+}
+
+// Returns this intrinsic function if the name is its.
+#[inline(always)]
+fn called(intrinsic: Intrinsic, name: &Name) -> Option<Intrinsic>
+    ensures { result ≡ (if bytes_eq name.now (intrinsic_name intrinsic) then Some intrinsic else None) }
+{
+    if name.is(intrinsic.name().as_bytes()) {
+        Some(intrinsic)
+    } else {
+        None
+    }
 }
 
 /// What is known of the names of a file at a place of its source.
@@ -59,9 +66,11 @@ pub struct Scope {
     begun: ArrayVec<u8, MOST_NAMES>,
     number: u8,
     current: Function,
+    index: Index,
 }
 
 impl Model for Scope {
+    ghost use Rattle.grammar.specs.Index.{IsIndexed};
     ghost use Rattle.grammar.specs.Naming.{IsKept};
     ghost use Rattle.grammar.specs.Scope.{Scope as Known};
 
@@ -76,7 +85,8 @@ impl Model for Scope {
       current = s.current;
     } };
 
-    ghost invariant = { λ s. IsKept s.pools.functions s.lines.items s.begun.items };
+    ghost invariant = { λ s. IsKept s.pools.functions s.lines.items s.begun.items
+        × IsIndexed s.pools.functions s.index };
 }
 
 impl Scope {
@@ -100,19 +110,20 @@ impl Scope {
             begun: ArrayVec::new(),
             number: 0,
             current: Function::new(Name::new()),
+            index: Index::new(),
         }
     }
 
     /// Resolves a mentioned name to its variable. A name that has none becomes the function's next local.
     #[inline(always)]
     #[tactic(auto, using(crate::proofs::ScopeLaws::names))]
-    pub fn mention(&mut self, name: Name) -> Result<Var, Code>
-        ensures known { IfOk result (λ v. (v ≡ variable_of name self.old)
-            × ((line : ℕ) → Knows Mentioned name line self.old self.new)) }
+    pub fn mention(&mut self, name: &Name) -> Result<Var, Code>
+        ensures known { IfOk result (λ v. (v ≡ variable_of name.now self.old)
+            × ((line : ℕ) → Knows Mentioned name.now line self.old self.new)) }
         ensures within { IfOk result (IsVariable MOST_NAMES MOST_NAMES) }
-        ensures refused { IfErr result (λ c. RefusesName Mentioned name self.old c) }
+        ensures refused { IfErr result (λ c. RefusesName Mentioned name.now self.old c) }
     {
-        if let Some(var) = self.variable(&name) {
+        if let Some(var) = self.variable(name) {
             return Ok(var);
         }
         if self.has_most_variables() {
@@ -125,11 +136,11 @@ impl Scope {
 
     /// Declares a local. A name that is declared again names the same variable.
     #[tactic(auto, using(crate::proofs::ScopeLaws::names))]
-    pub fn local(&mut self, name: Name) -> Result<(), Code>
-        ensures known { OnOk result ((line : ℕ) → Knows Local name line self.old self.new) }
-        ensures refused { IfErr result (λ c. RefusesName Local name self.old c) }
+    pub fn local(&mut self, name: &Name) -> Result<(), Code>
+        ensures known { OnOk result ((line : ℕ) → Knows Local name.now line self.old self.new) }
+        ensures refused { IfErr result (λ c. RefusesName Local name.now self.old c) }
     {
-        if !self.is_local_new(&name) {
+        if !self.is_local_new(name) {
             return Ok(());
         }
         if self.has_most_variables() {
@@ -141,11 +152,11 @@ impl Scope {
 
     /// Adds a parameter of the list. A name that is there already is a fault.
     #[tactic(auto, using(crate::proofs::ScopeLaws::names))]
-    pub fn parameter(&mut self, name: Name) -> Result<(), Code>
-        ensures known { OnOk result ((line : ℕ) → Knows Parameter name line self.old self.new) }
-        ensures refused { IfErr result (λ c. RefusesName Parameter name self.old c) }
+    pub fn parameter(&mut self, name: &Name) -> Result<(), Code>
+        ensures known { OnOk result ((line : ℕ) → Knows Parameter name.now line self.old self.new) }
+        ensures refused { IfErr result (λ c. RefusesName Parameter name.now self.old c) }
     {
-        if !self.is_local_new(&name) {
+        if !self.is_local_new(name) {
             return Err(Code::BadParameterDeclaration);
         }
         if self.has_most_variables() {
@@ -169,11 +180,11 @@ impl Scope {
 
     /// Declares an external. A name that is declared again names the same variable.
     #[tactic(auto, using(crate::proofs::ScopeLaws::names))]
-    pub fn external(&mut self, name: Name) -> Result<(), Code>
-        ensures known { OnOk result ((line : ℕ) → Knows External name line self.old self.new) }
-        ensures refused { IfErr result (λ c. RefusesName External name self.old c) }
+    pub fn external(&mut self, name: &Name) -> Result<(), Code>
+        ensures known { OnOk result ((line : ℕ) → Knows External name.now line self.old self.new) }
+        ensures refused { IfErr result (λ c. RefusesName External name.now self.old c) }
     {
-        if !self.is_external_new(&name) {
+        if !self.is_external_new(name) {
             return Ok(());
         }
         if self.has_most_externals() {
@@ -185,30 +196,30 @@ impl Scope {
 
     /// Resolves a called name. A function of the file that is new is known from here on, by the line of this name.
     #[tactic(auto, using(crate::proofs::ScopeLaws::names))]
-    pub fn call(&mut self, name: Name, line: u32) -> Result<Callee, Code>
-        ensures known { IfOk result (λ callee. (callee ≡ callee_of name self.old)
-            × Knows Called name line self.old self.new) }
+    pub fn call(&mut self, name: &Name, line: u32) -> Result<Callee, Code>
+        ensures known { IfOk result (λ callee. (callee ≡ callee_of name.now self.old)
+            × Knows Called name.now line self.old self.new) }
         ensures within { IfOk result (IsCallable MOST_NAMES) }
-        ensures refused { IfErr result (λ c. RefusesName Called name self.old c) }
+        ensures refused { IfErr result (λ c. RefusesName Called name.now self.old c) }
     {
-        if let Some(intrinsic) = intrinsic(&name) {
+        if let Some(intrinsic) = intrinsic(name) {
             return Ok(Callee::Intrinsic(intrinsic));
         }
-        let known = self.function_number(&name);
+        let known = self.function_number(name);
         let number = self.number_for(known, name, line)?;
         Ok(Callee::Function(number))
     }
 
     /// Begins the definition of a function at this name, on this line, and returns the function's number.
-    pub fn define(&mut self, name: Name, line: u32) -> Result<u8, Code>
-        ensures number { IfOk result (λ n. (n ≡ number_for name self.old) × (n < MOST_NAMES)) }
-        ensures known { OnOk result (Knows Defined name line self.old self.new) }
-        ensures refused { IfErr result (λ c. RefusesName Defined name self.old c) }
+    pub fn define(&mut self, name: &Name, line: u32) -> Result<u8, Code>
+        ensures number { IfOk result (λ n. (n ≡ number_for name.now self.old) × (n < MOST_NAMES)) }
+        ensures known { OnOk result (Knows Defined name.now line self.old self.new) }
+        ensures refused { IfErr result (λ c. RefusesName Defined name.now self.old c) }
     {
-        if intrinsic(&name).is_some() {
+        if intrinsic(name).is_some() {
             return Err(Code::IntrinsicRedefined);
         }
-        let known = self.function_number(&name);
+        let known = self.function_number(name);
         if self.has_begun(known) {
             return Err(Code::FunctionDefinedTwice);
         }
@@ -222,7 +233,8 @@ impl Scope {
         ensures { self.new ≡ end_definition self.old }
     {
         self.pools.set_function(self.number, &self.current);
-        self.current.restart(Name::new());
+        self.index.note(self.current.name(), self.number);
+        self.current.restart(&Name::new());
     }
 
     /// Returns how many parameters the function that is being defined has so far.
@@ -253,7 +265,7 @@ impl Scope {
     pub fn has_main(&self) -> bool
         ensures { result ≡ is_some (function_number main_name self.now) }
     {
-        function_number(self.pools.functions(), &name_of(b"main")).is_some()
+        self.function_number(&name_of(b"main")).is_some()
     }
 
     /// Returns the names of the file.
@@ -278,13 +290,13 @@ impl Scope {
 
     // Returns the number of a function of the file, which is the next one if it is new.
     #[tactic(auto, using(crate::proofs::ScopeLaws::calls))]
-    fn number_for(&mut self, known: Option<usize>, name: Name, line: u32) -> Result<u8, Code>
-        requires own { intrinsic_named name ≡ None }
-        requires number { known ≡ function_number name self.old }
+    fn number_for(&mut self, known: Option<usize>, name: &Name, line: u32) -> Result<u8, Code>
+        requires own { intrinsic_named name.now ≡ None }
+        requires number { known ≡ function_number name.now self.old }
         requires within { IfSome known (λ n. n < MOST_NAMES) }
-        ensures number { IfOk result (λ n. (n ≡ number_for name self.old) × (n < MOST_NAMES)) }
-        ensures known { OnOk result (Knows Called name line self.old self.new) }
-        ensures refused { IfErr result (λ c. RefusesName Called name self.old c) }
+        ensures number { IfOk result (λ n. (n ≡ number_for name.now self.old) × (n < MOST_NAMES)) }
+        ensures known { OnOk result (Knows Called name.now line self.old self.new) }
+        ensures refused { IfErr result (λ c. RefusesName Called name.now self.old c) }
     {
         if let Some(number) = known {
             return Ok(number as u8);
@@ -292,9 +304,7 @@ impl Scope {
         if self.has_most_functions() {
             return Err(Code::TooManyFunctions);
         }
-        let number = self.pools.functions().len() as u8;
-        self.add_function(name, line);
-        Ok(number)
+        Ok(self.add_function(name, line))
     }
 
     // Returns the number of a function that was mentioned.
@@ -302,7 +312,7 @@ impl Scope {
         ensures number { result ≡ function_number name.now self.now }
         ensures within { IfSome result (λ n. n < MOST_NAMES) }
     {
-        function_number(self.pools.functions(), name)
+        function_number(self.pools.functions(), self.index.start(name), name)
     }
 
     fn has_most_functions(&self) -> bool
@@ -311,12 +321,17 @@ impl Scope {
         self.pools.functions().len() >= MOST_NAMES
     }
 
-    fn add_function(&mut self, name: Name, line: u32)
+    // Adds a function that is mentioned on a line, and returns its number.
+    fn add_function(&mut self, name: &Name, line: u32) -> u8
         requires { length self.old.functions < MOST_NAMES }
-        ensures { self.new ≡ with_new_function name line self.old }
+        ensures number { result ≡ length self.old.functions }
+        ensures names { self.new ≡ with_new_function name.now line self.old }
     {
+        let number = self.pools.functions().len() as u8;
         self.pools.add_function(name);
         self.lines.push(line);
+        self.index.note(name, number);
+        number
     }
 
     // Reports whether a definition of the function began before, which is known by this number or new.
@@ -331,10 +346,10 @@ impl Scope {
 
     // Begins the definition of the function of this number and name.
     #[tactic(auto, using(crate::proofs::ScopeLaws::beginnings))]
-    fn begin(&mut self, number: u8, name: Name)
+    fn begin(&mut self, number: u8, name: &Name)
         requires within { number < length self.old.functions }
         requires new { list_any (λ k. k == number) self.old.begun ≡ false }
-        ensures { self.new ≡ with_begun number name self.old }
+        ensures { self.new ≡ with_begun number name.now self.old }
     {
         self.begun.push(number);
         self.number = number;
@@ -372,35 +387,36 @@ impl Scope {
         Var::Local(self.current.variables().len() as u8)
     }
 
-    fn add_variable(&mut self, name: Name)
+    fn add_variable(&mut self, name: &Name)
         requires { length self.old.current.variables < MOST_NAMES }
-        ensures { self.new ≡ with_variable name self.old }
+        ensures { self.new ≡ with_variable name.now self.old }
     {
         self.current.add_local(name);
     }
 
-    fn add_parameter(&mut self, name: Name)
+    fn add_parameter(&mut self, name: &Name)
         requires { length self.old.current.variables < MOST_NAMES }
-        ensures { self.new ≡ with_parameter name self.old }
+        ensures { self.new ≡ with_parameter name.now self.old }
     {
         self.current.add_parameter(name);
     }
 
-    fn add_external(&mut self, name: Name)
+    fn add_external(&mut self, name: &Name)
         requires { length self.old.externals < MOST_NAMES }
-        ensures { self.new ≡ with_external name self.old }
+        ensures { self.new ≡ with_external name.now self.old }
     {
         self.pools.add_external(name);
     }
 }
 
 /// Returns the number of a function that was mentioned.
-#[tactic(auto, using(crate::proofs::ScopeLaws::there, crate::proofs::ScopeLaws::not_there))]
-fn function_number(functions: &[Function], name: &Name) -> Option<usize>
+#[tactic(auto, using(crate::proofs::ScopeLaws::first_there, crate::proofs::ScopeLaws::nowhere))]
+fn function_number(functions: &[Function], start: usize, name: &Name) -> Option<usize>
+    requires { NoneBefore start name.now functions.now }
     ensures { result ≡ number_of_name name.now (map (λ f. f.name) functions.now) }
 {
-    for (number, function) in functions.iter().enumerate() {
-        if name.same(function.name()) {
+    for number in start..functions.len() {
+        if name.same(functions[number].name()) {
             return Some(number);
         }
     }
@@ -409,7 +425,7 @@ fn function_number(functions: &[Function], name: &Name) -> Option<usize>
 
 /// Makes the name of these bytes.
 fn name_of(bytes: &[u8]) -> Name
-    requires { length bytes.now ≤ 31 }
+    requires { length bytes.now ≤ NAME_BYTES }
     ensures { result ≡ bytes.now }
 {
     let mut name = Name::new();

@@ -1,5 +1,5 @@
 -- Builders that were told further actions.
-use Rattle.std.proofs.Common.{◌≡◌, Bool, List, [], ◌++◌, sym, subst, append_assoc, append-nil}
+use Rattle.std.proofs.Common.{Bool, List, [], ◌++◌, sym, subst, append_assoc, append-nil}
 use Rattle.std.specs.Prelude.{Err, IsTrue}
 use Rattle.grammar.specs.declared.build.BuildFault.{BuildFault}
 use Rattle.grammar.specs.declared.build.BuildFault.TheVariants as fault

@@ -18,7 +18,7 @@ ghost use Rattle.parsing.specs.Advancing.{IsReadable, most_failures};
 ghost use Rattle.tokens.specs.Limits.{most_bytes};
 ghost use Rattle.parsing.specs.Position.{with_scope};
 ghost use Rattle.parsing.specs.Roles.{role_of};
-ghost use Rattle.parsing.specs.Segment.{Counts, StopsAtFirst};
+ghost use Rattle.parsing.specs.Segment.{Counts, IsNoName, StopsAtFirst};
 
 use crate::roles::Declared;
 use crate::token_predicates::{is_punctuator, is_word};
@@ -88,7 +88,7 @@ impl<'a, F: Feed> Parser<'a, F> {
     ghost use Rattle.parsing.specs.Defining.{StaysAt, StaysInBody};
     ghost use Rattle.parsing.specs.Matching.{Consumes, Matches};
     ghost use Rattle.parsing.specs.Position.{Position, Standing, next_at, place, scope_of, taken_at, token_after, token_of};
-    ghost use Rattle.parsing.specs.Segment.{BeginsDefinition, IsNoName};
+    ghost use Rattle.parsing.specs.Segment.{BeginsDefinition};
 
     /// Makes a parser at the first token of a device, which knows no names.
     ///
@@ -200,7 +200,7 @@ impl<'a, F: Feed> Parser<'a, F> {
         ensures stays { OnOk result (StaysInBody (scope_of self.old) (scope_of self.new)) }
         ensures kept { Advances result self.old self.new }
     {
-        let name = *self.name()?;
+        let name = name(&self.cursor)?;
         let var = match self.scope.mention(name) {
             Ok(var) => var,
             Err(code) => return Err(self.refusal(code)),
@@ -217,8 +217,8 @@ impl<'a, F: Feed> Parser<'a, F> {
         ensures stays { OnOk result (StaysInBody (scope_of self.old) (scope_of self.new)) }
         ensures kept { Advances result self.old self.new }
     {
-        let name = *self.name()?;
-        let line = self.peek().line;
+        let name = name(&self.cursor)?;
+        let line = self.cursor.peek().line;
         let callee = match self.scope.call(name, line) {
             Ok(callee) => callee,
             Err(code) => return Err(self.refusal(code)),
@@ -235,8 +235,8 @@ impl<'a, F: Feed> Parser<'a, F> {
             BeginsDefinition number self.old.place.position self.new.place.position) }
         ensures kept { Advances result self.old self.new }
     {
-        let name = *self.name()?;
-        let line = self.peek().line;
+        let name = name(&self.cursor)?;
+        let line = self.cursor.peek().line;
         let number = match self.scope.define(name, line) {
             Ok(number) => number,
             Err(code) => return Err(self.refusal(code)),
@@ -252,7 +252,7 @@ impl<'a, F: Feed> Parser<'a, F> {
         ensures stays { OnOk result (StaysAt declared (scope_of self.old) (scope_of self.new)) }
         ensures kept { Advances result self.old self.new }
     {
-        let name = *self.name()?;
+        let name = name(&self.cursor)?;
         if let Err(code) = declare(&mut self.scope, name, declared) {
             return Err(self.refusal(code));
         }
@@ -310,34 +310,39 @@ impl<'a, F: Feed> Parser<'a, F> {
         let Parser { scope, feed, .. } = self;
         (scope.into_pools(), feed)
     }
+}
 
     // Returns the name that the next token has to be.
-    fn name(&self) -> Result<&Name, ParseFault>
-        ensures found { IfOk result (λ name. token_of self.now ≡ token.Name name.now) }
-        ensures other { IfErr result (IsNoName (next_at self.now.place)) }
-    {
-        match &self.peek().token {
-            Token::Name(name) => Ok(name),
-            _ => Err(self.misfit()),
-        }
+#[inline(always)]
+fn name(cursor: &Cursor) -> Result<&Name, ParseFault>
+    requires sound { is_fault cursor.now.next.token ≡ false }
+    ensures found { IfOk result (λ name. cursor.now.next.token ≡ token.Name name.now) }
+    ensures other { IfErr result (IsNoName cursor.now.next) }
+{
+    let next = cursor.peek();
+    match &next.token {
+        Token::Name(name) => Ok(name),
+        _ => Err(misfit(next)),
     }
 }
 
 // Declares a name in a scope.
-fn declare(scope: &mut Scope, name: Name, declared: Declared) -> Result<(), Code>
-    ensures known { OnOk result ((line : ℕ) → Knows (role_of declared) name line scope.old scope.new) }
-    ensures refused { IfErr result (λ c. RefusesName (role_of declared) name scope.old c) }
+fn declare(scope: &mut Scope, name: &Name, declared: Declared) -> Result<(), Code>
+    ensures known { OnOk result ((line : ℕ) → Knows (role_of declared) name.now line scope.old scope.new) }
+    ensures refused { IfErr result (λ c. RefusesName (role_of declared) name.now scope.old c) }
 {
     match declared {
         Declared::Externals => scope.external(name)?,
         Declared::Parameters => scope.parameter(name)?,
-        Declared::TypedParameters => scope.typed(&name)?,
+        Declared::TypedParameters => scope.typed(name)?,
         Declared::Locals => scope.local(name)?,
     }
     Ok(())
 }
 
 // Returns the refusal of a token that doesn't fit.
+#[cold]
+#[inline(never)]
 fn misfit(located_token: &LocatedToken) -> ParseFault
     ensures { result ≡ ParseFault.Source (diagnostic located_token.now.line (misfit_code located_token.now.token)) }
 {

@@ -1,8 +1,6 @@
-use Rattle.std.proofs.Common.{◌≡◌, ◌<◌, ℕ, [], false, slice_index_or}
-use Rattle.std.specs.Str.{bytes_eq}
-use Rattle.grammar.specs.Scope.{only_named}
+use Rattle.grammar.specs.Index.{NoneBefore}
 use Rattle.grammar.proofs.scope.function_number.Given as goal
 
 -- no function so far has the name
 abbrev pub invariant-loop-number : goal.invariant-loop-number
-invariant-loop-number l = (k : ℕ) → k < l.number → bytes_eq l.name (slice_index_or l.functions k (only_named [])).name ≡ false
+invariant-loop-number l = NoneBefore l.number l.name l.functions

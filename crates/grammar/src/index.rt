@@ -1,0 +1,72 @@
+//! An index of the functions by their names: it says from which function on a name is looked for.
+
+ghost use Rattle.std.specs.Prelude.{◌≡◌, ◌<◌, []};
+ghost use Rattle.grammar.specs.Index.{IsIndexed, Notes, bucket_of, start_of};
+
+use crate::pools::MOST_NAMES;
+use std::marker::Model;
+use tokens::Name;
+
+/// How many buckets there are for the names.
+const BUCKETS: usize = 256;
+
+/// The number of the earliest function with a name in each bucket, or one past all functions.
+#[derive(Drop)]
+pub(crate) struct Index {
+    earliest: [u8; BUCKETS],
+}
+
+impl Model for Index {
+    ghost use Rattle.std.specs.Prelude.{ℕ, List};
+
+    ghost Value = { List ℕ };
+
+    ghost view = { λ i. i.earliest };
+}
+
+impl Index {
+    /// Makes an index of no functions.
+    pub(crate) fn new() -> Index
+        ensures { IsIndexed [] result }
+    {
+        Index {
+            earliest: [MOST_NAMES as u8; BUCKETS],
+        }
+    }
+
+    /// Returns a number before which no function has this name.
+    #[inline(always)]
+    pub(crate) fn start(&self, name: &Name) -> usize
+        ensures { result ≡ start_of name.now self.now }
+    {
+        self.earliest[bucket(name)] as usize
+    }
+
+    /// Notes that the function of this number has this name.
+    #[inline(always)]
+    #[tactic(auto, using(crate::proofs::IndexLaws::notes))]
+    pub(crate) fn note(&mut self, name: &Name, number: u8)
+        ensures { Notes name.now number self.old self.new }
+    {
+        let bucket = bucket(name);
+        if number < self.earliest[bucket] {
+            self.earliest[bucket] = number;
+        }
+    }
+}
+
+// The bucket of a name. Most names that differ have another.
+#[inline(always)]
+#[tactic(auto, unfolding(crate::specs::Index::bucket_of))]
+fn bucket(name: &Name) -> usize
+    ensures value { result ≡ bucket_of name.now }
+    ensures within { result < BUCKETS }
+{
+    let bytes = name.as_bytes();
+    if bytes.is_empty() {
+        return 0;
+    }
+    let last = bytes[bytes.len() - 1] as usize;
+    let middle = bytes[bytes.len() / 2] as usize;
+    (last + 16 * middle + bytes.len()) % BUCKETS
+}
