@@ -167,11 +167,9 @@ impl Window {
         ensures known { KnowsEnd self.new.beyond (F.ended feed.new) }
     {
         loop {
+            self.pass_blanks();
             match self.peek(feed)? {
-                Some(b) if is_blank(b) => {
-                    self.pass();
-                    self.pass_blanks();
-                }
+                Some(b) if is_blank(b) => self.pass(),
                 first => return Ok(first),
             }
         }

@@ -183,7 +183,6 @@ impl Window {
         ensures near { self.new.taken ≤ self.new.place + window_bytes }
         ensures limited { self.new.taken ≤ most_bytes }
     {
-        // Most blanks stand alone.
         match self.first() {
             Some(b) if is_blank(b) => {}
             _ => return,

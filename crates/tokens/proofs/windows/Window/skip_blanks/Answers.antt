@@ -7,21 +7,22 @@ use Rattle.tokens.proofs.windows.Window.skip_blanks.Goals as goal
 
 pub loop-b-preserved : goal.loop-b-preserved
 loop-b-preserved g c = record {
-  tokens = blanks-pass _ _ _ c.pass_blanks.ensures.value ∙ to_read-pass located_tokens located_tokens _ _ _ _ c.in-Some.b c.pass.ensures.value c.in_ok-first.ensures.first c.in-Some.is (blank-skipped c.in-Some.b (sym c.if-is_blank.ensures))
-      ∙ to_read-seen located_tokens _ _ _ _ c.in_ok-first.ensures.seen ∙ c.loop-b.invariant.tokens;
-  took = Takes-pass c.pass_blanks.ensures.kept (Takes-pass c.pass.ensures.kept (Takes-then c.loop-b.invariant.took c.in_ok-first.ensures.took));
+  tokens = to_read-pass located_tokens located_tokens _ _ _ _ c.in-Some.b c.pass.ensures.value c.in_ok-first.ensures.first c.in-Some.is (blank-skipped c.in-Some.b (sym c.if-is_blank.ensures))
+      ∙ to_read-seen located_tokens _ _ _ _ c.in_ok-first.ensures.seen ∙ blanks-pass _ _ _ c.pass_blanks.ensures.value ∙ c.loop-b.invariant.tokens;
+  took = Takes-pass c.pass.ensures.kept (Takes-then (Takes-pass c.pass_blanks.ensures.kept c.loop-b.invariant.took) c.in_ok-first.ensures.took);
   forward = omega (arith, c.in_ok-first.ensures.place.place);
   count = c.in_ok-first.ensures.count ∙ c.loop-b.invariant.count;
-  known = λ e. c.in_ok-first.ensures.known (sym c.pass.ensures.beyond ∙ (sym c.pass_blanks.ensures.beyond ∙ e));
+  known = λ e. c.in_ok-first.ensures.known (sym c.pass.ensures.beyond ∙ e);
 }
 
 pub returns-in_default-clause-tokens : goal.returns-in_default-clause-tokens
-returns-in_default-clause-tokens g c = to_read-seen located_tokens _ _ _ _ c.in_ok-first.ensures.seen ∙ c.loop-b.invariant.tokens
+returns-in_default-clause-tokens g c = to_read-seen located_tokens _ _ _ _ c.in_ok-first.ensures.seen ∙ blanks-pass _ _ _ c.pass_blanks.ensures.value ∙ c.loop-b.invariant.tokens
 
 pub returns-in_default-2-clause-tokens : goal.returns-in_default-2-clause-tokens
-returns-in_default-2-clause-tokens g c = to_read-seen located_tokens _ _ _ _ c.in_ok-first.ensures.seen ∙ c.loop-b.invariant.tokens
+returns-in_default-2-clause-tokens g c = to_read-seen located_tokens _ _ _ _ c.in_ok-first.ensures.seen ∙ blanks-pass _ _ _ c.pass_blanks.ensures.value ∙ c.loop-b.invariant.tokens
 
 pub returns-in_err-first-clause-stopped : goal.returns-in_err-first-clause-stopped
 returns-in_err-first-clause-stopped g c =
     let seen = c.in_err-first.ensures in
-    on_err-from c.from_residual.result (stops-from located_tokens located_tokens _ _ c.peek.new.self _ _ c.loop-b.invariant.tokens (stops located_tokens located_tokens-end c.loop-b.self c.peek.new.self _ seen.failed seen.place.place))
+    on_err-from c.from_residual.result (stops-from located_tokens located_tokens _ _ c.peek.new.self _ _ (blanks-pass _ _ _ c.pass_blanks.ensures.value ∙ c.loop-b.invariant.tokens)
+    (stops located_tokens located_tokens-end c.pass_blanks.new.self c.peek.new.self _ seen.failed seen.place.place))
