@@ -1,6 +1,6 @@
 -- Assignments, and expressions that are none.
 use Rattle.std.proofs.Common.{◌≡◌, ℕ, ◌+◌, ◌<◌, ◌≤◌, List, [], ◌∷◌, refl, ap, Bool, true, false, arith}
-use Rattle.std.specs.Prelude.{Some, None, is_some}
+use Rattle.std.specs.Prelude.{Some, None, Result, Ok, Err, is_some}
 use Rattle.tokens.specs.Tokens.{is_last}
 use Rattle.tokens.specs.declared.located_tokens.LocatedToken.{LocatedToken}
 use Rattle.tokens.specs.declared.located_tokens.Punctuator.{Punctuator}
@@ -20,12 +20,12 @@ use Rattle.grammar.specs.Nesting.{nesting}
 use Rattle.grammar.specs.Operators.{store_of, store_operator}
 use Rattle.grammar.specs.Resolved.{InExpr, IsVariable}
 use Rattle.grammar.specs.Tree.{Assign, Expr}
-use Rattle.parsing.specs.Position.{Place, after_at, next_at}
+use Rattle.parsing.specs.Position.{Place, Standing, after_at, next_at, taken_at}
 use Rattle.parsing.specs.Room.{HasRoom, room}
 use Rattle.parsing.specs.Stopping.{stop_with}
 use Rattle.parsing.specs.Segment.{IsNearTo, Derives, DerivesItem, FailsAt, FailsItem, GoesPast, Refused, StopsAt}
 use Rattle.parsing.proofs.Segments.{exit, exit_item, joined}
-use Rattle.expressions.specs.Expressions.{AddsExpr}
+use Rattle.expressions.specs.Expressions.{AddsExpr, Parses}
 use Rattle.expressions.proofs.NameLaws.{behind_name_is}
 use Rattle.parsing.proofs.Parts.{MakesOnly}
 use Rattle.expressions.proofs.Productions.{Chooses, EntersLevel, chosen, chosen_within, item_done, makes_and_closes, punctuator_ends, punctuator_past, name_too_deep, same_self}
@@ -68,6 +68,12 @@ plain_adds before after at there depth sound none h = record {
   added = h.added;
   derives = joined depth depth (Part Expression ∷ []) (Part (Level 1) ∷ []) [] [] [] [] (AnExpr h.tree ∷ []) [] at at there (plain_stands at depth sound none) h.derives (λ stack same. same);
 }
+
+-- either, by the result
+pub plain_parses : {A : Type 0} (result : Result A ParseFault) (allocates : Bool) (before after : Meaning) (depth : ℕ) (old new : Standing) → is_fault (next_at old.place).token ≡ false → NoAssignment old.place →
+    Parses result allocates before after depth 1 (Level 1) old new → Parses result allocates before after depth 1 Expression old new
+plain_parses (Ok x) allocates before after depth old new sound none h = plain_adds before after old.place new.place depth sound none h
+plain_parses (Err fault) allocates before after depth old new sound none h = plain_refused (taken_at new.place) old.place depth allocates fault sound none h
 
 -- An assignment.
 

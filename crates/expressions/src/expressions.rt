@@ -46,6 +46,7 @@ pub fn expression<F: Feed, B: Build>(
 }
 
 /// `expr → name asg expr`
+#[inline(always)]
 #[cycle(expressions)]
 fn assignment<F: Feed, B: Build>(
     parser: &mut Parser<'_, F>,
@@ -66,9 +67,30 @@ fn assignment<F: Feed, B: Build>(
     }
     let var = parser.mention()?;
     parser.advance()?;
-    expression(parser, build, depth + 1)?;
+    right_side(parser, build, depth + 1)?;
     build.store(var, op)?;
     Ok(())
+}
+
+/// `expr`, behind the operator of an assignment: most often no further assignment, which is parsed with no further call
+#[inline(always)]
+#[cycle(expressions)]
+fn right_side<F: Feed, B: Build>(
+    parser: &mut Parser<'_, F>,
+    build: &mut B,
+    depth: u8,
+) -> Result<(), ParseFault>
+    requires open { HasRoom (B.stands build.old) (room depth 1) }
+    requires ready { IsReady parser.old }
+    ensures parses { Parses result B.allocates (B.stands build.old) (B.stands build.new)
+        depth 1 Expression parser.old parser.new }
+    ensures grown { Grows result (B.stands build.old) (B.stands build.new) }
+    ensures kept { Advances result parser.old parser.new }
+{
+    match assignment_operator(parser) {
+        Some(_) => expression(parser, build, depth),
+        None => levels(parser, build, 1, depth),
+    }
 }
 
 /// `levelN → level(N+1) tailN`, down to `level11`: an operand, and the operators from this level on by precedence

@@ -43,8 +43,8 @@ Says fault allocates (refusal.Source d) = fault d
 Says fault allocates refusal.Device = Unit {0}
 Says fault allocates refusal.Memory = IsTrue allocates
 
--- from a device that tells its bytes no more were taken than decide what they are, and so many more; and never more than
--- the longest source and one byte
+-- from a device that tells its bytes no more were taken than decide what they are, and so many more; and never more
+-- than the longest source and one byte
 pub record TakesUpTo (profile : Profile) (bytes : List ℕ) (to_come : Option (List ℕ)) (more : ℕ) : Type 0 where
   pub count : ℕ
   pub took : to_come ≡ Some (drop count bytes)
@@ -69,7 +69,8 @@ TakesNoMore before told to_come more =
 -- so they may leave it open by each profile that the builder goes by, where the device tells its bytes
 abbrev pub StaysUndecided : Meaning → (told to_come : Option (List ℕ)) → Type 0
 StaysUndecided before told to_come =
-    (bytes : List ℕ) → told ≡ Some bytes → (profile : Profile) → before profile [] → LeavesUndecided profile bytes to_come
+    (bytes : List ℕ) → told ≡ Some bytes → (profile : Profile) → before profile [] →
+    LeavesUndecided profile bytes to_come
 
 -- what was taken where no file is answered: a window past what decides the source at most, and where the device failed,
 -- so few bytes that they may leave it open

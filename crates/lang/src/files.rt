@@ -22,17 +22,17 @@ use tokens::{Feed, Punctuator, Token, Word};
 ///
 /// The device gives its bytes in pieces of any size. The source ends before the first byte 26, or where the device has
 /// no more bytes; it is too long past 1,048,576 bytes. At most 64 levels may be open at once, which bounds the
-/// recursion. No more bytes are taken than decide the answer and a window of 4,096 bytes. A device that has given no byte
-/// has ended, and is not asked again.
+/// recursion. No more bytes are taken than decide the answer and a window of 4,096 bytes. A device that has given no
+/// byte has ended, and is not asked again.
 ///
 /// The builder is new: it stands for no action yet. On `Ok` it stands for those of the whole file, and nothing is left
 /// open in it. No memory is asked for but by the builder.
 ///
 /// # Errors
 /// `Source` with the first fault; `Device` where the device failed before that, or the end, was known; `Memory` where
-/// the builder was refused memory. With `Device` the builder stands for the actions of each function after whose closing
-/// brace three more tokens were read, and perhaps for further ones. Of a builder that refused an action nothing is
-/// promised: it is given up.
+/// the builder was refused memory. With `Device` the builder stands for the actions of each function after whose
+/// closing brace three more tokens were read, and perhaps for further ones. Of a builder that refused an action nothing
+/// is promised: it is given up.
 #[inline(never)]
 pub fn parse<F: Feed, B: Build>(feed: &mut F, build: &mut B) -> Result<Pools, ParseFault>
     requires new { IsNew (B.stands build.old) }
@@ -42,7 +42,8 @@ pub fn parse<F: Feed, B: Build>(feed: &mut F, build: &mut B) -> Result<Pools, Pa
     ensures closed { OnOk result (StandsOpen (B.stands build.new) []) }
     ensures refused { IfErr result (λ fault.
         Says (FailsBytes (B.stands build.old) (F.to_come feed.old)) B.allocates fault) }
-    ensures taken { OnOk result (TakesNoMore (B.stands build.old) (F.to_come feed.old) (F.to_come feed.new) window_bytes) }
+    ensures taken { OnOk result
+        (TakesNoMore (B.stands build.old) (F.to_come feed.old) (F.to_come feed.new) window_bytes) }
     ensures stopped { IfErr result (StopsTaking (B.stands build.old) (F.to_come feed.old) (F.to_come feed.new)) }
     ensures built { IfErr result (λ fault. ParseFault.Device ≡ fault →
         BuildsAhead (B.stands build.old) (B.stands build.new) (F.to_come feed.old) (F.to_come feed.new)) }

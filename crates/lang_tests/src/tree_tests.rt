@@ -69,7 +69,8 @@ const FORMS: &[(&[u8], &str)] = &[
     // an `else` belongs to the nearest `if`
     (
         b"main(){if(1) if(2) 3; else 4;}",
-        "[IfStatement(Constant(1), [IfElseStatement(Constant(2), [ExpressionStatement(Constant(3))], [ExpressionStatement(Constant(4))])])]",
+        "[IfStatement(Constant(1), [IfElseStatement(Constant(2), [ExpressionStatement(Constant(3))], \
+         [ExpressionStatement(Constant(4))])])]",
     ),
     (
         b"main(){if(1) {2; {3;} ;} else {} while(a = 4) ;}",
@@ -101,7 +102,8 @@ const HIDDEN: &[u8] = b"int x; main(){x; {int x; x;} x;}";
 const HIDDEN_MADE: &[&str] = &[
     "externals x",
     "main x: Function { number: 0, parameters: 0, variables: 1, body: [\
-     ExpressionStatement(Variable(External(0))), ExpressionStatement(Variable(Local(0))), ExpressionStatement(Variable(Local(0)))] }",
+     ExpressionStatement(Variable(External(0))), ExpressionStatement(Variable(Local(0))), \
+     ExpressionStatement(Variable(Local(0)))] }",
 ];
 
 /// What the parse of `main(){x;} int x;` makes.

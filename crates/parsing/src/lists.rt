@@ -29,6 +29,7 @@ pub fn type_words<F: Feed>(parser: &mut Parser<'_, F>) -> Result<(), ParseFault>
 }
 
 /// `more → , name more`
+#[inline(always)]
 pub fn more_names<F: Feed>(parser: &mut Parser<'_, F>, declared: Declared) -> Result<(), ParseFault>
     requires ready { IsReady parser.old }
     ensures matches { Matches result (Part (More (role_of declared)) ∷ []) (λ _. []) parser.old parser.new }
@@ -43,6 +44,7 @@ pub fn more_names<F: Feed>(parser: &mut Parser<'_, F>, declared: Declared) -> Re
 }
 
 /// `decls → type types name more ; decls` with locals, and `pdecls` likewise with parameters
+#[inline(always)]
 pub fn declarations<F: Feed>(
     parser: &mut Parser<'_, F>,
     declared: Declared,
@@ -60,6 +62,7 @@ pub fn declarations<F: Feed>(
 }
 
 /// `type types name more ;`
+#[inline(always)]
 fn declaration<F: Feed>(parser: &mut Parser<'_, F>, declared: Declared) -> Result<(), ParseFault>
     requires ready { IsReady parser.old }
     ensures matches { Matches result (declaration_items declared) (λ _. []) parser.old parser.new }
@@ -72,6 +75,7 @@ fn declaration<F: Feed>(parser: &mut Parser<'_, F>, declared: Declared) -> Resul
 }
 
 /// `name more ;`
+#[inline(always)]
 pub fn names<F: Feed>(parser: &mut Parser<'_, F>, declared: Declared) -> Result<(), ParseFault>
     requires ready { IsReady parser.old }
     ensures matches { Matches result (names_items declared) (λ _. []) parser.old parser.new }

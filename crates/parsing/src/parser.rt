@@ -87,7 +87,8 @@ impl<'a, F: Feed> Parser<'a, F> {
     ghost use Rattle.parsing.specs.Advancing.{Advances, IsReady};
     ghost use Rattle.parsing.specs.Defining.{StaysAt, StaysInBody};
     ghost use Rattle.parsing.specs.Matching.{Consumes, Matches};
-    ghost use Rattle.parsing.specs.Position.{Position, Standing, next_at, place, scope_of, taken_at, token_after, token_of};
+    ghost use Rattle.parsing.specs.Position.{Position, Standing, next_at, place, scope_of, taken_at, token_after};
+    ghost use Rattle.parsing.specs.Position.{token_of};
     ghost use Rattle.parsing.specs.Segment.{BeginsDefinition};
 
     /// Makes a parser at the first token of a device, which knows no names.
@@ -246,6 +247,7 @@ impl<'a, F: Feed> Parser<'a, F> {
     }
 
     /// Consumes a name that is declared, which has to be the next token.
+    #[inline(always)]
     pub fn declare(&mut self, declared: Declared) -> Result<(), ParseFault>
         requires ready { IsReady self.old }
         ensures matches { Matches result (AName (role_of declared) ∷ []) (λ _. []) self.old self.new }
@@ -327,6 +329,7 @@ fn name(cursor: &Cursor) -> Result<&Name, ParseFault>
 }
 
 // Declares a name in a scope.
+#[inline(always)]
 fn declare(scope: &mut Scope, name: &Name, declared: Declared) -> Result<(), Code>
     ensures known { OnOk result ((line : ℕ) → Knows (role_of declared) name.now line scope.old scope.new) }
     ensures refused { IfErr result (λ c. RefusesName (role_of declared) name.now scope.old c) }

@@ -118,6 +118,7 @@ fn branch<F: Feed, B: Build>(
 }
 
 /// `elsepart → else stmt`, and empty where no `else` is next
+#[inline(always)]
 #[cycle(statements)]
 fn else_part<F: Feed, B: Build>(
     parser: &mut Parser<'_, F>,
@@ -167,6 +168,7 @@ fn repetition<F: Feed, B: Build>(
 }
 
 /// `( expr )`, behind `if` or `while`
+#[inline(always)]
 fn condition<F: Feed, B: Build>(
     parser: &mut Parser<'_, F>,
     build: &mut B,

@@ -11,7 +11,7 @@ use Rattle.parsing.specs.Room.{HasLeft, HasRoom, room}
 use Rattle.parsing.proofs.Advances.{kept_then, on, on_then}
 use Rattle.parsing.proofs.Growing.{grown, grown_behind, grown_nothing, refuses, unknown}
 use Rattle.parsing.proofs.Segments.{halts, halts_here}
-use Rattle.expressions.proofs.AssignmentLaws.{IsAssignment, assignment_adds, plain_adds, plain_refused, sign_goes_on, sign_refused, store_follows, store_too_deep, target_refused, value_refused}
+use Rattle.expressions.proofs.AssignmentLaws.{IsAssignment, assignment_adds, plain_adds, plain_parses, plain_refused, sign_goes_on, sign_refused, store_follows, store_too_deep, target_refused, value_refused}
 use Rattle.expressions.proofs.CallLaws.{IsCall, callee_halts, argument_adds, argument_refused, arguments_end, arguments_refused, arguments_room, begin_follows, call_adds, call_close_refused, call_open_refused, call_too_deep, callee_refused, comma_refused, end_follows, first_adds, first_refused, next_argument_room, no_arguments}
 use Rattle.expressions.proofs.NestedLaws.{NoOperator, NoPrimary, plain_operand, bracket_adds, bracket_too_deep, close_refused, inside_refused, open_ends, primary_adds, primary_misfits, primary_refused}
 use Rattle.expressions.proofs.ClimbingLaws.{at_its_own, climb_refused, climbs_end, climbs_first, climbs_on, first_stops, found, left_open, ten_levels}
@@ -252,23 +252,27 @@ assignment-returns-in_err-advance-clause-parses g t c =
     let p = err_from_is_err_and c.from_residual-in_err-advance.result c.from_residual-in_err-advance.ensures.1 in
     rw (p.1, p.2) (sign_refused _ c.args.parser.now.place _ c.args.depth c.args.op c.in_ok-var.var _ c.in_err-advance.field-0.0 is shallow c.in_ok-var.ensures.matches c.in_err-advance.ensures.consumes)
 
-pub assignment-returns-in_err-expression-clause-parses : goal.assignment-returns-in_err-expression-clause-parses
-assignment-returns-in_err-expression-clause-parses g t c =
+pub assignment-returns-in_err-right_side-clause-parses : goal.assignment-returns-in_err-right_side-clause-parses
+assignment-returns-in_err-right_side-clause-parses g t c =
     let shallow : c.args.depth < 64 = omega arith in
     let is : IsAssignment c.args.parser.now.place c.args.op = record { named = is_named _ c.requires.is.named; is = c.requires.is.is } in
-    let p = err_from_is_err_and c.from_residual-in_err-expression.result c.from_residual-in_err-expression.ensures.1 in
-    rw (p.1, p.2) (value_refused _ c.args.parser.now.place _ _ c.args.depth c.args.op c.in_ok-var.var _ c.in_err-expression.field-0.0 is shallow c.in_ok-var.ensures.matches c.in_ok-advance.ensures.consumes c.in_err-expression.ensures.parses)
+    let p = err_from_is_err_and c.from_residual-in_err-right_side.result c.from_residual-in_err-right_side.ensures.1 in
+    rw (p.1, p.2) (value_refused _ c.args.parser.now.place _ _ c.args.depth c.args.op c.in_ok-var.var _ c.in_err-right_side.field-0.0 is shallow c.in_ok-var.ensures.matches c.in_ok-advance.ensures.consumes c.in_err-right_side.ensures.parses)
 
 pub assignment-store-requires : goal.assignment-store-requires
 assignment-store-requires g t c =
     let shallow : c.args.depth < 64 = omega arith in
-    record { follows = store_follows _ _ c.args.depth c.args.op c.in_ok-var.var c.in_ok-expression.ensures.parses.tree shallow c.requires.open c.in_ok-var.ensures.within c.in_ok-expression.ensures.parses.numbered c.in_ok-expression.ensures.parses.narrow c.in_ok-expression.ensures.parses.added }
+    record { follows = store_follows _ _ c.args.depth c.args.op c.in_ok-var.var c.in_ok-right_side.ensures.parses.tree shallow c.requires.open c.in_ok-var.ensures.within c.in_ok-right_side.ensures.parses.numbered c.in_ok-right_side.ensures.parses.narrow c.in_ok-right_side.ensures.parses.added }
 
 pub assignment-returns-clause-parses : goal.assignment-returns-clause-parses
 assignment-returns-clause-parses g t c =
     let shallow : c.args.depth < 64 = omega arith in
     let is : IsAssignment c.args.parser.now.place c.args.op = record { named = is_named _ c.requires.is.named; is = c.requires.is.is } in
-    assignment_adds _ _ _ c.args.parser.now.place _ _ _ c.args.depth c.args.op c.in_ok-var.var is shallow c.in_ok-var.ensures.matches c.in_ok-advance.ensures.consumes c.in_ok-expression.ensures.parses c.in_ok-var.ensures.within c.in_ok-expression.ensures.kept.ready.sound c.in_ok-store.ensures.ok
+    assignment_adds _ _ _ c.args.parser.now.place _ _ _ c.args.depth c.args.op c.in_ok-var.var is shallow c.in_ok-var.ensures.matches c.in_ok-advance.ensures.consumes c.in_ok-right_side.ensures.parses c.in_ok-var.ensures.within c.in_ok-right_side.ensures.kept.ready.sound c.in_ok-store.ensures.ok
+
+pub right_side-returns-in-None-clause-parses : goal.right_side-returns-in-None-clause-parses
+right_side-returns-in-None-clause-parses g t c =
+    plain_parses c.levels.result _ _ _ c.args.depth c.args.parser.now c.levels.new.parser c.requires.ready.sound c.in-None.ensures.none c.levels.ensures.parses
 
 pub expression-returns-in_err-levels-clause-parses : goal.expression-returns-in_err-levels-clause-parses
 expression-returns-in_err-levels-clause-parses g t c =
@@ -372,7 +376,7 @@ operand-returns-clause-kept g t c =
 
 pub assignment-returns-clause-kept : goal.assignment-returns-clause-kept
 assignment-returns-clause-kept g t c =
-    on_then _ _ _ c.in_ok-var.ensures.kept (kept_then _ _ _ (on _ _ c.in_ok-advance.ensures.kept) (on _ _ c.in_ok-expression.ensures.kept))
+    on_then _ _ _ c.in_ok-var.ensures.kept (kept_then _ _ _ (on _ _ c.in_ok-advance.ensures.kept) (on _ _ c.in_ok-right_side.ensures.kept))
 
 pub call-returns-clause-kept : goal.call-returns-clause-kept
 call-returns-clause-kept g t c =
@@ -471,10 +475,10 @@ assignment-returns-in_err-advance-clause-grown g t c =
     let p = err_from_is_err_and c.from_residual-in_err-advance.result c.from_residual-in_err-advance.ensures.1 in
     rw (p.1, p.2) (λ device. grown_nothing _)
 
-pub assignment-returns-in_err-expression-clause-grown : goal.assignment-returns-in_err-expression-clause-grown
-assignment-returns-in_err-expression-clause-grown g t c =
-    let p = err_from_is_err_and c.from_residual-in_err-expression.result c.from_residual-in_err-expression.ensures.1 in
-    rw (p.1, p.2) (c.in_err-expression.ensures.grown)
+pub assignment-returns-in_err-right_side-clause-grown : goal.assignment-returns-in_err-right_side-clause-grown
+assignment-returns-in_err-right_side-clause-grown g t c =
+    let p = err_from_is_err_and c.from_residual-in_err-right_side.result c.from_residual-in_err-right_side.ensures.1 in
+    rw (p.1, p.2) (c.in_err-right_side.ensures.grown)
 
 pub expression-returns-in_err-levels-clause-grown : goal.expression-returns-in_err-levels-clause-grown
 expression-returns-in_err-levels-clause-grown g t c =
@@ -546,5 +550,5 @@ assignment-returns-in_err-store-clause-parses g t c =
     rw (p.1, p.2) (
       refuses c.in_err-store.field-0.0 _ c.in_err-store.ensures.memory,
       halts _ _ _ _ _ _ _ _
-          (assignment_adds _ _ unknown c.args.parser.now.place _ _ _ c.args.depth c.args.op c.in_ok-var.var is shallow c.in_ok-var.ensures.matches c.in_ok-advance.ensures.consumes c.in_ok-expression.ensures.parses c.in_ok-var.ensures.within c.in_ok-expression.ensures.kept.ready.sound (λ profile acts h. tt)).derives c.in_ok-expression.ensures.kept.ready.near,
+          (assignment_adds _ _ unknown c.args.parser.now.place _ _ _ c.args.depth c.args.op c.in_ok-var.var is shallow c.in_ok-var.ensures.matches c.in_ok-advance.ensures.consumes c.in_ok-right_side.ensures.parses c.in_ok-var.ensures.within c.in_ok-right_side.ensures.kept.ready.sound (λ profile acts h. tt)).derives c.in_ok-right_side.ensures.kept.ready.near,
     )

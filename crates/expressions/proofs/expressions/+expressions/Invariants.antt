@@ -12,6 +12,9 @@ decreases-expression g l = (64 - l.depth) * 64 + 60
 abbrev pub decreases-assignment : goal.decreases-assignment
 decreases-assignment g l = (64 - l.depth) * 64 + 59
 
+abbrev pub decreases-right_side : goal.decreases-right_side
+decreases-right_side g l = (64 - l.depth) * 64 + 61
+
 abbrev pub decreases-levels : goal.decreases-levels
 decreases-levels g l = (64 - l.depth) * 64 + 20 + 2 * (11 - l.level)
 
