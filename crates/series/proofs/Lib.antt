@@ -6,3 +6,4 @@ pub mod OutputLemmas
 pub mod PlayingLemmas
 pub mod SameReport
 pub mod PiecesLemmas
+pub mod FileLemmas
