@@ -24,7 +24,7 @@ returns-in-Ok-put-clause-output g c = λ bytes told.
     listing_put c.args.mode c.args.profile c.args.name.now bytes c.finish.result _ _ _ (good_code c.args.profile bytes made.file c.finish.result is code)
     (λ listing. elim c.match-mode.branch [
       | in-Listing w ↦ rw w.out-is (of_last (λ p. Takes (g.O.Sink.portions c.args.out.now) (g.O.Sink.portions w.put_listing-put.new.sink) (listing_of c.args.name.now p))
-      _ _ c.finish.result _ _ c.push.ensures c.len-file.ensures.programs w.program.ensures (rw (sym w.put-is ∙ c.in-Ok-put.is) at w.put_listing-put.ensures).0)
+          _ _ c.finish.result _ _ c.push.ensures c.len-file.ensures.programs w.program.ensures (rw (sym w.put-is ∙ c.in-Ok-put.is) at w.put_listing-put.ensures).0)
       | in-Matches w ↦ absurd (cc (listing, w.in-Matches.is))
     ])
     (λ matches. elim c.match-mode.branch [
@@ -40,7 +40,7 @@ returns-in-Err-clause-output g c = λ bytes told.
     listing_cut c.args.mode c.args.profile c.args.name.now bytes c.finish.result _ _ _ (good_code c.args.profile bytes made.file c.finish.result is code)
     (λ listing. elim c.match-mode.branch [
       | in-Listing w ↦ rw w.out-is (of_last (λ p. TakesFront (g.O.Sink.portions c.args.out.now) (g.O.Sink.portions w.put_listing-put.new.sink) (listing_of c.args.name.now p))
-      _ _ c.finish.result _ _ c.push.ensures c.len-file.ensures.programs w.program.ensures (rw (sym w.put-is ∙ c.in-Err.is) at w.put_listing-put.ensures).0)
+          _ _ c.finish.result _ _ c.push.ensures c.len-file.ensures.programs w.program.ensures (rw (sym w.put-is ∙ c.in-Err.is) at w.put_listing-put.ensures).0)
       | in-Matches w ↦ absurd (cc (listing, w.in-Matches.is))
     ])
     (λ matches. elim c.match-mode.branch [
