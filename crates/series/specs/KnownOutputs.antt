@@ -1,5 +1,5 @@
 -- Known outputs: from the bytes of files to what a run writes.
-use Rattle.std.specs.Prelude.{◌≡◌, ℕ, List, [], ◌∷◌, codes, map}
+use Rattle.std.specs.Prelude.{◌≡◌, ℕ, List, [], ◌∷◌, codes, map, ◌++◌}
 use Rattle.battles.specs.Battle.{Outcome}
 use Rattle.grammar.specs.Profile.{first_profile}
 use Rattle.series.specs.declared.endings.Status.TheVariants.{Done, Faulty}
