@@ -2,7 +2,7 @@
 use Rattle.std.proofs.Common.{◌≡◌, ℕ, ◌+◌, ◌*◌, ◌%◌, ◌^◌, ◌<◌, ◌≤◌, Bool, true, false, not, cond, eqb, List, [], ◌∷◌, ◌++◌, map, length, take, drop, Fits, w8, refl, sym, ap, ap₂, ◌∙◌, arith}
 use Rattle.std.specs.List.{prefix_len, count_by, slice_range}
 use Rattle.std.specs.Int.RustNames.{count_ones}
-use Rattle.std.proofs.lemmas.Bool.{agree_below, agree_below_at, eq-eqb, ne_eqb, cond-true, cond-false}
+use Rattle.std.proofs.lemmas.Bool.{agree_below, agree_below_at, eqb-true, eq-eqb, ne_eqb, cond-true, cond-false}
 use Rattle.std.proofs.lemmas.List.{length-map, length-take-le, take-append-drop, take-take, take_all, take_rest, take-map}
 use Rattle.std.proofs.lemmas.List.Folds.{prefix_len-append}
 use Rattle.std.proofs.lemmas.List.Sums.{sum_by-append}
@@ -55,12 +55,20 @@ ones_below test v r {m} long few e =
     ∙ ap (λ ms. count_ones (mask_l ms)) (take-map test r v)
     ∙ ones-mask_l test (take r v)
 
+-- no bit is set
+pub none_set : (m : ℕ) → not (eqb m 0) ≡ false → m ≡ 0
+none_set m e = eqb-true m 0 (by (eqb m 0) e)
+  where
+    by : (t : Bool) → not t ≡ false → t ≡ true
+    by true e = refl
+    by false e = absurd cc
+
 -- a block with no stop is passed, and the run goes on behind it
-pub block_passed : (q : ℕ → Bool) (xs : List ℕ) (i r : ℕ) → i + 32 ≤ length xs → r ≡ prefix_len q (chunk i 32 xs) → r ≡ 32 → prefix_len q (drop i xs) ≡ 32 + prefix_len q (drop (i + 32) xs)
-block_passed q xs i r room e whole =
-    let long = length-chunk i 32 xs room in
-    ap (prefix_len q) (chunk-drop i 32 xs) ∙ prefix_len-append q (chunk i 32 xs) (drop (i + 32) xs)
-    ∙ cond-true _ _ _ (eq-eqb _ _ (sym e ∙ whole ∙ sym long)) ∙ ap (λ k. k + prefix_len q (drop (i + 32) xs)) long
+pub block_passed : (q : ℕ → Bool) (xs : List ℕ) (i n r : ℕ) → i + n ≤ length xs → r ≡ prefix_len q (chunk i n xs) → r ≡ n → prefix_len q (drop i xs) ≡ n + prefix_len q (drop (i + n) xs)
+block_passed q xs i n r room e whole =
+    let long = length-chunk i n xs room in
+    ap (prefix_len q) (chunk-drop i n xs) ∙ prefix_len-append q (chunk i n xs) (drop (i + n) xs)
+    ∙ cond-true _ _ _ (eq-eqb _ _ (sym e ∙ whole ∙ sym long)) ∙ ap (λ k. k + prefix_len q (drop (i + n) xs)) long
 
 -- the run ends within a block
 pub block_stops : (q : ℕ → Bool) (xs : List ℕ) (i r : ℕ) → i + 32 ≤ length xs → r ≡ prefix_len q (chunk i 32 xs) → r < 32 → prefix_len q (drop i xs) ≡ r

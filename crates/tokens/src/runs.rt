@@ -1,6 +1,6 @@
 //! Runs of bytes up to the first of a kind, a block at a time.
 
-ghost use Rattle.std.specs.Prelude.{◌≡◌, ℕ, ◌≤◌, Bool, not, ◌==◌, length, map, take};
+ghost use Rattle.std.specs.Prelude.{◌≡◌, ℕ, ◌≤◌, Bool, false, not, ◌==◌, length, map, take};
 ghost use Rattle.std.specs.List.{prefix_len, count_by};
 ghost use Rattle.std.specs.Simd.Lanes.{mask_l};
 ghost use Rattle.tokens.specs.Limits.{window_bytes};
@@ -17,6 +17,9 @@ pub const LINE_FEED: u8 = 10;
 
 /// How many bytes are looked at together.
 const BLOCK: usize = 32;
+
+/// How many bytes are looked at together if most of them are only to be passed.
+const WIDE: usize = 64;
 
 /// A kind of bytes that ends a run of others.
 pub trait Stop {
@@ -86,6 +89,28 @@ impl Stop for Ink {
 }
 
 /// Returns how many bytes there are before the first of this kind, and how many of them end a line.
+pub fn run_before_end(bytes: &[u8]) -> usize
+    requires { length bytes.now ≤ window_bytes }
+    ensures { result ≡ prefix_len (λ b. not (b == 26)) bytes.now }
+{
+    let mut count = 0;
+    // A wide block fits before this place.
+    let room = bytes.len().saturating_sub(WIDE - 1);
+    while count < room && !has_end(u8x64::from_slice(&bytes[count..])) {
+        count += WIDE;
+    }
+    count + run_before::<End>(&bytes[count..]).0
+}
+
+/// Whether a byte of a wide block is 26.
+#[inline(always)]
+fn has_end(block: u8x64) -> bool
+    ensures { result ≡ false → prefix_len (λ b. not (b == 26)) block ≡ 64 }
+{
+    block.simd_eq(u8x64::splat(END_BYTE)).any()
+}
+
+/// How many bytes there are before the first of this kind, and how many of them end a line.
 pub fn run_before<S: Stop>(bytes: &[u8]) -> (usize, u32)
     requires { length bytes.now ≤ window_bytes }
     ensures count { result.0 ≡ prefix_len (λ b. not (S.stops b)) bytes.now }

@@ -10,7 +10,7 @@ ghost use Rattle.tokens.specs.Window.{seen, untouched, behind, behind_first, beh
 use crate::characters::is_blank;
 use crate::devices::{DeviceFault, Feed};
 use crate::limits::{SOURCE_BYTES, WINDOW};
-use crate::runs::{End, Ink, LINE_FEED, Star, run_before};
+use crate::runs::{Ink, LINE_FEED, Star, run_before, run_before_end};
 use std::marker::Model;
 
 /// What is known of the source behind the bytes at hand.
@@ -261,5 +261,5 @@ fn source_len(bytes: &[u8]) -> usize
     requires { length bytes.now ≤ window_bytes }
     ensures { result ≡ length (source bytes.now) }
 {
-    run_before::<End>(bytes).0
+    run_before_end(bytes)
 }

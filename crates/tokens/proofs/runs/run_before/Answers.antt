@@ -18,7 +18,7 @@ loop-count-preserved g c =
     let e = c.run_in_block-run.ensures in
     let n = c.loop-count.invariant in
     let whole : c.run_in_block-run.result.0 ≡ 32 = omega (arith, e.within) in
-    let passed = block_passed (λ b. not (g.S.Stop.stops b)) c.args.bytes.now c.loop-count.count c.run_in_block-run.result.0 (omega arith) e.count whole in
+    let passed = block_passed (λ b. not (g.S.Stop.stops b)) c.args.bytes.now c.loop-count.count 32 c.run_in_block-run.result.0 (omega arith) e.count whole in
     record {
       within = omega (arith, whole);
       count = rw whole (n.count ∙ ap (λ k. c.loop-count.count + k) passed ∙ omega arith);
