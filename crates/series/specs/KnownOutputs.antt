@@ -74,12 +74,14 @@ pub record KnownOutputs : Type 0 where
         status = Faulty;
       }
   pub mixed : listing_output
-      (record { word = codes "a.r"; bytes = codes "main(){}" } ∷ record { word = codes "b.r"; bytes = codes "main(){ f(); }" }
+      (record { word = codes "a.r"; bytes = codes "main(){}" }
+      ∷ record { word = codes "b.r"; bytes = codes "main(){ f(); }" }
       ∷ record { word = codes "c.r"; bytes = codes "main(){\nbreak; }" } ∷ [])
       ≡ record {
         pieces = record {
           channel = Text;
-          bytes = codes "File a.r\nExternals 0\nFunction 0 main vars 0 at 0\nCode 3\n    0 CONST 0\n    1 RETSUB\n    2 NOP\n";
+          bytes = codes "File a.r\nExternals 0\nFunction 0 main vars 0 at 0\nCode 3\n"
+              ++ codes "    0 CONST 0\n    1 RETSUB\n    2 NOP\n";
         }
             ∷ record { channel = Faults; bytes = codes "b.r:1: function not defined\n" }
             ∷ record { channel = Faults; bytes = codes "c.r:2: reserved word\n" } ∷ [];

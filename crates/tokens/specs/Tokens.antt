@@ -96,7 +96,12 @@ located_tokens ahead = cut (suc (length ahead.bytes)) ahead
 
 -- the whole of a source
 abbrev pub from_start : List ℕ → Ahead
-from_start bytes = record { line = 1; place = 0; bytes = take source_bytes bytes; too_long = nat_lt source_bytes (length bytes) }
+from_start bytes = record {
+  line = 1;
+  place = 0;
+  bytes = take source_bytes bytes;
+  too_long = nat_lt source_bytes (length bytes);
+}
 
 -- the tokens of a file's bytes
 unfoldable pub tokens : List ℕ → List LocatedToken

@@ -44,13 +44,15 @@ impl Cursor {
             ≡ option_map tokens (F.to_come feed.old)) }
         ensures bounded { IfOk result (λ cursor. remaining cursor ≤ 1048578) }
 
-        // The bytes taken: at an `Ok` no more than a window behind the two tokens, at an `Err` no more than leave them open.
+        // The bytes taken: at an `Ok` no more than a window after the two tokens, at an `Err` no more than leave them
+        // open.
         ensures took { IfOk result (λ cursor. F.to_come feed.new
             ≡ option_map (drop (taken cursor)) (F.to_come feed.old)) }
         ensures near { IfOk result IsNear }
         ensures limited { IfOk result (λ cursor. taken cursor ≤ most_bytes) }
         ensures stopped { OnErr result ((bytes : List ℕ) → F.to_come feed.old ≡ Some bytes →
-            (count : ℕ) × (F.to_come feed.new ≡ Some (drop count bytes)) × (count ≤ undecided_reach_of (tokens bytes))) }
+            (count : ℕ) × (F.to_come feed.new ≡ Some (drop count bytes))
+            × (count ≤ undecided_reach_of (tokens bytes))) }
 
         ensures count { Counts result (F.failures feed.old) (F.failures feed.new) }
 

@@ -47,7 +47,7 @@ impl Window {
         }
     }
 
-    /// The same, where no token begins with the next byte, or a `/`.
+    /// Does the same if the next byte begins no token, or is a `/`.
     #[inline(never)]
     fn read_past<F: Feed>(
         &mut self,
@@ -77,7 +77,7 @@ impl Window {
         }
     }
 
-    /// The same, behind a blank, which is the next byte. Most blanks stand alone.
+    /// Does the same at a blank, which is the next byte. Most blanks stand alone.
     #[inline(always)]
     fn read_behind<F: Feed>(
         &mut self,
@@ -325,7 +325,7 @@ impl Window {
         }
     }
 
-    /// The same of a name of more than a byte, or that is not all at hand.
+    /// Does the same for a name of more than a byte, or one that is not all at hand.
     #[inline(never)]
     fn longer_name<F: Feed>(
         &mut self,

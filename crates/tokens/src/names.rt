@@ -49,7 +49,7 @@ impl Name {
         }
     }
 
-    /// The name of this byte.
+    /// Makes the name of this byte.
     #[inline(always)]
     pub(crate) fn of_byte(byte: u8) -> Self
         ensures { result ≡ byte ∷ [] }

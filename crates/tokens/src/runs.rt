@@ -88,7 +88,7 @@ impl Stop for Ink {
     }
 }
 
-/// Returns how many bytes there are before the first of this kind, and how many of them end a line.
+/// Returns how many bytes there are before the first that ends a source.
 pub fn run_before_end(bytes: &[u8]) -> usize
     requires { length bytes.now ≤ window_bytes }
     ensures { result ≡ prefix_len (λ b. not (b == 26)) bytes.now }
@@ -102,7 +102,7 @@ pub fn run_before_end(bytes: &[u8]) -> usize
     count + run_before::<End>(&bytes[count..]).0
 }
 
-/// Whether a byte of a wide block is 26.
+/// Reports whether a byte of a wide block is 26.
 #[inline(always)]
 fn has_end(block: u8x64) -> bool
     ensures { result ≡ false → prefix_len (λ b. not (b == 26)) block ≡ 64 }
@@ -110,7 +110,7 @@ fn has_end(block: u8x64) -> bool
     block.simd_eq(u8x64::splat(END_BYTE)).any()
 }
 
-/// How many bytes there are before the first of this kind, and how many of them end a line.
+/// Returns how many bytes there are before the first of this kind, and how many of them end a line.
 pub fn run_before<S: Stop>(bytes: &[u8]) -> (usize, u32)
     requires { length bytes.now ≤ window_bytes }
     ensures count { result.0 ≡ prefix_len (λ b. not (S.stops b)) bytes.now }
