@@ -14,6 +14,7 @@ mod maker;
 mod opcode;
 mod operating;
 mod operators;
+mod pairs;
 mod program;
 mod stepping;
 mod text;
