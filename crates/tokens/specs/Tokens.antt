@@ -1,5 +1,6 @@
 -- The tokens of a source.
-use Rattle.std.specs.Prelude.{ℕ, zero, suc, ◌+◌, ◌≤◌, Bool, true, false, List, [], ◌∷◌, length, take, if◌then◌else◌, ◌==◌, nat_lt}
+use Rattle.std.specs.Prelude.{ℕ, zero, suc, ◌+◌, ◌≤◌, Bool, true, false, List, [], ◌∷◌, length, take, if◌then◌else◌}
+use Rattle.std.specs.Prelude.{◌==◌, nat_lt}
 use Rattle.tokens.specs.Limits.{source_bytes}
 use Rattle.tokens.specs.Source.{source}
 use Rattle.tokens.specs.Front.{Front, Nothing, Space, Unclosed, Sign, front}
@@ -96,7 +97,12 @@ located_tokens ahead = cut (suc (length ahead.bytes)) ahead
 
 -- the whole of a source
 abbrev pub from_start : List ℕ → Ahead
-from_start bytes = record { line = 1; place = 0; bytes = take source_bytes bytes; too_long = nat_lt source_bytes (length bytes) }
+from_start bytes = record {
+  line = 1;
+  place = 0;
+  bytes = take source_bytes bytes;
+  too_long = nat_lt source_bytes (length bytes);
+}
 
 -- the tokens of a file's bytes
 unfoldable pub tokens : List ℕ → List LocatedToken

@@ -60,8 +60,9 @@ impl Word {
 }
 
 fn is_refused_with_s(name: &[u8]) -> bool
-    ensures { result ≡ (bytes_eq name.now (codes "switch") || bytes_eq name.now (codes "struct") || bytes_eq name.now (codes "sizeof")
-        || bytes_eq name.now (codes "static") || bytes_eq name.now (codes "short")) }
+    ensures { result ≡ (bytes_eq name.now (codes "switch") || bytes_eq name.now (codes "struct")
+        || bytes_eq name.now (codes "sizeof") || bytes_eq name.now (codes "static")
+        || bytes_eq name.now (codes "short")) }
 {
     is(name, b"switch")
         || is(name, b"struct")
