@@ -1,5 +1,5 @@
 -- Tokens that are at hand as a whole.
-use Rattle.std.proofs.Common.{◌≡◌, ℕ, zero, suc, ◌+◌, ◌-◌, ◌<◌, ◌≤◌, Bool, true, false, cond, eqb, Option, Some, None, List, [], ◌∷◌, ◌++◌, length, take, drop, refl, sym, ap, ap₂, ◌∙◌, subst, arith, append-nil}
+use Rattle.std.proofs.Common.{◌≡◌, ℕ, zero, suc, ◌+◌, ◌-◌, ◌<◌, ◌≤◌, Bool, true, false, cond, eqb, Option, Some, None, List, [], ◌∷◌, ◌++◌, length, take, refl, sym, ap, ap₂, ◌∙◌, subst, arith, append-nil}
 use Rattle.std.specs.Prelude.{slice_get}
 use Rattle.std.specs.List.{count_by, prefix_len}
 use Rattle.std.proofs.lemmas.Bool.{cond-false, ne_eqb, le-leb}
@@ -8,8 +8,7 @@ use Rattle.std.proofs.lemmas.List.Folds.{prefix_len-append}
 use Rattle.std.proofs.lemmas.List.Sums.{sum_by-cons}
 use Rattle.tokens.specs.Characters.{is_digit, is_name_byte}
 use Rattle.tokens.specs.Front.{name_token}
-use Rattle.tokens.specs.Punctuators.{spelling, punctuator_of}
-use Rattle.tokens.specs.Tokens.{Ahead, line_behind, passed, placed}
+use Rattle.tokens.specs.Tokens.{line_behind, passed, placed}
 use Rattle.tokens.specs.Window.{Held, ahead, behind, later}
 use Rattle.tokens.specs.Lexing.{to_read, followed, ending, in_run, in_name, name_going_on, in_constant, constant_going_on, value_token, in_punctuator, BeginsName, BeginsConstant, EndsBefore}
 use Rattle.tokens.specs.declared.located_tokens.Punctuator.{Punctuator}

@@ -1,6 +1,6 @@
 -- How many bytes were taken from the device.
 use Rattle.std.proofs.Common.{◌≡◌, refl, ℕ, zero, suc, ◌+◌, ◌*◌, ◌-◌, ◌<◌, ◌≤◌, Bool, true, false, cond, Option, Some, None, Result, Ok, Err, List, [], ◌∷◌, ◌++◌, length, take, sym, ap, ◌∙◌, arith, subst}
-use Rattle.std.specs.Prelude.{OnErr, fold, nat_le}
+use Rattle.std.specs.Prelude.{IsErrAnd, OnErr, fold, nat_le}
 use Rattle.std.specs.List.{prefix_len}
 use Rattle.std.proofs.lemmas.Option.{same_Some}
 use Rattle.tokens.specs.Punctuators.{punctuator_of, spelling}
@@ -8,8 +8,9 @@ use Rattle.tokens.specs.Words.{word_of}
 use Rattle.tokens.specs.Ends.{is_decided_by_last_byte, undecided_until}
 use Rattle.tokens.specs.Front.{Front, Nothing, Space, Unclosed, Sign, front, up_to_close, begins_with, name_or}
 use Rattle.tokens.specs.Tokens.{Ahead, behind_byte, passed, at_end, placed, last_located_token, cut, cut_front, located_tokens}
-use Rattle.tokens.specs.Window.{Held, Takes, ahead}
+use Rattle.tokens.specs.Window.{Asks, Held, Takes, WentOn, ahead}
 use Rattle.tokens.specs.Lexing.{to_read, followed, ending, in_run, name_going_on, constant_going_on, value_token, in_punctuator, grown, in_comment, closed_at, StopsWithin}
+use Rattle.tokens.specs.declared.devices.DeviceFault.{DeviceFault}
 use Rattle.tokens.specs.declared.located_tokens.Punctuator.{Punctuator}
 use Rattle.tokens.specs.declared.located_tokens.Punctuator.TheVariants.{Slash}
 use Rattle.tokens.specs.declared.located_tokens.LexicalError.TheVariants.{CommentNotClosed, ConstantTooLarge, NameTooLong, SourceTooLong}
@@ -27,6 +28,31 @@ Takes-then f g = record { rest = λ total e. g.rest total (f.rest total e) }
 -- nothing is taken where the window goes on
 pub Takes-pass : {old mid new : ℕ} {told told' : Option (List ℕ)} → new ≡ mid → Takes old mid told told' → Takes old new told told'
 Takes-pass {old} {mid} {new} {told} {told'} e f = subst (λ (n : ℕ). Takes old n told told') (sym e) f
+
+-- a window that went on goes on
+goes_on : (counted counted' : ℕ) (old mid new : Held) (told told' told'' : Option (List ℕ)) (after : ℕ) (ended : Bool) → Takes old.taken mid.taken told told' → old.place ≤ mid.place → counted' ≡ counted → WentOn mid new told' told'' counted' after ended → WentOn old new told told'' counted after ended
+goes_on counted counted' old mid new told told' told'' after ended took forward count asks = record {
+  took = Takes-then took asks.took;
+  forward = omega (arith, forward, asks.forward);
+  near = asks.near;
+  limited = asks.limited;
+  within = asks.within;
+  count = asks.count ∙ count;
+  known = asks.known;
+}
+
+pub then-asks : {T : Type 0} (r : Result T DeviceFault) (old mid new : Held) (told told' told'' : Option (List ℕ)) (before between after : ℕ) (ended : Bool) → Takes old.taken mid.taken told told' → old.place ≤ mid.place → between ≡ before → Asks r mid new told' told'' between after ended → Asks r old new told told'' before after ended
+then-asks (Ok x) old mid new told told' told'' before between after ended took forward count asks = goes_on before between old mid new told told' told'' after ended took forward count asks
+then-asks (Err x) old mid new told told' told'' before between after ended took forward count asks = goes_on (before + 1) (between + 1) old mid new told told' told'' after ended took forward (ap (λ n. n + 1) count) asks
+
+-- and may fail then
+pub then-fails : {T : Type 0} (r : Result T DeviceFault) (P : DeviceFault → Type 0) → IsErrAnd r P → (old mid new : Held) (told told' told'' : Option (List ℕ)) (before between after : ℕ) (ended : Bool) → Takes old.taken mid.taken told told' → old.place ≤ mid.place → between ≡ before → WentOn mid new told' told'' (between + 1) after ended → Asks r old new told told'' before after ended
+then-fails (Ok x) P h old mid new told told' told'' before between after ended took forward count asks = absurd h
+then-fails (Err x) P h old mid new told told' told'' before between after ended took forward count asks = goes_on (before + 1) (between + 1) old mid new told told' told'' after ended took forward (ap (λ n. n + 1) count) asks
+
+-- nothing was taken before the window went on
+pub Takes-from : {old mid new : ℕ} {told told' : Option (List ℕ)} → mid ≡ old → Takes mid new told told' → Takes old new told told'
+Takes-from {old} {mid} {new} {told} {told'} e f = subst (λ (n : ℕ). Takes n new told told') e f
 
 -- what a call that failed leaves
 pub on_err-from : {T E P : Type 0} (r : Result T E) → P → OnErr r P

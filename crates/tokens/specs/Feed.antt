@@ -1,5 +1,6 @@
 -- What a device that gives bytes does at a read.
-use Rattle.std.specs.Prelude.{◌≡◌, ◌==◌, ℕ, ◌+◌, ◌≤◌, Bool, false, List, [], length, Option, Some, None, Result, Ok, Err, take, drop}
+use Rattle.std.specs.Prelude.{◌≡◌, ◌==◌, ℕ, ◌+◌, ◌≤◌, Bool, false, List, [], length, Option, Some, None, Result, Ok}
+use Rattle.std.specs.Prelude.{Err, take, drop}
 use Rattle.tokens.specs.declared.devices.DeviceFault.{DeviceFault}
 
 -- the next n bytes of those to come stand at the front of the buffer, and none only at the end

@@ -15,8 +15,7 @@ located_token t n e = record { token = t; line = n; end = e }
 pub record KnownTokens : Type 0 where
   pub nothing : tokens [] ≡ located_token token.End 1 0 ∷ []
   pub longest_match : tokens (codes "a+++b")
-      ≡ located_token (token.Name (codes "a")) 1 1
-      ∷ located_token (token.Punctuator punctuator.PlusPlus) 1 3
+      ≡ located_token (token.Name (codes "a")) 1 1 ∷ located_token (token.Punctuator punctuator.PlusPlus) 1 3
       ∷ located_token (token.Punctuator punctuator.Plus) 1 4
       ∷ located_token (token.Name (codes "b")) 1 5 ∷ located_token token.End 1 5 ∷ []
   pub three_bytes : tokens (codes "<<= ! =")

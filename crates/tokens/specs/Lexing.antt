@@ -1,15 +1,19 @@
 -- What is still to be read, at a token's begin or inside of one.
-use Rattle.std.specs.Prelude.{ℕ, Bool, true, false, List, [], ◌∷◌, ◌++◌, Option, Some, None, length, take, fold, ◌+◌, ◌*◌, ◌-◌, ◌<◌, ◌≤◌, ◌≡◌, if◌then◌else◌, nat_le}
+use Rattle.std.specs.Prelude.{ℕ, Bool, true, false, List, [], ◌∷◌, ◌++◌, Option, Some, None, length, take, fold, ◌+◌}
+use Rattle.std.specs.Prelude.{◌*◌, ◌-◌, ◌<◌, ◌≤◌, ◌≡◌, ◌≢◌, if◌then◌else◌, nat_le, slice_get, Result, Ok, Err}
 use Rattle.std.specs.List.{prefix_len}
 use Rattle.std.specs.Option.{option_map}
-use Rattle.tokens.specs.Characters.{is_name_byte, is_digit}
+use Rattle.tokens.specs.Characters.{is_blank, is_name_byte, is_digit}
 use Rattle.tokens.specs.Punctuators.{punctuator_of, spelling}
 use Rattle.tokens.specs.Front.{up_to_close, name_token}
-use Rattle.tokens.specs.Tokens.{Ahead, behind_byte, passed, at_end, placed, last_located_token, followed_by, located_tokens}
+use Rattle.tokens.specs.Tokens.{Ahead, FitsToken, is_last, behind_byte, passed, at_end, placed, last_located_token}
+use Rattle.tokens.specs.Tokens.{followed_by, located_tokens}
 use Rattle.tokens.specs.Ends.{undecided_until}
 use Rattle.tokens.specs.Window.{Held, seen}
+use Rattle.tokens.specs.declared.devices.DeviceFault.{DeviceFault}
 use Rattle.tokens.specs.declared.located_tokens.Punctuator.{Punctuator}
-use Rattle.tokens.specs.declared.located_tokens.LexicalError.TheVariants.{CommentNotClosed, NameTooLong, ConstantTooLarge}
+use Rattle.tokens.specs.declared.located_tokens.LexicalError.TheVariants.{CommentNotClosed, NameTooLong}
+use Rattle.tokens.specs.declared.located_tokens.LexicalError.TheVariants.{ConstantTooLarge}
 use Rattle.tokens.specs.declared.located_tokens.Token.{Token}
 use Rattle.tokens.specs.declared.located_tokens.Token.TheVariants as variant
 use Rattle.tokens.specs.declared.located_tokens.LocatedToken.{LocatedToken}
@@ -84,6 +88,33 @@ after_comment false line ahead = last_located_token (variant.Fault CommentNotClo
 abbrev pub StopsWithin : (Ahead → List LocatedToken) → Held → Held → Option (List ℕ) → Type 0
 StopsWithin made old new told = (first : LocatedToken) (others : List LocatedToken)
     → to_read made old told ≡ Some (first ∷ others) → new.taken ≤ undecided_until first
+
+-- the next byte is a blank
+pub record BeginsBlank (byte : ℕ) (held : Held) : Type 0 where
+  pub first : slice_get held.at_hand 0 ≡ Some byte
+  pub blank : is_blank byte ≡ true
+
+-- the next byte begins a token, and no comment
+pub record BeginsToken (byte : ℕ) (held : Held) : Type 0 where
+  pub first : slice_get held.at_hand 0 ≡ Some byte
+  pub no_blank : is_blank byte ≡ false
+  pub no_slash : byte ≢ 47
+
+-- a token ends where the window is or behind, and fits
+pub record IsFound (located_token : LocatedToken) (new : Held) : Type 0 where
+  pub reached : new.place ≤ located_token.end
+  pub fits : FitsToken located_token.token
+
+-- the same, and the window went on if this is not the last token
+pub record IsRead (located_token : LocatedToken) (old new : Held) : Type 0 where
+  pub progress : is_last located_token.token ≡ false → old.place < new.place
+  pub reached : new.place ≤ located_token.end
+  pub fits : FitsToken located_token.token
+
+-- a call found no token, or failed: none was put in the place of the old one
+abbrev pub IsUnread : Result Bool DeviceFault → LocatedToken → LocatedToken → Type 0
+IsUnread (Ok found) old new = found ≡ false → new ≡ old
+IsUnread (Err e) old new = new ≡ old
 
 -- a name that begins with a byte and goes on with the rest, in which it ends
 pub record BeginsName (first : ℕ) (rest name : List ℕ) : Type 0 where

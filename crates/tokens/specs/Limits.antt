@@ -9,6 +9,10 @@ window_bytes = 4096
 abbrev pub source_bytes : ℕ
 source_bytes = 1048576
 
+-- the most tokens of a source: the two that a cursor holds, and one that ends at each byte
+abbrev pub most_tokens : ℕ
+most_tokens = 1048578
+
 -- the most bytes that are taken of a source: as many as it may have, and one that shows it to be too long
 abbrev pub most_bytes : ℕ
 most_bytes = 1048577

@@ -3,7 +3,16 @@ use Rattle.std.specs.Prelude.{ℕ, List, [], ◌∷◌, map, Option, Some, None,
 use Rattle.std.specs.Option.{option_or}
 use Rattle.std.specs.Str.{bytes_eq}
 use Rattle.tokens.specs.declared.located_tokens.Punctuator.{Punctuator}
-use Rattle.tokens.specs.declared.located_tokens.Punctuator.TheVariants.{Plus, Minus, Star, Slash, Percent, And, Or, Xor, Tilde, Not, Less, Greater, Equals, ShiftLeft, ShiftRight, LessEquals, GreaterEquals, EqualsEquals, NotEquals, AndAnd, OrOr, PlusPlus, MinusMinus, PlusEquals, MinusEquals, StarEquals, SlashEquals, PercentEquals, ShiftLeftEquals, ShiftRightEquals, AndEquals, XorEquals, OrEquals, OpenRound, CloseRound, OpenCurly, CloseCurly, Comma, Semicolon}
+use Rattle.tokens.specs.declared.located_tokens.Punctuator.TheVariants.{Plus, Minus, Star, Slash, Percent, And, Or}
+use Rattle.tokens.specs.declared.located_tokens.Punctuator.TheVariants.{Xor, Tilde, Not, Less, Greater, Equals}
+use Rattle.tokens.specs.declared.located_tokens.Punctuator.TheVariants.{ShiftLeft, ShiftRight, LessEquals}
+use Rattle.tokens.specs.declared.located_tokens.Punctuator.TheVariants.{GreaterEquals, EqualsEquals, NotEquals}
+use Rattle.tokens.specs.declared.located_tokens.Punctuator.TheVariants.{AndAnd, OrOr, PlusPlus, MinusMinus}
+use Rattle.tokens.specs.declared.located_tokens.Punctuator.TheVariants.{PlusEquals, MinusEquals, StarEquals}
+use Rattle.tokens.specs.declared.located_tokens.Punctuator.TheVariants.{SlashEquals, PercentEquals, ShiftLeftEquals}
+use Rattle.tokens.specs.declared.located_tokens.Punctuator.TheVariants.{ShiftRightEquals, AndEquals, XorEquals}
+use Rattle.tokens.specs.declared.located_tokens.Punctuator.TheVariants.{OrEquals, OpenRound, CloseRound, OpenCurly}
+use Rattle.tokens.specs.declared.located_tokens.Punctuator.TheVariants.{CloseCurly, Comma, Semicolon}
 
 abbrev pub spelling : Punctuator → List ℕ
 spelling Plus = codes "+"

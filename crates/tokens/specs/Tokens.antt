@@ -1,5 +1,6 @@
 -- The tokens of a source.
-use Rattle.std.specs.Prelude.{ℕ, zero, suc, ◌+◌, ◌≤◌, Bool, true, false, List, [], ◌∷◌, length, take, if◌then◌else◌, ◌==◌, nat_lt}
+use Rattle.std.specs.Prelude.{ℕ, zero, suc, ◌+◌, ◌≤◌, Bool, true, false, List, [], ◌∷◌, length, take, if◌then◌else◌}
+use Rattle.std.specs.Prelude.{◌==◌, nat_lt}
 use Rattle.tokens.specs.Limits.{source_bytes}
 use Rattle.tokens.specs.Source.{source}
 use Rattle.tokens.specs.Front.{Front, Nothing, Space, Unclosed, Sign, front}

@@ -1,11 +1,13 @@
 -- What a window holds of a source that is read through it.
-use Rattle.std.specs.Prelude.{◌≡◌, ◌≢◌, ℕ, zero, suc, ◌+◌, ◌-◌, ◌<◌, ◌≤◌, Bool, true, false, not, List, [], ◌∷◌, ◌++◌, length, take, drop, Option, nat_lt, ◌==◌}
+use Rattle.std.specs.Prelude.{◌≡◌, ◌≢◌, ℕ, zero, suc, ◌+◌, ◌-◌, ◌^◌, ◌<◌, ◌≤◌, Result, Ok, Err, slice_get, Bool, true}
+use Rattle.std.specs.Prelude.{false, not, List, [], ◌∷◌, ◌++◌, length, take, drop, Option, nat_lt, ◌==◌}
 use Rattle.std.specs.List.{prefix_len}
 use Rattle.std.specs.Option.{option_map}
 use Rattle.tokens.specs.Limits.{most_bytes, source_bytes, window_bytes}
 use Rattle.tokens.specs.Characters.{is_blank}
 use Rattle.tokens.specs.Source.{source}
 use Rattle.tokens.specs.Tokens.{Ahead, line_behind}
+use Rattle.tokens.specs.declared.devices.DeviceFault.{DeviceFault}
 use Rattle.tokens.specs.declared.windows.Beyond.{Beyond}
 use Rattle.tokens.specs.declared.windows.Beyond.TheVariants.{Unread, Nothing, TooMuch}
 
@@ -89,12 +91,6 @@ IsAtHandOrEnd held = held.at_hand ≡ [] → held.beyond ≢ Unread
 abbrev pub KnowsEnd : Beyond → Bool → Type 0
 KnowsEnd beyond ended = beyond ≡ Unread → ended ≡ false
 
--- a window took no more bytes than a window past its place, and than the most, and its place is within the source
-pub record IsBounded (held : Held) : Type 0 where
-  pub near : held.taken ≤ held.place + window_bytes
-  pub limited : held.taken ≤ most_bytes
-  pub within : held.place ≤ source_bytes
-
 -- how the fields of a window go together
 pub record IsWindow (next filled start taken line : ℕ) (beyond : Beyond) : Type 0 where
   pub ordered : next ≤ filled
@@ -108,3 +104,47 @@ pub record IsWindow (next filled start taken line : ℕ) (beyond : Beyond) : Typ
 -- what a device has still to give is all but the bytes taken, of which there were so many before and are so many now
 pub record Takes (before now : ℕ) (told told' : Option (List ℕ)) : Type 0 where
   pub rest : (total : Option (List ℕ)) → told ≡ option_map (drop before) total → told' ≡ option_map (drop now) total
+
+-- What each call on a window needs and keeps. Every contract of the lexer cites these facts.
+
+-- every window: it took no more bytes than a window past its place, and than the most, and its place is in the source
+pub record IsBounded (held : Held) : Type 0 where
+  pub near : held.taken ≤ held.place + window_bytes
+  pub limited : held.taken ≤ most_bytes
+  pub within : held.place ≤ source_bytes
+
+-- a window may ask its device: a further failure can be counted, and it knows if the device has ended
+pub record MayAsk (held : Held) (failures : ℕ) (ended : Bool) : Type 0 where
+  pub countable : failures < 2 ^ 64 - 1
+  pub known : KnowsEnd held.beyond ended
+
+-- A window went on, or stayed: its device has still to give all but the bytes taken, and failed so often. The window is
+-- as every window is, and knows if the device has ended.
+pub record WentOn (old new : Held) (told told' : Option (List ℕ)) (counted failures : ℕ) (ended : Bool) : Type 0 where
+  pub took : Takes old.taken new.taken told told'
+  pub forward : old.place ≤ new.place
+  pub near : new.taken ≤ new.place + window_bytes
+  pub limited : new.taken ≤ most_bytes
+  pub within : new.place ≤ source_bytes
+  pub count : failures ≡ counted
+  pub known : KnowsEnd new.beyond ended
+
+-- what a call leaves that may ask the device, which fails once more if the call fails
+abbrev pub Asks : {T : Type 0} → Result T DeviceFault → Held → Held → Option (List ℕ) → Option (List ℕ) → ℕ → ℕ → Bool
+    → Type 0
+Asks (Ok x) old new told told' before after ended = WentOn old new told told' before after ended
+Asks (Err e) old new told told' before after ended = WentOn old new told told' (before + 1) after ended
+
+-- a window passed bytes at hand, and asked nothing
+pub record Passes (old new : Held) : Type 0 where
+  pub forward : old.place ≤ new.place
+  pub taken : new.taken ≡ old.taken
+  pub beyond : new.beyond ≡ old.beyond
+  pub near : new.taken ≤ new.place + window_bytes
+  pub limited : new.taken ≤ most_bytes
+  pub within : new.place ≤ source_bytes
+
+-- the next byte, or none at the end
+pub record IsNext (byte : Option ℕ) (held : Held) : Type 0 where
+  pub first : byte ≡ slice_get held.at_hand 0
+  pub ready : IsAtHandOrEnd held

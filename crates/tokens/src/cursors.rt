@@ -2,7 +2,7 @@
 
 ghost use Rattle.std.specs.Prelude.{◌≡◌, ◌-◌, ◌^◌, ◌<◌, ◌≤◌, ◌∷◌, ℕ, List, Some, drop, false, IfOk, OnOk, OnErr};
 ghost use Rattle.std.specs.Option.{option_map};
-ghost use Rattle.tokens.specs.Limits.{most_bytes};
+ghost use Rattle.tokens.specs.Limits.{most_bytes, most_tokens};
 ghost use Rattle.tokens.specs.Feed.{Counts};
 ghost use Rattle.tokens.specs.Tokens.{FitsToken, tokens, is_last};
 ghost use Rattle.tokens.specs.Window.{KnowsEnd, Takes};
@@ -42,7 +42,7 @@ impl Cursor {
         requires not_ended { F.ended feed.old ≡ false }
         ensures tokens { IfOk result (λ cursor. shown cursor (F.to_come feed.new)
             ≡ option_map tokens (F.to_come feed.old)) }
-        ensures bounded { IfOk result (λ cursor. remaining cursor ≤ 1048578) }
+        ensures bounded { IfOk result (λ cursor. remaining cursor ≤ most_tokens) }
 
         // The bytes taken: at an `Ok` no more than a window after the two tokens, at an `Err` no more than leave them
         // open.
@@ -50,9 +50,8 @@ impl Cursor {
             ≡ option_map (drop (taken cursor)) (F.to_come feed.old)) }
         ensures near { IfOk result IsNear }
         ensures limited { IfOk result (λ cursor. taken cursor ≤ most_bytes) }
-        ensures stopped { OnErr result ((bytes : List ℕ) → F.to_come feed.old ≡ Some bytes →
-            (count : ℕ) × (F.to_come feed.new ≡ Some (drop count bytes))
-            × (count ≤ undecided_reach_of (tokens bytes))) }
+        ensures stopped { OnErr result ((bytes : List ℕ) → F.to_come feed.old ≡ Some bytes → (count : ℕ)
+            × (F.to_come feed.new ≡ Some (drop count bytes)) × (count ≤ undecided_reach_of (tokens bytes))) }
 
         ensures count { Counts result (F.failures feed.old) (F.failures feed.new) }
 

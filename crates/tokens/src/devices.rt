@@ -1,6 +1,7 @@
 //! Devices that give bytes.
 
-ghost use Rattle.std.specs.Prelude.{◌≡◌, ℕ, ◌+◌, ◌-◌, ◌^◌, ◌<◌, ◌≤◌, Bool, false, List, Option, length, MatchResult, OnErr, IfOk};
+ghost use Rattle.std.specs.Prelude.{◌≡◌, ℕ, ◌+◌, ◌-◌, ◌^◌, ◌<◌, ◌≤◌, Bool, false, List, Option, length, MatchResult};
+ghost use Rattle.std.specs.Prelude.{OnErr, IfOk};
 ghost use Rattle.tokens.specs.Feed.{Gives, Counts, gives_none};
 
 /// A read that failed.

@@ -1,13 +1,15 @@
 //! The tokens of a source that is read through a window.
 
-ghost use Rattle.std.specs.Prelude.{◌≡◌, ◌≢◌, ◌∷◌, [], ◌+◌, ◌-◌, ◌^◌, ◌<◌, ◌≤◌, ℕ, List, Some, true, false, slice_get, IfOk, IfSome, OnOk, OnErr};
-ghost use Rattle.tokens.specs.Limits.{most_bytes, source_bytes, window_bytes};
-ghost use Rattle.tokens.specs.Characters.{is_digit, is_blank};
-ghost use Rattle.tokens.specs.Feed.{Counts};
+ghost use Rattle.std.specs.Prelude.{◌≡◌, ◌≢◌, ◌∷◌, [], ◌-◌, ◌<◌, ◌≤◌, ℕ, List, Some, true, false, slice_get};
+ghost use Rattle.std.specs.Prelude.{IfOk, IfSome, OnOk, OnErr};
+ghost use Rattle.tokens.specs.Characters.{is_blank, is_digit};
 ghost use Rattle.tokens.specs.Front.{name_token};
-ghost use Rattle.tokens.specs.Tokens.{FitsToken, is_last, located_tokens, last_located_token};
-ghost use Rattle.tokens.specs.Window.{IsAtHandOrEnd, KnowsEnd, Takes, ahead};
-ghost use Rattle.tokens.specs.Lexing.{to_read, StopsWithin, followed, after_slash, after_comment, in_name, in_constant, in_punctuator, in_comment, name_going_on, value_token, BeginsConstant};
+ghost use Rattle.tokens.specs.Tokens.{FitsToken, located_tokens, last_located_token};
+ghost use Rattle.tokens.specs.Window.{Asks, IsNext, MayAsk, ahead};
+ghost use Rattle.tokens.specs.Lexing.{BeginsBlank, BeginsConstant, BeginsToken, IsFound, IsRead, IsUnread, StopsWithin};
+ghost use Rattle.tokens.specs.Lexing.{after_comment, after_slash, followed, in_comment, in_constant, in_name};
+ghost use Rattle.tokens.specs.Lexing.{in_punctuator};
+ghost use Rattle.tokens.specs.Lexing.{name_going_on, to_read, value_token};
 
 use crate::characters::{is_blank, is_digit, is_letter, is_name_byte};
 use crate::devices::{DeviceFault, Feed};
@@ -16,6 +18,9 @@ use crate::located_tokens::{LexicalError, LocatedToken, Punctuator, Token, Word}
 use crate::names::Name;
 use crate::windows::{Beyond, Window};
 
+// Each call here that has the device as an argument may ask it: it needs `MayAsk`, and `Asks` says what it leaves.
+// Beside that a call that reads a token has four clauses: which tokens are still to be read, what is known of the one
+// that was read, how far a call went that failed, and that it put no token then. A byte that was seen takes one more.
 impl Window {
     /// Puts the next token here. After an `Err` what stood here stays.
     #[inline(never)]
@@ -24,22 +29,14 @@ impl Window {
         here: &mut LocatedToken,
         feed: &mut F,
     ) -> Result<(), DeviceFault>
-        requires countable { F.failures feed.old < 2 ^ 64 - 1 }
-        requires known { KnowsEnd self.old.beyond (F.ended feed.old) }
+        requires ready { MayAsk self.old (F.failures feed.old) (F.ended feed.old) }
         ensures tokens { OnOk result (to_read (followed here.new) self.new (F.to_come feed.new)
             ≡ to_read located_tokens self.old (F.to_come feed.old)) }
-        ensures progress { OnOk result (is_last here.new.token ≡ false
-            → self.old.place < self.new.place) }
+        ensures read { OnOk result (IsRead here.new self.old self.new) }
         ensures stopped { OnErr result (StopsWithin located_tokens self.old self.new (F.to_come feed.old)) }
-        ensures reached { OnOk result (self.new.place ≤ here.new.end) }
-        ensures took { Takes self.old.taken self.new.taken (F.to_come feed.old) (F.to_come feed.new) }
-        ensures near { self.new.taken ≤ self.new.place + window_bytes }
-        ensures limited { self.new.taken ≤ most_bytes }
-        ensures within { self.new.place ≤ source_bytes }
-        ensures fits { OnOk result (FitsToken here.new.token) }
         ensures unread { OnErr result (here.new ≡ here.old) }
-        ensures count { Counts result (F.failures feed.old) (F.failures feed.new) }
-        ensures known { KnowsEnd self.new.beyond (F.ended feed.new) }
+        ensures kept { Asks result self.old self.new (F.to_come feed.old) (F.to_come feed.new)
+            (F.failures feed.old) (F.failures feed.new) (F.ended feed.new) }
     {
         match self.first() {
             Some(b) if !is_blank(b) && b != b'/' => self.token(b, here, feed),
@@ -54,22 +51,14 @@ impl Window {
         here: &mut LocatedToken,
         feed: &mut F,
     ) -> Result<(), DeviceFault>
-        requires countable { F.failures feed.old < 2 ^ 64 - 1 }
-        requires known { KnowsEnd self.old.beyond (F.ended feed.old) }
+        requires ready { MayAsk self.old (F.failures feed.old) (F.ended feed.old) }
         ensures tokens { OnOk result (to_read (followed here.new) self.new (F.to_come feed.new)
             ≡ to_read located_tokens self.old (F.to_come feed.old)) }
-        ensures progress { OnOk result (is_last here.new.token ≡ false
-            → self.old.place < self.new.place) }
+        ensures read { OnOk result (IsRead here.new self.old self.new) }
         ensures stopped { OnErr result (StopsWithin located_tokens self.old self.new (F.to_come feed.old)) }
-        ensures reached { OnOk result (self.new.place ≤ here.new.end) }
-        ensures took { Takes self.old.taken self.new.taken (F.to_come feed.old) (F.to_come feed.new) }
-        ensures near { self.new.taken ≤ self.new.place + window_bytes }
-        ensures limited { self.new.taken ≤ most_bytes }
-        ensures within { self.new.place ≤ source_bytes }
-        ensures fits { OnOk result (FitsToken here.new.token) }
         ensures unread { OnErr result (here.new ≡ here.old) }
-        ensures count { Counts result (F.failures feed.old) (F.failures feed.new) }
-        ensures known { KnowsEnd self.new.beyond (F.ended feed.new) }
+        ensures kept { Asks result self.old self.new (F.to_come feed.old) (F.to_come feed.new)
+            (F.failures feed.old) (F.failures feed.new) (F.ended feed.new) }
     {
         match self.first() {
             Some(b) if is_blank(b) => self.read_behind(b, here, feed),
@@ -85,24 +74,15 @@ impl Window {
         here: &mut LocatedToken,
         feed: &mut F,
     ) -> Result<(), DeviceFault>
-        requires countable { F.failures feed.old < 2 ^ 64 - 1 }
-        requires known { KnowsEnd self.old.beyond (F.ended feed.old) }
-        requires first { slice_get self.old.at_hand 0 ≡ Some blank }
-        requires blank { is_blank blank ≡ true }
+        requires ready { MayAsk self.old (F.failures feed.old) (F.ended feed.old) }
+        requires begins { BeginsBlank blank self.old }
         ensures tokens { OnOk result (to_read (followed here.new) self.new (F.to_come feed.new)
             ≡ to_read located_tokens self.old (F.to_come feed.old)) }
-        ensures progress { OnOk result (is_last here.new.token ≡ false
-            → self.old.place < self.new.place) }
+        ensures read { OnOk result (IsRead here.new self.old self.new) }
         ensures stopped { OnErr result (StopsWithin located_tokens self.old self.new (F.to_come feed.old)) }
-        ensures reached { OnOk result (self.new.place ≤ here.new.end) }
-        ensures took { Takes self.old.taken self.new.taken (F.to_come feed.old) (F.to_come feed.new) }
-        ensures near { self.new.taken ≤ self.new.place + window_bytes }
-        ensures limited { self.new.taken ≤ most_bytes }
-        ensures within { self.new.place ≤ source_bytes }
-        ensures fits { OnOk result (FitsToken here.new.token) }
         ensures unread { OnErr result (here.new ≡ here.old) }
-        ensures count { Counts result (F.failures feed.old) (F.failures feed.new) }
-        ensures known { KnowsEnd self.new.beyond (F.ended feed.new) }
+        ensures kept { Asks result self.old self.new (F.to_come feed.old) (F.to_come feed.new)
+            (F.failures feed.old) (F.failures feed.new) (F.ended feed.new) }
     {
         self.pass();
         match self.first() {
@@ -114,22 +94,14 @@ impl Window {
     /// Does the same after blanks and comments.
     #[inline(never)]
     fn read_on<F: Feed>(&mut self, here: &mut LocatedToken, feed: &mut F) -> Result<(), DeviceFault>
-        requires countable { F.failures feed.old < 2 ^ 64 - 1 }
-        requires known { KnowsEnd self.old.beyond (F.ended feed.old) }
+        requires ready { MayAsk self.old (F.failures feed.old) (F.ended feed.old) }
         ensures tokens { OnOk result (to_read (followed here.new) self.new (F.to_come feed.new)
             ≡ to_read located_tokens self.old (F.to_come feed.old)) }
-        ensures progress { OnOk result (is_last here.new.token ≡ false
-            → self.old.place < self.new.place) }
+        ensures read { OnOk result (IsRead here.new self.old self.new) }
         ensures stopped { OnErr result (StopsWithin located_tokens self.old self.new (F.to_come feed.old)) }
-        ensures reached { OnOk result (self.new.place ≤ here.new.end) }
-        ensures took { Takes self.old.taken self.new.taken (F.to_come feed.old) (F.to_come feed.new) }
-        ensures near { self.new.taken ≤ self.new.place + window_bytes }
-        ensures limited { self.new.taken ≤ most_bytes }
-        ensures within { self.new.place ≤ source_bytes }
-        ensures fits { OnOk result (FitsToken here.new.token) }
         ensures unread { OnErr result (here.new ≡ here.old) }
-        ensures count { Counts result (F.failures feed.old) (F.failures feed.new) }
-        ensures known { KnowsEnd self.new.beyond (F.ended feed.new) }
+        ensures kept { Asks result self.old self.new (F.to_come feed.old) (F.to_come feed.new)
+            (F.failures feed.old) (F.failures feed.new) (F.ended feed.new) }
     {
         loop {
             match self.skip_blanks(feed)? {
@@ -150,21 +122,14 @@ impl Window {
     /// Skips blanks. Answers the byte after them, or `None` at the end.
     #[inline(always)]
     fn skip_blanks<F: Feed>(&mut self, feed: &mut F) -> Result<Option<u8>, DeviceFault>
-        requires countable { F.failures feed.old < 2 ^ 64 - 1 }
-        requires known { KnowsEnd self.old.beyond (F.ended feed.old) }
+        requires ready { MayAsk self.old (F.failures feed.old) (F.ended feed.old) }
         ensures tokens { OnOk result (to_read located_tokens self.new (F.to_come feed.new)
             ≡ to_read located_tokens self.old (F.to_come feed.old)) }
-        ensures first { IfOk result (λ first. first ≡ slice_get self.new.at_hand 0) }
-        ensures ready { OnOk result (IsAtHandOrEnd self.new) }
+        ensures next { IfOk result (λ first. IsNext first self.new) }
         ensures no_blank { IfOk result (λ first. IfSome first (λ b. is_blank b ≡ false)) }
-        ensures forward { self.old.place ≤ self.new.place }
         ensures stopped { OnErr result (StopsWithin located_tokens self.old self.new (F.to_come feed.old)) }
-        ensures took { Takes self.old.taken self.new.taken (F.to_come feed.old) (F.to_come feed.new) }
-        ensures near { self.new.taken ≤ self.new.place + window_bytes }
-        ensures limited { self.new.taken ≤ most_bytes }
-        ensures within { self.new.place ≤ source_bytes }
-        ensures count { Counts result (F.failures feed.old) (F.failures feed.new) }
-        ensures known { KnowsEnd self.new.beyond (F.ended feed.new) }
+        ensures kept { Asks result self.old self.new (F.to_come feed.old) (F.to_come feed.new)
+            (F.failures feed.old) (F.failures feed.new) (F.ended feed.new) }
     {
         loop {
             self.pass_blanks();
@@ -177,23 +142,16 @@ impl Window {
 
     /// Skips a comment at a `/`, or puts the token that begins there here. Answers whether there was one.
     fn slash<F: Feed>(&mut self, here: &mut LocatedToken, feed: &mut F) -> Result<bool, DeviceFault>
-        requires countable { F.failures feed.old < 2 ^ 64 - 1 }
-        requires known { KnowsEnd self.old.beyond (F.ended feed.old) }
+        requires ready { MayAsk self.old (F.failures feed.old) (F.ended feed.old) }
         requires slash { slice_get self.old.at_hand 0 ≡ Some 47 }
         ensures tokens { IfOk result (λ found. to_read (after_slash found here.new) self.new (F.to_come feed.new)
             ≡ to_read located_tokens self.old (F.to_come feed.old)) }
         ensures forward { self.old.place < self.new.place }
         ensures stopped { OnErr result (StopsWithin located_tokens self.old self.new (F.to_come feed.old)) }
-        ensures reached { IfOk result (λ found. found ≡ true → self.new.place ≤ here.new.end) }
-        ensures took { Takes self.old.taken self.new.taken (F.to_come feed.old) (F.to_come feed.new) }
-        ensures near { self.new.taken ≤ self.new.place + window_bytes }
-        ensures limited { self.new.taken ≤ most_bytes }
-        ensures within { self.new.place ≤ source_bytes }
-        ensures fits { IfOk result (λ found. found ≡ true → FitsToken here.new.token) }
-        ensures unread { IfOk result (λ found. found ≡ false → here.new ≡ here.old) }
-        ensures failed { OnErr result (here.new ≡ here.old) }
-        ensures count { Counts result (F.failures feed.old) (F.failures feed.new) }
-        ensures known { KnowsEnd self.new.beyond (F.ended feed.new) }
+        ensures found { IfOk result (λ found. found ≡ true → IsFound here.new self.new) }
+        ensures unread { IsUnread result here.old here.new }
+        ensures kept { Asks result self.old self.new (F.to_come feed.old) (F.to_come feed.new)
+            (F.failures feed.old) (F.failures feed.new) (F.ended feed.new) }
     {
         let line = self.line();
         self.pass();
@@ -212,21 +170,15 @@ impl Window {
 
     /// Goes past the `*/` of a comment that it is inside. Answers `false` if there is none.
     fn skip_comment<F: Feed>(&mut self, feed: &mut F) -> Result<bool, DeviceFault>
-        requires countable { F.failures feed.old < 2 ^ 64 - 1 }
-        requires known { KnowsEnd self.old.beyond (F.ended feed.old) }
+        requires ready { MayAsk self.old (F.failures feed.old) (F.ended feed.old) }
         ensures tokens { IfOk result (λ closed. (line : ℕ)
             → to_read (after_comment closed line) self.new (F.to_come feed.new)
             ≡ to_read (in_comment line) self.old (F.to_come feed.old)) }
         ensures ended { IfOk result (λ closed. closed ≡ false → self.new.beyond ≢ Beyond.Unread) }
-        ensures forward { self.old.place ≤ self.new.place }
         ensures stopped { OnErr result ((line : ℕ)
             → StopsWithin (in_comment line) self.old self.new (F.to_come feed.old)) }
-        ensures took { Takes self.old.taken self.new.taken (F.to_come feed.old) (F.to_come feed.new) }
-        ensures near { self.new.taken ≤ self.new.place + window_bytes }
-        ensures limited { self.new.taken ≤ most_bytes }
-        ensures within { self.new.place ≤ source_bytes }
-        ensures count { Counts result (F.failures feed.old) (F.failures feed.new) }
-        ensures known { KnowsEnd self.new.beyond (F.ended feed.new) }
+        ensures kept { Asks result self.old self.new (F.to_come feed.old) (F.to_come feed.new)
+            (F.failures feed.old) (F.failures feed.new) (F.ended feed.new) }
     {
         loop {
             self.pass_plain();
@@ -252,24 +204,15 @@ impl Window {
         here: &mut LocatedToken,
         feed: &mut F,
     ) -> Result<(), DeviceFault>
-        requires countable { F.failures feed.old < 2 ^ 64 - 1 }
-        requires known { KnowsEnd self.old.beyond (F.ended feed.old) }
-        requires first { slice_get self.old.at_hand 0 ≡ Some first }
-        requires no_blank { is_blank first ≡ false }
-        requires no_slash { first ≢ 47 }
+        requires ready { MayAsk self.old (F.failures feed.old) (F.ended feed.old) }
+        requires begins { BeginsToken first self.old }
         ensures tokens { OnOk result (to_read (followed here.new) self.new (F.to_come feed.new)
             ≡ to_read located_tokens self.old (F.to_come feed.old)) }
-        ensures forward { self.old.place < self.new.place }
         ensures stopped { OnErr result (StopsWithin located_tokens self.old self.new (F.to_come feed.old)) }
-        ensures reached { OnOk result (self.new.place ≤ here.new.end) }
-        ensures took { Takes self.old.taken self.new.taken (F.to_come feed.old) (F.to_come feed.new) }
-        ensures near { self.new.taken ≤ self.new.place + window_bytes }
-        ensures limited { self.new.taken ≤ most_bytes }
-        ensures within { self.new.place ≤ source_bytes }
-        ensures fits { OnOk result (FitsToken here.new.token) }
+        ensures read { OnOk result (IsRead here.new self.old self.new) }
         ensures unread { OnErr result (here.new ≡ here.old) }
-        ensures count { Counts result (F.failures feed.old) (F.failures feed.new) }
-        ensures known { KnowsEnd self.new.beyond (F.ended feed.new) }
+        ensures kept { Asks result self.old self.new (F.to_come feed.old) (F.to_come feed.new)
+            (F.failures feed.old) (F.failures feed.new) (F.ended feed.new) }
     {
         self.pass();
         if is_letter(first) {
@@ -299,22 +242,15 @@ impl Window {
         feed: &mut F,
         first: u8,
     ) -> Result<(), DeviceFault>
-        requires countable { F.failures feed.old < 2 ^ 64 - 1 }
-        requires known { KnowsEnd self.old.beyond (F.ended feed.old) }
+        requires ready { MayAsk self.old (F.failures feed.old) (F.ended feed.old) }
         ensures tokens { OnOk result (to_read (followed here.new) self.new (F.to_come feed.new)
             ≡ to_read (in_name (first ∷ []) false) self.old (F.to_come feed.old)) }
-        ensures forward { self.old.place ≤ self.new.place }
         ensures stopped { OnErr result (StopsWithin (in_name (first ∷ []) false) self.old self.new
             (F.to_come feed.old)) }
-        ensures reached { OnOk result (self.new.place ≤ here.new.end) }
-        ensures took { Takes self.old.taken self.new.taken (F.to_come feed.old) (F.to_come feed.new) }
-        ensures near { self.new.taken ≤ self.new.place + window_bytes }
-        ensures limited { self.new.taken ≤ most_bytes }
-        ensures within { self.new.place ≤ source_bytes }
-        ensures fits { OnOk result (FitsToken here.new.token) }
+        ensures found { OnOk result (IsFound here.new self.new) }
         ensures unread { OnErr result (here.new ≡ here.old) }
-        ensures count { Counts result (F.failures feed.old) (F.failures feed.new) }
-        ensures known { KnowsEnd self.new.beyond (F.ended feed.new) }
+        ensures kept { Asks result self.old self.new (F.to_come feed.old) (F.to_come feed.new)
+            (F.failures feed.old) (F.failures feed.new) (F.ended feed.new) }
     {
         match self.first() {
             Some(b) if !is_name_byte(b) => {
@@ -333,22 +269,15 @@ impl Window {
         feed: &mut F,
         first: u8,
     ) -> Result<(), DeviceFault>
-        requires countable { F.failures feed.old < 2 ^ 64 - 1 }
-        requires known { KnowsEnd self.old.beyond (F.ended feed.old) }
+        requires ready { MayAsk self.old (F.failures feed.old) (F.ended feed.old) }
         ensures tokens { OnOk result (to_read (followed here.new) self.new (F.to_come feed.new)
             ≡ to_read (in_name (first ∷ []) false) self.old (F.to_come feed.old)) }
-        ensures forward { self.old.place ≤ self.new.place }
         ensures stopped { OnErr result (StopsWithin (in_name (first ∷ []) false) self.old self.new
             (F.to_come feed.old)) }
-        ensures reached { OnOk result (self.new.place ≤ here.new.end) }
-        ensures took { Takes self.old.taken self.new.taken (F.to_come feed.old) (F.to_come feed.new) }
-        ensures near { self.new.taken ≤ self.new.place + window_bytes }
-        ensures limited { self.new.taken ≤ most_bytes }
-        ensures within { self.new.place ≤ source_bytes }
-        ensures fits { OnOk result (FitsToken here.new.token) }
+        ensures found { OnOk result (IsFound here.new self.new) }
         ensures unread { OnErr result (here.new ≡ here.old) }
-        ensures count { Counts result (F.failures feed.old) (F.failures feed.new) }
-        ensures known { KnowsEnd self.new.beyond (F.ended feed.new) }
+        ensures kept { Asks result self.old self.new (F.to_come feed.old) (F.to_come feed.new)
+            (F.failures feed.old) (F.failures feed.new) (F.ended feed.new) }
     {
         let mut name = Name::new();
         if name.begin(first, self.at_hand()) {
@@ -367,22 +296,15 @@ impl Window {
         feed: &mut F,
         first: u8,
     ) -> Result<(), DeviceFault>
-        requires countable { F.failures feed.old < 2 ^ 64 - 1 }
-        requires known { KnowsEnd self.old.beyond (F.ended feed.old) }
+        requires ready { MayAsk self.old (F.failures feed.old) (F.ended feed.old) }
         ensures tokens { OnOk result (to_read (followed here.new) self.new (F.to_come feed.new)
             ≡ to_read (in_name (first ∷ []) false) self.old (F.to_come feed.old)) }
-        ensures forward { self.old.place ≤ self.new.place }
         ensures stopped { OnErr result (StopsWithin (in_name (first ∷ []) false) self.old self.new
             (F.to_come feed.old)) }
-        ensures reached { OnOk result (self.new.place ≤ here.new.end) }
-        ensures took { Takes self.old.taken self.new.taken (F.to_come feed.old) (F.to_come feed.new) }
-        ensures near { self.new.taken ≤ self.new.place + window_bytes }
-        ensures limited { self.new.taken ≤ most_bytes }
-        ensures within { self.new.place ≤ source_bytes }
-        ensures fits { OnOk result (FitsToken here.new.token) }
+        ensures found { OnOk result (IsFound here.new self.new) }
         ensures unread { OnErr result (here.new ≡ here.old) }
-        ensures count { Counts result (F.failures feed.old) (F.failures feed.new) }
-        ensures known { KnowsEnd self.new.beyond (F.ended feed.new) }
+        ensures kept { Asks result self.old self.new (F.to_come feed.old) (F.to_come feed.new)
+            (F.failures feed.old) (F.failures feed.new) (F.ended feed.new) }
     {
         let mut name = Name::new();
         name.push(first);
@@ -413,22 +335,15 @@ impl Window {
         feed: &mut F,
         first: u8,
     ) -> Result<(), DeviceFault>
-        requires countable { F.failures feed.old < 2 ^ 64 - 1 }
-        requires known { KnowsEnd self.old.beyond (F.ended feed.old) }
+        requires ready { MayAsk self.old (F.failures feed.old) (F.ended feed.old) }
         requires digit { is_digit first ≡ true }
         ensures tokens { OnOk result (to_read (followed here.new) self.new (F.to_come feed.new)
             ≡ to_read (in_constant (first - 48)) self.old (F.to_come feed.old)) }
-        ensures forward { self.old.place ≤ self.new.place }
         ensures stopped { OnErr result (StopsWithin (in_constant (first - 48)) self.old self.new (F.to_come feed.old)) }
-        ensures reached { OnOk result (self.new.place ≤ here.new.end) }
-        ensures took { Takes self.old.taken self.new.taken (F.to_come feed.old) (F.to_come feed.new) }
-        ensures near { self.new.taken ≤ self.new.place + window_bytes }
-        ensures limited { self.new.taken ≤ most_bytes }
-        ensures within { self.new.place ≤ source_bytes }
-        ensures fits { OnOk result (FitsToken here.new.token) }
+        ensures found { OnOk result (IsFound here.new self.new) }
         ensures unread { OnErr result (here.new ≡ here.old) }
-        ensures count { Counts result (F.failures feed.old) (F.failures feed.new) }
-        ensures known { KnowsEnd self.new.beyond (F.ended feed.new) }
+        ensures kept { Asks result self.old self.new (F.to_come feed.old) (F.to_come feed.new)
+            (F.failures feed.old) (F.failures feed.new) (F.ended feed.new) }
     {
         if let Some((value, count)) = constant_begun(first, self.at_hand()) {
             self.pass_in_line(count);
@@ -446,22 +361,15 @@ impl Window {
         feed: &mut F,
         first: u8,
     ) -> Result<(), DeviceFault>
-        requires countable { F.failures feed.old < 2 ^ 64 - 1 }
-        requires known { KnowsEnd self.old.beyond (F.ended feed.old) }
+        requires ready { MayAsk self.old (F.failures feed.old) (F.ended feed.old) }
         requires digit { is_digit first ≡ true }
         ensures tokens { OnOk result (to_read (followed here.new) self.new (F.to_come feed.new)
             ≡ to_read (in_constant (first - 48)) self.old (F.to_come feed.old)) }
-        ensures forward { self.old.place ≤ self.new.place }
         ensures stopped { OnErr result (StopsWithin (in_constant (first - 48)) self.old self.new (F.to_come feed.old)) }
-        ensures reached { OnOk result (self.new.place ≤ here.new.end) }
-        ensures took { Takes self.old.taken self.new.taken (F.to_come feed.old) (F.to_come feed.new) }
-        ensures near { self.new.taken ≤ self.new.place + window_bytes }
-        ensures limited { self.new.taken ≤ most_bytes }
-        ensures within { self.new.place ≤ source_bytes }
-        ensures fits { OnOk result (FitsToken here.new.token) }
+        ensures found { OnOk result (IsFound here.new self.new) }
         ensures unread { OnErr result (here.new ≡ here.old) }
-        ensures count { Counts result (F.failures feed.old) (F.failures feed.new) }
-        ensures known { KnowsEnd self.new.beyond (F.ended feed.new) }
+        ensures kept { Asks result self.old self.new (F.to_come feed.old) (F.to_come feed.new)
+            (F.failures feed.old) (F.failures feed.new) (F.ended feed.new) }
     {
         let mut value = u64::from(first - b'0');
         loop {
@@ -486,21 +394,14 @@ impl Window {
         feed: &mut F,
         mut punctuator: Punctuator,
     ) -> Result<(), DeviceFault>
-        requires countable { F.failures feed.old < 2 ^ 64 - 1 }
-        requires known { KnowsEnd self.old.beyond (F.ended feed.old) }
+        requires ready { MayAsk self.old (F.failures feed.old) (F.ended feed.old) }
         ensures tokens { OnOk result (to_read (followed here.new) self.new (F.to_come feed.new)
             ≡ to_read (in_punctuator punctuator) self.old (F.to_come feed.old)) }
-        ensures forward { self.old.place ≤ self.new.place }
         ensures stopped { OnErr result (StopsWithin (in_punctuator punctuator) self.old self.new (F.to_come feed.old)) }
-        ensures reached { OnOk result (self.new.place ≤ here.new.end) }
-        ensures took { Takes self.old.taken self.new.taken (F.to_come feed.old) (F.to_come feed.new) }
-        ensures near { self.new.taken ≤ self.new.place + window_bytes }
-        ensures limited { self.new.taken ≤ most_bytes }
-        ensures within { self.new.place ≤ source_bytes }
-        ensures fits { OnOk result (FitsToken here.new.token) }
+        ensures found { OnOk result (IsFound here.new self.new) }
         ensures unread { OnErr result (here.new ≡ here.old) }
-        ensures count { Counts result (F.failures feed.old) (F.failures feed.new) }
-        ensures known { KnowsEnd self.new.beyond (F.ended feed.new) }
+        ensures kept { Asks result self.old self.new (F.to_come feed.old) (F.to_come feed.new)
+            (F.failures feed.old) (F.failures feed.new) (F.ended feed.new) }
     {
         loop {
             let next = self.peek(feed)?;

@@ -1,11 +1,11 @@
 //! The window of fixed size through which a source is read.
 
-ghost use Rattle.std.specs.Prelude.{◌≡◌, ◌≢◌, ℕ, ◌+◌, ◌-◌, ◌^◌, ◌<◌, ◌≤◌, List, [], ◌==◌, length, take, slice_get, OnOk, OnErr, IfOk};
+ghost use Rattle.std.specs.Prelude.{◌≡◌, ◌+◌, ◌<◌, ◌≤◌, [], ◌==◌, length, take, slice_get, OnOk, OnErr, IfOk};
 ghost use Rattle.std.specs.List.{count_by};
-ghost use Rattle.tokens.specs.Limits.{most_bytes, source_bytes, window_bytes};
+ghost use Rattle.tokens.specs.Limits.{source_bytes, window_bytes};
 ghost use Rattle.tokens.specs.Source.{source};
-ghost use Rattle.tokens.specs.Feed.{Counts};
-ghost use Rattle.tokens.specs.Window.{seen, untouched, behind, behind_first, behind_blanks, behind_plain, Cuts, IsAtSamePlace, IsAtHandOrEnd, IsBounded, KnowsEnd, Takes};
+ghost use Rattle.tokens.specs.Window.{Asks, Cuts, IsAtHandOrEnd, IsAtSamePlace, IsBounded, IsNext, MayAsk, Passes};
+ghost use Rattle.tokens.specs.Window.{behind, behind_blanks, behind_first, behind_plain, seen, untouched};
 
 use crate::characters::is_blank;
 use crate::devices::{DeviceFault, Feed};
@@ -94,19 +94,13 @@ impl Window {
     /// Returns the next byte, or `None` at the end. The device is asked only if no byte is at hand.
     #[inline(always)]
     pub fn peek<F: Feed>(&mut self, feed: &mut F) -> Result<Option<u8>, DeviceFault>
-        requires countable { F.failures feed.old < 2 ^ 64 - 1 }
-        requires known { KnowsEnd self.old.beyond (F.ended feed.old) }
-        ensures first { IfOk result (λ first. first ≡ slice_get self.new.at_hand 0) }
-        ensures ready { OnOk result (IsAtHandOrEnd self.new) }
+        requires ready { MayAsk self.old (F.failures feed.old) (F.ended feed.old) }
+        ensures next { IfOk result (λ first. IsNext first self.new) }
         ensures seen { OnOk result (seen self.new (F.to_come feed.new) ≡ seen self.old (F.to_come feed.old)) }
         ensures place { IsAtSamePlace self.old self.new }
-        ensures took { Takes self.old.taken self.new.taken (F.to_come feed.old) (F.to_come feed.new) }
         ensures failed { OnErr result (self.new.taken ≡ self.new.place) }
-        ensures within { self.new.place ≤ source_bytes }
-        ensures near { self.new.taken ≤ self.new.place + window_bytes }
-        ensures limited { self.new.taken ≤ most_bytes }
-        ensures count { Counts result (F.failures feed.old) (F.failures feed.new) }
-        ensures known { KnowsEnd self.new.beyond (F.ended feed.new) }
+        ensures kept { Asks result self.old self.new (F.to_come feed.old) (F.to_come feed.new)
+            (F.failures feed.old) (F.failures feed.new) (F.ended feed.new) }
     {
         if self.next < self.filled {
             return Ok(Some(self.bytes[self.next]));
@@ -121,11 +115,7 @@ impl Window {
         requires { 0 < length self.old.at_hand }
         ensures value { self.new ≡ behind_first self.old }
         ensures forward { self.new.place ≡ self.old.place + 1 }
-        ensures kept { self.new.taken ≡ self.old.taken }
-        ensures beyond { self.new.beyond ≡ self.old.beyond }
-        ensures within { self.new.place ≤ source_bytes }
-        ensures near { self.new.taken ≤ self.new.place + window_bytes }
-        ensures limited { self.new.taken ≤ most_bytes }
+        ensures kept { Passes self.old self.new }
     {
         if self.bytes[self.next] == LINE_FEED {
             self.line += 1;
@@ -149,11 +139,7 @@ impl Window {
         requires in_line { count_by (λ b. b == 10) (take count self.old.at_hand) ≡ 0 }
         ensures value { self.new ≡ behind count self.old }
         ensures forward { self.new.place ≡ self.old.place + count }
-        ensures kept { self.new.taken ≡ self.old.taken }
-        ensures beyond { self.new.beyond ≡ self.old.beyond }
-        ensures within { self.new.place ≤ source_bytes }
-        ensures near { self.new.taken ≤ self.new.place + window_bytes }
-        ensures limited { self.new.taken ≤ most_bytes }
+        ensures kept { Passes self.old self.new }
     {
         self.next += count;
     }
@@ -161,12 +147,7 @@ impl Window {
     /// Goes past the bytes at hand that are before the next `*`.
     pub fn pass_plain(&mut self)
         ensures value { self.new ≡ behind_plain self.old }
-        ensures forward { self.old.place ≤ self.new.place }
-        ensures kept { self.new.taken ≡ self.old.taken }
-        ensures beyond { self.new.beyond ≡ self.old.beyond }
-        ensures within { self.new.place ≤ source_bytes }
-        ensures near { self.new.taken ≤ self.new.place + window_bytes }
-        ensures limited { self.new.taken ≤ most_bytes }
+        ensures kept { Passes self.old self.new }
     {
         let (count, lines) = run_before::<Star>(&self.bytes[self.next..self.filled]);
         self.next += count;
@@ -176,12 +157,7 @@ impl Window {
     /// Goes past the blanks at hand.
     pub fn pass_blanks(&mut self)
         ensures value { self.new ≡ behind_blanks self.old }
-        ensures forward { self.old.place ≤ self.new.place }
-        ensures kept { self.new.taken ≡ self.old.taken }
-        ensures beyond { self.new.beyond ≡ self.old.beyond }
-        ensures within { self.new.place ≤ source_bytes }
-        ensures near { self.new.taken ≤ self.new.place + window_bytes }
-        ensures limited { self.new.taken ≤ most_bytes }
+        ensures kept { Passes self.old self.new }
     {
         match self.first() {
             Some(b) if is_blank(b) => {}
@@ -208,17 +184,13 @@ impl Window {
     #[inline(never)]
     fn refill<F: Feed>(&mut self, feed: &mut F) -> Result<(), DeviceFault>
         requires empty { self.old.at_hand ≡ [] }
-        requires countable { F.failures feed.old < 2 ^ 64 - 1 }
-        requires known { KnowsEnd self.old.beyond (F.ended feed.old) }
+        requires ready { MayAsk self.old (F.failures feed.old) (F.ended feed.old) }
         ensures ready { OnOk result (IsAtHandOrEnd self.new) }
         ensures seen { OnOk result (seen self.new (F.to_come feed.new) ≡ seen self.old (F.to_come feed.old)) }
         ensures place { IsAtSamePlace self.old self.new }
-        ensures took { Takes self.old.taken self.new.taken (F.to_come feed.old) (F.to_come feed.new) }
         ensures failed { OnErr result (self.new.taken ≡ self.new.place) }
-        ensures near { self.new.taken ≤ self.new.place + window_bytes }
-        ensures limited { self.new.taken ≤ most_bytes }
-        ensures count { Counts result (F.failures feed.old) (F.failures feed.new) }
-        ensures known { KnowsEnd self.new.beyond (F.ended feed.new) }
+        ensures kept { Asks result self.old self.new (F.to_come feed.old) (F.to_come feed.new)
+            (F.failures feed.old) (F.failures feed.new) (F.ended feed.new) }
     {
         if self.beyond != Beyond::Unread {
             return Ok(());

@@ -15,7 +15,7 @@ returns-in_ok-read-clause-progress g c =
     let s = c.self.inside in
     let not_last : is_last s.next.token ≡ false = ap (λ r. is_last r.next.token) c.self.view_is ∙ c.requires.not_last in
     let read = c.in_ok-read.ensures in
-    rw (← c.self.view_is) (remaining-advanced s.next s.after c.read.new.here c.read.new.self s.window not_last (sym c.if-not-is_last.ensures) read.progress read.within)
+    rw (← c.self.view_is) (remaining-advanced s.next s.after c.read.new.here c.read.new.self s.window not_last (sym c.if-not-is_last.ensures) read.read.progress read.kept.within)
 
 pub returns-else-not-is_last-clause-progress : goal.returns-else-not-is_last-clause-progress
 returns-else-not-is_last-clause-progress g c =

@@ -24,7 +24,7 @@ pub returns-in_err-read-clause-stopped : goal.returns-in_err-read-clause-stopped
 returns-in_err-read-clause-stopped g c = on_err-from c.from_residual.result (λ bytes e.
     let read = c.in_err-read.ensures in (
       c.read.new.self.taken,
-      read.took.rest (Some bytes) (e ∙ ap (λ h. option_map (drop h.taken) (Some bytes)) (sym c.new-window.ensures)),
+      read.kept.took.rest (Some bytes) (e ∙ ap (λ h. option_map (drop h.taken) (Some bytes)) (sym c.new-window.ensures)),
       opened-stopped bytes c.read.new.self.taken c.new-window.result _ c.new-window.ensures e read.stopped,
     ))
 
@@ -33,6 +33,6 @@ returns-in_err-read-2-clause-stopped g c = on_err-from c.from_residual-in_err-re
     let first = c.in_ok-read.ensures in
     let read = c.in_err-read-2.ensures in (
       c.read-then-not-is_last.new.self.taken,
-      (Takes-then first.took read.took).rest (Some bytes) (e ∙ ap (λ h. option_map (drop h.taken) (Some bytes)) (sym c.new-window.ensures)),
+      (Takes-then first.kept.took read.kept.took).rest (Some bytes) (e ∙ ap (λ h. option_map (drop h.taken) (Some bytes)) (sym c.new-window.ensures)),
       second-stopped bytes c.read-then-not-is_last.new.self.taken c.read.new.here c.new-window.result c.read.new.self _ _ c.new-window.ensures e (sym c.if-not-is_last.ensures) first.tokens read.stopped,
     ))

@@ -1,4 +1,4 @@
-use Rattle.std.proofs.Common.{◌∙◌, ◌∷◌, [], sym, ap, subst, refl, false}
+use Rattle.std.proofs.Common.{◌∙◌, [], sym, ap, subst, refl, false}
 use Rattle.tokens.specs.Characters.{is_name_byte}
 use Rattle.tokens.specs.Lexing.{to_read, in_name, name_going_on}
 use Rattle.tokens.proofs.ToRead.{is-at_hand}

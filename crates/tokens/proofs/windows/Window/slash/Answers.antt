@@ -1,4 +1,4 @@
-use Rattle.std.proofs.Common.{[], ◌∙◌, sym, ap, refl, true, false}
+use Rattle.std.proofs.Common.{[], ◌∙◌, sym, ap, refl, true, false, arith}
 use Rattle.tokens.specs.Tokens.{located_tokens}
 use Rattle.tokens.specs.Lexing.{to_read, followed, in_punctuator, in_comment, after_comment, after_slash}
 use Rattle.tokens.specs.Window.{ahead}
@@ -7,14 +7,14 @@ use Rattle.tokens.specs.declared.located_tokens.LexicalError.TheVariants.{Commen
 use Rattle.tokens.specs.declared.located_tokens.Token.TheVariants as variant
 use Rattle.tokens.proofs.ToRead.{to_read-pass, to_read-pass_line, to_read-seen, to_read-here}
 use Rattle.tokens.proofs.BeginLemmas.{in_slash, slash-begins, star-begins, slash-stays, star-found, not_true, not_false, last-followed, last-fits}
-use Rattle.tokens.proofs.TakenLemmas.{on_err-from, stops, stops-from, in_slash-ends}
+use Rattle.tokens.proofs.TakenLemmas.{on_err-from, stops, stops-from, in_slash-ends, then-fails, Takes-pass, Takes-from}
 use Rattle.tokens.proofs.windows.Window.slash.Goals as goal
 
 pub returns-then-ne-clause-tokens : goal.returns-then-ne-clause-tokens
 returns-then-ne-clause-tokens g c =
     let line = c.line-line.result in
     let seen = c.in_ok-peek.ensures in
-    c.in_ok-punctuator.ensures.tokens ∙ slash-stays line _ _ _ seen.ready seen.first (not_true _ c.if-ne.ensures)
+    c.in_ok-punctuator.ensures.tokens ∙ slash-stays line _ _ _ seen.next.ready seen.next.first (not_true _ c.if-ne.ensures)
     ∙ to_read-seen (in_slash line) _ _ _ _ seen.seen
     ∙ to_read-pass_line (in_slash line) located_tokens _ _ _ 47 line c.pass.ensures.value c.requires.slash c.line-line.ensures (slash-begins line)
 
@@ -25,7 +25,7 @@ returns-then-branch-clause-tokens g c =
     to_read-here (after_slash false c.args.here.now) (after_comment true line) c.skip_comment.new.self _ (λ to_come. refl)
     ∙ ap (λ closed. to_read (after_comment closed line) c.skip_comment.new.self (g.F.Feed.to_come c.skip_comment.new.feed)) (sym c.if-branch.true)
     ∙ c.in_ok-skip_comment.ensures.tokens line
-    ∙ to_read-pass (in_comment line) (in_slash line) _ _ _ _ 42 c.pass-2.ensures.value seen.first (star-found _ (not_false _ c.if-ne.ensures)) (star-begins line)
+    ∙ to_read-pass (in_comment line) (in_slash line) _ _ _ _ 42 c.pass-2.ensures.value seen.next.first (star-found _ (not_false _ c.if-ne.ensures)) (star-begins line)
     ∙ to_read-seen (in_slash line) _ _ _ _ seen.seen
     ∙ to_read-pass_line (in_slash line) located_tokens _ _ _ 47 line c.pass.ensures.value c.requires.slash c.line-line.ensures (slash-begins line)
 
@@ -37,7 +37,7 @@ returns-else-branch-clause-tokens g c =
     let a = ahead c.skip_comment.new.self to_come in ap (λ x. followed x a) (c.put_open_comment.ensures.value to_come) ∙ last-followed (variant.Fault CommentNotClosed) line a refl)
     ∙ ap (λ closed. to_read (after_comment closed line) c.skip_comment.new.self (g.F.Feed.to_come c.skip_comment.new.feed)) (sym c.if-branch.false)
     ∙ c.in_ok-skip_comment.ensures.tokens line
-    ∙ to_read-pass (in_comment line) (in_slash line) _ _ _ _ 42 c.pass-2.ensures.value seen.first (star-found _ (not_false _ c.if-ne.ensures)) (star-begins line)
+    ∙ to_read-pass (in_comment line) (in_slash line) _ _ _ _ 42 c.pass-2.ensures.value seen.next.first (star-found _ (not_false _ c.if-ne.ensures)) (star-begins line)
     ∙ to_read-seen (in_slash line) _ _ _ _ seen.seen
     ∙ to_read-pass_line (in_slash line) located_tokens _ _ _ 47 line c.pass.ensures.value c.requires.slash c.line-line.ensures (slash-begins line)
 
@@ -54,7 +54,7 @@ returns-in_err-punctuator-clause-stopped g c =
     let line = c.line-line.result in
     let seen = c.in_ok-peek.ensures in
     on_err-from c.from_residual-in_err-punctuator.result (stops-from (in_punctuator Slash) located_tokens _ _ c.punctuator.new.self _ _
-    (slash-stays line _ _ _ seen.ready seen.first (not_true _ c.if-ne.ensures)
+    (slash-stays line _ _ _ seen.next.ready seen.next.first (not_true _ c.if-ne.ensures)
     ∙ to_read-seen (in_slash line) _ _ _ _ seen.seen
     ∙ to_read-pass_line (in_slash line) located_tokens _ _ _ 47 line c.pass.ensures.value c.requires.slash c.line-line.ensures (slash-begins line))
     c.in_err-punctuator.ensures.stopped)
@@ -64,10 +64,26 @@ returns-in_err-skip_comment-clause-stopped g c =
     let line = c.line-line.result in
     let seen = c.in_ok-peek.ensures in
     on_err-from c.from_residual-in_err-skip_comment.result (stops-from (in_comment line) located_tokens _ _ c.skip_comment.new.self _ _
-    (to_read-pass (in_comment line) (in_slash line) _ _ _ _ 42 c.pass-2.ensures.value seen.first (star-found _ (not_false _ c.if-ne.ensures)) (star-begins line)
+    (to_read-pass (in_comment line) (in_slash line) _ _ _ _ 42 c.pass-2.ensures.value seen.next.first (star-found _ (not_false _ c.if-ne.ensures)) (star-begins line)
     ∙ to_read-seen (in_slash line) _ _ _ _ seen.seen
     ∙ to_read-pass_line (in_slash line) located_tokens _ _ _ 47 line c.pass.ensures.value c.requires.slash c.line-line.ensures (slash-begins line))
     (c.in_err-skip_comment.ensures.stopped line))
 
-pub returns-else-branch-clause-fits : goal.returns-else-branch-clause-fits
-returns-else-branch-clause-fits g c = λ _. rw (c.put_open_comment.ensures.value []) (last-fits (variant.Fault CommentNotClosed) c.line-line.result (ahead c.skip_comment.new.self []) tt)
+pub returns-else-branch-clause-found : goal.returns-else-branch-clause-found
+returns-else-branch-clause-found g c = λ _. record {
+  reached = c.put_open_comment.ensures.reached;
+  fits = rw (c.put_open_comment.ensures.value []) (last-fits (variant.Fault CommentNotClosed) c.line-line.result (ahead c.skip_comment.new.self []) tt);
+}
+
+pub returns-in_err-punctuator-clause-kept : goal.returns-in_err-punctuator-clause-kept
+returns-in_err-punctuator-clause-kept g c =
+    let passed = c.pass.ensures in
+    let seen = c.in_ok-peek.ensures.kept in
+    then-fails c.from_residual-in_err-punctuator.result _ c.from_residual-in_err-punctuator.ensures.1 _ c.peek.new.self _ _ _ _ _ _ _ _ (Takes-from passed.kept.taken seen.took) (omega (arith, passed.forward, seen.forward)) seen.count c.in_err-punctuator.ensures.kept
+
+pub returns-in_err-skip_comment-clause-kept : goal.returns-in_err-skip_comment-clause-kept
+returns-in_err-skip_comment-clause-kept g c =
+    let passed = c.pass.ensures in
+    let seen = c.in_ok-peek.ensures.kept in
+    let again = c.pass-2.ensures in
+    then-fails c.from_residual-in_err-skip_comment.result _ c.from_residual-in_err-skip_comment.ensures.1 _ c.pass-2.new.self _ _ _ _ _ _ _ _ (Takes-pass again.kept.taken (Takes-from passed.kept.taken seen.took)) (omega (arith, passed.forward, seen.forward, again.forward)) seen.count c.in_err-skip_comment.ensures.kept
