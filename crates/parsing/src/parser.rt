@@ -314,7 +314,7 @@ impl<'a, F: Feed> Parser<'a, F> {
     }
 }
 
-    // Returns the name that the next token has to be.
+// Returns the name that the next token has to be.
 #[inline(always)]
 fn name(cursor: &Cursor) -> Result<&Name, ParseFault>
     requires sound { is_fault cursor.now.next.token ≡ false }
