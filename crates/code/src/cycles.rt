@@ -51,7 +51,7 @@ impl Cells {
             → StandsFor (state_at result self.new) program.now (trace ++ reply ∷ []) }
         ensures fits { FitsProgram (state_at result self.new) program.now }
     {
-        let coast = self.one(program, place);
+        let coast = self.coast(program, place, 1);
         if coast.left == 0 {
             return coast.place;
         }
@@ -72,50 +72,26 @@ impl Cells {
         self.answer(place, reply)
     }
 
-    /// Runs up to so many cycles that ask nothing, but for the last one: more are left only if the machine then wants a
-    /// reply or a restart. Two instructions that often stand together are run at once, so two cycles have to be left
-    /// before each. The count goes up to 0, since the processor has its sign at hand.
+    /// Runs up to so many cycles that ask nothing: some are left only if the machine then wants a reply or a restart.
     #[inline(always)]
-    pub(crate) fn run(&mut self, program: &Program, from: Place, most: u32) -> Coast
+    pub(crate) fn coast(&mut self, program: &Program, from: Place, most: u32) -> Coast
         requires { FitsProgram (state_at from self.old) program.now }
         ensures most { result.left ≤ most }
         ensures coasted { HasCoasted program.now (state_at from self.old) (most - result.left)
             (state_at result.place self.new) }
-        ensures ends { 1 < result.left → want_next program.now (state_at result.place self.new) ≢ Want.Quiet }
+        ensures ends { 0 < result.left → want_next program.now (state_at result.place self.new) ≢ Want.Quiet }
     {
         let room = program.words();
         let mut place = from;
-        let mut count = 1 - i64::from(most);
-        while count < 0 {
-            match self.leap(program, room, place, count) {
-                Some(reach) => {
-                    place = reach.place;
-                    count = reach.count + 1;
-                }
+        let mut left = most;
+        while left > 0 {
+            let opcode = self.opcode(program, place);
+            match self.step(program, room, place, opcode) {
+                Some(next) => place = next,
                 None => break,
             }
+            left -= 1;
         }
-        Coast {
-            place,
-            left: (1 - count) as u32,
-        }
-    }
-
-    /// Runs one cycle, if it asks nothing: it is left only if the machine wants a reply or a restart.
-    #[inline(always)]
-    pub(crate) fn one(&mut self, program: &Program, place: Place) -> Coast
-        requires { FitsProgram (state_at place self.old) program.now }
-        ensures most { result.left ≤ 1 }
-        ensures coasted { HasCoasted program.now (state_at place self.old) (1 - result.left)
-            (state_at result.place self.new) }
-        ensures ends { 0 < result.left → want_next program.now (state_at result.place self.new) ≢ Want.Quiet }
-    {
-        match self.alone(program, program.words(), place) {
-            Some(next) => Coast {
-                place: next,
-                left: 0,
-            },
-            None => Coast { place, left: 1 },
-        }
+        Coast { place, left }
     }
 }

@@ -14,7 +14,6 @@ mod maker;
 mod opcode;
 mod operating;
 mod operators;
-mod pairs;
 mod program;
 mod stepping;
 mod text;
