@@ -4,7 +4,7 @@ pub mod Touches
 pub mod Wear
 pub mod Loops
 pub mod Represents
-mod Still
+pub mod Still
 pub mod Beginnings
 pub mod SlotLaws
 pub mod Nearest

@@ -13,7 +13,7 @@ use Rattle.arena.specs.Moved.{moved_robot, moved}
 use Rattle.arena.specs.Ground.{Ground, body_of}
 use Rattle.arena.specs.Standing.{StandsFor}
 use Rattle.arena.specs.Drive.{ahead}
-use Rattle.arena.specs.Rest.{Rests, Stays, IsStill}
+use Rattle.arena.specs.Rest.{Rests, Stays, IsStill, rested}
 use Rattle.arena.proofs.Loops.{after_at, after_all}
 use Rattle.arena.proofs.SlotLaws.{none_hurt, holds_still}
 use Rattle.arena.proofs.Touches.{touches_none}
@@ -108,3 +108,13 @@ only_counts g f s still =
     let none = λ (x y : ℕ). none_hurt f.updates (f.updates + 1) x y g.slots f.shots refl s.missiles still.none_flies in
     let robots = ap (map body_of) (sym (take_all (length f.robots) f.robots (omega arith))) ∙ all_stay f (λ i l. each_stays f i l stay none) (length f.robots) (omega arith) ∙ after_all f in
     updates g (record g { updates = g.updates + 1 }) f s refl refl (s.robots ∙ robots) (holds_still f.updates (f.updates + 1) g.slots f.shots refl s.missiles still.none_flies)
+
+-- and so for some updates
+pub only_rests : (g : Ground) (f : Field) (n : ℕ) → StandsFor g f → IsStill g.robots g.slots → StandsFor (record g { updates = g.updates + n }) (rested n f)
+unfolding rested
+only_rests g f zero s still =
+    let none : g.updates + 0 ≡ g.updates = omega arith in
+    rw none s
+only_rests g f (suc n) s still =
+    let more : g.updates + suc n ≡ g.updates + n + 1 = omega arith in
+    rw more (only_counts (record g { updates = g.updates + n }) (rested n f) (only_rests g f n s still) still)

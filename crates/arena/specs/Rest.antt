@@ -1,8 +1,9 @@
 -- When a field is still: an update then changes nothing but the number of updates. When the next missile bursts.
-use Rattle.std.specs.Prelude.{◌≡◌, ℕ, ◌≤◌, List, [], true, false, All}
+use Rattle.std.specs.Prelude.{◌≡◌, ℕ, zero, suc, ◌≤◌, List, [], true, false, All}
 use Rattle.arena.specs.Leg.{Leg, tried, hits_wall}
-use Rattle.arena.specs.Field.{Robot, is_alive}
+use Rattle.arena.specs.Field.{Robot, Field, is_alive}
 use Rattle.arena.specs.Ground.{Body, Missile, body_of}
+use Rattle.arena.specs.Moved.{moved}
 
 -- a robot at rest: what it tries to drive is the leg that it has, which no wall stops
 pub record Rests (leg : Leg) : Type 0 where
@@ -17,6 +18,11 @@ Stays body = (robot : Robot) → body ≡ body_of robot → is_alive robot ≡ t
 pub record IsStill (robots : List Body) (slots : List (List Missile)) : Type 0 where
   pub stay : All Stays robots
   pub none_flies : All (λ s. s ≡ []) slots
+
+-- the field after so many updates
+unfoldable pub rested : ℕ → Field → Field
+rested zero field = field
+rested (suc n) field = moved (rested n field)
 
 -- no missile in the air bursts before an update
 abbrev pub NoneBefore : ℕ → List (List Missile) → Type 0

@@ -6,6 +6,7 @@ ghost use Rattle.arith.specs.Degree.{degree_of};
 ghost use Rattle.arena.specs.Leg.{brought, place_x, place_y};
 ghost use Rattle.arena.specs.Field.{Field, no_robot, damage_of, robot_at, is_live, live_count};
 ghost use Rattle.arena.specs.Moved.{moved};
+ghost use Rattle.arena.specs.Rest.{IsStill, rested};
 ghost use Rattle.arena.specs.Scan.{scanned};
 ghost use Rattle.arena.specs.Start.{start, placed, IsPlace};
 ghost use Rattle.arena.specs.Answer.{answer, fired, directed, random_number};
@@ -147,6 +148,25 @@ impl Arena {
         self.missiles.land(update);
         self.is_still = is_still(self.robots.as_slice(), &self.missiles);
         self.updates = update;
+    }
+
+    /// Reports whether the field is known to be still: then updates only count, as long as no robot drives or shoots.
+    #[inline(always)]
+    pub fn is_still(&self) -> bool
+        ensures { result ≡ true → IsStill self.now.robots self.now.slots }
+    {
+        self.is_still
+    }
+
+    /// Does so many updates of a still field at once.
+    #[inline(always)]
+    pub fn rest(&mut self, updates: u32)
+        requires still { IsStill self.old.robots self.old.slots }
+        requires few { self.old.updates + updates ≤ 66666667 }
+        ensures stands { (f : Field) → StandsFor self.old f → StandsFor self.new (rested updates f) }
+        ensures value { self.new ≡ record self.old { updates = self.old.updates + updates } }
+    {
+        self.updates += updates;
     }
 
     /// Reports whether a robot lives.

@@ -7,6 +7,7 @@ pub mod Commuting
 pub mod Turns
 pub mod Ahead
 pub mod Passed
+pub mod Skipping
 pub mod Spans
 pub mod Running
 pub mod Alone

@@ -4,7 +4,7 @@ use Rattle.std.specs.Prelude.{nat_le}
 use Rattle.arena.specs.Field.{live_count}
 use Rattle.arena.specs.Moved.{moved}
 use Rattle.battles.specs.Battle.{Robot, Stage, turns, is_over, stage_after, first_above}
-use Rattle.battles.specs.Windows.{rounds, segment}
+use Rattle.battles.specs.Windows.{rounds, segment, segments}
 use Rattle.battles.proofs.Cycles.{cycle_alone, cycle_updates, goes_on, stage_more, over_if_few, first_later, first_none, first_is, first_more}
 
 -- no update falls within a window
@@ -38,6 +38,16 @@ pub stage_segment : (robots : List Robot) (s : Stage) (n : ℕ)
 stage_segment robots s n =
     let next : 15 * (n + 1) ≡ 15 * n + 15 = omega arith in
     ap (stage_after robots s) next ∙ stage_updated robots s (15 * n) (omega arith)
+
+pub stage_segments : (robots : List Robot) (s : Stage) (n k : ℕ)
+    → stage_after robots s (15 * (n + k)) ≡ segments robots k (stage_after robots s (15 * n))
+unfolding segments
+stage_segments robots s n zero = ap (stage_after robots s) (omega arith)
+stage_segments robots s n (suc k) =
+    let next : n + suc k ≡ n + k + 1 = omega arith in
+    ap (λ m. stage_after robots s (15 * m)) next
+    ∙ stage_segment robots s (n + k)
+    ∙ ap (segment robots) (stage_segments robots s n k)
 
 pub stage_rest : (robots : List Robot) (s : Stage) (n limit : ℕ) → n ≡ limit / 15
     → stage_after robots s limit ≡ rounds robots (limit % 15) (stage_after robots s (15 * n))
@@ -103,6 +113,21 @@ first_undecided robots s n limit last within so undecided =
     let next : 15 * (n + 1) ≡ 15 * n + 14 + 1 = omega arith in
     rw next (first_more (over robots s) (15 * n + 14) limit last (omega arith)
     (first_update robots s (15 * n) limit last (omega arith) within so) (few_after robots s n ∙ undecided))
+
+-- and so of some windows that leave more than one alive
+pub first_skipped : (robots : List Robot) (s : Stage) (n k limit last : ℕ) → 15 * (n + k) ≤ limit
+    → first_above (λ m. is_over m (stage_after robots s m)) (15 * n) (limit - 15 * n) ≡ last
+    → ((j : ℕ) → j ≤ k → nat_le (live_count (segments robots j (stage_after robots s (15 * n))).field) 1 ≡ false)
+    → first_above (λ m. is_over m (stage_after robots s m)) (15 * (n + k)) (limit - 15 * (n + k)) ≡ last
+unfolding segments
+first_skipped robots s n zero limit last within so undecided =
+    let same : n + 0 ≡ n = omega arith in
+    rw same so
+first_skipped robots s n (suc k) limit last within so undecided =
+    let next : n + suc k ≡ n + k + 1 = omega arith in
+    let before = first_skipped robots s n k limit last (omega arith) so (λ j low. undecided j (omega arith)) in
+    rw next (first_undecided robots s (n + k) limit last (omega arith) before
+    (ap (λ (t : Stage). nat_le (live_count t.field) 1) (ap (segment robots) (stage_segments robots s n k)) ∙ undecided (suc k) (omega arith)))
 
 -- no update comes before the limit
 pub first_limit : (robots : List Robot) (s : Stage) (n limit last : ℕ) → n % 15 ≡ 0 → n ≤ limit → limit < n + 15

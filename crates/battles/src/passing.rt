@@ -1,15 +1,17 @@
-//! Windows in which every machine is far enough ahead: the robots go on without a look at a machine.
+//! Windows in which every machine is far enough ahead: the robots go on without a look at a machine. On a still field
+//! many of them pass at once.
 
-ghost use Rattle.std.specs.Prelude.{◌≡◌, ◌<◌, ◌≤◌, ℕ, true, false, ℤ, List, length, slice_index_or};
-ghost use Rattle.arena.specs.Field.{Field};
+ghost use Rattle.std.specs.Prelude.{◌≡◌, ◌<◌, ◌≤◌, ◌+◌, ◌*◌, ℕ, true, false, ℤ, List, length, slice_index_or};
+ghost use Rattle.arena.specs.Field.{Field, live_count};
 ghost use Rattle.arena.specs.Ground.{lives};
 ghost use Rattle.arena.specs.Standing.{StandsFor as IsGroundOf};
 ghost use Rattle.code.specs.Generation.{ObjectCode};
 ghost use Rattle.battles.specs.Battle.{Robot, Stage};
 ghost use Rattle.battles.specs.Carrying.{IsRobotOf, IsAt, AreRobotsOf, EachFits, HasReached};
-ghost use Rattle.battles.specs.Windows.{AreAhead, HasRun, rounds};
+ghost use Rattle.battles.specs.Windows.{AreAhead, HasRun, rounds, segments};
 
 use crate::runners::Runner;
+use crate::windows::UPDATE_CYCLES;
 use arena::Arena;
 use settings::FILES_MAX;
 
@@ -29,6 +31,51 @@ pub(crate) fn pass(runners: &mut [Runner], arena: &Arena, cycles: u32) -> bool
     }
     go_on(runners, arena, cycles);
     true
+}
+
+/// Lets windows pass, each with its update, if the field is still: at most so many, and no more than each live robot's
+/// machine is ahead. Returns how many.
+#[inline(always)]
+pub(crate) fn skip(runners: &mut [Runner], arena: &mut Arena, most: u32) -> u32
+    requires manned { length arena.old.robots ≡ length runners.old }
+    requires few { length runners.old ≤ FILES_MAX }
+    requires updates { arena.old.updates + most ≤ 66666667 }
+    ensures stage { (codes : List ObjectCode) (robots : List Robot) (s : Stage)
+        → AreRobotsOf codes robots → HasReached runners.old codes arena.old s
+        → HasReached runners.new codes arena.new (segments robots result s) }
+    ensures alive { (codes : List ObjectCode) (robots : List Robot) (s : Stage)
+        → AreRobotsOf codes robots → HasReached runners.old codes arena.old s
+        → (n : ℕ) → n ≤ result → live_count (segments robots n s).field ≡ live_count s.field }
+    ensures fits { (codes : List ObjectCode) → EachFits runners.old codes → EachFits runners.new codes }
+    ensures manned { length arena.new.robots ≡ length arena.old.robots }
+    ensures updates { arena.new.updates ≡ arena.old.updates + result }
+    ensures most { result ≤ most }
+{
+    if !arena.is_still() {
+        return 0;
+    }
+    let windows = windows_ahead(runners, arena, most);
+    go_on(runners, arena, UPDATE_CYCLES * windows);
+    arena.rest(windows);
+    windows
+}
+
+// Returns how many windows each live robot's machine is ahead, or `most` if that is less.
+#[inline(always)]
+fn windows_ahead(runners: &[Runner], arena: &Arena, most: u32) -> u32
+    requires manned { length arena.now.robots ≡ length runners.now }
+    ensures ahead { AreAhead (length runners.now) (UPDATE_CYCLES * result) arena.now runners.now }
+    ensures most { result ≤ most }
+{
+    let mut windows = most;
+    for robot in 0..runners.len() {
+        let runner = &runners[robot];
+        let ahead = runner.ahead / UPDATE_CYCLES;
+        if ahead < windows && arena.alive(robot) {
+            windows = ahead;
+        }
+    }
+    windows
 }
 
 // Reports whether each live robot's machine is so many cycles ahead.

@@ -7,7 +7,7 @@ ghost use Rattle.battles.specs.Carrying.{AreRobotsOf, EachFits, HasReached};
 ghost use Rattle.battles.specs.Pairing.{paired};
 ghost use Rattle.battles.specs.Windows.{segment};
 
-use crate::passing::pass;
+use crate::passing::{pass, skip};
 use crate::programs::Programs;
 use crate::runners::Runner;
 use crate::windows::{UPDATE_CYCLES, window};
@@ -15,7 +15,7 @@ use arena::Arena;
 use settings::{CYCLES_MAX, FILES_MAX};
 
 // How far a machine runs that asks nothing: a robot that dies doesn't use the cycles that its machine is ahead.
-const MOST_AHEAD: u32 = 240;
+const MOST_AHEAD: u32 = 960;
 
 // Runs the cycles up to the next update, and the update. Reports whether that decided the battle.
 fn segment(runners: &mut [Runner], programs: &Programs, arena: &mut Arena, farthest: u32) -> bool
@@ -60,11 +60,15 @@ pub(crate) fn play(
         → HasReached runners.old (paired programs.now) arena.old s → result ≡ last_cycle robots s limit }
     ensures manned { length arena.new.robots ≡ length (paired programs.now) }
 {
-    for number in 0..limit / UPDATE_CYCLES {
+    let windows = limit / UPDATE_CYCLES;
+    let mut number = 0;
+    while number < windows {
         let farthest = (limit - UPDATE_CYCLES * number).min(MOST_AHEAD);
         if segment(runners, programs, arena, farthest) {
             return UPDATE_CYCLES * (number + 1);
         }
+        number += 1;
+        number += skip(runners, arena, windows - number);
     }
     let rest = limit % UPDATE_CYCLES;
     window(runners, programs, arena, rest, rest);

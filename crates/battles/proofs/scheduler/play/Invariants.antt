@@ -1,4 +1,4 @@
-use Rattle.std.proofs.Common.{◌≡◌, ◌-◌, ◌*◌, List, length}
+use Rattle.std.proofs.Common.{◌≡◌, ◌≤◌, ◌-◌, ◌*◌, List, length}
 use Rattle.battles.specs.Battle.{Robot, Stage, stage_after, is_over, first_above, last_cycle}
 use Rattle.battles.specs.Carrying.{AreRobotsOf, EachFits, HasReached}
 use Rattle.battles.specs.Pairing.{paired}
@@ -6,6 +6,7 @@ use Rattle.battles.proofs.scheduler.play.Given as goal
 
 abbrev pub invariant-loop-number : goal.invariant-loop-number
 invariant-loop-number l = record {
+  within : l.number ≤ l.windows;
   manned : length l.arena.robots ≡ length (paired l.programs);
   updates : l.arena.updates ≡ l.number;
   fits : EachFits l.runners (paired l.programs);
@@ -16,3 +17,6 @@ invariant-loop-number l = record {
       → HasReached l.initial.runners (paired l.programs) l.initial.arena s
       → first_above (λ n. is_over n (stage_after robots s n)) (15 * l.number) (l.limit - 15 * l.number) ≡ last_cycle robots s l.limit;
 }
+
+abbrev pub decreases-loop-number : goal.decreases-loop-number
+decreases-loop-number l = l.windows - l.number

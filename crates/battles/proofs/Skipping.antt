@@ -1,0 +1,252 @@
+-- Windows of a still field that pass at once: robots that ask nothing, and updates that only count.
+use Rattle.std.proofs.Common.{◌≡◌, ◌≢◌, ℕ, ◌+◌, ◌*◌, ◌<◌, ◌≤◌, zero, suc, Bool, true, false, ℤ, pos, List, [], ◌∷◌, ◌++◌, length, set, get_or, replicate, append_assoc, inl, inr, refl, sym, ap, ◌∙◌, arith, add-one}
+use Rattle.std.specs.Prelude.{nat_lt, if◌then◌else◌}
+use Rattle.std.specs.List.{count_by}
+use Rattle.std.proofs.lemmas.Bool.{cases_lt}
+use Rattle.std.proofs.lemmas.List.{append-nil, get_or-set_same, get_or-set_other, length-set, replicate_more, replicate-append-replicate}
+use Rattle.arena.specs.Field.{Field, is_live, is_alive, live_count}
+use Rattle.arena.specs.Ground.{Body, Ground, body_of, lives}
+use Rattle.arena.specs.Moved.{moved}
+use Rattle.arena.specs.Rest.{IsStill, rested}
+use Rattle.arena.specs.Standing.{StandsFor as IsGroundOf}
+use Rattle.arena.proofs.Represents.{body_at, living}
+use Rattle.arena.proofs.Still.{only_rests}
+use Rattle.code.specs.declared.want.Want.TheVariants.{Quiet}
+use Rattle.code.specs.Generation.{ObjectCode}
+use Rattle.battles.specs.Battle.{Robot, Stage, granted, step, robot_of, turn, turns}
+use Rattle.battles.specs.Carrying.{Runner, AreRobotsOf, EachIsAt, HasReached, IsQuiet}
+use Rattle.battles.specs.Windows.{AreAhead, rounds, segment, segments}
+use Rattle.battles.proofs.Passed.{code_at, runners_length}
+use Rattle.battles.proofs.Running.{quiet_less}
+use Rattle.battles.proofs.Stages.{robot_at, robots_length, stands_at}
+
+-- Who lives, and how many, an arena says of each field that it represents.
+live_is : (g : Ground) (f : Field) (i : ℕ) → IsGroundOf g f → is_live f i ≡ lives g i
+unfolding is_live is_alive body_of lives
+live_is g f i ground = ap (λ (b : Body). nat_lt b.damage 100) (sym (body_at g f i ground))
+
+count_is : (g : Ground) (f : Field) → IsGroundOf g f → live_count f ≡ count_by (λ (b : Body). nat_lt b.damage 100) g.robots
+unfolding live_count
+count_is g f ground =
+    sym (ap (count_by (λ (b : Body). nat_lt b.damage 100)) ground.robots ∙ living f.robots)
+
+-- what a quiet cycle makes of the traces of the first n robots
+waited : (ℕ → Bool) → ℕ → List (List ℤ) → List (List ℤ)
+waited live zero traces = traces
+waited live (suc n) traces =
+    let before = waited live n traces in
+    set before n (if live n then get_or before n [] ++ pos 0 ∷ [] else get_or before n [])
+
+waited_length : (live : ℕ → Bool) (n : ℕ) (traces : List (List ℤ)) → length (waited live n traces) ≡ length traces
+unfolding waited
+waited_length live zero traces = refl
+waited_length live (suc n) traces = length-set (waited live n traces) n _ ∙ waited_length live n traces
+
+waited_later : (live : ℕ → Bool) (n : ℕ) (traces : List (List ℤ)) (i : ℕ) → n ≤ i
+    → get_or (waited live n traces) i [] ≡ get_or traces i []
+unfolding waited
+waited_later live zero traces i from = refl
+waited_later live (suc n) traces i from =
+    let other : i ≢ n = omega arith in
+    get_or-set_other (waited live n traces) n i _ [] other ∙ waited_later live n traces i (omega arith)
+
+waited_last : (live : ℕ → Bool) (n : ℕ) (traces : List (List ℤ)) → n < length traces → live n ≡ true
+    → get_or (waited live (suc n) traces) n [] ≡ get_or traces n [] ++ pos 0 ∷ []
+unfolding waited
+waited_last live n traces inside is =
+    get_or-set_same (waited live n traces) n _ [] (omega (arith, inside, waited_length live n traces))
+    ∙ rw is (ap (λ t. t ++ pos 0 ∷ []) (waited_later live n traces n (omega arith)))
+
+waited_at : (live : ℕ → Bool) (n : ℕ) (traces : List (List ℤ)) (i : ℕ) → i < n → i < length traces → live i ≡ true
+    → get_or (waited live n traces) i [] ≡ get_or traces i [] ++ pos 0 ∷ []
+unfolding waited
+waited_at live zero traces i low inside is = absurd (omega arith)
+waited_at live (suc n) traces i low inside is = elim (cases_lt i n) [
+  | inl less ↦
+      let other : i ≢ n = omega arith in
+      get_or-set_other (waited live n traces) n i _ [] other ∙ waited_at live n traces i less inside is
+  | inr last ↦
+      let same : n ≡ i = omega arith in
+      rw same (waited_last live i traces inside is)
+]
+
+-- and so many of them
+waits : (ℕ → Bool) → (n k : ℕ) → List (List ℤ) → List (List ℤ)
+waits live n zero traces = traces
+waits live n (suc k) traces = waited live n (waits live n k traces)
+
+waits_length : (live : ℕ → Bool) (n k : ℕ) (traces : List (List ℤ)) → length (waits live n k traces) ≡ length traces
+unfolding waits
+waits_length live n zero traces = refl
+waits_length live n (suc k) traces = waited_length live n (waits live n k traces) ∙ waits_length live n k traces
+
+waits_at : (live : ℕ → Bool) (n k : ℕ) (traces : List (List ℤ)) (i : ℕ) → i < n → i < length traces → live i ≡ true
+    → get_or (waits live n k traces) i [] ≡ get_or traces i [] ++ replicate k (pos 0)
+unfolding waits
+waits_at live n zero traces i low inside is = sym (append-nil (get_or traces i []))
+waits_at live n (suc k) traces i low inside is =
+    waited_at live n (waits live n k traces) i low (omega (arith, inside, waits_length live n k traces)) is
+    ∙ ap (λ t. t ++ pos 0 ∷ []) (waits_at live n k traces i low inside is)
+    ∙ append_assoc (get_or traces i []) (replicate k (pos 0)) (pos 0 ∷ [])
+    ∙ ap (λ zeros. get_or traces i [] ++ zeros) (replicate_more k (pos 0) ∙ ap (λ m. replicate m (pos 0)) (add-one k))
+
+waits_plus : (live : ℕ → Bool) (n k j : ℕ) (traces : List (List ℤ))
+    → waits live n j (waits live n k traces) ≡ waits live n (k + j) traces
+unfolding waits
+waits_plus live n k zero traces = ap (λ m. waits live n m traces) (omega arith)
+waits_plus live n k (suc j) traces =
+    let more : k + suc j ≡ suc (k + j) = omega arith in
+    rw more (ap (waited live n) (waits_plus live n k j traces))
+
+-- each live robot is quiet for so many cycles
+abbrev AreQuiet : Ground → List Robot → List (List ℤ) → ℕ → Type 0
+AreQuiet g robots traces k =
+    (i : ℕ) → i < length robots → lives g i ≡ true → IsQuiet (robot_of robots i) (get_or traces i []) k
+
+-- So the field stays as it is in these.
+step_waits : (r : Robot) (i : ℕ) (f : Field) (trace : List ℤ) (live : Bool) → is_live f i ≡ live
+    → (live ≡ true → r trace ≡ Quiet) → step r i f trace ≡ (f, if live then trace ++ pos 0 ∷ [] else trace)
+unfolding step granted
+step_waits r i f trace true is quiet = rw (is, quiet refl) refl
+step_waits r i f trace false is quiet = rw is refl
+
+turn_waits : (g : Ground) (robots : List Robot) (i : ℕ) (s : Stage) → IsGroundOf g s.field
+    → (lives g i ≡ true → robot_of robots i (get_or s.traces i []) ≡ Quiet)
+    → turn robots i s ≡ record {
+      field = s.field;
+      traces = set s.traces i (if lives g i then get_or s.traces i [] ++ pos 0 ∷ [] else get_or s.traces i []);
+    }
+unfolding turn
+turn_waits g robots i s ground quiet =
+    ap (λ (after : Field × List ℤ). record { field = after.0; traces = set s.traces i after.1 })
+    (step_waits (robot_of robots i) i s.field (get_or s.traces i []) (lives g i) (live_is g s.field i ground) quiet)
+
+turns_wait : (g : Ground) (robots : List Robot) (n : ℕ) (s : Stage) → IsGroundOf g s.field
+    → ((i : ℕ) → i < n → lives g i ≡ true → robot_of robots i (get_or s.traces i []) ≡ Quiet)
+    → turns robots n s ≡ record { field = s.field; traces = waited (lives g) n s.traces }
+unfolding turns waited
+turns_wait g robots zero s ground quiet = refl
+turns_wait g robots (suc n) s ground quiet =
+    ap (turn robots n) (turns_wait g robots n s ground (λ i low. quiet i (omega arith)))
+    ∙ turn_waits g robots n (record { field = s.field; traces = waited (lives g) n s.traces }) ground
+    (λ live. ap (robot_of robots n) (waited_later (lives g) n s.traces n (omega arith)) ∙ quiet n (omega arith) live)
+
+rounds_wait : (g : Ground) (robots : List Robot) (k : ℕ) (s : Stage) → IsGroundOf g s.field → length robots ≤ length s.traces
+    → AreQuiet g robots s.traces k
+    → rounds robots k s ≡ record { field = s.field; traces = waits (lives g) (length robots) k s.traces }
+unfolding rounds waits
+rounds_wait g robots zero s ground all quiet = refl
+rounds_wait g robots (suc k) s ground all quiet =
+    let traces = waits (lives g) (length robots) k s.traces in
+    ap (turns robots (length robots)) (rounds_wait g robots k s ground all (λ i low live j less. quiet i low live j (omega arith)))
+    ∙ turns_wait g robots (length robots) (record { field = s.field; traces = traces }) ground
+    (λ i low live.
+        ap (robot_of robots i) (waits_at (lives g) (length robots) k s.traces i low (omega arith) live)
+        ∙ quiet i low live k (omega arith))
+
+-- If the field is still the windows follow one another in the same way.
+quiet_on : (g : Ground) (robots : List Robot) (k j : ℕ) (traces : List (List ℤ)) → length robots ≤ length traces
+    → AreQuiet g robots traces (k + j) → AreQuiet g robots (waits (lives g) (length robots) k traces) j
+quiet_on g robots k j traces all quiet i low live m less =
+    ap (λ trace. robot_of robots i (trace ++ replicate m (pos 0)))
+    (waits_at (lives g) (length robots) k traces i low (omega arith) live)
+    ∙ ap (robot_of robots i) (
+    append_assoc (get_or traces i []) (replicate k (pos 0)) (replicate m (pos 0))
+    ∙ ap (λ zeros. get_or traces i [] ++ zeros) (replicate-append-replicate k m (pos 0)))
+    ∙ quiet i low live (k + m) (omega arith)
+
+updated_stage : Stage → Stage
+updated_stage s = record { field = moved s.field; traces = s.traces }
+
+quiet_within : (g : Ground) (robots : List Robot) (traces : List (List ℤ)) (k n : ℕ) → k ≤ n → AreQuiet g robots traces n
+    → AreQuiet g robots traces k
+quiet_within g robots traces k n less quiet i low live = quiet_less (robot_of robots i) (get_or traces i []) k n less (quiet i low live)
+
+segments_wait : (g : Ground) (robots : List Robot) (k : ℕ) (s : Stage) → IsGroundOf g s.field → IsStill g.robots g.slots
+    → length robots ≤ length s.traces → AreQuiet g robots s.traces (15 * k)
+    → segments robots k s ≡ record { field = rested k s.field; traces = waits (lives g) (length robots) (15 * k) s.traces }
+unfolding segments segment rested lives updated_stage waits
+segments_wait g robots zero s ground still all quiet = refl
+segments_wait g robots (suc k) s ground still all quiet =
+    let traces = waits (lives g) (length robots) (15 * k) s.traces in
+    let grown = record g { updates = g.updates + k } in
+    let before = segments_wait g robots k s ground still all (quiet_within g robots s.traces (15 * k) (15 * suc k) (omega arith) quiet) in
+    let more : AreQuiet g robots s.traces (15 * k + 15) = quiet_within g robots s.traces (15 * k + 15) (15 * suc k) (omega arith) quiet in
+    let sum : 15 * k + 15 ≡ 15 * suc k = omega arith in
+    ap (segment robots) before
+    ∙ ap updated_stage (rounds_wait grown robots 15 (record { field = rested k s.field; traces = traces }) (only_rests g s.field k ground still)
+    (omega (arith, all, waits_length (lives g) (length robots) (15 * k) s.traces)) (quiet_on g robots (15 * k) 15 s.traces all more))
+    ∙ ap (λ (ts : List (List ℤ)). updated_stage (record { field = rested k s.field; traces = ts }))
+    (waits_plus (lives g) (length robots) (15 * k) 15 s.traces ∙ ap (λ m. waits (lives g) (length robots) m s.traces) sum)
+
+-- The machines are ahead by cycles in which the robots are quiet.
+traces_length : (runners : List Runner) (codes : List ObjectCode) (traces : List (List ℤ)) → EachIsAt runners codes traces
+    → length traces ≡ length codes
+traces_length [] [] [] at = refl
+traces_length (runner ∷ runners) (code ∷ codes) (trace ∷ traces) at = ap suc (traces_length runners codes traces at.1)
+traces_length _ _ _ at = absurd at
+
+are_quiet : (codes : List ObjectCode) (robots : List Robot) (runners : List Runner) (none : Runner) (g : Ground) (s : Stage) (cycles : ℕ)
+    → AreRobotsOf codes robots → HasReached runners codes g s → AreAhead (length runners) cycles g runners
+    → AreQuiet g robots s.traces cycles
+unfolding robot_of
+are_quiet codes robots runners none g s cycles are reached ahead i low live =
+    let here = code_at codes i (omega (arith, low, robots_length codes robots are)) in
+    let inside : i < length runners = omega (arith, low, robots_length codes robots are, runners_length runners codes s.traces reached.traces) in
+    let is = robot_at codes robots i here.0 (λ trace. Quiet) are here.1 in
+    let at = stands_at runners codes s.traces i here.0 none reached.traces here.1 in
+    quiet_less (robot_of robots i) (get_or s.traces i []) cycles (get_or runners i none).ahead (ahead i none inside live) (at.quiet _ is)
+
+-- they are ahead by fewer cycles too
+pub ahead_fewer : (n most cycles : ℕ) (arena : Ground) (runners : List Runner) → cycles ≤ most → AreAhead n most arena runners
+    → AreAhead n cycles arena runners
+ahead_fewer n most cycles arena runners fewer ahead i none inside live =
+    let here : most ≤ (get_or runners i none).ahead = ahead i none inside live in
+    omega arith
+
+some_quiet : (codes : List ObjectCode) (robots : List Robot) (runners : List Runner) (g : Ground) (s : Stage) (cycles : ℕ)
+    → AreRobotsOf codes robots → HasReached runners codes g s → AreAhead (length runners) cycles g runners
+    → AreQuiet g robots s.traces cycles
+some_quiet [] [] [] g s cycles are reached ahead = λ i low live. absurd (omega arith)
+some_quiet codes robots (runner ∷ runners) g s cycles are reached ahead =
+    are_quiet codes robots (runner ∷ runners) runner g s cycles are reached ahead
+some_quiet (code ∷ codes) robots [] g s cycles are reached ahead =
+    absurd (omega (arith, runners_length [] (code ∷ codes) s.traces reached.traces))
+some_quiet [] (robot ∷ robots) [] g s cycles are reached ahead = absurd are
+
+enough : (codes : List ObjectCode) (robots : List Robot) (runners : List Runner) (g : Ground) (s : Stage)
+    → AreRobotsOf codes robots → HasReached runners codes g s → length robots ≤ length s.traces
+enough codes robots runners g s are reached =
+    omega (arith, robots_length codes robots are, traces_length runners codes s.traces reached.traces)
+
+-- Where the cycles of some windows lead, and as many updates: to where the windows lead.
+pub skips : (codes : List ObjectCode) (robots : List Robot) (runners after : List Runner) (g : Ground) (s : Stage) (k : ℕ)
+    → AreRobotsOf codes robots → HasReached runners codes g s → IsStill g.robots g.slots
+    → AreAhead (length runners) (15 * k) g runners → HasReached after codes g (rounds robots (15 * k) s)
+    → HasReached after codes (record g { updates = g.updates + k }) (segments robots k s)
+skips codes robots runners after g s k are reached still ahead gone =
+    let all = enough codes robots runners g s are reached in
+    let quiet = some_quiet codes robots runners g s (15 * k) are reached ahead in
+    let run = rounds_wait g robots (15 * k) s reached.field all quiet in
+    let traces : EachIsAt after codes (waits (lives g) (length robots) (15 * k) s.traces) = rw run at gone.traces in
+    rw (segments_wait g robots k s reached.field still all quiet) (record {
+      field = only_rests g s.field k reached.field still;
+      traces = traces;
+    })
+
+-- as many robots live
+pub skips_alive : (codes : List ObjectCode) (robots : List Robot) (runners : List Runner) (g : Ground) (s : Stage) (k n : ℕ)
+    → AreRobotsOf codes robots → HasReached runners codes g s → IsStill g.robots g.slots
+    → AreAhead (length runners) (15 * k) g runners → n ≤ k → live_count (segments robots n s).field ≡ live_count s.field
+skips_alive codes robots runners g s k n are reached still ahead within =
+    let all = enough codes robots runners g s are reached in
+    let quiet = some_quiet codes robots runners g s (15 * n) are reached
+    (ahead_fewer (length runners) (15 * k) (15 * n) g runners (omega arith) ahead) in
+    ap (λ (t : Stage). live_count t.field) (segments_wait g robots n s reached.field still all quiet)
+    ∙ count_is (record g { updates = g.updates + n }) (rested n s.field) (only_rests g s.field n reached.field still)
+    ∙ sym (count_is g s.field reached.field)
+
+-- no window passes
+pub skips_none : (robots : List Robot) (s : Stage) → segments robots 0 s ≡ s
+unfolding segments
+skips_none robots s = refl
