@@ -141,8 +141,8 @@ rounds_wait g robots (suc k) s ground all quiet =
     ap (turns robots (length robots)) (rounds_wait g robots k s ground all (λ i low live j less. quiet i low live j (omega arith)))
     ∙ turns_wait g robots (length robots) (record { field = s.field; traces = traces }) ground
     (λ i low live.
-        ap (robot_of robots i) (waits_at (lives g) (length robots) k s.traces i low (omega arith) live)
-        ∙ quiet i low live k (omega arith))
+    ap (robot_of robots i) (waits_at (lives g) (length robots) k s.traces i low (omega arith) live)
+    ∙ quiet i low live k (omega arith))
 
 -- If the field is still the windows follow one another in the same way.
 quiet_on : (g : Ground) (robots : List Robot) (k j : ℕ) (traces : List (List ℤ)) → length robots ≤ length traces

@@ -48,9 +48,9 @@ loop-number-preserved c =
     let k = c.skip-number.result in
     let most : n + 1 + k ≤ c.args.limit / 15 = omega (arith, c.skip-number.ensures.most) in
     let segmented : (robots : List Robot) (s : Stage) → AreRobotsOf codes robots → HasReached c.args.runners.now codes c.args.arena.now s
-        → HasReached c.segment.new.runners codes c.segment.new.arena (stage_after robots s (15 * (n + 1))) =
+    → HasReached c.segment.new.runners codes c.segment.new.arena (stage_after robots s (15 * (n + 1))) =
     λ robots s are reached.
-        rw (stage_segment robots s n) (c.segment.ensures.stage robots _ are (c.loop-number.invariant.stage robots s are reached)) in
+    rw (stage_segment robots s n) (c.segment.ensures.stage robots _ are (c.loop-number.invariant.stage robots s are reached)) in
     record {
       within = most;
       manned = c.skip-number.ensures.manned ∙ c.segment.ensures.manned;
@@ -66,7 +66,7 @@ loop-number-preserved c =
           let few = λ (t : Stage). nat_le (live_count t.field) 1 in
           first_skipped robots s (n + 1) k c.args.limit _ (omega arith) next
           (λ j low. ap (λ count. nat_le count 1) (c.skip-number.ensures.alive codes robots _ are (segmented robots s are reached) j low)
-            ∙ ap few (stage_segment robots s n) ∙ undecided);
+          ∙ ap few (stage_segment robots s n) ∙ undecided);
     }
 
 pub returns-clause-stage : goal.returns-clause-stage
