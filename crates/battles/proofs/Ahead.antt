@@ -1,8 +1,8 @@
 -- How far the robots of a window have come.
-use Rattle.std.proofs.Common.{◌≡◌, ◌≢◌, ℕ, ◌+◌, ◌*◌, ◌-◌, ◌%◌, ◌<◌, ◌≤◌, zero, suc, ℤ, List, [], ◌∷◌, length, set, get_or, Some, inl, inr, refl, sym, ap, ◌∙◌, arith}
+use Rattle.std.proofs.Common.{◌≡◌, ◌≢◌, ℕ, ◌+◌, ◌*◌, ◌-◌, ◌%◌, ◌<◌, ◌≤◌, zero, suc, ℤ, List, [], ◌∷◌, length, set, get_or, Some, ◌⊎◌, inl, inr, refl, sym, ap, ◌∙◌, arith}
 use Rattle.std.specs.Prelude.{slice_get}
 use Rattle.std.proofs.lemmas.List.{get_or-set_same, get_or-set_other, length-set, set-set, set-get_or}
-use Rattle.std.proofs.lemmas.Bool.{cases_lt}
+use Rattle.std.proofs.lemmas.Bool.{cases_eq, cases_lt}
 use Rattle.arena.specs.Field.{Field}
 use Rattle.arena.specs.Ground.{Ground}
 use Rattle.arena.specs.Standing.{StandsFor as IsGroundOf}
@@ -10,7 +10,9 @@ use Rattle.code.specs.declared.want.Want.TheVariants.{Quiet}
 use Rattle.code.specs.Generation.{ObjectCode}
 use Rattle.battles.specs.Battle.{Robot, Stage, step, turn, robot_of}
 use Rattle.battles.specs.Carrying.{Runner, AreRobotsOf, EachIsAt, HasReached, IsAt, IsRobotOf}
-use Rattle.battles.specs.Windows.{AreSlots, HasCome, HasRun, IsLike, alone, RunsAlone, rest, is_left, rounds}
+use Rattle.battles.specs.Windows.{AreSlots, HasCome, HasRun, IsLike, OthersArePast, alone, RunsAlone, rest, is_left, rounds}
+use Rattle.battles.specs.declared.windows.Draws.{Draws}
+use Rattle.battles.specs.declared.windows.Draws.TheVariants.{InOrder, AtOnce}
 use Rattle.battles.proofs.Alike.{stands_like, stages_refl, like_same, stages_trans}
 use Rattle.battles.proofs.Commuting.{TurnsAlone}
 use Rattle.battles.proofs.Turns.{rest_all, rest_none, left_not, slots_one, slots_set, next_taken}
@@ -41,35 +43,59 @@ ran_alone robots i s n k inside runs within = λ live.
     let robot = robot_of robots i in
     rw (get_or-set_same s.traces i (alone robot i s.field (get_or s.traces i []) k).1 [] inside) (runs k within live)
 
--- its turns are no longer left
+-- If all others are past the end, none is left before its own.
+first_left : (next : List ℕ) (i end n : ℕ) → AreSlots next → i < 4 → get_or next i 0 + 4 * n < end → OthersArePast end i next
+    → (j : ℕ) → j < 4 → get_or (set next i (get_or next i 0 + 4 * n)) i 0 ≤ get_or (set next i (get_or next i 0 + 4 * n)) j 0
+first_left next i end n are small within past j low =
+    let four = are.four in
+    let slot = get_or next i 0 + 4 * n in
+    let own : get_or (set next i slot) i 0 ≡ slot = get_or-set_same next i slot 0 (omega arith) in
+    elim (cases_eq j i) [
+      | inl same ↦ rw same (omega arith)
+      | inr other ↦
+          let stays : get_or (set next i slot) j 0 ≡ get_or next j 0 = get_or-set_other next i j slot 0 other in
+          omega (arith, own, stays, within, past j low other)
+    ]
+
+-- Its turns are no longer left: each was one that it does alone, or none of the others' was left.
 pub run_taken : (robots : List Robot) (next : List ℕ) (i end n : ℕ) (s : Stage) → AreSlots next → i < 4 → i < length s.traces
-    → get_or next i 0 + 4 * n < end + 4 → RunsAlone (robot_of robots i) i s.field (get_or s.traces i []) n
+    → get_or next i 0 + 4 * n < end + 4
+    → RunsAlone (robot_of robots i) i s.field (get_or s.traces i []) n ⊎ OthersArePast end i next
     → IsLike (rest robots (is_left (set next i (get_or next i 0 + 4 * n))) 0 end (ran robots i s n)) (rest robots (is_left next) 0 end s)
-run_taken robots next i end zero s are small inside within runs =
+run_taken robots next i end zero s are small inside within ready =
     let same : get_or next i 0 + 4 * 0 ≡ get_or next i 0 = omega arith in
     rw (ran_none robots i s, same, set-get_or next i 0) (stages_refl _)
-run_taken robots next i end (suc n) s are small inside within runs =
+run_taken robots next i end (suc n) s are small inside within ready =
     let four = are.four in
     let d = get_or next i 0 in
     let before = set next i (d + 4 * n) in
     let slot : get_or before i 0 ≡ d + 4 * n = get_or-set_same next i (d + 4 * n) 0 (omega arith) in
-    let turns = ran_alone robots i s (suc n) n inside runs (omega arith) in
+    let turns : TurnsAlone robots i (ran robots i s n) ⊎ ((j : ℕ) → j < 4 → get_or before i 0 ≤ get_or before j 0) =
+    elim ready as (λ r. TurnsAlone robots i (ran robots i s n) ⊎ ((j : ℕ) → j < 4 → get_or before i 0 ≤ get_or before j 0)) [
+      | inl runs ↦ inl (ran_alone robots i s (suc n) n inside runs (omega arith))
+      | inr past ↦ inr (first_left next i end n are small (omega arith) past)
+    ] in
+    let fewer : RunsAlone (robot_of robots i) i s.field (get_or s.traces i []) n ⊎ OthersArePast end i next =
+    elim ready as (λ r. RunsAlone (robot_of robots i) i s.field (get_or s.traces i []) n ⊎ OthersArePast end i next) [
+      | inl runs ↦ inl (λ k low. runs k (omega arith))
+      | inr past ↦ inr past
+    ] in
     let later : set before i (get_or before i 0 + 4) ≡ set next i (d + 4 * suc n) =
     ap (λ k. set before i (k + 4)) slot ∙ set-set next i (d + 4 * n) (d + 4 * n + 4) ∙ ap (set next i) (omega arith) in
     let last : IsLike (rest robots (is_left (set next i (d + 4 * suc n))) 0 end (ran robots i s (suc n))) (rest robots (is_left before) 0 end (ran robots i s n)) =
     rw (later, ran_more robots i s n inside) at
-    (next_taken robots before i end (ran robots i s n) (slots_set next i n are small) small (omega (arith, slot)) (inl turns)) in
-    stages_trans _ _ _ last (run_taken robots next i end n s are small inside (omega arith) (λ k low. runs k (omega arith)))
+    (next_taken robots before i end (ran robots i s n) (slots_set next i n are small) small (omega (arith, slot)) turns) in
+    stages_trans _ _ _ last (run_taken robots next i end n s are small inside (omega arith) fewer)
 
 -- What a robot that runs alone makes of its machine and of the arena, whatever its trace and the field are.
 pub record Runs (i : ℕ) (code : ObjectCode) (n : ℕ) (runner after : Runner) (arena grown : Ground) : Type 0 where
   pub on : (r : Robot) (f : Field) (trace : List ℤ) → IsRobotOf code r → IsGroundOf arena f → IsAt runner code trace
-      → HasRun r i f trace n code after grown
+      → HasRun InOrder r i f trace n code after grown
 
--- And one that takes the turn that is next before it runs alone.
-pub record GoesOn (i : ℕ) (code : ObjectCode) (n : ℕ) (runner after : Runner) (arena grown : Ground) : Type 0 where
+-- And one that takes the turn that is next before it runs.
+pub record GoesOn (draws : Draws) (i : ℕ) (code : ObjectCode) (n : ℕ) (runner after : Runner) (arena grown : Ground) : Type 0 where
   pub on : (r : Robot) (f : Field) (trace : List ℤ) → IsRobotOf code r → IsGroundOf arena f → IsAt runner code trace
-      → HasRun r i (step r i f trace).0 (step r i f trace).1 (n - 1) code after grown
+      → HasRun draws r i (step r i f trace).0 (step r i f trace).1 (n - 1) code after grown
 
 traces_length : (runners : List Runner) (codes : List ObjectCode) (traces : List (List ℤ)) → EachIsAt runners codes traces → length traces ≡ length codes
 traces_length [] [] [] stands = refl
@@ -92,18 +118,23 @@ come_alone robots codes next w n i runners arena grown opened code none after ar
     record {
       stage = ran robots i s n;
       reached = record { field = on.stands; traces = stands_set runners codes s.traces i after code _ come.reached.traces here on.at };
-      ends = stages_trans _ _ _ (run_taken robots next i (4 * w) n s slots small (omega (arith, lengths, inside)) within on.steps) come.ends;
+      ends = stages_trans _ _ _ (run_taken robots next i (4 * w) n s slots small (omega (arith, lengths, inside)) within (inl (on.steps refl))) come.ends;
     }
 
+-- A robot draws in order, or all others are past the end.
+pub ordered_or : {P : Type 0} (draws : Draws) → (draws ≡ AtOnce → P) → (draws ≡ InOrder) ⊎ P
+ordered_or InOrder past = inl refl
+ordered_or AtOnce past = inr (past refl)
+
 pub come_on : (robots : List Robot) (codes : List ObjectCode) (next : List ℕ) (w n i : ℕ) (runners : List Runner) (arena grown : Ground) (opened : Stage)
-    (code : ObjectCode) (none after : Runner)
+    (code : ObjectCode) (none after : Runner) (draws : Draws)
     → AreRobotsOf codes robots → AreSlots next → i < 4 → i < length codes → get_or next i 0 + 4 * n < 4 * w + 4 → 0 < n
-    → ((j : ℕ) → j < 4 → get_or next i 0 ≤ get_or next j 0)
+    → ((j : ℕ) → j < 4 → get_or next i 0 ≤ get_or next j 0) → (draws ≡ AtOnce → OthersArePast (4 * w) i next)
     → HasCome robots codes next w runners arena opened → slice_get codes i ≡ Some code
-    → GoesOn i code n (get_or runners i none) after arena grown
+    → GoesOn draws i code n (get_or runners i none) after arena grown
     → HasCome robots codes (set next i (get_or next i 0 + 4 * n)) w (set runners i after) grown opened
 unfolding turn robot_of ran
-come_on robots codes next w n i runners arena grown opened code none after are slots small inside within some first come here gone =
+come_on robots codes next w n i runners arena grown opened code none after draws are slots small inside within some first past come here gone =
     let s = come.stage in
     let robot = robot_at codes robots i code (λ trace. Quiet) are here in
     let at = stands_at runners codes s.traces i code none come.reached.traces here in
@@ -119,8 +150,13 @@ come_on robots codes next w n i runners arena grown opened code none after are s
     let twice : set later i (get_or later i 0 + 4 * (n - 1)) ≡ set next i (d + 4 * n) =
     ap (λ k. set later i (k + 4 * (n - 1))) own ∙ set-set next i (d + 4) (d + 4 + 4 * (n - 1)) ∙ ap (set next i) (omega (arith, some)) in
     let long : length (set s.traces i stepped.1) ≡ length s.traces = length-set s.traces i stepped.1 in
-    let runs : RunsAlone (robot_of robots i) i stepped.0 (get_or (set s.traces i stepped.1) i []) (n - 1) = rw same on.steps in
-    let taken = run_taken robots later i (4 * w) (n - 1) (turn robots i s) (slots_one next i slots small) small (omega (arith, lengths, long, inside)) (omega (arith, own, within, some)) runs in
+    let runs : draws ≡ InOrder → RunsAlone (robot_of robots i) i stepped.0 (get_or (set s.traces i stepped.1) i []) (n - 1) = λ ordered. rw same (on.steps ordered) in
+    let ready : RunsAlone (robot_of robots i) i stepped.0 (get_or (set s.traces i stepped.1) i []) (n - 1) ⊎ OthersArePast (4 * w) i later =
+    elim (ordered_or draws past) as (λ r. RunsAlone (robot_of robots i) i stepped.0 (get_or (set s.traces i stepped.1) i []) (n - 1) ⊎ OthersArePast (4 * w) i later) [
+      | inl ordered ↦ inl (runs ordered)
+      | inr others ↦ inr (λ j low other. rw (get_or-set_other next i j (d + 4) 0 other) (others j low other))
+    ] in
+    let taken = run_taken robots later i (4 * w) (n - 1) (turn robots i s) (slots_one next i slots small) small (omega (arith, lengths, long, inside)) (omega (arith, own, within, some)) ready in
     let moved : (ran robots i (turn robots i s) (n - 1)).traces ≡ set s.traces i (alone (robot_of robots i) i stepped.0 stepped.1 (n - 1)).1 =
     ap (λ t. set (set s.traces i stepped.1) i (alone (robot_of robots i) i stepped.0 t (n - 1)).1) same
     ∙ set-set s.traces i stepped.1 (alone (robot_of robots i) i stepped.0 stepped.1 (n - 1)).1 in

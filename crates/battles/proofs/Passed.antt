@@ -12,6 +12,7 @@ use Rattle.code.specs.Standing.{FitsProgram}
 use Rattle.battles.specs.Battle.{Robot, Stage}
 use Rattle.battles.specs.Carrying.{Runner, AreRobotsOf, EachFits, EachIsAt, HasReached, IsAt, IsRobotOf}
 use Rattle.battles.specs.Windows.{AreAhead, AreSlots, HasCome, HasRun, rounds}
+use Rattle.battles.specs.declared.windows.Draws.TheVariants.{InOrder}
 use Rattle.battles.proofs.Ahead.{Runs, come_alone, opens, closes}
 use Rattle.battles.proofs.Alone.{quiet_alone, quiet_runs}
 use Rattle.battles.proofs.Running.{at_less, quiet_less}
@@ -21,11 +22,11 @@ use Rattle.battles.proofs.Turns.{slots_set}
 -- a live robot goes on
 pub goes_ahead : (runner : Runner) (code : ObjectCode) (r : Robot) (i : ℕ) (f : Field) (trace : List ℤ) (n : ℕ) (arena : Ground)
     → n ≤ runner.ahead → is_live f i ≡ true → IsRobotOf code r → IsGroundOf arena f → IsAt runner code trace
-    → HasRun r i f trace n code (record { machine = runner.machine; ahead = runner.ahead - n }) arena
+    → HasRun InOrder r i f trace n code (record { machine = runner.machine; ahead = runner.ahead - n }) arena
 goes_ahead runner code r i f trace n arena within live is ground at =
     let quiet = quiet_less r trace n runner.ahead within (at.quiet r is) in
     record {
-      steps = quiet_runs r i f trace n live quiet;
+      steps = λ ordered. quiet_runs r i f trace n live quiet;
       stands = rw (quiet_alone r i f trace n live quiet) ground;
       at = rw (quiet_alone r i f trace n live quiet) (at_less runner n code trace within at);
     }

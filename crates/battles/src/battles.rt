@@ -12,15 +12,22 @@ ghost use Rattle.battles.specs.Pairing.{paired, robots_of};
 
 use crate::outcome::Outcome;
 use crate::programs::Programs;
-use crate::runners::Runner;
+use crate::runners::{Machines, Runner};
 use crate::scheduler::play;
 use arena::Arena;
 use arrayvec::ArrayVec;
 use settings::{CYCLES_MAX, FILES_MAX};
 
 /// Plays the battle of the match of this number, counted from 1. The seed and the number choose the random numbers;
-/// the battle ends after `limit` cycles if it isn't over before. Nothing is allocated, and no battle fails.
-pub fn battle(programs: &Programs, seed: u64, number: u32, limit: u32) -> Outcome
+/// the battle ends after `limit` cycles if it isn't over before. What the machines did before makes no difference.
+/// Nothing is allocated, and no battle fails.
+pub fn battle(
+    programs: &Programs,
+    machines: &mut Machines,
+    seed: u64,
+    number: u32,
+    limit: u32,
+) -> Outcome
     requires some { 0 < length programs.now }
     requires limit { limit ≤ CYCLES_MAX }
     ensures battle { (p : Profile) (files : List File) → AreCodesOf programs.now p files
@@ -30,21 +37,21 @@ pub fn battle(programs: &Programs, seed: u64, number: u32, limit: u32) -> Outcom
 {
     let robots = programs.robots();
     let mut arena = Arena::new(seed, u64::from(number), robots);
-    let mut runners = runners(programs);
-    let cycles = play(runners.as_mut_slice(), programs, &mut arena, limit);
+    let runners = &mut machines.runners[..robots];
+    begin(runners, programs);
+    let cycles = play(runners, programs, &mut arena, limit);
     Outcome::new(cycles, damages(&arena, robots))
 }
 
-// Makes a runner for each robot, at the start of its program.
-fn runners(programs: &Programs) -> ArrayVec<Runner, FILES_MAX>
-    ensures fits { EachFits result.items (paired programs.now) }
-    ensures begins { EachIsAt result.items (paired programs.now) (replicate (length (paired programs.now)) []) }
+// Starts each robot's runner at the begin of its program.
+fn begin(runners: &mut [Runner], programs: &Programs)
+    requires { length runners.old ≡ length (paired programs.now) }
+    ensures fits { EachFits runners.new (paired programs.now) }
+    ensures begins { EachIsAt runners.new (paired programs.now) (replicate (length (paired programs.now)) []) }
 {
-    let mut runners = ArrayVec::new();
-    for robot in 0..programs.robots() {
-        runners.push(Runner::new(programs.pilot(robot)));
+    for robot in 0..runners.len() {
+        runners[robot].begin(programs.pilot(robot));
     }
-    runners
 }
 
 // Returns the damage of each robot.

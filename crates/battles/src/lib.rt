@@ -15,3 +15,4 @@ pub use battles::battle;
 pub use known::known_battles;
 pub use outcome::Outcome;
 pub use programs::Programs;
+pub use runners::Machines;

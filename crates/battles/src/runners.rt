@@ -1,11 +1,32 @@
-//! A robot's machine, which may be some cycles ahead of the robot.
+//! The robots' machines, each of which may be some cycles ahead of its robot.
 
 ghost use Rattle.std.specs.Prelude.{[]};
 ghost use Rattle.code.specs.Standing.{FitsProgram};
 ghost use Rattle.battles.specs.Carrying.{IsAt};
 
 use code::{Machine, Program};
+use settings::FILES_MAX;
 use std::marker::Model;
+
+/// The machines of up to four robots. A series makes them once; each battle starts them anew.
+#[derive(Drop)]
+pub struct Machines {
+    pub(crate) runners: [Runner; FILES_MAX],
+}
+
+impl Default for Machines {
+    /// Makes blank machines, which are at the start of no program.
+    fn default() -> Machines {
+        Machines {
+            runners: [
+                Runner::default(),
+                Runner::default(),
+                Runner::default(),
+                Runner::default(),
+            ],
+        }
+    }
+}
 
 /// A robot's machine, and how many cycles it is ahead of the robot. In these it asks nothing, so nobody can see that
 /// they were run before.
@@ -33,14 +54,12 @@ impl Default for Runner {
 }
 
 impl Runner {
-    /// Makes a runner at the start of a program.
-    pub(crate) fn new(program: &Program) -> Runner
-        ensures fits { FitsProgram result.machine program.now }
-        ensures begins { IsAt result program.now [] }
+    /// Begins at the start of a program, whatever it did before.
+    pub(crate) fn begin(&mut self, program: &Program)
+        ensures fits { FitsProgram self.new.machine program.now }
+        ensures begins { IsAt self.new program.now [] }
     {
-        Runner {
-            machine: Machine::new(program),
-            ahead: 0,
-        }
+        self.machine.restart(program);
+        self.ahead = 0;
     }
 }

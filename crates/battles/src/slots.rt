@@ -1,7 +1,7 @@
 //! The slots of a window. A robot's turn of a cycle has a slot of its own, in the order of the cycles and the robots.
 
-ghost use Rattle.std.specs.Prelude.{◌≡◌, ℕ, ◌+◌, ◌*◌, ◌%◌, ◌<◌, ◌≤◌, ◌^◌, slice_index_or, slice_set};
-ghost use Rattle.battles.specs.Windows.{AreSlots};
+ghost use Rattle.std.specs.Prelude.{◌≡◌, ℕ, ◌+◌, ◌*◌, ◌%◌, ◌<◌, ◌≤◌, ◌^◌, true, slice_index_or, slice_set};
+ghost use Rattle.battles.specs.Windows.{AreSlots, OthersArePast};
 
 use settings::FILES_MAX;
 use std::marker::Model;
@@ -56,6 +56,18 @@ impl Slots {
         let low = self.next[0].min(self.next[1]);
         let high = self.next[2].min(self.next[3]);
         low.min(high)
+    }
+
+    /// Reports whether all robots but this one are past the turns before a slot.
+    #[inline(always)]
+    pub(crate) fn others_are_past(&self, robot: usize, end: u32) -> bool
+        requires { robot < 4 }
+        ensures { result ≡ true → OthersArePast end robot self.now }
+    {
+        (robot == 0 || end <= self.next[0])
+            && (robot == 1 || end <= self.next[1])
+            && (robot == 2 || end <= self.next[2])
+            && (robot == 3 || end <= self.next[3])
     }
 
     /// Lets a robot go on by so many cycles.

@@ -11,13 +11,13 @@ ghost use Rattle.sinks.specs.Portions.{Puts};
 use crate::endings::{SeriesFault, Step};
 use crate::reports::put_report;
 use crate::tallies::{Tally, put_totals};
-use battles::{Programs, battle};
+use battles::{Machines, Programs, battle};
 use settings::Settings;
 use sinks::Sink;
 use std::marker::Model;
 use tokens::DeviceFault;
 
-/// The course of a series, without its programs: each call takes the same ones.
+/// The course of a series, without its programs and machines: each call takes the same ones.
 #[derive(Drop)]
 pub(crate) struct Course<'a> {
     settings: &'a Settings<'a>,
@@ -69,6 +69,7 @@ impl<'a> Course<'a> {
     pub(crate) fn next<S: Sink>(
         &mut self,
         programs: &Programs,
+        machines: &mut Machines,
         out: &mut S,
     ) -> Result<Step, SeriesFault>
         requires manned { length programs.now ≡ length self.old.setup.words }
@@ -98,6 +99,7 @@ impl<'a> Course<'a> {
         let number = self.settings.first() + self.tally.matches();
         let outcome = battle(
             programs,
+            machines,
             self.settings.seed(),
             number,
             self.settings.limit(),

@@ -11,7 +11,7 @@ ghost use Rattle.sinks.specs.Portions.{Puts};
 
 use crate::courses::Course;
 use crate::endings::{SeriesFault, Step};
-use battles::Programs;
+use battles::{Machines, Programs};
 use settings::Settings;
 use sinks::Sink;
 use std::marker::Model;
@@ -45,10 +45,11 @@ impl HoldsPrograms for &Programs {
 
 /// A series of matches between the robots of one to four programs. A single program plays against itself.
 ///
-/// It is of fixed size, and allocates nothing.
+/// It is of fixed size, and allocates nothing. Its machines are made once, and serve each match.
 #[derive(Drop)]
 pub struct Series<'a, P: HoldsPrograms> {
     programs: P,
+    machines: Machines,
     course: Course<'a>,
 }
 
@@ -81,6 +82,7 @@ impl<'a, P: HoldsPrograms> Series<'a, P> {
     {
         Series {
             programs,
+            machines: Machines::default(),
             course: Course::new(settings),
         }
     }
@@ -105,7 +107,8 @@ impl<'a, P: HoldsPrograms> Series<'a, P> {
         ensures stopped { self.old.failed ≡ true → is_err result ≡ true
             × (S.portions out.new ≡ S.portions out.old) × (S.failures out.new ≡ S.failures out.old) }
     {
-        self.course.next(self.programs.programs(), out)
+        self.course
+            .next(self.programs.programs(), &mut self.machines, out)
     }
 
     /// Writes the totals of the series, all of whose matches were played.

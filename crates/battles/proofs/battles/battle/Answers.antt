@@ -11,10 +11,9 @@ returns-clause-battle c = λ p files are.
     let robots = robots_of p files in
     let codes = paired c.args.programs.now in
     let each = robots_are c.args.programs.now p files are in
-    let reached : HasReached c.as_mut_slice.result.now codes c.new-arena.result (opening (length robots) c.args.seed c.args.number) =
-    rw c.as_mut_slice.ensures.value (
-    opening_reached c.runners-runners.result.items codes c.new-arena.result robots _ c.args.seed c.args.number each
-    c.robots-robots.ensures.robots (rw c.from.ensures at c.new-arena.ensures.stands) c.runners-runners.ensures.begins) in
+    let reached : HasReached c.begin.new.runners codes c.new-arena.result (opening (length robots) c.args.seed c.args.number) =
+    opening_reached c.begin.new.runners codes c.new-arena.result robots _ c.args.seed c.args.number each
+    c.robots-robots.ensures.robots (rw c.from.ensures at c.new-arena.ensures.stands) c.begin.ensures.begins in
     let ended = c.play-cycles.ensures.stage robots _ each reached in
     let all : c.robots-robots.result ≡ length robots = c.robots-robots.ensures.robots ∙ sym (robots_length codes robots each) in
     c.new.ensures
