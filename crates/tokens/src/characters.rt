@@ -12,25 +12,63 @@ pub const DIGIT: u8 = 1;
 /// The kind of a byte that is none of the others.
 pub const OTHER: u8 = 2;
 
-/// The kinds of the bytes that are punctuators. With the first six no longer one begins.
+// The punctuators of one byte, first those with which no longer one begins.
+
+/// The kind of `(`.
 pub const OPEN_ROUND: u8 = 3;
+
+/// The kind of `)`.
 pub const CLOSE_ROUND: u8 = 4;
+
+/// The kind of `{`.
 pub const OPEN_CURLY: u8 = 5;
+
+/// The kind of `}`.
 pub const CLOSE_CURLY: u8 = 6;
+
+/// The kind of `,`.
 pub const COMMA: u8 = 7;
+
+/// The kind of `;`.
 pub const SEMICOLON: u8 = 8;
+
+/// The kind of `+`.
 pub const PLUS: u8 = 9;
+
+/// The kind of `-`.
 pub const MINUS: u8 = 10;
+
+/// The kind of `*`.
 pub const STAR: u8 = 11;
+
+/// The kind of `/`.
 pub const SLASH: u8 = 12;
+
+/// The kind of `%`.
 pub const PERCENT: u8 = 13;
+
+/// The kind of `&`.
 pub const AND: u8 = 14;
+
+/// The kind of `|`.
 pub const OR: u8 = 15;
+
+/// The kind of `^`.
 pub const XOR: u8 = 16;
+
+/// The kind of `~`.
 pub const TILDE: u8 = 17;
+
+/// The kind of `!`.
 pub const NOT: u8 = 18;
+
+/// The kind of `<`.
 pub const LESS: u8 = 19;
+
+/// The kind of `>`.
 pub const GREATER: u8 = 20;
+
+/// The kind of `=`.
 pub const EQUALS: u8 = 21;
 
 /// The kind of each byte, 16 in a line: `LETTER` to `EQUALS`.

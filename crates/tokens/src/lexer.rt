@@ -129,7 +129,8 @@ impl Window {
         loop {
             self.pass_blanks();
             match self.peek(feed)? {
-                Some(b) if is_blank(b) => self.pass(),
+                // The first test alone shows that most bytes are no blank.
+                Some(b) if b <= b' ' && is_blank(b) => self.pass(),
                 first => return Ok(first),
             }
         }

@@ -5,9 +5,10 @@ ghost use Rattle.std.specs.Option.{option_and_then};
 ghost use Rattle.tokens.specs.Punctuators.{punctuator_of, spelling};
 ghost use Rattle.tokens.specs.Lexing.{EndsBefore, IsWhole};
 
-use crate::characters::KINDS;
-use crate::characters::{AND, CLOSE_CURLY, CLOSE_ROUND, COMMA, EQUALS, GREATER, LESS, MINUS, NOT, OPEN_CURLY};
-use crate::characters::{OPEN_ROUND, OR, OTHER, PERCENT, PLUS, SEMICOLON, SLASH, STAR, TILDE, XOR};
+use crate::characters::{
+    AND, CLOSE_CURLY, CLOSE_ROUND, COMMA, EQUALS, GREATER, KINDS, LESS, MINUS, NOT, OPEN_CURLY,
+    OPEN_ROUND, OR, OTHER, PERCENT, PLUS, SEMICOLON, SLASH, STAR, TILDE, XOR,
+};
 use crate::located_tokens::Punctuator;
 
 impl Punctuator {
