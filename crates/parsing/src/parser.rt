@@ -1,9 +1,8 @@
 //! A parser's state: a cursor over the tokens of a device and the names known, with the calls that consume one token.
 
-ghost use Rattle.std.specs.Prelude.{ℕ, ◌≡◌, ◌<◌, ◌≤◌, [], ◌∷◌, drop, length, false, true, is_some, OnOk, IfOk, IfErr};
-ghost use Rattle.std.specs.Option.{option_map};
-ghost use Rattle.tokens.specs.Reading.{beyond, shown, taken};
-ghost use Rattle.tokens.specs.Tokens.{FitsToken, is_last, tokens};
+ghost use Rattle.std.specs.Prelude.{ℕ, ◌≡◌, ◌<◌, ◌≤◌, [], ◌∷◌, length, false, true, is_some, OnOk, IfOk, IfErr};
+ghost use Rattle.tokens.specs.Reading.{Opens, beyond};
+ghost use Rattle.tokens.specs.Tokens.{FitsToken, is_last};
 ghost use Rattle.tokens.specs.Window.{KnowsEnd};
 ghost use Rattle.tokens.specs.declared.located_tokens.Token.TheVariants as token;
 ghost use Rattle.grammar.specs.Compiled.{diagnostic, main_name};
@@ -67,14 +66,11 @@ impl<'a, F: Feed> Model for Parser<'a, F> {
 pub fn first<F: Feed>(feed: &mut F) -> Result<Cursor, ParseFault>
     requires count { F.failures feed.old < most_failures }
     requires not_ended { F.ended feed.old ≡ false }
-    ensures tokens { IfOk result (λ cursor.
-        shown cursor (F.to_come feed.new) ≡ option_map tokens (F.to_come feed.old)) }
+    ensures opens { IfOk result (λ cursor.
+        Opens cursor (F.to_come feed.old) (F.to_come feed.new) (F.ended feed.new)) }
     ensures ready { IfOk result IsReadable }
     ensures refused { IfErr result (StopsAtFirst (F.to_come feed.old) (F.to_come feed.new)) }
-    ensures took { IfOk result (λ cursor.
-        F.to_come feed.new ≡ option_map (drop (taken cursor)) (F.to_come feed.old)) }
     ensures counted { Counts result (F.failures feed.old) (F.failures feed.new) }
-    ensures known { IfOk result (λ cursor. KnowsEnd (beyond cursor) (F.ended feed.new)) }
 {
     let cursor = Cursor::open(feed)?;
     if let Token::Fault(_) = cursor.peek().token {

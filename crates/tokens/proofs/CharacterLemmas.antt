@@ -1,5 +1,5 @@
 -- The table of the kinds of bytes.
-use Rattle.std.proofs.Common.{◌≡◌, ◌∙◌, ℕ, ◌<◌, true, eqb, ltb, List, [], ◌∷◌, refl, sym, slice_index}
+use Rattle.std.proofs.Common.{◌≡◌, ◌∙◌, ℕ, ◌<◌, true, eqb, leb, List, [], ◌∷◌, refl, sym, slice_index}
 use Rattle.std.proofs.lemmas.Bool.{agree_below, agree_below_at, eq-eqb, eqb-true, leb-true}
 use Rattle.std.specs.Prelude.{nat_le, ◌≤◌}
 use Rattle.tokens.specs.Characters.{is_letter, is_name_byte}
@@ -21,9 +21,9 @@ pub letters : (b : ℕ) → b < 256 → eqb (slice_index kinds b) 0 ≡ is_lette
 unfolding kinds
 letters b h = agree_below_at (λ x. eqb (slice_index kinds x) 0) is_letter 256 b refl h
 
-pub bytes_of_names : (b : ℕ) → b < 256 → ltb (slice_index kinds b) 2 ≡ is_name_byte b
+pub bytes_of_names : (b : ℕ) → b < 256 → leb (slice_index kinds b) 1 ≡ is_name_byte b
 unfolding kinds
-bytes_of_names b h = agree_below_at (λ x. ltb (slice_index kinds x) 2) is_name_byte 256 b refl h
+bytes_of_names b h = agree_below_at (λ x. leb (slice_index kinds x) 1) is_name_byte 256 b refl h
 
 -- a byte by its kind, which no other byte has
 pub by_kind : (kind c : ℕ) → agree_below (λ x. eqb (slice_index kinds x) kind) (λ x. eqb x c) 256 ≡ true → (b : ℕ) → b < 256 → slice_index kinds b ≡ kind → b ≡ c

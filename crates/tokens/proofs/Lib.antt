@@ -11,6 +11,7 @@ pub mod PunctuatorLemmas
 pub mod TokenLemmas
 pub mod CommentLemmas
 pub mod BeginLemmas
+pub mod BlankLemmas
 pub mod EndLemmas
 pub mod ReadingLemmas
 pub mod AtHandLemmas

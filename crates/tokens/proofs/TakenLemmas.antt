@@ -9,7 +9,7 @@ use Rattle.tokens.specs.Ends.{is_decided_by_last_byte, undecided_until}
 use Rattle.tokens.specs.Front.{Front, Nothing, Space, Unclosed, Sign, front, up_to_close, begins_with, name_or}
 use Rattle.tokens.specs.Tokens.{Ahead, behind_byte, passed, at_end, placed, last_located_token, cut, cut_front, located_tokens}
 use Rattle.tokens.specs.Window.{Asks, Held, Takes, WentOn, ahead}
-use Rattle.tokens.specs.Lexing.{to_read, followed, ending, in_run, name_going_on, constant_going_on, value_token, in_punctuator, grown, in_comment, closed_at, StopsWithin}
+use Rattle.tokens.specs.Lexing.{to_read, followed, ending, in_run, name_going_on, constant_going_on, value_token, in_punctuator, grown, in_comment, closed_at, Fails, StopsWithin}
 use Rattle.tokens.specs.declared.devices.DeviceFault.{DeviceFault}
 use Rattle.tokens.specs.declared.located_tokens.Punctuator.{Punctuator}
 use Rattle.tokens.specs.declared.located_tokens.Punctuator.TheVariants.{Slash}
@@ -201,3 +201,7 @@ stops made ends here new (Some to_come) t p = λ first others e. omega (arith, e
 
 pub stops-from : (made made' : Ahead → List LocatedToken) (here old new : Held) (told told' : Option (List ℕ)) → to_read made here told' ≡ to_read made' old told → StopsWithin made here new told' → StopsWithin made' old new told
 stops-from made made' here old new told told' s f = λ first others e. f first others (s ∙ e)
+
+-- nor did it put a token
+pub fails-from : (made made' : Ahead → List LocatedToken) (here old new : Held) (told told' : Option (List ℕ)) {located_token mid_token new_token : LocatedToken} → to_read made here told' ≡ to_read made' old told → mid_token ≡ located_token → Fails made here new told' mid_token new_token → Fails made' old new told located_token new_token
+fails-from made made' here old new told told' s h f = record { within = stops-from made made' here old new told told' s f.within; unread = f.unread ∙ h }

@@ -4,6 +4,7 @@ use Rattle.std.specs.Prelude.{None, if◌then◌else◌, ◌==◌, ◌&&◌, nat
 use Rattle.std.specs.List.{prefix_len}
 use Rattle.std.specs.Option.{option_map}
 use Rattle.tokens.specs.Characters.{is_blank, is_letter, is_digit, is_name_byte}
+use Rattle.tokens.specs.Limits.{name_bytes}
 use Rattle.tokens.specs.Words.{word_of}
 use Rattle.tokens.specs.Punctuators.{longest_punctuator, spelling}
 use Rattle.tokens.specs.declared.located_tokens.Word.{Word}
@@ -40,7 +41,7 @@ name_or name None = variant.Name name
 name_or name (Some word) = variant.Word word
 
 abbrev pub name_token : List ℕ → Token
-name_token name = if nat_le (length name) 31 then name_or name (word_of name) else variant.Fault NameTooLong
+name_token name = if nat_le (length name) name_bytes then name_or name (word_of name) else variant.Fault NameTooLong
 
 -- the value of decimal digits
 abbrev pub number : List ℕ → ℕ

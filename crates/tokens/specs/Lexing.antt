@@ -1,6 +1,6 @@
 -- What is still to be read, at a token's begin or inside of one.
 use Rattle.std.specs.Prelude.{ℕ, Bool, true, false, List, [], ◌∷◌, ◌++◌, Option, Some, None, length, take, fold, ◌+◌}
-use Rattle.std.specs.Prelude.{◌*◌, ◌-◌, ◌<◌, ◌≤◌, ◌≡◌, ◌≢◌, if◌then◌else◌, nat_le, slice_get, Result, Ok, Err}
+use Rattle.std.specs.Prelude.{◌*◌, ◌-◌, ◌<◌, ◌≤◌, ◌≡◌, ◌≢◌, if◌then◌else◌, nat_le, slice_get}
 use Rattle.std.specs.List.{prefix_len}
 use Rattle.std.specs.Option.{option_map}
 use Rattle.tokens.specs.Characters.{is_blank, is_name_byte, is_digit}
@@ -10,7 +10,6 @@ use Rattle.tokens.specs.Tokens.{Ahead, FitsToken, is_last, behind_byte, passed, 
 use Rattle.tokens.specs.Tokens.{followed_by, located_tokens}
 use Rattle.tokens.specs.Ends.{undecided_until}
 use Rattle.tokens.specs.Window.{Held, seen}
-use Rattle.tokens.specs.declared.devices.DeviceFault.{DeviceFault}
 use Rattle.tokens.specs.declared.located_tokens.Punctuator.{Punctuator}
 use Rattle.tokens.specs.declared.located_tokens.LexicalError.TheVariants.{CommentNotClosed, NameTooLong}
 use Rattle.tokens.specs.declared.located_tokens.LexicalError.TheVariants.{ConstantTooLarge}
@@ -89,6 +88,12 @@ abbrev pub StopsWithin : (Ahead → List LocatedToken) → Held → Held → Opt
 StopsWithin made old new told = (first : LocatedToken) (others : List LocatedToken)
     → to_read made old told ≡ Some (first ∷ others) → new.taken ≤ undecided_until first
 
+-- what a call leaves that failed: that, and no token was put in the place of the old one
+pub record Fails (made : Ahead → List LocatedToken) (old new : Held) (told : Option (List ℕ))
+    (here here' : LocatedToken) : Type 0 where
+  pub within : StopsWithin made old new told
+  pub unread : here' ≡ here
+
 -- the next byte is a blank
 pub record BeginsBlank (byte : ℕ) (held : Held) : Type 0 where
   pub first : slice_get held.at_hand 0 ≡ Some byte
@@ -111,10 +116,12 @@ pub record IsRead (located_token : LocatedToken) (old new : Held) : Type 0 where
   pub reached : new.place ≤ located_token.end
   pub fits : FitsToken located_token.token
 
--- a call found no token, or failed: none was put in the place of the old one
-abbrev pub IsUnread : Result Bool DeviceFault → LocatedToken → LocatedToken → Type 0
-IsUnread (Ok found) old new = found ≡ false → new ≡ old
-IsUnread (Err e) old new = new ≡ old
+-- A call that was at a `/`: it found a token, or went past a comment and put none.
+pub record Slashes (found : Bool) (old new : Held) (told told' : Option (List ℕ)) (here here' : LocatedToken) : Type 0
+  where
+    pub tokens : to_read (after_slash found here') new told' ≡ to_read located_tokens old told
+    pub token : found ≡ true → IsFound here' new
+    pub unread : found ≡ false → here' ≡ here
 
 -- a name that begins with a byte and goes on with the rest, in which it ends
 pub record BeginsName (first : ℕ) (rest name : List ℕ) : Type 0 where

@@ -1,6 +1,10 @@
 -- How much of a source is read.
 use Rattle.std.specs.Prelude.{ℕ}
 
+-- the most bytes of a name
+abbrev pub name_bytes : ℕ
+name_bytes = 31
+
 -- the bytes of the window through which a source is read
 abbrev pub window_bytes : ℕ
 window_bytes = 4096

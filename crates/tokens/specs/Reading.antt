@@ -1,10 +1,10 @@
 -- What a cursor stands for: the next token, the one behind it, and what was read behind that.
-use Rattle.std.specs.Prelude.{ℕ, ◌+◌, ◌-◌, ◌≤◌, List, [], ◌∷◌, Option, if◌then◌else◌}
+use Rattle.std.specs.Prelude.{ℕ, ◌+◌, ◌-◌, ◌<◌, ◌≤◌, ◌≡◌, Bool, List, [], ◌∷◌, Option, drop, if◌then◌else◌}
 use Rattle.std.specs.Option.{option_map}
-use Rattle.tokens.specs.Limits.{source_bytes, window_bytes}
-use Rattle.tokens.specs.Tokens.{is_last, located_tokens, followed_by}
+use Rattle.tokens.specs.Limits.{most_bytes, most_tokens, source_bytes, window_bytes}
+use Rattle.tokens.specs.Tokens.{is_last, located_tokens, followed_by, tokens}
 use Rattle.tokens.specs.Ends.{undecided_until}
-use Rattle.tokens.specs.Window.{Held, ahead}
+use Rattle.tokens.specs.Window.{Held, KnowsEnd, ahead}
 use Rattle.tokens.specs.declared.located_tokens.LocatedToken.{LocatedToken}
 use Rattle.tokens.specs.declared.windows.Beyond.{Beyond}
 
@@ -55,3 +55,20 @@ abbrev pub undecided_reach_of : List LocatedToken → ℕ
 undecided_reach_of [] = 0
 undecided_reach_of (next ∷ []) = undecided_until next
 undecided_reach_of (next ∷ after ∷ others) = undecided_until after
+
+-- A cursor was opened: it shows the tokens of the bytes that the device had to give, and no more than the most can come.
+-- The device has still to give all but the bytes taken, which are no more than a window behind the two tokens, and than
+-- the most. If it has ended, the cursor knows.
+pub record Opens (reading : Reading) (told told' : Option (List ℕ)) (ended : Bool) : Type 0 where
+  pub tokens : shown reading told' ≡ option_map tokens told
+  pub bounded : remaining reading ≤ most_tokens
+  pub took : told' ≡ option_map (drop (taken reading)) told
+  pub near : IsNear reading
+  pub limited : taken reading ≤ most_bytes
+  pub known : KnowsEnd (beyond reading) ended
+
+-- a cursor went past a token: it shows those behind it, fewer can come, and it is near if it was
+pub record Steps (old new : Reading) (told told' : Option (List ℕ)) : Type 0 where
+  pub tokens : shown new told' ≡ option_map (drop 1) (shown old told)
+  pub progress : remaining new < remaining old
+  pub near : IsNear old → IsNear new

@@ -87,6 +87,11 @@ pub record IsAtSamePlace (old new : Held) : Type 0 where
 abbrev pub IsAtHandOrEnd : Held → Type 0
 IsAtHandOrEnd held = held.at_hand ≡ [] → held.beyond ≢ Unread
 
+-- a window shows the same source as before; a byte of it is at hand, or what is beyond is known
+pub record Shows (old new : Held) (told told' : Option (List ℕ)) : Type 0 where
+  pub seen : seen new told' ≡ seen old told
+  pub ready : IsAtHandOrEnd new
+
 -- a window that would still ask its device knows that this has not ended
 abbrev pub KnowsEnd : Beyond → Bool → Type 0
 KnowsEnd beyond ended = beyond ≡ Unread → ended ≡ false

@@ -3,8 +3,75 @@
 ghost use Rattle.std.specs.Prelude.{◌≡◌};
 ghost use Rattle.tokens.specs.Characters.{is_blank, is_letter, is_digit, is_name_byte};
 
-/// The kind of each byte: 0 for a letter or `_`, 1 for a digit, from 3 on the punctuators of one byte, first those with
-/// which no longer one begins, and 2 for any other byte.
+/// The kind of a byte that a name begins with.
+pub const LETTER: u8 = 0;
+
+/// The kind of a decimal digit.
+pub const DIGIT: u8 = 1;
+
+/// The kind of a byte that is none of the others.
+pub const OTHER: u8 = 2;
+
+// The punctuators of one byte, first those with which no longer one begins.
+
+/// The kind of `(`.
+pub const OPEN_ROUND: u8 = 3;
+
+/// The kind of `)`.
+pub const CLOSE_ROUND: u8 = 4;
+
+/// The kind of `{`.
+pub const OPEN_CURLY: u8 = 5;
+
+/// The kind of `}`.
+pub const CLOSE_CURLY: u8 = 6;
+
+/// The kind of `,`.
+pub const COMMA: u8 = 7;
+
+/// The kind of `;`.
+pub const SEMICOLON: u8 = 8;
+
+/// The kind of `+`.
+pub const PLUS: u8 = 9;
+
+/// The kind of `-`.
+pub const MINUS: u8 = 10;
+
+/// The kind of `*`.
+pub const STAR: u8 = 11;
+
+/// The kind of `/`.
+pub const SLASH: u8 = 12;
+
+/// The kind of `%`.
+pub const PERCENT: u8 = 13;
+
+/// The kind of `&`.
+pub const AND: u8 = 14;
+
+/// The kind of `|`.
+pub const OR: u8 = 15;
+
+/// The kind of `^`.
+pub const XOR: u8 = 16;
+
+/// The kind of `~`.
+pub const TILDE: u8 = 17;
+
+/// The kind of `!`.
+pub const NOT: u8 = 18;
+
+/// The kind of `<`.
+pub const LESS: u8 = 19;
+
+/// The kind of `>`.
+pub const GREATER: u8 = 20;
+
+/// The kind of `=`.
+pub const EQUALS: u8 = 21;
+
+/// The kind of each byte, 16 in a line: `LETTER` to `EQUALS`.
 #[rattlefmt::skip]
 pub static KINDS: [u8; 256] = [
      2,  2,  2,  2,  2,  2,  2,  2,  2,  2,  2,  2,  2,  2,  2,  2,
@@ -46,7 +113,7 @@ pub fn is_digit(b: u8) -> bool
 pub fn is_letter(b: u8) -> bool
     ensures { result ≡ is_letter b }
 {
-    KINDS[usize::from(b)] == 0
+    KINDS[usize::from(b)] == LETTER
 }
 
 /// Reports whether a name goes on with this byte.
@@ -54,5 +121,5 @@ pub fn is_letter(b: u8) -> bool
 pub fn is_name_byte(b: u8) -> bool
     ensures { result ≡ is_name_byte b }
 {
-    KINDS[usize::from(b)] < 2
+    KINDS[usize::from(b)] <= DIGIT
 }

@@ -6,10 +6,9 @@ ghost use Rattle.tokens.specs.Characters.{is_blank, is_digit};
 ghost use Rattle.tokens.specs.Front.{name_token};
 ghost use Rattle.tokens.specs.Tokens.{FitsToken, located_tokens, last_located_token};
 ghost use Rattle.tokens.specs.Window.{Asks, IsNext, MayAsk, ahead};
-ghost use Rattle.tokens.specs.Lexing.{BeginsBlank, BeginsConstant, BeginsToken, IsFound, IsRead, IsUnread, StopsWithin};
-ghost use Rattle.tokens.specs.Lexing.{after_comment, after_slash, followed, in_comment, in_constant, in_name};
-ghost use Rattle.tokens.specs.Lexing.{in_punctuator};
-ghost use Rattle.tokens.specs.Lexing.{name_going_on, to_read, value_token};
+ghost use Rattle.tokens.specs.Lexing.{BeginsBlank, BeginsConstant, BeginsToken, Fails, IsFound, IsRead, Slashes};
+ghost use Rattle.tokens.specs.Lexing.{StopsWithin, after_comment, followed, in_comment, in_constant, in_name};
+ghost use Rattle.tokens.specs.Lexing.{in_punctuator, name_going_on, to_read, value_token};
 
 use crate::characters::{is_blank, is_digit, is_letter, is_name_byte};
 use crate::devices::{DeviceFault, Feed};
@@ -19,8 +18,8 @@ use crate::names::Name;
 use crate::windows::{Beyond, Window};
 
 // Each call here that has the device as an argument may ask it: it needs `MayAsk`, and `Asks` says what it leaves.
-// Beside that a call that reads a token has four clauses: which tokens are still to be read, what is known of the one
-// that was read, how far a call went that failed, and that it put no token then. A byte that was seen takes one more.
+// Beside that a call that reads a token has three clauses: which tokens are still to be read, what is known of the one
+// that was read, and what a call leaves that failed (`Fails`). A byte that was seen takes one more.
 impl Window {
     /// Puts the next token here. After an `Err` what stood here stays.
     #[inline(never)]
@@ -33,8 +32,7 @@ impl Window {
         ensures tokens { OnOk result (to_read (followed here.new) self.new (F.to_come feed.new)
             ≡ to_read located_tokens self.old (F.to_come feed.old)) }
         ensures read { OnOk result (IsRead here.new self.old self.new) }
-        ensures stopped { OnErr result (StopsWithin located_tokens self.old self.new (F.to_come feed.old)) }
-        ensures unread { OnErr result (here.new ≡ here.old) }
+        ensures stopped { OnErr result (Fails located_tokens self.old self.new (F.to_come feed.old) here.old here.new) }
         ensures kept { Asks result self.old self.new (F.to_come feed.old) (F.to_come feed.new)
             (F.failures feed.old) (F.failures feed.new) (F.ended feed.new) }
     {
@@ -55,8 +53,7 @@ impl Window {
         ensures tokens { OnOk result (to_read (followed here.new) self.new (F.to_come feed.new)
             ≡ to_read located_tokens self.old (F.to_come feed.old)) }
         ensures read { OnOk result (IsRead here.new self.old self.new) }
-        ensures stopped { OnErr result (StopsWithin located_tokens self.old self.new (F.to_come feed.old)) }
-        ensures unread { OnErr result (here.new ≡ here.old) }
+        ensures stopped { OnErr result (Fails located_tokens self.old self.new (F.to_come feed.old) here.old here.new) }
         ensures kept { Asks result self.old self.new (F.to_come feed.old) (F.to_come feed.new)
             (F.failures feed.old) (F.failures feed.new) (F.ended feed.new) }
     {
@@ -79,8 +76,7 @@ impl Window {
         ensures tokens { OnOk result (to_read (followed here.new) self.new (F.to_come feed.new)
             ≡ to_read located_tokens self.old (F.to_come feed.old)) }
         ensures read { OnOk result (IsRead here.new self.old self.new) }
-        ensures stopped { OnErr result (StopsWithin located_tokens self.old self.new (F.to_come feed.old)) }
-        ensures unread { OnErr result (here.new ≡ here.old) }
+        ensures stopped { OnErr result (Fails located_tokens self.old self.new (F.to_come feed.old) here.old here.new) }
         ensures kept { Asks result self.old self.new (F.to_come feed.old) (F.to_come feed.new)
             (F.failures feed.old) (F.failures feed.new) (F.ended feed.new) }
     {
@@ -98,8 +94,7 @@ impl Window {
         ensures tokens { OnOk result (to_read (followed here.new) self.new (F.to_come feed.new)
             ≡ to_read located_tokens self.old (F.to_come feed.old)) }
         ensures read { OnOk result (IsRead here.new self.old self.new) }
-        ensures stopped { OnErr result (StopsWithin located_tokens self.old self.new (F.to_come feed.old)) }
-        ensures unread { OnErr result (here.new ≡ here.old) }
+        ensures stopped { OnErr result (Fails located_tokens self.old self.new (F.to_come feed.old) here.old here.new) }
         ensures kept { Asks result self.old self.new (F.to_come feed.old) (F.to_come feed.new)
             (F.failures feed.old) (F.failures feed.new) (F.ended feed.new) }
     {
@@ -134,7 +129,8 @@ impl Window {
         loop {
             self.pass_blanks();
             match self.peek(feed)? {
-                Some(b) if is_blank(b) => self.pass(),
+                // The first test alone shows that most bytes are no blank.
+                Some(b) if b <= b' ' && is_blank(b) => self.pass(),
                 first => return Ok(first),
             }
         }
@@ -144,12 +140,10 @@ impl Window {
     fn slash<F: Feed>(&mut self, here: &mut LocatedToken, feed: &mut F) -> Result<bool, DeviceFault>
         requires ready { MayAsk self.old (F.failures feed.old) (F.ended feed.old) }
         requires slash { slice_get self.old.at_hand 0 ≡ Some 47 }
-        ensures tokens { IfOk result (λ found. to_read (after_slash found here.new) self.new (F.to_come feed.new)
-            ≡ to_read located_tokens self.old (F.to_come feed.old)) }
+        ensures past { IfOk result (λ found. Slashes found self.old self.new (F.to_come feed.old) (F.to_come feed.new)
+            here.old here.new) }
         ensures forward { self.old.place < self.new.place }
-        ensures stopped { OnErr result (StopsWithin located_tokens self.old self.new (F.to_come feed.old)) }
-        ensures found { IfOk result (λ found. found ≡ true → IsFound here.new self.new) }
-        ensures unread { IsUnread result here.old here.new }
+        ensures stopped { OnErr result (Fails located_tokens self.old self.new (F.to_come feed.old) here.old here.new) }
         ensures kept { Asks result self.old self.new (F.to_come feed.old) (F.to_come feed.new)
             (F.failures feed.old) (F.failures feed.new) (F.ended feed.new) }
     {
@@ -208,9 +202,8 @@ impl Window {
         requires begins { BeginsToken first self.old }
         ensures tokens { OnOk result (to_read (followed here.new) self.new (F.to_come feed.new)
             ≡ to_read located_tokens self.old (F.to_come feed.old)) }
-        ensures stopped { OnErr result (StopsWithin located_tokens self.old self.new (F.to_come feed.old)) }
         ensures read { OnOk result (IsRead here.new self.old self.new) }
-        ensures unread { OnErr result (here.new ≡ here.old) }
+        ensures stopped { OnErr result (Fails located_tokens self.old self.new (F.to_come feed.old) here.old here.new) }
         ensures kept { Asks result self.old self.new (F.to_come feed.old) (F.to_come feed.new)
             (F.failures feed.old) (F.failures feed.new) (F.ended feed.new) }
     {
@@ -245,10 +238,9 @@ impl Window {
         requires ready { MayAsk self.old (F.failures feed.old) (F.ended feed.old) }
         ensures tokens { OnOk result (to_read (followed here.new) self.new (F.to_come feed.new)
             ≡ to_read (in_name (first ∷ []) false) self.old (F.to_come feed.old)) }
-        ensures stopped { OnErr result (StopsWithin (in_name (first ∷ []) false) self.old self.new
-            (F.to_come feed.old)) }
         ensures found { OnOk result (IsFound here.new self.new) }
-        ensures unread { OnErr result (here.new ≡ here.old) }
+        ensures stopped { OnErr result (Fails (in_name (first ∷ []) false) self.old self.new
+            (F.to_come feed.old) here.old here.new) }
         ensures kept { Asks result self.old self.new (F.to_come feed.old) (F.to_come feed.new)
             (F.failures feed.old) (F.failures feed.new) (F.ended feed.new) }
     {
@@ -272,10 +264,9 @@ impl Window {
         requires ready { MayAsk self.old (F.failures feed.old) (F.ended feed.old) }
         ensures tokens { OnOk result (to_read (followed here.new) self.new (F.to_come feed.new)
             ≡ to_read (in_name (first ∷ []) false) self.old (F.to_come feed.old)) }
-        ensures stopped { OnErr result (StopsWithin (in_name (first ∷ []) false) self.old self.new
-            (F.to_come feed.old)) }
         ensures found { OnOk result (IsFound here.new self.new) }
-        ensures unread { OnErr result (here.new ≡ here.old) }
+        ensures stopped { OnErr result (Fails (in_name (first ∷ []) false) self.old self.new
+            (F.to_come feed.old) here.old here.new) }
         ensures kept { Asks result self.old self.new (F.to_come feed.old) (F.to_come feed.new)
             (F.failures feed.old) (F.failures feed.new) (F.ended feed.new) }
     {
@@ -299,10 +290,9 @@ impl Window {
         requires ready { MayAsk self.old (F.failures feed.old) (F.ended feed.old) }
         ensures tokens { OnOk result (to_read (followed here.new) self.new (F.to_come feed.new)
             ≡ to_read (in_name (first ∷ []) false) self.old (F.to_come feed.old)) }
-        ensures stopped { OnErr result (StopsWithin (in_name (first ∷ []) false) self.old self.new
-            (F.to_come feed.old)) }
         ensures found { OnOk result (IsFound here.new self.new) }
-        ensures unread { OnErr result (here.new ≡ here.old) }
+        ensures stopped { OnErr result (Fails (in_name (first ∷ []) false) self.old self.new
+            (F.to_come feed.old) here.old here.new) }
         ensures kept { Asks result self.old self.new (F.to_come feed.old) (F.to_come feed.new)
             (F.failures feed.old) (F.failures feed.new) (F.ended feed.new) }
     {
@@ -339,9 +329,9 @@ impl Window {
         requires digit { is_digit first ≡ true }
         ensures tokens { OnOk result (to_read (followed here.new) self.new (F.to_come feed.new)
             ≡ to_read (in_constant (first - 48)) self.old (F.to_come feed.old)) }
-        ensures stopped { OnErr result (StopsWithin (in_constant (first - 48)) self.old self.new (F.to_come feed.old)) }
         ensures found { OnOk result (IsFound here.new self.new) }
-        ensures unread { OnErr result (here.new ≡ here.old) }
+        ensures stopped { OnErr result (Fails (in_constant (first - 48)) self.old self.new
+            (F.to_come feed.old) here.old here.new) }
         ensures kept { Asks result self.old self.new (F.to_come feed.old) (F.to_come feed.new)
             (F.failures feed.old) (F.failures feed.new) (F.ended feed.new) }
     {
@@ -365,9 +355,9 @@ impl Window {
         requires digit { is_digit first ≡ true }
         ensures tokens { OnOk result (to_read (followed here.new) self.new (F.to_come feed.new)
             ≡ to_read (in_constant (first - 48)) self.old (F.to_come feed.old)) }
-        ensures stopped { OnErr result (StopsWithin (in_constant (first - 48)) self.old self.new (F.to_come feed.old)) }
         ensures found { OnOk result (IsFound here.new self.new) }
-        ensures unread { OnErr result (here.new ≡ here.old) }
+        ensures stopped { OnErr result (Fails (in_constant (first - 48)) self.old self.new
+            (F.to_come feed.old) here.old here.new) }
         ensures kept { Asks result self.old self.new (F.to_come feed.old) (F.to_come feed.new)
             (F.failures feed.old) (F.failures feed.new) (F.ended feed.new) }
     {
@@ -397,9 +387,9 @@ impl Window {
         requires ready { MayAsk self.old (F.failures feed.old) (F.ended feed.old) }
         ensures tokens { OnOk result (to_read (followed here.new) self.new (F.to_come feed.new)
             ≡ to_read (in_punctuator punctuator) self.old (F.to_come feed.old)) }
-        ensures stopped { OnErr result (StopsWithin (in_punctuator punctuator) self.old self.new (F.to_come feed.old)) }
         ensures found { OnOk result (IsFound here.new self.new) }
-        ensures unread { OnErr result (here.new ≡ here.old) }
+        ensures stopped { OnErr result (Fails (in_punctuator punctuator) self.old self.new
+            (F.to_come feed.old) here.old here.new) }
         ensures kept { Asks result self.old self.new (F.to_come feed.old) (F.to_come feed.new)
             (F.failures feed.old) (F.failures feed.new) (F.ended feed.new) }
     {

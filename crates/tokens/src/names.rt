@@ -2,6 +2,7 @@
 
 ghost use Rattle.std.specs.Prelude.{◌≡◌, ◌∷◌, [], ◌++◌, ◌<◌, ◌≤◌, ◌↔◌, IsTrue, true, length};
 ghost use Rattle.std.specs.Str.{bytes_eq};
+ghost use Rattle.tokens.specs.Limits.{name_bytes};
 ghost use Rattle.tokens.specs.Lexing.{BeginsName};
 
 use crate::characters::is_name_byte;
@@ -82,7 +83,7 @@ impl Name {
     /// Returns how many bytes it has.
     pub fn len(&self) -> usize
         ensures value { result ≡ length self.now }
-        ensures bounded { result ≤ 31 }
+        ensures bounded { result ≤ name_bytes }
     {
         self.len as usize
     }
@@ -96,14 +97,14 @@ impl Name {
 
     /// Reports whether it can take no further byte.
     pub fn is_full(&self) -> bool
-        ensures { IsTrue result ↔ (31 ≤ length self.now) }
+        ensures { IsTrue result ↔ (name_bytes ≤ length self.now) }
     {
         self.len() == NAME_BYTES
     }
 
     /// Adds a byte at its end.
     pub fn push(&mut self, byte: u8)
-        requires { length self.old < 31 }
+        requires { length self.old < name_bytes }
         ensures { self.new ≡ self.old ++ byte ∷ [] }
     {
         self.bytes[self.len as usize] = byte;
@@ -113,7 +114,7 @@ impl Name {
     /// Returns its bytes.
     pub fn as_bytes(&self) -> &[u8]
         ensures value { result.now ≡ self.now }
-        ensures bounded { length result.now ≤ 31 }
+        ensures bounded { length result.now ≤ name_bytes }
     {
         &self.bytes[..self.len as usize]
     }

@@ -5,7 +5,10 @@ ghost use Rattle.std.specs.Option.{option_and_then};
 ghost use Rattle.tokens.specs.Punctuators.{punctuator_of, spelling};
 ghost use Rattle.tokens.specs.Lexing.{EndsBefore, IsWhole};
 
-use crate::characters::KINDS;
+use crate::characters::{
+    AND, CLOSE_CURLY, CLOSE_ROUND, COMMA, EQUALS, GREATER, KINDS, LESS, MINUS, NOT, OPEN_CURLY,
+    OPEN_ROUND, OR, OTHER, PERCENT, PLUS, SEMICOLON, SLASH, STAR, TILDE, XOR,
+};
 use crate::located_tokens::Punctuator;
 
 impl Punctuator {
@@ -15,25 +18,25 @@ impl Punctuator {
         ensures { result ≡ punctuator_of (b ∷ []) }
     {
         Some(match KINDS[usize::from(b)] {
-            3 => Punctuator::OpenRound,
-            4 => Punctuator::CloseRound,
-            5 => Punctuator::OpenCurly,
-            6 => Punctuator::CloseCurly,
-            7 => Punctuator::Comma,
-            8 => Punctuator::Semicolon,
-            9 => Punctuator::Plus,
-            10 => Punctuator::Minus,
-            11 => Punctuator::Star,
-            12 => Punctuator::Slash,
-            13 => Punctuator::Percent,
-            14 => Punctuator::And,
-            15 => Punctuator::Or,
-            16 => Punctuator::Xor,
-            17 => Punctuator::Tilde,
-            18 => Punctuator::Not,
-            19 => Punctuator::Less,
-            20 => Punctuator::Greater,
-            21 => Punctuator::Equals,
+            OPEN_ROUND => Punctuator::OpenRound,
+            CLOSE_ROUND => Punctuator::CloseRound,
+            OPEN_CURLY => Punctuator::OpenCurly,
+            CLOSE_CURLY => Punctuator::CloseCurly,
+            COMMA => Punctuator::Comma,
+            SEMICOLON => Punctuator::Semicolon,
+            PLUS => Punctuator::Plus,
+            MINUS => Punctuator::Minus,
+            STAR => Punctuator::Star,
+            SLASH => Punctuator::Slash,
+            PERCENT => Punctuator::Percent,
+            AND => Punctuator::And,
+            OR => Punctuator::Or,
+            XOR => Punctuator::Xor,
+            TILDE => Punctuator::Tilde,
+            NOT => Punctuator::Not,
+            LESS => Punctuator::Less,
+            GREATER => Punctuator::Greater,
+            EQUALS => Punctuator::Equals,
             _ => return None,
         })
     }
@@ -64,16 +67,16 @@ impl Punctuator {
         ensures { IfSome result (IsWhole b) }
     {
         let kind = KINDS[usize::from(b)];
-        if kind < 3 {
+        if kind <= OTHER {
             return None;
         }
         match kind {
-            3 => Some(Punctuator::OpenRound),
-            4 => Some(Punctuator::CloseRound),
-            5 => Some(Punctuator::OpenCurly),
-            6 => Some(Punctuator::CloseCurly),
-            7 => Some(Punctuator::Comma),
-            8 => Some(Punctuator::Semicolon),
+            OPEN_ROUND => Some(Punctuator::OpenRound),
+            CLOSE_ROUND => Some(Punctuator::CloseRound),
+            OPEN_CURLY => Some(Punctuator::OpenCurly),
+            CLOSE_CURLY => Some(Punctuator::CloseCurly),
+            COMMA => Some(Punctuator::Comma),
+            SEMICOLON => Some(Punctuator::Semicolon),
             _ => None,
         }
     }

@@ -69,6 +69,13 @@ impl Stop for End {
     }
 }
 
+/// Each blank at the place of its low four bits, in both halves. The other places have 0, whose own place has a blank.
+#[rattlefmt::skip]
+const BLANKS: [u8; BLOCK] = [
+    b' ', 0, 0, 0, 0, 0, 0, 0, 0, 9, 10, 11, 12, 13, 0, 0,
+    b' ', 0, 0, 0, 0, 0, 0, 0, 0, 9, 10, 11, 12, 13, 0, 0,
+];
+
 /// Any byte that is no blank.
 pub struct Ink;
 
@@ -82,9 +89,10 @@ impl Stop for Ink {
 
     #[inline(always)]
     fn bits(block: u8x32) -> u64 {
-        let no_space = block.simd_ne(u8x32::splat(b' '));
-        let no_control = (block - u8x32::splat(9)).simd_gt(u8x32::splat(4));
-        (no_space & no_control).to_bitmask()
+        // A blank is the byte that the table has at its low four bits, and no other byte is.
+        let low = block & u8x32::splat(15);
+        let blanks = u8x32::from_array(BLANKS).swizzle_dyn_within::<16>(low);
+        block.simd_ne(blanks).to_bitmask()
     }
 }
 
@@ -94,10 +102,15 @@ pub fn run_before_end(bytes: &[u8]) -> usize
     ensures { result ≡ prefix_len (λ b. not (b == 26)) bytes.now }
 {
     let mut count = 0;
-    // A wide block fits before this place.
-    let room = bytes.len().saturating_sub(WIDE - 1);
-    while count < room && !has_end(u8x64::from_slice(&bytes[count..])) {
-        count += WIDE;
+    // Two wide blocks fit before this place.
+    let room = bytes.len().saturating_sub(2 * WIDE - 1);
+    while count < room {
+        let here = has_end(u8x64::from_slice(&bytes[count..]));
+        let behind = has_end(u8x64::from_slice(&bytes[count + WIDE..]));
+        if here | behind {
+            break;
+        }
+        count += 2 * WIDE;
     }
     count + run_before::<End>(&bytes[count..]).0
 }

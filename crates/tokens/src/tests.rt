@@ -123,8 +123,8 @@ fn comments(rt: HostRuntime) -> Result<(), Fail> {
 fn long_comment(rt: HostRuntime) -> Result<(), Fail> {
     check(
         &rt,
-        b"/* one\n two\n three, a comment of more than a block of bytes\n * with a star on this line,\n and one more line **/ x",
-        &[(name(b"x"), 5, 113), (Token::End, 5, 113)],
+        b"/* one\n two\n three, a comment of more than a block of bytes\n * with a star here,\n and one more **/ x",
+        &[(name(b"x"), 5, 100), (Token::End, 5, 100)],
     )?;
     Ok(())
 }

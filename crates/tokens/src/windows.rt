@@ -4,7 +4,7 @@ ghost use Rattle.std.specs.Prelude.{◌≡◌, ◌+◌, ◌<◌, ◌≤◌, [], 
 ghost use Rattle.std.specs.List.{count_by};
 ghost use Rattle.tokens.specs.Limits.{source_bytes, window_bytes};
 ghost use Rattle.tokens.specs.Source.{source};
-ghost use Rattle.tokens.specs.Window.{Asks, Cuts, IsAtHandOrEnd, IsAtSamePlace, IsBounded, IsNext, MayAsk, Passes};
+ghost use Rattle.tokens.specs.Window.{Asks, Cuts, IsAtSamePlace, IsBounded, IsNext, MayAsk, Passes, Shows};
 ghost use Rattle.tokens.specs.Window.{behind, behind_blanks, behind_first, behind_plain, seen, untouched};
 
 use crate::characters::is_blank;
@@ -185,8 +185,7 @@ impl Window {
     fn refill<F: Feed>(&mut self, feed: &mut F) -> Result<(), DeviceFault>
         requires empty { self.old.at_hand ≡ [] }
         requires ready { MayAsk self.old (F.failures feed.old) (F.ended feed.old) }
-        ensures ready { OnOk result (IsAtHandOrEnd self.new) }
-        ensures seen { OnOk result (seen self.new (F.to_come feed.new) ≡ seen self.old (F.to_come feed.old)) }
+        ensures shows { OnOk result (Shows self.old self.new (F.to_come feed.old) (F.to_come feed.new)) }
         ensures place { IsAtSamePlace self.old self.new }
         ensures failed { OnErr result (self.new.taken ≡ self.new.place) }
         ensures kept { Asks result self.old self.new (F.to_come feed.old) (F.to_come feed.new)

@@ -20,15 +20,15 @@ returns-in_err-cursor-clause-stopped g c =
 pub returns-in_err-read-clause-refused : goal.returns-in_err-read-clause-refused
 returns-in_err-read-clause-refused g c =
     let nothing : scope_at c.new-parser.result.place ≡ no_names = rw c.new-parser.ensures.place refl in
-    let tells : tokens_at c.new-parser.result.place ≡ option_map tokens (g.F.Feed.to_come c.args.feed.now) = rw c.new-parser.ensures.place c.in_ok-cursor.ensures.tokens in
+    let tells : tokens_at c.new-parser.result.place ≡ option_map tokens (g.F.Feed.to_come c.args.feed.now) = rw c.new-parser.ensures.place c.in_ok-cursor.ensures.opens.tokens in
     let p = err_from_is_err_and c.from_residual-in_err-read.result c.from_residual-in_err-read.ensures.1 in
     rw (p.1, p.2) (stopped _ (g.B.Build.stands c.args.build.now) _ _ c.new-parser.result.place c.in_err-read.field-0.0 _ nothing tells c.in_err-read.ensures.reads)
 
 pub returns-in_err-read-clause-stopped : goal.returns-in_err-read-clause-stopped
 returns-in_err-read-clause-stopped g c =
     let nothing : scope_at c.new-parser.result.place ≡ no_names = rw c.new-parser.ensures.place refl in
-    let tells : tokens_at c.new-parser.result.place ≡ option_map tokens (g.F.Feed.to_come c.args.feed.now) = rw c.new-parser.ensures.place c.in_ok-cursor.ensures.tokens in
-    let opened : c.new-parser.result.place.to_come ≡ option_map (drop (taken_at c.new-parser.result.place)) (g.F.Feed.to_come c.args.feed.now) = rw c.new-parser.ensures.place c.in_ok-cursor.ensures.took in
+    let tells : tokens_at c.new-parser.result.place ≡ option_map tokens (g.F.Feed.to_come c.args.feed.now) = rw c.new-parser.ensures.place c.in_ok-cursor.ensures.opens.tokens in
+    let opened : c.new-parser.result.place.to_come ≡ option_map (drop (taken_at c.new-parser.result.place)) (g.F.Feed.to_come c.args.feed.now) = rw c.new-parser.ensures.place c.in_ok-cursor.ensures.opens.took in
     let p = err_from_is_err_and c.from_residual-in_err-read.result c.from_residual-in_err-read.ensures.1 in
     rw (p.1, p.2) (stops_taking _ (g.B.Build.stands c.args.build.now) _ _ _ c.new-parser.result.place c.in_err-read.field-0.0 _ nothing tells
     (has_taken _ _ _ _ _ _ opened c.in_err-read.ensures.kept.took (search rules) c.into_parts-pools.ensures.limited) c.in_err-read.ensures.reads)
@@ -36,7 +36,7 @@ returns-in_err-read-clause-stopped g c =
 pub returns-in_err-checked-clause-refused : goal.returns-in_err-checked-clause-refused
 returns-in_err-checked-clause-refused g c =
     let nothing : scope_at c.new-parser.result.place ≡ no_names = rw c.new-parser.ensures.place refl in
-    let tells : tokens_at c.new-parser.result.place ≡ option_map tokens (g.F.Feed.to_come c.args.feed.now) = rw c.new-parser.ensures.place c.in_ok-cursor.ensures.tokens in
+    let tells : tokens_at c.new-parser.result.place ≡ option_map tokens (g.F.Feed.to_come c.args.feed.now) = rw c.new-parser.ensures.place c.in_ok-cursor.ensures.opens.tokens in
     let whole : IsWhole (g.B.Build.stands c.args.build.now) (g.B.Build.stands c.source-read.new.build) (g.F.Feed.to_come c.args.feed.now) c.new-parser.result.place c.source-read.new.parser.place =
     record { reads = c.in_ok-read.ensures.reads; nothing = nothing; tells = tells; ends = c.in_ok-read.ensures.ended } in
     let p = err_from_is_err_and c.from_residual-in_err-checked.result c.from_residual-in_err-checked.ensures.1 in
@@ -45,8 +45,8 @@ returns-in_err-checked-clause-refused g c =
 pub returns-in_err-checked-clause-stopped : goal.returns-in_err-checked-clause-stopped
 returns-in_err-checked-clause-stopped g c =
     let nothing : scope_at c.new-parser.result.place ≡ no_names = rw c.new-parser.ensures.place refl in
-    let tells : tokens_at c.new-parser.result.place ≡ option_map tokens (g.F.Feed.to_come c.args.feed.now) = rw c.new-parser.ensures.place c.in_ok-cursor.ensures.tokens in
-    let opened : c.new-parser.result.place.to_come ≡ option_map (drop (taken_at c.new-parser.result.place)) (g.F.Feed.to_come c.args.feed.now) = rw c.new-parser.ensures.place c.in_ok-cursor.ensures.took in
+    let tells : tokens_at c.new-parser.result.place ≡ option_map tokens (g.F.Feed.to_come c.args.feed.now) = rw c.new-parser.ensures.place c.in_ok-cursor.ensures.opens.tokens in
+    let opened : c.new-parser.result.place.to_come ≡ option_map (drop (taken_at c.new-parser.result.place)) (g.F.Feed.to_come c.args.feed.now) = rw c.new-parser.ensures.place c.in_ok-cursor.ensures.opens.took in
     let whole : IsWhole (g.B.Build.stands c.args.build.now) (g.B.Build.stands c.source-read.new.build) (g.F.Feed.to_come c.args.feed.now) c.new-parser.result.place c.source-read.new.parser.place =
     record { reads = c.in_ok-read.ensures.reads; nothing = nothing; tells = tells; ends = c.in_ok-read.ensures.ended } in
     let p = err_from_is_err_and c.from_residual-in_err-checked.result c.from_residual-in_err-checked.ensures.1 in
@@ -56,7 +56,7 @@ returns-in_err-checked-clause-stopped g c =
 pub returns-clause-file : goal.returns-clause-file
 returns-clause-file g c =
     let nothing : scope_at c.new-parser.result.place ≡ no_names = rw c.new-parser.ensures.place refl in
-    let tells : tokens_at c.new-parser.result.place ≡ option_map tokens (g.F.Feed.to_come c.args.feed.now) = rw c.new-parser.ensures.place c.in_ok-cursor.ensures.tokens in
+    let tells : tokens_at c.new-parser.result.place ≡ option_map tokens (g.F.Feed.to_come c.args.feed.now) = rw c.new-parser.ensures.place c.in_ok-cursor.ensures.opens.tokens in
     let whole : IsWhole (g.B.Build.stands c.args.build.now) (g.B.Build.stands c.source-read.new.build) (g.F.Feed.to_come c.args.feed.now) c.new-parser.result.place c.source-read.new.parser.place =
     record { reads = c.in_ok-read.ensures.reads; nothing = nothing; tells = tells; ends = c.in_ok-read.ensures.ended } in
     whole_file _ _ _ _ _ c.into_parts-pools.result.0 c.requires.new whole c.in_ok-checked.ensures.complete c.into_parts-pools.ensures.names
@@ -64,8 +64,8 @@ returns-clause-file g c =
 pub returns-clause-taken : goal.returns-clause-taken
 returns-clause-taken g c =
     let nothing : scope_at c.new-parser.result.place ≡ no_names = rw c.new-parser.ensures.place refl in
-    let tells : tokens_at c.new-parser.result.place ≡ option_map tokens (g.F.Feed.to_come c.args.feed.now) = rw c.new-parser.ensures.place c.in_ok-cursor.ensures.tokens in
-    let opened : c.new-parser.result.place.to_come ≡ option_map (drop (taken_at c.new-parser.result.place)) (g.F.Feed.to_come c.args.feed.now) = rw c.new-parser.ensures.place c.in_ok-cursor.ensures.took in
+    let tells : tokens_at c.new-parser.result.place ≡ option_map tokens (g.F.Feed.to_come c.args.feed.now) = rw c.new-parser.ensures.place c.in_ok-cursor.ensures.opens.tokens in
+    let opened : c.new-parser.result.place.to_come ≡ option_map (drop (taken_at c.new-parser.result.place)) (g.F.Feed.to_come c.args.feed.now) = rw c.new-parser.ensures.place c.in_ok-cursor.ensures.opens.took in
     let whole : IsWhole (g.B.Build.stands c.args.build.now) (g.B.Build.stands c.source-read.new.build) (g.F.Feed.to_come c.args.feed.now) c.new-parser.result.place c.source-read.new.parser.place =
     record { reads = c.in_ok-read.ensures.reads; nothing = nothing; tells = tells; ends = c.in_ok-read.ensures.ended } in
     whole_takes _ _ _ _ _ _ _ whole c.in_ok-read.ensures.kept.ready.near (has_taken _ _ _ _ _ _ opened c.in_ok-read.ensures.kept.took (search rules) c.into_parts-pools.ensures.limited)
@@ -78,8 +78,8 @@ returns-in_err-cursor-clause-built g c =
 pub returns-in_err-read-clause-built : goal.returns-in_err-read-clause-built
 returns-in_err-read-clause-built g c =
     let nothing : scope_at c.new-parser.result.place ≡ no_names = rw c.new-parser.ensures.place refl in
-    let tells : tokens_at c.new-parser.result.place ≡ option_map tokens (g.F.Feed.to_come c.args.feed.now) = rw c.new-parser.ensures.place c.in_ok-cursor.ensures.tokens in
-    let opened : c.new-parser.result.place.to_come ≡ option_map (drop (taken_at c.new-parser.result.place)) (g.F.Feed.to_come c.args.feed.now) = rw c.new-parser.ensures.place c.in_ok-cursor.ensures.took in
+    let tells : tokens_at c.new-parser.result.place ≡ option_map tokens (g.F.Feed.to_come c.args.feed.now) = rw c.new-parser.ensures.place c.in_ok-cursor.ensures.opens.tokens in
+    let opened : c.new-parser.result.place.to_come ≡ option_map (drop (taken_at c.new-parser.result.place)) (g.F.Feed.to_come c.args.feed.now) = rw c.new-parser.ensures.place c.in_ok-cursor.ensures.opens.took in
     let p = err_from_is_err_and c.from_residual-in_err-read.result c.from_residual-in_err-read.ensures.1 in
     rw (p.1, p.2) (λ device. reading_builds _ (g.B.Build.stands c.args.build.now) _ _ _ c.new-parser.result.place c.in_err-read.field-0.0 _ device nothing tells
     (has_taken _ _ _ _ _ _ opened c.in_err-read.ensures.kept.took (search rules) c.into_parts-pools.ensures.limited) c.in_err-read.ensures.reads)

@@ -12,4 +12,4 @@ returns-in_err-cursor-clause-refused g c =
 pub returns-in-Fault-clause-refused : goal.returns-in-Fault-clause-refused
 returns-in-Fault-clause-refused g c =
     let lexical_error : is_fault c.in_ok-cursor.cursor.next.token ≡ true = rw (sym c.peek.ensures.value, c.in-Fault.is) refl in
-    rw (c.misfit.ensures, c.peek-in-Fault.ensures.value) (opens_at_lexical_error c.in_ok-cursor.cursor _ _ c.in_ok-cursor.ensures.tokens c.in_ok-cursor.ensures.took c.in_ok-cursor.ensures.near c.in_ok-cursor.ensures.limited lexical_error)
+    rw (c.misfit.ensures, c.peek-in-Fault.ensures.value) (opens_at_lexical_error c.in_ok-cursor.cursor _ _ c.in_ok-cursor.ensures.opens.tokens c.in_ok-cursor.ensures.opens.took c.in_ok-cursor.ensures.opens.near c.in_ok-cursor.ensures.opens.limited lexical_error)

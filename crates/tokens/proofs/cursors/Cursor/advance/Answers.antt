@@ -1,30 +1,32 @@
-use Rattle.std.proofs.Common.{◌≡◌, ◌∙◌, sym, ap, false}
+use Rattle.std.proofs.Common.{◌≡◌, ◌∙◌, sym, ap, false, rules}
 use Rattle.tokens.specs.Tokens.{is_last}
 use Rattle.tokens.proofs.ReadingLemmas.{shown-advanced, remaining-advanced, remaining-ended, advanced-stopped}
 use Rattle.tokens.proofs.TakenLemmas.{on_err-from}
 use Rattle.tokens.proofs.cursors.Cursor.advance.Goals as goal
 
-pub returns-in_ok-read-clause-tokens : goal.returns-in_ok-read-clause-tokens
-returns-in_ok-read-clause-tokens g c =
-    let s = c.self.inside in
-    let not_last : is_last s.next.token ≡ false = ap (λ r. is_last r.next.token) c.self.view_is ∙ c.requires.not_last in
-    rw (← c.self.view_is) (shown-advanced s.next s.after c.read.new.here c.read.new.self s.window _ _ not_last c.in_ok-read.ensures.tokens)
-
-pub returns-in_ok-read-clause-progress : goal.returns-in_ok-read-clause-progress
-returns-in_ok-read-clause-progress g c =
+pub returns-in_ok-read-clause-steps : goal.returns-in_ok-read-clause-steps
+returns-in_ok-read-clause-steps g c =
     let s = c.self.inside in
     let not_last : is_last s.next.token ≡ false = ap (λ r. is_last r.next.token) c.self.view_is ∙ c.requires.not_last in
     let read = c.in_ok-read.ensures in
-    rw (← c.self.view_is) (remaining-advanced s.next s.after c.read.new.here c.read.new.self s.window not_last (sym c.if-not-is_last.ensures) read.read.progress read.kept.within)
+    rw (← c.self.view_is) (record {
+      tokens = shown-advanced s.next s.after c.read.new.here c.read.new.self s.window _ _ not_last read.tokens;
+      progress = remaining-advanced s.next s.after c.read.new.here c.read.new.self s.window not_last (sym c.if-not-is_last.ensures) read.read.progress read.kept.within;
+      near = search rules;
+    })
 
-pub returns-else-not-is_last-clause-progress : goal.returns-else-not-is_last-clause-progress
-returns-else-not-is_last-clause-progress g c =
+pub returns-else-not-is_last-clause-steps : goal.returns-else-not-is_last-clause-steps
+returns-else-not-is_last-clause-steps g c =
     let s = c.self.inside in
     let not_last : is_last s.next.token ≡ false = ap (λ r. is_last r.next.token) c.self.view_is ∙ c.requires.not_last in
-    rw (← c.self.view_is) (remaining-ended s.next s.after s.after s.window s.window not_last (sym c.if-not-is_last.ensures))
+    rw (← c.self.view_is) (record {
+      tokens = search rules;
+      progress = remaining-ended s.next s.after s.after s.window s.window not_last (sym c.if-not-is_last.ensures);
+      near = search rules;
+    })
 
 pub returns-in_err-read-clause-stopped : goal.returns-in_err-read-clause-stopped
 returns-in_err-read-clause-stopped g c =
     let s = c.self.inside in
     let not_last : is_last s.next.token ≡ false = ap (λ r. is_last r.next.token) c.self.view_is ∙ c.requires.not_last in
-    on_err-from c.from_residual.result (rw (← c.self.view_is) (advanced-stopped c.read.new.self.taken s.next s.after s.window _ not_last (sym c.if-not-is_last.ensures) c.in_err-read.ensures.stopped))
+    on_err-from c.from_residual.result (rw (← c.self.view_is) (advanced-stopped c.read.new.self.taken s.next s.after s.window _ not_last (sym c.if-not-is_last.ensures) c.in_err-read.ensures.stopped.within))

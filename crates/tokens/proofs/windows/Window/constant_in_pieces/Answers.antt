@@ -41,8 +41,11 @@ returns-in_err-b-clause-stopped g c =
     let seen = c.in_err-b.ensures in
     let now = in_constant c.loop-b.value in
     let chain = c.loop-b.invariant.tokens ∙ ap (λ v. to_read (in_constant v) c.args.self.now (g.F.Feed.to_come c.args.feed.now)) c.from-value.ensures in
-    on_err-from c.from_residual.result (stops-from now (in_constant (c.args.first - 48)) _ _ c.peek.new.self _ _ chain
-    (stops now (in_run-ends is_digit (constant_going_on c.loop-b.value) (constant-undecided c.loop-b.value)) c.loop-b.self c.peek.new.self _ seen.failed seen.place.place))
+    on_err-from c.from_residual.result (record {
+      within = stops-from now (in_constant (c.args.first - 48)) _ _ c.peek.new.self _ _ chain
+          (stops now (in_run-ends is_digit (constant_going_on c.loop-b.value) (constant-undecided c.loop-b.value)) c.loop-b.self c.peek.new.self _ seen.failed seen.place.place);
+      unread = c.loop-b.invariant.here;
+    })
 
 pub returns-in_err-b-clause-kept : goal.returns-in_err-b-clause-kept
 returns-in_err-b-clause-kept g c =

@@ -43,8 +43,11 @@ returns-in_err-b-clause-stopped g c =
     let now = in_name c.loop-b.name c.loop-b.too_long in
     let begun = c.push.ensures ∙ ap (λ name. name ++ c.args.first ∷ []) c.new-name.ensures in
     let chain = c.loop-b.invariant.tokens ∙ ap (λ name. to_read (in_name name false) c.args.self.now (g.F.Feed.to_come c.args.feed.now)) begun in
-    on_err-from c.from_residual.result (stops-from now (in_name (c.args.first ∷ []) false) _ _ c.peek.new.self _ _ chain
-    (stops now (in_run-ends is_name_byte (name_going_on c.loop-b.name c.loop-b.too_long) (name-undecided c.loop-b.name c.loop-b.too_long)) c.loop-b.self c.peek.new.self _ seen.failed seen.place.place))
+    on_err-from c.from_residual.result (record {
+      within = stops-from now (in_name (c.args.first ∷ []) false) _ _ c.peek.new.self _ _ chain
+          (stops now (in_run-ends is_name_byte (name_going_on c.loop-b.name c.loop-b.too_long) (name-undecided c.loop-b.name c.loop-b.too_long)) c.loop-b.self c.peek.new.self _ seen.failed seen.place.place);
+      unread = c.loop-b.invariant.here;
+    })
 
 pub returns-in_err-b-clause-kept : goal.returns-in_err-b-clause-kept
 returns-in_err-b-clause-kept g c =

@@ -30,8 +30,11 @@ pub returns-in_err-next-clause-stopped : goal.returns-in_err-next-clause-stopped
 returns-in_err-next-clause-stopped g c =
     let seen = c.in_err-next.ensures in
     let now = in_punctuator c.loop-next.punctuator in
-    on_err-from c.from_residual.result (stops-from now (in_punctuator c.args.punctuator) _ _ c.peek.new.self _ _ c.loop-next.invariant.tokens
-    (stops now (in_punctuator-ends c.loop-next.punctuator) c.loop-next.self c.peek.new.self _ seen.failed seen.place.place))
+    on_err-from c.from_residual.result (record {
+      within = stops-from now (in_punctuator c.args.punctuator) _ _ c.peek.new.self _ _ c.loop-next.invariant.tokens
+          (stops now (in_punctuator-ends c.loop-next.punctuator) c.loop-next.self c.peek.new.self _ seen.failed seen.place.place);
+      unread = c.loop-next.invariant.here;
+    })
 
 pub returns-in_err-next-clause-kept : goal.returns-in_err-next-clause-kept
 returns-in_err-next-clause-kept g c =

@@ -3,7 +3,7 @@ use Rattle.std.proofs.lemmas.Result.{on_ok_weaker, on_err_weaker}
 use Rattle.tokens.specs.Tokens.{located_tokens}
 use Rattle.tokens.proofs.ToRead.{to_read-pass}
 use Rattle.tokens.proofs.TokenLemmas.{blank-skipped}
-use Rattle.tokens.proofs.TakenLemmas.{stops-from}
+use Rattle.tokens.proofs.TakenLemmas.{fails-from}
 use Rattle.tokens.proofs.windows.Window.read_behind.Goals as goal
 
 pub returns-in-Some-clause-tokens : goal.returns-in-Some-clause-tokens
@@ -14,7 +14,7 @@ returns-in-Some-clause-tokens g c =
 pub returns-in-Some-clause-stopped : goal.returns-in-Some-clause-stopped
 returns-in-Some-clause-stopped g c =
     let passes = to_read-pass located_tokens located_tokens _ _ (g.F.Feed.to_come c.args.feed.now) (Some c.args.blank) c.args.blank c.pass.ensures.value (sym c.requires.begins.first) refl (blank-skipped c.args.blank c.requires.begins.blank) in
-    on_err_weaker c.token.result (stops-from located_tokens located_tokens _ _ c.token.new.self _ _ passes) c.token.ensures.stopped
+    on_err_weaker c.token.result (fails-from located_tokens located_tokens _ _ c.token.new.self _ _ passes refl) c.token.ensures.stopped
 
 pub returns-in_default-clause-tokens : goal.returns-in_default-clause-tokens
 returns-in_default-clause-tokens g c =
@@ -24,4 +24,4 @@ returns-in_default-clause-tokens g c =
 pub returns-in_default-clause-stopped : goal.returns-in_default-clause-stopped
 returns-in_default-clause-stopped g c =
     let passes = to_read-pass located_tokens located_tokens _ _ (g.F.Feed.to_come c.args.feed.now) (Some c.args.blank) c.args.blank c.pass.ensures.value (sym c.requires.begins.first) refl (blank-skipped c.args.blank c.requires.begins.blank) in
-    on_err_weaker c.read_on.result (stops-from located_tokens located_tokens _ _ c.read_on.new.self _ _ passes) c.read_on.ensures.stopped
+    on_err_weaker c.read_on.result (fails-from located_tokens located_tokens _ _ c.read_on.new.self _ _ passes refl) c.read_on.ensures.stopped

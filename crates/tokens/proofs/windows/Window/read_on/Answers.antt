@@ -1,4 +1,5 @@
 use Rattle.tokens.proofs.CommentLemmas.{ended-beyond}
+use Rattle.std.proofs.lemmas.Result.{on_err_weaker}
 use Rattle.std.proofs.Common.{◌≡◌, ◌∙◌, sym, ap, refl, [], true, false, arith}
 use Rattle.tokens.specs.Tokens.{is_last, located_tokens}
 use Rattle.tokens.specs.Window.{ahead}
@@ -7,7 +8,7 @@ use Rattle.tokens.specs.declared.located_tokens.Token.TheVariants as variant
 use Rattle.tokens.proofs.ToRead.{to_read-here, none-ahead}
 use Rattle.tokens.proofs.TokenLemmas.{nothing-left}
 use Rattle.tokens.proofs.BeginLemmas.{last-is_last, last-fits}
-use Rattle.tokens.proofs.TakenLemmas.{Takes-then, then-fails, then-asks}
+use Rattle.tokens.proofs.TakenLemmas.{Takes-then, fails-from, on_err-from, stops-from, then-fails, then-asks}
 use Rattle.tokens.proofs.windows.Window.read_on.Goals as goal
 
 pub returns-in-None-clause-tokens : goal.returns-in-None-clause-tokens
@@ -38,11 +39,11 @@ loop-self-preserved g c =
     record {
       tokens = to_read-here located_tokens (after_slash false c.slash.new.here) c.slash.new.self _ (λ to_come. refl)
           ∙ ap (λ found. to_read (after_slash found c.slash.new.here) c.slash.new.self (g.F.Feed.to_come c.slash.new.feed)) (sym c.if-branch.false)
-          ∙ slash.tokens ∙ blanks.tokens ∙ c.loop-self.invariant.tokens;
+          ∙ slash.past.tokens ∙ blanks.tokens ∙ c.loop-self.invariant.tokens;
       took = Takes-then (Takes-then c.loop-self.invariant.took blanks.kept.took) slash.kept.took;
       forward = omega (arith, blanks.kept.forward, slash.forward);
       count = slash.kept.count ∙ blanks.kept.count ∙ c.loop-self.invariant.count;
-      here = slash.unread c.if-branch.false ∙ c.loop-self.invariant.here;
+      here = slash.past.unread c.if-branch.false ∙ c.loop-self.invariant.here;
       known = slash.kept.known;
     }
 
@@ -67,3 +68,21 @@ returns-in-Some-clause-kept g c =
     let now = c.loop-self.invariant in
     let blanks = c.in_ok-skip_blanks.ensures.kept in
     then-asks c.token.result _ c.skip_blanks.new.self _ _ _ _ _ _ _ _ (Takes-then now.took blanks.took) (omega (arith, now.forward, blanks.forward)) (blanks.count ∙ now.count) c.token.ensures.kept
+
+pub returns-in_err-skip_blanks-clause-stopped : goal.returns-in_err-skip_blanks-clause-stopped
+returns-in_err-skip_blanks-clause-stopped g c =
+    let now = c.loop-self.invariant in
+    on_err-from c.from_residual.result (record {
+      within = stops-from located_tokens located_tokens _ _ c.skip_blanks.new.self _ _ now.tokens c.in_err-skip_blanks.ensures.stopped;
+      unread = now.here;
+    })
+
+pub returns-in_err-slash-in-Some-eq47-clause-stopped : goal.returns-in_err-slash-in-Some-eq47-clause-stopped
+returns-in_err-slash-in-Some-eq47-clause-stopped g c =
+    let now = c.loop-self.invariant in
+    on_err-from c.from_residual-in_err-slash-in-Some-eq47.result (fails-from located_tokens located_tokens _ _ c.slash.new.self _ _ (c.in_ok-skip_blanks.ensures.tokens ∙ now.tokens) now.here c.in_err-slash-in-Some-eq47.ensures.stopped)
+
+pub returns-in-Some-clause-stopped : goal.returns-in-Some-clause-stopped
+returns-in-Some-clause-stopped g c =
+    let now = c.loop-self.invariant in
+    on_err_weaker c.token.result (fails-from located_tokens located_tokens _ _ c.token.new.self _ _ (c.in_ok-skip_blanks.ensures.tokens ∙ now.tokens) now.here) c.token.ensures.stopped

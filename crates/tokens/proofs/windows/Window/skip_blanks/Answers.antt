@@ -32,3 +32,6 @@ returns-in_err-first-clause-kept g c =
     let now = c.loop-b.invariant in
     let passed = c.pass_blanks.ensures.kept in
     then-fails c.from_residual.result _ c.from_residual.ensures.1 _ c.pass_blanks.new.self _ _ _ _ _ _ _ _ (Takes-pass passed.taken now.took) (omega (arith, now.forward, passed.forward)) now.count c.in_err-first.ensures.kept
+
+pub returns-in_default-3-clause-tokens : goal.returns-in_default-3-clause-tokens
+returns-in_default-3-clause-tokens g c = to_read-seen located_tokens _ _ _ _ c.in_ok-first.ensures.seen ∙ blanks-pass _ _ _ c.pass_blanks.ensures.value ∙ c.loop-b.invariant.tokens

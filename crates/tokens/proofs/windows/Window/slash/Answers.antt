@@ -7,73 +7,88 @@ use Rattle.tokens.specs.declared.located_tokens.LexicalError.TheVariants.{Commen
 use Rattle.tokens.specs.declared.located_tokens.Token.TheVariants as variant
 use Rattle.tokens.proofs.ToRead.{to_read-pass, to_read-pass_line, to_read-seen, to_read-here}
 use Rattle.tokens.proofs.BeginLemmas.{in_slash, slash-begins, star-begins, slash-stays, star-found, not_true, not_false, last-followed, last-fits}
-use Rattle.tokens.proofs.TakenLemmas.{on_err-from, stops, stops-from, in_slash-ends, then-fails, Takes-pass, Takes-from}
+use Rattle.tokens.proofs.TakenLemmas.{on_err-from, stops, stops-from, fails-from, in_slash-ends, then-fails, Takes-pass, Takes-from}
 use Rattle.tokens.proofs.windows.Window.slash.Goals as goal
 
-pub returns-then-ne-clause-tokens : goal.returns-then-ne-clause-tokens
-returns-then-ne-clause-tokens g c =
+pub returns-then-ne-clause-past : goal.returns-then-ne-clause-past
+returns-then-ne-clause-past g c =
     let line = c.line-line.result in
     let seen = c.in_ok-peek.ensures in
-    c.in_ok-punctuator.ensures.tokens ∙ slash-stays line _ _ _ seen.next.ready seen.next.first (not_true _ c.if-ne.ensures)
-    ∙ to_read-seen (in_slash line) _ _ _ _ seen.seen
-    ∙ to_read-pass_line (in_slash line) located_tokens _ _ _ 47 line c.pass.ensures.value c.requires.slash c.line-line.ensures (slash-begins line)
+    record {
+      tokens = c.in_ok-punctuator.ensures.tokens ∙ slash-stays line _ _ _ seen.next.ready seen.next.first (not_true _ c.if-ne.ensures)
+          ∙ to_read-seen (in_slash line) _ _ _ _ seen.seen
+          ∙ to_read-pass_line (in_slash line) located_tokens _ _ _ 47 line c.pass.ensures.value c.requires.slash c.line-line.ensures (slash-begins line);
+      token = λ _. c.in_ok-punctuator.ensures.found;
+      unread = λ e. absurd cc;
+    }
 
-pub returns-then-branch-clause-tokens : goal.returns-then-branch-clause-tokens
-returns-then-branch-clause-tokens g c =
+pub returns-then-branch-clause-past : goal.returns-then-branch-clause-past
+returns-then-branch-clause-past g c =
     let line = c.line-line.result in
     let seen = c.in_ok-peek.ensures in
-    to_read-here (after_slash false c.args.here.now) (after_comment true line) c.skip_comment.new.self _ (λ to_come. refl)
-    ∙ ap (λ closed. to_read (after_comment closed line) c.skip_comment.new.self (g.F.Feed.to_come c.skip_comment.new.feed)) (sym c.if-branch.true)
-    ∙ c.in_ok-skip_comment.ensures.tokens line
-    ∙ to_read-pass (in_comment line) (in_slash line) _ _ _ _ 42 c.pass-2.ensures.value seen.next.first (star-found _ (not_false _ c.if-ne.ensures)) (star-begins line)
-    ∙ to_read-seen (in_slash line) _ _ _ _ seen.seen
-    ∙ to_read-pass_line (in_slash line) located_tokens _ _ _ 47 line c.pass.ensures.value c.requires.slash c.line-line.ensures (slash-begins line)
+    record {
+      tokens = to_read-here (after_slash false c.args.here.now) (after_comment true line) c.skip_comment.new.self _ (λ to_come. refl)
+          ∙ ap (λ closed. to_read (after_comment closed line) c.skip_comment.new.self (g.F.Feed.to_come c.skip_comment.new.feed)) (sym c.if-branch.true)
+          ∙ c.in_ok-skip_comment.ensures.tokens line
+          ∙ to_read-pass (in_comment line) (in_slash line) _ _ _ _ 42 c.pass-2.ensures.value seen.next.first (star-found _ (not_false _ c.if-ne.ensures)) (star-begins line)
+          ∙ to_read-seen (in_slash line) _ _ _ _ seen.seen
+          ∙ to_read-pass_line (in_slash line) located_tokens _ _ _ 47 line c.pass.ensures.value c.requires.slash c.line-line.ensures (slash-begins line);
+      token = λ e. absurd cc;
+      unread = λ _. refl;
+    }
 
-pub returns-else-branch-clause-tokens : goal.returns-else-branch-clause-tokens
-returns-else-branch-clause-tokens g c =
+pub returns-else-branch-clause-past : goal.returns-else-branch-clause-past
+returns-else-branch-clause-past g c =
     let line = c.line-line.result in
     let seen = c.in_ok-peek.ensures in
-    to_read-here (after_slash true c.put_open_comment.new.here) (after_comment false line) c.skip_comment.new.self _ (λ to_come.
-    let a = ahead c.skip_comment.new.self to_come in ap (λ x. followed x a) (c.put_open_comment.ensures.value to_come) ∙ last-followed (variant.Fault CommentNotClosed) line a refl)
-    ∙ ap (λ closed. to_read (after_comment closed line) c.skip_comment.new.self (g.F.Feed.to_come c.skip_comment.new.feed)) (sym c.if-branch.false)
-    ∙ c.in_ok-skip_comment.ensures.tokens line
-    ∙ to_read-pass (in_comment line) (in_slash line) _ _ _ _ 42 c.pass-2.ensures.value seen.next.first (star-found _ (not_false _ c.if-ne.ensures)) (star-begins line)
-    ∙ to_read-seen (in_slash line) _ _ _ _ seen.seen
-    ∙ to_read-pass_line (in_slash line) located_tokens _ _ _ 47 line c.pass.ensures.value c.requires.slash c.line-line.ensures (slash-begins line)
+    record {
+      tokens = to_read-here (after_slash true c.put_open_comment.new.here) (after_comment false line) c.skip_comment.new.self _ (λ to_come.
+          let a = ahead c.skip_comment.new.self to_come in ap (λ x. followed x a) (c.put_open_comment.ensures.value to_come) ∙ last-followed (variant.Fault CommentNotClosed) line a refl)
+          ∙ ap (λ closed. to_read (after_comment closed line) c.skip_comment.new.self (g.F.Feed.to_come c.skip_comment.new.feed)) (sym c.if-branch.false)
+          ∙ c.in_ok-skip_comment.ensures.tokens line
+          ∙ to_read-pass (in_comment line) (in_slash line) _ _ _ _ 42 c.pass-2.ensures.value seen.next.first (star-found _ (not_false _ c.if-ne.ensures)) (star-begins line)
+          ∙ to_read-seen (in_slash line) _ _ _ _ seen.seen
+          ∙ to_read-pass_line (in_slash line) located_tokens _ _ _ 47 line c.pass.ensures.value c.requires.slash c.line-line.ensures (slash-begins line);
+      token = λ _. record {
+        reached = c.put_open_comment.ensures.reached;
+        fits = rw (c.put_open_comment.ensures.value []) (last-fits (variant.Fault CommentNotClosed) line (ahead c.skip_comment.new.self []) tt);
+      };
+      unread = λ e. absurd cc;
+    }
 
 pub returns-in_err-peek-clause-stopped : goal.returns-in_err-peek-clause-stopped
 returns-in_err-peek-clause-stopped g c =
     let line = c.line-line.result in
     let seen = c.in_err-peek.ensures in
-    on_err-from c.from_residual.result (stops-from (in_slash line) located_tokens _ _ c.peek.new.self _ _
-    (to_read-pass_line (in_slash line) located_tokens _ _ _ 47 line c.pass.ensures.value c.requires.slash c.line-line.ensures (slash-begins line))
-    (stops (in_slash line) (in_slash-ends line) c.pass.new.self c.peek.new.self _ seen.failed seen.place.place))
+    on_err-from c.from_residual.result (record {
+      within = stops-from (in_slash line) located_tokens _ _ c.peek.new.self _ _
+          (to_read-pass_line (in_slash line) located_tokens _ _ _ 47 line c.pass.ensures.value c.requires.slash c.line-line.ensures (slash-begins line))
+          (stops (in_slash line) (in_slash-ends line) c.pass.new.self c.peek.new.self _ seen.failed seen.place.place);
+      unread = refl;
+    })
 
 pub returns-in_err-punctuator-clause-stopped : goal.returns-in_err-punctuator-clause-stopped
 returns-in_err-punctuator-clause-stopped g c =
     let line = c.line-line.result in
     let seen = c.in_ok-peek.ensures in
-    on_err-from c.from_residual-in_err-punctuator.result (stops-from (in_punctuator Slash) located_tokens _ _ c.punctuator.new.self _ _
+    on_err-from c.from_residual-in_err-punctuator.result (fails-from (in_punctuator Slash) located_tokens _ _ c.punctuator.new.self _ _
     (slash-stays line _ _ _ seen.next.ready seen.next.first (not_true _ c.if-ne.ensures)
     ∙ to_read-seen (in_slash line) _ _ _ _ seen.seen
     ∙ to_read-pass_line (in_slash line) located_tokens _ _ _ 47 line c.pass.ensures.value c.requires.slash c.line-line.ensures (slash-begins line))
-    c.in_err-punctuator.ensures.stopped)
+    refl c.in_err-punctuator.ensures.stopped)
 
 pub returns-in_err-skip_comment-clause-stopped : goal.returns-in_err-skip_comment-clause-stopped
 returns-in_err-skip_comment-clause-stopped g c =
     let line = c.line-line.result in
     let seen = c.in_ok-peek.ensures in
-    on_err-from c.from_residual-in_err-skip_comment.result (stops-from (in_comment line) located_tokens _ _ c.skip_comment.new.self _ _
-    (to_read-pass (in_comment line) (in_slash line) _ _ _ _ 42 c.pass-2.ensures.value seen.next.first (star-found _ (not_false _ c.if-ne.ensures)) (star-begins line)
-    ∙ to_read-seen (in_slash line) _ _ _ _ seen.seen
-    ∙ to_read-pass_line (in_slash line) located_tokens _ _ _ 47 line c.pass.ensures.value c.requires.slash c.line-line.ensures (slash-begins line))
-    (c.in_err-skip_comment.ensures.stopped line))
-
-pub returns-else-branch-clause-found : goal.returns-else-branch-clause-found
-returns-else-branch-clause-found g c = λ _. record {
-  reached = c.put_open_comment.ensures.reached;
-  fits = rw (c.put_open_comment.ensures.value []) (last-fits (variant.Fault CommentNotClosed) c.line-line.result (ahead c.skip_comment.new.self []) tt);
-}
+    on_err-from c.from_residual-in_err-skip_comment.result (record {
+      within = stops-from (in_comment line) located_tokens _ _ c.skip_comment.new.self _ _
+          (to_read-pass (in_comment line) (in_slash line) _ _ _ _ 42 c.pass-2.ensures.value seen.next.first (star-found _ (not_false _ c.if-ne.ensures)) (star-begins line)
+          ∙ to_read-seen (in_slash line) _ _ _ _ seen.seen
+          ∙ to_read-pass_line (in_slash line) located_tokens _ _ _ 47 line c.pass.ensures.value c.requires.slash c.line-line.ensures (slash-begins line))
+          (c.in_err-skip_comment.ensures.stopped line);
+      unread = refl;
+    })
 
 pub returns-in_err-punctuator-clause-kept : goal.returns-in_err-punctuator-clause-kept
 returns-in_err-punctuator-clause-kept g c =

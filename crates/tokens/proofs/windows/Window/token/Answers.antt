@@ -8,7 +8,7 @@ use Rattle.tokens.specs.declared.located_tokens.LocatedToken.{LocatedToken}
 use Rattle.tokens.specs.Lexing.{followed, ending, in_name, in_constant, in_punctuator}
 use Rattle.tokens.proofs.ToRead.{to_read-pass, to_read-here}
 use Rattle.tokens.proofs.BeginLemmas.{name-begins, constant-begins, other-begins, bad-begins}
-use Rattle.tokens.proofs.TakenLemmas.{stops-from}
+use Rattle.tokens.proofs.TakenLemmas.{fails-from}
 use Rattle.tokens.proofs.AtHandLemmas.{punctuator-ends_before}
 use Rattle.tokens.proofs.PunctuatorLemmas.{no-digit}
 use Rattle.tokens.proofs.TokenLemmas.{punctuator-whole}
@@ -49,19 +49,19 @@ pub returns-then-is_letter-clause-stopped : goal.returns-then-is_letter-clause-s
 returns-then-is_letter-clause-stopped g c =
     let b = c.args.first in
     let begins = to_read-pass (in_name (b ∷ []) false) located_tokens _ _ (g.F.Feed.to_come c.args.feed.now) (Some b) b c.pass.ensures.value (sym c.requires.begins.first) refl (name-begins b c.requires.begins.no_blank (sym c.if-is_letter.ensures)) in
-    on_err_weaker c.name.result (stops-from (in_name (b ∷ []) false) located_tokens _ _ c.name.new.self _ _ begins) c.name.ensures.stopped
+    on_err_weaker c.name.result (fails-from (in_name (b ∷ []) false) located_tokens _ _ c.name.new.self _ _ begins refl) c.name.ensures.stopped
 
 pub returns-then-is_digit-clause-stopped : goal.returns-then-is_digit-clause-stopped
 returns-then-is_digit-clause-stopped g c =
     let b = c.args.first in
     let begins = to_read-pass (in_constant (b - 48)) located_tokens _ _ (g.F.Feed.to_come c.args.feed.now) (Some b) b c.pass.ensures.value (sym c.requires.begins.first) refl (constant-begins b c.requires.begins.no_blank (sym c.if-is_letter.ensures) (sym c.if-is_digit.ensures)) in
-    on_err_weaker c.constant.result (stops-from (in_constant (b - 48)) located_tokens _ _ c.constant.new.self _ _ begins) c.constant.ensures.stopped
+    on_err_weaker c.constant.result (fails-from (in_constant (b - 48)) located_tokens _ _ c.constant.new.self _ _ begins refl) c.constant.ensures.stopped
 
 pub returns-else-ends_before-clause-stopped : goal.returns-else-ends_before-clause-stopped
 returns-else-ends_before-clause-stopped g c =
     let b = c.args.first in
     let begins = to_read-pass (in_punctuator c.in-Some-of_byte.punctuator) located_tokens _ _ (g.F.Feed.to_come c.args.feed.now) (Some b) b c.pass.ensures.value (sym c.requires.begins.first) refl (other-begins c.in-Some-of_byte.punctuator b c.requires.begins.no_blank (sym c.if-is_letter.ensures) (sym c.if-is_digit.ensures) c.requires.begins.no_slash (sym c.in-Some-of_byte.ensures)) in
-    on_err_weaker c.punctuator.result (stops-from (in_punctuator c.in-Some-of_byte.punctuator) located_tokens _ _ c.punctuator.new.self _ _ begins) c.punctuator.ensures.stopped
+    on_err_weaker c.punctuator.result (fails-from (in_punctuator c.in-Some-of_byte.punctuator) located_tokens _ _ c.punctuator.new.self _ _ begins refl) c.punctuator.ensures.stopped
 
 pub returns-in-Some-clause-tokens : goal.returns-in-Some-clause-tokens
 returns-in-Some-clause-tokens g c =
