@@ -11,8 +11,6 @@ use Rattle.code.specs.Generation.{ObjectCode}
 use Rattle.battles.specs.Battle.{Robot, Stage, step, turn, robot_of}
 use Rattle.battles.specs.Carrying.{Runner, AreRobotsOf, EachIsAt, HasReached, IsAt, IsRobotOf}
 use Rattle.battles.specs.Windows.{AreSlots, HasCome, HasRun, IsLike, OthersArePast, alone, RunsAlone, rest, is_left, rounds}
-use Rattle.battles.specs.declared.windows.Draws.{Draws}
-use Rattle.battles.specs.declared.windows.Draws.TheVariants.{InOrder, AtOnce}
 use Rattle.battles.proofs.Alike.{stands_like, stages_refl, like_same, stages_trans}
 use Rattle.battles.proofs.Commuting.{TurnsAlone}
 use Rattle.battles.proofs.Turns.{rest_all, rest_none, left_not, slots_one, slots_set, next_taken}
@@ -42,6 +40,10 @@ unfolding ran TurnsAlone
 ran_alone robots i s n k inside runs within = λ live.
     let robot = robot_of robots i in
     rw (get_or-set_same s.traces i (alone robot i s.field (get_or s.traces i []) k).1 [] inside) (runs k within live)
+
+-- past the longest window is past one of fewer cycles
+pub others_past : (i w : ℕ) (next : List ℕ) → w ≤ 15 → OthersArePast 60 i next → OthersArePast (4 * w) i next
+others_past i w next within past j low other = omega (arith, within, past j low other)
 
 -- If all others are past the end, none is left before its own.
 first_left : (next : List ℕ) (i end n : ℕ) → AreSlots next → i < 4 → get_or next i 0 + 4 * n < end → OthersArePast end i next
@@ -88,14 +90,14 @@ run_taken robots next i end (suc n) s are small inside within ready =
     stages_trans _ _ _ last (run_taken robots next i end n s are small inside (omega arith) fewer)
 
 -- What a robot that runs alone makes of its machine and of the arena, whatever its trace and the field are.
-pub record Runs (i : ℕ) (code : ObjectCode) (n : ℕ) (runner after : Runner) (arena grown : Ground) : Type 0 where
+pub record Runs (free : Type 0) (i : ℕ) (code : ObjectCode) (n : ℕ) (runner after : Runner) (arena grown : Ground) : Type 0 where
   pub on : (r : Robot) (f : Field) (trace : List ℤ) → IsRobotOf code r → IsGroundOf arena f → IsAt runner code trace
-      → HasRun InOrder r i f trace n code after grown
+      → HasRun free r i f trace n code after grown
 
 -- And one that takes the turn that is next before it runs.
-pub record GoesOn (draws : Draws) (i : ℕ) (code : ObjectCode) (n : ℕ) (runner after : Runner) (arena grown : Ground) : Type 0 where
+pub record GoesOn (free : Type 0) (i : ℕ) (code : ObjectCode) (n : ℕ) (runner after : Runner) (arena grown : Ground) : Type 0 where
   pub on : (r : Robot) (f : Field) (trace : List ℤ) → IsRobotOf code r → IsGroundOf arena f → IsAt runner code trace
-      → HasRun draws r i (step r i f trace).0 (step r i f trace).1 (n - 1) code after grown
+      → HasRun free r i (step r i f trace).0 (step r i f trace).1 (n - 1) code after grown
 
 traces_length : (runners : List Runner) (codes : List ObjectCode) (traces : List (List ℤ)) → EachIsAt runners codes traces → length traces ≡ length codes
 traces_length [] [] [] stands = refl
@@ -103,38 +105,38 @@ traces_length (runner ∷ runners) (code ∷ codes) (trace ∷ traces) stands = 
 traces_length _ _ _ stands = absurd stands
 
 pub come_alone : (robots : List Robot) (codes : List ObjectCode) (next : List ℕ) (w n i : ℕ) (runners : List Runner) (arena grown : Ground) (opened : Stage)
-    (code : ObjectCode) (none after : Runner)
+    (code : ObjectCode) (none after : Runner) (free : Type 0)
     → AreRobotsOf codes robots → AreSlots next → i < 4 → i < length codes → get_or next i 0 + 4 * n < 4 * w + 4
-    → HasCome robots codes next w runners arena opened → slice_get codes i ≡ Some code
-    → Runs i code n (get_or runners i none) after arena grown
+    → (free → OthersArePast (4 * w) i next) → HasCome robots codes next w runners arena opened → slice_get codes i ≡ Some code
+    → Runs free i code n (get_or runners i none) after arena grown
     → HasCome robots codes (set next i (get_or next i 0 + 4 * n)) w (set runners i after) grown opened
 unfolding robot_of ran
-come_alone robots codes next w n i runners arena grown opened code none after are slots small inside within come here gone =
+come_alone robots codes next w n i runners arena grown opened code none after free are slots small inside within past come here gone =
     let s = come.stage in
     let robot = robot_at codes robots i code (λ trace. Quiet) are here in
     let at = stands_at runners codes s.traces i code none come.reached.traces here in
     let lengths = traces_length runners codes s.traces come.reached.traces in
     let on = gone.on (robot_of robots i) s.field (get_or s.traces i []) robot come.reached.field at in
+    let ready : RunsAlone (robot_of robots i) i s.field (get_or s.traces i []) n ⊎ OthersArePast (4 * w) i next =
+    elim on.steps as (λ r. RunsAlone (robot_of robots i) i s.field (get_or s.traces i []) n ⊎ OthersArePast (4 * w) i next) [
+      | inl runs ↦ inl runs
+      | inr drawn ↦ inr (past drawn)
+    ] in
     record {
       stage = ran robots i s n;
       reached = record { field = on.stands; traces = stands_set runners codes s.traces i after code _ come.reached.traces here on.at };
-      ends = stages_trans _ _ _ (run_taken robots next i (4 * w) n s slots small (omega (arith, lengths, inside)) within (inl (on.steps refl))) come.ends;
+      ends = stages_trans _ _ _ (run_taken robots next i (4 * w) n s slots small (omega (arith, lengths, inside)) within ready) come.ends;
     }
 
--- A robot draws in order, or all others are past the end.
-pub ordered_or : {P : Type 0} (draws : Draws) → (draws ≡ AtOnce → P) → (draws ≡ InOrder) ⊎ P
-ordered_or InOrder past = inl refl
-ordered_or AtOnce past = inr (past refl)
-
 pub come_on : (robots : List Robot) (codes : List ObjectCode) (next : List ℕ) (w n i : ℕ) (runners : List Runner) (arena grown : Ground) (opened : Stage)
-    (code : ObjectCode) (none after : Runner) (draws : Draws)
+    (code : ObjectCode) (none after : Runner) (free : Type 0)
     → AreRobotsOf codes robots → AreSlots next → i < 4 → i < length codes → get_or next i 0 + 4 * n < 4 * w + 4 → 0 < n
-    → ((j : ℕ) → j < 4 → get_or next i 0 ≤ get_or next j 0) → (draws ≡ AtOnce → OthersArePast (4 * w) i next)
+    → ((j : ℕ) → j < 4 → get_or next i 0 ≤ get_or next j 0) → (free → OthersArePast (4 * w) i next)
     → HasCome robots codes next w runners arena opened → slice_get codes i ≡ Some code
-    → GoesOn draws i code n (get_or runners i none) after arena grown
+    → GoesOn free i code n (get_or runners i none) after arena grown
     → HasCome robots codes (set next i (get_or next i 0 + 4 * n)) w (set runners i after) grown opened
 unfolding turn robot_of ran
-come_on robots codes next w n i runners arena grown opened code none after draws are slots small inside within some first past come here gone =
+come_on robots codes next w n i runners arena grown opened code none after free are slots small inside within some first past come here gone =
     let s = come.stage in
     let robot = robot_at codes robots i code (λ trace. Quiet) are here in
     let at = stands_at runners codes s.traces i code none come.reached.traces here in
@@ -150,11 +152,10 @@ come_on robots codes next w n i runners arena grown opened code none after draws
     let twice : set later i (get_or later i 0 + 4 * (n - 1)) ≡ set next i (d + 4 * n) =
     ap (λ k. set later i (k + 4 * (n - 1))) own ∙ set-set next i (d + 4) (d + 4 + 4 * (n - 1)) ∙ ap (set next i) (omega (arith, some)) in
     let long : length (set s.traces i stepped.1) ≡ length s.traces = length-set s.traces i stepped.1 in
-    let runs : draws ≡ InOrder → RunsAlone (robot_of robots i) i stepped.0 (get_or (set s.traces i stepped.1) i []) (n - 1) = λ ordered. rw same (on.steps ordered) in
     let ready : RunsAlone (robot_of robots i) i stepped.0 (get_or (set s.traces i stepped.1) i []) (n - 1) ⊎ OthersArePast (4 * w) i later =
-    elim (ordered_or draws past) as (λ r. RunsAlone (robot_of robots i) i stepped.0 (get_or (set s.traces i stepped.1) i []) (n - 1) ⊎ OthersArePast (4 * w) i later) [
-      | inl ordered ↦ inl (runs ordered)
-      | inr others ↦ inr (λ j low other. rw (get_or-set_other next i j (d + 4) 0 other) (others j low other))
+    elim on.steps as (λ r. RunsAlone (robot_of robots i) i stepped.0 (get_or (set s.traces i stepped.1) i []) (n - 1) ⊎ OthersArePast (4 * w) i later) [
+      | inl runs ↦ inl (rw same runs)
+      | inr drawn ↦ inr (λ j low other. rw (get_or-set_other next i j (d + 4) 0 other) (past drawn j low other))
     ] in
     let taken = run_taken robots later i (4 * w) (n - 1) (turn robots i s) (slots_one next i slots small) small (omega (arith, lengths, long, inside)) (omega (arith, own, within, some)) ready in
     let moved : (ran robots i (turn robots i s) (n - 1)).traces ≡ set s.traces i (alone (robot_of robots i) i stepped.0 stepped.1 (n - 1)).1 =

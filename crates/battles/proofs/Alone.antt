@@ -1,5 +1,5 @@
 -- A robot that runs alone: quiet cycles, and steps one after the other.
-use Rattle.std.proofs.Common.{◌≡◌, ℕ, ◌+◌, ◌-◌, ◌<◌, ◌≤◌, zero, suc, true, false, ℤ, pos, List, [], ◌∷◌, ◌++◌, replicate, append_assoc, inl, inr, refl, sym, ap, ◌∙◌, arith, add-one}
+use Rattle.std.proofs.Common.{◌≡◌, ℕ, ◌+◌, ◌-◌, ◌<◌, ◌≤◌, zero, suc, true, false, ℤ, pos, List, [], ◌∷◌, ◌++◌, replicate, append_assoc, ◌⊎◌, inl, inr, refl, sym, ap, ◌∙◌, arith, add-one}
 use Rattle.std.proofs.lemmas.Bool.{cases_lt, false≢true}
 use Rattle.std.proofs.lemmas.List.{replicate_more, append-nil}
 use Rattle.arena.specs.Field.{Field, is_live}
@@ -17,8 +17,6 @@ use Rattle.code.specs.Standing.{StandsFor}
 use Rattle.battles.specs.Carrying.{Runner, IsRobotOf, IsAt}
 use Rattle.battles.specs.Battle.{Robot, granted, step}
 use Rattle.battles.specs.Windows.{IsAlone, StepsAlone, RunsAlone, HasRun, alone}
-use Rattle.battles.specs.declared.windows.Draws.{Draws}
-use Rattle.battles.specs.declared.windows.Draws.TheVariants.{InOrder}
 use Rattle.battles.proofs.Commuting.{step_lives}
 use Rattle.battles.proofs.Running.{Coasts, at_end, at_less, at_more, quiet_less}
 
@@ -101,40 +99,40 @@ dead_alone r i f trace zero dead = refl
 dead_alone r i f trace (suc n) dead =
     ap (λ (t : Field × List ℤ). step r i t.0 t.1) (dead_alone r i f trace n dead) ∙ dead_step r i f trace dead
 
-pub dead_runs : (draws : Draws) (r : Robot) (i : ℕ) (f : Field) (trace : List ℤ) (n : ℕ) (code : ObjectCode) (runner : Runner) (arena : Ground)
-    → is_live f i ≡ false → IsGroundOf arena f → IsAt runner code trace → HasRun draws r i f trace n code runner arena
-dead_runs draws r i f trace n code runner arena dead ground at = record {
-  steps = λ ordered k within live. absurd (false≢true (sym dead ∙ sym (alone_lives r i f trace k) ∙ live));
+pub dead_runs : (free : Type 0) (r : Robot) (i : ℕ) (f : Field) (trace : List ℤ) (n : ℕ) (code : ObjectCode) (runner : Runner) (arena : Ground)
+    → is_live f i ≡ false → IsGroundOf arena f → IsAt runner code trace → HasRun free r i f trace n code runner arena
+dead_runs free r i f trace n code runner arena dead ground at = record {
+  steps = inl (λ k within live. absurd (false≢true (sym dead ∙ sym (alone_lives r i f trace k) ∙ live)));
   stands = rw (dead_alone r i f trace n dead) ground;
   at = rw (dead_alone r i f trace n dead) at;
 }
 
 -- A robot has run, and its machine is at this cycle, which may be a later one: in between nothing is asked.
-pub record RunsTo (draws : Draws) (r : Robot) (i : ℕ) (f : Field) (trace : List ℤ) (cycle most : ℕ) (code : ObjectCode) (machine : State) (arena : Ground) : Type 0 where
+pub record RunsTo (free : Type 0) (r : Robot) (i : ℕ) (f : Field) (trace : List ℤ) (cycle most : ℕ) (code : ObjectCode) (machine : State) (arena : Ground) : Type 0 where
   pub run : ℕ
   pub within : run ≤ cycle
   pub below : run ≤ most
-  pub ran : HasRun draws r i f trace run code (record { machine = machine; ahead = cycle - run }) arena
+  pub ran : HasRun free r i f trace run code (record { machine = machine; ahead = cycle - run }) arena
 
-pub to_begin : (draws : Draws) (r : Robot) (i : ℕ) (f : Field) (trace : List ℤ) (most : ℕ) (code : ObjectCode) (runner : Runner) (arena : Ground)
-    → IsGroundOf arena f → IsAt runner code trace → RunsTo draws r i f trace runner.ahead most code runner.machine arena
-to_begin draws r i f trace most code runner arena ground at =
+pub to_begin : (free : Type 0) (r : Robot) (i : ℕ) (f : Field) (trace : List ℤ) (most : ℕ) (code : ObjectCode) (runner : Runner) (arena : Ground)
+    → IsGroundOf arena f → IsAt runner code trace → RunsTo free r i f trace runner.ahead most code runner.machine arena
+to_begin free r i f trace most code runner arena ground at =
     let all : runner.ahead - 0 ≡ runner.ahead = omega arith in
     record {
       run = 0;
       within = omega arith;
       below = omega arith;
       ran = record {
-        steps = λ ordered k within. absurd (omega arith);
+        steps = inl (λ k within. absurd (omega arith));
         stands = rw (alone_none r i f trace) ground;
         at = rw (alone_none r i f trace, all) at;
       };
     }
 
 -- the machine coasts for so many cycles
-pub to_coast : (draws : Draws) (r : Robot) (i : ℕ) (f : Field) (trace : List ℤ) (cycle most n : ℕ) (code : ObjectCode) (machine after : State) (arena : Ground)
-    → Coasts code machine n after → RunsTo draws r i f trace cycle most code machine arena → RunsTo draws r i f trace (cycle + n) most code after arena
-to_coast draws r i f trace cycle most n code machine after arena on to =
+pub to_coast : (free : Type 0) (r : Robot) (i : ℕ) (f : Field) (trace : List ℤ) (cycle most n : ℕ) (code : ObjectCode) (machine after : State) (arena : Ground)
+    → Coasts code machine n after → RunsTo free r i f trace cycle most code machine arena → RunsTo free r i f trace (cycle + n) most code after arena
+to_coast free r i f trace cycle most n code machine after arena on to =
     let further : cycle + n - to.run ≡ cycle - to.run + n = omega (arith, to.within) in
     record {
       run = to.run;
@@ -148,10 +146,10 @@ to_coast draws r i f trace cycle most n code machine after arena on to =
     }
 
 -- the robot follows its machine up to a cycle
-pub to_cycle : (draws : Draws) (r : Robot) (i : ℕ) (f : Field) (trace : List ℤ) (cycle most end : ℕ) (code : ObjectCode) (machine : State) (arena : Ground)
-    → IsRobotOf code r → is_live f i ≡ true → (to : RunsTo draws r i f trace cycle most code machine arena) → to.run ≤ end → end ≤ cycle
-    → HasRun draws r i f trace end code (record { machine = machine; ahead = cycle - end }) arena
-to_cycle draws r i f trace cycle most end code machine arena is live to from within =
+pub to_cycle : (free : Type 0) (r : Robot) (i : ℕ) (f : Field) (trace : List ℤ) (cycle most end : ℕ) (code : ObjectCode) (machine : State) (arena : Ground)
+    → IsRobotOf code r → is_live f i ≡ true → (to : RunsTo free r i f trace cycle most code machine arena) → to.run ≤ end → end ≤ cycle
+    → HasRun free r i f trace end code (record { machine = machine; ahead = cycle - end }) arena
+to_cycle free r i f trace cycle most end code machine arena is live to from within =
     let n = to.run in
     let k = end - n in
     let field = (alone r i f trace n).0 in
@@ -163,32 +161,41 @@ to_cycle draws r i f trace cycle most end code machine arena is live to from wit
     let all : alone r i f trace end ≡ (field, replies ++ replicate k (pos 0)) =
     ap (alone r i f trace) (sym sum) ∙ alone_plus r i f trace n k ∙ quiet_alone r i field replies k lives quiet in
     record {
-      steps = λ ordered. rw sum at (runs_plus r i f trace n k (to.ran.steps ordered) (quiet_runs r i field replies k lives quiet));
+      steps = elim to.ran.steps as (λ s. RunsAlone r i f trace end ⊎ free) [
+        | inl runs ↦ inl (rw sum at (runs_plus r i f trace n k runs (quiet_runs r i field replies k lives quiet)))
+        | inr drawn ↦ inr drawn
+      ];
       stands = rw all to.ran.stands;
       at = rw (all, sym less) (at_less (record { machine = machine; ahead = cycle - n }) k code replies (omega arith) to.ran.at);
     }
 
 -- up to where the machine is
-pub to_stop : (draws : Draws) (r : Robot) (i : ℕ) (f : Field) (trace : List ℤ) (cycle most : ℕ) (code : ObjectCode) (machine : State) (arena : Ground)
-    → IsRobotOf code r → is_live f i ≡ true → RunsTo draws r i f trace cycle most code machine arena
-    → HasRun draws r i f trace cycle code (record { machine = machine; ahead = 0 }) arena
-to_stop draws r i f trace cycle most code machine arena is live to =
+pub to_stop : (free : Type 0) (r : Robot) (i : ℕ) (f : Field) (trace : List ℤ) (cycle most : ℕ) (code : ObjectCode) (machine : State) (arena : Ground)
+    → IsRobotOf code r → is_live f i ≡ true → RunsTo free r i f trace cycle most code machine arena
+    → HasRun free r i f trace cycle code (record { machine = machine; ahead = 0 }) arena
+to_stop free r i f trace cycle most code machine arena is live to =
     let none : cycle - cycle ≡ 0 = omega arith in
-    rw none at (to_cycle draws r i f trace cycle most cycle code machine arena is live to to.within (omega arith))
+    rw none at (to_cycle free r i f trace cycle most cycle code machine arena is live to to.within (omega arith))
 
 -- and takes a turn
-pub to_next : (draws : Draws) (r : Robot) (i : ℕ) (f : Field) (trace : List ℤ) (cycle most : ℕ) (code : ObjectCode) (machine : State) (arena : Ground)
-    → cycle < most → (draws ≡ InOrder → RunsAlone r i f trace cycle)
-    → (draws ≡ InOrder → StepsAlone r i (alone r i f trace cycle).0 (alone r i f trace cycle).1)
+pub to_next : (free : Type 0) (r : Robot) (i : ℕ) (f : Field) (trace : List ℤ) (cycle most : ℕ) (code : ObjectCode) (machine : State) (arena : Ground)
+    → cycle < most → RunsAlone r i f trace cycle ⊎ free
+    → StepsAlone r i (alone r i f trace cycle).0 (alone r i f trace cycle).1 ⊎ free
     → IsGroundOf arena (step r i (alone r i f trace cycle).0 (alone r i f trace cycle).1).0
     → StandsFor machine code (step r i (alone r i f trace cycle).0 (alone r i f trace cycle).1).1
-    → RunsTo draws r i f trace (cycle + 1) most code machine arena
-to_next draws r i f trace cycle most code machine arena below runs steps ground stands = record {
+    → RunsTo free r i f trace (cycle + 1) most code machine arena
+to_next free r i f trace cycle most code machine arena below runs steps ground stands = record {
   run = cycle + 1;
   within = omega arith;
   below = omega arith;
   ran = record {
-    steps = λ ordered. runs_next r i f trace cycle (runs ordered) (steps ordered);
+    steps = elim runs as (λ s. RunsAlone r i f trace (cycle + 1) ⊎ free) [
+      | inl before ↦ elim steps as (λ s. RunsAlone r i f trace (cycle + 1) ⊎ free) [
+        | inl last ↦ inl (runs_next r i f trace cycle before last)
+        | inr drawn ↦ inr drawn
+      ]
+      | inr drawn ↦ inr drawn
+    ];
     stands = rw (alone_next r i f trace cycle) ground;
     at = rw (alone_next r i f trace cycle) (at_end machine (cycle + 1 - (cycle + 1)) code _ (omega arith) stands);
   };

@@ -12,7 +12,6 @@ use Rattle.code.specs.Standing.{FitsProgram}
 use Rattle.battles.specs.Battle.{Robot, Stage}
 use Rattle.battles.specs.Carrying.{Runner, AreRobotsOf, EachFits, EachIsAt, HasReached, IsAt, IsRobotOf}
 use Rattle.battles.specs.Windows.{AreAhead, AreSlots, HasCome, HasRun, rounds}
-use Rattle.battles.specs.declared.windows.Draws.TheVariants.{InOrder}
 use Rattle.battles.proofs.Ahead.{Runs, come_alone, opens, closes}
 use Rattle.battles.proofs.Alone.{quiet_alone, quiet_runs}
 use Rattle.battles.proofs.Running.{at_less, quiet_less}
@@ -22,11 +21,11 @@ use Rattle.battles.proofs.Turns.{slots_set}
 -- a live robot goes on
 pub goes_ahead : (runner : Runner) (code : ObjectCode) (r : Robot) (i : ℕ) (f : Field) (trace : List ℤ) (n : ℕ) (arena : Ground)
     → n ≤ runner.ahead → is_live f i ≡ true → IsRobotOf code r → IsGroundOf arena f → IsAt runner code trace
-    → HasRun InOrder r i f trace n code (record { machine = runner.machine; ahead = runner.ahead - n }) arena
+    → HasRun ⊥ r i f trace n code (record { machine = runner.machine; ahead = runner.ahead - n }) arena
 goes_ahead runner code r i f trace n arena within live is ground at =
     let quiet = quiet_less r trace n runner.ahead within (at.quiet r is) in
     record {
-      steps = λ ordered. quiet_runs r i f trace n live quiet;
+      steps = inl (quiet_runs r i f trace n live quiet);
       stands = rw (quiet_alone r i f trace n live quiet) ground;
       at = rw (quiet_alone r i f trace n live quiet) (at_less runner n code trace within at);
     }
@@ -104,7 +103,7 @@ none_passed robots codes w runners arena s are few reached =
 pub one_passes : (robots : List Robot) (codes : List ObjectCode) (k w : ℕ) (runners : List Runner) (arena : Ground) (s : Stage)
     (code : ObjectCode) (none after : Runner)
     → AreRobotsOf codes robots → length codes ≤ 4 → k < length codes → slice_get codes k ≡ Some code
-    → HavePassed robots codes k w runners arena s → Runs k code w (get_or runners k none) after arena arena
+    → HavePassed robots codes k w runners arena s → Runs ⊥ k code w (get_or runners k none) after arena arena
     → HavePassed robots codes (k + 1) w (set runners k after) arena s
 one_passes robots codes k w runners arena s code none after are few inside here passed gone =
     let here' : get_or passed.next k 0 ≡ k = passed.begin k (omega arith) inside in
@@ -125,8 +124,8 @@ one_passes robots codes k w runners arena s code none after are few inside here 
       past = λ i from small.
           let distinct : i ≢ k = omega arith in
           rw (other i distinct) (passed.past i from small);
-      come = come_alone robots codes passed.next w w k runners arena arena s code none after are passed.slots (omega arith) inside
-          (omega (arith, here')) passed.come here gone;
+      come = come_alone robots codes passed.next w w k runners arena arena s code none after ⊥ are passed.slots (omega arith) inside
+          (omega (arith, here')) (λ free. absurd free) passed.come here gone;
     }
 
 pub all_passed : (robots : List Robot) (codes : List ObjectCode) (w : ℕ) (runners : List Runner) (arena : Ground) (s : Stage)

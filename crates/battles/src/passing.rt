@@ -9,7 +9,6 @@ ghost use Rattle.code.specs.Generation.{ObjectCode};
 ghost use Rattle.battles.specs.Battle.{Robot, Stage};
 ghost use Rattle.battles.specs.Carrying.{IsRobotOf, IsAt, AreRobotsOf, EachFits, HasReached};
 ghost use Rattle.battles.specs.Windows.{AreAhead, HasRun, rounds, segments};
-ghost use Rattle.battles.specs.declared.windows.Draws.TheVariants.{InOrder};
 
 use crate::runners::Runner;
 use crate::windows::UPDATE_CYCLES;
@@ -117,7 +116,7 @@ fn go_on_alone(runner: &mut Runner, arena: &Arena, robot: usize, cycles: u32)
     requires ahead { lives arena.now robot ≡ true → cycles ≤ runner.old.ahead }
     ensures alone { (code : ObjectCode) (r : Robot) (f : Field) (trace : List ℤ) → IsRobotOf code r
         → IsGroundOf arena.now f → IsAt runner.old code trace
-        → HasRun InOrder r robot f trace cycles code runner.new arena.now }
+        → HasRun ⊥ r robot f trace cycles code runner.new arena.now }
     ensures machine { runner.new.machine ≡ runner.old.machine }
 {
     if arena.alive(robot) {

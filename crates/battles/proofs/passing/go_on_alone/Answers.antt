@@ -1,6 +1,5 @@
 use Rattle.std.proofs.Common.{◌≤◌, sym, ◌∙◌, ap}
 use Rattle.battles.specs.Carrying.{Runner}
-use Rattle.battles.specs.declared.windows.Draws.TheVariants.{InOrder}
 use Rattle.battles.proofs.Alone.{dead_runs}
 use Rattle.battles.proofs.Passed.{goes_ahead}
 use Rattle.battles.proofs.passing.go_on_alone.Goals as goal
@@ -16,4 +15,4 @@ returns-then-alive-clause-alone c = λ code r f trace is ground at.
 pub returns-else-alive-clause-alone : goal.returns-else-alive-clause-alone
 returns-else-alive-clause-alone c = λ code r f trace is ground at.
     let dead = sym (c.alive.ensures.stands f ground) ∙ c.if-alive.false in
-    dead_runs InOrder r c.args.robot f trace c.args.cycles code c.args.runner.now c.args.arena.now dead ground at
+    dead_runs ⊥ r c.args.robot f trace c.args.cycles code c.args.runner.now c.args.arena.now dead ground at
