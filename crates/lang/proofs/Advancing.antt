@@ -14,7 +14,6 @@ use Rattle.grammar.proofs.Runs.{here, then}
 use Rattle.parsing.specs.Position.{GoesOn, Place, scope_at, next_at}
 use Rattle.parsing.specs.Growing.{HasGrown}
 use Rattle.parsing.specs.Stopping.{Stop, StopsInside, stop_with}
-use Rattle.std.specs.Prelude.{Some}
 use Rattle.grammar.specs.Profile.{Profile}
 use Rattle.parsing.specs.Segment.{Derives, FailsAt, Refused, Takes, IsNearTo}
 use Rattle.parsing.proofs.Segments.{refused_map, told_goes, Begins, functions_back, near_told, stops_back, stops_here, told_begins}

@@ -11,10 +11,9 @@ use Rattle.grammar.specs.Actions.{Action, function_actions}
 use Rattle.grammar.specs.Compiled.{enough}
 use Rattle.grammar.specs.Derivation.{Definition, State, Value, constant_matched, constant_value, definition_of, is_end, last_body, matched, name_matched, name_of_token, next_of, replaced, run, start, state, step_of, stepped}
 use Rattle.grammar.specs.Faults.{definitions_actions}
-use Rattle.grammar.specs.Grammar.{AConstant, AName, AWord, AnEnd, Close, Define, Exactly, Item, Make, Part, Production, Role, SemanticAction, is_fault}
+use Rattle.grammar.specs.Grammar.{AConstant, AName, AWord, AnEnd, Close, Define, Exactly, Item, Make, Part, Production, Role, is_fault}
 use Rattle.grammar.specs.Need.{built, built_in, built_of, ends_by, has_ahead, is_behind_brace}
 use Rattle.grammar.specs.Scope.{Scope}
-use Rattle.grammar.proofs.Runs.{run-add}
 use Rattle.grammar.proofs.Verdicts.{IsRest, run_rests}
 use Rattle.lang.proofs.Advancing.{definitions_actions-append}
 use Rattle.parsing.proofs.StrictEnds.{IsCut, IsCutBehind, cut_behind, tokens_cut}

@@ -1,6 +1,6 @@
 -- What the reading of a function's block derives, up to its closing brace.
 use Rattle.std.proofs.Common.{◌≡◌, ℕ, ◌+◌, List, [], ◌∷◌, ◌++◌, refl, ap, subst, Bool, true, false, arith, append-nil}
-use Rattle.std.specs.Prelude.{Option, None, nat_le, Some}
+use Rattle.std.specs.Prelude.{Option, None, nat_le}
 use Rattle.tokens.specs.Reading.{Reading}
 use Rattle.tokens.specs.declared.located_tokens.LocatedToken.{LocatedToken}
 use Rattle.tokens.specs.declared.located_tokens.Punctuator.TheVariants as punctuator

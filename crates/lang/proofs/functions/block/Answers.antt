@@ -6,7 +6,7 @@ use Rattle.grammar.specs.Grammar.{Declarations, FunctionBlock, Part, Statements,
 use Rattle.grammar.specs.Tree.{Done}
 use Rattle.parsing.specs.Segment.{FailsAt}
 use Rattle.statements.specs.Statements.{FailsBody}
-use Rattle.parsing.proofs.Advances.{kept_then, on, on_then}
+use Rattle.parsing.proofs.Advances.{kept_then, on_then}
 use Rattle.parsing.proofs.Growing.{grown_nothing}
 use Rattle.parsing.proofs.Segments.{exit, refused_map}
 use Rattle.lang.specs.Progress.{at_brace}

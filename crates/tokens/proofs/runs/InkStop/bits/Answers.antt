@@ -1,4 +1,4 @@
-use Rattle.std.proofs.Common.{◌≡◌, not, refl, sym, take, get_or, bit_and}
+use Rattle.std.proofs.Common.{not, refl, sym, take, get_or, bit_and}
 use Rattle.std.proofs.lemmas.List.{map-id}
 use Rattle.std.proofs.lemmas.Simd.{zip2_of_maps}
 use Rattle.tokens.specs.Characters.{is_blank}
