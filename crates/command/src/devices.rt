@@ -1,7 +1,7 @@
 //! Real files and streams as the devices of a run.
 
 ghost use Rattle.std.specs.Prelude.{◌≡◌, ℕ, ◌+◌, ◌-◌, ◌^◌, ◌<◌, ◌≤◌, None, false, length, take, IfOk, OnOk, OnErr};
-ghost use Rattle.tokens.specs.Feed.{gives_none};
+ghost use Rattle.tokens.specs.Feed.{MayRead, gives_none};
 ghost use Rattle.std.specs.Io.KnownBytes.{Appends, Consumes, IsAtEnd, Keeps};
 
 use series::Sink;
@@ -38,8 +38,7 @@ impl<F: Read> Feed for FileFeed<F> {
 
     fn fill(&mut self, buf: &mut [u8]) -> Result<usize, DeviceFault>
         requires nonempty { 0 < length buf.old }
-        requires countable { self.old.failures < 2 ^ 64 - 1 }
-        requires not_ended { self.old.ended ≡ false }
+        requires ready { MayRead self.old.failures self.old.ended }
         ensures within { IfOk result (λ n. n ≤ length buf.old) }
         ensures calm { OnOk result (self.new.failures ≡ self.old.failures) }
         ensures counted { OnErr result (self.new.failures ≡ self.old.failures + 1) }

@@ -14,7 +14,7 @@ use Rattle.grammar.specs.declared.diagnostics.Diagnostic.{Diagnostic}
 use Rattle.grammar.specs.declared.diagnostics.ParseFault.{ParseFault}
 use Rattle.grammar.specs.declared.diagnostics.ParseFault.TheVariants as refusal
 use Rattle.grammar.specs.Actions.{Action}
-use Rattle.grammar.specs.Building.{Meaning}
+use Rattle.grammar.specs.Building.{Meaning, StandsOpen}
 use Rattle.grammar.specs.Compiled.{compiled, compiled_tokens, diagnostic, last_line, main_name, resolved}
 use Rattle.grammar.specs.Derivation.{run, start, Definition, is_end, next_of, line_of, state}
 use Rattle.grammar.specs.Faults.{misfit_code}
@@ -33,11 +33,11 @@ use Rattle.grammar.proofs.Steps.{last, part}
 use Rattle.grammar.proofs.Verdicts.{clean_verdict, fault_verdict}
 use Rattle.grammar.specs.Finished.{IsFinished, PassesAll}
 use Rattle.grammar.proofs.FileLaws.{finished, undefined, without_main}
-use Rattle.parsing.specs.Position.{GoesOn, Place, Position, next_at, scope_at, tokens_at}
+use Rattle.parsing.specs.Position.{GoesOn, Place, next_at, scope_at, tokens_at}
 use Rattle.parsing.specs.Stopping.{NoneBefore, Stop, Stops, stop_with}
 use Rattle.parsing.specs.Segment.{IsNearTo, Refused, StopsFirst, StopsAtFirst, Takes}
 use Rattle.parsing.proofs.Segments.{functions_here, near_told, none_back, none_before, stops_here, told_goes}
-use Rattle.lang.specs.Files.{BuildsAhead, FailsBytes, HasBuilt, LeavesUndecided, IsFile, IsNew, Says, StopsTaking, TakesNoMore, TakesUpTo}
+use Rattle.lang.specs.Files.{BuildsAhead, FailsBytes, HasBuilt, LeavesUndecided, IsFile, IsNew, IsRefused, StopsTaking, TakesNoMore, TakesUpTo}
 use Rattle.lang.specs.Progress.{ADefinition, AMain, IsComplete, IsTold, Lacks, ReadsOn, StopsReading, StopsTelling, at_source}
 use Rattle.lang.proofs.Built.{IsAmongDefined, built_by_stop}
 
@@ -106,8 +106,8 @@ compiled_as profile bytes located_tokens verdict same is = rw same is
 
 -- all functions are defined, and main is among them
 pub whole_file : (before after : Meaning) (told : Option (List ℕ)) (at there : Place) (names : Names) → IsNew before →
-    IsWhole before after told at there → IsComplete (scope_at there) → names ≡ record { externals = (scope_at there).externals; functions = (scope_at there).functions } → IsFile before after told names
-whole_file before after told at there names new w complete same =
+    IsWhole before after told at there → IsComplete (scope_at there) → names ≡ record { externals = (scope_at there).externals; functions = (scope_at there).functions } → StandsOpen after [] → IsFile before after told names
+whole_file before after told at there names new w complete same closed =
     let f : IsFinished new.profile (all_of before after told at there w) (scope_at there) w.reads.more =
     finished new.profile (all_of before after told at there w) (scope_at there) w.reads.more (passes_all before after told at there w new.profile new.stands) complete.defined complete.main in
     record {
@@ -116,6 +116,7 @@ whole_file before after told at there names new w complete same =
       named = same ∙ f.named;
       main = rw same f.main;
       built = λ profile h. subst (λ (acts : List Action). after profile acts) (sym f.told) (w.reads.added profile [] h);
+      closed = closed;
       is = λ bytes shows profile h. compiled_as profile bytes (all_of before after told at there w) (Ok f.file) (tokens_all before after told at there w bytes shows)
           (resolved_all before after told at there w profile h ∙ sym (resolved_all before after told at there w new.profile new.stands) ∙ f.compiled);
     }
@@ -135,9 +136,10 @@ lacks_main before after told at there w defined none bytes shows profile h =
     (without_main profile (all_of before after told at there w) (scope_at there) w.reads.more (passes_all before after told at there w profile h) defined none
     ∙ ap (λ (n : ℕ). Err (diagnostic n code.NoMainFunction)) (last_line_is w.reads.consumed (next_at there)))
 
-pub lacking : (before after : Meaning) (told : Option (List ℕ)) (at there : Place) (f : ParseFault) (allocates : Bool) → IsWhole before after told at there → Lacks there.position f → Says (FailsBytes before told) allocates f
-lacking before after told at there f allocates w (ADefinition line is same) = rw same (lacks_definition before after told at there line w is)
-lacking before after told at there f allocates w (AMain defined none same) = rw same (lacks_main before after told at there w defined none)
+pub lacking : (before after : Meaning) (told to_come : Option (List ℕ)) (at there : Place) (f : ParseFault) (allocates : Bool) → IsWhole before after told at there → Lacks there.position f →
+    IsRefused before after allocates told to_come f
+lacking before after told to_come at there f allocates w (ADefinition line is same) = rw same (lacks_definition before after told at there line w is)
+lacking before after told to_come at there f allocates w (AMain defined none same) = rw same (lacks_main before after told at there w defined none)
 
 -- Where the reading stops, the file's first fault is there.
 
@@ -146,22 +148,11 @@ stops_bytes before after told at d used nothing tells stops bytes shows profile 
     compiled_as profile bytes (tokens bytes) (Err d) refl
     (fault_verdict profile (tokens bytes) d (rw (sym nothing) (stops (tokens bytes) (tells ∙ ap (option_map tokens) shows) profile [] h).stops.fails))
 
-pub stopped : (used : ℕ) (before after : Meaning) (told : Option (List ℕ)) (at : Place) (f : ParseFault) (allocates : Bool) → scope_at at ≡ no_names → tokens_at at ≡ option_map tokens told →
-    Refused (StopsReading before after at_source at) allocates used f → Says (FailsBytes before told) allocates f
-stopped used before after told at (refusal.Source d) allocates nothing tells h = stops_bytes before after told at d used nothing tells h
-stopped used before after told at refusal.Device allocates nothing tells h = tt
-stopped used before after told at refusal.Memory allocates nothing tells h = h.0
-
 first_fails : (before : Meaning) (told told' : Option (List ℕ)) (d : Diagnostic) → StopsAtFirst told told' (refusal.Source d) → FailsBytes before told d
 first_fails before told told' d stops bytes shows profile h =
     let s : (is_fault (next_of (tokens bytes)) ≡ true) × (d ≡ diagnostic (line_of (tokens bytes)) (misfit_code (next_of (tokens bytes)))) = stops.refused.lexical_error (tokens bytes) (ap (option_map tokens) shows) in
     compiled_as profile bytes (tokens bytes) (Err d) refl
     (fault_verdict profile (tokens bytes) d (rw s.1 (at_fault profile at_source (tokens bytes) [] no_names [] s.0)))
-
-pub first_refused : (before : Meaning) (told told' : Option (List ℕ)) (f : ParseFault) (more : Bool) → StopsAtFirst told told' f → Says (FailsBytes before told) more f
-first_refused before told told' (refusal.Source d) more stops = first_fails before told told' d stops
-first_refused before told told' refusal.Device more stops = tt
-first_refused before told told' refusal.Memory more stops = let never : false ≡ true = stops.refused.0 in absurd (cc)
 
 -- How much was taken.
 
@@ -253,11 +244,12 @@ stops_building used before after told to_come at nothing tells taken stops bytes
     subst (λ (known : Scope). StopsTelling after profile (state at_source (tokens bytes) [] known []) (stop_with refusal.Device used)) nothing (stops (tokens bytes) (tells ∙ ap (option_map tokens) shows) profile [] h) in
     builds_by after profile bytes to_come used s.stops (taken.took bytes shows) (s.told refl)
 
-pub reading_builds : (used : ℕ) (before after : Meaning) (told to_come : Option (List ℕ)) (at : Place) (f : ParseFault) (allocates : Bool) → refusal.Device ≡ f → scope_at at ≡ no_names →
-    tokens_at at ≡ option_map tokens told → HasTaken used told to_come → Refused (StopsReading before after at_source at) allocates used f → BuildsAhead before after told to_come
-reading_builds used before after told to_come at (refusal.Source d) allocates device nothing tells taken h = absurd (cc)
-reading_builds used before after told to_come at refusal.Device allocates device nothing tells taken h = stops_building used before after told to_come at nothing tells taken h
-reading_builds used before after told to_come at refusal.Memory allocates device nothing tells taken h = absurd (cc)
+-- what is said where the reading stops
+pub stopped : (used : ℕ) (before after : Meaning) (told to_come : Option (List ℕ)) (at : Place) (f : ParseFault) (allocates : Bool) → scope_at at ≡ no_names → tokens_at at ≡ option_map tokens told →
+    HasTaken used told to_come → Refused (StopsReading before after at_source at) allocates used f → IsRefused before after allocates told to_come f
+stopped used before after told to_come at (refusal.Source d) allocates nothing tells taken h = stops_bytes before after told at d used nothing tells h
+stopped used before after told to_come at refusal.Device allocates nothing tells taken h = stops_building used before after told to_come at nothing tells taken h
+stopped used before after told to_come at refusal.Memory allocates nothing tells taken h = h.0
 
 opening_builds : (before : Meaning) (told to_come : Option (List ℕ)) (used : ℕ) → HasTaken used told to_come → StopsFirst (option_map tokens told) (stop_with refusal.Device used) → BuildsAhead before before told to_come
 opening_builds before told to_come used taken stops bytes shows profile h =
@@ -269,13 +261,8 @@ opening_builds before told to_come used taken stops bytes shows profile h =
         IsTold before profile (run (stops_here profile (start (tokens bytes)) (stop_with refusal.Device used) tt some).steps (start (tokens bytes))).functions
     first_told before profile bytes used some h = rw (functions_here profile (start (tokens bytes)) (stop_with refusal.Device used) tt some) (record { more = []; stands = h })
 
--- at the first token nothing was told
-pub first_builds : (before : Meaning) (told to_come : Option (List ℕ)) (f : ParseFault) → refusal.Device ≡ f → StopsAtFirst told to_come f → BuildsAhead before before told to_come
-first_builds before told to_come (refusal.Source d) device stops = absurd (cc)
-first_builds before told to_come refusal.Device device stops = opening_builds before told to_come stops.taken (record { took = stops.took; limited = stops.limited }) stops.refused
-first_builds before told to_come refusal.Memory device stops = absurd (cc)
-
--- what a file lacks is no failed device
-pub lacks_no_device : (position : Position) (f : ParseFault) → refusal.Device ≡ f → Lacks position f → ⊥
-lacks_no_device position f device (ADefinition line is same) = cc
-lacks_no_device position f device (AMain defined none same) = cc
+-- the same at the first token, where nothing was told
+pub first_refused : (before : Meaning) (told to_come : Option (List ℕ)) (f : ParseFault) (allocates : Bool) → StopsAtFirst told to_come f → IsRefused before before allocates told to_come f
+first_refused before told to_come (refusal.Source d) allocates stops = first_fails before told to_come d stops
+first_refused before told to_come refusal.Device allocates stops = opening_builds before told to_come stops.taken (record { took = stops.took; limited = stops.limited }) stops.refused
+first_refused before told to_come refusal.Memory allocates stops = let never : false ≡ true = stops.refused.0 in absurd (cc)

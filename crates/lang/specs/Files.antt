@@ -1,5 +1,6 @@
 -- What a parse gives: a file, or its first fault.
-use Rattle.std.specs.Prelude.{ℕ, ◌+◌, ◌≡◌, ◌≤◌, List, [], ◌++◌, drop, map, Bool, IsTrue, Option, Some, Ok, Err}
+use Rattle.std.specs.Prelude.{ℕ, ◌+◌, ◌≡◌, ◌≤◌, List, [], ◌++◌, drop, map, Bool, IsTrue, Option, Some}
+use Rattle.std.specs.Prelude.{Result, Ok, Err}
 use Rattle.tokens.specs.Ends.{last_undecided_until}
 use Rattle.tokens.specs.Tokens.{tokens}
 use Rattle.tokens.specs.Limits.{most_bytes, window_bytes}
@@ -7,7 +8,7 @@ use Rattle.grammar.specs.declared.diagnostics.Diagnostic.{Diagnostic}
 use Rattle.grammar.specs.declared.diagnostics.ParseFault.{ParseFault}
 use Rattle.grammar.specs.declared.diagnostics.ParseFault.TheVariants as refusal
 use Rattle.grammar.specs.Actions.{Action, actions}
-use Rattle.grammar.specs.Building.{Meaning}
+use Rattle.grammar.specs.Building.{Meaning, StandsOpen}
 use Rattle.grammar.specs.Compiled.{compiled, main_name}
 use Rattle.grammar.specs.Need.{built, need}
 use Rattle.grammar.specs.Pools.{FunctionNames, Names, names_of}
@@ -21,14 +22,15 @@ pub record IsNew (before : Meaning) : Type 0 where
   pub profile : Profile
   pub stands : before profile []
 
--- The names are those of a resolved file, and a builder that stood for no action stands for the file's actions,
--- whatever the device tells. Where it tells its bytes, they are that file.
+-- The names are those of a resolved file, and a builder that stood for no action stands for the file's actions, which
+-- leave nothing open, whatever the device tells. Where it tells its bytes, they are that file.
 pub record IsFile (before after : Meaning) (told : Option (List ℕ)) (names : Names) : Type 0 where
   pub file : File
   pub resolved : IsResolved file
   pub named : names ≡ names_of file
   pub main : number_of_name main_name (map (λ (f : FunctionNames). f.name) names.functions) ≡ Some file.main
   pub built : (profile : Profile) → before profile [] → after profile (actions file)
+  pub closed : StandsOpen after []
   pub is : (bytes : List ℕ) → told ≡ Some bytes → (profile : Profile) → before profile [] →
       compiled profile bytes ≡ Ok file
 
@@ -36,12 +38,6 @@ pub record IsFile (before after : Meaning) (told : Option (List ℕ)) (names : N
 abbrev pub FailsBytes : Meaning → Option (List ℕ) → Diagnostic → Type 0
 FailsBytes before told d =
     (bytes : List ℕ) → told ≡ Some bytes → (profile : Profile) → before profile [] → compiled profile bytes ≡ Err d
-
--- what a refusal says: of a source its fault, of memory that the builder asks for it
-abbrev pub Says : (Diagnostic → Type 0) → Bool → ParseFault → Type 0
-Says fault allocates (refusal.Source d) = fault d
-Says fault allocates refusal.Device = Unit {0}
-Says fault allocates refusal.Memory = IsTrue allocates
 
 -- from a device that tells its bytes no more were taken than decide what they are, and so many more; and never more
 -- than the longest source and one byte
@@ -79,6 +75,11 @@ StopsTaking before told to_come (refusal.Source d) = TakesNoMore before told to_
 StopsTaking before told to_come refusal.Device = StaysUndecided before told to_come
 StopsTaking before told to_come refusal.Memory = TakesNoMore before told to_come window_bytes
 
+-- what was taken, by the answer: of a file at most a window past what decides it
+abbrev pub TakesEnough : {A : Type 0} → Result A ParseFault → Meaning → (told to_come : Option (List ℕ)) → Type 0
+TakesEnough (Ok x) before told to_come = TakesNoMore before told to_come window_bytes
+TakesEnough (Err fault) before told to_come = StopsTaking before told to_come fault
+
 -- From a device that tells its bytes so many were taken, and the builder stands for the actions of the functions that
 -- these decide for certain, and further ones.
 pub record HasBuilt (after : Meaning) (profile : Profile) (bytes : List ℕ) (to_come : Option (List ℕ)) : Type 0 where
@@ -92,3 +93,11 @@ abbrev pub BuildsAhead : (before after : Meaning) (told to_come : Option (List �
 BuildsAhead before after told to_come =
     (bytes : List ℕ) → told ≡ Some bytes → (profile : Profile) → before profile [] →
     HasBuilt after profile bytes to_come
+
+-- what a refusal says: of a source its fault, of a device what was built until it failed, of memory that the builder
+-- asks for it
+abbrev pub IsRefused : (before after : Meaning) (allocates : Bool) (told to_come : Option (List ℕ)) → ParseFault
+    → Type 0
+IsRefused before after allocates told to_come (refusal.Source d) = FailsBytes before told d
+IsRefused before after allocates told to_come refusal.Device = BuildsAhead before after told to_come
+IsRefused before after allocates told to_come refusal.Memory = IsTrue allocates

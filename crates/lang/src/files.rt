@@ -1,7 +1,7 @@
 //! Files: one pass from a device's bytes to a builder, and the names of the file.
 
-ghost use Rattle.std.specs.Prelude.{◌≡◌, ◌-◌, ◌<◌, ◌^◌, ◌∷◌, [], IfErr, IfOk, OnOk, false, true};
-ghost use Rattle.tokens.specs.Limits.{window_bytes};
+ghost use Rattle.std.specs.Prelude.{◌≡◌, ◌∷◌, [], IfErr, IfOk, OnOk, true};
+ghost use Rattle.tokens.specs.Feed.{MayRead};
 ghost use Rattle.tokens.specs.declared.located_tokens.Token.TheVariants as token;
 ghost use Rattle.tokens.specs.declared.located_tokens.Word.TheVariants as word;
 ghost use Rattle.grammar.specs.Building.{StandsOpen};
@@ -10,7 +10,7 @@ ghost use Rattle.grammar.specs.Grammar.{Head, Part, is_word};
 ghost use Rattle.parsing.specs.Advancing.{Advances, IsReady, Keeps};
 ghost use Rattle.parsing.specs.Position.{scope_of, token_of};
 ghost use Rattle.parsing.specs.Segment.{Counts};
-ghost use Rattle.lang.specs.Files.{BuildsAhead, FailsBytes, IsFile, IsNew, Says, StopsTaking, TakesNoMore};
+ghost use Rattle.lang.specs.Files.{IsFile, IsNew, IsRefused, TakesEnough};
 ghost use Rattle.lang.specs.Progress.{IsComplete, Lacks, ReadsParts, at_source};
 
 use crate::functions::function;
@@ -36,17 +36,11 @@ use tokens::{Feed, Punctuator, Token, Word};
 #[inline(never)]
 pub fn parse<F: Feed, B: Build>(feed: &mut F, build: &mut B) -> Result<Pools, ParseFault>
     requires new { IsNew (B.stands build.old) }
-    requires count { F.failures feed.old < 2 ^ 64 - 1 }
-    requires not_ended { F.ended feed.old ≡ false }
+    requires ready { MayRead (F.failures feed.old) (F.ended feed.old) }
     ensures file { IfOk result (λ pools. IsFile (B.stands build.old) (B.stands build.new) (F.to_come feed.old) pools) }
-    ensures closed { OnOk result (StandsOpen (B.stands build.new) []) }
-    ensures refused { IfErr result (λ fault.
-        Says (FailsBytes (B.stands build.old) (F.to_come feed.old)) B.allocates fault) }
-    ensures taken { OnOk result
-        (TakesNoMore (B.stands build.old) (F.to_come feed.old) (F.to_come feed.new) window_bytes) }
-    ensures stopped { IfErr result (StopsTaking (B.stands build.old) (F.to_come feed.old) (F.to_come feed.new)) }
-    ensures built { IfErr result (λ fault. ParseFault.Device ≡ fault →
-        BuildsAhead (B.stands build.old) (B.stands build.new) (F.to_come feed.old) (F.to_come feed.new)) }
+    ensures refused { IfErr result (IsRefused (B.stands build.old) (B.stands build.new) B.allocates
+        (F.to_come feed.old) (F.to_come feed.new)) }
+    ensures taken { TakesEnough result (B.stands build.old) (F.to_come feed.old) (F.to_come feed.new) }
     ensures counted { Counts result (F.failures feed.old) (F.failures feed.new) }
 {
     let cursor = first(feed)?;

@@ -1,14 +1,15 @@
 -- Runs of bytes: what the bits of a block say of it, and one block after another.
-use Rattle.std.proofs.Common.{◌≡◌, ℕ, ◌+◌, ◌*◌, ◌%◌, ◌^◌, ◌<◌, ◌≤◌, Bool, true, false, not, ◌||◌, cond, eqb, List, [], ◌∷◌, ◌++◌, map, length, take, drop, Fits, w8, refl, sym, ap, ap₂, ◌∙◌, arith}
+use Rattle.std.proofs.Common.{◌≡◌, ℕ, suc, ◌+◌, ◌*◌, ◌-◌, ◌/◌, ◌%◌, ◌^◌, ◌<◌, ◌≤◌, Bool, true, false, not, ◌||◌, ◌&&◌, cond, eqb, List, [], ◌∷◌, ◌++◌, map, length, take, drop, Fits, w8, refl, sym, ap, ap₂, ◌∙◌, arith}
 use Rattle.std.specs.List.{prefix_len, count_by, slice_range}
-use Rattle.std.specs.Int.RustNames.{count_ones}
+use Rattle.std.specs.Int.RustNames.{bit_and, count_ones}
+use Rattle.std.specs.Int.Count.{ones_step}
 use Rattle.std.proofs.lemmas.Bool.{agree_below, agree_below_at, eqb-true, eq-eqb, ne_eqb, cond-true, cond-false}
-use Rattle.std.proofs.lemmas.List.{length-map, length-take-le, take-append-drop, take-take, take_all, take_rest, take-map}
+use Rattle.std.proofs.lemmas.List.{length-map, length-take-le, take-append-drop, take-take, take_all, take_rest}
 use Rattle.std.proofs.lemmas.List.Folds.{prefix_len-append}
-use Rattle.std.proofs.lemmas.List.Sums.{sum_by-append}
-use Rattle.std.proofs.lemmas.Nat.{mod_low, one_shl}
-use Rattle.std.proofs.lemmas.Simd.{map-map, mask_l-lt, mask_l-mod, ones-mask_l, length-chunk, chunk-drop}
-use Rattle.std.proofs.Math.Nat.{mul_left_comm, pow-succ'}
+use Rattle.std.proofs.lemmas.List.Sums.{sum_by-append, sum_by-cons}
+use Rattle.std.proofs.lemmas.Nat.{and_block}
+use Rattle.std.proofs.Math.Bool.{and-true}
+use Rattle.std.proofs.lemmas.Simd.{map-map, mask_l-mod, ones-mask_l, length-chunk, chunk-drop}
 use Rattle.std.proofs.Math.Seq.{take-append-add}
 use lib.Lanes.{Each1, chunk, mask_l, top}
 use Rattle.tokens.specs.Source.{source}
@@ -24,36 +25,70 @@ bits_are test f v long fits lanes all =
     let tested = ap (map (top 7)) lanes ∙ map-map (top 7) f v ∙ map-agree (λ x. top 7 (f x)) test v fits all in
     ap (λ ms. mask_l ms % 2 ^ 64) tested ∙ mask_l-mod (map test v) 64 (omega (arith, length-map v test, long))
 
-doubled : (y p x m c : ℕ) → m ≡ y * p + x → c + 2 * m ≡ y * (2 * p) + (c + 2 * x)
-doubled y p x m c e = let d : y * (2 * p) ≡ 2 * (y * p) = mul_left_comm y 2 p in omega (arith, e, d)
-
-mask_l-append : (xs ys : List Bool) → mask_l (xs ++ ys) ≡ mask_l ys * 2 ^ length xs + mask_l xs
-mask_l-append [] ys = omega arith
-mask_l-append (x ∷ xs) ys =
-    doubled (mask_l ys) (2 ^ length xs) (mask_l xs) (mask_l (xs ++ ys)) (cond x 1 0) (mask_l-append xs ys)
-    ∙ ap (λ p. mask_l ys * p + mask_l (x ∷ xs)) (sym (pow-succ' 2 (length xs)))
-
--- the lowest bits
-mask_l-take : (ms : List Bool) (n : ℕ) → n ≤ length ms → mask_l ms % 2 ^ n ≡ mask_l (take n ms)
-mask_l-take ms n h =
-    let l = length-take-le n ms h in
-    ap (λ xs. mask_l xs % 2 ^ n) (sym (take-append-drop n ms))
-    ∙ ap (λ m. m % 2 ^ n) (mask_l-append (take n ms) (drop n ms))
-    ∙ ap (λ k. (mask_l (drop n ms) * 2 ^ k + mask_l (take n ms)) % 2 ^ n) l
-    ∙ mod_low (mask_l (drop n ms)) n (mask_l (take n ms)) (rw l at (mask_l-lt (take n ms)))
-
 -- how many bytes of a block pass a test, by its bits
 pub ones_whole : (test : ℕ → Bool) (v : List ℕ) {m : ℕ} → length v ≡ 32 → m ≡ mask_l (map test v) → count_ones m ≡ count_by test (take 32 v)
 ones_whole test v long e = ap count_ones e ∙ ones-mask_l test v ∙ ap (count_by test) (sym (take_all 32 v (omega (arith, long))))
 
--- and how many of the first few
-pub ones_below : (test : ℕ → Bool) (v : List ℕ) (r : ℕ) {m : ℕ} → length v ≡ 32 → r ≤ 32 → m ≡ mask_l (map test v) → count_ones (m % (1 * 2 ^ r % 2 ^ 64)) ≡ count_by test (take r v)
-ones_below test v r {m} long few e =
-    ap (λ k. count_ones (m % k)) (one_shl r 64 (omega (arith, few)))
-    ∙ ap (λ k. count_ones (k % 2 ^ r)) e
-    ∙ ap count_ones (mask_l-take (map test v) r (omega (arith, length-map v test, long, few)))
-    ∙ ap (λ ms. count_ones (mask_l ms)) (take-map test r v)
-    ∙ ones-mask_l test (take r v)
+-- the lowest bits of two numbers, and the others
+low_apart : (c d : Bool) (m n : ℕ) → bit_and (cond c 1 0 + 2 * m) (cond d 1 0 + 2 * n) ≡ cond (c && d) 1 0 + 2 * bit_and m n
+low_apart true true m n = let h = and_block 1 m n 1 1 (omega arith) (omega arith) in let e : 1 + 2 * m ≡ m * 2 + 1 = omega arith in let f : 1 + 2 * n ≡ n * 2 + 1 = omega arith in rw (e, f) (h ∙ omega arith)
+low_apart true false m n = let h = and_block 1 m n 1 0 (omega arith) (omega arith) in let e : 1 + 2 * m ≡ m * 2 + 1 = omega arith in let f : 0 + 2 * n ≡ n * 2 + 0 = omega arith in rw (e, f) (h ∙ omega arith)
+low_apart false true m n = let h = and_block 1 m n 0 1 (omega arith) (omega arith) in let e : 0 + 2 * m ≡ m * 2 + 0 = omega arith in let f : 1 + 2 * n ≡ n * 2 + 1 = omega arith in rw (e, f) (h ∙ omega arith)
+low_apart false false m n = let h = and_block 1 m n 0 0 (omega arith) (omega arith) in let e : 0 + 2 * m ≡ m * 2 + 0 = omega arith in let f : 0 + 2 * n ≡ n * 2 + 0 = omega arith in rw (e, f) (h ∙ omega arith)
+
+-- two tests of which no byte passes both share no bit
+apart : (p q : ℕ → Bool) → ((b : ℕ) → (p b && q b) ≡ false) → (xs : List ℕ) → bit_and (mask_l (map p xs)) (mask_l (map q xs)) ≡ 0
+apart p q none [] = refl
+apart p q none (x ∷ xs) =
+    low_apart (p x) (q x) (mask_l (map p xs)) (mask_l (map q xs))
+    ∙ ap₂ (λ t n. cond t 1 0 + 2 * n) (none x) (apart p q none xs)
+
+ones_apart : (c : Bool) (n : ℕ) → count_ones (cond c 1 0 + 2 * n) ≡ cond c 1 0 + count_ones n
+ones_apart true n = let e : (1 + 2 * n) % 2 ≡ 1 = omega arith in let f : (1 + 2 * n) / 2 ≡ n = omega arith in ones_step (1 + 2 * n) ∙ ap₂ (λ a b. a + count_ones b) e f
+ones_apart false n = let e : (0 + 2 * n) % 2 ≡ 0 = omega arith in let f : (0 + 2 * n) / 2 ≡ n = omega arith in ones_step (0 + 2 * n) ∙ ap₂ (λ a b. a + count_ones b) e f
+
+-- How many bytes pass a test before the first that passes another: no byte passes both, so the bits above the first
+-- count nothing.
+pub ones_before : (p q : ℕ → Bool) → ((b : ℕ) → (p b && q b) ≡ false) → (xs : List ℕ) → 0 < mask_l (map q xs)
+    → count_ones (bit_and (mask_l (map p xs)) (mask_l (map q xs) - 1)) ≡ count_by p (take (prefix_len (λ b. not (q b)) xs) xs)
+ones_before p q none [] some = absurd (omega (arith, some))
+ones_before p q none (x ∷ xs) some = by (p x) (q x) (none x) some (ones_before p q none xs) ∙ of_cons (q x)
+  where
+    of_cons : (d : Bool) → cond d 0 (cond (p x) 1 0 + count_by p (take (prefix_len (λ b. not (q b)) xs) xs))
+        ≡ count_by p (take (cond (not d) (1 + prefix_len (λ b. not (q b)) xs) 0) (x ∷ xs))
+    of_cons true = refl
+    of_cons false =
+        let r = prefix_len (λ b. not (q b)) xs in
+        let e : suc r ≡ 1 + r = omega arith in
+        sym (sum_by-cons (λ b. cond (p b) 1 0) x (take r xs)) ∙ ap (λ n. count_by p (take n (x ∷ xs))) e
+
+    by : (c d : Bool) → (c && d) ≡ false → 0 < cond d 1 0 + 2 * mask_l (map q xs)
+        → (0 < mask_l (map q xs) → count_ones (bit_and (mask_l (map p xs)) (mask_l (map q xs) - 1)) ≡ count_by p (take (prefix_len (λ b. not (q b)) xs) xs))
+        → count_ones (bit_and (cond c 1 0 + 2 * mask_l (map p xs)) (cond d 1 0 + 2 * mask_l (map q xs) - 1))
+        ≡ cond d 0 (cond c 1 0 + count_by p (take (prefix_len (λ b. not (q b)) xs) xs))
+    by true true never some rest = absurd cc
+    by c false one some rest =
+        let e : 0 + 2 * mask_l (map q xs) - 1 ≡ 1 + 2 * (mask_l (map q xs) - 1) = omega (arith, some) in
+        ap (λ n. count_ones (bit_and (cond c 1 0 + 2 * mask_l (map p xs)) n)) e
+        ∙ ap count_ones (low_apart c true (mask_l (map p xs)) (mask_l (map q xs) - 1))
+        ∙ ap (λ t. count_ones (cond t 1 0 + 2 * bit_and (mask_l (map p xs)) (mask_l (map q xs) - 1))) (and-true c)
+        ∙ ones_apart c (bit_and (mask_l (map p xs)) (mask_l (map q xs) - 1))
+        ∙ ap (λ n. cond c 1 0 + n) (rest (omega (arith, some)))
+    by false true one some rest =
+        let e : 1 + 2 * mask_l (map q xs) - 1 ≡ 0 + 2 * mask_l (map q xs) = omega arith in
+        let none_set : count_ones 0 ≡ 0 = ones-mask_l p [] in
+        ap (λ n. count_ones (bit_and (0 + 2 * mask_l (map p xs)) n)) e
+        ∙ ap count_ones (low_apart false false (mask_l (map p xs)) (mask_l (map q xs)))
+        ∙ ones_apart false (bit_and (mask_l (map p xs)) (mask_l (map q xs)))
+        ∙ ap (λ n. 0 + count_ones n) (apart p q none xs) ∙ ap (λ n. 0 + n) none_set
+
+-- no byte ends a line and passes a test that a line's end does not
+pub in_line : (q : ℕ → Bool) → q 10 ≡ false → (b : ℕ) → (eqb b 10 && q b) ≡ false
+in_line q e b = by (eqb b 10) refl
+  where
+    by : (t : Bool) → eqb b 10 ≡ t → (t && q b) ≡ false
+    by true is = ap q (eqb-true b 10 is) ∙ e
+    by false is = refl
 
 -- no bit is set
 pub none_set : (m : ℕ) → not (eqb m 0) ≡ false → m ≡ 0

@@ -1,7 +1,12 @@
 -- What a device that gives bytes does at a read.
-use Rattle.std.specs.Prelude.{◌≡◌, ◌==◌, ℕ, ◌+◌, ◌≤◌, Bool, false, List, [], length, Option, Some, None, Result, Ok}
+use Rattle.std.specs.Prelude.{◌≡◌, ◌==◌, ℕ, ◌+◌, ◌-◌, ◌^◌, ◌<◌, ◌≤◌, Bool, false, List, [], length, Option, Some, None, Result, Ok}
 use Rattle.std.specs.Prelude.{Err, take, drop}
 use Rattle.tokens.specs.declared.devices.DeviceFault.{DeviceFault}
+
+-- a device may be asked: a further failure can be counted, and it has not ended
+pub record MayRead (failures : ℕ) (ended : Bool) : Type 0 where
+  pub countable : failures < 2 ^ 64 - 1
+  pub not_ended : ended ≡ false
 
 -- the next n bytes of those to come stand at the front of the buffer, and none only at the end
 pub record GivesFront (bytes : List ℕ) (after : Option (List ℕ)) (buffer : List ℕ) (n : ℕ) : Type 0 where
@@ -14,6 +19,16 @@ pub record GivesFront (bytes : List ℕ) (after : Option (List ℕ)) (buffer : L
 abbrev pub Gives : Option (List ℕ) → Option (List ℕ) → List ℕ → ℕ → Type 0
 Gives None after buffer n = after ≡ None
 Gives (Some bytes) after buffer n = GivesFront bytes after buffer n
+
+-- so many bytes were read into a buffer, which they fit
+pub record Fills (size : ℕ) (told told' : Option (List ℕ)) (buffer : List ℕ) (n : ℕ) : Type 0 where
+  pub within : n ≤ size
+  pub bytes : Gives told told' buffer n
+
+-- what a read leaves: so many bytes in the buffer, or, if it failed, all bytes still to come
+abbrev pub Reads : Result ℕ DeviceFault → (size : ℕ) → (told told' : Option (List ℕ)) → (buffer : List ℕ) → Type 0
+Reads (Ok n) size told told' buffer = Fills size told told' buffer n
+Reads (Err e) size told told' buffer = told' ≡ told
 
 -- whether a read gave no byte, which says that the device has ended
 abbrev pub gives_none : Result ℕ DeviceFault → Bool

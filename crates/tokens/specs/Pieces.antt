@@ -1,5 +1,6 @@
 -- A device in memory.
-use Rattle.std.specs.Prelude.{ℕ, Bool, List}
+use Rattle.std.specs.Prelude.{◌≡◌, ◌↔◌, ◌≤◌, ◌-◌, ℕ, Bool, IfOk, IsErr, List, Result}
+use Rattle.tokens.specs.declared.devices.DeviceFault.{DeviceFault}
 
 -- the bytes that it has still to give, how many it gave, how many it gives at most at a read, how often it failed, how
 -- many reads there are before that, and whether it gave none
@@ -10,3 +11,10 @@ pub record Supply : Type 0 where
   pub failures : ℕ
   pub reads_left : ℕ
   pub ended : Bool
+
+-- No read gives more than a piece, and the only reads that fail are those from the given one on.
+pub record GivesPiece (result : Result ℕ DeviceFault) (old new : Supply) : Type 0 where
+  pub few : IfOk result (λ n. n ≤ old.most)
+  pub most : new.most ≡ old.most
+  pub fails : IsErr result ↔ (old.reads_left ≡ 0)
+  pub left : new.reads_left ≡ old.reads_left - 1

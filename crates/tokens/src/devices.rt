@@ -1,8 +1,7 @@
 //! Devices that give bytes.
 
-ghost use Rattle.std.specs.Prelude.{◌≡◌, ℕ, ◌+◌, ◌-◌, ◌^◌, ◌<◌, ◌≤◌, Bool, false, List, Option, length, MatchResult};
-ghost use Rattle.std.specs.Prelude.{OnErr, IfOk};
-ghost use Rattle.tokens.specs.Feed.{Gives, Counts, gives_none};
+ghost use Rattle.std.specs.Prelude.{◌≡◌, ℕ, ◌<◌, Bool, List, Option, length};
+ghost use Rattle.tokens.specs.Feed.{Counts, MayRead, Reads, gives_none};
 
 /// A read that failed.
 #[derive(Clone, Copy, Debug, PartialEq, Eq)]
@@ -23,11 +22,8 @@ pub trait Feed {
     /// After an `Err` no byte was taken.
     fn fill(&mut self, buf: &mut [u8]) -> Result<usize, DeviceFault>
         requires nonempty { 0 < length buf.old }
-        requires countable { failures self.old < 2 ^ 64 - 1 }
-        requires not_ended { ended self.old ≡ false }
-        ensures within { IfOk result (λ n. n ≤ length buf.old) }
-        ensures bytes { IfOk result (λ n. Gives (to_come self.old) (to_come self.new) buf.new n) }
-        ensures kept { OnErr result (to_come self.new ≡ to_come self.old) }
+        requires ready { MayRead (failures self.old) (ended self.old) }
+        ensures reads { Reads result (length buf.old) (to_come self.old) (to_come self.new) buf.new }
         ensures count { Counts result (failures self.old) (failures self.new) }
         ensures ended { ended self.new ≡ gives_none result };
 }

@@ -1,7 +1,8 @@
 //! Devices in memory.
 
-ghost use Rattle.std.specs.Prelude.{◌≡◌, ◌<◌, ◌≤◌, ◌-◌, ◌^◌, ◌↔◌, Some, IfOk, OnErr, IsErr, false, length};
-ghost use Rattle.tokens.specs.Feed.{Gives, Counts, gives_none};
+ghost use Rattle.std.specs.Prelude.{◌≡◌, ◌<◌, Some, false, length};
+ghost use Rattle.tokens.specs.Feed.{Counts, MayRead, Reads, gives_none};
+ghost use Rattle.tokens.specs.Pieces.{GivesPiece};
 
 use crate::devices::{DeviceFault, Feed};
 use std::marker::Model;
@@ -97,21 +98,11 @@ impl Feed for Pieces<'_> {
 
     fn fill(&mut self, buf: &mut [u8]) -> Result<usize, DeviceFault>
         requires nonempty { 0 < length buf.old }
-        requires countable { self.old.failures < 2 ^ 64 - 1 }
-        requires not_ended { self.old.ended ≡ false }
-        ensures within { IfOk result (λ n. n ≤ length buf.old) }
-        ensures bytes { IfOk result (λ n. Gives (Some self.old.to_come) (Some self.new.to_come) buf.new n) }
-        ensures kept { OnErr result (Some self.new.to_come ≡ Some self.old.to_come) }
+        requires ready { MayRead self.old.failures self.old.ended }
+        ensures reads { Reads result (length buf.old) (Some self.old.to_come) (Some self.new.to_come) buf.new }
         ensures count { Counts result self.old.failures self.new.failures }
         ensures ended { self.new.ended ≡ gives_none result }
-
-        // No read gives more than a piece.
-        ensures few { IfOk result (λ n. n ≤ self.old.most) }
-        ensures most { self.new.most ≡ self.old.most }
-
-        // The only reads that fail are those from the given one on.
-        ensures fails { IsErr result ↔ (self.old.reads_left ≡ 0) }
-        ensures left { self.new.reads_left ≡ self.old.reads_left - 1 }
+        ensures piece { GivesPiece result self.old self.new }
     {
         if self.reads_left == 0 {
             self.failures += 1;

@@ -30,9 +30,10 @@ pub trait Stop {
     fn is(b: u8) -> bool
         ensures { result ≡ stops b };
 
-    /// Does the same for each byte of a block, as a bit.
+    /// Does the same for each byte of a block, as a bit. No byte of the kind ends a line.
     fn bits(block: u8x32) -> u64
-        ensures { result ≡ mask_l (map stops block) };
+        ensures bits { result ≡ mask_l (map stops block) }
+        ensures in_line { stops 10 ≡ false };
 }
 
 /// A `*`, which may close a comment.
@@ -131,9 +132,7 @@ pub fn run_before<S: Stop>(bytes: &[u8]) -> (usize, u32)
 {
     let mut count = 0;
     let mut lines = 0;
-    // A block fits before this place.
-    let room = bytes.len().saturating_sub(BLOCK - 1);
-    while count < room {
+    while bytes.len() - count >= BLOCK {
         let (run, ended) = run_in_block::<S>(u8x32::from_slice(&bytes[count..]));
         count += run;
         lines += ended;
@@ -158,7 +157,8 @@ fn run_in_block<S: Stop>(block: u8x32) -> (usize, u32)
         return (BLOCK, feeds.count_ones());
     }
     let run = stops.trailing_zeros();
-    (run as usize, (feeds % (1 << run)).count_ones())
+    // No stop ends a line, so of the bits of line ends those before the first stop are left.
+    (run as usize, (feeds & (stops - 1)).count_ones())
 }
 
 /// Does the same, a byte at a time.

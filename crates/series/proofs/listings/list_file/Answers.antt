@@ -56,7 +56,7 @@ returns-in-Ok-put_diagnostic-clause-output g c = λ bytes told.
     (c.as_bytes.ensures.value ∙ (rw c.in-Err-Source.field-0-is at c.text.ensures)) (rw c.in-Err-Source.field-0-is at c.in-Ok-put_diagnostic.ensures.0)
 
 pub returns-in-Ok-put_diagnostic-clause-taken : goal.returns-in-Ok-put_diagnostic-clause-taken
-returns-in-Ok-put_diagnostic-clause-taken g c = λ bytes told. (rw c.in-Err-Source.field-0-is at c.in-Err-Source.ensures.stopped) bytes told c.args.profile c.new-maker.ensures
+returns-in-Ok-put_diagnostic-clause-taken g c = λ bytes told. (rw c.in-Err-Source.field-0-is at c.in-Err-Source.ensures.taken) bytes told c.args.profile c.new-maker.ensures
 
 pub returns-in-Ok-put_diagnostic-clause-count : goal.returns-in-Ok-put_diagnostic-clause-count
 returns-in-Ok-put_diagnostic-clause-count g c = rw c.in-Err-Source.field-0-is at c.in-Err-Source.ensures.counted
@@ -68,7 +68,7 @@ returns-in-Err-put_diagnostic-clause-output g c = λ bytes told.
     (c.as_bytes.ensures.value ∙ (rw c.in-Err-Source.field-0-is at c.text.ensures)) (rw c.in-Err-Source.field-0-is at c.in-Err-put_diagnostic.ensures.0)
 
 pub returns-in-Err-put_diagnostic-clause-taken : goal.returns-in-Err-put_diagnostic-clause-taken
-returns-in-Err-put_diagnostic-clause-taken g c = λ bytes told. (rw c.in-Err-Source.field-0-is at c.in-Err-Source.ensures.stopped) bytes told c.args.profile c.new-maker.ensures
+returns-in-Err-put_diagnostic-clause-taken g c = λ bytes told. (rw c.in-Err-Source.field-0-is at c.in-Err-Source.ensures.taken) bytes told c.args.profile c.new-maker.ensures
 
 pub returns-in-Err-put_diagnostic-clause-count : goal.returns-in-Err-put_diagnostic-clause-count
 returns-in-Err-put_diagnostic-clause-count g c = rw c.in-Err-Source.field-0-is at c.in-Err-Source.ensures.counted
@@ -77,7 +77,7 @@ pub returns-in-Ok-put_diagnostic-clause-status : goal.returns-in-Ok-put_diagnost
 returns-in-Ok-put_diagnostic-clause-status g c = λ bytes told. faulty_status c.args.profile bytes c.in-Err-Source.field-0-0 ((rw c.in-Err-Source.field-0-is at c.in-Err-Source.ensures.refused) bytes told c.args.profile c.new-maker.ensures)
 
 pub returns-in-Err-Device-clause-stopped : goal.returns-in-Err-Device-clause-stopped
-returns-in-Err-Device-clause-stopped g c = λ bytes told. (rw c.in-Err-Device.field-0-is at c.in-Err-Device.ensures.stopped) bytes told c.args.profile c.new-maker.ensures
+returns-in-Err-Device-clause-stopped g c = λ bytes told. (rw c.in-Err-Device.field-0-is at c.in-Err-Device.ensures.taken) bytes told c.args.profile c.new-maker.ensures
 
 pub returns-in-Err-Device-clause-count : goal.returns-in-Err-Device-clause-count
 returns-in-Err-Device-clause-count g c = rw c.in-Err-Device.field-0-is at c.in-Err-Device.ensures.counted

@@ -10,8 +10,8 @@ use Rattle.tokens.proofs.runs.InkStop.bits.Goals as goal
 pub swizzle-blanks : goal.swizzle-blanks
 swizzle-blanks c = low-ok c.args.block c.fits-block.0
 
-pub returns : goal.returns
-returns c =
+pub returns-clause-bits : goal.returns-clause-bits
+returns-clause-bits c =
     let v = c.args.block in
     let long = c.fits-block.0 in
     bits_are (λ b. not (is_blank b)) _ v long c.fits-block.1
