@@ -1,6 +1,6 @@
 -- What a device that gives bytes does at a read.
-use Rattle.std.specs.Prelude.{◌≡◌, ◌==◌, ℕ, ◌+◌, ◌-◌, ◌^◌, ◌<◌, ◌≤◌, Bool, false, List, [], length, Option, Some, None, Result, Ok}
-use Rattle.std.specs.Prelude.{Err, take, drop}
+use Rattle.std.specs.Prelude.{◌≡◌, ◌==◌, ℕ, ◌+◌, ◌-◌, ◌^◌, ◌<◌, ◌≤◌, Bool, false}
+use Rattle.std.specs.Prelude.{List, [], length, take, drop, Option, Some, None, Result, Ok, Err}
 use Rattle.tokens.specs.declared.devices.DeviceFault.{DeviceFault}
 
 -- a device may be asked: a further failure can be counted, and it has not ended

@@ -56,9 +56,9 @@ undecided_reach_of [] = 0
 undecided_reach_of (next ∷ []) = undecided_until next
 undecided_reach_of (next ∷ after ∷ others) = undecided_until after
 
--- A cursor was opened: it shows the tokens of the bytes that the device had to give, and no more than the most can come.
--- The device has still to give all but the bytes taken, which are no more than a window behind the two tokens, and than
--- the most. If it has ended, the cursor knows.
+-- A cursor was opened: it shows the tokens of the bytes that the device had to give, and no more than the most can
+-- come. The device has still to give all but the bytes taken, which are no more than a window behind the two tokens,
+-- and than the most. If it has ended, the cursor knows.
 pub record Opens (reading : Reading) (told told' : Option (List ℕ)) (ended : Bool) : Type 0 where
   pub tokens : shown reading told' ≡ option_map tokens told
   pub bounded : remaining reading ≤ most_tokens
