@@ -23,14 +23,16 @@ use Rattle.grammar.specs.Tree.{Assign, Expr}
 use Rattle.parsing.specs.Position.{Place, Standing, after_at, next_at, taken_at}
 use Rattle.parsing.specs.Room.{HasRoom, room}
 use Rattle.parsing.specs.Stopping.{stop_with}
-use Rattle.parsing.specs.Segment.{IsNearTo, Derives, DerivesItem, FailsAt, FailsItem, GoesPast, Refused, StopsAt}
+use Rattle.parsing.specs.Segment.{Derives, DerivesItem, FailsAt, FailsItem, GoesPast, Refused, StopsAt}
 use Rattle.parsing.proofs.Segments.{exit, exit_item, joined}
 use Rattle.expressions.specs.Expressions.{AddsExpr, Parses}
 use Rattle.expressions.proofs.NameLaws.{behind_name_is}
 use Rattle.parsing.proofs.Parts.{MakesOnly}
 use Rattle.expressions.proofs.Productions.{Chooses, EntersLevel, chosen, chosen_within, item_done, makes_and_closes, punctuator_ends, punctuator_past, name_too_deep, same_self}
-use Rattle.expressions.proofs.TellingLaws.{appends_then, next_follows, room_within}
+use Rattle.expressions.proofs.TellingLaws.{next_follows, room_within}
 use Rattle.expressions.proofs.VariableLaws.{IsNamed, after_name, is_named, named_sound, tree_follows}
+use Rattle.grammar.proofs.StandingLaws.{appends_both}
+use Rattle.tokens.specs.Reading.{IsNearTo}
 
 -- An expression that is no assignment.
 
@@ -117,7 +119,7 @@ store_chooses at o a s = record {
 store_enters_level : (at : Place) (o : StoreOp) (a : IsAssignment at o) (s : SpellsStore o (after_at at)) → EntersLevel at Expression
 store_enters_level at o a s after more = let n : (next_at at).token ≡ token.Name a.named.name = a.named.is in rw (n, after_name at after a.named more, s.is) (store_enters a.named.name s.m o s.store)
 
-pub store_too_deep : (at : Place) (used : ℕ) (near : IsNearTo at used) (depth : ℕ) (o : StoreOp) → IsAssignment at o → 64 ≤ depth → FailsAt depth (Part Expression ∷ []) [] at (stop_with (refusal.Source (diagnostic (next_at at).line code.NestedTooDeeply)) used)
+pub store_too_deep : (at : Place) (used : ℕ) (near : IsNearTo at.position.reading used) (depth : ℕ) (o : StoreOp) → IsAssignment at o → 64 ≤ depth → FailsAt depth (Part Expression ∷ []) [] at (stop_with (refusal.Source (diagnostic (next_at at).line code.NestedTooDeeply)) used)
 store_too_deep at used near depth o a deep =
     let s : SpellsStore o (after_at at) = sign_of at o a in
     let n : (next_at at).token ≡ token.Name a.named.name = a.named.is in
@@ -179,7 +181,7 @@ assignment_adds before mid after at now next there depth o v a shallow item goes
   tree = Assign o v h.tree;
   numbered = (numbered, h.numbered);
   narrow = let small : nesting h.tree ≤ room (depth + 1) 1 = h.narrow in omega arith;
-  added = appends_then before mid after (expr_actions h.tree) (StoreVariable v o ∷ []) h.added last;
+  added = appends_both before mid after (expr_actions h.tree) (StoreVariable v o ∷ []) h.added last;
   derives = joined depth depth (Part Expression ∷ []) (Make (Store o) ∷ Close ∷ []) [] [] [] (AnExpr h.tree ∷ AVariable v ∷ []) (AnExpr (Assign o v h.tree) ∷ []) [] at there there
       (joined depth (depth + 1) (Part Expression ∷ []) (Part Expression ∷ []) [] (Make (Store o) ∷ Close ∷ []) [] [] (AnExpr h.tree ∷ []) (AVariable v ∷ []) at next there
       (sign_past at now next depth o v a shallow item goes) h.derives (λ stack same. ap (λ n. n + 1) same))

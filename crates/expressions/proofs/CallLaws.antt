@@ -18,17 +18,18 @@ use Rattle.grammar.specs.Nesting.{args_nesting, nesting}
 use Rattle.grammar.specs.Resolved.{InArgs, InExpr, IsCallable}
 use Rattle.grammar.specs.Tree.{Args, Argument, Call, Expr, NoMore, add_argument}
 use Rattle.grammar.proofs.FollowingLaws.{act, args_lead, pushed}
-use Rattle.grammar.proofs.StandingLaws.{stands_then}
+use Rattle.grammar.proofs.StandingLaws.{stands_then, appends_both, may_first}
 use Rattle.parsing.specs.Position.{Place, after_at, next_at}
 use Rattle.parsing.specs.Room.{HasRoom, room}
 use Rattle.parsing.specs.Stopping.{stop_with}
-use Rattle.parsing.specs.Segment.{IsNearTo, Derives, DerivesItem, FailsAt, FailsItem, Refused}
+use Rattle.parsing.specs.Segment.{Derives, DerivesItem, FailsAt, FailsItem, Refused}
 use Rattle.parsing.proofs.Segments.{exit_item, fails_behind, joined, refused_map, halts}
 use Rattle.expressions.specs.Expressions.{AddsArgs, AddsExpr, FailsArgs}
 use Rattle.parsing.proofs.Parts.{MakesOnly, make_stands, punctuator_is}
 use Rattle.expressions.proofs.Productions.{Chooses, EntersLevel, chosen, chosen_within, item_done, makes_and_closes, punctuator_sound, name_too_deep}
-use Rattle.expressions.proofs.TellingLaws.{all_follow, appends_then, first_follows, next_follows, room_behind, room_behind_args}
+use Rattle.expressions.proofs.TellingLaws.{all_follow, next_follows, room_behind, room_behind_args}
 use Rattle.expressions.proofs.VariableLaws.{IsNamed, after_name, named_sound, tree_follows}
+use Rattle.tokens.specs.Reading.{IsNearTo}
 
 -- Arguments.
 
@@ -142,7 +143,7 @@ argument_adds before mid after at now next there depth h fits sign e sound = rec
   tree = add_argument h.tree e.tree;
   numbered = args_numbered h.tree e.tree h.numbered e.numbered;
   narrow = args_narrow h.tree e.tree (room depth 1) h.narrow e.narrow;
-  added = subst (λ (xs : List Action). AppendsAll before after xs) (sym (args_after h.tree e.tree)) (appends_then before mid after (args_actions h.tree) (expr_actions e.tree) h.added e.added);
+  added = subst (λ (xs : List Action). AppendsAll before after xs) (sym (args_after h.tree e.tree)) (appends_both before mid after (args_actions h.tree) (expr_actions e.tree) h.added e.added);
   derives = λ callee. passed at next there depth callee h.tree (Part Arguments ∷ []) e.tree (comma_past before mid at now next depth h callee fits sign) e.derives sound;
 }
 
@@ -183,7 +184,7 @@ call_chooses at n fits = record {
 call_enters : (at : Place) → IsNamed (next_at at).token → is_punctuator punctuator.OpenRound (after_at at) ≡ true → EntersLevel at Primary
 call_enters at n fits after more = let t : after_at at ≡ token.Punctuator punctuator.OpenRound = punctuator_is punctuator.OpenRound (after_at at) fits in rw (n.is, after_name at after n more, t) refl
 
-pub call_too_deep : (at : Place) (used : ℕ) (near : IsNearTo at used) (depth : ℕ) → IsNamed (next_at at).token → is_punctuator punctuator.OpenRound (after_at at) ≡ true → 64 ≤ depth →
+pub call_too_deep : (at : Place) (used : ℕ) (near : IsNearTo at.position.reading used) (depth : ℕ) → IsNamed (next_at at).token → is_punctuator punctuator.OpenRound (after_at at) ≡ true → 64 ≤ depth →
     FailsAt depth (Part Primary ∷ []) [] at (stop_with (refusal.Source (diagnostic (next_at at).line code.NestedTooDeeply)) used)
 call_too_deep at used near depth n fits deep =
     name_too_deep at used near depth Primary Called n.name (Exactly punctuator.OpenRound ∷ Part Arguments ∷ Exactly punctuator.CloseRound ∷ Make Invoke ∷ Close ∷ []) (call_chooses at n fits) (call_enters at n fits) (rw n.is refl) deep
@@ -210,7 +211,7 @@ callee_past at now depth callee c item =
     (call_stands at depth c) (item (depth + 1)) (λ stack same. ap (λ n. n + 1) same)
 
 -- the builder was refused memory behind the name
-pub callee_halts : (used : ℕ) (at now : Place) (depth : ℕ) (callee : Callee) → IsCall at depth → DerivesItem (AName Called) [] (ACall callee NoMore ∷ []) at now → IsNearTo now used →
+pub callee_halts : (used : ℕ) (at now : Place) (depth : ℕ) (callee : Callee) → IsCall at depth → DerivesItem (AName Called) [] (ACall callee NoMore ∷ []) at now → IsNearTo now.position.reading used →
     FailsAt depth (Part Primary ∷ []) [] at (stop_with refusal.Memory used)
 callee_halts used at now depth callee c item near =
     halts depth (Part Primary ∷ []) (Exactly punctuator.OpenRound ∷ Part Arguments ∷ Exactly punctuator.CloseRound ∷ Make Invoke ∷ Close ∷ []) [] (ACall callee NoMore ∷ []) at now used
@@ -259,7 +260,7 @@ call_adds before begun mid after at now inner behind there depth callee c item b
   tree = Call callee h.tree;
   numbered = (numbered, h.numbered);
   narrow = let small : args_nesting h.tree ≤ room (depth + 1) 1 = h.narrow in let shallow : depth < 64 = c.shallow in omega arith;
-  added = appends_then before begun after (BeginCall ∷ []) (args_actions h.tree ++ EndCall callee ∷ []) first (appends_then begun mid after (args_actions h.tree) (EndCall callee ∷ []) h.added last);
+  added = appends_both before begun after (BeginCall ∷ []) (args_actions h.tree ++ EndCall callee ∷ []) first (appends_both begun mid after (args_actions h.tree) (EndCall callee ∷ []) h.added last);
   derives = joined depth depth (Part Primary ∷ []) (Make Invoke ∷ Close ∷ []) [] [] [] (ACall callee h.tree ∷ []) (AnExpr (Call callee h.tree) ∷ []) [] at there there
       (item_done depth (depth + 1) (Part Primary ∷ []) (Exactly punctuator.CloseRound) (Make Invoke ∷ Close ∷ []) [] [] (ACall callee h.tree ∷ []) at behind there
       (arguments_past begun mid at now inner behind depth callee c item bracket h) (close (depth + 1)) (λ stack same. ap (λ n. n + 1) same))
@@ -269,7 +270,7 @@ call_adds before begun mid after at now inner behind there depth callee c item b
 pub begin_follows : (before : Meaning) (depth : ℕ) → depth < 64 → HasRoom before (room depth 11) → MayFollow before BeginCall
 begin_follows before depth shallow h =
     let few : open_count (h.outer ∷ h.opened) + room depth 11 ≤ 200 = h.few in
-    first_follows before BeginCall [] (all_follow before (h.outer ∷ h.opened) (InCall ∷ h.outer ∷ h.opened) (BeginCall ∷ []) h.stands
+    may_first before BeginCall [] (all_follow before (h.outer ∷ h.opened) (InCall ∷ h.outer ∷ h.opened) (BeginCall ∷ []) h.stands
     (act BeginCall (h.outer ∷ h.opened) (InCall ∷ h.outer ∷ h.opened) refl (omega arith)))
 
 pub arguments_room : (before begun : Meaning) (depth : ℕ) → depth < 64 → HasRoom before (room depth 11) → AppendsAll before begun (BeginCall ∷ []) → HasRoom begun (room (depth + 1) 1)
@@ -283,4 +284,4 @@ pub end_follows : (before begun now : Meaning) (depth : ℕ) (callee : Callee) (
 end_follows before begun now depth callee args shallow h first callable numbered narrow second =
     next_follows before now (BeginCall ∷ args_actions args) (EndCall callee) []
     (tree_follows before (room depth 11) (Call callee args) h (callable, numbered) (omega arith))
-    (appends_then before begun now (BeginCall ∷ []) (args_actions args) first second)
+    (appends_both before begun now (BeginCall ∷ []) (args_actions args) first second)

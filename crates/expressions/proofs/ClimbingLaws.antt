@@ -20,14 +20,13 @@ use Rattle.grammar.specs.Nesting.{nesting, right_side}
 use Rattle.grammar.specs.Operators.{binary_of, if_at, if_from, operator_at, operator_from, operator_of}
 use Rattle.grammar.specs.Tree.{Binary}
 use Rattle.grammar.proofs.FollowingLaws.{expr_leads, origin_of}
-use Rattle.grammar.proofs.StandingLaws.{stands_then}
+use Rattle.grammar.proofs.StandingLaws.{stands_then, appends_both}
 use Rattle.parsing.specs.Position.{Place, next_at}
 use Rattle.parsing.specs.Room.{HasLeft, HasRoom, room}
 use Rattle.parsing.specs.Segment.{Derives, FailsAt, Refused}
 use Rattle.parsing.proofs.Segments.{exit, fails_behind, joined, refused_map, stay}
 use Rattle.expressions.specs.Expressions.{AddsExpr, AddsOperand, FailsOperand}
 use Rattle.expressions.proofs.Productions.{chosen}
-use Rattle.expressions.proofs.TellingLaws.{appends_then}
 
 -- Operators and their levels.
 
@@ -313,7 +312,7 @@ climbs_on before mid after at now there depth n b h is r none = record {
     narrow =
         let f : (operator_of (next_at now).token ≡ Some b) × (n ≤ b.level) = found n (next_at now).token b is in
         wide_enough n b.level (nesting h.adds.tree) (right_side b.op + nesting r.right) f.1 h.adds.narrow r.narrow;
-    added = appends_then before mid after (expr_actions h.adds.tree) (middle b.op ++ (expr_actions r.right ++ ApplyBinop b.op ∷ [])) h.adds.added r.added;
+    added = appends_both before mid after (expr_actions h.adds.tree) (middle b.op ++ (expr_actions r.right ++ ApplyBinop b.op ∷ [])) h.adds.added r.added;
     derives =
         let f : (operator_of (next_at now).token ≡ Some b) × (n ≤ b.level) = found n (next_at now).token b is in
         let same : b.level ≡ n + (b.level - n) = own_level n b.level f.1 in

@@ -17,7 +17,7 @@ use Rattle.grammar.specs.Nesting.{nesting}
 use Rattle.parsing.specs.Position.{Place, next_at}
 use Rattle.parsing.specs.Room.{HasRoom, room}
 use Rattle.parsing.specs.Stopping.{stop_with}
-use Rattle.parsing.specs.Segment.{IsNearTo, Derives, DerivesItem, FailsAt, FailsItem, GoesPast, Refused, StopsAt}
+use Rattle.parsing.specs.Segment.{Derives, DerivesItem, FailsAt, FailsItem, GoesPast, Refused, StopsAt}
 use Rattle.parsing.proofs.Segments.{exit, exit_item, joined}
 use Rattle.expressions.specs.declared.signs.Sign.{Sign}
 use Rattle.expressions.specs.declared.signs.Sign.TheVariants as sign
@@ -28,6 +28,7 @@ use Rattle.expressions.specs.Signs.{sign_punctuator, step_punctuator}
 use Rattle.parsing.proofs.Parts.{punctuator_is, close_stands}
 use Rattle.expressions.proofs.Productions.{Chooses, EntersLevel, chosen, chosen_within, item_done, punctuator_ends, punctuator_past, punctuator_sound, punctuator_too_deep, none_chosen}
 use Rattle.expressions.proofs.TellingLaws.{room_within}
+use Rattle.tokens.specs.Reading.{IsNearTo}
 
 -- Brackets.
 
@@ -40,7 +41,7 @@ open_chooses at fits = record {
 open_enters : (at : Place) → is_punctuator punctuator.OpenRound (next_at at).token ≡ true → EntersLevel at Primary
 open_enters at fits after more = let t : (next_at at).token ≡ token.Punctuator punctuator.OpenRound = punctuator_is punctuator.OpenRound (next_at at).token fits in rw t refl
 
-pub bracket_too_deep : (at : Place) (used : ℕ) (near : IsNearTo at used) (depth : ℕ) → is_punctuator punctuator.OpenRound (next_at at).token ≡ true → 64 ≤ depth → FailsAt depth (Part Primary ∷ []) [] at (stop_with (refusal.Source (diagnostic (next_at at).line code.NestedTooDeeply)) used)
+pub bracket_too_deep : (at : Place) (used : ℕ) (near : IsNearTo at.position.reading used) (depth : ℕ) → is_punctuator punctuator.OpenRound (next_at at).token ≡ true → 64 ≤ depth → FailsAt depth (Part Primary ∷ []) [] at (stop_with (refusal.Source (diagnostic (next_at at).line code.NestedTooDeeply)) used)
 bracket_too_deep at used near depth fits deep = punctuator_too_deep at used near depth Primary punctuator.OpenRound (Part Expression ∷ Exactly punctuator.CloseRound ∷ Close ∷ []) (open_chooses at fits) (open_enters at fits) fits deep
 
 open_stands : (at : Place) (depth : ℕ) → is_punctuator punctuator.OpenRound (next_at at).token ≡ true → depth < 64 →
@@ -164,6 +165,6 @@ no_primary_enters (token.Name name) after n = absurd (n.name name refl)
 no_primary_enters (token.Punctuator punctuator.OpenRound) after n = let e : is_punctuator punctuator.OpenRound (token.Punctuator punctuator.OpenRound) ≡ false = n.bracket in absurd (cc)
 no_primary_enters t after n = refl
 
-pub primary_misfits : (at : Place) (used : ℕ) (near : IsNearTo at used) (depth : ℕ) → is_fault (next_at at).token ≡ false → NoPrimary (next_at at).token →
+pub primary_misfits : (at : Place) (used : ℕ) (near : IsNearTo at.position.reading used) (depth : ℕ) → is_fault (next_at at).token ≡ false → NoPrimary (next_at at).token →
     FailsAt depth (Part Primary ∷ []) [] at (stop_with (refusal.Source (diagnostic (next_at at).line (misfit_code (next_at at).token))) used)
 primary_misfits at used near depth sound n = none_chosen at used near depth Primary sound (λ after more. no_primary (next_at at).token after n) (λ after more. no_primary_enters (next_at at).token after n)

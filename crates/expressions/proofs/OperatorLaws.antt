@@ -27,7 +27,8 @@ use Rattle.parsing.proofs.Segments.{fails_behind, joined, refused_map}
 use Rattle.expressions.specs.Expressions.{AddsExpr, AddsOperand, FailsOperand}
 use Rattle.parsing.proofs.Parts.{MakesOnly, make_stands}
 use Rattle.expressions.proofs.Productions.{chosen, item_done, punctuator_ends, punctuator_past, punctuator_sound, same_self}
-use Rattle.expressions.proofs.TellingLaws.{all_follow, appends_then, first_follows, others_follow, room_behind}
+use Rattle.expressions.proofs.TellingLaws.{all_follow, room_behind}
+use Rattle.grammar.proofs.StandingLaws.{appends_both, may_first, may_then}
 
 -- An operator and its right side.
 
@@ -191,10 +192,10 @@ apply_follows before told now depth n o t e is h first numbered narrow second =
     chain (middle o) (expr_actions e ++ ApplyBinop o ∷ []) _ _ _ (middle_leads o (is_logic o) refl h.origin h.outer h.opened (omega arith))
     (chain (expr_actions e) (ApplyBinop o ∷ []) _ _ _ (expr_leads e (right_open o (is_logic o) h.origin) (right_below (is_logic o) h.origin (h.outer ∷ h.opened)) numbered (omega arith))
     (apply_leads o (is_logic o) refl h.origin (origin_of e) h.outer h.opened (omega arith))) in
-    first_follows now (ApplyBinop o) []
-    (others_follow told now (expr_actions e) (ApplyBinop o ∷ [])
-    (others_follow before told (middle o) (expr_actions e ++ ApplyBinop o ∷ []) (all_follow before (AValue h.origin ∷ h.outer ∷ h.opened) (AValue Computed ∷ h.outer ∷ h.opened) (middle o ++ (expr_actions e ++ ApplyBinop o ∷ [])) h.stands leads) first)
-    second)
+    may_first now (ApplyBinop o) []
+    (may_then told now (expr_actions e) (ApplyBinop o ∷ []) second
+    (may_then before told (middle o) (expr_actions e ++ ApplyBinop o ∷ []) first
+    (all_follow before (AValue h.origin ∷ h.outer ∷ h.opened) (AValue Computed ∷ h.outer ∷ h.opened) (middle o ++ (expr_actions e ++ ApplyBinop o ∷ [])) h.stands leads)))
 
 pub operand_adds : (before told mid after : Meaning) (at now there : Place) (depth n : ℕ) (o : Op) → operator_at n (next_at at).token ≡ Some o → GoesPast at now →
     AppendsAll before told (middle o) → AddsExpr told mid depth (n + 1) (Part (Level (n + 1)) ∷ []) [] now there → AppendsAll mid after (ApplyBinop o ∷ []) → is_fault (next_at there).token ≡ false →
@@ -203,7 +204,7 @@ operand_adds before told mid after at now there depth n o is goes first h last s
   right = h.tree;
   numbered = h.numbered;
   narrow = let small : nesting h.tree ≤ room depth (n + 1) = h.narrow in let less : right_side o + room depth (n + 1) ≤ room depth n = right_room depth n o (next_at at).token is in omega arith;
-  added = appends_then before told after (middle o) (expr_actions h.tree ++ ApplyBinop o ∷ []) first (appends_then told mid after (expr_actions h.tree) (ApplyBinop o ∷ []) h.added last);
+  added = appends_both before told after (middle o) (expr_actions h.tree ++ ApplyBinop o ∷ []) first (appends_both told mid after (expr_actions h.tree) (ApplyBinop o ∷ []) h.added last);
   derives = λ left. joined depth depth (Part (Tail n) ∷ []) (Make (Operate o) ∷ []) [] (Part (Tail n) ∷ []) (AnExpr left ∷ []) (AnExpr h.tree ∷ AnExpr left ∷ []) (AnExpr (Binary o left h.tree) ∷ []) [] at there there
       (joined depth depth (Part (Tail n) ∷ []) (Part (Level (n + 1)) ∷ []) [] (Make (Operate o) ∷ Part (Tail n) ∷ []) (AnExpr left ∷ []) [] (AnExpr h.tree ∷ []) (AnExpr left ∷ []) at now there
       (operator_past at now depth n o left is goes) h.derives (λ stack same. same))

@@ -21,10 +21,11 @@ use Rattle.grammar.proofs.Runs.{then}
 use Rattle.grammar.proofs.Steps.{part, close}
 use Rattle.parsing.specs.Position.{Place, after_at, next_at, scope_at}
 use Rattle.parsing.specs.Stopping.{stop_with}
-use Rattle.parsing.specs.Segment.{IsNearTo, Derives, DerivesItem, FailsAt, FailsItem, GoesPast, Refused, StopsAt}
+use Rattle.parsing.specs.Segment.{Derives, DerivesItem, FailsAt, FailsItem, GoesPast, Refused, StopsAt}
 use Rattle.parsing.proofs.Items.{punctuator_derives, punctuator_stops}
 use Rattle.parsing.proofs.Parts.{MakesOnly, beyond, make_leads, punctuator_is, within}
-use Rattle.parsing.proofs.Segments.{IsBehind, fails_at_next, fails_behind, joined, refused_map, stand}
+use Rattle.parsing.proofs.Segments.{fails_at_next, fails_behind, joined, refused_map, stand, next_behind}
+use Rattle.tokens.specs.Reading.{IsNearTo}
 
 -- Punctuators.
 
@@ -68,9 +69,6 @@ EntersNone at symbol = WithAfter at (λ after. enters symbol (next_at at).token 
 abbrev pub EntersLevel : Place → Symbol → Type 0
 EntersLevel at symbol = WithAfter at (λ after. enters symbol (next_at at).token after ≡ true)
 
-next_behind : (at : Place) (tail : List LocatedToken) → IsBehind at.position.reading tail → is_last (next_at at).token ≡ false → next_of tail ≡ after_at at
-next_behind at tail b more = ap next_of (b.is more)
-
 free : (n : ℕ) (opened : Bool) (rest : List LocatedToken) → opened ≡ false → only_if opened (only_if (nat_le most_levels n) (fault rest code.NestedTooDeeply ∷ [])) ≡ []
 free n opened rest none = rw none refl
 
@@ -92,7 +90,7 @@ chosen_within at depth symbol items c shallow = stand at depth (Part symbol ∷ 
 })
 
 -- one that would open a level beyond the last one, by a punctuator
-pub punctuator_too_deep : (at : Place) (used : ℕ) (near : IsNearTo at used) (depth : ℕ) (symbol : Symbol) (m : Punctuator) (items : List Item) → Chooses at symbol (Exactly m ∷ items) → EntersLevel at symbol →
+pub punctuator_too_deep : (at : Place) (used : ℕ) (near : IsNearTo at.position.reading used) (depth : ℕ) (symbol : Symbol) (m : Punctuator) (items : List Item) → Chooses at symbol (Exactly m ∷ items) → EntersLevel at symbol →
     is_punctuator m (next_at at).token ≡ true → 64 ≤ depth → FailsAt depth (Part symbol ∷ []) [] at (stop_with (refusal.Source (diagnostic (next_at at).line code.NestedTooDeeply)) used)
 punctuator_too_deep at used near depth symbol m items c opened fits deep =
     fails_at_next depth (Part symbol ∷ []) [] at _ used near (λ tail b profile stack values functions depths.
@@ -100,7 +98,7 @@ punctuator_too_deep at used near depth symbol m items c opened fits deep =
     (beyond (enters symbol (next_at at).token (next_of tail)) (levels stack) (next_at at ∷ tail) (opened (next_of tail) (next_behind at tail b)) (rw depths deep)))
 
 -- by a name
-pub name_too_deep : (at : Place) (used : ℕ) (near : IsNearTo at used) (depth : ℕ) (symbol : Symbol) (role : Role) (name : List ℕ) (items : List Item) → Chooses at symbol (AName role ∷ items) → EntersLevel at symbol →
+pub name_too_deep : (at : Place) (used : ℕ) (near : IsNearTo at.position.reading used) (depth : ℕ) (symbol : Symbol) (role : Role) (name : List ℕ) (items : List Item) → Chooses at symbol (AName role ∷ items) → EntersLevel at symbol →
     name_of_token (next_at at).token ≡ Some name → 64 ≤ depth → FailsAt depth (Part symbol ∷ []) [] at (stop_with (refusal.Source (diagnostic (next_at at).line code.NestedTooDeeply)) used)
 name_too_deep at used near depth symbol role name items c opened fits deep =
     fails_at_next depth (Part symbol ∷ []) [] at _ used near (λ tail b profile stack values functions depths.
@@ -108,7 +106,7 @@ name_too_deep at used near depth symbol role name items c opened fits deep =
     (beyond (enters symbol (next_at at).token (next_of tail)) (levels stack) (next_at at ∷ tail) (opened (next_of tail) (next_behind at tail b)) (rw depths deep)))
 
 -- no production fits
-pub none_chosen : (at : Place) (used : ℕ) (near : IsNearTo at used) (depth : ℕ) (symbol : Symbol) → is_fault (next_at at).token ≡ false → WithAfter at (λ after. choice symbol (next_at at).token after ≡ None) → EntersNone at symbol →
+pub none_chosen : (at : Place) (used : ℕ) (near : IsNearTo at.position.reading used) (depth : ℕ) (symbol : Symbol) → is_fault (next_at at).token ≡ false → WithAfter at (λ after. choice symbol (next_at at).token after ≡ None) → EntersNone at symbol →
     FailsAt depth (Part symbol ∷ []) [] at (stop_with (refusal.Source (diagnostic (next_at at).line (misfit_code (next_at at).token))) used)
 none_chosen at used near depth symbol sound none opened =
     fails_at_next depth (Part symbol ∷ []) [] at _ used near (λ tail b profile stack values functions depths.

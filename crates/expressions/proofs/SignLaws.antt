@@ -19,7 +19,7 @@ use Rattle.grammar.proofs.FollowingLaws.{Leads, act, expr_leads, origin_of}
 use Rattle.parsing.specs.Position.{Place, next_at}
 use Rattle.parsing.specs.Room.{HasRoom, room}
 use Rattle.parsing.specs.Stopping.{stop_with}
-use Rattle.parsing.specs.Segment.{IsNearTo, Derives, FailsAt, GoesPast, Refused, StopsAt}
+use Rattle.parsing.specs.Segment.{Derives, FailsAt, GoesPast, Refused, StopsAt}
 use Rattle.parsing.proofs.Segments.{exit, exit_item, joined}
 use Rattle.expressions.specs.declared.signs.Sign.{Sign}
 use Rattle.expressions.specs.declared.signs.Sign.TheVariants as sign
@@ -27,7 +27,9 @@ use Rattle.expressions.specs.Expressions.{AddsExpr}
 use Rattle.expressions.specs.Signs.{before_operand, behind_operand, sign_punctuator, sign_rule, signed}
 use Rattle.parsing.proofs.Parts.{MakesOnly, punctuator_is}
 use Rattle.expressions.proofs.Productions.{Chooses, EntersLevel, chosen_within, item_done, makes_and_closes, punctuator_ends, punctuator_past, punctuator_sound, punctuator_too_deep}
-use Rattle.expressions.proofs.TellingLaws.{all_follow, appends_then, others_follow, room_behind}
+use Rattle.expressions.proofs.TellingLaws.{all_follow, room_behind}
+use Rattle.grammar.proofs.StandingLaws.{appends_both, may_then}
+use Rattle.tokens.specs.Reading.{IsNearTo}
 
 -- The derivation.
 
@@ -55,7 +57,7 @@ sign_makes sign.Negation e = record { makes = λ values. refl; clean = λ profil
 sign_makes sign.Denial e = record { makes = λ values. refl; clean = λ profile stack rest values scope functions. refl; learns = λ scope. refl; defines = λ values scope. refl }
 sign_makes sign.Complement e = record { makes = λ values. refl; clean = λ profile stack rest values scope functions. refl; learns = λ scope. refl; defines = λ values scope. refl }
 
-pub sign_too_deep : (at : Place) (used : ℕ) (near : IsNearTo at used) (depth : ℕ) (s : Sign) → is_punctuator (sign_punctuator s) (next_at at).token ≡ true → 64 ≤ depth →
+pub sign_too_deep : (at : Place) (used : ℕ) (near : IsNearTo at.position.reading used) (depth : ℕ) (s : Sign) → is_punctuator (sign_punctuator s) (next_at at).token ≡ true → 64 ≤ depth →
     FailsAt depth (Part Unary ∷ []) [] at (stop_with (refusal.Source (diagnostic (next_at at).line code.NestedTooDeeply)) used)
 sign_too_deep at used near depth s fits deep = punctuator_too_deep at used near depth Unary (sign_punctuator s) (Part Unary ∷ Make (sign_rule s) ∷ Close ∷ []) (sign_chooses at s fits) (sign_enters_level at s fits) fits deep
 
@@ -123,9 +125,9 @@ behind_follows before told now s e depth shallow h first numbered narrow second 
     let few : open_count (h.outer ∷ h.opened) + room depth 11 ≤ 200 = h.few in
     let small : nesting (signed s e) ≤ room (depth + 1) 11 = sign_narrow s e (room (depth + 1) 11) narrow in
     let leads : Leads (expr_actions (signed s e)) (h.outer ∷ h.opened) (AValue (origin_of (signed s e)) ∷ h.outer ∷ h.opened) = expr_leads (signed s e) h.outer h.opened (sign_numbered s e numbered) (omega arith) in
-    others_follow told now (expr_actions e) (behind_operand s)
-    (others_follow before told (before_operand s) (expr_actions e ++ behind_operand s) (subst (λ (xs : List Action). MayFollowAll before xs) (sign_actions s e) (all_follow before (h.outer ∷ h.opened) (AValue (origin_of (signed s e)) ∷ h.outer ∷ h.opened) (expr_actions (signed s e)) h.stands leads)) first)
-    second
+    may_then told now (expr_actions e) (behind_operand s) second
+    (may_then before told (before_operand s) (expr_actions e ++ behind_operand s) first
+    (subst (λ (xs : List Action). MayFollowAll before xs) (sign_actions s e) (all_follow before (h.outer ∷ h.opened) (AValue (origin_of (signed s e)) ∷ h.outer ∷ h.opened) (expr_actions (signed s e)) h.stands leads)))
 
 pub sign_adds : (before told mid after : Meaning) (at now there : Place) (depth : ℕ) (s : Sign) → is_punctuator (sign_punctuator s) (next_at at).token ≡ true → depth < 64 → GoesPast at now →
     AppendsAll before told (before_operand s) → AddsExpr told mid (depth + 1) 11 (Part Unary ∷ []) [] now there → AppendsAll mid after (behind_operand s) → is_fault (next_at there).token ≡ false →
@@ -134,7 +136,7 @@ sign_adds before told mid after at now there depth s fits shallow goes first h l
   tree = signed s h.tree;
   numbered = sign_numbered s h.tree h.numbered;
   narrow = sign_narrow s h.tree (room depth 11) (let small : nesting h.tree ≤ room (depth + 1) 11 = h.narrow in omega arith);
-  added = subst (λ (xs : List Action). AppendsAll before after xs) (sym (sign_actions s h.tree)) (appends_then before told after (before_operand s) (expr_actions h.tree ++ behind_operand s) first (appends_then told mid after (expr_actions h.tree) (behind_operand s) h.added last));
+  added = subst (λ (xs : List Action). AppendsAll before after xs) (sym (sign_actions s h.tree)) (appends_both before told after (before_operand s) (expr_actions h.tree ++ behind_operand s) first (appends_both told mid after (expr_actions h.tree) (behind_operand s) h.added last));
   derives = joined depth depth (Part Unary ∷ []) (Make (sign_rule s) ∷ Close ∷ []) [] [] [] (AnExpr h.tree ∷ []) (AnExpr (signed s h.tree) ∷ []) [] at there there
       (joined depth (depth + 1) (Part Unary ∷ []) (Part Unary ∷ []) [] (Make (sign_rule s) ∷ Close ∷ []) [] [] (AnExpr h.tree ∷ []) [] at now there
       (sign_past at now depth s fits shallow goes) h.derives (λ stack same. ap (λ n. n + 1) same))

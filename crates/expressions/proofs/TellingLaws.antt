@@ -1,36 +1,17 @@
 -- Which actions may follow what a builder stands for.
-use Rattle.std.proofs.Common.{ℕ, ◌+◌, ◌≤◌, List, [], ◌∷◌, ◌++◌, refl, sym, ◌∙◌, subst, arith, append_assoc}
+use Rattle.std.proofs.Common.{ℕ, ◌+◌, ◌≤◌, List, [], ◌∷◌, ◌++◌, refl, ◌∙◌, arith}
 use Rattle.grammar.specs.Actions.{Action}
-use Rattle.grammar.specs.Beginning.{IsBeginning}
 use Rattle.grammar.specs.Building.{Meaning, AppendsAll, MayFollow, MayFollowAll, StandsOpen}
 use Rattle.grammar.specs.Following.{Open, AValue, Opened, open_count}
 use Rattle.grammar.specs.Tree.{Args, NoMore, Argument}
-use Rattle.grammar.proofs.Beginnings.{begins_with, follows_begins}
+use Rattle.grammar.proofs.Beginnings.{follows_begins}
 use Rattle.grammar.proofs.FollowingLaws.{Leads, follow_append, origin_of, pushed}
-use Rattle.grammar.proofs.StandingLaws.{stands_then}
+use Rattle.grammar.proofs.StandingLaws.{stands_then, may_first, may_then}
 use Rattle.parsing.specs.Room.{HasRoom}
-
--- the first of several actions
-pub first_follows : (before : Meaning) (action : Action) (more : List Action) → MayFollowAll before (action ∷ more) → MayFollow before action
-first_follows before action more f = record {
-  profile = f.profile;
-  acts = f.acts;
-  stood = f.stood;
-  begins = begins_with (f.acts ++ action ∷ []) more (subst (λ (xs : List Action). IsBeginning xs) (sym (append_assoc f.acts (action ∷ []) more)) f.begins);
-}
-
--- the others, once the first were told
-pub others_follow : (before now : Meaning) (acts more : List Action) → MayFollowAll before (acts ++ more) → AppendsAll before now acts → MayFollowAll now more
-others_follow before now acts more f told = record {
-  profile = f.profile;
-  acts = f.acts ++ acts;
-  stood = told f.profile f.acts f.stood;
-  begins = subst (λ (xs : List Action). IsBeginning xs) (sym (append_assoc f.acts acts more)) f.begins;
-}
 
 -- one behind others that were told
 pub next_follows : (before now : Meaning) (acts : List Action) (action : Action) (more : List Action) → MayFollowAll before (acts ++ action ∷ more) → AppendsAll before now acts → MayFollow now action
-next_follows before now acts action more f told = first_follows now action more (others_follow before now acts (action ∷ more) f told)
+next_follows before now acts action more f told = may_first now action more (may_then before now acts (action ∷ more) told f)
 
 -- actions that lead on from what is open
 pub all_follow : (before : Meaning) (opened next : Opened) (more : List Action) → StandsOpen before opened → Leads more opened next → MayFollowAll before more
@@ -40,11 +21,6 @@ all_follow before opened next more s leads = record {
   stood = s.stood;
   begins = follows_begins (s.acts ++ more) (rw (follow_append s.acts more [] opened s.opens ∙ leads.is) refl);
 }
-
--- actions told one behind another
-pub appends_then : (before mid after : Meaning) (xs ys : List Action) → AppendsAll before mid xs → AppendsAll mid after ys → AppendsAll before after (xs ++ ys)
-appends_then before mid after xs ys a b profile acts stood =
-    subst (λ (zs : List Action). after profile zs) (append_assoc acts xs ys) (b profile (acts ++ xs) (a profile acts stood))
 
 -- room for less
 pub room_within : (before : Meaning) (m n : ℕ) → HasRoom before n → m ≤ n → HasRoom before m

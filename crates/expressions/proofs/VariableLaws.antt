@@ -24,7 +24,7 @@ use Rattle.grammar.proofs.Steps.{constant}
 use Rattle.parsing.specs.Position.{Place, after_at, next_at, scope_at}
 use Rattle.parsing.specs.Room.{HasRoom}
 use Rattle.parsing.specs.Stopping.{stop_with}
-use Rattle.parsing.specs.Segment.{IsNearTo, Derives, DerivesItem, FailsItem, GoesPast, Refused, StopsAt}
+use Rattle.parsing.specs.Segment.{Derives, DerivesItem, FailsItem, GoesPast, Refused, StopsAt}
 use Rattle.parsing.proofs.Segments.{Leads, joined, past, refused_map, stops, halts}
 use Rattle.expressions.specs.declared.signs.Step.{Step}
 use Rattle.expressions.specs.declared.signs.Step.TheVariants as step
@@ -32,7 +32,9 @@ use Rattle.expressions.specs.Expressions.{AddsExpr}
 use Rattle.expressions.specs.Signs.{step_punctuator, step_store}
 use Rattle.parsing.proofs.Parts.{MakesOnly, make_stands, punctuator_is}
 use Rattle.expressions.proofs.Productions.{Chooses, EntersNone, chosen, item_done, item_exit, punctuator_ends, punctuator_past, punctuator_sound}
-use Rattle.expressions.proofs.TellingLaws.{all_follow, appends_then, first_follows}
+use Rattle.expressions.proofs.TellingLaws.{all_follow}
+use Rattle.grammar.proofs.StandingLaws.{appends_both, may_first}
+use Rattle.tokens.specs.Reading.{IsNearTo}
 
 -- Names.
 
@@ -107,7 +109,7 @@ constant_adds before after at there value is goes told depth = record {
 pub constant_follows : (before : Meaning) (n : ℕ) (value : ℤ) → HasRoom before n → MayFollow before (PushConstant value)
 constant_follows before n value h =
     let few : open_count (h.outer ∷ h.opened) + n ≤ 200 = h.few in
-    first_follows before (PushConstant value) [] (all_follow before (h.outer ∷ h.opened) (AValue (Number value) ∷ h.outer ∷ h.opened) (PushConstant value ∷ []) h.stands
+    may_first before (PushConstant value) [] (all_follow before (h.outer ∷ h.opened) (AValue (Number value) ∷ h.outer ∷ h.opened) (PushConstant value ∷ []) h.stands
     (act (PushConstant value) (h.outer ∷ h.opened) (AValue (Number value) ∷ h.outer ∷ h.opened) refl (omega arith)))
 
 -- the actions of a whole tree that opens nothing may follow
@@ -206,7 +208,7 @@ behind_past_name at now s v n fits item depth =
 
 -- the builder was refused memory behind the name
 pub behind_halts : (used : ℕ) (at now : Place) (s : Step) (v : Var) → IsNamed (next_at at).token → is_punctuator (step_punctuator s) (after_at at) ≡ true → DerivesItem (AName Mentioned) [] (AVariable v ∷ []) at now →
-    IsNearTo now used → FailsItem (Part Primary) at (stop_with refusal.Memory used)
+    IsNearTo now.position.reading used → FailsItem (Part Primary) at (stop_with refusal.Memory used)
 behind_halts used at now s v n fits item near depth =
     halts depth (Part Primary ∷ []) (Exactly (step_punctuator s) ∷ Make (StepBehind (step_store s)) ∷ []) [] (AVariable v ∷ []) at now used (behind_past_name at now s v n fits item depth) near
 
@@ -226,8 +228,8 @@ behind_adds before a b c after at now there s v n fits item sign numbered sound 
   tree = Postfix (step_store s) v;
   numbered = numbered;
   narrow = omega arith;
-  added = appends_then before a after (FetchVariable v ∷ []) (PushConstant (pos 1) ∷ StoreVariable v (step_store s) ∷ Chop ∷ []) first
-      (appends_then a b after (PushConstant (pos 1) ∷ []) (StoreVariable v (step_store s) ∷ Chop ∷ []) second (appends_then b c after (StoreVariable v (step_store s) ∷ []) (Chop ∷ []) third last));
+  added = appends_both before a after (FetchVariable v ∷ []) (PushConstant (pos 1) ∷ StoreVariable v (step_store s) ∷ Chop ∷ []) first
+      (appends_both a b after (PushConstant (pos 1) ∷ []) (StoreVariable v (step_store s) ∷ Chop ∷ []) second (appends_both b c after (StoreVariable v (step_store s) ∷ []) (Chop ∷ []) third last));
   derives = joined depth depth (Part Primary ∷ []) (Make (StepBehind (step_store s)) ∷ []) [] [] [] (AVariable v ∷ []) (AnExpr (Postfix (step_store s) v) ∷ []) [] at there there
       (item_done depth depth (Part Primary ∷ []) (Exactly (step_punctuator s)) (Make (StepBehind (step_store s)) ∷ []) [] [] (AVariable v ∷ []) at now there
       (behind_past_name at now s v n fits item depth) (sign depth) (λ stack same. same))
@@ -276,7 +278,7 @@ before_adds before a after at now there s v fits goes item numbered sound first 
   tree = Assign (step_store s) v (Constant (pos 1));
   numbered = (numbered, tt);
   narrow = omega arith;
-  added = appends_then before a after (PushConstant (pos 1) ∷ []) (StoreVariable v (step_store s) ∷ []) first last;
+  added = appends_both before a after (PushConstant (pos 1) ∷ []) (StoreVariable v (step_store s) ∷ []) first last;
   derives = joined depth depth (Part Unary ∷ []) (Make (StepBefore (step_store s)) ∷ []) [] [] [] (AVariable v ∷ []) (AnExpr (Assign (step_store s) v (Constant (pos 1))) ∷ []) [] at there there
       (item_done depth depth (Part Unary ∷ []) (AName Mentioned) (Make (StepBefore (step_store s)) ∷ []) [] (AVariable v ∷ []) [] at now there
       (before_past_punctuator at now s fits goes depth) (item depth) (λ stack same. same))

@@ -2,27 +2,17 @@
 use Rattle.std.proofs.Common.{◌≡◌, ℕ, zero, suc, ◌<◌, List, [], ◌∷◌, length, refl, Bool, true, false, cond, arith}
 use Rattle.tokens.specs.Source.{source}
 use Rattle.tokens.specs.Front.{Front, Nothing, Space, Unclosed, Sign, front}
-use Rattle.tokens.specs.Tokens.{Ahead, at_end, passed, placed, last_located_token, is_last, cut, cut_front, located_tokens, from_start, tokens}
+use Rattle.tokens.specs.Tokens.{Ahead, at_end, passed, placed, is_last, cut, cut_front, located_tokens, from_start, tokens}
 use Rattle.tokens.specs.declared.located_tokens.LexicalError.TheVariants.{CommentNotClosed}
 use Rattle.tokens.specs.declared.located_tokens.LocatedToken.{LocatedToken}
-use Rattle.tokens.specs.declared.located_tokens.Token.{Token}
 use Rattle.tokens.specs.declared.located_tokens.Token.TheVariants as token
-use Rattle.tokens.proofs.LocatedTokensLemmas.{IsPiece, front-is_piece, length-passed}
+use Rattle.tokens.proofs.LocatedTokensLemmas.{IsPiece, front-is_piece, length-passed, here}
+use Rattle.tokens.proofs.BeginLemmas.{last-is_last}
 
 abbrev pub EndsWithLast : List LocatedToken → Type 0
 EndsWithLast [] = ⊥
 EndsWithLast (located_token ∷ []) = is_last located_token.token ≡ true
 EndsWithLast (located_token ∷ other ∷ rest) = EndsWithLast (other ∷ rest)
-
-abbrev here : ℕ → ℕ → List ℕ → Bool → Ahead
-here line place bytes too_long = record { line = line; place = place; bytes = bytes; too_long = too_long }
-
-closing_is_last : (t : Token) (line : ℕ) (end : Ahead) → is_last t ≡ true → is_last (last_located_token t line end).token ≡ true
-closing_is_last t line end h = by end.too_long
-  where
-    by : (too_long : Bool) → is_last (last_located_token t line (here end.line end.place end.bytes too_long)).token ≡ true
-    by true = refl
-    by false = h
 
 in_front : (located_token : LocatedToken) (others : List LocatedToken) → EndsWithLast others → EndsWithLast (located_token ∷ others)
 in_front located_token [] h = absurd h
@@ -30,7 +20,7 @@ in_front located_token (other ∷ others) h = h
 
 cut_ends : (n line place : ℕ) (bytes : List ℕ) (too_long : Bool) → length bytes < n → EndsWithLast (cut n (here line place bytes too_long))
 cut_ends zero line place bytes t h = absurd (omega (arith, h))
-cut_ends (suc n) line place [] t h = closing_is_last token.End line (at_end (here line place [] t)) refl
+cut_ends (suc n) line place [] t h = last-is_last token.End line (at_end (here line place [] t)) refl
 cut_ends (suc n) line place (b ∷ bytes) t h = by (front (b ∷ bytes)) (front-is_piece (b ∷ bytes)) (λ count c.
     let p = passed count a in
     let e = length-passed count a in
@@ -44,8 +34,8 @@ cut_ends (suc n) line place (b ∷ bytes) t h = by (front (b ∷ bytes)) (front-
     followed located_token others false e h = in_front located_token others h
 
     by : (f : Front) → IsPiece f → ((count : ℕ) → 0 < count → EndsWithLast (cut n (passed count a))) → EndsWithLast (cut_front f a (cut n))
-    by Nothing p each = closing_is_last token.End line (at_end a) refl
-    by Unclosed p each = closing_is_last (token.Fault CommentNotClosed) line (at_end a) refl
+    by Nothing p each = last-is_last token.End line (at_end a) refl
+    by Unclosed p each = last-is_last (token.Fault CommentNotClosed) line (at_end a) refl
     by (Space count) p each = each count p
     by (Sign sign count) p each = followed (placed sign count a) (cut n (passed count a)) (is_last sign) refl (each count p)
 

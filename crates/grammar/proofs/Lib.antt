@@ -29,3 +29,4 @@ pub mod Reach
 pub mod Places
 pub mod NamedFunctions
 pub mod FileLaws
+pub mod Joins

@@ -9,7 +9,7 @@ use Rattle.grammar.specs.Compiled.{all_faults, enough}
 use Rattle.grammar.specs.Derivation.{State, start, run}
 use Rattle.grammar.specs.Faults.{Fault, first_of}
 use Rattle.grammar.specs.Laws.{WhatWasReadIsNeeded}
-use Rattle.grammar.specs.Need.{end_behind, last_end, need, needed}
+use Rattle.grammar.specs.Need.{last_end, need, needed}
 use Rattle.grammar.specs.Parsing.{IsIn, IsFault}
 use Rattle.grammar.specs.Profile.{Profile}
 use Rattle.grammar.proofs.Bottoms.{fault_at_token}
@@ -44,13 +44,8 @@ reach_behind place located_token [] some rising = absurd (omega (arith, some))
 reach_behind place located_token (next ∷ []) some rising = le_refl next.end
 reach_behind place located_token (next ∷ after ∷ others) some rising = rising.1.1.0
 
-reach_is_end : (rest : List LocatedToken) → reach_of rest ≤ end_behind rest
-reach_is_end [] = le_refl 0
-reach_is_end (next ∷ []) = le_refl next.end
-reach_is_end (next ∷ after ∷ others) = le_refl after.end
-
-reach_later : (place : ℕ) (before rest : List LocatedToken) → 0 < length rest → IsRising place (before ++ rest) → reach_of (before ++ rest) ≤ end_behind rest
-reach_later place [] rest some rising = reach_is_end rest
+reach_later : (place : ℕ) (before rest : List LocatedToken) → 0 < length rest → IsRising place (before ++ rest) → reach_of (before ++ rest) ≤ reach_of rest
+reach_later place [] rest some rising = le_refl (reach_of rest)
 reach_later place (located_token ∷ before) rest some rising =
     let others : 0 < length (before ++ rest) = omega (arith, length-append before rest, some) in
     omega (arith, reach_behind place located_token (before ++ rest) others rising, reach_later located_token.end before rest some rising.1)
@@ -60,21 +55,21 @@ same_others x y xs ys e = cc
 
 -- with as many tokens left, or fewer
 reach_by : (place : ℕ) (before left passed rest : List LocatedToken) → before ++ left ≡ passed ++ rest → length left ≤ length rest → 0 < length left →
-    IsRising place (passed ++ rest) → reach_of rest ≤ end_behind left
+    IsRising place (passed ++ rest) → reach_of rest ≤ reach_of left
 reach_by place before left [] rest is fewer some rising =
-    subst (λ xs. reach_of xs ≤ end_behind left) is (reach_later place before left some (subst (IsRising place) (sym is) rising))
+    subst (λ xs. reach_of xs ≤ reach_of left) is (reach_later place before left some (subst (IsRising place) (sym is) rising))
 reach_by place [] left (located_token ∷ passed) rest is fewer some rising =
     absurd (omega (arith, ap length is, length-append passed rest, fewer))
 reach_by place (x ∷ before) left (located_token ∷ passed) rest is fewer some rising = reach_by located_token.end before left passed rest (same_others x located_token _ _ is) fewer some rising.1
 
 fault_by : (profile : Profile) (bytes : List ℕ) (passed rest : List LocatedToken) (f : Fault) → tokens bytes ≡ passed ++ rest → length f.rest ≤ length rest →
-    IsFault profile (start (tokens bytes)) f → reach_of rest ≤ end_behind f.rest
+    IsFault profile (start (tokens bytes)) f → reach_of rest ≤ reach_of f.rest
 fault_by profile bytes passed rest f is fewer comes =
     let s : State = run comes.steps (start (tokens bytes)) in
     let at : f.rest ≡ s.rest = at_rest profile f s comes.here in
     let behind : IsRest s.rest (tokens bytes) = run_rests comes.steps (start (tokens bytes)) in
     let some : 0 < length s.rest = fault_at_token profile (tokens bytes) comes.steps f (tokens_end bytes) comes.here in
-    subst (λ xs. reach_of rest ≤ end_behind xs) (sym at)
+    subst (λ xs. reach_of rest ≤ reach_of xs) (sym at)
     (reach_by 0 behind.before s.rest passed rest (sym behind.is ∙ is) (subst (λ xs. length xs ≤ length rest) at fewer) some (subst (IsRising 0) is (tokens-rising bytes)))
 
 pub what_was_read_is_needed : WhatWasReadIsNeeded

@@ -157,7 +157,7 @@ pub function_below : (name : List ℕ) (scope : Scope) (k : ℕ) → function_nu
 function_below name scope k e = omega (arith, place_below name (map (λ (f : FunctionNames). f.name) scope.functions) k e, length-map scope.functions (λ (f : FunctionNames). f.name))
 
 -- if there is room for a name that is new
-room : (count : ℕ) (c : Code) (rest : List LocatedToken) → no_room true count c rest ≡ [] → count < 64
+pub room : (count : ℕ) (c : Code) (rest : List LocatedToken) → no_room true count c rest ≡ [] → count < 64
 unfolding most_names
 room count c rest e = below (nat_le 64 count) refl e
   where
@@ -274,7 +274,7 @@ room_if true count c rest clean is = room count c rest clean
 room_if false count c rest clean is = absurd (cc)
 
 -- the number for a function is one of those known after its mention
-number_in : (name : List ℕ) (line : ℕ) (scope : Scope) → is_intrinsic name ≡ false → number_for name scope < length (with_function name line scope).functions
+pub number_in : (name : List ℕ) (line : ℕ) (scope : Scope) → is_intrinsic name ≡ false → number_for name scope < length (with_function name line scope).functions
 number_in name line scope own = at_place (function_number name scope) refl
   where
     at_place : (p : Option ℕ) → function_number name scope ≡ p → number_for name scope < length (with_function name line scope).functions

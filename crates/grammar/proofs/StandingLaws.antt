@@ -1,10 +1,11 @@
 -- What a builder represents, and which actions may follow.
-use Rattle.std.proofs.Common.{◌≡◌, ◌≤◌, List, [], ◌∷◌, ◌++◌, ◌∙◌, refl}
+use Rattle.std.proofs.Common.{◌≡◌, ◌≤◌, List, [], ◌∷◌, ◌++◌, ◌∙◌, refl, sym, subst, append_assoc, append-nil}
 use Rattle.std.specs.Prelude.{Some}
 use Rattle.grammar.specs.Actions.{Action}
-use Rattle.grammar.specs.Building.{Meaning, AppendsAll, MayFollow, StandsOpen}
+use Rattle.grammar.specs.Beginning.{IsBeginning}
+use Rattle.grammar.specs.Building.{Meaning, AppendsAll, MayFollow, MayFollowAll, StandsOpen}
 use Rattle.grammar.specs.Following.{Opened, follow, follow_all, open_count}
-use Rattle.grammar.proofs.Beginnings.{follows_begins}
+use Rattle.grammar.proofs.Beginnings.{begins_with, follows_begins}
 use Rattle.grammar.proofs.FollowingLaws.{follow_append, follow_one}
 
 -- if a builder represents a list that leaves this open, an action may come that may follow what is open
@@ -23,3 +24,24 @@ stands_then before behind acts opened next added s leads = record {
   stood = added s.profile s.acts s.stood;
   opens = follow_append s.acts acts [] opened s.opens ∙ leads;
 }
+
+-- the first of some actions may follow
+pub may_front : (before : Meaning) (xs ys : List Action) → MayFollowAll before (xs ++ ys) → MayFollowAll before xs
+may_front before xs ys may =
+    record { profile = may.profile; acts = may.acts; stood = may.stood; begins = begins_with (may.acts ++ xs) ys (subst IsBeginning (sym (append_assoc may.acts xs ys)) may.begins) }
+
+pub may_first : (before : Meaning) (x : Action) (xs : List Action) → MayFollowAll before (x ∷ xs) → MayFollow before x
+may_first before x xs may =
+    record { profile = may.profile; acts = may.acts; stood = may.stood; begins = begins_with (may.acts ++ x ∷ []) xs (subst IsBeginning (sym (append_assoc may.acts (x ∷ []) xs)) may.begins) }
+
+-- if the first ones were reported, the others may follow
+pub may_then : (before behind : Meaning) (xs ys : List Action) → AppendsAll before behind xs → MayFollowAll before (xs ++ ys) → MayFollowAll behind ys
+may_then before behind xs ys added may =
+    record { profile = may.profile; acts = may.acts ++ xs; stood = added may.profile may.acts may.stood; begins = subst IsBeginning (sym (append_assoc may.acts xs ys)) may.begins }
+
+-- actions reported one after another
+pub appends_both : (before between behind : Meaning) (xs ys : List Action) → AppendsAll before between xs → AppendsAll between behind ys → AppendsAll before behind (xs ++ ys)
+appends_both before between behind xs ys first second p acts s = subst (behind p) (append_assoc acts xs ys) (second p (acts ++ xs) (first p acts s))
+
+pub appends_none : (before : Meaning) → AppendsAll before before []
+appends_none before p acts s = subst (before p) (sym (append-nil acts)) s

@@ -1,5 +1,6 @@
 -- How far a source need be read, and what has been reported to a builder by then.
 use Rattle.std.specs.Prelude.{ℕ, zero, suc, List, [], ◌∷◌, ◌++◌, Bool, true, false, ◌&&◌, not, nat_le, if◌then◌else◌}
+use Rattle.tokens.specs.Reading.{reach_of}
 use Rattle.tokens.specs.Tokens.{tokens}
 use Rattle.tokens.specs.declared.located_tokens.LocatedToken.{LocatedToken}
 use Rattle.grammar.specs.Actions.{Action, function_actions}
@@ -10,12 +11,6 @@ use Rattle.grammar.specs.Grammar.{Item, Make, Define}
 use Rattle.grammar.specs.Profile.{Profile}
 use Rattle.grammar.specs.Scope.{Scope}
 
--- where the token after the next one ends, or the next one if it is the last
-abbrev pub end_behind : List LocatedToken → ℕ
-end_behind [] = 0
-end_behind (located_token ∷ []) = located_token.end
-end_behind (located_token ∷ other ∷ rest) = other.end
-
 -- where the last token ends: at the source's end
 abbrev pub last_end : List LocatedToken → ℕ
 last_end [] = 0
@@ -25,7 +20,7 @@ last_end (located_token ∷ other ∷ rest) = last_end (other ∷ rest)
 -- up to the token after the first fault; if there is none, all of the source
 abbrev pub needed : List LocatedToken → List Fault → ℕ
 needed located_tokens [] = last_end located_tokens
-needed located_tokens (f ∷ faults) = end_behind (first_of f faults).rest
+needed located_tokens (f ∷ faults) = reach_of (first_of f faults).rest
 
 abbrev pub need_tokens : Profile → List LocatedToken → ℕ
 need_tokens profile located_tokens = needed located_tokens (all_faults profile located_tokens)

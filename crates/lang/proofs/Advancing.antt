@@ -15,9 +15,10 @@ use Rattle.parsing.specs.Position.{GoesOn, Place, scope_at, next_at}
 use Rattle.parsing.specs.Growing.{HasGrown}
 use Rattle.parsing.specs.Stopping.{Stop, StopsInside, stop_with}
 use Rattle.grammar.specs.Profile.{Profile}
-use Rattle.parsing.specs.Segment.{Derives, FailsAt, Refused, Takes, IsNearTo}
+use Rattle.parsing.specs.Segment.{Derives, FailsAt, Refused, Takes}
 use Rattle.parsing.proofs.Segments.{refused_map, told_goes, Begins, functions_back, near_told, stops_back, stops_here, told_begins}
 use Rattle.lang.specs.Progress.{IsTold, ReadsOn, StopsReading, StopsTelling}
+use Rattle.tokens.specs.Reading.{IsNearTo}
 
 pub definitions_actions-append : (ds es : List Definition) → definitions_actions (ds ++ es) ≡ definitions_actions ds ++ definitions_actions es
 definitions_actions-append [] es = refl
@@ -117,7 +118,7 @@ pub leave_segment : (used : ℕ) (before : Meaning) (front stack : List Item) (a
 leave_segment used before front stack at allocates more f depths memory = refused_map used _ _ allocates more f (λ d. segment_stops before front stack at d depths) memory
 
 -- the first fault stands at the next token
-pub reading_fails_at_next : (before after : Meaning) (front : List Item) (at : Place) (d : Diagnostic) (used : ℕ) → IsNearTo at used →
+pub reading_fails_at_next : (before after : Meaning) (front : List Item) (at : Place) (d : Diagnostic) (used : ℕ) → IsNearTo at.position.reading used →
     ((tail : List LocatedToken) (profile : Profile) (functions : List Definition) → Fails profile (state front (next_at at ∷ tail) [] (scope_at at) functions) d) →
     StopsReading before after front at (stop_with (refusal.Source d) used)
 reading_fails_at_next before after front at d used near fails located_tokens is profile functions h =

@@ -28,12 +28,13 @@ use Rattle.parsing.specs.Growing.{HasGrown}
 use Rattle.parsing.specs.Position.{GoesOn, Place, Standing, next_at, scope_at, scope_of, tokens_at, with_scope}
 use Rattle.parsing.specs.Stopping.{Stop, Stops, stop_with}
 use Rattle.grammar.specs.Compiled.{diagnostic}
-use Rattle.parsing.specs.Segment.{Derives, DerivesItem, FailsAt, FailsItem, Refused, Takes, IsNearTo}
+use Rattle.parsing.specs.Segment.{Derives, DerivesItem, FailsAt, FailsItem, Refused, Takes}
 use Rattle.parsing.specs.Declarations.{heading_items}
 use Rattle.parsing.proofs.Growing.{grown_behind}
 use Rattle.parsing.proofs.Segments.{Begins, fails_then, goes_begins, halts, joined, refused_map, stay, told_begins, told_goes, near_told, stops_here}
 use Rattle.lang.specs.Progress.{AddsBlock, ReadsOn, ClosesFunction, IsTooMuch, RefusesEnd, StopsReading, at_brace, at_definition, at_source}
 use Rattle.lang.proofs.Advancing.{definitions_actions-append, telling_back, telling_inside, told_alone, told_grown}
+use Rattle.tokens.specs.Reading.{IsNearTo}
 
 abbrev pub definition_items : List Item
 definition_items = AName Defined ∷ Exactly punctuator.OpenRound ∷ Part Parameters ∷ Exactly punctuator.CloseRound ∷ Part ParameterTypes ∷ Part FunctionBlock ∷ []
@@ -190,12 +191,12 @@ block_refused used before second after at now number parameters f allocates h to
     by_fault refusal.Memory grown fails = (fails.0, block_stops before after at now (stop_with refusal.Memory used) h (λ device. absurd (cc)) fails.1)
 
 -- the builder was refused memory
-pub definition_halts : (before after : Meaning) (pending : List Item) (left : List Value) (at now : Place) (used : ℕ) → Derives 0 definition_items pending [] left at now → IsNearTo now used →
+pub definition_halts : (before after : Meaning) (pending : List Item) (left : List Value) (at now : Place) (used : ℕ) → Derives 0 definition_items pending [] left at now → IsNearTo now.position.reading used →
     StopsReading before after at_definition at (stop_with refusal.Memory used)
 definition_halts before after pending left at now used d near located_tokens is profile functions k =
     telling_inside after profile _ (stop_with refusal.Memory used) (λ device. absurd (cc)) (halts 0 definition_items pending [] left at now used d near located_tokens is profile at_source [] functions refl)
 
-too_much_stops : (first second third after : Meaning) (at now brace : Place) (number parameters : ℕ) (d : Diagnostic) (used : ℕ) → IsNearTo brace used → Derives 0 heading_items [] [] [] at now → (b : AddsBlock second third now brace) →
+too_much_stops : (first second third after : Meaning) (at now brace : Place) (number parameters : ℕ) (d : Diagnostic) (used : ℕ) → IsNearTo brace.position.reading used → Derives 0 heading_items [] [] [] at now → (b : AddsBlock second third now brace) →
     AppendsAll first second (Begin number parameters ∷ []) → is_fault (next_at brace).token ≡ false → is_punctuator punctuator.CloseCurly (next_at brace).token ≡ true → IsTooMuch third (next_at brace).line d → StopsReading first after at_definition at (stop_with (refusal.Source d) used)
 too_much_stops first second third after at now brace number parameters d used near h b told sound closed much located_tokens is profile functions k =
     let s : Derives 0 definition_items at_brace [] (ABody b.tree ∷ []) at brace = braced second third at now brace h b in
@@ -209,7 +210,7 @@ too_much_stops first second third after at now brace number parameters d used ne
     rw t.is
     (telling_back after profile _ _ _ s.consumed refl (s.passes t.rest (told_goes brace t.rest t.shows) profile at_source [] functions refl) (record { stops = stop; told = λ device. absurd (cc) }))
 
-pub too_much_refused : (used : ℕ) (first second third after : Meaning) (at now brace : Place) (number parameters : ℕ) (f : ParseFault) (allocates : Bool) → IsNearTo brace used → Derives 0 heading_items [] [] [] at now → AddsBlock second third now brace →
+pub too_much_refused : (used : ℕ) (first second third after : Meaning) (at now brace : Place) (number parameters : ℕ) (f : ParseFault) (allocates : Bool) → IsNearTo brace.position.reading used → Derives 0 heading_items [] [] [] at now → AddsBlock second third now brace →
     AppendsAll first second (Begin number parameters ∷ []) → is_fault (next_at brace).token ≡ false → is_punctuator punctuator.CloseCurly (next_at brace).token ≡ true → RefusesEnd third (next_at brace).line allocates f →
     Refused (StopsReading first after at_definition at) allocates used f
 too_much_refused used first second third after at now brace number parameters f allocates near h b told sound closed =

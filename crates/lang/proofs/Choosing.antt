@@ -1,7 +1,6 @@
 -- Which part of a file begins with the next token.
 use Rattle.std.proofs.Common.{◌≡◌, ℕ, List, [], ◌∷◌, ◌++◌, refl, ◌∙◌, Bool, true, false}
 use Rattle.std.specs.Prelude.{Some, None}
-use Rattle.tokens.specs.Tokens.{is_last}
 use Rattle.tokens.specs.declared.located_tokens.LocatedToken.{LocatedToken}
 use Rattle.tokens.specs.declared.located_tokens.Punctuator.TheVariants as punctuator
 use Rattle.tokens.specs.declared.located_tokens.Token.{Token}
@@ -18,11 +17,12 @@ use Rattle.grammar.proofs.Firsts.{no_part}
 use Rattle.grammar.proofs.Steps.{part}
 use Rattle.parsing.specs.Position.{Place, after_at, next_at, scope_at}
 use Rattle.parsing.specs.Stopping.{stop_with}
-use Rattle.parsing.specs.Segment.{Derives, DerivesItem, FailsAt, FailsItem, Refused, IsNearTo}
+use Rattle.parsing.specs.Segment.{Derives, DerivesItem, FailsAt, FailsItem, Refused}
 use Rattle.parsing.proofs.Parts.{word_is}
-use Rattle.parsing.proofs.Segments.{IsBehind, Leads, refused_map, stand}
+use Rattle.parsing.proofs.Segments.{Leads, refused_map, stand, next_behind}
 use Rattle.lang.specs.Progress.{ReadsOn, StopsReading, at_definition, at_source}
 use Rattle.lang.proofs.Advancing.{advances_then, leave, stops_then, segment_advances, segment_stops, reading_fails_at_next}
+use Rattle.tokens.specs.Reading.{IsNearTo}
 
 -- a symbol that enters no level was replaced
 symbol_leads : (symbol : Symbol) (items : List Item) (located_token : LocatedToken) (tail : List LocatedToken) (at : Place) → is_fault located_token.token ≡ false → choice symbol located_token.token (next_of tail) ≡ Some items → enters symbol located_token.token (next_of tail) ≡ false →
@@ -57,7 +57,7 @@ source_none (token.Punctuator m) after end type name = refl
 source_none (token.Constant value) after end type name = refl
 source_none (token.Fault lexical_error) after end type name = refl
 
-pub source_misfits : (before : Meaning) (at : Place) (used : ℕ) (near : IsNearTo at used) → is_fault (next_at at).token ≡ false → ((next_at at).token ≡ token.End → ⊥) → is_word word.Type (next_at at).token ≡ false → ((name : List ℕ) → (next_at at).token ≡ token.Name name → ⊥) →
+pub source_misfits : (before : Meaning) (at : Place) (used : ℕ) (near : IsNearTo at.position.reading used) → is_fault (next_at at).token ≡ false → ((next_at at).token ≡ token.End → ⊥) → is_word word.Type (next_at at).token ≡ false → ((name : List ℕ) → (next_at at).token ≡ token.Name name → ⊥) →
     StopsReading before before at_source at (stop_with (refusal.Source (diagnostic (next_at at).line (misfit_code (next_at at).token))) used)
 source_misfits before at used near sound end type name =
     reading_fails_at_next before before at_source at _ used near (λ tail profile functions. no_part profile Source [] (next_at at ∷ tail) [] (scope_at at) functions sound (source_none (next_at at).token _ end type name) refl)
@@ -105,9 +105,6 @@ round_is (token.Constant value) is = absurd (cc)
 round_is token.End is = absurd (cc)
 round_is (token.Fault lexical_error) is = absurd (cc)
 
-behind_is : (at : Place) (tail : List LocatedToken) → IsBehind at.position.reading tail → is_last (next_at at).token ≡ false → next_of tail ≡ after_at at
-behind_is at tail b more = rw (b.is more) refl
-
 abbrev pub definition_head : List Item
 definition_head =
     AName Defined ∷ Exactly punctuator.OpenRound ∷ Part Parameters ∷ Exactly punctuator.CloseRound ∷ Part ParameterTypes ∷ Part FunctionBlock ∷ []
@@ -117,7 +114,7 @@ pub head_defined : (before : Meaning) (at : Place) (name : List ℕ) → (next_a
 head_defined before at name same is =
     segment_advances before (Part Head ∷ []) definition_head at_source at at refl
     (stand at 0 (Part Head ∷ []) definition_head [] [] (λ tail b.
-    let next : next_of tail ≡ token.Punctuator punctuator.OpenRound = behind_is at tail b (rw same refl) ∙ round_is (after_at at) is in
+    let next : next_of tail ≡ token.Punctuator punctuator.OpenRound = next_behind at tail b (rw same refl) ∙ round_is (after_at at) is in
     symbol_leads Head definition_head (next_at at) tail at (rw same refl) (rw (same, next) refl) refl))
 
 choose_external : (name : List ℕ) (after : Token) → is_punctuator punctuator.OpenRound after ≡ false → choice Head (token.Name name) after ≡ Some external_items
@@ -134,7 +131,7 @@ pub head_external : (before : Meaning) (at : Place) (name : List ℕ) → (next_
 head_external before at name same other =
     segment_advances before (Part Head ∷ []) external_items at_source at at refl
     (stand at 0 (Part Head ∷ []) external_items [] [] (λ tail b.
-    let next : next_of tail ≡ after_at at = behind_is at tail b (rw same refl) in
+    let next : next_of tail ≡ after_at at = next_behind at tail b (rw same refl) in
     symbol_leads Head external_items (next_at at) tail at (rw same refl) (rw (same, next) (choose_external name (after_at at) other)) refl))
 
 head_none : (t after : Token) → ((name : List ℕ) → t ≡ token.Name name → ⊥) → choice Head t after ≡ None
@@ -145,7 +142,7 @@ head_none (token.Punctuator m) after name = refl
 head_none (token.Constant value) after name = refl
 head_none (token.Fault lexical_error) after name = refl
 
-pub head_misfits : (before : Meaning) (at : Place) (used : ℕ) (near : IsNearTo at used) → is_fault (next_at at).token ≡ false → ((name : List ℕ) → (next_at at).token ≡ token.Name name → ⊥) →
+pub head_misfits : (before : Meaning) (at : Place) (used : ℕ) (near : IsNearTo at.position.reading used) → is_fault (next_at at).token ≡ false → ((name : List ℕ) → (next_at at).token ≡ token.Name name → ⊥) →
     StopsReading before before at_head at (stop_with (refusal.Source (diagnostic (next_at at).line (misfit_code (next_at at).token))) used)
 head_misfits before at used near sound name =
     reading_fails_at_next before before at_head at _ used near (λ tail profile functions. no_part profile Head at_source (next_at at ∷ tail) [] (scope_at at) functions sound (head_none (next_at at).token _ name) refl)

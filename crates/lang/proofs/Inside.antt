@@ -1,7 +1,7 @@
 -- What the reading of a function's block derives, up to its closing brace.
 use Rattle.std.proofs.Common.{◌≡◌, ℕ, ◌+◌, List, [], ◌∷◌, ◌++◌, refl, ap, subst, Bool, true, false, arith, append-nil}
 use Rattle.std.specs.Prelude.{Option, None, nat_le}
-use Rattle.tokens.specs.Reading.{Reading}
+use Rattle.tokens.specs.Reading.{Reading, IsNearTo}
 use Rattle.tokens.specs.declared.located_tokens.LocatedToken.{LocatedToken}
 use Rattle.tokens.specs.declared.located_tokens.Punctuator.TheVariants as punctuator
 use Rattle.tokens.specs.declared.located_tokens.Token.{Token}
@@ -25,7 +25,7 @@ use Rattle.grammar.proofs.Runs.{then}
 use Rattle.grammar.proofs.Steps.{make, punctuator as punctuator_step, part}
 use Rattle.parsing.specs.Position.{GoesOn, Place, next_at, place, scope_at}
 use Rattle.parsing.specs.Stopping.{Stop, stop_with}
-use Rattle.parsing.specs.Segment.{IsNearTo, Derives, FailsAt, GoesPast, StopsAt}
+use Rattle.parsing.specs.Segment.{Derives, FailsAt, GoesPast, StopsAt}
 use Rattle.parsing.proofs.Parts.{punctuator_is}
 use Rattle.parsing.proofs.Segments.{Leads, joined, past, stand, stops, fails_at_next}
 use Rattle.lang.specs.Progress.{AddsBlock, at_brace}
@@ -66,7 +66,7 @@ empty_leads located_token sound known rest = record {
       (append-nil functions) (make profile Empty (inside_items ++ stack) (located_token ∷ rest) values known functions sound refl);
 }
 
-pub brace_misfits : (at : Place) (used : ℕ) (near : IsNearTo at used) → is_fault (next_at at).token ≡ false → is_punctuator punctuator.OpenCurly (next_at at).token ≡ false →
+pub brace_misfits : (at : Place) (used : ℕ) (near : IsNearTo at.position.reading used) → is_fault (next_at at).token ≡ false → is_punctuator punctuator.OpenCurly (next_at at).token ≡ false →
     FailsAt 0 (Part FunctionBlock ∷ []) [] at (stop_with (refusal.Source (diagnostic (next_at at).line (misfit_code (next_at at).token))) used)
 brace_misfits at used near sound other =
     fails_at_next 0 (Part FunctionBlock ∷ []) [] at _ used near (λ tail b profile stack values functions depths.

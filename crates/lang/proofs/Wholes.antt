@@ -2,7 +2,7 @@
 use Rattle.std.proofs.Common.{◌≡◌, ℕ, List, [], ◌∷◌, ◌++◌, refl, sym, ap, ◌∙◌, subst, Bool, true, false, drop, ◌+◌, ◌≤◌, append_assoc, arith}
 use Rattle.std.specs.Option.{option_map}
 use Rattle.std.specs.Prelude.{Option, Some, None, Ok, Err, Result, is_some}
-use Rattle.tokens.specs.Reading.{undecided_reach_of, reach_of}
+use Rattle.tokens.specs.Reading.{undecided_reach_of, reach_of, IsNearTo}
 use Rattle.tokens.specs.Tokens.{is_last, tokens}
 use Rattle.tokens.specs.Window.{Takes as TakesBytes}
 use Rattle.tokens.proofs.ReadingLemmas.{open-to_last, open-within}
@@ -35,7 +35,7 @@ use Rattle.grammar.specs.Finished.{IsFinished, PassesAll}
 use Rattle.grammar.proofs.FileLaws.{finished, undefined, without_main}
 use Rattle.parsing.specs.Position.{GoesOn, Place, next_at, scope_at, tokens_at}
 use Rattle.parsing.specs.Stopping.{NoneBefore, Stop, Stops, stop_with}
-use Rattle.parsing.specs.Segment.{IsNearTo, Refused, StopsFirst, StopsAtFirst, Takes}
+use Rattle.parsing.specs.Segment.{Refused, StopsFirst, StopsAtFirst, Takes}
 use Rattle.parsing.proofs.Segments.{functions_here, near_told, none_back, none_before, stops_here, told_goes}
 use Rattle.lang.specs.Files.{BuildsAhead, FailsBytes, HasBuilt, LeavesUndecided, IsFile, IsNew, IsRefused, StopsTaking, TakesNoMore, TakesUpTo}
 use Rattle.lang.specs.Progress.{ADefinition, AMain, IsComplete, IsTold, Lacks, ReadsOn, StopsReading, StopsTelling, at_source}
@@ -205,7 +205,7 @@ first_taking before told to_come refusal.Device stops = λ bytes shows profile s
 first_taking before told to_come refusal.Memory stops = let never : false ≡ true = stops.refused.0 in absurd (cc)
 
 -- a file that was read to its end
-pub whole_takes : (used : ℕ) (before after : Meaning) (told to_come : Option (List ℕ)) (at there : Place) → IsWhole before after told at there → IsNearTo there used → HasTaken used told to_come →
+pub whole_takes : (used : ℕ) (before after : Meaning) (told to_come : Option (List ℕ)) (at there : Place) → IsWhole before after told at there → IsNearTo there.position.reading used → HasTaken used told to_come →
     TakesNoMore before told to_come 4096
 whole_takes used before after told to_come at there w near taken bytes shows profile h =
     let t : Takes w.reads.consumed (tokens bytes) there = w.reads.told (tokens bytes) (w.tells ∙ ap (option_map tokens) shows) in
@@ -218,7 +218,7 @@ whole_takes used before after told to_come at there w near taken bytes shows pro
     (none_back profile _ (state at_source t.rest [] (scope_at there) w.reads.more) t.rest reached (none_before profile (state at_source t.rest [] (scope_at there) w.reads.more))) in
     takes_up_to profile bytes to_come used 4096 w.reads.consumed t.rest t.is none (taken.took bytes shows) taken.limited (near_told there t.rest used t.shows near)
 
-pub lacks_taking : (used : ℕ) (before after : Meaning) (told to_come : Option (List ℕ)) (at there : Place) (f : ParseFault) → IsWhole before after told at there → Lacks there.position f → IsNearTo there used → HasTaken used told to_come →
+pub lacks_taking : (used : ℕ) (before after : Meaning) (told to_come : Option (List ℕ)) (at there : Place) (f : ParseFault) → IsWhole before after told at there → Lacks there.position f → IsNearTo there.position.reading used → HasTaken used told to_come →
     StopsTaking before told to_come f
 lacks_taking used before after told to_come at there f w (ADefinition line is same) near taken = rw same (whole_takes used before after told to_come at there w near taken)
 lacks_taking used before after told to_come at there f w (AMain defined none same) near taken = rw same (whole_takes used before after told to_come at there w near taken)

@@ -1,7 +1,7 @@
 -- What it takes to match one item, and what happens where the next token doesn't fit.
 use Rattle.std.proofs.Common.{◌≡◌, ℕ, List, [], ◌∷◌, refl, true, false}
 use Rattle.std.specs.Prelude.{Option, Some}
-use Rattle.tokens.specs.Reading.{Reading}
+use Rattle.tokens.specs.Reading.{Reading, IsNearTo}
 use Rattle.tokens.specs.declared.located_tokens.LocatedToken.{LocatedToken}
 use Rattle.tokens.specs.declared.located_tokens.Punctuator.{Punctuator}
 use Rattle.tokens.specs.declared.located_tokens.Token.TheVariants as token
@@ -22,7 +22,7 @@ use Rattle.parsing.specs.declared.roles.Declared.TheVariants as kind
 use Rattle.parsing.specs.Position.{Place, place, next_at, scope_at}
 use Rattle.parsing.specs.Roles.{role_of}
 use Rattle.parsing.specs.Stopping.{Stop, stop_with}
-use Rattle.parsing.specs.Segment.{IsNearTo, DerivesItem, FailsItem, GoesPast, IsNoName, Refused, StopsAt}
+use Rattle.parsing.specs.Segment.{DerivesItem, FailsItem, GoesPast, IsNoName, Refused, StopsAt}
 use Rattle.parsing.proofs.Segments.{Leads, fails_at_next, past, stops}
 
 punctuator_leads : (located_token : LocatedToken) (m : Punctuator) (depth : ℕ) (known : Scope) (rest : List LocatedToken) → is_fault located_token.token ≡ false → is_punctuator m located_token.token ≡ true →
@@ -39,7 +39,7 @@ pub punctuator_stops : (reading : Reading) (known : Scope) (more : Option (List 
 punctuator_stops reading known more m sound fits d stop depth =
     stops reading known known more d depth (Exactly m ∷ []) [] [] [] (λ rest b. punctuator_leads reading.next m depth known rest sound fits) stop
 
-pub punctuator_misfits : {n : ℕ} (at : Place) (m : Punctuator) → IsNearTo at n → is_fault (next_at at).token ≡ false → is_punctuator m (next_at at).token ≡ false →
+pub punctuator_misfits : {n : ℕ} (at : Place) (m : Punctuator) → IsNearTo at.position.reading n → is_fault (next_at at).token ≡ false → is_punctuator m (next_at at).token ≡ false →
     FailsItem (Exactly m) at (stop_with (refusal.Source (diagnostic (next_at at).line (misfit_code (next_at at).token))) n)
 punctuator_misfits at m near sound misses depth =
     fails_at_next depth (Exactly m ∷ []) [] at _ _ near (λ tail b profile stack values functions depths. no_punctuator profile m stack (next_at at ∷ tail) values (scope_at at) functions sound misses)
@@ -58,7 +58,7 @@ pub word_stops : (reading : Reading) (known : Scope) (more : Option (List ℕ)) 
 word_stops reading known more w sound fits d stop depth =
     stops reading known known more d depth (AWord w ∷ []) [] [] [] (λ rest b. word_leads reading.next w depth known rest sound fits) stop
 
-pub word_misfits : {n : ℕ} (at : Place) (w : Word) → IsNearTo at n → is_fault (next_at at).token ≡ false → is_word w (next_at at).token ≡ false →
+pub word_misfits : {n : ℕ} (at : Place) (w : Word) → IsNearTo at.position.reading n → is_fault (next_at at).token ≡ false → is_word w (next_at at).token ≡ false →
     FailsItem (AWord w) at (stop_with (refusal.Source (diagnostic (next_at at).line (misfit_code (next_at at).token))) n)
 word_misfits at w near sound misses depth =
     fails_at_next depth (AWord w ∷ []) [] at _ _ near (λ tail b profile stack values functions depths. no_word profile w stack (next_at at ∷ tail) values (scope_at at) functions sound misses)
@@ -88,13 +88,13 @@ name_stops reading known learnt more role bytes is knows d stop depth =
     stops reading known learnt more d depth (AName role ∷ []) [] [] (of_name role bytes known) (λ rest b. name_leads reading.next role bytes depth known learnt rest is knows) stop
 
 -- the name has a fault in its role
-pub name_refused : {n : ℕ} (at : Place) (role : Role) (bytes : List ℕ) (c : Code) → IsNearTo at n → (next_at at).token ≡ token.Name bytes → RefusesName role bytes (scope_at at) c →
+pub name_refused : {n : ℕ} (at : Place) (role : Role) (bytes : List ℕ) (c : Code) → IsNearTo at.position.reading n → (next_at at).token ≡ token.Name bytes → RefusesName role bytes (scope_at at) c →
     FailsItem (AName role) at (stop_with (refusal.Source (diagnostic (next_at at).line c)) n)
 name_refused at role bytes c near is fails depth =
     fails_at_next depth (AName role ∷ []) [] at _ _ near (λ tail b profile stack values functions depths. name_fails profile role bytes c stack (next_at at) tail values (scope_at at) functions (rw is refl) (rw is refl) (fails (next_at at ∷ tail)))
 
 -- there is no name
-pub name_misfits : (n : ℕ) (at : Place) (role : Role) (f : ParseFault) → IsNearTo at n → IsNoName (next_at at) f → Refused (FailsItem (AName role) at) false n f
+pub name_misfits : (n : ℕ) (at : Place) (role : Role) (f : ParseFault) → IsNearTo at.position.reading n → IsNoName (next_at at) f → Refused (FailsItem (AName role) at) false n f
 name_misfits n at role f near none = rw none.is (fails)
   where
     fails : FailsItem (AName role) at (stop_with (refusal.Source (diagnostic (next_at at).line (misfit_code (next_at at).token))) n)

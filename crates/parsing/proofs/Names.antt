@@ -1,43 +1,31 @@
 -- What a name in its role leaves of the names known: the limits hold, and the function that is being defined stays.
-use Rattle.std.proofs.Common.{◌≡◌, ℕ, ◌+◌, ◌<◌, ◌≤◌, List, [], ◌∷◌, ◌++◌, refl, sym, ◌∙◌, Bool, true, false, arith, length, map, Option, Some, None, le_refl, le_trans}
-use Rattle.std.proofs.lemmas.Bool.Decides.{nat_tests}
-use Rattle.std.proofs.lemmas.List.{length-map, length-append, length-set}
-use Rattle.std.proofs.lemmas.List.Quantifiers.{position-Some}
-use Rattle.std.specs.Str.{bytes_eq}
-use Rattle.std.specs.Prelude.{nat_le, if◌then◌else◌}
+use Rattle.std.proofs.Common.{◌≡◌, ℕ, ◌+◌, ◌<◌, ◌≤◌, List, [], ◌∷◌, ◌++◌, refl, sym, ◌∙◌, Bool, true, false, arith, length, le_refl, le_trans}
+use Rattle.std.proofs.lemmas.List.{length-append, length-set}
+use Rattle.std.specs.Prelude.{if◌then◌else◌}
 use Rattle.tokens.specs.declared.located_tokens.LocatedToken.{LocatedToken}
 use Rattle.grammar.specs.declared.diagnostics.Code.{Code}
 use Rattle.grammar.specs.declared.diagnostics.Code.TheVariants as code
-use Rattle.grammar.specs.Faults.{Fault, fault, no_room, only_if, most_names}
+use Rattle.grammar.specs.Faults.{Fault, no_room}
 use Rattle.grammar.specs.Grammar.{Role, Defined, External, Parameter, Typed, Local, Called, Mentioned}
 use Rattle.grammar.specs.Intrinsics.{is_intrinsic}
 use Rattle.grammar.specs.Naming.{Knows}
-use Rattle.grammar.specs.Pools.{FunctionNames}
-use Rattle.grammar.specs.Scope.{Scope, end_definition, function_number, has_begun, is_external_new, is_function_new, is_local_new, is_variable_new, no_names, number_for, only_named, with_external, with_function, with_new_function, with_parameter, with_variable}
+use Rattle.grammar.specs.Scope.{Scope, end_definition, has_begun, is_external_new, is_function_new, is_local_new, is_variable_new, no_names, number_for, only_named, with_external, with_new_function, with_parameter, with_variable}
 use Rattle.parsing.specs.declared.roles.Declared.{Declared}
 use Rattle.parsing.specs.declared.roles.Declared.TheVariants as kind
 use Rattle.parsing.specs.Defining.{IsWithin, StaysAt, StaysIn, StaysInBody}
 use Rattle.parsing.specs.Position.{Position}
 use Rattle.parsing.specs.Roles.{role_of}
 use Rattle.parsing.specs.Segment.{BeginsDefinition}
+use Rattle.grammar.proofs.Soundness.{number_in, room}
 
 longer : {A : Type 0} (xs : List A) (x : A) → length (xs ++ x ∷ []) ≡ length xs + 1
 longer xs x = length-append xs (x ∷ [])
-
--- a new name that has no fault found room
-found_room : (n : ℕ) (c : Code) (rest : List LocatedToken) → no_room true n c rest ≡ [] → n < 64
-unfolding most_names
-found_room n c rest clean = by (nat_le 64 n) refl clean
-  where
-    by : (b : Bool) → nat_le 64 n ≡ b → only_if b (fault rest c ∷ []) ≡ [] → n < 64
-    by true e h = absurd (cc)
-    by false e h = grind (arith, nat_tests)
 
 with_variable_within : (new : Bool) (name : List ℕ) (scope : Scope) (c : Code) (rest : List LocatedToken) → no_room new (length scope.current.variables) c rest ≡ [] →
     IsWithin scope → IsWithin (if new then with_variable name scope else scope)
 with_variable_within false name scope c rest clean w = w
 with_variable_within true name scope c rest clean w =
-    let small : length scope.current.variables < 64 = found_room _ c rest clean in
+    let small : length scope.current.variables < 64 = room _ c rest clean in
     let more : length (scope.current.variables ++ name ∷ []) ≡ length scope.current.variables + 1 = longer _ name in
     record { functions = w.functions; parameters = omega (arith, more, w.parameters); variables = omega (arith, more, small) }
 
@@ -46,7 +34,7 @@ with_parameter_within : (new : Bool) (name : List ℕ) (scope : Scope) (rest : L
     IsWithin scope → IsWithin (if new then with_parameter name scope else scope)
 with_parameter_within false name scope rest d clean w = w
 with_parameter_within true name scope rest d clean w =
-    let small : length scope.current.variables < 64 = found_room _ code.TooManyVariables rest clean in
+    let small : length scope.current.variables < 64 = room _ code.TooManyVariables rest clean in
     let more : length (scope.current.variables ++ name ∷ []) ≡ length scope.current.variables + 1 = longer _ name in
     record { functions = w.functions; parameters = omega (arith, more, w.parameters); variables = omega (arith, more, small) }
 
@@ -58,7 +46,7 @@ functions_within : (new : Bool) (name : List ℕ) (line : ℕ) (scope : Scope) (
     IsWithin scope → IsWithin (if new then with_new_function name line scope else scope)
 functions_within false name line scope c rest clean w = w
 functions_within true name line scope c rest clean w =
-    let small : length scope.functions < 64 = found_room _ c rest clean in
+    let small : length scope.functions < 64 = room _ c rest clean in
     let more : length (scope.functions ++ only_named name ∷ []) ≡ length scope.functions + 1 = longer _ (only_named name) in
     record { functions = omega (arith, more, small); parameters = w.parameters; variables = w.variables }
 
@@ -71,21 +59,6 @@ first : (own begun : Bool) (d e : Fault) (faults : List Fault) → (if own then 
 first true begun d e faults h = absurd (cc)
 first false true d e faults h = absurd (cc)
 first false false d e faults h = record { other = refl; clean = h }
-
--- Where a name stands among names.
-
-number_below : (name : List ℕ) (scope : Scope) (n : ℕ) → function_number name scope ≡ Some n → n < length scope.functions
-number_below name scope n is =
-    let below : n < length (map (λ (f : FunctionNames). f.name) scope.functions) = (position-Some (bytes_eq name) (map (λ (f : FunctionNames). f.name) scope.functions) n [] is).0 in
-    omega (arith, below, length-map scope.functions (λ (f : FunctionNames). f.name))
-
--- a function that was mentioned has its number
-mentioned : (name : List ℕ) (line : ℕ) (scope : Scope) → is_intrinsic name ≡ false → number_for name scope < length (with_function name line scope).functions
-mentioned name line scope other = by (function_number name scope) refl
-  where
-    by : (number : Option ℕ) → function_number name scope ≡ number → number_for name scope < length (with_function name line scope).functions
-    by None e = rw (other, e) (rw (longer scope.functions (only_named name)) (omega arith))
-    by (Some n) e = rw (other, e) (number_below name scope n e)
 
 -- the definition of a function that has no fault begins
 begun_within : (own begun new : Bool) (name : List ℕ) (line : ℕ) (scope : Scope) (c : Code) (rest : List LocatedToken) (d e : Fault) →
@@ -184,7 +157,7 @@ begins number name line old new learnt k same is few =
     record {
       is = rw (same, k.behind) (sym is);
       few = few;
-      mentioned = rw (same, k.behind, is) (mentioned name line old.scope own);
+      mentioned = rw (same, k.behind, is) (number_in name line old.scope own);
       within = λ w. rw same (within Defined name line old.scope learnt k w);
     }
 

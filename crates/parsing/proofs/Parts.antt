@@ -24,8 +24,9 @@ use Rattle.grammar.proofs.Runs.{then}
 use Rattle.grammar.proofs.Steps.{make, punctuator, part, close, word}
 use Rattle.parsing.specs.Position.{Place, next_at, scope_at}
 use Rattle.parsing.specs.Stopping.{Stop, stop_with}
-use Rattle.parsing.specs.Segment.{Derives, FailsAt, GoesPast, IsNearTo, StopsAt}
+use Rattle.parsing.specs.Segment.{Derives, FailsAt, GoesPast, StopsAt}
 use Rattle.parsing.proofs.Segments.{Leads, fails_at_next, past, stand, stops}
+use Rattle.tokens.specs.Reading.{IsNearTo}
 
 -- Which token it is.
 
@@ -137,7 +138,7 @@ punctuator_stops at d depth symbol m items trees sound chosen fits free stop =
 
 -- A level beyond the last one.
 
-pub word_too_deep : (at : Place) (n : ℕ) (near : IsNearTo at n) (depth : ℕ) (symbol : Symbol) (w : Word) (items : List Item) (trees : List Value) → is_fault (next_at at).token ≡ false →
+pub word_too_deep : (at : Place) (n : ℕ) (near : IsNearTo at.position.reading n) (depth : ℕ) (symbol : Symbol) (w : Word) (items : List Item) (trees : List Value) → is_fault (next_at at).token ≡ false →
     Chooses symbol (next_at at).token (AWord w ∷ items) → is_word w (next_at at).token ≡ true → ((after : Token) → enters symbol (next_at at).token after ≡ true) → 64 ≤ depth →
     FailsAt depth (Part symbol ∷ []) trees at (stop_with (refusal.Source (diagnostic (next_at at).line code.NestedTooDeeply)) n)
 word_too_deep at n near depth symbol w items trees sound chosen fits opened deep =
@@ -145,7 +146,7 @@ word_too_deep at n near depth symbol w items trees sound chosen fits opened deep
     too_deep_word profile symbol w items stack (next_at at) tail _ (scope_at at) functions sound (chosen (next_of tail)) fits
     (beyond (enters symbol (next_at at).token (next_of tail)) (levels stack) (next_at at ∷ tail) (opened (next_of tail)) (rw depths deep)))
 
-pub punctuator_too_deep : (at : Place) (n : ℕ) (near : IsNearTo at n) (depth : ℕ) (symbol : Symbol) (m : Punctuator) (items : List Item) (trees : List Value) → is_fault (next_at at).token ≡ false →
+pub punctuator_too_deep : (at : Place) (n : ℕ) (near : IsNearTo at.position.reading n) (depth : ℕ) (symbol : Symbol) (m : Punctuator) (items : List Item) (trees : List Value) → is_fault (next_at at).token ≡ false →
     Chooses symbol (next_at at).token (Exactly m ∷ items) → is_punctuator m (next_at at).token ≡ true → ((after : Token) → enters symbol (next_at at).token after ≡ true) → 64 ≤ depth →
     FailsAt depth (Part symbol ∷ []) trees at (stop_with (refusal.Source (diagnostic (next_at at).line code.NestedTooDeeply)) n)
 punctuator_too_deep at n near depth symbol m items trees sound chosen fits opened deep =

@@ -2,7 +2,7 @@
 use Rattle.std.proofs.Common.{◌≡◌, ℕ, ◌+◌, ◌≤◌, drop, length, List, [], ◌∷◌, ◌++◌, refl, sym, ap, ◌∙◌, subst, Bool, true, false, append_assoc, arith}
 use Rattle.std.specs.Prelude.{Option, Some, None, cond}
 use Rattle.std.specs.Option.{option_map}
-use Rattle.tokens.specs.Reading.{IsNear, Reading, reach, undecided_reach_of, reach_of, shown, taken}
+use Rattle.tokens.specs.Reading.{IsNear, Reading, reach, undecided_reach_of, reach_of, shown, taken, IsNearTo}
 use Rattle.tokens.specs.Tokens.{is_last, followed_by, tokens}
 use Rattle.tokens.specs.declared.located_tokens.LocatedToken.{LocatedToken}
 use Rattle.tokens.specs.declared.located_tokens.Token.{Token}
@@ -20,9 +20,9 @@ use Rattle.grammar.proofs.Runs.{then, back, here, later, run-add}
 use Rattle.grammar.proofs.Firsts.{at_fault, at_rest, run_keeps}
 use Rattle.tokens.proofs.ReadingLemmas.{open-within}
 use Rattle.parsing.proofs.StrictEnds.{reach_limited}
-use Rattle.parsing.specs.Position.{Position, Place, place, GoesOn, tokens_at, next_at, scope_at}
+use Rattle.parsing.specs.Position.{Position, Place, place, GoesOn, tokens_at, next_at, after_at, scope_at}
 use Rattle.parsing.specs.Stopping.{IfSource, NoneBefore, Stop, Stops, StopsInside, most_taken, stop_with}
-use Rattle.parsing.specs.Segment.{Derives, FailsAt, FailsItem, GoesPast, HasLexicalError, IsNearTo, Refused, StopsAt, StopsAtFirst, Takes}
+use Rattle.parsing.specs.Segment.{Derives, FailsAt, FailsItem, GoesPast, HasLexicalError, Refused, StopsAt, StopsAtFirst, Takes}
 
 -- The tokens at a place.
 
@@ -36,6 +36,9 @@ pub record Begins (r : Reading) (located_tokens : List LocatedToken) : Type 0 wh
   pub tail : List LocatedToken
   pub is : located_tokens ≡ r.next ∷ tail
   pub behind : IsBehind r tail
+
+pub next_behind : (at : Place) (tail : List LocatedToken) → IsBehind at.position.reading tail → is_last (next_at at).token ≡ false → next_of tail ≡ after_at at
+next_behind at tail b more = ap next_of (b.is more)
 
 -- tokens, if there are any behind this one
 abbrev until_last : Token → List LocatedToken → List LocatedToken
@@ -214,11 +217,11 @@ reach_told at located_tokens is =
     let g : GoesOn at located_tokens = told_goes at located_tokens is in
     sym (reach_told_at (next_at at) at.position.reading.after g.behind located_tokens (is_last (next_at at).token) refl g.is)
 
-pub near_told : (at : Place) (located_tokens : List LocatedToken) (used : ℕ) → tokens_at at ≡ Some located_tokens → IsNearTo at used → used ≤ reach_of located_tokens + 4096
+pub near_told : (at : Place) (located_tokens : List LocatedToken) (used : ℕ) → tokens_at at ≡ Some located_tokens → IsNearTo at.position.reading used → used ≤ reach_of located_tokens + 4096
 near_told at located_tokens used is near = subst (λ (k : ℕ). used ≤ k + 4096) (reach_told at located_tokens is) near
 
 -- the first fault stands at the next token
-pub fails_at_next : (depth : ℕ) (front : List Item) (taken : List Value) (at : Place) (d : Diagnostic) (n : ℕ) → IsNearTo at n →
+pub fails_at_next : (depth : ℕ) (front : List Item) (taken : List Value) (at : Place) (d : Diagnostic) (n : ℕ) → IsNearTo at.position.reading n →
     ((tail : List LocatedToken) → IsBehind at.position.reading tail → (profile : Profile) (stack : List Item) (values : List Value) (functions : List Definition) → levels stack ≡ depth →
     Fails profile (state (front ++ stack) (next_at at ∷ tail) (taken ++ values) (scope_at at) functions) d) →
     FailsAt depth front taken at (stop_with (refusal.Source d) n)
@@ -306,12 +309,12 @@ fails_behind depth inner front mid below taken between under at now d a opens fa
 -- A builder was refused memory.
 
 -- at this place
-pub halts_here : (depth : ℕ) (front : List Item) (taken : List Value) (at : Place) (n : ℕ) → IsNearTo at n → FailsAt depth front taken at (stop_with refusal.Memory n)
+pub halts_here : (depth : ℕ) (front : List Item) (taken : List Value) (at : Place) (n : ℕ) → IsNearTo at.position.reading n → FailsAt depth front taken at (stop_with refusal.Memory n)
 halts_here depth front taken at n near located_tokens is profile stack values functions depths =
     inside_here profile (state (front ++ stack) located_tokens (taken ++ values) (scope_at at) functions) (stop_with refusal.Memory n) tt (near_told at located_tokens n is near)
 
 -- behind a segment
-pub halts : (depth : ℕ) (front mid : List Item) (taken between : List Value) (at now : Place) (n : ℕ) → Derives depth front mid taken between at now → IsNearTo now n →
+pub halts : (depth : ℕ) (front mid : List Item) (taken between : List Value) (at now : Place) (n : ℕ) → Derives depth front mid taken between at now → IsNearTo now.position.reading n →
     FailsAt depth front taken at (stop_with refusal.Memory n)
 halts depth front mid taken between at now n d near = fails_then depth front mid taken between at now (stop_with refusal.Memory n) d (halts_here depth mid between now n near)
 

@@ -3,9 +3,7 @@ use Rattle.std.specs.Prelude.{ℕ, ◌+◌, ◌≡◌, ◌<◌, ◌≤◌, List,
 use Rattle.std.specs.Prelude.{Option, Some, None, Result, Ok, Err}
 use Rattle.std.specs.Option.{option_map}
 use Rattle.tokens.specs.Limits.{most_bytes}
-use Rattle.tokens.specs.Reading.{reach}
 use Rattle.tokens.specs.Tokens.{is_last, tokens}
-use Rattle.tokens.specs.declared.limits.TheConstants.{WINDOW}
 use Rattle.tokens.specs.declared.located_tokens.LocatedToken.{LocatedToken}
 use Rattle.grammar.specs.declared.diagnostics.Diagnostic.{Diagnostic}
 use Rattle.grammar.specs.declared.diagnostics.ParseFault.{ParseFault}
@@ -82,10 +80,6 @@ pub record StopsFirst (told : Option (List LocatedToken)) (stop : Stop) : Type 0
       × (d ≡ diagnostic (line_of located_tokens) (misfit_code (next_of located_tokens))))
   pub taken : (located_tokens : List LocatedToken) → told ≡ Some located_tokens
       → stop.taken ≤ most_taken stop.fault located_tokens
-
--- no more bytes were taken than a window behind the two tokens that are held
-abbrev pub IsNearTo : Place → ℕ → Type 0
-IsNearTo here taken = taken ≤ reach here.position.reading + WINDOW
 
 -- the token is no name, and is refused for that
 pub record IsNoName (next : LocatedToken) (fault : ParseFault) : Type 0 where

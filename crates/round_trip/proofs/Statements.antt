@@ -1,5 +1,5 @@
 -- Each statement, as it is spelled, is taken.
-use Rattle.std.proofs.Common.{◌≡◌, pos, List, [], ◌∷◌, ◌++◌, refl, sym, ap, false, append_assoc}
+use Rattle.std.proofs.Common.{◌≡◌, pos, List, [], ◌∷◌, ◌++◌, refl, sym, false, append_assoc}
 use Rattle.tokens.specs.declared.located_tokens.Punctuator.TheVariants as punctuator
 use Rattle.tokens.specs.declared.located_tokens.Token.{Token}
 use Rattle.tokens.specs.declared.located_tokens.Token.TheVariants as token
@@ -17,22 +17,7 @@ use Rattle.round_trip.proofs.Leading.{Leads, then, at, first, second, part, make
 use Rattle.round_trip.proofs.Levels.{Round, Semicolon}
 use Rattle.round_trip.proofs.Expressions.{taken}
 use Rattle.round_trip.proofs.Beginnings.{BeginsExpression, BeginsStatement, expression_first, statement_first, Follows, follows}
-
-join_done : (b : Body) → join b tree.Done ≡ b
-join_done tree.Done = refl
-join_done (tree.ExpressionStatement e rest) = ap (tree.ExpressionStatement e) (join_done rest)
-join_done (tree.IfStatement c s rest) = ap (tree.IfStatement c s) (join_done rest)
-join_done (tree.IfElseStatement c s t rest) = ap (tree.IfElseStatement c s t) (join_done rest)
-join_done (tree.While c s rest) = ap (tree.While c s) (join_done rest)
-join_done (tree.Return e rest) = ap (tree.Return e) (join_done rest)
-
-join_join : (a b c : Body) → join (join a b) c ≡ join a (join b c)
-join_join tree.Done b c = refl
-join_join (tree.ExpressionStatement e rest) b c = ap (tree.ExpressionStatement e) (join_join rest b c)
-join_join (tree.IfStatement d s rest) b c = ap (tree.IfStatement d s) (join_join rest b c)
-join_join (tree.IfElseStatement d s t rest) b c = ap (tree.IfElseStatement d s t) (join_join rest b c)
-join_join (tree.While d s rest) b c = ap (tree.While d s) (join_join rest b c)
-join_join (tree.Return e rest) b c = ap (tree.Return e) (join_join rest b c)
+use Rattle.grammar.proofs.Joins.{join_done, join_assoc}
 
 -- a statement is added to those before it
 abbrev pub IsAdded : Statement → Type 0
@@ -186,7 +171,7 @@ one_more s more added others rest stack before values scope functions =
     let inner : List Token = spell_statements more ++ token.Punctuator punctuator.CloseCurly ∷ rest in
     let tokens : List Token = spell_statement s ++ inner in
     let b : BeginsStatement (first tokens) = statement_first s inner in
-    rw (append_assoc (spell_statement s) (spell_statements more) (token.Punctuator punctuator.CloseCurly ∷ rest), sym (join_join before (body_of s scope) (bodies_of more (behind_statement s scope))))
+    rw (append_assoc (spell_statement s) (spell_statements more) (token.Punctuator punctuator.CloseCurly ∷ rest), sym (join_assoc before (body_of s scope) (bodies_of more (behind_statement s scope))))
     (then _ _ _ (part grammar.Statements (Part grammar.Statement ∷ Part grammar.Statements ∷ []) stack tokens (ABody before ∷ values) scope functions b.sound (b.one_more (second tokens)))
     (then _ _ _ (added inner (follows more rest) (Part grammar.Statements ∷ stack) before values scope functions)
     (others rest stack (join before (body_of s scope)) values (behind_statement s scope) functions)))

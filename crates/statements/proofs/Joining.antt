@@ -5,22 +5,6 @@ use Rattle.grammar.specs.Nesting.{body_nesting}
 use Rattle.grammar.specs.Resolved.{InBody}
 use Rattle.grammar.specs.Tree.{ExpressionStatement, Body, IfElseStatement, Done, Return, IfStatement, While, join}
 
-pub join-done : (b : Body) → join b Done ≡ b
-join-done Done = refl
-join-done (ExpressionStatement e rest) = ap (λ (r : Body). ExpressionStatement e r) (join-done rest)
-join-done (IfStatement c s rest) = ap (λ (r : Body). IfStatement c s r) (join-done rest)
-join-done (IfElseStatement c s t rest) = ap (λ (r : Body). IfElseStatement c s t r) (join-done rest)
-join-done (While c s rest) = ap (λ (r : Body). While c s r) (join-done rest)
-join-done (Return e rest) = ap (λ (r : Body). Return e r) (join-done rest)
-
-pub join_assoc : (a b c : Body) → join (join a b) c ≡ join a (join b c)
-join_assoc Done b c = refl
-join_assoc (ExpressionStatement e rest) b c = ap (λ (r : Body). ExpressionStatement e r) (join_assoc rest b c)
-join_assoc (IfStatement x s rest) b c = ap (λ (r : Body). IfStatement x s r) (join_assoc rest b c)
-join_assoc (IfElseStatement x s t rest) b c = ap (λ (r : Body). IfElseStatement x s t r) (join_assoc rest b c)
-join_assoc (While x s rest) b c = ap (λ (r : Body). While x s r) (join_assoc rest b c)
-join_assoc (Return e rest) b c = ap (λ (r : Body). Return e r) (join_assoc rest b c)
-
 deeper : (xs : List Action) (a : Action) (ys zs tail : List Action) → ys ++ zs ≡ tail → (xs ++ a ∷ ys) ++ zs ≡ xs ++ a ∷ tail
 deeper xs a ys zs tail e = append_assoc xs (a ∷ ys) zs ∙ ap (λ (ts : List Action). xs ++ a ∷ ts) e
 

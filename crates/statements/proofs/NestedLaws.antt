@@ -17,18 +17,19 @@ use Rattle.grammar.specs.Tree.{Body, IfElseStatement, Done, Expr, IfStatement, W
 use Rattle.parsing.specs.Position.{Place, next_at}
 use Rattle.parsing.specs.Room.{room}
 use Rattle.parsing.specs.Stopping.{Stop, stop_with}
-use Rattle.parsing.specs.Segment.{IsNearTo, Derives, DerivesItem, FailsAt, FailsItem, GoesPast, StopsAt}
+use Rattle.parsing.specs.Segment.{Derives, DerivesItem, FailsAt, FailsItem, GoesPast, StopsAt}
 use Rattle.parsing.proofs.Segments.{fails_behind, joined, stay}
 use Rattle.statements.specs.Branches.{AddsElse, FailsElse, IsElseNumbered, before_else, decided, else_actions, else_nesting}
 use Rattle.expressions.specs.Expressions.{AddsExpr}
 use Rattle.statements.specs.Forms.{in_brackets}
 use Rattle.statements.specs.Statements.{AddsBody, FailsBody}
 use Rattle.statements.proofs.Forms.{BeginsBlock, begins_block, behind_if, behind_while, else_chosen, end_chosen, if_chosen, if_enters, in_braces, more_chosen, no_else_chosen, while_chosen, while_enters}
-use Rattle.statements.proofs.Joining.{actions_join, join-done, join_assoc, join_narrow, join_numbered}
+use Rattle.statements.proofs.Joining.{actions_join, join_narrow, join_numbered}
 use Rattle.parsing.proofs.Parts.{free_below, free_of, make_stands, punctuator_past, punctuator_stops, punctuator_too_deep, part_stands, close_stands, word_past, word_stops, word_too_deep}
-use Rattle.expressions.proofs.TellingLaws.{appends_then}
 use Rattle.statements.proofs.Rules.{choose_makes, decide_makes, empty_makes, repeat_makes}
-use Rattle.statements.proofs.SimpleLaws.{nothing_told}
+use Rattle.grammar.proofs.StandingLaws.{appends_both, appends_none}
+use Rattle.grammar.proofs.Joins.{join_done, join_assoc}
+use Rattle.tokens.specs.Reading.{IsNearTo}
 
 -- a level is open below these items
 deeper : (depth : ℕ) (stack : List Item) → levels stack ≡ depth → levels stack + 1 ≡ depth + 1
@@ -51,7 +52,7 @@ block_fails at depth b sound is d fails =
     fails_behind depth depth (Part Statement ∷ []) (Part Block ∷ []) [] (ABody b ∷ []) (ABody b ∷ []) [] at at d
     (part_stands at depth Statement (Part Block ∷ []) (ABody b ∷ []) sound begins.statement (free_of depth Statement (next_at at) begins.shallow)) (λ stack same. same) fails
 
-pub block_too_deep : (at : Place) (used : ℕ) (near : IsNearTo at used) (depth : ℕ) → is_fault (next_at at).token ≡ false → is_punctuator punctuator.OpenCurly (next_at at).token ≡ true → 64 ≤ depth →
+pub block_too_deep : (at : Place) (used : ℕ) (near : IsNearTo at.position.reading used) (depth : ℕ) → is_fault (next_at at).token ≡ false → is_punctuator punctuator.OpenCurly (next_at at).token ≡ true → 64 ≤ depth →
     FailsBody depth (Part Statement ∷ []) at (stop_with (refusal.Source (diagnostic (next_at at).line code.NestedTooDeeply)) used)
 block_too_deep at used near depth sound is deep b =
     let begins : BeginsBlock (next_at at).token = begins_block _ is in
@@ -132,12 +133,12 @@ pub while_stops : (at : Place) (depth : ℕ) → is_fault (next_at at).token ≡
 while_stops at depth sound is shallow d stop b =
     word_stops at d depth Statement word.While (in_brackets ++ behind_while) (ABody b ∷ []) sound (while_chosen _ is) is (free_below depth Statement (next_at at) shallow) stop
 
-pub if_too_deep : (at : Place) (used : ℕ) (near : IsNearTo at used) (depth : ℕ) → is_fault (next_at at).token ≡ false → is_word word.If (next_at at).token ≡ true → 64 ≤ depth →
+pub if_too_deep : (at : Place) (used : ℕ) (near : IsNearTo at.position.reading used) (depth : ℕ) → is_fault (next_at at).token ≡ false → is_word word.If (next_at at).token ≡ true → 64 ≤ depth →
     FailsBody depth (Part Statement ∷ []) at (stop_with (refusal.Source (diagnostic (next_at at).line code.NestedTooDeeply)) used)
 if_too_deep at used near depth sound is deep b =
     word_too_deep at used near depth Statement word.If (in_brackets ++ behind_if) (ABody b ∷ []) sound (if_chosen _ is) is (if_enters _ is) deep
 
-pub while_too_deep : (at : Place) (used : ℕ) (near : IsNearTo at used) (depth : ℕ) → is_fault (next_at at).token ≡ false → is_word word.While (next_at at).token ≡ true → 64 ≤ depth →
+pub while_too_deep : (at : Place) (used : ℕ) (near : IsNearTo at.position.reading used) (depth : ℕ) → is_fault (next_at at).token ≡ false → is_word word.While (next_at at).token ≡ true → 64 ≤ depth →
     FailsBody depth (Part Statement ∷ []) at (stop_with (refusal.Source (diagnostic (next_at at).line code.NestedTooDeeply)) used)
 while_too_deep at used near depth sound is deep b =
     word_too_deep at used near depth Statement word.While (in_brackets ++ behind_while) (ABody b ∷ []) sound (while_chosen _ is) is (while_enters _ is) deep
@@ -207,10 +208,10 @@ branch_adds at now later behind there before m1 m2 m3 m4 after depth shallow beg
   numbered = decided_numbered c.tree s.tree e.tree c.numbered s.numbered e.numbered;
   narrow = decided_narrow c.tree s.tree e.tree (room depth 1) (room (depth + 1) 1) (omega (arith, shallow)) c.narrow s.narrow e.narrow;
   added = subst (λ (xs : List Action). AppendsAll before after xs) (decided_actions c.tree s.tree e.tree)
-      (appends_then before m1 after (expr_actions c.tree) _ c.added
-      (appends_then m1 m2 after (IfTest ∷ []) _ tested
-      (appends_then m2 m3 after (body_actions s.tree) _ s.added
-      (appends_then m3 m4 after (else_actions e.tree) (EndIf ∷ []) e.added ended))));
+      (appends_both before m1 after (expr_actions c.tree) _ c.added
+      (appends_both m1 m2 after (IfTest ∷ []) _ tested
+      (appends_both m2 m3 after (body_actions s.tree) _ s.added
+      (appends_both m3 m4 after (else_actions e.tree) (EndIf ∷ []) e.added ended))));
   derives = λ b. joined depth depth (Part Statement ∷ []) (Close ∷ []) [] [] (ABody b ∷ []) (ABody (join b (decided c.tree s.tree e.tree)) ∷ []) (ABody (join b (decided c.tree s.tree e.tree)) ∷ []) [] at there there
       (joined depth (depth + 1) (Part Statement ∷ []) (Part ElsePart ∷ []) [] (Close ∷ []) (ABody b ∷ []) (before_else s.tree c.tree b) (ABody (join b (decided c.tree s.tree e.tree)) ∷ []) [] at behind there
       (first_past at now later behind before m1 m2 m3 depth (Part ElsePart ∷ Close ∷ []) b if_closes begun c sound s) (e.derives s.tree c.tree b) (deeper depth))
@@ -224,7 +225,7 @@ no_else_adds at before depth sound other = record {
   tree = None;
   numbered = tt;
   narrow = omega arith;
-  added = nothing_told before;
+  added = appends_none before;
   derives = λ s c b. joined depth depth (Part ElsePart ∷ []) (Make Decide ∷ []) [] [] (before_else s c b) (before_else s c b) (ABody (join b (IfStatement c s Done)) ∷ []) [] at at at
       (part_stands at depth ElsePart (Make Decide ∷ []) (before_else s c b) sound (no_else_chosen _ other) (free_of depth ElsePart (next_at at) (λ after. refl)))
       (make_stands at depth Decide (before_else s c b) (ABody (join b (IfStatement c s Done)) ∷ []) sound (decide_makes s c b)) (λ stack same. same);
@@ -254,7 +255,7 @@ else_adds at now there before mid after depth sound is goes sound_behind told t 
   tree = Some t.tree;
   numbered = t.numbered;
   narrow = t.narrow;
-  added = appends_then before mid after (BetweenBranches ∷ []) (body_actions t.tree) told t.added;
+  added = appends_both before mid after (BetweenBranches ∷ []) (body_actions t.tree) told t.added;
   derives = λ s c b. joined depth depth (Part ElsePart ∷ []) (Make DecideElse ∷ []) [] [] (before_else s c b) (ABody t.tree ∷ before_else s c b) (ABody (join b (IfElseStatement c s t.tree Done)) ∷ []) [] at there there
       (joined depth depth (Part ElsePart ∷ []) (Part Statement ∷ []) [] (Make DecideElse ∷ []) (before_else s c b) (ABody Done ∷ []) (ABody t.tree ∷ []) (before_else s c b) at now there
       (else_past at now depth s c b sound is goes sound_behind) (t.derives Done) (λ stack same. same))
@@ -273,10 +274,10 @@ repetition_adds at now later there before m1 m2 m3 m4 after depth shallow begun 
   tree = While c.tree s.tree Done;
   numbered = (c.numbered, s.numbered, tt);
   narrow = omega (arith, shallow, c.narrow, s.narrow);
-  added = appends_then before m1 after (BeginWhile ∷ []) _ told
-      (appends_then m1 m2 after (expr_actions c.tree) _ c.added
-      (appends_then m2 m3 after (WhileTest ∷ []) _ tested
-      (appends_then m3 m4 after (body_actions s.tree) (EndWhile ∷ []) s.added ended)));
+  added = appends_both before m1 after (BeginWhile ∷ []) _ told
+      (appends_both m1 m2 after (expr_actions c.tree) _ c.added
+      (appends_both m2 m3 after (WhileTest ∷ []) _ tested
+      (appends_both m3 m4 after (body_actions s.tree) (EndWhile ∷ []) s.added ended)));
   derives = λ b. joined depth depth (Part Statement ∷ []) (Close ∷ []) [] [] (ABody b ∷ []) (ABody (join b (While c.tree s.tree Done)) ∷ []) (ABody (join b (While c.tree s.tree Done)) ∷ []) [] at there there
       (joined depth (depth + 1) (Part Statement ∷ []) (Make Repeat ∷ []) [] (Close ∷ []) (ABody b ∷ []) (before_else s.tree c.tree b) (ABody (join b (While c.tree s.tree Done)) ∷ []) [] at there there
       (first_past at now later there m1 m2 m3 m4 depth (Make Repeat ∷ Close ∷ []) b while_closes begun c sound s)
@@ -291,8 +292,8 @@ statements_begin at before depth = record {
   tree = Done;
   numbered = tt;
   narrow = omega arith;
-  added = nothing_told before;
-  derives = λ b. subst (λ (x : Body). Derives depth (Part Statements ∷ []) (Part Statements ∷ []) (ABody b ∷ []) (ABody x ∷ []) at at) (sym (join-done b))
+  added = appends_none before;
+  derives = λ b. subst (λ (x : Body). Derives depth (Part Statements ∷ []) (Part Statements ∷ []) (ABody b ∷ []) (ABody x ∷ []) at at) (sym (join_done b))
       (stay at depth (Part Statements ∷ []) (ABody b ∷ []));
 }
 
@@ -311,7 +312,7 @@ statements_more at now there before mid after depth sound other h s = record {
   tree = join h.tree s.tree;
   numbered = join_numbered h.tree s.tree h.numbered s.numbered;
   narrow = join_narrow h.tree s.tree (room depth 1) h.narrow s.narrow;
-  added = subst (λ (xs : List Action). AppendsAll before after xs) (actions_join h.tree s.tree) (appends_then before mid after (body_actions h.tree) (body_actions s.tree) h.added s.added);
+  added = subst (λ (xs : List Action). AppendsAll before after xs) (actions_join h.tree s.tree) (appends_both before mid after (body_actions h.tree) (body_actions s.tree) h.added s.added);
   derives = λ b. subst (λ (x : Body). Derives depth (Part Statements ∷ []) (Part Statements ∷ []) (ABody b ∷ []) (ABody x ∷ []) at there) (join_assoc b h.tree s.tree)
       (joined depth depth (Part Statements ∷ []) (Part Statement ∷ []) [] (Part Statements ∷ []) (ABody b ∷ []) (ABody (join b h.tree) ∷ []) (ABody (join (join b h.tree) s.tree) ∷ []) [] at now there
       (more_past at now before mid depth b sound other h) (s.derives (join b h.tree)) (λ stack same. same));

@@ -1,9 +1,9 @@
 -- What the parse functions of statements without statements inside derive.
-use Rattle.std.proofs.Common.{◌≡◌, ℕ, pos, List, [], ◌∷◌, refl, sym, subst, true, false, append-nil, arith}
+use Rattle.std.proofs.Common.{◌≡◌, ℕ, pos, [], ◌∷◌, refl, sym, subst, true, false, arith}
 use Rattle.tokens.specs.declared.located_tokens.Punctuator.TheVariants as punctuator
 use Rattle.tokens.specs.declared.located_tokens.Word.TheVariants as word
-use Rattle.grammar.specs.Actions.{Action, Chop, GiveBack as Returns, PushConstant, expr_actions}
-use Rattle.grammar.specs.Building.{Appends, AppendsAll, Meaning}
+use Rattle.grammar.specs.Actions.{Chop, GiveBack as Returns, PushConstant, expr_actions}
+use Rattle.grammar.specs.Building.{Appends, Meaning}
 use Rattle.grammar.specs.Derivation.{ABody, AnExpr}
 use Rattle.grammar.specs.Grammar.{Back, Evaluate, Exactly, Expression, GiveBack, Make, Part, Statement, Zero, is_fault, is_punctuator, is_word}
 use Rattle.grammar.specs.Tree.{ExpressionStatement, Body, Constant, Done, Return, join}
@@ -15,13 +15,10 @@ use Rattle.expressions.specs.Expressions.{AddsExpr}
 use Rattle.statements.specs.Forms.{in_brackets, begins_statement}
 use Rattle.statements.specs.Statements.{AddsBody, FailsBody}
 use Rattle.statements.proofs.Forms.{Evaluates, empty_chosen, empty_shallow, evaluates, return_chosen, return_shallow, value_chosen, zero_chosen}
-use Rattle.statements.proofs.Joining.{join-done}
 use Rattle.parsing.proofs.Parts.{free_of, make_stands, part_stands, word_past, word_stops}
-use Rattle.expressions.proofs.TellingLaws.{appends_then}
 use Rattle.statements.proofs.Rules.{evaluate_makes, give_back_makes, zero_makes}
-
-pub nothing_told : (before : Meaning) → AppendsAll before before []
-nothing_told before profile acts is = subst (λ (xs : List Action). before profile xs) (sym (append-nil acts)) is
+use Rattle.grammar.proofs.StandingLaws.{appends_both, appends_none}
+use Rattle.grammar.proofs.Joins.{join_done}
 
 -- An empty statement.
 
@@ -41,8 +38,8 @@ empty_adds at there before depth sound is matched = record {
   tree = Done;
   numbered = tt;
   narrow = omega arith;
-  added = nothing_told before;
-  derives = λ b. subst (λ (x : Body). Derives depth (Part Statement ∷ []) [] (ABody b ∷ []) (ABody x ∷ []) at there) (sym (join-done b))
+  added = appends_none before;
+  derives = λ b. subst (λ (x : Body). Derives depth (Part Statement ∷ []) [] (ABody b ∷ []) (ABody x ∷ []) at there) (sym (join_done b))
       (joined depth depth (Part Statement ∷ []) (Exactly punctuator.Semicolon ∷ []) [] [] (ABody b ∷ []) [] [] (ABody b ∷ []) at at there
       (empty_stands at depth b sound is) (matched depth) (λ stack same. same));
 }
@@ -81,7 +78,7 @@ evaluation_adds at now there before mid after depth sound plain h matched sound_
   tree = ExpressionStatement h.tree Done;
   numbered = (h.numbered, tt);
   narrow = omega (arith, h.narrow);
-  added = appends_then before mid after (expr_actions h.tree) (Chop ∷ []) h.added chops;
+  added = appends_both before mid after (expr_actions h.tree) (Chop ∷ []) h.added chops;
   derives = λ b. joined depth depth (Part Statement ∷ []) (Make Evaluate ∷ []) [] [] (ABody b ∷ []) (AnExpr h.tree ∷ ABody b ∷ []) (ABody (join b (ExpressionStatement h.tree Done)) ∷ []) [] at there there
       (joined depth depth (Part Statement ∷ []) (Exactly punctuator.Semicolon ∷ []) [] (Make Evaluate ∷ []) (ABody b ∷ []) [] [] (AnExpr h.tree ∷ ABody b ∷ []) at now there
       (value_past at now before mid depth b sound plain h) (matched depth) (λ stack same. same))
@@ -157,7 +154,7 @@ return_adds at now later there before mid after depth sound is goes h matched so
   tree = Return h.tree Done;
   numbered = (h.numbered, tt);
   narrow = omega (arith, h.narrow);
-  added = appends_then before mid after (expr_actions h.tree) (Returns ∷ []) h.added returns;
+  added = appends_both before mid after (expr_actions h.tree) (Returns ∷ []) h.added returns;
   derives = λ b. joined depth depth (Part Statement ∷ []) (Make GiveBack ∷ []) [] [] (ABody b ∷ []) (AnExpr h.tree ∷ ABody b ∷ []) (ABody (join b (Return h.tree Done)) ∷ []) [] at there there
       (joined depth depth (Part Statement ∷ []) (Exactly punctuator.Semicolon ∷ []) [] (Make GiveBack ∷ []) (ABody b ∷ []) [] [] (AnExpr h.tree ∷ ABody b ∷ []) at later there
       (given_past at now later before mid depth b sound is goes h) (matched depth) (λ stack same. same))

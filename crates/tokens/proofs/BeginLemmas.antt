@@ -15,13 +15,10 @@ use Rattle.tokens.specs.declared.located_tokens.LexicalError.TheVariants.{BadCha
 use Rattle.tokens.specs.declared.located_tokens.Token.{Token}
 use Rattle.tokens.specs.declared.located_tokens.Token.TheVariants as variant
 use Rattle.tokens.specs.declared.located_tokens.LocatedToken.{LocatedToken}
-use Rattle.tokens.proofs.LocatedTokensLemmas.{located_tokens-front, letter-is_name_byte}
+use Rattle.tokens.proofs.LocatedTokensLemmas.{located_tokens-front, letter-is_name_byte, here}
 use Rattle.tokens.proofs.TokenLemmas.{chosen, other, run-takes, no_line}
 use Rattle.tokens.proofs.PunctuatorLemmas.{punctuator_of-spelled, punctuator-located_token, none-of-two, none-of-three, none-of-four}
 use Rattle.tokens.proofs.ToRead.{to_read-here, first-ahead, none-ahead}
-
-abbrev here : ℕ → ℕ → List ℕ → Bool → Ahead
-here line place bytes too_long = record { line = line; place = place; bytes = bytes; too_long = too_long }
 
 -- what begins with b
 from-here : (made made' : Ahead → List LocatedToken) (b : ℕ) → ((line place : ℕ) (rest : List ℕ) (too_long : Bool) → made (here line place (b ∷ rest) too_long) ≡ made' (here line place (b ∷ rest) too_long)) → (a : Ahead) (rest : List ℕ) → a.bytes ≡ b ∷ rest → made a ≡ made' a

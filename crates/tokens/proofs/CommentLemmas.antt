@@ -15,9 +15,7 @@ use Rattle.tokens.specs.declared.windows.Beyond.TheVariants.{Unread}
 use Rattle.tokens.specs.declared.located_tokens.LocatedToken.{LocatedToken}
 use Rattle.tokens.proofs.WindowLemmas.{held}
 use Rattle.tokens.proofs.ToRead.{to_read-here, to_read-pass, first-ahead, none-ahead}
-
-abbrev here : ℕ → ℕ → List ℕ → Bool → Ahead
-here line place bytes too_long = record { line = line; place = place; bytes = bytes; too_long = too_long }
+use Rattle.tokens.proofs.LocatedTokensLemmas.{here}
 
 -- behind a `*` inside a comment
 unfoldable pub in_star : ℕ → Ahead → List LocatedToken

@@ -16,14 +16,11 @@ use Rattle.tokens.specs.declared.located_tokens.Token.{Token}
 use Rattle.tokens.specs.declared.located_tokens.Token.TheVariants as variant
 use Rattle.tokens.specs.declared.located_tokens.LocatedToken.{LocatedToken}
 use Rattle.tokens.proofs.PunctuatorLemmas.{punctuator_of-spelled}
-use Rattle.tokens.proofs.LocatedTokensLemmas.{IsPiece, front-is_piece, length-passed}
+use Rattle.tokens.proofs.LocatedTokensLemmas.{IsPiece, front-is_piece, length-passed, here}
 use Rattle.tokens.proofs.TakenLemmas.{open-placed, place-passed, last-behind, last-open}
 
-abbrev here : ℕ → ℕ → List ℕ → Bool → Ahead
-here line place bytes too_long = record { line = line; place = place; bytes = bytes; too_long = too_long }
-
 -- a token lies within the bytes that it is the front of
-abbrev IsInside : List ℕ → Front → Type 0
+abbrev pub IsInside : List ℕ → Front → Type 0
 IsInside bytes Nothing = Unit {0}
 IsInside bytes Unclosed = Unit {0}
 IsInside bytes (Space count) = Unit {0}
@@ -48,7 +45,7 @@ punctuator-inside : (b : ℕ) (rest : List ℕ) (o : Option Punctuator) → ((m 
 punctuator-inside b rest None f = omega arith
 punctuator-inside b rest (Some m) f = f m refl
 
-front-inside : (bytes : List ℕ) → IsInside bytes (front bytes)
+pub front-inside : (bytes : List ℕ) → IsInside bytes (front bytes)
 front-inside [] = tt
 front-inside (b ∷ rest) =
     let xs = b ∷ rest in
@@ -63,7 +60,7 @@ place-here zero line place xs t h = omega arith
 place-here (suc n) line place [] t h = absurd (omega (arith, h))
 place-here (suc n) line place (x ∷ xs) t h = let b = behind_byte (here line place (x ∷ xs) t) in omega (arith, place-here n b.line b.place b.bytes b.too_long (omega (arith, h)))
 
-place-inside : (n : ℕ) (a : Ahead) → n ≤ length a.bytes → (passed n a).place ≡ a.place + n
+pub place-inside : (n : ℕ) (a : Ahead) → n ≤ length a.bytes → (passed n a).place ≡ a.place + n
 place-inside n a h = place-here n a.line a.place a.bytes a.too_long h
 
 long-behind_byte : (a : Ahead) → (behind_byte a).too_long ≡ a.too_long
@@ -124,7 +121,7 @@ cut-open (suc n) a = by (front a.bytes) (front-inside a.bytes) (front-is_piece a
     by (Space count) i p h = sooner _ _ _ (place-passed count a) (h count)
     by (Sign sign count) i p h = (open-placed sign count a p, rest (is_last sign) (a.place + count) _ (subst (λ (p : ℕ). StaysUndecided p (cut n (passed count a))) (place-inside count a i) (h count)))
 
-abbrev over : Bool → ℕ
+abbrev pub over : Bool → ℕ
 over true = 1
 over false = 0
 
@@ -135,7 +132,7 @@ last-by limit line token a h = by (at_end a).too_long (long-passed (length a.byt
     by true e = omega (arith, place-inside (length a.bytes) a (omega arith), ap over e, h)
     by false e = omega (arith, place-inside (length a.bytes) a (omega arith), h)
 
-cut-by : (n limit : ℕ) (a : Ahead) → a.place + length a.bytes + over a.too_long ≤ limit → AllEndBy limit (cut n a)
+pub cut-by : (n limit : ℕ) (a : Ahead) → a.place + length a.bytes + over a.too_long ≤ limit → AllEndBy limit (cut n a)
 cut-by zero limit a h = tt
 cut-by (suc n) limit a h = by (front a.bytes) (front-inside a.bytes) (λ count further. cut-by n limit (passed count a) further)
   where

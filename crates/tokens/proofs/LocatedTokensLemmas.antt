@@ -11,7 +11,7 @@ use Rattle.tokens.specs.declared.located_tokens.Token.{Token}
 use Rattle.tokens.specs.declared.located_tokens.LocatedToken.{LocatedToken}
 use Rattle.tokens.proofs.PunctuatorLemmas.{spelling-nonempty}
 
-abbrev here : ℕ → ℕ → List ℕ → Bool → Ahead
+abbrev pub here : ℕ → ℕ → List ℕ → Bool → Ahead
 here line place bytes too_long = record { line = line; place = place; bytes = bytes; too_long = too_long }
 
 -- a piece has at least one byte

@@ -16,12 +16,9 @@ use Rattle.tokens.specs.declared.located_tokens.Token.{Token}
 use Rattle.tokens.specs.declared.located_tokens.Token.TheVariants as variant
 use Rattle.tokens.specs.declared.located_tokens.LocatedToken.{LocatedToken}
 use Rattle.tokens.specs.declared.windows.Beyond.{Beyond}
-use Rattle.tokens.proofs.LocatedTokensLemmas.{located_tokens-front}
+use Rattle.tokens.proofs.LocatedTokensLemmas.{located_tokens-front, here}
 use Rattle.tokens.proofs.WindowLemmas.{held}
 use Rattle.tokens.proofs.ToRead.{to_read-here, to_read-pass, first-ahead, none-ahead}
-
-abbrev here : ℕ → ℕ → List ℕ → Bool → Ahead
-here line place bytes too_long = record { line = line; place = place; bytes = bytes; too_long = too_long }
 
 pub chosen : {A : Type 0} (t : Bool) (x y : A) → t ≡ true → cond t x y ≡ x
 chosen true x y e = refl

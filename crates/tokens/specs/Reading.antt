@@ -40,9 +40,13 @@ beyond reading = reading.behind.beyond
 abbrev pub reach : Reading → ℕ
 reach reading = if is_last reading.next.token then reading.next.end else reading.after.end
 
--- no more was taken than a window behind these
+-- so many bytes are no more than a window behind these
+abbrev pub IsNearTo : Reading → ℕ → Type 0
+IsNearTo reading count = count ≤ reach reading + window_bytes
+
+-- no more was taken than that
 abbrev pub IsNear : Reading → Type 0
-IsNear reading = taken reading ≤ reach reading + window_bytes
+IsNear reading = IsNearTo reading (taken reading)
 
 -- where the second of these tokens ends, or the first, where it is the last
 abbrev pub reach_of : List LocatedToken → ℕ

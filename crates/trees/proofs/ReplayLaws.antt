@@ -12,7 +12,7 @@ use Rattle.grammar.specs.Beginning.{IsBeginning}
 use Rattle.grammar.specs.Building.{Meaning, MayFollow, MayFollowAll, StandsOpen, AppendsAll, Appends, IsOver}
 use Rattle.grammar.specs.Profile.{Profile}
 use Rattle.grammar.specs.Tree.{Done}
-use Rattle.grammar.proofs.Beginnings.{begins_with, follows_begins}
+use Rattle.grammar.proofs.Beginnings.{follows_begins}
 use Rattle.grammar.proofs.Lengths.{code_length-append}
 use Rattle.trees.specs.Opened.{opened, open_actions}
 use Rattle.trees.specs.Replaying.{AppendsThose, StandsForNone, IsOverWith, IsOverWithThose}
@@ -26,27 +26,7 @@ use Rattle.trees.specs.declared.tree.Statement.{Statement}
 use Rattle.trees.specs.declared.tree.Statement.TheVariants as statement
 use Rattle.trees.proofs.StandingLaws.{follow_inside}
 use Rattle.trees.proofs.TreeLaws.{Tells, tells_arguments, tells_functions, tells_last, tells_split, tells_statements, tree-Binary, tree-Assign, tree-Call, tree-IfStatement, tree-IfElseStatement, tree-While}
-
--- the first of some actions may follow
-pub may_front : (before : Meaning) (xs ys : List Action) → MayFollowAll before (xs ++ ys) → MayFollowAll before xs
-may_front before xs ys may =
-    record { profile = may.profile; acts = may.acts; stood = may.stood; begins = begins_with (may.acts ++ xs) ys (subst IsBeginning (sym (append_assoc may.acts xs ys)) may.begins) }
-
-pub may_first : (before : Meaning) (x : Action) (xs : List Action) → MayFollowAll before (x ∷ xs) → MayFollow before x
-may_first before x xs may =
-    record { profile = may.profile; acts = may.acts; stood = may.stood; begins = begins_with (may.acts ++ x ∷ []) xs (subst IsBeginning (sym (append_assoc may.acts (x ∷ []) xs)) may.begins) }
-
--- if the first ones were reported, the others may follow
-pub may_then : (before behind : Meaning) (xs ys : List Action) → AppendsAll before behind xs → MayFollowAll before (xs ++ ys) → MayFollowAll behind ys
-may_then before behind xs ys added may =
-    record { profile = may.profile; acts = may.acts ++ xs; stood = added may.profile may.acts may.stood; begins = subst IsBeginning (sym (append_assoc may.acts xs ys)) may.begins }
-
--- actions reported one after another
-pub appends_both : (before between behind : Meaning) (xs ys : List Action) → AppendsAll before between xs → AppendsAll between behind ys → AppendsAll before behind (xs ++ ys)
-appends_both before between behind xs ys first second p acts s = subst (behind p) (append_assoc acts xs ys) (second p (acts ++ xs) (first p acts s))
-
-pub appends_none : (before : Meaning) → AppendsAll before before []
-appends_none before p acts s = subst (before p) (sym (append-nil acts)) s
+use Rattle.grammar.proofs.StandingLaws.{may_front, may_first, may_then, appends_both}
 
 -- the limit is passed with more actions too
 pub over_front : (before : Meaning) (xs ys : List Action) → IsOverWith before xs → IsOverWith before (xs ++ ys)

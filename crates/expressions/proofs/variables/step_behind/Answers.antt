@@ -5,9 +5,10 @@ use Rattle.grammar.specs.Tree.{Postfix}
 use Rattle.parsing.proofs.Advances.{on, on_then}
 use Rattle.parsing.proofs.Growing.{grown, grown_behind, grown_nothing, refuses}
 use Rattle.expressions.specs.Signs.{step_store}
-use Rattle.expressions.proofs.TellingLaws.{appends_then, first_follows, next_follows}
+use Rattle.expressions.proofs.TellingLaws.{next_follows}
 use Rattle.expressions.proofs.VariableLaws.{behind_adds, behind_halts, behind_punctuator_ends, behind_name_ends, is_named, tree_follows}
 use Rattle.expressions.proofs.variables.step_behind.Goals as goal
+use Rattle.grammar.proofs.StandingLaws.{appends_both, may_first}
 
 pub returns-in_err-var-clause-parses : goal.returns-in_err-var-clause-parses
 returns-in_err-var-clause-parses g c =
@@ -16,7 +17,7 @@ returns-in_err-var-clause-parses g c =
 
 pub fetch-requires : goal.fetch-requires
 fetch-requires g c = record {
-  follows = first_follows _ (FetchVariable c.in_ok-var.var) _ (tree_follows _ 0 (Postfix (step_store c.args.step) c.in_ok-var.var) c.requires.open c.in_ok-var.ensures.within (omega arith));
+  follows = may_first _ (FetchVariable c.in_ok-var.var) _ (tree_follows _ 0 (Postfix (step_store c.args.step) c.in_ok-var.var) c.requires.open c.in_ok-var.ensures.within (omega arith));
 }
 
 pub constant-requires : goal.constant-requires
@@ -30,15 +31,15 @@ store-requires-2 g c = record {
   follows = rw c.store.ensures
       (next_follows (g.B.Build.stands c.args.build.now) (g.B.Build.stands c.constant.new.self) (FetchVariable c.in_ok-var.var ∷ PushConstant (pos 1) ∷ []) (StoreVariable c.in_ok-var.var (step_store c.args.step)) (Chop ∷ [])
       (tree_follows _ 0 (Postfix (step_store c.args.step) c.in_ok-var.var) c.requires.open c.in_ok-var.ensures.within (omega arith))
-      (appends_then (g.B.Build.stands c.args.build.now) (g.B.Build.stands c.fetch.new.self) (g.B.Build.stands c.constant.new.self) (FetchVariable c.in_ok-var.var ∷ []) (PushConstant (pos 1) ∷ []) c.in_ok-fetch.ensures.ok c.in_ok-constant.ensures.ok));
+      (appends_both (g.B.Build.stands c.args.build.now) (g.B.Build.stands c.fetch.new.self) (g.B.Build.stands c.constant.new.self) (FetchVariable c.in_ok-var.var ∷ []) (PushConstant (pos 1) ∷ []) c.in_ok-fetch.ensures.ok c.in_ok-constant.ensures.ok));
 }
 
 pub chop-requires : goal.chop-requires
 chop-requires g c = record {
   follows = next_follows (g.B.Build.stands c.args.build.now) (g.B.Build.stands c.store-2.new.self) (FetchVariable c.in_ok-var.var ∷ PushConstant (pos 1) ∷ StoreVariable c.in_ok-var.var (step_store c.args.step) ∷ []) Chop []
       (tree_follows _ 0 (Postfix (step_store c.args.step) c.in_ok-var.var) c.requires.open c.in_ok-var.ensures.within (omega arith))
-      (appends_then (g.B.Build.stands c.args.build.now) (g.B.Build.stands c.fetch.new.self) (g.B.Build.stands c.store-2.new.self) (FetchVariable c.in_ok-var.var ∷ []) (PushConstant (pos 1) ∷ StoreVariable c.in_ok-var.var (step_store c.args.step) ∷ []) c.in_ok-fetch.ensures.ok
-      (appends_then (g.B.Build.stands c.fetch.new.self) (g.B.Build.stands c.constant.new.self) (g.B.Build.stands c.store-2.new.self) (PushConstant (pos 1) ∷ []) (StoreVariable c.in_ok-var.var (step_store c.args.step) ∷ []) c.in_ok-constant.ensures.ok (rw c.store.ensures at c.in_ok-store.ensures.ok)));
+      (appends_both (g.B.Build.stands c.args.build.now) (g.B.Build.stands c.fetch.new.self) (g.B.Build.stands c.store-2.new.self) (FetchVariable c.in_ok-var.var ∷ []) (PushConstant (pos 1) ∷ StoreVariable c.in_ok-var.var (step_store c.args.step) ∷ []) c.in_ok-fetch.ensures.ok
+      (appends_both (g.B.Build.stands c.fetch.new.self) (g.B.Build.stands c.constant.new.self) (g.B.Build.stands c.store-2.new.self) (PushConstant (pos 1) ∷ []) (StoreVariable c.in_ok-var.var (step_store c.args.step) ∷ []) c.in_ok-constant.ensures.ok (rw c.store.ensures at c.in_ok-store.ensures.ok)));
 }
 
 pub returns-in_err-expect-clause-parses : goal.returns-in_err-expect-clause-parses

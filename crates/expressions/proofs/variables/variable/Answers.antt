@@ -4,9 +4,9 @@ use Rattle.grammar.specs.Actions.{FetchVariable}
 use Rattle.grammar.specs.Tree.{Variable}
 use Rattle.parsing.proofs.Growing.{grown_nothing, refuses, unknown}
 use Rattle.parsing.proofs.Segments.{halts}
-use Rattle.expressions.proofs.TellingLaws.{first_follows}
 use Rattle.expressions.proofs.VariableLaws.{NoStep, fetch_adds, fetch_ends, is_named, tree_follows}
 use Rattle.expressions.proofs.variables.variable.Goals as goal
+use Rattle.grammar.proofs.StandingLaws.{may_first}
 
 pub returns-in_err-var-clause-parses : goal.returns-in_err-var-clause-parses
 returns-in_err-var-clause-parses g c =
@@ -15,7 +15,7 @@ returns-in_err-var-clause-parses g c =
     rw (p.1, p.2) (fetch_ends _ c.args.parser.now.place _ c.in_err-var.field-0.0 (is_named _ c.requires.is.named) c.requires.is.plain none c.in_err-var.ensures.matches)
 
 pub fetch-requires : goal.fetch-requires
-fetch-requires g c = record { follows = first_follows _ (FetchVariable c.in_ok-var.var) [] (tree_follows _ 0 (Variable c.in_ok-var.var) c.requires.open c.in_ok-var.ensures.within (omega arith)) }
+fetch-requires g c = record { follows = may_first _ (FetchVariable c.in_ok-var.var) [] (tree_follows _ 0 (Variable c.in_ok-var.var) c.requires.open c.in_ok-var.ensures.within (omega arith)) }
 
 pub returns-clause-parses : goal.returns-clause-parses
 returns-clause-parses g c =

@@ -5,8 +5,9 @@ use Rattle.grammar.specs.Actions.{BeginCall, EndCall, args_actions, expr_actions
 use Rattle.grammar.specs.Building.{AppendsAll, MayFollowAll}
 use Rattle.trees.specs.Trees.{arguments, expr_tree}
 use Rattle.trees.specs.declared.tree.Expr.{the_lemmas}
-use Rattle.trees.proofs.ReplayLaws.{actions-Assign, actions-Binary, actions-Call, appends_both, appends_none, argument_may, arguments_more, may_first, may_front, may_next, may_then}
+use Rattle.trees.proofs.ReplayLaws.{actions-Assign, actions-Binary, actions-Call, argument_may, arguments_more, may_next}
 use Rattle.trees.proofs.replay.+expressions.Goals as goal
+use Rattle.grammar.proofs.StandingLaws.{appends_both, appends_none, may_first, may_front, may_then}
 
 -- Operators with both sides.
 

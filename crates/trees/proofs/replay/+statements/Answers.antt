@@ -5,8 +5,9 @@ use Rattle.grammar.specs.Actions.{BeginWhile, ElsePart, EndIf, EndWhile, IfTest,
 use Rattle.grammar.specs.Building.{AppendsAll, MayFollowAll}
 use Rattle.trees.specs.Trees.{body_tree, expr_tree}
 use Rattle.trees.specs.declared.tree.Statement.{the_lemmas}
-use Rattle.trees.proofs.ReplayLaws.{actions-IfElseStatement, actions-IfStatement, actions-While, appends_both, appends_none, may_first, may_front, may_next, may_then, statement_may, statements_more}
+use Rattle.trees.proofs.ReplayLaws.{actions-IfElseStatement, actions-IfStatement, actions-While, may_next, statement_may, statements_more}
 use Rattle.trees.proofs.replay.+statements.Goals as goal
+use Rattle.grammar.proofs.StandingLaws.{appends_both, appends_none, may_first, may_front, may_then}
 
 -- Ifs without a second branch.
 

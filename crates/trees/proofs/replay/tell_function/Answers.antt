@@ -4,8 +4,9 @@ use Rattle.grammar.specs.Actions.{Begin, Finish, body_actions, last_return}
 use Rattle.grammar.specs.Building.{AppendsAll, MayFollowAll}
 use Rattle.trees.specs.Replaying.{IsOverWith}
 use Rattle.trees.specs.Trees.{body_tree}
-use Rattle.trees.proofs.ReplayLaws.{actions-Function, appends_both, may_first, may_front, may_next, may_then, over_finish, over_then}
+use Rattle.trees.proofs.ReplayLaws.{actions-Function, may_next, over_finish, over_then}
 use Rattle.trees.proofs.replay.tell_function.Goals as goal
+use Rattle.grammar.proofs.StandingLaws.{appends_both, may_first, may_front, may_then}
 
 pub begin_function-requires : goal.begin_function-requires
 begin_function-requires g c = record { follows = may_first _ _ _ c.requires }

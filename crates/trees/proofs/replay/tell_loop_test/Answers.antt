@@ -2,8 +2,9 @@ use Rattle.std.proofs.Common.{[], ◌∷◌}
 use Rattle.std.proofs.lemmas.Result.{on_ok_weaker}
 use Rattle.grammar.specs.Actions.{BeginWhile, WhileTest, expr_actions}
 use Rattle.trees.specs.Trees.{expr_tree}
-use Rattle.trees.proofs.ReplayLaws.{appends_both, may_first, may_front, may_next, may_then}
+use Rattle.trees.proofs.ReplayLaws.{may_next}
 use Rattle.trees.proofs.replay.tell_loop_test.Goals as goal
+use Rattle.grammar.proofs.StandingLaws.{appends_both, may_first, may_front, may_then}
 
 pub begin_while-requires : goal.begin_while-requires
 begin_while-requires g c = record { follows = may_first _ _ _ c.requires }

@@ -2,8 +2,8 @@ use Rattle.std.proofs.Common.{[], ◌∷◌}
 use Rattle.std.proofs.lemmas.Result.{on_ok_weaker}
 use Rattle.grammar.specs.Actions.{GiveBack, expr_actions}
 use Rattle.trees.specs.Trees.{expr_tree}
-use Rattle.trees.proofs.ReplayLaws.{appends_both, may_first, may_front, may_then}
 use Rattle.trees.proofs.replay.tell_return.Goals as goal
+use Rattle.grammar.proofs.StandingLaws.{appends_both, may_first, may_front, may_then}
 
 pub tell_expr-requires : goal.tell_expr-requires
 tell_expr-requires g c = may_front _ _ (GiveBack ∷ []) c.requires

@@ -1,8 +1,9 @@
 use Rattle.std.proofs.Common.{pos, [], ◌∷◌}
 use Rattle.std.proofs.lemmas.Result.{on_ok_weaker}
 use Rattle.grammar.specs.Actions.{Chop, FetchVariable, PushConstant, StoreVariable}
-use Rattle.trees.proofs.ReplayLaws.{appends_both, may_first, may_next}
+use Rattle.trees.proofs.ReplayLaws.{may_next}
 use Rattle.trees.proofs.replay.tell_step.Goals as goal
+use Rattle.grammar.proofs.StandingLaws.{appends_both, may_first}
 
 pub fetch-requires : goal.fetch-requires
 fetch-requires g c = record { follows = may_first _ _ _ c.requires }
