@@ -14,7 +14,7 @@ pub mod Told
 pub mod Finished
 pub mod Mains
 pub mod Bounds
-pub mod Programs
+pub mod ProgramLaws
 pub mod Frames
 pub mod Variables
 pub mod Stacks

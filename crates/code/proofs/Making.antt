@@ -10,7 +10,7 @@ use Rattle.std.specs.List.{range_with_len}
 use Rattle.std.proofs.Math.Seq.{set-append_seam}
 use Rattle.grammar.specs.declared.operators.Op.{Op}
 use Rattle.grammar.specs.declared.operators.Op.TheVariants as op
-use Rattle.grammar.specs.Actions.{Action, StoreVariable, ApplyBinop, LogicMiddle, BeginCall, EndCall, IfTest, ElsePart, EndIf, BeginWhile, WhileTest, EndWhile, GiveBack, Chop, Finish, middle, expr_actions, args_actions, body_actions, function_actions, functions_actions, numbered_actions, actions}
+use Rattle.grammar.specs.Actions.{Action, StoreVariable, ApplyBinop, LogicMiddle, BeginCall, EndCall, IfTest, ElsePart, EndIf, BeginWhile, WhileTest, EndWhile, GiveBack, Chop, EndFunction, middle, expr_actions, args_actions, body_actions, function_actions, functions_actions, numbered_actions, actions}
 use Rattle.grammar.specs.Actions.{last_return as last_return_actions}
 use Rattle.grammar.specs.Operators.{is_logic}
 use Rattle.grammar.specs.Profile.{Profile}
@@ -298,11 +298,11 @@ module _ (p : Profile) where
   -- a function: its code, and its address by its number
   made_function : (m : Made) → m.profile ≡ p → (n : ℕ) (f : Function) (more : List Action) → made_from m (function_actions n f ++ more) ≡ made_from (with_code (with_function m n) (function_code p f (length m.code))) more
   made_function m e n f more =
-      let acts = body_actions f.body ++ (last_return_actions ++ Finish (length f.variables) ∷ []) in
-      let ended : Makes p (last_return_actions ++ Finish (length f.variables) ∷ []) last_return = λ m e. ap (coded m) (append_assoc m.code (Const (pos 0) ∷ []) (Retsub ∷ [])) in
+      let acts = body_actions f.body ++ (last_return_actions ++ EndFunction (length f.variables) ∷ []) in
+      let ended : Makes p (last_return_actions ++ EndFunction (length f.variables) ∷ []) last_return = λ m e. ap (coded m) (append_assoc m.code (Const (pos 0) ∷ []) (Retsub ∷ [])) in
       made_from-append (with_function m n) acts more
       ∙ ap (λ (r : Made). made_from r more)
-      (makes_then p (body_actions f.body) (last_return_actions ++ Finish (length f.variables) ∷ []) (body_code p f.body) last_return (makes_body f.body) ended (with_function m n) e)
+      (makes_then p (body_actions f.body) (last_return_actions ++ EndFunction (length f.variables) ∷ []) (body_code p f.body) last_return (makes_body f.body) ended (with_function m n) e)
 
   module _ (file : File) where
     -- one function of the order, and the others

@@ -5,7 +5,7 @@ use Rattle.std.proofs.lemmas.Bool.Decides.{nat_tests}
 use Rattle.std.proofs.lemmas.List.{length-set}
 use Rattle.grammar.specs.declared.operators.Op.{Op}
 use Rattle.grammar.specs.declared.operators.Op.TheVariants as op
-use Rattle.grammar.specs.Actions.{Action, PushConstant, FetchVariable, StoreVariable, ApplyBinop, LogicMiddle, BeginCall, EndCall, IfTest, ElsePart, EndIf, BeginWhile, WhileTest, EndWhile, GiveBack, Chop, Begin, Finish, instructions, code_length, middle_length, end_length}
+use Rattle.grammar.specs.Actions.{Action, PushConstant, FetchVariable, StoreVariable, ApplyBinop, LogicMiddle, BeginCall, EndCall, IfTest, ElsePart, EndIf, BeginWhile, WhileTest, EndWhile, GiveBack, Chop, BeginFunction, EndFunction, instructions, code_length, middle_length, end_length}
 use Rattle.grammar.specs.Profile.{Profile}
 use Rattle.code.specs.declared.instr.Instr.{Instr}
 use Rattle.code.specs.declared.instr.Instr.TheVariants.{Fetch, Store, Const, Binop, Fcall, Retsub, Branch, Truth}
@@ -104,8 +104,8 @@ count_by short WhileTest = 1
 count_by short EndWhile = 2
 count_by short GiveBack = 1
 count_by short Chop = 1
-count_by short (Begin number parameters) = 0
-count_by short (Finish variables) = 0
+count_by short (BeginFunction number parameters) = 0
+count_by short (EndFunction variables) = 0
 
 step_by : (short : Bool) (a : Action) → IsStep (λ m. making_by short m a) (count_by short a)
 step_by true (ApplyBinop o) = ended_step o
@@ -125,8 +125,8 @@ step_by short WhileTest = branch_step
 step_by short EndWhile = turn_step
 step_by short GiveBack = one_step Retsub
 step_by short Chop = one_step instr.Chop
-step_by short (Begin number parameters) = function_step number
-step_by short (Finish variables) = none_step
+step_by short (BeginFunction number parameters) = function_step number
+step_by short (EndFunction variables) = none_step
 
 made_by : (m : Made) (a : Action) → making m a ≡ making_by m.profile.short_circuit m a
 made_by m (ApplyBinop o) = refl
@@ -144,8 +144,8 @@ made_by m WhileTest = refl
 made_by m EndWhile = refl
 made_by m GiveBack = refl
 made_by m Chop = refl
-made_by m (Begin number parameters) = refl
-made_by m (Finish variables) = refl
+made_by m (BeginFunction number parameters) = refl
+made_by m (EndFunction variables) = refl
 
 counted_by : (p : Profile) (a : Action) → instructions p a ≡ count_by p.short_circuit a
 counted_by p (ApplyBinop o) = refl
@@ -163,8 +163,8 @@ counted_by p WhileTest = refl
 counted_by p EndWhile = refl
 counted_by p GiveBack = refl
 counted_by p Chop = refl
-counted_by p (Begin number parameters) = refl
-counted_by p (Finish variables) = refl
+counted_by p (BeginFunction number parameters) = refl
+counted_by p (EndFunction variables) = refl
 
 -- each action makes as many instructions as it is said to
 pub length-making : (m : Made) (a : Action) → length (making m a).code ≡ length m.code + instructions m.profile a

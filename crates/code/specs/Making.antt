@@ -1,6 +1,6 @@
 -- What a maker holds behind a list of actions.
 use Rattle.std.specs.Prelude.{ℕ, pos, ◌+◌, List, [], ◌∷◌, ◌++◌, length, replicate, slice_set, if◌then◌else◌}
-use Rattle.grammar.specs.Actions.{Action, PushConstant, FetchVariable, StoreVariable, ApplyBinop, LogicMiddle, BeginCall, EndCall, IfTest, ElsePart, EndIf, BeginWhile, WhileTest, EndWhile, GiveBack, Chop, Begin, Finish}
+use Rattle.grammar.specs.Actions.{Action, PushConstant, FetchVariable, StoreVariable, ApplyBinop, LogicMiddle, BeginCall, EndCall, IfTest, ElsePart, EndIf, BeginWhile, WhileTest, EndWhile, GiveBack, Chop, BeginFunction, EndFunction}
 use Rattle.grammar.specs.declared.operators.Op.{Op}
 use Rattle.grammar.specs.declared.operators.Op.TheVariants as op
 use Rattle.grammar.specs.Profile.{Profile}
@@ -112,8 +112,8 @@ making m WhileTest = with_branch m
 making m EndWhile = without_open (closing (with_turn m))
 making m GiveBack = with_code m (Retsub ∷ [])
 making m Chop = with_code m (instr.Chop ∷ [])
-making m (Begin number parameters) = with_function m number
-making m (Finish variables) = m
+making m (BeginFunction number parameters) = with_function m number
+making m (EndFunction variables) = m
 
 abbrev pub made_from : Made → List Action → Made
 made_from m [] = m

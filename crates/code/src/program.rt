@@ -126,7 +126,7 @@ impl Program {
 
     // Returns the names of the function of this number.
     #[inline(always)]
-    #[tactic(auto, using(crate::proofs::Programs::function_is))]
+    #[tactic(auto, using(crate::proofs::ProgramLaws::function_is))]
     pub(crate) fn function(&self, number: u8) -> &Function
         requires { number < length self.now.names.functions }
         ensures { result.now ≡ names_at self.now number }

@@ -4,9 +4,9 @@
 mod devices;
 mod endings;
 mod openers;
-mod programs;
+mod running;
 
 pub use devices::{FileFeed, StreamSink};
 pub use endings::Ending;
 pub use openers::{Disk, OpenFault, Opener};
-pub use programs::{program, program_over};
+pub use running::{program, program_over};

@@ -30,7 +30,7 @@ use Rattle.expressions.proofs.NameLaws.{behind_name_is}
 use Rattle.parsing.proofs.Parts.{MakesOnly}
 use Rattle.expressions.proofs.Productions.{Chooses, EntersLevel, chosen, chosen_within, item_done, makes_and_closes, punctuator_ends, punctuator_past, name_too_deep, same_self}
 use Rattle.expressions.proofs.TellingLaws.{next_follows, room_within}
-use Rattle.expressions.proofs.VariableLaws.{IsNamed, after_name, is_named, named_sound, tree_follows}
+use Rattle.expressions.proofs.OperandLaws.{IsNamed, after_name, is_named, named_sound, tree_follows}
 use Rattle.grammar.proofs.StandingLaws.{appends_both}
 use Rattle.tokens.specs.Reading.{IsNearTo}
 

@@ -28,7 +28,7 @@ use Rattle.expressions.specs.Expressions.{AddsArgs, AddsExpr, FailsArgs}
 use Rattle.parsing.proofs.Parts.{MakesOnly, make_stands, punctuator_is}
 use Rattle.expressions.proofs.Productions.{Chooses, EntersLevel, chosen, chosen_within, item_done, makes_and_closes, punctuator_sound, name_too_deep}
 use Rattle.expressions.proofs.TellingLaws.{all_follow, next_follows, room_behind, room_behind_args}
-use Rattle.expressions.proofs.VariableLaws.{IsNamed, after_name, named_sound, tree_follows}
+use Rattle.expressions.proofs.OperandLaws.{IsNamed, after_name, named_sound, tree_follows}
 use Rattle.tokens.specs.Reading.{IsNearTo}
 
 -- Arguments.

@@ -1,7 +1,7 @@
 pub mod TellingLaws
 pub mod Productions
 pub mod SignLaws
-pub mod VariableLaws
+pub mod OperandLaws
 pub mod NameLaws
 pub mod OperatorLaws
 pub mod ClimbingLaws

@@ -10,7 +10,7 @@ use Rattle.grammar.specs.Profile.{first_profile}
 use Rattle.grammar.specs.Scope.{Scope, behind_name}
 use Rattle.parsing.specs.Position.{GoesOn, Place, next_at, scope_at}
 use Rattle.parsing.specs.Segment.{Derives, DerivesItem}
-use Rattle.expressions.proofs.VariableLaws.{IsNamed, named_found, named_goes_on, named_sound}
+use Rattle.expressions.proofs.OperandLaws.{IsNamed, named_found, named_goes_on, named_sound}
 
 done : (b : Bool) (rest : List LocatedToken) (values : List Value) (scope : Scope) (functions : List Definition) → is_fault (next_of rest) ≡ b → stepped (state [] rest values scope functions) ≡ state [] rest values scope functions
 done true rest values scope functions is = rw is refl

@@ -2,7 +2,7 @@
 #![tactic(auto)]
 
 mod expressions;
+mod operands;
 mod signs;
-mod variables;
 
 pub use expressions::expression;

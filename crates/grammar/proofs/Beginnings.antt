@@ -5,11 +5,11 @@ use Rattle.std.proofs.lemmas.List.{append-nil, length-replicate}
 use Rattle.std.specs.Prelude.{pos, ◌&&◌, Option, Some, None, IsTrue, is_some, if◌then◌else◌, nat_lt, nat_le, replicate}
 use Rattle.grammar.specs.declared.names.Callee.TheVariants as callee
 use Rattle.grammar.specs.declared.operators.Op.TheVariants as op
-use Rattle.grammar.specs.Actions.{Action, PushConstant, FetchVariable, StoreVariable, ApplyBinop, LogicMiddle, BeginCall, EndCall, IfTest, ElsePart, EndIf, BeginWhile, WhileTest, EndWhile, GiveBack, Chop, Begin, Finish, expr_actions, body_actions, function_actions, last_return}
+use Rattle.grammar.specs.Actions.{Action, PushConstant, FetchVariable, StoreVariable, ApplyBinop, LogicMiddle, BeginCall, EndCall, IfTest, ElsePart, EndIf, BeginWhile, WhileTest, EndWhile, GiveBack, Chop, BeginFunction, EndFunction, expr_actions, body_actions, function_actions, last_return}
 use Rattle.grammar.specs.Beginning.{IsTellable, AreTellable, IsBeginning}
 use Rattle.grammar.specs.Derivation.{Definition}
 use Rattle.grammar.specs.Faults.{definitions_actions}
-use Rattle.grammar.specs.Following.{InFunction, Opened, open_count, few_open, follow, follow_all, then_follow, is_number, is_var_numbered, is_callee_numbered, only_on, most_numbers, most_open}
+use Rattle.grammar.specs.Following.{InFunction, Opened, open_count, few_open, follow, follow_all, then_follow, is_number, is_var_numbered, is_callee_numbered, only_on, most_numbers}
 use Rattle.grammar.specs.Nesting.{nesting, body_nesting, right_side}
 use Rattle.grammar.specs.Origins.{origin_of, ends_in_return}
 use Rattle.grammar.specs.Resolved.{InBody}
@@ -71,8 +71,8 @@ closes_with more xs ys e c = record { definition = c.definition; tellable = c.te
 abbrev definition : (n k v : ℕ) → Body → Definition
 definition n k v b = record { number = n; function = record { name = []; parameters = k; variables = replicate v []; body = b } }
 
-definition_actions : (n k v : ℕ) (b : Body) → function_actions n (definition n k v b).function ≡ Begin n k ∷ (body_actions b ++ (last_return ++ Finish v ∷ []))
-definition_actions n k v b = ap (λ (m : ℕ). Begin n k ∷ (body_actions b ++ (last_return ++ Finish m ∷ []))) (length-replicate v [])
+definition_actions : (n k v : ℕ) (b : Body) → function_actions n (definition n k v b).function ≡ BeginFunction n k ∷ (body_actions b ++ (last_return ++ EndFunction v ∷ []))
+definition_actions n k v b = ap (λ (m : ℕ). BeginFunction n k ∷ (body_actions b ++ (last_return ++ EndFunction m ∷ []))) (length-replicate v [])
 
 definition_told : (n k v : ℕ) (b : Body) → n < 64 → k ≤ v → v ≤ 64 → BodyFits 0 b → IsTellable (definition n k v b)
 definition_told n k v b h l m f =
@@ -84,7 +84,7 @@ close_place : (p : Place) (s : Body) → PlaceFits p → BodyFits (place_count p
 close_place (InFun n k b) s fits more = record {
   definition = definition n k k (join b s);
   tellable = definition_told n k k (join b s) fits.0 (omega arith) fits.1 (fits-join 0 b s fits.2 more);
-  rest = last_return ++ Finish k ∷ [];
+  rest = last_return ++ EndFunction k ∷ [];
   is = rw (body_actions-join b s) refl ∙ sym (definition_actions n k k (join b s));
 }
 close_place (InFirst c b outer) s fits more =
@@ -197,7 +197,7 @@ made_begins acts o m = by m.held m.actions m.fits
 
 -- A function begins and is finished.
 
-begin_makes : (n k : ℕ) (q : Opened) → follow (Begin n k) [] ≡ Some q → ((n < 64) × (k ≤ 64)) × (InFunction k false ∷ [] ≡ q)
+begin_makes : (n k : ℕ) (q : Opened) → follow (BeginFunction n k) [] ≡ Some q → ((n < 64) × (k ≤ 64)) × (InFunction k false ∷ [] ≡ q)
 unfolding most_numbers
 begin_makes n k q e = by (nat_lt n 64) (nat_le k 64) refl refl e
   where
@@ -212,7 +212,7 @@ record FinishesBy (v k : ℕ) (o q : Opened) (last : Bool) : Type 0 where
   variables : v ≤ 64
   nothing : [] ≡ q
 
-finish_makes : (v k : ℕ) (last : Bool) (q : Opened) → follow (Finish v) (InFunction k last ∷ []) ≡ Some q → FinishesBy v k (InFunction k last ∷ []) q last
+finish_makes : (v k : ℕ) (last : Bool) (q : Opened) → follow (EndFunction v) (InFunction k last ∷ []) ≡ Some q → FinishesBy v k (InFunction k last ∷ []) q last
 unfolding most_numbers
 finish_makes v k false q e = absurd (cc)
 finish_makes v k true q e = by (nat_le k v) (nat_le v 64) refl refl e
@@ -294,34 +294,34 @@ within_makes a h q acts ds e told small s = record {
   fits = (s.fits, omega (arith, small, ap open_count s.opens));
 }
 
-begun : (n k : ℕ) (q : Opened) (acts : List Action) (ds : List Definition) → definitions_actions ds ++ [] ≡ acts → AreTellable ds → follow (Begin n k) [] ≡ Some q → Makes (acts ++ Begin n k ∷ []) q
+begun : (n k : ℕ) (q : Opened) (acts : List Action) (ds : List Definition) → definitions_actions ds ++ [] ≡ acts → AreTellable ds → follow (BeginFunction n k) [] ≡ Some q → Makes (acts ++ BeginFunction n k ∷ []) q
 begun n k q acts ds e told is =
     let made = begin_makes n k q is in
     record {
       functions = ds;
       held = Holds (Statement (InFun n k Done));
       opens = made.1;
-      actions = ap (λ xs. xs ++ Begin n k ∷ []) (sym (append-nil (definitions_actions ds)) ∙ e);
+      actions = ap (λ xs. xs ++ BeginFunction n k ∷ []) (sym (append-nil (definitions_actions ds)) ∙ e);
       tellable = told;
       fits = ((made.0.0, made.0.1, record { names = tt; few = omega arith }), omega arith);
     }
 
-finished : (n k v : ℕ) (b : Body) (q : Opened) (acts : List Action) (ds : List Definition) → definitions_actions ds ++ (Begin n k ∷ body_actions b) ≡ acts → AreTellable ds →
-    PlaceFits (InFun n k b) → follow (Finish v) (InFunction k (ends_in_return false b) ∷ []) ≡ Some q → Makes (acts ++ Finish v ∷ []) q
+finished : (n k v : ℕ) (b : Body) (q : Opened) (acts : List Action) (ds : List Definition) → definitions_actions ds ++ (BeginFunction n k ∷ body_actions b) ≡ acts → AreTellable ds →
+    PlaceFits (InFun n k b) → follow (EndFunction v) (InFunction k (ends_in_return false b) ∷ []) ≡ Some q → Makes (acts ++ EndFunction v ∷ []) q
 finished n k v b q acts ds e told fits is =
     let f = finish_makes v k (ends_in_return false b) q is in
     let front : Before b = before_last b f.returned in
     let fit : BodyFits 0 front.body = fits_front front.body (Return (Constant (pos 0)) Done) (subst (λ (c : Body). BodyFits 0 c) front.is fits.2) in
-    let joined : (Begin n k ∷ body_actions (join front.body (Return (Constant (pos 0)) Done))) ++ Finish v ∷ [] ≡ Begin n k ∷ (body_actions front.body ++ (last_return ++ Finish v ∷ [])) =
+    let joined : (BeginFunction n k ∷ body_actions (join front.body (Return (Constant (pos 0)) Done))) ++ EndFunction v ∷ [] ≡ BeginFunction n k ∷ (body_actions front.body ++ (last_return ++ EndFunction v ∷ [])) =
     rw (body_actions-join front.body (Return (Constant (pos 0)) Done)) (simp append_assoc refl) in
-    let all : (Begin n k ∷ body_actions b) ++ Finish v ∷ [] ≡ function_actions n (definition n k v front.body).function =
-    ap (λ (c : Body). (Begin n k ∷ body_actions c) ++ Finish v ∷ []) front.is ∙ joined ∙ sym (definition_actions n k v front.body) in
+    let all : (BeginFunction n k ∷ body_actions b) ++ EndFunction v ∷ [] ≡ function_actions n (definition n k v front.body).function =
+    ap (λ (c : Body). (BeginFunction n k ∷ body_actions c) ++ EndFunction v ∷ []) front.is ∙ joined ∙ sym (definition_actions n k v front.body) in
     record {
       functions = ds ++ definition n k v front.body ∷ [];
       held = Nothing;
       opens = f.nothing;
       actions = append-nil (definitions_actions (ds ++ definition n k v front.body ∷ [])) ∙ definitions_last ds (definition n k v front.body)
-          ∙ ap (λ xs. definitions_actions ds ++ xs) (sym all) ∙ sym (append_assoc (definitions_actions ds) (Begin n k ∷ body_actions b) (Finish v ∷ [])) ∙ ap (λ xs. xs ++ Finish v ∷ []) e;
+          ∙ ap (λ xs. definitions_actions ds ++ xs) (sym all) ∙ sym (append_assoc (definitions_actions ds) (BeginFunction n k ∷ body_actions b) (EndFunction v ∷ [])) ∙ ap (λ xs. xs ++ EndFunction v ∷ []) e;
       tellable = tellable_last ds (definition n k v front.body) told (definition_told n k v front.body fits.0 f.parameters f.variables fit);
       fits = tt;
     }
@@ -338,12 +338,12 @@ nothing_then (EndCall f) q w e = by (is_callee_numbered f) e
     by : (b : Bool) → (if b then None else None) ≡ Some q → ⊥
     by true h = cc
     by false h = cc
-nothing_then (Begin n k) q w e = w
-nothing_then (Finish v) q w e = w
+nothing_then (BeginFunction n k) q w e = w
+nothing_then (EndFunction v) q w e = w
 nothing_then a q w e = cc
 
 -- inside of a function no other begins
-never_begins : (n k : ℕ) (h : Hole) (q : Opened) → follow (Begin n k) (open_hole h) ≡ Some q → ⊥
+never_begins : (n k : ℕ) (h : Hole) (q : Opened) → follow (BeginFunction n k) (open_hole h) ≡ Some q → ⊥
 never_begins n k (Statement (InFun m j b)) q e = cc
 never_begins n k (Statement (InFirst c b outer)) q e = cc
 never_begins n k (Statement (InSecond c s b outer)) q e = cc
@@ -354,8 +354,8 @@ never_begins n k (RightSide o x h) q e = cc
 never_begins n k (Arguments h) q e = cc
 
 nothing_makes : (a : Action) (q : Opened) (acts : List Action) (ds : List Definition) → definitions_actions ds ++ [] ≡ acts → AreTellable ds → follow a [] ≡ Some q → Makes (acts ++ a ∷ []) q
-nothing_makes (Begin n k) q acts ds e told is = begun n k q acts ds e told is
-nothing_makes (Finish v) q acts ds e told is = absurd (cc)
+nothing_makes (BeginFunction n k) q acts ds e told is = begun n k q acts ds e told is
+nothing_makes (EndFunction v) q acts ds e told is = absurd (cc)
 nothing_makes (PushConstant x) q acts ds e told is = absurd (nothing_then (PushConstant x) q tt is)
 nothing_makes (FetchVariable v) q acts ds e told is = absurd (nothing_then (FetchVariable v) q tt is)
 nothing_makes (StoreVariable v o) q acts ds e told is = absurd (nothing_then (StoreVariable v o) q tt is)
@@ -366,9 +366,9 @@ nothing_makes a q acts ds e told is = absurd (cc)
 
 hole_makes : (a : Action) (h : Hole) (q : Opened) (acts : List Action) (ds : List Definition) → definitions_actions ds ++ hole_actions h ≡ acts → AreTellable ds → HoleFits h → hole_count h ≤ 200 →
     follow a (open_hole h) ≡ Some q → open_count q ≤ 200 → Makes (acts ++ a ∷ []) q
-hole_makes (Begin n k) h q acts ds e told fits least is small = absurd (never_begins n k h q is)
-hole_makes (Finish v) (Statement (InFun n k b)) q acts ds e told fits least is small = finished n k v b q acts ds e told fits is
-hole_makes (Finish v) h q acts ds e told fits least is small = absurd (cc)
+hole_makes (BeginFunction n k) h q acts ds e told fits least is small = absurd (never_begins n k h q is)
+hole_makes (EndFunction v) (Statement (InFun n k b)) q acts ds e told fits least is small = finished n k v b q acts ds e told fits is
+hole_makes (EndFunction v) h q acts ds e told fits least is small = absurd (cc)
 hole_makes (PushConstant x) h q acts ds e told fits least is small = within_makes (PushConstant x) h q acts ds e told small (step (PushConstant x) h q fits least is small tt)
 hole_makes (FetchVariable v) h q acts ds e told fits least is small = within_makes (FetchVariable v) h q acts ds e told small (step (FetchVariable v) h q fits least is small tt)
 hole_makes (StoreVariable v o) h q acts ds e told fits least is small = within_makes (StoreVariable v o) h q acts ds e told small (step (StoreVariable v o) h q fits least is small tt)
@@ -395,7 +395,6 @@ one_makes a acts o q m e small = by m.held m.actions m.fits (subst (λ (p : Open
 -- Any actions more.
 
 few_is : (q : Opened) → few_open q ≡ true → open_count q ≤ 200
-unfolding most_open
 few_is q h = grind (arith, nat_tests)
 
 all_make : (xs acts : List Action) (o : Opened) → Makes acts o → IsTrue (is_some (follow_all xs o)) → IsBeginning (acts ++ xs)

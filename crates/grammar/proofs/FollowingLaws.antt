@@ -8,8 +8,8 @@ use Rattle.grammar.specs.declared.names.Var.{Var}
 use Rattle.grammar.specs.declared.names.Var.TheVariants as var
 use Rattle.grammar.specs.declared.operators.Op.{Op}
 use Rattle.grammar.specs.declared.operators.Op.TheVariants as op
-use Rattle.grammar.specs.Actions.{Action, PushConstant, FetchVariable, StoreVariable, ApplyBinop, LogicMiddle, BeginCall, EndCall, IfTest, ElsePart, EndIf, BeginWhile, WhileTest, EndWhile, GiveBack, Chop, Begin, Finish, expr_actions, args_actions, body_actions, last_return, middle, function_actions, functions_actions, numbered_actions}
-use Rattle.grammar.specs.Following.{Open, InFunction, AValue, BeforeRight, InCall, InBranch, InElse, BeforeTest, InTurn, Opened, Origin, Number, Fetched, Stepped, Computed, open_count, is_place, few_open, follow, follow_all, then_follow, most_open, most_numbers, is_var_numbered, is_callee_numbered, statement_done, call_done, is_number, same_op, same_var}
+use Rattle.grammar.specs.Actions.{Action, PushConstant, FetchVariable, StoreVariable, ApplyBinop, LogicMiddle, BeginCall, EndCall, IfTest, ElsePart, EndIf, BeginWhile, WhileTest, EndWhile, GiveBack, Chop, BeginFunction, EndFunction, expr_actions, args_actions, body_actions, last_return, middle, function_actions, functions_actions, numbered_actions}
+use Rattle.grammar.specs.Following.{Open, InFunction, AValue, BeforeRight, InCall, InBranch, InElse, BeforeTest, InTurn, Opened, Origin, Number, Fetched, Stepped, Computed, open_count, is_place, few_open, follow, follow_all, then_follow, most_numbers, is_var_numbered, is_callee_numbered, statement_done, call_done, is_number, same_op, same_var}
 use Rattle.grammar.specs.Nesting.{nesting, args_nesting, body_nesting, right_side}
 use Rattle.grammar.specs.Operators.{is_logic}
 -- how the value of an expression came about
@@ -38,7 +38,6 @@ follow_append [] ys o p e = ap (follow_all ys) (some_same o p e)
 follow_append (x ∷ xs) ys o p e = then_append xs ys (follow x o) p (λ q h. follow_append xs ys q p h) e
 
 few : (o : Opened) → open_count o ≤ 200 → few_open o ≡ true
-unfolding most_open
 few o h = le-leb (open_count o) 200 h
 
 -- one action, and those after it
@@ -269,24 +268,24 @@ keeps_function (While c s rest) parameters before = let k : KeepsFunction rest p
 keeps_function (Return e rest) parameters before =
     let k : KeepsFunction rest parameters (is_number 0 (origin_of e)) = keeps_function rest parameters (is_number 0 (origin_of e)) in record { returned = k.returned; is = k.is }
 
-pub function_begins : (number parameters : ℕ) → number < 64 → parameters ≤ 64 → follow (Begin number parameters) [] ≡ Some (InFunction parameters false ∷ [])
+pub function_begins : (number parameters : ℕ) → number < 64 → parameters ≤ 64 → follow (BeginFunction number parameters) [] ≡ Some (InFunction parameters false ∷ [])
 unfolding most_numbers
 function_begins number parameters h k = rw (lt-ltb number 64 h, le-leb parameters 64 k) refl
 
-pub function_finishes : (parameters variables : ℕ) → parameters ≤ variables → variables ≤ 64 → follow (Finish variables) (InFunction parameters true ∷ []) ≡ Some []
+pub function_finishes : (parameters variables : ℕ) → parameters ≤ variables → variables ≤ 64 → follow (EndFunction variables) (InFunction parameters true ∷ []) ≡ Some []
 unfolding most_numbers
 function_finishes parameters variables h k = rw (le-leb parameters variables h, le-leb variables 64 k) refl
 
 -- a function's actions, by its number, its parameters, its variables and its body
 pub definition_leads : (number parameters variables : ℕ) (body : Body) → number < 64 → parameters ≤ variables → variables ≤ 64 → InBody 64 64 64 body → body_nesting body ≤ 200 →
-    Leads (Begin number parameters ∷ (body_actions body ++ (last_return ++ Finish variables ∷ []))) [] []
+    Leads (BeginFunction number parameters ∷ (body_actions body ++ (last_return ++ EndFunction variables ∷ []))) [] []
 definition_leads number parameters variables body known within most h small =
     let k : KeepsFunction body parameters false = keeps_function body parameters false in
-    also (Begin number parameters) _ _ (InFunction parameters false ∷ []) _ (function_begins number parameters known (omega arith)) (omega arith)
+    also (BeginFunction number parameters) _ _ (InFunction parameters false ∷ []) _ (function_begins number parameters known (omega arith)) (omega arith)
     (chain (body_actions body) _ _ (InFunction parameters k.returned ∷ []) _ (leads_to _ _ _ _ k.is (body_leads body (InFunction parameters false ∷ []) refl h (omega arith)))
     (also (PushConstant (pos 0)) _ _ (AValue (Number (pos 0)) ∷ InFunction parameters k.returned ∷ []) _ refl (omega arith)
     (also GiveBack _ _ (InFunction parameters true ∷ []) _ refl (omega arith)
-    (act (Finish variables) _ _ (function_finishes parameters variables within most) (omega arith)))))
+    (act (EndFunction variables) _ _ (function_finishes parameters variables within most) (omega arith)))))
 
 pub function_leads : (number : ℕ) (f : Function) → number < 64 → InFile 64 64 f → body_nesting f.body ≤ 200 → Leads (function_actions number f) [] []
 function_leads number f known h small =

@@ -1,8 +1,8 @@
 -- The known sources, worked out.
 use Rattle.std.proofs.Common.{refl, ◌∷◌}
-use Rattle.grammar.specs.Actions.{Begin}
+use Rattle.grammar.specs.Actions.{BeginFunction}
 use Rattle.grammar.specs.Faults.{most_levels, most_names}
-use Rattle.grammar.specs.Following.{most_open, most_numbers}
+use Rattle.grammar.specs.Following.{most_numbers}
 use Rattle.grammar.specs.Intrinsics.{intrinsic_named, name_of}
 use Rattle.grammar.specs.Profile.{first_profile}
 use Rattle.grammar.specs.KnownSources.{calls_begun, KnownBeginnings, KnownLimits, KnownMisfits, KnownNameFaults, KnownNeeds, KnownTrees}
@@ -87,7 +87,7 @@ limits = record {
 }
 
 pub beginnings : KnownBeginnings
-unfolding most_open most_numbers
+unfolding most_numbers
 beginnings = record {
   sum_of_postfix = refl;
   distance = refl;
@@ -106,6 +106,6 @@ beginnings = record {
   no_last_return = refl;
   fewer_variables_than_parameters = refl;
   number_too_large = refl;
-  most_open = follows_begins (Begin 0 0 ∷ calls_begun 200) refl;
+  most_open = follows_begins (BeginFunction 0 0 ∷ calls_begun 200) refl;
   too_much_open = refl;
 }

@@ -2,7 +2,7 @@
 use Rattle.std.proofs.Common.{◌≡◌, ℕ, ◌+◌, ◌<◌, ◌≤◌, List, [], ◌∷◌, ◌++◌, refl, Bool, true, false, arith, append_assoc}
 use Rattle.std.specs.Prelude.{Some}
 use Rattle.grammar.specs.declared.operators.Op.{Op}
-use Rattle.grammar.specs.Actions.{Action, LogicMiddle, BeginCall, IfTest, ElsePart, BeginWhile, WhileTest, Begin, expr_actions, body_actions}
+use Rattle.grammar.specs.Actions.{Action, LogicMiddle, BeginCall, IfTest, ElsePart, BeginWhile, WhileTest, BeginFunction, expr_actions, body_actions}
 use Rattle.grammar.specs.Following.{InFunction, AValue, BeforeRight, InCall, InBranch, InElse, BeforeTest, InTurn, Open, Opened, open_count, is_place, is_number, statement_done, within}
 use Rattle.grammar.specs.Nesting.{nesting, body_nesting}
 use Rattle.grammar.specs.Operators.{is_logic}
@@ -40,7 +40,7 @@ open_hole (RightSide op e h) = BeforeRight op ∷ AValue (origin_of e) ∷ open_
 open_hole (Arguments h) = InCall ∷ open_hole h
 
 abbrev pub place_actions : Place → List Action
-place_actions (InFun n k b) = Begin n k ∷ body_actions b
+place_actions (InFun n k b) = BeginFunction n k ∷ body_actions b
 place_actions (InFirst c b outer) = place_actions outer ++ (expr_actions c ++ IfTest ∷ body_actions b)
 place_actions (InSecond c s b outer) = place_actions outer ++ (expr_actions c ++ IfTest ∷ (body_actions s ++ ElsePart ∷ body_actions b))
 place_actions (InLoop c b outer) = place_actions outer ++ BeginWhile ∷ (expr_actions c ++ WhileTest ∷ body_actions b)

@@ -9,7 +9,7 @@ use Rattle.grammar.specs.declared.names.Var.{Var}
 use Rattle.grammar.specs.declared.names.Var.TheVariants as var
 use Rattle.grammar.specs.declared.operators.Op.{Op}
 use Rattle.grammar.specs.declared.operators.StoreOp.{StoreOp}
-use Rattle.grammar.specs.Actions.{Action, PushConstant, FetchVariable, StoreVariable, ApplyBinop, LogicMiddle, BeginCall, EndCall, IfTest, ElsePart, EndIf, BeginWhile, WhileTest, EndWhile, GiveBack, Chop, Begin, Finish, expr_actions, args_actions, body_actions}
+use Rattle.grammar.specs.Actions.{Action, PushConstant, FetchVariable, StoreVariable, ApplyBinop, LogicMiddle, BeginCall, EndCall, IfTest, ElsePart, EndIf, BeginWhile, WhileTest, EndWhile, GiveBack, Chop, BeginFunction, EndFunction, expr_actions, args_actions, body_actions}
 use Rattle.grammar.specs.Following.{AValue, BeforeRight, InCall, InBranch, InElse, BeforeTest, Opened, Origin, Number, Fetched, Stepped, Computed, open_count, is_place, is_number, is_step, is_var_numbered, is_callee_numbered, same_var, same_op, stored, statement_done, call_done, only_on, within, follow, most_numbers}
 use Rattle.grammar.specs.Nesting.{nesting, args_nesting, body_nesting, right_side}
 use Rattle.grammar.specs.Operators.{is_logic}
@@ -21,8 +21,8 @@ use Rattle.grammar.proofs.Unfinished.{Place, InFun, InFirst, InSecond, InLoop, H
 
 -- the action neither begins a function nor ends one
 abbrev pub IsWithin : Action → Type 0
-IsWithin (Begin n k) = ⊥
-IsWithin (Finish v) = ⊥
+IsWithin (BeginFunction n k) = ⊥
+IsWithin (EndFunction v) = ⊥
 IsWithin a = Unit {0}
 
 -- after the action the functions are so
@@ -331,5 +331,5 @@ step WhileTest h q fits least e small w = while_test h q fits e small
 step EndWhile h q fits least e small w = end_while h q fits e small
 step GiveBack h q fits least e small w = give_back h q fits e small
 step Chop h q fits least e small w = chop h q fits e small
-step (Begin n k) h q fits least e small w = absurd w
-step (Finish v) h q fits least e small w = absurd w
+step (BeginFunction n k) h q fits least e small w = absurd w
+step (EndFunction v) h q fits least e small w = absurd w

@@ -26,8 +26,8 @@ pub data Action : Type 0 where
   EndWhile : Action  -- after a while
   GiveBack : Action  -- a return, after its value
   Chop : Action  -- a value is dropped: that of a statement, or the new one of v++ and v--
-  Begin : (number parameters : ℕ) → Action  -- a function begins
-  Finish : (variables : ℕ) → Action  -- it ends
+  BeginFunction : (number parameters : ℕ) → Action  -- a function begins
+  EndFunction : (variables : ℕ) → Action  -- it ends
 
 -- if the right side of && and || is left out: how many instructions are made between the sides
 abbrev pub middle_length : Op → ℕ
@@ -57,8 +57,8 @@ instructions p WhileTest = 1
 instructions p EndWhile = 2
 instructions p GiveBack = 1
 instructions p Chop = 1
-instructions p (Begin number parameters) = 0
-instructions p (Finish variables) = 0
+instructions p (BeginFunction number parameters) = 0
+instructions p (EndFunction variables) = 0
 
 -- how many instructions these actions make
 abbrev pub code_length : Profile → List Action → ℕ
@@ -97,7 +97,7 @@ last_return = PushConstant (pos 0) ∷ GiveBack ∷ []
 
 abbrev pub function_actions : ℕ → Function → List Action
 function_actions number f =
-    Begin number f.parameters ∷ (body_actions f.body ++ (last_return ++ Finish (length f.variables) ∷ []))
+    BeginFunction number f.parameters ∷ (body_actions f.body ++ (last_return ++ EndFunction (length f.variables) ∷ []))
 
 abbrev pub numbered_actions : ℕ → Option Function → List Action
 numbered_actions number None = []

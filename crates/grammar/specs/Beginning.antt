@@ -1,19 +1,21 @@
 -- Which lists of actions may be reported to a builder: the beginnings of those of some functions.
 use Rattle.std.specs.Prelude.{◌≡◌, ◌<◌, ◌≤◌, List, [], ◌∷◌, ◌++◌, length}
 use Rattle.grammar.specs.Actions.{Action}
+use Rattle.grammar.specs.declared.pools.TheConstants.{MOST_NAMES}
 use Rattle.grammar.specs.Derivation.{Definition}
 use Rattle.grammar.specs.Faults.{definitions_actions}
+use Rattle.grammar.specs.Following.{most_open}
 use Rattle.grammar.specs.Nesting.{body_nesting}
 use Rattle.grammar.specs.Resolved.{InBody}
 
--- a function whose numbers are below 64, its own among them, and in which at most 200 calls, ifs, whiles and right
--- sides of && and || are open at once
+-- a function whose numbers are within the limits, its own among them, and in which no more calls, ifs, whiles and right
+-- sides of && and || are open at once than may be
 pub record IsTellable (d : Definition) : Type 0 where
-  pub number : d.number < 64
+  pub number : d.number < MOST_NAMES
   pub parameters : d.function.parameters ≤ length d.function.variables
-  pub variables : length d.function.variables ≤ 64
-  pub names : InBody 64 64 64 d.function.body
-  pub few : body_nesting d.function.body ≤ 200
+  pub variables : length d.function.variables ≤ MOST_NAMES
+  pub names : InBody MOST_NAMES MOST_NAMES MOST_NAMES d.function.body
+  pub few : body_nesting d.function.body ≤ most_open
 
 abbrev pub AreTellable : List Definition → Type 0
 AreTellable [] = Unit {0}

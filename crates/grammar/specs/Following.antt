@@ -10,11 +10,11 @@ use Rattle.grammar.specs.declared.names.Var.TheVariants as var
 use Rattle.grammar.specs.declared.operators.Op.{Op}
 use Rattle.grammar.specs.Actions.{Action, PushConstant, FetchVariable, StoreVariable, ApplyBinop, LogicMiddle}
 use Rattle.grammar.specs.Actions.{BeginCall, EndCall, IfTest, ElsePart, EndIf, BeginWhile, WhileTest, EndWhile}
-use Rattle.grammar.specs.Actions.{GiveBack, Chop, Begin, Finish}
+use Rattle.grammar.specs.Actions.{GiveBack, Chop, BeginFunction, EndFunction}
 use Rattle.grammar.specs.Operators.{is_logic}
 
 -- the most calls, ifs, whiles and right sides of && and || that are open at once
-unfoldable pub most_open : ℕ
+abbrev pub most_open : ℕ
 most_open = 200
 
 -- the most externals, variables of a function, and functions, by whose numbers actions go
@@ -128,9 +128,9 @@ follow EndWhile (InTurn ∷ opened) = statement_done false opened
 follow GiveBack (AValue origin ∷ opened) = statement_done (is_number 0 origin) opened
 follow Chop (AValue origin ∷ AValue below ∷ opened) = only_on (is_step origin below) (AValue Computed ∷ opened)
 follow Chop (AValue origin ∷ opened) = statement_done false opened
-follow (Begin number parameters) [] =
+follow (BeginFunction number parameters) [] =
     only_on (nat_lt number most_numbers && nat_le parameters most_numbers) (InFunction parameters false ∷ [])
-follow (Finish variables) (InFunction parameters true ∷ []) = only_on
+follow (EndFunction variables) (InFunction parameters true ∷ []) = only_on
     (nat_le parameters variables && nat_le variables most_numbers) []
 follow action opened = None
 

@@ -17,7 +17,7 @@ use Rattle.grammar.specs.declared.names.Var.TheVariants as var
 use Rattle.grammar.specs.declared.operators.Op.TheVariants as op
 use Rattle.grammar.specs.declared.operators.StoreOp.TheVariants as store
 use Rattle.grammar.specs.Actions.{Action, PushConstant, FetchVariable, ApplyBinop, LogicMiddle, BeginCall, EndCall}
-use Rattle.grammar.specs.Actions.{IfTest, ElsePart, GiveBack, Chop, Begin, Finish, actions, code_length}
+use Rattle.grammar.specs.Actions.{IfTest, ElsePart, GiveBack, Chop, BeginFunction, EndFunction, actions, code_length}
 use Rattle.grammar.specs.Actions.{function_actions}
 use Rattle.grammar.specs.Compiled.{compiled_tokens, diagnostic}
 use Rattle.grammar.specs.Beginning.{IsBeginning}
@@ -392,7 +392,7 @@ pub record KnownNeeds : Type 0 where
 
 -- what is open after these actions of a function
 abbrev pub opened_by : List Action → Option Opened
-opened_by acts = follow_all (Begin 0 0 ∷ acts) []
+opened_by acts = follow_all (BeginFunction 0 0 ∷ acts) []
 
 -- the file's actions may follow one another, and leave nothing open
 abbrev pub IsClosed : File → Type 0
@@ -419,11 +419,11 @@ pub record KnownBeginnings : Type 0 where
       ∷ EndCall (callee.Intrinsic intrinsic.Scan) ∷ []) ≡ Some (AValue Computed ∷ InFunction 0 false ∷ [])
   pub statement_in_call : opened_by (BeginCall ∷ PushConstant (pos 1) ∷ Chop ∷ []) ≡ None
   pub else_alone : opened_by (ElsePart ∷ []) ≡ None
-  pub if_within_a_function : opened_by (PushConstant (pos 1) ∷ IfTest ∷ PushConstant (pos 0) ∷ GiveBack ∷ Finish 0
+  pub if_within_a_function : opened_by (PushConstant (pos 1) ∷ IfTest ∷ PushConstant (pos 0) ∷ GiveBack ∷ EndFunction 0
       ∷ []) ≡ None
-  pub no_last_return : opened_by (PushConstant (pos 1) ∷ GiveBack ∷ Finish 0 ∷ []) ≡ None
-  pub fewer_variables_than_parameters : follow_all (Begin 0 2 ∷ PushConstant (pos 0) ∷ GiveBack ∷ Finish 1 ∷ []) []
-      ≡ None
+  pub no_last_return : opened_by (PushConstant (pos 1) ∷ GiveBack ∷ EndFunction 0 ∷ []) ≡ None
+  pub fewer_variables_than_parameters : follow_all (BeginFunction 0 2 ∷ PushConstant (pos 0) ∷ GiveBack
+      ∷ EndFunction 1 ∷ []) [] ≡ None
   pub number_too_large : opened_by (FetchVariable (var.Local 64) ∷ []) ≡ None
-  pub most_open : IsBeginning (Begin 0 0 ∷ calls_begun 200)
+  pub most_open : IsBeginning (BeginFunction 0 0 ∷ calls_begun 200)
   pub too_much_open : opened_by (calls_begun 201) ≡ None

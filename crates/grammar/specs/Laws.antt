@@ -12,7 +12,7 @@ use Rattle.grammar.specs.Faults.{Fault, faults_at, levels}
 use Rattle.grammar.specs.Actions.{Action, actions}
 use Rattle.grammar.specs.Building.{Meaning, MayFollow, StandsOpen}
 use Rattle.grammar.specs.Beginning.{IsBeginning}
-use Rattle.grammar.specs.Following.{AreInOrder, Opened, follow, follow_all, open_count}
+use Rattle.grammar.specs.Following.{AreInOrder, Opened, follow, follow_all, most_open, open_count}
 use Rattle.grammar.specs.Grammar.{Symbol, Declarations, Statements, Item, Part, Make, Define, Production, choice}
 use Rattle.grammar.specs.Grammar.{enters}
 use Rattle.grammar.specs.Need.{need}
@@ -54,7 +54,7 @@ LevelsAreClosed = (symbol : Symbol) (next after : Token)
 -- at once
 abbrev pub EachFileFollows : Type 0
 EachFileFollows = (file : File) → IsResolved file
-    → ((k : ℕ) (f : Function) → slice_get file.functions k ≡ Some f → body_nesting f.body ≤ 200) →
+    → ((k : ℕ) (f : Function) → slice_get file.functions k ≡ Some f → body_nesting f.body ≤ most_open) →
     follow_all (actions file) [] ≡ Some []
 
 -- actions are a beginning of those of some functions exactly if each may follow those before it
@@ -72,7 +72,7 @@ CompiledIsResolved = (profile : Profile) (located_tokens : List LocatedToken) (f
 -- to a builder that represents a list that leaves this open, an action may be reported that may follow what is open
 abbrev pub MayBeTold : Meaning → Type 0
 MayBeTold stands = (opened next : Opened) (action : Action) → StandsOpen stands opened
-    → follow action opened ≡ Some next → open_count next ≤ 200 → MayFollow stands action
+    → follow action opened ≡ Some next → open_count next ≤ most_open → MayFollow stands action
 
 -- the function that is being defined keeps its number, its name and its parameters, and no other definition begins
 pub record KeepsFunction (known learnt : Scope) : Type 0 where

@@ -4,6 +4,7 @@ use Rattle.std.specs.Prelude.{if◌then◌else◌}
 use Rattle.std.specs.List.{IsDistinct, list_any}
 use Rattle.tokens.specs.declared.located_tokens.LocatedToken.{LocatedToken}
 use Rattle.grammar.specs.declared.diagnostics.Code.{Code}
+use Rattle.grammar.specs.declared.pools.TheConstants.{MOST_NAMES}
 use Rattle.grammar.specs.Faults.{fault, role_faults}
 use Rattle.grammar.specs.Grammar.{Role}
 use Rattle.grammar.specs.Scope.{Scope, behind_name}
@@ -19,7 +20,7 @@ RefusesName role name scope c = (rest : List LocatedToken) → role_faults role 
 
 -- each function that was mentioned has its line, and the definition of each begins once at most
 pub record IsKept {F : Type 0} (functions : List F) (lines begun : List ℕ) : Type 0 where
-  pub few : length functions ≤ 64
+  pub few : length functions ≤ MOST_NAMES
   pub lined : length lines ≡ length functions
   pub once : IsDistinct eqb begun
   pub known : (q : ℕ) → list_any (eqb q) begun ≡ true → q < length functions

@@ -3,7 +3,7 @@
 ghost use Rattle.std.specs.Prelude.{◌≡◌, ℕ, ◌+◌, ◌<◌, ◌≤◌, List, [], ◌∷◌, ◌++◌, Bool, IsTrue, IsErrOf, OnOk, OnErr};
 ghost use Rattle.grammar.specs.Actions.{Action, PushConstant, FetchVariable, StoreVariable, ApplyBinop, LogicMiddle};
 ghost use Rattle.grammar.specs.Actions.{BeginCall, EndCall, IfTest, ElsePart, EndIf, BeginWhile, WhileTest, EndWhile};
-ghost use Rattle.grammar.specs.Actions.{GiveBack, Chop, Begin, Finish};
+ghost use Rattle.grammar.specs.Actions.{GiveBack, Chop, BeginFunction, EndFunction};
 ghost use Rattle.grammar.specs.Building.{Appends, FitsWithin, IsOver, MayFollow, Refuses};
 ghost use Rattle.grammar.specs.Profile.{Profile};
 
@@ -122,16 +122,16 @@ pub trait Build {
 
     /// Begins the function of this number, with so many parameters.
     fn begin_function(&mut self, number: u8, parameters: u8) -> Result<(), BuildFault>
-        requires follows { MayFollow (stands self.old) (Begin number parameters) }
-        ensures ok { OnOk result (Appends (stands self.old) (stands self.new) (Begin number parameters)) }
+        requires follows { MayFollow (stands self.old) (BeginFunction number parameters) }
+        ensures ok { OnOk result (Appends (stands self.old) (stands self.new) (BeginFunction number parameters)) }
         ensures memory { Refuses result allocates };
 
     /// Ends the function, with so many variables, parameters among them.
     ///
     /// Answers `Full` exactly if the code so far and the final NOP pass the most instructions of a file.
     fn end_function(&mut self, variables: u8) -> Result<(), BuildFault>
-        requires follows { MayFollow (stands self.old) (Finish variables) }
-        ensures ok { OnOk result (Appends (stands self.old) (stands self.new) (Finish variables)) }
+        requires follows { MayFollow (stands self.old) (EndFunction variables) }
+        ensures ok { OnOk result (Appends (stands self.old) (stands self.new) (EndFunction variables)) }
         ensures fits { OnOk result (FitsWithin (stands self.old)) }
         ensures full { IsErrOf result BuildFault.Full → IsOver (stands self.old) }
         ensures memory { IsErrOf result BuildFault.Memory → IsTrue allocates }

@@ -10,7 +10,7 @@ use Rattle.grammar.specs.declared.diagnostics.Code.TheVariants as code
 use Rattle.grammar.specs.declared.diagnostics.Diagnostic.{Diagnostic}
 use Rattle.grammar.specs.declared.diagnostics.ParseFault.{ParseFault}
 use Rattle.grammar.specs.declared.diagnostics.ParseFault.TheVariants as refusal
-use Rattle.grammar.specs.Actions.{Action, Begin, Finish, body_actions, code_length, function_actions, last_return}
+use Rattle.grammar.specs.Actions.{Action, BeginFunction, EndFunction, body_actions, code_length, function_actions, last_return}
 use Rattle.grammar.specs.Building.{Meaning, AppendsAll}
 use Rattle.grammar.specs.Derivation.{ABody, Definition, Value, definition_of, state}
 use Rattle.grammar.specs.Faults.{definitions_actions, is_too_long}
@@ -52,14 +52,14 @@ braced before after at now there h b = joined 0 0 definition_items (Part Functio
 
 -- the code of functions and one more is what was told up to its return
 code_with : (p : Profile) (functions : List Definition) (scope : Scope) (body : Body) (parameters number : ℕ) →
-    code_length p (definitions_actions (functions ++ definition_of scope body ∷ [])) ≡ code_length p (((definitions_actions functions ++ Begin number parameters ∷ []) ++ body_actions body) ++ last_return)
+    code_length p (definitions_actions (functions ++ definition_of scope body ∷ [])) ≡ code_length p (((definitions_actions functions ++ BeginFunction number parameters ∷ []) ++ body_actions body) ++ last_return)
 code_with p functions scope body parameters number =
     let d : Definition = definition_of scope body in
-    let finish : List Action = last_return ++ Finish (length scope.current.variables) ∷ [] in
-    let told : List Action = definitions_actions functions ++ Begin number parameters ∷ [] in
+    let finish : List Action = last_return ++ EndFunction (length scope.current.variables) ∷ [] in
+    let told : List Action = definitions_actions functions ++ BeginFunction number parameters ∷ [] in
     ap (code_length p) (definitions_actions-append functions (d ∷ []))
     ∙ code_length-append p (definitions_actions functions) (function_actions d.number d.function ++ [])
-    ∙ omega (arith, code_length-append p (function_actions d.number d.function) [], code_length-append p (body_actions body) finish, code_length-append p (told ++ body_actions body) last_return, code_length-append p told (body_actions body), code_length-append p (definitions_actions functions) (Begin number parameters ∷ []))
+    ∙ omega (arith, code_length-append p (function_actions d.number d.function) [], code_length-append p (body_actions body) finish, code_length-append p (told ++ body_actions body) last_return, code_length-append p told (body_actions body), code_length-append p (definitions_actions functions) (BeginFunction number parameters ∷ []))
 
 within_limit : (profile : Profile) (n m : ℕ) → n ≡ m → m + 1 ≤ profile.instructions → nat_lt profile.instructions (n + 1) ≡ false
 within_limit profile n m e h = grind (arith, nat_tests)
@@ -70,11 +70,11 @@ past_limit profile n m e h = grind (arith, nat_tests)
 -- A function that was read.
 
 -- what the builder was told of it
-pub told_function : (first second third fourth : Meaning) (number parameters variables : ℕ) (body : Body) → AppendsAll first second (Begin number parameters ∷ []) → AppendsAll second third (body_actions body) →
-    AppendsAll third fourth (last_return ++ Finish variables ∷ []) → AppendsAll first fourth (Begin number parameters ∷ (body_actions body ++ (last_return ++ Finish variables ∷ [])))
+pub told_function : (first second third fourth : Meaning) (number parameters variables : ℕ) (body : Body) → AppendsAll first second (BeginFunction number parameters ∷ []) → AppendsAll second third (body_actions body) →
+    AppendsAll third fourth (last_return ++ EndFunction variables ∷ []) → AppendsAll first fourth (BeginFunction number parameters ∷ (body_actions body ++ (last_return ++ EndFunction variables ∷ [])))
 told_function first second third fourth number parameters variables body a b c profile acts h =
     subst (λ (xs : List Action). fourth profile xs)
-    (append_assoc (acts ++ Begin number parameters ∷ []) (body_actions body) (last_return ++ Finish variables ∷ []) ∙ append_assoc acts (Begin number parameters ∷ []) (body_actions body ++ (last_return ++ Finish variables ∷ [])))
+    (append_assoc (acts ++ BeginFunction number parameters ∷ []) (body_actions body) (last_return ++ EndFunction variables ∷ []) ∙ append_assoc acts (BeginFunction number parameters ∷ []) (body_actions body ++ (last_return ++ EndFunction variables ∷ [])))
     (c profile _ (b profile _ (a profile acts h)))
 
 -- The function that a name began is that at the closing brace.
@@ -84,11 +84,11 @@ pub record IsSame (n p v : ℕ) (scope : Scope) : Type 0 where
   pub variables : length scope.current.variables ≡ v
 
 function_told : (number parameters variables : ℕ) (scope : Scope) (body : Body) → IsSame number parameters variables scope →
-    definitions_actions (definition_of scope body ∷ []) ≡ Begin number parameters ∷ (body_actions body ++ (last_return ++ Finish variables ∷ []))
+    definitions_actions (definition_of scope body ∷ []) ≡ BeginFunction number parameters ∷ (body_actions body ++ (last_return ++ EndFunction variables ∷ []))
 function_told number parameters variables scope body s = rw (append-nil, s.number, s.parameters, s.variables) refl
 
 short_enough : (profile : Profile) (second third fourth : Meaning) (functions : List Definition) (scope : Scope) (body : Body) (number parameters variables : ℕ) → AppendsAll second third (body_actions body) → ClosesFunction third fourth variables →
-    second profile (definitions_actions functions ++ Begin number parameters ∷ []) → is_too_long profile (functions ++ definition_of scope body ∷ []) ≡ false
+    second profile (definitions_actions functions ++ BeginFunction number parameters ∷ []) → is_too_long profile (functions ++ definition_of scope body ∷ []) ≡ false
 short_enough profile second third fourth functions scope body number parameters variables b c h =
     within_limit profile _ _ (code_with profile functions scope body parameters number) (c.fits profile _ (b profile _ h))
 
@@ -136,7 +136,7 @@ tokens_ended brace ended s = rw (s.reading, s.to_come) refl
 -- a function was read, whose closing brace ends it
 pub function_advances : (first second third fourth : Meaning) (at now brace ended there : Place) (number parameters variables : ℕ) →
     Derives 0 heading_items [] [] [] at now → (b : AddsBlock second third now brace) → IsSame number parameters variables (scope_at brace) → IsEnded brace ended →
-    AppendsAll first second (Begin number parameters ∷ []) → ClosesFunction third fourth variables →
+    AppendsAll first second (BeginFunction number parameters ∷ []) → ClosesFunction third fourth variables →
     DerivesItem (Exactly punctuator.CloseCurly) [] [] ended there → is_fault (next_at brace).token ≡ false → is_fault (next_at there).token ≡ false →
     ReadsOn first fourth at_definition at_source at there
 function_advances first second third fourth at now brace ended there number parameters variables h b same s told c e sound_brace sound =
@@ -181,7 +181,7 @@ block_stops before after at now d h grown fails located_tokens is profile functi
     (fails_then 0 definition_items (Part FunctionBlock ∷ []) [] [] at now d (headed at now h) fails located_tokens is profile at_source [] functions refl)
 
 pub block_refused : (used : ℕ) (before second after : Meaning) (at now : Place) (number parameters : ℕ) (f : ParseFault) (allocates : Bool) → Derives 0 heading_items [] [] [] at now →
-    AppendsAll before second (Begin number parameters ∷ []) → (refusal.Device ≡ f → HasGrown second after) → Refused (FailsAt 0 (Part FunctionBlock ∷ []) [] now) allocates used f →
+    AppendsAll before second (BeginFunction number parameters ∷ []) → (refusal.Device ≡ f → HasGrown second after) → Refused (FailsAt 0 (Part FunctionBlock ∷ []) [] now) allocates used f →
     Refused (StopsReading before after at_definition at) allocates used f
 block_refused used before second after at now number parameters f allocates h told = by_fault f
   where
@@ -197,7 +197,7 @@ definition_halts before after pending left at now used d near located_tokens is 
     telling_inside after profile _ (stop_with refusal.Memory used) (λ device. absurd (cc)) (halts 0 definition_items pending [] left at now used d near located_tokens is profile at_source [] functions refl)
 
 too_much_stops : (first second third after : Meaning) (at now brace : Place) (number parameters : ℕ) (d : Diagnostic) (used : ℕ) → IsNearTo brace.position.reading used → Derives 0 heading_items [] [] [] at now → (b : AddsBlock second third now brace) →
-    AppendsAll first second (Begin number parameters ∷ []) → is_fault (next_at brace).token ≡ false → is_punctuator punctuator.CloseCurly (next_at brace).token ≡ true → IsTooMuch third (next_at brace).line d → StopsReading first after at_definition at (stop_with (refusal.Source d) used)
+    AppendsAll first second (BeginFunction number parameters ∷ []) → is_fault (next_at brace).token ≡ false → is_punctuator punctuator.CloseCurly (next_at brace).token ≡ true → IsTooMuch third (next_at brace).line d → StopsReading first after at_definition at (stop_with (refusal.Source d) used)
 too_much_stops first second third after at now brace number parameters d used near h b told sound closed much located_tokens is profile functions k =
     let s : Derives 0 definition_items at_brace [] (ABody b.tree ∷ []) at brace = braced second third at now brace h b in
     let t : Takes s.consumed located_tokens brace = s.told located_tokens is in
@@ -211,7 +211,7 @@ too_much_stops first second third after at now brace number parameters d used ne
     (telling_back after profile _ _ _ s.consumed refl (s.passes t.rest (told_goes brace t.rest t.shows) profile at_source [] functions refl) (record { stops = stop; told = λ device. absurd (cc) }))
 
 pub too_much_refused : (used : ℕ) (first second third after : Meaning) (at now brace : Place) (number parameters : ℕ) (f : ParseFault) (allocates : Bool) → IsNearTo brace.position.reading used → Derives 0 heading_items [] [] [] at now → AddsBlock second third now brace →
-    AppendsAll first second (Begin number parameters ∷ []) → is_fault (next_at brace).token ≡ false → is_punctuator punctuator.CloseCurly (next_at brace).token ≡ true → RefusesEnd third (next_at brace).line allocates f →
+    AppendsAll first second (BeginFunction number parameters ∷ []) → is_fault (next_at brace).token ≡ false → is_punctuator punctuator.CloseCurly (next_at brace).token ≡ true → RefusesEnd third (next_at brace).line allocates f →
     Refused (StopsReading first after at_definition at) allocates used f
 too_much_refused used first second third after at now brace number parameters f allocates near h b told sound closed =
     by_fault f
@@ -224,7 +224,7 @@ too_much_refused used first second third after at now brace number parameters f 
 -- the closing brace itself is always there, but the token behind it may be a fault; the builder was told the function
 brace_stops : (first second third fourth : Meaning) (at now brace ended : Place) (number parameters variables : ℕ) (d : Stop) →
     Derives 0 heading_items [] [] [] at now → AddsBlock second third now brace → IsSame number parameters variables (scope_at brace) → IsEnded brace ended →
-    AppendsAll first second (Begin number parameters ∷ []) → ClosesFunction third fourth variables → is_fault (next_at brace).token ≡ false →
+    AppendsAll first second (BeginFunction number parameters ∷ []) → ClosesFunction third fourth variables → is_fault (next_at brace).token ≡ false →
     FailsItem (Exactly punctuator.CloseCurly) ended d → StopsReading first fourth at_definition at d
 brace_stops first second third fourth at now brace ended number parameters variables d h b same s told c sound fails located_tokens is profile functions k =
     let x : Derives 0 definition_items at_brace [] (ABody b.tree ∷ []) at brace = braced second third at now brace h b in
@@ -244,7 +244,7 @@ brace_stops first second third fourth at now brace ended number parameters varia
 
 pub brace_refused : (used : ℕ) (first second third fourth : Meaning) (at now brace ended : Place) (number parameters variables : ℕ) (f : ParseFault) (more : Bool) →
     Derives 0 heading_items [] [] [] at now → AddsBlock second third now brace → IsSame number parameters variables (scope_at brace) → IsEnded brace ended →
-    AppendsAll first second (Begin number parameters ∷ []) → ClosesFunction third fourth variables → is_fault (next_at brace).token ≡ false →
+    AppendsAll first second (BeginFunction number parameters ∷ []) → ClosesFunction third fourth variables → is_fault (next_at brace).token ≡ false →
     Refused (FailsItem (Exactly punctuator.CloseCurly) ended) false used f → Refused (StopsReading first fourth at_definition at) more used f
 brace_refused used first second third fourth at now brace ended number parameters variables f more h b same s told c sound =
     refused_map used _ _ false more f (λ d. brace_stops first second third fourth at now brace ended number parameters variables d h b same s told c sound) (λ never. absurd (cc))

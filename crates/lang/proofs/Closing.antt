@@ -1,6 +1,6 @@
 -- What a builder may be told of a function: its begin, the return at its end, and its end.
 use Rattle.std.proofs.Common.{◌≡◌, ℕ, pos, ◌+◌, ◌<◌, ◌≤◌, List, [], ◌∷◌, ◌++◌, refl, ◌∙◌, subst, true, false, arith, append_assoc}
-use Rattle.grammar.specs.Actions.{Action, Begin, Finish, GiveBack, PushConstant, body_actions, code_length, last_return}
+use Rattle.grammar.specs.Actions.{Action, BeginFunction, EndFunction, GiveBack, PushConstant, body_actions, code_length, last_return}
 use Rattle.grammar.specs.Building.{Meaning, Appends, AppendsAll, MayFollow, StandsOpen}
 use Rattle.grammar.specs.Following.{AValue, InFunction, Number}
 use Rattle.grammar.specs.Nesting.{body_nesting}
@@ -14,14 +14,14 @@ use Rattle.lang.specs.Progress.{ClosesFunction, MayEnd}
 
 -- A function begins.
 
-pub may_begin : (before : Meaning) (number parameters : ℕ) → StandsOpen before [] → number < 64 → parameters ≤ 64 → MayFollow before (Begin number parameters)
+pub may_begin : (before : Meaning) (number parameters : ℕ) → StandsOpen before [] → number < 64 → parameters ≤ 64 → MayFollow before (BeginFunction number parameters)
 may_begin before number parameters s known few =
-    may_follow before [] (InFunction parameters false ∷ []) (Begin number parameters) s (function_begins number parameters known few) (omega arith)
+    may_follow before [] (InFunction parameters false ∷ []) (BeginFunction number parameters) s (function_begins number parameters known few) (omega arith)
 
-pub begun : (before behind : Meaning) (number parameters : ℕ) → StandsOpen before [] → number < 64 → parameters ≤ 64 → Appends before behind (Begin number parameters) → StandsOpen behind (InFunction parameters false ∷ [])
+pub begun : (before behind : Meaning) (number parameters : ℕ) → StandsOpen before [] → number < 64 → parameters ≤ 64 → Appends before behind (BeginFunction number parameters) → StandsOpen behind (InFunction parameters false ∷ [])
 begun before behind number parameters s known few told =
-    stands_then before behind (Begin number parameters ∷ []) [] (InFunction parameters false ∷ []) told s
-    (follow_one (Begin number parameters) [] (InFunction parameters false ∷ []) (function_begins number parameters known few) (omega arith))
+    stands_then before behind (BeginFunction number parameters ∷ []) [] (InFunction parameters false ∷ []) told s
+    (follow_one (BeginFunction number parameters) [] (InFunction parameters false ∷ []) (function_begins number parameters known few) (omega arith))
 
 pub has_place : (before : Meaning) (parameters : ℕ) → StandsOpen before (InFunction parameters false ∷ []) → HasPlace before (room 1 1)
 has_place before parameters s = record { opened = InFunction parameters false ∷ []; place = refl; stands = s; few = omega arith }
@@ -55,26 +55,26 @@ pub may_give : (before behind : Meaning) (variables : ℕ) → MayEnd before var
 may_give before behind variables m told =
     may_follow behind (AValue (Number (pos 0)) ∷ InFunction m.parameters m.returned ∷ []) (InFunction m.parameters true ∷ []) GiveBack (pushed before behind variables m told) refl (omega arith)
 
-pub may_finish : (before mid behind : Meaning) (variables : ℕ) → MayEnd before variables → Appends before mid (PushConstant (pos 0)) → Appends mid behind GiveBack → MayFollow behind (Finish variables)
+pub may_finish : (before mid behind : Meaning) (variables : ℕ) → MayEnd before variables → Appends before mid (PushConstant (pos 0)) → Appends mid behind GiveBack → MayFollow behind (EndFunction variables)
 may_finish before mid behind variables m told given =
     let s : StandsOpen behind (InFunction m.parameters true ∷ []) =
     stands_then mid behind (GiveBack ∷ []) (AValue (Number (pos 0)) ∷ InFunction m.parameters m.returned ∷ []) (InFunction m.parameters true ∷ []) given (pushed before mid variables m told)
     (follow_one GiveBack (AValue (Number (pos 0)) ∷ InFunction m.parameters m.returned ∷ []) (InFunction m.parameters true ∷ []) refl (omega arith)) in
-    may_follow behind (InFunction m.parameters true ∷ []) [] (Finish variables) s (function_finishes m.parameters variables m.within m.few) (omega arith)
+    may_follow behind (InFunction m.parameters true ∷ []) [] (EndFunction variables) s (function_finishes m.parameters variables m.within m.few) (omega arith)
 
 -- what was told of its end
-pub closes : (before mid between after : Meaning) (variables : ℕ) → Appends before mid (PushConstant (pos 0)) → Appends mid between GiveBack → Appends between after (Finish variables) →
+pub closes : (before mid between after : Meaning) (variables : ℕ) → Appends before mid (PushConstant (pos 0)) → Appends mid between GiveBack → Appends between after (EndFunction variables) →
     ((profile : Profile) (acts : List Action) → between profile acts → code_length profile acts + 1 ≤ profile.instructions) → ClosesFunction before after variables
 closes before mid between after variables a b c fits = record {
   added = λ profile acts h. subst (λ (xs : List Action). after profile xs) (rejoin acts) (c profile _ (b profile _ (a profile acts h)));
   fits = λ profile acts h. subst (λ (xs : List Action). code_length profile xs + 1 ≤ profile.instructions) (append_assoc acts (PushConstant (pos 0) ∷ []) (GiveBack ∷ [])) (fits profile _ (b profile _ (a profile acts h)));
 }
   where
-    rejoin : (acts : List Action) → ((acts ++ PushConstant (pos 0) ∷ []) ++ GiveBack ∷ []) ++ Finish variables ∷ [] ≡ acts ++ (last_return ++ Finish variables ∷ [])
-    rejoin acts = append_assoc (acts ++ PushConstant (pos 0) ∷ []) (GiveBack ∷ []) (Finish variables ∷ []) ∙ append_assoc acts (PushConstant (pos 0) ∷ []) (GiveBack ∷ Finish variables ∷ [])
+    rejoin : (acts : List Action) → ((acts ++ PushConstant (pos 0) ∷ []) ++ GiveBack ∷ []) ++ EndFunction variables ∷ [] ≡ acts ++ (last_return ++ EndFunction variables ∷ [])
+    rejoin acts = append_assoc (acts ++ PushConstant (pos 0) ∷ []) (GiveBack ∷ []) (EndFunction variables ∷ []) ∙ append_assoc acts (PushConstant (pos 0) ∷ []) (GiveBack ∷ EndFunction variables ∷ [])
 
 -- Behind it nothing is open.
 pub closed : (before after : Meaning) (number parameters variables : ℕ) (body : Body) → StandsOpen before [] → number < 64 → parameters ≤ variables → variables ≤ 64 → InBody 64 64 64 body → body_nesting body ≤ 200 →
-    AppendsAll before after (Begin number parameters ∷ (body_actions body ++ (last_return ++ Finish variables ∷ []))) → StandsOpen after []
+    AppendsAll before after (BeginFunction number parameters ∷ (body_actions body ++ (last_return ++ EndFunction variables ∷ []))) → StandsOpen after []
 closed before after number parameters variables body s known within few numbered narrow told =
     stands_then before after _ [] [] told s (definition_leads number parameters variables body known within few numbered narrow).is

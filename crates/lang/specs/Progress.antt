@@ -4,7 +4,7 @@ use Rattle.std.specs.Prelude.{Result, Ok, Err, is_some}
 use Rattle.tokens.specs.declared.located_tokens.LocatedToken.{LocatedToken}
 use Rattle.tokens.specs.declared.located_tokens.Punctuator.TheVariants as punctuator
 use Rattle.grammar.specs.declared.diagnostics.Code.TheVariants as code
-use Rattle.grammar.specs.Actions.{Action, Finish, body_actions, code_length, last_return}
+use Rattle.grammar.specs.Actions.{Action, EndFunction, body_actions, code_length, last_return}
 use Rattle.grammar.specs.Building.{Meaning, AppendsAll, StandsOpen}
 use Rattle.grammar.specs.declared.diagnostics.Diagnostic.{Diagnostic}
 use Rattle.grammar.specs.declared.diagnostics.ParseFault.{ParseFault}
@@ -13,7 +13,7 @@ use Rattle.grammar.specs.declared.pools.TheConstants.{MOST_NAMES}
 use Rattle.grammar.specs.Compiled.{diagnostic, main_name}
 use Rattle.grammar.specs.Derivation.{ABody, Definition, State, run, state}
 use Rattle.grammar.specs.Faults.{definitions_actions}
-use Rattle.grammar.specs.Following.{InFunction}
+use Rattle.grammar.specs.Following.{InFunction, most_open}
 use Rattle.grammar.specs.Grammar.{Item, AName, Define, Defined, Exactly, FunctionBlock, Make, ParameterTypes}
 use Rattle.grammar.specs.Grammar.{Parameters, Part, Close, Source}
 use Rattle.grammar.specs.Laws.{KeepsFunction}
@@ -25,7 +25,6 @@ use Rattle.grammar.specs.Resolved.{InBody}
 use Rattle.grammar.specs.Scope.{Scope, function_number}
 use Rattle.grammar.specs.Tree.{Body}
 use Rattle.parsing.specs.Position.{GoesOn, Place, Position, Standing, scope_at, taken_at, tokens_at}
-use Rattle.parsing.specs.Room.{open_limit}
 use Rattle.parsing.specs.Stopping.{Stop, Stops}
 use Rattle.parsing.specs.Segment.{Derives, FailsAt, Refused, Takes}
 
@@ -81,7 +80,7 @@ at_brace = Make Define ∷ Exactly punctuator.CloseCurly ∷ Close ∷ []
 pub record AddsBlock (before after : Meaning) (here there : Place) : Type 0 where
   pub tree : Body
   pub numbered : InBody MOST_NAMES MOST_NAMES MOST_NAMES tree
-  pub narrow : body_nesting tree ≤ open_limit
+  pub narrow : body_nesting tree ≤ most_open
   pub added : AppendsAll before after (body_actions tree)
   pub kept : KeepsFunction (scope_at here) (scope_at there)
   pub derives : Derives 0 (Part FunctionBlock ∷ []) at_brace [] (ABody tree ∷ []) here there
@@ -96,7 +95,7 @@ pub record MayEnd (before : Meaning) (variables : ℕ) : Type 0 where
 
 -- The builder was told the last return and the function's end, and the code is within the limit.
 pub record ClosesFunction (before after : Meaning) (variables : ℕ) : Type 0 where
-  pub added : AppendsAll before after (last_return ++ Finish variables ∷ [])
+  pub added : AppendsAll before after (last_return ++ EndFunction variables ∷ [])
   pub fits : (profile : Profile) (acts : List Action) → before profile acts →
       code_length profile (acts ++ last_return) + 1 ≤ profile.instructions
 

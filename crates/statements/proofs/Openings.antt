@@ -157,7 +157,7 @@ pub loop_begun : (before now : Meaning) (n m : ℕ) → m + 1 ≤ n → HasPlace
 loop_begun before now n m small h added = record {
   opened = h.opened;
   place = h.place;
-  stands = stands_then before now (BeginWhile ∷ []) h.opened (BeforeTest ∷ h.opened) added h.stands (act BeginWhile _ _ (rw h.place refl) (omega (arith, small, h.few))).is;
+  stands = stands_then before now (BeginWhile ∷ []) h.opened (BeforeTest ∷ h.opened) added h.stands (act BeginWhile h.opened (BeforeTest ∷ h.opened) (rw h.place refl) (omega (arith, small, h.few))).is;
   few = omega (arith, small, h.few);
 }
 

@@ -6,13 +6,13 @@ use Rattle.grammar.specs.declared.pools.TheConstants.{MOST_NAMES}
 use Rattle.grammar.specs.Actions.{Action, ElsePart as BetweenBranches, body_actions}
 use Rattle.grammar.specs.Building.{Meaning, AppendsAll, StandsOpen}
 use Rattle.grammar.specs.Derivation.{Value, ABody, AnExpr}
-use Rattle.grammar.specs.Following.{Open, Opened, is_place, open_count}
+use Rattle.grammar.specs.Following.{Open, Opened, is_place, most_open, open_count}
 use Rattle.grammar.specs.Grammar.{ElsePart, Part}
 use Rattle.grammar.specs.Nesting.{body_nesting}
 use Rattle.grammar.specs.Resolved.{InBody}
 use Rattle.grammar.specs.Tree.{Body, IfElseStatement, Done, Expr, IfStatement, join}
 use Rattle.parsing.specs.Position.{Place, Standing, taken_at}
-use Rattle.parsing.specs.Room.{open_limit, room}
+use Rattle.parsing.specs.Room.{room}
 use Rattle.parsing.specs.Segment.{Derives, FailsAt, Refused}
 
 -- the actions of a second branch, where there is one
@@ -64,4 +64,4 @@ pub record HasInside (inner : Open) (before : Meaning) (count : ℕ) : Type 0 wh
   pub opened : Opened
   pub place : is_place opened ≡ true
   pub stands : StandsOpen before (inner ∷ opened)
-  pub few : open_count (inner ∷ opened) + count ≤ open_limit
+  pub few : open_count (inner ∷ opened) + count ≤ most_open

@@ -8,8 +8,8 @@ ghost use Rattle.tokens.specs.declared.located_tokens.LocatedToken.{LocatedToken
 ghost use Rattle.tokens.specs.Reading.{Opens, Steps, shown, taken, undecided_reach_of};
 
 use crate::devices::{DeviceFault, Feed};
+use crate::lexer::Lexer;
 use crate::located_tokens::LocatedToken;
-use crate::windows::Window;
 use std::marker::Model;
 
 /// Reads the tokens of a device through a window of `WINDOW` bytes. It holds the next token and the one
@@ -17,7 +17,7 @@ use std::marker::Model;
 /// where one of these two needs them.
 #[derive(Drop)]
 pub struct Cursor {
-    window: Window,
+    lexer: Lexer,
     next: LocatedToken,
     after: LocatedToken,
 }
@@ -29,9 +29,9 @@ impl Model for Cursor {
 
     ghost Value = { Reading };
 
-    ghost view = { λ c. record { next = c.next; after = c.after; behind = c.window } };
+    ghost view = { λ c. record { next = c.next; after = c.after; behind = c.lexer.window } };
 
-    ghost invariant = { λ c. FitsToken c.next.token × FitsToken c.after.token × IsBounded c.window };
+    ghost invariant = { λ c. FitsToken c.next.token × FitsToken c.after.token × IsBounded c.lexer.window };
 }
 
 impl Cursor {
@@ -45,18 +45,14 @@ impl Cursor {
             × (F.to_come feed.new ≡ Some (drop count bytes)) × (count ≤ undecided_reach_of (tokens bytes))) }
         ensures count { Counts result (F.failures feed.old) (F.failures feed.new) }
     {
-        let mut window = Window::new();
+        let mut lexer = Lexer::new();
         let mut next = LocatedToken::none();
-        window.read(&mut next, feed)?;
+        lexer.read(&mut next, feed)?;
         let mut after = next;
         if !next.token.is_last() {
-            window.read(&mut after, feed)?;
+            lexer.read(&mut after, feed)?;
         }
-        Ok(Cursor {
-            window,
-            next,
-            after,
-        })
+        Ok(Cursor { lexer, next, after })
     }
 
     /// Returns the next token.
@@ -89,7 +85,7 @@ impl Cursor {
     {
         self.next = self.after;
         if !self.next.token.is_last() {
-            self.window.read(&mut self.after, feed)?;
+            self.lexer.read(&mut self.after, feed)?;
         }
         Ok(())
     }

@@ -5,7 +5,7 @@ ghost use Rattle.std.specs.Prelude.{IfOk, IfSome, OnOk, OnErr};
 ghost use Rattle.tokens.specs.Characters.{is_blank, is_digit};
 ghost use Rattle.tokens.specs.Front.{name_token};
 ghost use Rattle.tokens.specs.Tokens.{FitsToken, located_tokens, last_located_token};
-ghost use Rattle.tokens.specs.Window.{Asks, IsNext, MayAsk, ahead};
+ghost use Rattle.tokens.specs.Window.{Asks, IsNext, MayAsk, ahead, untouched};
 ghost use Rattle.tokens.specs.Lexing.{BeginsBlank, BeginsConstant, BeginsToken, Fails, IsFound, IsRead, Slashes};
 ghost use Rattle.tokens.specs.Lexing.{StopsWithin, after_comment, followed, in_comment, in_constant, in_name};
 ghost use Rattle.tokens.specs.Lexing.{in_punctuator, name_going_on, to_read, value_token};
@@ -17,10 +17,25 @@ use crate::located_tokens::{LexicalError, LocatedToken, Punctuator, Token, Word}
 use crate::names::Name;
 use crate::windows::{Beyond, Window};
 
+/// Reads the tokens of a source, through a window over its bytes.
+#[derive(Drop)]
+pub struct Lexer {
+    window: Window,
+}
+
 // Each call here that has the device as an argument may ask it: it needs `MayAsk`, and `Asks` says what it leaves.
 // Beside that a call that reads a token has three clauses: which tokens are still to be read, what is known of the one
 // that was read, and what a call leaves that failed (`Fails`). A byte that was seen takes one more.
-impl Window {
+impl Lexer {
+    /// Makes a lexer of a source of which nothing was read.
+    pub fn new() -> Self
+        ensures { result.window ≡ untouched }
+    {
+        Lexer {
+            window: Window::new(),
+        }
+    }
+
     /// Puts the next token here. After an `Err` what stood here stays.
     #[inline(never)]
     pub fn read<F: Feed>(
@@ -28,15 +43,16 @@ impl Window {
         here: &mut LocatedToken,
         feed: &mut F,
     ) -> Result<(), DeviceFault>
-        requires ready { MayAsk self.old (F.failures feed.old) (F.ended feed.old) }
-        ensures tokens { OnOk result (to_read (followed here.new) self.new (F.to_come feed.new)
-            ≡ to_read located_tokens self.old (F.to_come feed.old)) }
-        ensures read { OnOk result (IsRead here.new self.old self.new) }
-        ensures stopped { OnErr result (Fails located_tokens self.old self.new (F.to_come feed.old) here.old here.new) }
-        ensures kept { Asks result self.old self.new (F.to_come feed.old) (F.to_come feed.new)
+        requires ready { MayAsk self.old.window (F.failures feed.old) (F.ended feed.old) }
+        ensures tokens { OnOk result (to_read (followed here.new) self.new.window (F.to_come feed.new)
+            ≡ to_read located_tokens self.old.window (F.to_come feed.old)) }
+        ensures read { OnOk result (IsRead here.new self.old.window self.new.window) }
+        ensures stopped { OnErr result (Fails located_tokens self.old.window self.new.window
+            (F.to_come feed.old) here.old here.new) }
+        ensures kept { Asks result self.old.window self.new.window (F.to_come feed.old) (F.to_come feed.new)
             (F.failures feed.old) (F.failures feed.new) (F.ended feed.new) }
     {
-        match self.first() {
+        match self.window.first() {
             Some(b) if !is_blank(b) && b != b'/' => self.token(b, here, feed),
             _ => self.read_past(here, feed),
         }
@@ -49,15 +65,16 @@ impl Window {
         here: &mut LocatedToken,
         feed: &mut F,
     ) -> Result<(), DeviceFault>
-        requires ready { MayAsk self.old (F.failures feed.old) (F.ended feed.old) }
-        ensures tokens { OnOk result (to_read (followed here.new) self.new (F.to_come feed.new)
-            ≡ to_read located_tokens self.old (F.to_come feed.old)) }
-        ensures read { OnOk result (IsRead here.new self.old self.new) }
-        ensures stopped { OnErr result (Fails located_tokens self.old self.new (F.to_come feed.old) here.old here.new) }
-        ensures kept { Asks result self.old self.new (F.to_come feed.old) (F.to_come feed.new)
+        requires ready { MayAsk self.old.window (F.failures feed.old) (F.ended feed.old) }
+        ensures tokens { OnOk result (to_read (followed here.new) self.new.window (F.to_come feed.new)
+            ≡ to_read located_tokens self.old.window (F.to_come feed.old)) }
+        ensures read { OnOk result (IsRead here.new self.old.window self.new.window) }
+        ensures stopped { OnErr result (Fails located_tokens self.old.window self.new.window
+            (F.to_come feed.old) here.old here.new) }
+        ensures kept { Asks result self.old.window self.new.window (F.to_come feed.old) (F.to_come feed.new)
             (F.failures feed.old) (F.failures feed.new) (F.ended feed.new) }
     {
-        match self.first() {
+        match self.window.first() {
             Some(b) if is_blank(b) => self.read_behind(b, here, feed),
             _ => self.read_on(here, feed),
         }
@@ -71,17 +88,18 @@ impl Window {
         here: &mut LocatedToken,
         feed: &mut F,
     ) -> Result<(), DeviceFault>
-        requires ready { MayAsk self.old (F.failures feed.old) (F.ended feed.old) }
-        requires begins { BeginsBlank blank self.old }
-        ensures tokens { OnOk result (to_read (followed here.new) self.new (F.to_come feed.new)
-            ≡ to_read located_tokens self.old (F.to_come feed.old)) }
-        ensures read { OnOk result (IsRead here.new self.old self.new) }
-        ensures stopped { OnErr result (Fails located_tokens self.old self.new (F.to_come feed.old) here.old here.new) }
-        ensures kept { Asks result self.old self.new (F.to_come feed.old) (F.to_come feed.new)
+        requires ready { MayAsk self.old.window (F.failures feed.old) (F.ended feed.old) }
+        requires begins { BeginsBlank blank self.old.window }
+        ensures tokens { OnOk result (to_read (followed here.new) self.new.window (F.to_come feed.new)
+            ≡ to_read located_tokens self.old.window (F.to_come feed.old)) }
+        ensures read { OnOk result (IsRead here.new self.old.window self.new.window) }
+        ensures stopped { OnErr result (Fails located_tokens self.old.window self.new.window
+            (F.to_come feed.old) here.old here.new) }
+        ensures kept { Asks result self.old.window self.new.window (F.to_come feed.old) (F.to_come feed.new)
             (F.failures feed.old) (F.failures feed.new) (F.ended feed.new) }
     {
-        self.pass();
-        match self.first() {
+        self.window.pass();
+        match self.window.first() {
             Some(b) if !is_blank(b) && b != b'/' => self.token(b, here, feed),
             _ => self.read_on(here, feed),
         }
@@ -90,12 +108,13 @@ impl Window {
     /// Does the same after blanks and comments.
     #[inline(never)]
     fn read_on<F: Feed>(&mut self, here: &mut LocatedToken, feed: &mut F) -> Result<(), DeviceFault>
-        requires ready { MayAsk self.old (F.failures feed.old) (F.ended feed.old) }
-        ensures tokens { OnOk result (to_read (followed here.new) self.new (F.to_come feed.new)
-            ≡ to_read located_tokens self.old (F.to_come feed.old)) }
-        ensures read { OnOk result (IsRead here.new self.old self.new) }
-        ensures stopped { OnErr result (Fails located_tokens self.old self.new (F.to_come feed.old) here.old here.new) }
-        ensures kept { Asks result self.old self.new (F.to_come feed.old) (F.to_come feed.new)
+        requires ready { MayAsk self.old.window (F.failures feed.old) (F.ended feed.old) }
+        ensures tokens { OnOk result (to_read (followed here.new) self.new.window (F.to_come feed.new)
+            ≡ to_read located_tokens self.old.window (F.to_come feed.old)) }
+        ensures read { OnOk result (IsRead here.new self.old.window self.new.window) }
+        ensures stopped { OnErr result (Fails located_tokens self.old.window self.new.window
+            (F.to_come feed.old) here.old here.new) }
+        ensures kept { Asks result self.old.window self.new.window (F.to_come feed.old) (F.to_come feed.new)
             (F.failures feed.old) (F.failures feed.new) (F.ended feed.new) }
     {
         loop {
@@ -117,20 +136,21 @@ impl Window {
     /// Skips blanks. Answers the byte after them, or `None` at the end.
     #[inline(always)]
     fn skip_blanks<F: Feed>(&mut self, feed: &mut F) -> Result<Option<u8>, DeviceFault>
-        requires ready { MayAsk self.old (F.failures feed.old) (F.ended feed.old) }
-        ensures tokens { OnOk result (to_read located_tokens self.new (F.to_come feed.new)
-            ≡ to_read located_tokens self.old (F.to_come feed.old)) }
-        ensures next { IfOk result (λ first. IsNext first self.new) }
+        requires ready { MayAsk self.old.window (F.failures feed.old) (F.ended feed.old) }
+        ensures tokens { OnOk result (to_read located_tokens self.new.window (F.to_come feed.new)
+            ≡ to_read located_tokens self.old.window (F.to_come feed.old)) }
+        ensures next { IfOk result (λ first. IsNext first self.new.window) }
         ensures no_blank { IfOk result (λ first. IfSome first (λ b. is_blank b ≡ false)) }
-        ensures stopped { OnErr result (StopsWithin located_tokens self.old self.new (F.to_come feed.old)) }
-        ensures kept { Asks result self.old self.new (F.to_come feed.old) (F.to_come feed.new)
+        ensures stopped { OnErr result (StopsWithin located_tokens self.old.window
+            self.new.window (F.to_come feed.old)) }
+        ensures kept { Asks result self.old.window self.new.window (F.to_come feed.old) (F.to_come feed.new)
             (F.failures feed.old) (F.failures feed.new) (F.ended feed.new) }
     {
         loop {
-            self.pass_blanks();
-            match self.peek(feed)? {
+            self.window.pass_blanks();
+            match self.window.peek(feed)? {
                 // The first test alone shows that most bytes are no blank.
-                Some(b) if b <= b' ' && is_blank(b) => self.pass(),
+                Some(b) if b <= b' ' && is_blank(b) => self.window.pass(),
                 first => return Ok(first),
             }
         }
@@ -138,22 +158,24 @@ impl Window {
 
     /// Skips a comment at a `/`, or puts the token that begins there here. Answers whether there was one.
     fn slash<F: Feed>(&mut self, here: &mut LocatedToken, feed: &mut F) -> Result<bool, DeviceFault>
-        requires ready { MayAsk self.old (F.failures feed.old) (F.ended feed.old) }
-        requires slash { slice_get self.old.at_hand 0 ≡ Some 47 }
-        ensures past { IfOk result (λ found. Slashes found self.old self.new (F.to_come feed.old) (F.to_come feed.new)
+        requires ready { MayAsk self.old.window (F.failures feed.old) (F.ended feed.old) }
+        requires slash { slice_get self.old.window.at_hand 0 ≡ Some 47 }
+        ensures past { IfOk result (λ found. Slashes found self.old.window
+            self.new.window (F.to_come feed.old) (F.to_come feed.new)
             here.old here.new) }
-        ensures forward { self.old.place < self.new.place }
-        ensures stopped { OnErr result (Fails located_tokens self.old self.new (F.to_come feed.old) here.old here.new) }
-        ensures kept { Asks result self.old self.new (F.to_come feed.old) (F.to_come feed.new)
+        ensures forward { self.old.window.place < self.new.window.place }
+        ensures stopped { OnErr result (Fails located_tokens self.old.window self.new.window
+            (F.to_come feed.old) here.old here.new) }
+        ensures kept { Asks result self.old.window self.new.window (F.to_come feed.old) (F.to_come feed.new)
             (F.failures feed.old) (F.failures feed.new) (F.ended feed.new) }
     {
-        let line = self.line();
-        self.pass();
-        if self.peek(feed)? != Some(b'*') {
+        let line = self.window.line();
+        self.window.pass();
+        if self.window.peek(feed)? != Some(b'*') {
             self.punctuator(here, feed, Punctuator::Slash)?;
             return Ok(true);
         }
-        self.pass();
+        self.window.pass();
         if self.skip_comment(feed)? {
             Ok(false)
         } else {
@@ -164,28 +186,28 @@ impl Window {
 
     /// Goes past the `*/` of a comment that it is inside. Answers `false` if there is none.
     fn skip_comment<F: Feed>(&mut self, feed: &mut F) -> Result<bool, DeviceFault>
-        requires ready { MayAsk self.old (F.failures feed.old) (F.ended feed.old) }
+        requires ready { MayAsk self.old.window (F.failures feed.old) (F.ended feed.old) }
         ensures tokens { IfOk result (λ closed. (line : ℕ)
-            → to_read (after_comment closed line) self.new (F.to_come feed.new)
-            ≡ to_read (in_comment line) self.old (F.to_come feed.old)) }
-        ensures ended { IfOk result (λ closed. closed ≡ false → self.new.beyond ≢ Beyond.Unread) }
+            → to_read (after_comment closed line) self.new.window (F.to_come feed.new)
+            ≡ to_read (in_comment line) self.old.window (F.to_come feed.old)) }
+        ensures ended { IfOk result (λ closed. closed ≡ false → self.new.window.beyond ≢ Beyond.Unread) }
         ensures stopped { OnErr result ((line : ℕ)
-            → StopsWithin (in_comment line) self.old self.new (F.to_come feed.old)) }
-        ensures kept { Asks result self.old self.new (F.to_come feed.old) (F.to_come feed.new)
+            → StopsWithin (in_comment line) self.old.window self.new.window (F.to_come feed.old)) }
+        ensures kept { Asks result self.old.window self.new.window (F.to_come feed.old) (F.to_come feed.new)
             (F.failures feed.old) (F.failures feed.new) (F.ended feed.new) }
     {
         loop {
-            self.pass_plain();
-            match self.peek(feed)? {
+            self.window.pass_plain();
+            match self.window.peek(feed)? {
                 None => return Ok(false),
                 Some(b'*') => {
-                    self.pass();
-                    if self.peek(feed)? == Some(b'/') {
-                        self.pass();
+                    self.window.pass();
+                    if self.window.peek(feed)? == Some(b'/') {
+                        self.window.pass();
                         return Ok(true);
                     }
                 }
-                Some(_) => self.pass(),
+                Some(_) => self.window.pass(),
             }
         }
     }
@@ -198,16 +220,17 @@ impl Window {
         here: &mut LocatedToken,
         feed: &mut F,
     ) -> Result<(), DeviceFault>
-        requires ready { MayAsk self.old (F.failures feed.old) (F.ended feed.old) }
-        requires begins { BeginsToken first self.old }
-        ensures tokens { OnOk result (to_read (followed here.new) self.new (F.to_come feed.new)
-            ≡ to_read located_tokens self.old (F.to_come feed.old)) }
-        ensures read { OnOk result (IsRead here.new self.old self.new) }
-        ensures stopped { OnErr result (Fails located_tokens self.old self.new (F.to_come feed.old) here.old here.new) }
-        ensures kept { Asks result self.old self.new (F.to_come feed.old) (F.to_come feed.new)
+        requires ready { MayAsk self.old.window (F.failures feed.old) (F.ended feed.old) }
+        requires begins { BeginsToken first self.old.window }
+        ensures tokens { OnOk result (to_read (followed here.new) self.new.window (F.to_come feed.new)
+            ≡ to_read located_tokens self.old.window (F.to_come feed.old)) }
+        ensures read { OnOk result (IsRead here.new self.old.window self.new.window) }
+        ensures stopped { OnErr result (Fails located_tokens self.old.window self.new.window
+            (F.to_come feed.old) here.old here.new) }
+        ensures kept { Asks result self.old.window self.new.window (F.to_come feed.old) (F.to_come feed.new)
             (F.failures feed.old) (F.failures feed.new) (F.ended feed.new) }
     {
-        self.pass();
+        self.window.pass();
         if is_letter(first) {
             self.name(here, feed, first)
         } else if let Some(punctuator) = Punctuator::whole(first) {
@@ -216,7 +239,7 @@ impl Window {
         } else if is_digit(first) {
             self.constant(here, feed, first)
         } else if let Some(punctuator) = Punctuator::of_byte(first) {
-            if punctuator.ends_before(self.first()) {
+            if punctuator.ends_before(self.window.first()) {
                 *here = self.ending(Token::Punctuator(punctuator));
                 return Ok(());
             }
@@ -235,16 +258,16 @@ impl Window {
         feed: &mut F,
         first: u8,
     ) -> Result<(), DeviceFault>
-        requires ready { MayAsk self.old (F.failures feed.old) (F.ended feed.old) }
-        ensures tokens { OnOk result (to_read (followed here.new) self.new (F.to_come feed.new)
-            ≡ to_read (in_name (first ∷ []) false) self.old (F.to_come feed.old)) }
-        ensures found { OnOk result (IsFound here.new self.new) }
-        ensures stopped { OnErr result (Fails (in_name (first ∷ []) false) self.old self.new
+        requires ready { MayAsk self.old.window (F.failures feed.old) (F.ended feed.old) }
+        ensures tokens { OnOk result (to_read (followed here.new) self.new.window (F.to_come feed.new)
+            ≡ to_read (in_name (first ∷ []) false) self.old.window (F.to_come feed.old)) }
+        ensures found { OnOk result (IsFound here.new self.new.window) }
+        ensures stopped { OnErr result (Fails (in_name (first ∷ []) false) self.old.window self.new.window
             (F.to_come feed.old) here.old here.new) }
-        ensures kept { Asks result self.old self.new (F.to_come feed.old) (F.to_come feed.new)
+        ensures kept { Asks result self.old.window self.new.window (F.to_come feed.old) (F.to_come feed.new)
             (F.failures feed.old) (F.failures feed.new) (F.ended feed.new) }
     {
-        match self.first() {
+        match self.window.first() {
             Some(b) if !is_name_byte(b) => {
                 self.end_name(&Name::of_byte(first), false, here);
                 Ok(())
@@ -261,18 +284,18 @@ impl Window {
         feed: &mut F,
         first: u8,
     ) -> Result<(), DeviceFault>
-        requires ready { MayAsk self.old (F.failures feed.old) (F.ended feed.old) }
-        ensures tokens { OnOk result (to_read (followed here.new) self.new (F.to_come feed.new)
-            ≡ to_read (in_name (first ∷ []) false) self.old (F.to_come feed.old)) }
-        ensures found { OnOk result (IsFound here.new self.new) }
-        ensures stopped { OnErr result (Fails (in_name (first ∷ []) false) self.old self.new
+        requires ready { MayAsk self.old.window (F.failures feed.old) (F.ended feed.old) }
+        ensures tokens { OnOk result (to_read (followed here.new) self.new.window (F.to_come feed.new)
+            ≡ to_read (in_name (first ∷ []) false) self.old.window (F.to_come feed.old)) }
+        ensures found { OnOk result (IsFound here.new self.new.window) }
+        ensures stopped { OnErr result (Fails (in_name (first ∷ []) false) self.old.window self.new.window
             (F.to_come feed.old) here.old here.new) }
-        ensures kept { Asks result self.old self.new (F.to_come feed.old) (F.to_come feed.new)
+        ensures kept { Asks result self.old.window self.new.window (F.to_come feed.old) (F.to_come feed.new)
             (F.failures feed.old) (F.failures feed.new) (F.ended feed.new) }
     {
         let mut name = Name::new();
-        if name.begin(first, self.at_hand()) {
-            self.pass_in_line(name.len() - 1);
+        if name.begin(first, self.window.at_hand()) {
+            self.window.pass_in_line(name.len() - 1);
             self.end_name(&name, false, here);
             return Ok(());
         }
@@ -287,27 +310,27 @@ impl Window {
         feed: &mut F,
         first: u8,
     ) -> Result<(), DeviceFault>
-        requires ready { MayAsk self.old (F.failures feed.old) (F.ended feed.old) }
-        ensures tokens { OnOk result (to_read (followed here.new) self.new (F.to_come feed.new)
-            ≡ to_read (in_name (first ∷ []) false) self.old (F.to_come feed.old)) }
-        ensures found { OnOk result (IsFound here.new self.new) }
-        ensures stopped { OnErr result (Fails (in_name (first ∷ []) false) self.old self.new
+        requires ready { MayAsk self.old.window (F.failures feed.old) (F.ended feed.old) }
+        ensures tokens { OnOk result (to_read (followed here.new) self.new.window (F.to_come feed.new)
+            ≡ to_read (in_name (first ∷ []) false) self.old.window (F.to_come feed.old)) }
+        ensures found { OnOk result (IsFound here.new self.new.window) }
+        ensures stopped { OnErr result (Fails (in_name (first ∷ []) false) self.old.window self.new.window
             (F.to_come feed.old) here.old here.new) }
-        ensures kept { Asks result self.old self.new (F.to_come feed.old) (F.to_come feed.new)
+        ensures kept { Asks result self.old.window self.new.window (F.to_come feed.old) (F.to_come feed.new)
             (F.failures feed.old) (F.failures feed.new) (F.ended feed.new) }
     {
         let mut name = Name::new();
         name.push(first);
         let mut too_long = false;
         loop {
-            match self.peek(feed)? {
+            match self.window.peek(feed)? {
                 Some(b) if is_name_byte(b) => {
                     if name.is_full() {
                         too_long = true;
                     } else {
                         name.push(b);
                     }
-                    self.pass();
+                    self.window.pass();
                 }
                 _ => {
                     self.end_name(&name, too_long, here);
@@ -325,18 +348,18 @@ impl Window {
         feed: &mut F,
         first: u8,
     ) -> Result<(), DeviceFault>
-        requires ready { MayAsk self.old (F.failures feed.old) (F.ended feed.old) }
+        requires ready { MayAsk self.old.window (F.failures feed.old) (F.ended feed.old) }
         requires digit { is_digit first ≡ true }
-        ensures tokens { OnOk result (to_read (followed here.new) self.new (F.to_come feed.new)
-            ≡ to_read (in_constant (first - 48)) self.old (F.to_come feed.old)) }
-        ensures found { OnOk result (IsFound here.new self.new) }
-        ensures stopped { OnErr result (Fails (in_constant (first - 48)) self.old self.new
+        ensures tokens { OnOk result (to_read (followed here.new) self.new.window (F.to_come feed.new)
+            ≡ to_read (in_constant (first - 48)) self.old.window (F.to_come feed.old)) }
+        ensures found { OnOk result (IsFound here.new self.new.window) }
+        ensures stopped { OnErr result (Fails (in_constant (first - 48)) self.old.window self.new.window
             (F.to_come feed.old) here.old here.new) }
-        ensures kept { Asks result self.old self.new (F.to_come feed.old) (F.to_come feed.new)
+        ensures kept { Asks result self.old.window self.new.window (F.to_come feed.old) (F.to_come feed.new)
             (F.failures feed.old) (F.failures feed.new) (F.ended feed.new) }
     {
-        if let Some((value, count)) = constant_begun(first, self.at_hand()) {
-            self.pass_in_line(count);
+        if let Some((value, count)) = constant_begun(first, self.window.at_hand()) {
+            self.window.pass_in_line(count);
             *here = self.ending(Token::Constant(value));
             return Ok(());
         }
@@ -351,22 +374,22 @@ impl Window {
         feed: &mut F,
         first: u8,
     ) -> Result<(), DeviceFault>
-        requires ready { MayAsk self.old (F.failures feed.old) (F.ended feed.old) }
+        requires ready { MayAsk self.old.window (F.failures feed.old) (F.ended feed.old) }
         requires digit { is_digit first ≡ true }
-        ensures tokens { OnOk result (to_read (followed here.new) self.new (F.to_come feed.new)
-            ≡ to_read (in_constant (first - 48)) self.old (F.to_come feed.old)) }
-        ensures found { OnOk result (IsFound here.new self.new) }
-        ensures stopped { OnErr result (Fails (in_constant (first - 48)) self.old self.new
+        ensures tokens { OnOk result (to_read (followed here.new) self.new.window (F.to_come feed.new)
+            ≡ to_read (in_constant (first - 48)) self.old.window (F.to_come feed.old)) }
+        ensures found { OnOk result (IsFound here.new self.new.window) }
+        ensures stopped { OnErr result (Fails (in_constant (first - 48)) self.old.window self.new.window
             (F.to_come feed.old) here.old here.new) }
-        ensures kept { Asks result self.old self.new (F.to_come feed.old) (F.to_come feed.new)
+        ensures kept { Asks result self.old.window self.new.window (F.to_come feed.old) (F.to_come feed.new)
             (F.failures feed.old) (F.failures feed.new) (F.ended feed.new) }
     {
         let mut value = u64::from(first - b'0');
         loop {
-            match self.peek(feed)? {
+            match self.window.peek(feed)? {
                 Some(b) if is_digit(b) => {
                     value = (10 * value + u64::from(b - b'0')).min(TOO_LARGE);
-                    self.pass();
+                    self.window.pass();
                 }
                 _ => {
                     *here = self.ending(constant_token(value));
@@ -384,21 +407,21 @@ impl Window {
         feed: &mut F,
         mut punctuator: Punctuator,
     ) -> Result<(), DeviceFault>
-        requires ready { MayAsk self.old (F.failures feed.old) (F.ended feed.old) }
-        ensures tokens { OnOk result (to_read (followed here.new) self.new (F.to_come feed.new)
-            ≡ to_read (in_punctuator punctuator) self.old (F.to_come feed.old)) }
-        ensures found { OnOk result (IsFound here.new self.new) }
-        ensures stopped { OnErr result (Fails (in_punctuator punctuator) self.old self.new
+        requires ready { MayAsk self.old.window (F.failures feed.old) (F.ended feed.old) }
+        ensures tokens { OnOk result (to_read (followed here.new) self.new.window (F.to_come feed.new)
+            ≡ to_read (in_punctuator punctuator) self.old.window (F.to_come feed.old)) }
+        ensures found { OnOk result (IsFound here.new self.new.window) }
+        ensures stopped { OnErr result (Fails (in_punctuator punctuator) self.old.window self.new.window
             (F.to_come feed.old) here.old here.new) }
-        ensures kept { Asks result self.old self.new (F.to_come feed.old) (F.to_come feed.new)
+        ensures kept { Asks result self.old.window self.new.window (F.to_come feed.old) (F.to_come feed.new)
             (F.failures feed.old) (F.failures feed.new) (F.ended feed.new) }
     {
         loop {
-            let next = self.peek(feed)?;
+            let next = self.window.peek(feed)?;
             match punctuator.longer(next) {
                 Some(longer) => {
                     punctuator = longer;
-                    self.pass();
+                    self.window.pass();
                 }
                 None => {
                     *here = self.ending(Token::Punctuator(punctuator));
@@ -413,8 +436,8 @@ impl Window {
     fn end_name(&self, name: &Name, is_too_long: bool, here: &mut LocatedToken)
         ensures value { here.new ≡ record {
           token = name_going_on name.now is_too_long [];
-          line = self.now.line;
-          end = self.now.place;
+          line = self.now.window.line;
+          end = self.now.window.place;
         } }
         ensures fits { FitsToken here.new.token }
     {
@@ -432,8 +455,8 @@ impl Window {
     fn put_name_or_word(&self, name: &Name, here: &mut LocatedToken)
         ensures value { here.new ≡ record {
           token = name_token name.now;
-          line = self.now.line;
-          end = self.now.place;
+          line = self.now.window.line;
+          end = self.now.window.place;
         } }
         ensures fits { FitsToken here.new.token }
     {
@@ -447,54 +470,54 @@ impl Window {
     /// Makes a token that ends before the next byte, on the same line.
     #[inline(always)]
     fn ending(&self, token: Token) -> LocatedToken
-        ensures { result ≡ record { token = token; line = self.now.line; end = self.now.place } }
+        ensures { result ≡ record { token = token; line = self.now.window.line; end = self.now.window.place } }
     {
         LocatedToken {
             token,
-            line: self.line(),
-            end: self.place(),
+            line: self.window.line(),
+            end: self.window.place(),
         }
     }
 
     /// Puts the end of the source here.
     #[inline(never)]
     fn put_end(&self, here: &mut LocatedToken)
-        requires { self.now.beyond ≢ Beyond.Unread }
+        requires { self.now.window.beyond ≢ Beyond.Unread }
         ensures value { (to_come : List ℕ) → here.new
-            ≡ last_located_token Token.End self.now.line (ahead self.now to_come) }
-        ensures reached { self.now.place ≤ here.new.end }
+            ≡ last_located_token Token.End self.now.window.line (ahead self.now.window to_come) }
+        ensures reached { self.now.window.place ≤ here.new.end }
     {
-        *here = self.last(Token::End, self.line());
+        *here = self.last(Token::End, self.window.line());
     }
 
     /// Puts the fault of a comment here that began on this line and is not closed.
     #[inline(never)]
     fn put_open_comment(&self, line: u32, here: &mut LocatedToken)
-        requires { self.now.beyond ≢ Beyond.Unread }
+        requires { self.now.window.beyond ≢ Beyond.Unread }
         ensures value { (to_come : List ℕ) → here.new
-            ≡ last_located_token (Token.Fault LexicalError.CommentNotClosed) line (ahead self.now to_come) }
-        ensures reached { self.now.place ≤ here.new.end }
+            ≡ last_located_token (Token.Fault LexicalError.CommentNotClosed) line (ahead self.now.window to_come) }
+        ensures reached { self.now.window.place ≤ here.new.end }
     {
         *here = self.last(Token::Fault(LexicalError::CommentNotClosed), line);
     }
 
     /// Makes the last token, at the end of what can be read: this one, unless the source is too long.
     fn last(&self, token: Token, line: u32) -> LocatedToken
-        requires { self.now.beyond ≢ Beyond.Unread }
-        ensures value { (to_come : List ℕ) → result ≡ last_located_token token line (ahead self.now to_come) }
-        ensures reached { self.now.place ≤ result.end }
+        requires { self.now.window.beyond ≢ Beyond.Unread }
+        ensures value { (to_come : List ℕ) → result ≡ last_located_token token line (ahead self.now.window to_come) }
+        ensures reached { self.now.window.place ≤ result.end }
     {
-        if self.beyond() == Beyond::TooMuch {
+        if self.window.beyond() == Beyond::TooMuch {
             LocatedToken {
                 token: Token::Fault(LexicalError::SourceTooLong),
-                line: self.line(),
-                end: self.place() + 1,
+                line: self.window.line(),
+                end: self.window.place() + 1,
             }
         } else {
             LocatedToken {
                 token,
                 line,
-                end: self.place(),
+                end: self.window.place(),
             }
         }
     }

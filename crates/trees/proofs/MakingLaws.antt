@@ -7,7 +7,7 @@ use Rattle.grammar.specs.declared.names.Callee.{Callee}
 use Rattle.grammar.specs.declared.names.Var.{Var}
 use Rattle.grammar.specs.declared.operators.Op.{Op}
 use Rattle.grammar.specs.declared.operators.StoreOp.{StoreOp}
-use Rattle.grammar.specs.Actions.{Action, ApplyBinop, LogicMiddle, BeginCall, EndCall, EndIf, EndWhile, GiveBack, Chop, Finish, body_actions, args_actions, expr_actions}
+use Rattle.grammar.specs.Actions.{Action, ApplyBinop, LogicMiddle, BeginCall, EndCall, EndIf, EndWhile, GiveBack, Chop, EndFunction, body_actions, args_actions, expr_actions}
 use Rattle.grammar.specs.Following.{InFunction, AValue, BeforeRight, Opened, Origin, Computed, follow, only_on, statement_done, call_done, is_step, stored, same_op, is_callee_numbered}
 use Rattle.grammar.specs.Operators.{is_logic}
 use Rattle.grammar.specs.Origins.{origin_of, ends_in_return}
@@ -275,7 +275,7 @@ call_continues f es xs is h =
 
 -- A function ends.
 
-finish_is : (v p : ℕ) (r : Bool) (o : Opened) → IsTrue (is_some (follow (Finish v) (InFunction p r ∷ o))) → (r ≡ true) × (o ≡ [])
+finish_is : (v p : ℕ) (r : Bool) (o : Opened) → IsTrue (is_some (follow (EndFunction v) (InFunction p r ∷ o))) → (r ≡ true) × (o ≡ [])
 finish_is v p true [] h = (refl, refl)
 finish_is v p true (x ∷ o) h = absurd (cc)
 finish_is v p false o h = absurd (cc)
@@ -284,12 +284,12 @@ nothing_open : (xs : List entry.Open) → opened xs ≡ [] → xs ≡ []
 nothing_open [] h = refl
 nothing_open (x ∷ xs) h = absurd (cc)
 
-pub function_ends : (b : body_type.Body) (n p v : ℕ) (ts : Vec Statement Global) (xs : List entry.Open) → b.heading ≡ heading.Function n p → IsAllowed (Finish v) (entry_of.Body b ∷ xs) →
+pub function_ends : (b : body_type.Body) (n p v : ℕ) (ts : Vec Statement Global) (xs : List entry.Open) → b.heading ≡ heading.Function n p → IsAllowed (EndFunction v) (entry_of.Body b ∷ xs) →
     ts.items ≡ without_last b.statements.items → Ends v (entry_of.Body b ∷ xs) xs (record { number = n; parameters = p; variables = v; body = ts })
 function_ends b n p v ts xs is h left =
     let ss = b.statements.items in
-    let k : IsTrue (is_some (follow (Finish v) (InFunction p (ends_in_return false (body_tree ss)) ∷ opened xs))) =
-    subst (λ g. IsTrue (is_some (follow (Finish v) (place_of g (body_tree ss) ∷ opened xs)))) is h in
+    let k : IsTrue (is_some (follow (EndFunction v) (InFunction p (ends_in_return false (body_tree ss)) ∷ opened xs))) =
+    subst (λ g. IsTrue (is_some (follow (EndFunction v) (place_of g (body_tree ss) ∷ opened xs)))) is h in
     let both = finish_is v p (ends_in_return false (body_tree ss)) (opened xs) k in
     let empty : xs ≡ [] = nothing_open xs both.1 in
     let none : List ℕ = [] in

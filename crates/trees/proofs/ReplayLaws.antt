@@ -7,7 +7,7 @@ use Rattle.grammar.specs.declared.names.Callee.{Callee}
 use Rattle.grammar.specs.declared.names.Var.{Var}
 use Rattle.grammar.specs.declared.operators.Op.{Op}
 use Rattle.grammar.specs.declared.operators.StoreOp.{StoreOp}
-use Rattle.grammar.specs.Actions.{Action, PushConstant, StoreVariable, ApplyBinop, BeginCall, EndCall, IfTest, ElsePart, EndIf, BeginWhile, WhileTest, EndWhile, GiveBack, Begin, Finish, last_return, args_actions, body_actions, expr_actions, function_actions, middle, code_length}
+use Rattle.grammar.specs.Actions.{Action, PushConstant, StoreVariable, ApplyBinop, BeginCall, EndCall, IfTest, ElsePart, EndIf, BeginWhile, WhileTest, EndWhile, GiveBack, BeginFunction, EndFunction, last_return, args_actions, body_actions, expr_actions, function_actions, middle, code_length}
 use Rattle.grammar.specs.Beginning.{IsBeginning}
 use Rattle.grammar.specs.Building.{Meaning, MayFollow, MayFollowAll, StandsOpen, AppendsAll, Appends, IsOver}
 use Rattle.grammar.specs.Profile.{Profile}
@@ -44,8 +44,8 @@ may_next before behind x xs added may = may_then before behind (x ∷ []) xs add
 pub may_return : (before : Meaning) → MayFollowAll before last_return → MayFollow before (PushConstant (pos 0))
 may_return before may = may_first before (PushConstant (pos 0)) (GiveBack ∷ []) may
 
-pub over_finish : (before : Meaning) (v : ℕ) → IsOver before → IsOverWith before (Finish v ∷ [])
-over_finish before v over p acts s = omega (arith, over p acts s, code_length-append p acts (Finish v ∷ []))
+pub over_finish : (before : Meaning) (v : ℕ) → IsOver before → IsOverWith before (EndFunction v ∷ [])
+over_finish before v over p acts s = omega (arith, over p acts s, code_length-append p acts (EndFunction v ∷ []))
 
 -- The actions of each kind of expression and statement.
 
@@ -79,9 +79,9 @@ actions-While s c t is =
     ∙ ap (λ acts. BeginWhile ∷ acts) (sym (append_assoc (expr_actions (expr_tree c)) (WhileTest ∷ []) (body_actions (body_tree t.items) ++ EndWhile ∷ [])))
 
 pub actions-Function : (f : Function) →
-    function_actions f.number (function_tree f) ≡ Begin f.number f.parameters ∷ (body_actions (body_tree f.body.items) ++ (last_return ++ Finish f.variables ∷ []))
+    function_actions f.number (function_tree f) ≡ BeginFunction f.number f.parameters ∷ (body_actions (body_tree f.body.items) ++ (last_return ++ EndFunction f.variables ∷ []))
 actions-Function f =
-    ap (λ n. Begin f.number f.parameters ∷ (body_actions (body_tree f.body.items) ++ (last_return ++ Finish n ∷ []))) (length-replicate f.variables [])
+    ap (λ n. BeginFunction f.number f.parameters ∷ (body_actions (body_tree f.body.items) ++ (last_return ++ EndFunction n ∷ []))) (length-replicate f.variables [])
 
 -- Lists of arguments, of statements and of functions, of which some were reported.
 

@@ -4,7 +4,7 @@ use Rattle.std.proofs.lemmas.Bool.Decides.{nat_tests}
 use Rattle.std.proofs.lemmas.Result.{on_ok_weaker}
 use Rattle.std.specs.Prelude.{if◌then◌else◌, Option, Some, None, IsTrue, is_some, nat_lt, nat_le, Result, OnOk}
 use Rattle.grammar.specs.declared.build.BuildFault.{BuildFault}
-use Rattle.grammar.specs.Actions.{Action, PushConstant, FetchVariable, StoreVariable, ApplyBinop, LogicMiddle, BeginCall, EndCall, IfTest, ElsePart, EndIf, BeginWhile, WhileTest, EndWhile, GiveBack, Chop, Begin, Finish, instructions, code_length}
+use Rattle.grammar.specs.Actions.{Action, PushConstant, FetchVariable, StoreVariable, ApplyBinop, LogicMiddle, BeginCall, EndCall, IfTest, ElsePart, EndIf, BeginWhile, WhileTest, EndWhile, GiveBack, Chop, BeginFunction, EndFunction, instructions, code_length}
 use Rattle.grammar.specs.Building.{MayFollow, Appends, FitsWithin, IsOver}
 use Rattle.grammar.specs.Following.{Open, InFunction, AValue, BeforeRight, InCall, InBranch, InElse, BeforeTest, InTurn, Opened, Computed, few_open, follow, follow_all, then_follow, within, only_on, is_place, statement_done, call_done, is_var_numbered, is_callee_numbered}
 use Rattle.grammar.specs.Operators.{is_logic}
@@ -122,25 +122,25 @@ stays_open GiveBack o p h e = absurd (cc)
 stays_open Chop (AValue origin ∷ AValue below ∷ o) p h e = only_open _ _ p e refl
 stays_open Chop (AValue origin ∷ o) p h e = done_open false o p e
 stays_open Chop o p h e = absurd (cc)
-stays_open (Begin number parameters) [] p h e = only_open _ _ p e refl
-stays_open (Begin number parameters) (x ∷ o) p h e = absurd (cc)
-stays_open (Finish variables) o p h e = absurd (cc)
+stays_open (BeginFunction number parameters) [] p h e = only_open _ _ p e refl
+stays_open (BeginFunction number parameters) (x ∷ o) p h e = absurd (cc)
+stays_open (EndFunction variables) o p h e = absurd (cc)
 
 -- if nothing is open only a function begins
 opens_first : (a : Action) (p : Opened) → follow a [] ≡ Some p → (in_function false (a ∷ []) ≡ true) × (in_function true (a ∷ []) ≡ true)
-opens_first (Begin number parameters) p e = (refl, refl)
+opens_first (BeginFunction number parameters) p e = (refl, refl)
 opens_first (FetchVariable v) p e = let no : None ≡ Some p = guarded_is (is_var_numbered v) None p e in absurd (cc)
 opens_first (EndCall callee) p e = let no : None ≡ Some p = guarded_is (is_callee_numbered callee) None p e in absurd (cc)
 opens_first a p e = absurd (cc)
 
 -- an action that ends a function leaves nothing open
 closes : (a : Action) (o p : Opened) → in_function true (a ∷ []) ≡ false → follow a o ≡ Some p → is_open p ≡ false
-closes (Finish variables) (InFunction parameters true ∷ []) p h e = nothing _ e
+closes (EndFunction variables) (InFunction parameters true ∷ []) p h e = nothing _ e
   where
     nothing : (b : Bool) → only_on b [] ≡ Some p → is_open p ≡ false
     nothing true k = let same : [] ≡ p = cc in subst (λ o. is_open o ≡ false) same refl
     nothing false k = absurd (cc)
-closes (Finish variables) o p h e = absurd (cc)
+closes (EndFunction variables) o p h e = absurd (cc)
 closes a o p h e = absurd (cc)
 
 action_inside : (a : Action) (o p : Opened) → follow a o ≡ Some p → in_function (is_open o) (a ∷ []) ≡ is_open p
@@ -152,8 +152,8 @@ action_inside a (x ∷ o) p e = by_end (in_function true (a ∷ [])) refl
     by_end false h = sym (closes a (x ∷ o) p h e)
 
 inside_cons : (b : Bool) (a : Action) (acts : List Action) → in_function b (a ∷ acts) ≡ in_function (in_function b (a ∷ [])) acts
-inside_cons b (Begin number parameters) acts = refl
-inside_cons b (Finish variables) acts = refl
+inside_cons b (BeginFunction number parameters) acts = refl
+inside_cons b (EndFunction variables) acts = refl
 inside_cons b a acts = refl
 
 inside_append : (b : Bool) (xs ys : List Action) → in_function b (xs ++ ys) ≡ in_function (in_function b xs) ys
@@ -237,13 +237,13 @@ stops m n a by counted over ends may p acts s =
 -- A function ends.
 
 pub ends : (m n : Kept) (v : ℕ) (f : Function) → n.profile ≡ m.profile → Ends v m.stack n.stack f → n.functions ≡ m.functions ++ f ∷ [] → n.code ≡ min (m.code + 0) 65535 → n.code < m.profile.instructions →
-    MayFollow (λ p acts. Stands m p acts) (Finish v) → Appends (λ p acts. Stands m p acts) (λ p acts. Stands n p acts) (Finish v)
+    MayFollow (λ p acts. Stands m p acts) (EndFunction v) → Appends (λ p acts. Stands m p acts) (λ p acts. Stands n p acts) (EndFunction v)
 ends m n v f by k same counted fits may p acts s =
     let few_code = small m.profile s.known in
     let before : Fits m = omega (arith, few_code, counted, fits) in
     let b : Builds m acts = s.builds before in
-    let next : Next (Finish v) (opened m.stack) = next_of m (Finish v) before may in
-    let close : is_open next.behind ≡ false = closes (Finish v) (opened m.stack) next.behind refl next.is in
+    let next : Next (EndFunction v) (opened m.stack) = next_of m (EndFunction v) before may in
+    let close : is_open next.behind ≡ false = closes (EndFunction v) (opened m.stack) next.behind refl next.is in
     let nothing : next.behind ≡ opened n.stack = rw k.nothing (close_is next.behind close) in
     let limit = ap (λ (p : Profile). p.instructions) by in
     record {
@@ -251,8 +251,8 @@ ends m n v f by k same counted fits may p acts s =
       known = subst IsProfile (sym by) s.known;
       builds = λ _. record {
         actions = rw (same, k.nothing, functions_add m.functions f, k.actions, b.actions) (simp append_assoc refl);
-        opens = follow_append acts (Finish v ∷ []) [] (opened m.stack) b.opens ∙ one_next (Finish v) (opened m.stack) next.behind next.is next.few ∙ ap Some nothing;
-        counted = ap (λ (p : Profile). code_length p (acts ++ Finish v ∷ [])) by ∙ omega (arith, few_code, code_length-last m.profile acts (Finish v), b.counted, counted, fits);
+        opens = follow_append acts (EndFunction v ∷ []) [] (opened m.stack) b.opens ∙ one_next (EndFunction v) (opened m.stack) next.behind next.is next.few ∙ ap Some nothing;
+        counted = ap (λ (p : Profile). code_length p (acts ++ EndFunction v ∷ [])) by ∙ omega (arith, few_code, code_length-last m.profile acts (EndFunction v), b.counted, counted, fits);
       };
       passed = λ over. absurd (omega (arith, limit, over, fits));
     }
@@ -315,9 +315,9 @@ fits_at_end m q over known counted is passed =
     fits_within m (omega (arith, small m.profile known, counted, few))
 
 pub ended : {A : Type 0} (m q : Kept) (fs : List Function) (xs : List entry.Open) (v : ℕ) (f : Function) (over : Bool) (r : Result A BuildFault) → q.profile ≡ m.profile → q.functions ≡ m.functions → q.stack ≡ m.stack → q.code ≡ min (m.code + 0) 65535 →
-    over ≡ nat_le m.profile.instructions q.code → over ≡ false → MayFollow (λ p acts. Stands m p acts) (Finish v) → Ends v q.stack xs f → OnOk r (fs ≡ q.functions ++ f ∷ []) →
-    OnOk r (Appends (λ p acts. Stands m p acts) (λ p acts. Stands (record { profile = q.profile; functions = fs; stack = xs; code = q.code }) p acts) (Finish v))
+    over ≡ nat_le m.profile.instructions q.code → over ≡ false → MayFollow (λ p acts. Stands m p acts) (EndFunction v) → Ends v q.stack xs f → OnOk r (fs ≡ q.functions ++ f ∷ []) →
+    OnOk r (Appends (λ p acts. Stands m p acts) (λ p acts. Stands (record { profile = q.profile; functions = fs; stack = xs; code = q.code }) p acts) (EndFunction v))
 ended m q fs xs v f over r by functions stack counted is not_over may ends_at longer =
     on_ok_weaker r
-    (λ k. ends m (record { profile = q.profile; functions = fs; stack = xs; code = q.code }) v f by (subst (λ ys. Ends v ys xs f) stack ends_at) (k ∙ ap (λ gs. gs ++ f ∷ []) functions) counted (within_limit m q (Finish v) over may.stood.known counted is not_over).1 may)
+    (λ k. ends m (record { profile = q.profile; functions = fs; stack = xs; code = q.code }) v f by (subst (λ ys. Ends v ys xs f) stack ends_at) (k ∙ ap (λ gs. gs ++ f ∷ []) functions) counted (within_limit m q (EndFunction v) over may.stood.known counted is not_over).1 may)
     longer

@@ -1,7 +1,7 @@
 -- What is on the stack of a maker: the actions that it was made of, and what it leaves open.
 use Rattle.std.specs.Prelude.{ℕ, ◌≡◌, List, [], ◌∷◌, ◌++◌, false, Some, is_some, IsTrue}
-use Rattle.grammar.specs.Actions.{Action, BeginCall, IfTest, ElsePart, BeginWhile, WhileTest, Begin, Finish}
-use Rattle.grammar.specs.Actions.{expr_actions, body_actions, function_actions, middle}
+use Rattle.grammar.specs.Actions.{Action, BeginCall, IfTest, ElsePart, BeginWhile, WhileTest, BeginFunction}
+use Rattle.grammar.specs.Actions.{EndFunction, expr_actions, body_actions, function_actions, middle}
 use Rattle.grammar.specs.Following.{Open, InFunction, AValue, BeforeRight, InCall, InBranch, InElse, BeforeTest, InTurn}
 use Rattle.grammar.specs.Following.{Opened, follow}
 use Rattle.grammar.specs.Origins.{origin_of, ends_in_return}
@@ -34,7 +34,7 @@ opened (x ∷ xs) = open_of x ∷ opened xs
 
 -- the actions before the first statement of a body
 abbrev pub heading_actions : Heading → List Action
-heading_actions (heading.Function number parameters) = Begin number parameters ∷ []
+heading_actions (heading.Function number parameters) = BeginFunction number parameters ∷ []
 heading_actions (heading.First c) = expr_actions (expr_tree c) ++ IfTest ∷ []
 heading_actions (heading.Second c s) = expr_actions (expr_tree c)
     ++ IfTest ∷ (body_actions (body_tree s.items) ++ ElsePart ∷ [])
@@ -65,4 +65,4 @@ pub record Continues (a : Action) (before behind : List entry.Open) : Type 0 whe
 pub record Ends (count : ℕ) (before behind : List entry.Open) (f : Function) : Type 0 where
   pub variables : f.variables ≡ count
   pub nothing : behind ≡ []
-  pub actions : function_actions f.number (function_tree f) ≡ open_actions before ++ Finish count ∷ []
+  pub actions : function_actions f.number (function_tree f) ≡ open_actions before ++ EndFunction count ∷ []

@@ -1,6 +1,6 @@
 -- What a maker of trees represents.
 use Rattle.std.specs.Prelude.{ℕ, ◌+◌, ◌≡◌, ◌<◌, ◌≤◌, List, [], ◌∷◌, ◌++◌, Bool, true, false, Some}
-use Rattle.grammar.specs.Actions.{Action, Begin, Finish, code_length}
+use Rattle.grammar.specs.Actions.{Action, BeginFunction, EndFunction, code_length}
 use Rattle.grammar.specs.Following.{follow_all}
 use Rattle.grammar.specs.Profile.{Profile, IsProfile}
 use Rattle.trees.specs.Opened.{opened, open_actions}
@@ -23,8 +23,8 @@ Fits m = m.code + 1 ≤ m.profile.instructions
 -- whether a function is open after the actions, if one was before or not
 abbrev pub in_function : Bool → List Action → Bool
 in_function before [] = before
-in_function before (Begin number parameters ∷ acts) = in_function true acts
-in_function before (Finish variables ∷ acts) = in_function false acts
+in_function before (BeginFunction number parameters ∷ acts) = in_function true acts
+in_function before (EndFunction variables ∷ acts) = in_function false acts
 in_function before (a ∷ acts) = in_function before acts
 
 -- the actions are those of the functions that are done, and after them those of what is open

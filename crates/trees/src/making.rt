@@ -3,7 +3,7 @@
 ghost use Rattle.std.specs.Prelude.{◌≡◌, OnOk, true};
 ghost use Rattle.grammar.specs.Actions.{PushConstant, FetchVariable, StoreVariable, ApplyBinop, LogicMiddle, BeginCall};
 ghost use Rattle.grammar.specs.Actions.{EndCall, IfTest, ElsePart, EndIf, BeginWhile, WhileTest, EndWhile, GiveBack};
-ghost use Rattle.grammar.specs.Actions.{Chop, Begin, Finish};
+ghost use Rattle.grammar.specs.Actions.{Chop, BeginFunction, EndFunction};
 ghost use Rattle.grammar.specs.Building.{Refuses};
 ghost use Rattle.trees.specs.Opened.{Continues, Ends, IsAllowed};
 ghost use Rattle.trees.specs.Stacks.{without_last};
@@ -195,8 +195,8 @@ impl Stack {
 
     /// Begins a function.
     pub fn begin_function(&mut self, number: u8, parameters: u8) -> Result<(), BuildFault>
-        requires { IsAllowed (Begin number parameters) self.old }
-        ensures ok { OnOk result (Continues (Begin number parameters) self.old self.new) }
+        requires { IsAllowed (BeginFunction number parameters) self.old }
+        ensures ok { OnOk result (Continues (BeginFunction number parameters) self.old self.new) }
         ensures memory { Refuses result true }
     {
         self.begin(Heading::Function(number, parameters))
@@ -204,7 +204,7 @@ impl Stack {
 
     /// Ends the function, and returns it without its last `return 0;`.
     pub fn end_function(&mut self, variables: u8) -> Function
-        requires { IsAllowed (Finish variables) self.old }
+        requires { IsAllowed (EndFunction variables) self.old }
         ensures { Ends variables self.old self.new result }
     {
         let Body {

@@ -17,7 +17,7 @@ use Rattle.expressions.proofs.NestedLaws.{NoOperator, NoPrimary, plain_operand, 
 use Rattle.expressions.proofs.ClimbingLaws.{at_its_own, climb_refused, climbs_end, climbs_first, climbs_on, first_stops, found, left_open, ten_levels}
 use Rattle.expressions.proofs.OperatorLaws.{apply_follows, middle_follows, operand_adds, operator_ends, right_has_room, right_refused}
 use Rattle.expressions.proofs.SignLaws.{before_follows, behind_follows, operand_refused, operand_room, sign_adds, sign_ends, sign_too_deep}
-use Rattle.expressions.proofs.VariableLaws.{is_named}
+use Rattle.expressions.proofs.OperandLaws.{is_named}
 use Rattle.expressions.proofs.expressions.+expressions.Goals as goal
 
 pub bracketed-returns-then-depth-ge-MOST_LEVELS-clause-parses : goal.bracketed-returns-then-depth-ge-MOST_LEVELS-clause-parses

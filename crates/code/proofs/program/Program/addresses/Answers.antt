@@ -1,6 +1,6 @@
 use Rattle.std.proofs.Common.{◌∙◌, ap, length, List, ℕ}
 use Rattle.code.specs.Generation.{ObjectCode}
-use Rattle.code.proofs.Programs.{addresses_of_file}
+use Rattle.code.proofs.ProgramLaws.{addresses_of_file}
 use Rattle.code.proofs.program.Program.addresses.Goals as goal
 
 pub returns-clause-each : goal.returns-clause-each

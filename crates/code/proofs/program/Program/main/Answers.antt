@@ -1,6 +1,6 @@
 use Rattle.std.proofs.Common.{arith, ap, length}
 use Rattle.code.specs.Generation.{ObjectCode}
-use Rattle.code.proofs.Programs.{main_is_known}
+use Rattle.code.proofs.ProgramLaws.{main_is_known}
 use Rattle.code.proofs.program.Program.main.Goals as goal
 
 pub returns-clause-known : goal.returns-clause-known

@@ -1,6 +1,6 @@
 use Rattle.std.proofs.Common.{ap, ◌∙◌}
 use Rattle.std.proofs.lemmas.Result.{on_ok_weaker}
-use Rattle.grammar.specs.Actions.{Finish}
+use Rattle.grammar.specs.Actions.{EndFunction}
 use Rattle.trees.specs.Standing.{Kept}
 use Rattle.trees.proofs.StandingLaws.{may_go_on, over_at_end, fits_at_end, ended}
 use Rattle.trees.proofs.maker.TreeMakerBuild.end_function.Goals as goal
@@ -12,7 +12,7 @@ pub end_function-function-requires : goal.end_function-function-requires
 end_function-function-requires c =
     let counted = c.passes.ensures in
     rw (ap (λ (k : Kept). k.stack) c.self.view_is)
-    (may_go_on c.args.self.now c.passes.new.self (Finish c.args.variables) c.passes.result counted.stack counted.code counted.passes c.if-passes.false c.requires.follows)
+    (may_go_on c.args.self.now c.passes.new.self (EndFunction c.args.variables) c.passes.result counted.stack counted.code counted.passes c.if-passes.false c.requires.follows)
 
 pub returns-clause-ok : goal.returns-clause-ok
 returns-clause-ok c =

@@ -1,5 +1,5 @@
 use Rattle.std.proofs.Common.{subst}
-use Rattle.grammar.specs.Actions.{Finish}
+use Rattle.grammar.specs.Actions.{EndFunction}
 use Rattle.trees.specs.Opened.{IsAllowed}
 use Rattle.trees.proofs.MakingLaws.{function_ends}
 use Rattle.trees.proofs.stack.Stack.end_function.Goals as goal
@@ -7,5 +7,5 @@ use Rattle.trees.proofs.stack.Stack.end_function.Goals as goal
 pub returns : goal.returns
 returns c =
     let was = c.body-heading.ensures in
-    let allowed = subst (λ xs. IsAllowed (Finish c.args.variables) xs) was c.requires in
+    let allowed = subst (λ xs. IsAllowed (EndFunction c.args.variables) xs) was c.requires in
     rw was (function_ends c.body-heading.result c.in-Function.number c.in-Function.parameters c.args.variables c.leave_last.new.statements c.body-heading.new.self c.in-Function.is allowed c.leave_last.ensures)

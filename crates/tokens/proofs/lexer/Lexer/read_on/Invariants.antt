@@ -1,0 +1,18 @@
+use Rattle.std.proofs.Common.{◌≡◌, ◌-◌, ◌≤◌}
+use Rattle.tokens.specs.Tokens.{located_tokens}
+use Rattle.tokens.specs.Window.{KnowsEnd, Takes}
+use Rattle.tokens.specs.Lexing.{to_read}
+use Rattle.tokens.proofs.lexer.Lexer.read_on.Given as goal
+
+abbrev pub invariant-loop-self : goal.invariant-loop-self
+invariant-loop-self g l = record {
+  tokens : to_read located_tokens l.self.window (g.F.Feed.to_come l.feed) ≡ to_read located_tokens l.initial.self.window (g.F.Feed.to_come l.initial.feed);
+  took : Takes l.initial.self.window.taken l.self.window.taken (g.F.Feed.to_come l.initial.feed) (g.F.Feed.to_come l.feed);
+  forward : l.initial.self.window.place ≤ l.self.window.place;
+  count : g.F.Feed.failures l.feed ≡ g.F.Feed.failures l.initial.feed;
+  here : l.here ≡ l.initial.here;
+  known : KnowsEnd l.self.window.beyond (g.F.Feed.ended l.feed);
+}
+
+abbrev pub decreases-loop-self : goal.decreases-loop-self
+decreases-loop-self g l = 1048576 - l.self.window.place
