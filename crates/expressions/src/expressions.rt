@@ -14,8 +14,8 @@ ghost use Rattle.expressions.specs.Expressions.{Parses, ParsesArgs, ParsesOperan
 ghost use Rattle.expressions.specs.Signs.{sign_punctuator};
 ghost use Rattle.expressions.specs.Starts.{StartsAssignment, StartsCall, StartsNoAssignment};
 
-use crate::signs::{Sign, sign_of, step_of};
 use crate::operands::{constant, step_before, variable};
+use crate::signs::{Sign, sign_of, step_of};
 use grammar::{
     Binary, Build, BuildFault, Code, Op, ParseFault, StoreOp, operator_from, store_operator,
 };
