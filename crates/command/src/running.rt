@@ -123,14 +123,14 @@ fn run_files<'a, F: Feed, O: Sink, E: Sink>(
     err: &mut E,
 ) -> Ending<'a>
     requires files { length feeds.old ≡ length settings.now.words }
-    requires feeds { All (λ feed. F.failures feed < 2 ^ 64 - 1) feeds.old }
+    requires feeds { All (λ feed. (F.account feed).failures < 2 ^ 64 - 1) feeds.old }
     requires not_ended { All (λ feed. F.ended feed ≡ false) feeds.old }
     requires text { O.failures out.old < 2 ^ 64 - 1 }
     requires faults { E.failures err.old < 2 ^ 64 - 1 }
     ensures ran { RunsTo settings.now (map F.to_come feeds.old) result
         (taken (O.portions out.old) (E.portions err.old)) (taken (O.portions out.new) (E.portions err.new))
-        (failures (map F.failures feeds.old) (O.failures out.old) (E.failures err.old))
-        (failures (map F.failures feeds.new) (O.failures out.new) (E.failures err.new)) }
+        (failures (map F.account feeds.old) (O.failures out.old) (E.failures err.old))
+        (failures (map F.account feeds.new) (O.failures out.new) (E.failures err.new)) }
     ensures failures { Accounts result (O.failures out.old) (E.failures err.old) (O.failures out.new)
         (E.failures err.new) }
 {

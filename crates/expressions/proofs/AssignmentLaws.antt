@@ -1,5 +1,5 @@
 -- Assignments, and expressions that are none.
-use Rattle.std.proofs.Common.{◌≡◌, ℕ, ◌+◌, ◌<◌, ◌≤◌, List, [], ◌∷◌, refl, ap, Bool, true, false, arith}
+use Rattle.std.proofs.Common.{◌≡◌, ℕ, ◌+◌, ◌<◌, ◌≤◌, List, [], ◌∷◌, refl, ap, Bool, true, false, arith, ⊥}
 use Rattle.std.specs.Prelude.{Some, None, Result, Ok, Err, is_some}
 use Rattle.tokens.specs.Tokens.{is_last}
 use Rattle.tokens.specs.declared.located_tokens.LocatedToken.{LocatedToken}
@@ -56,10 +56,10 @@ plain_stands at depth sound none =
     chosen at depth Expression (Part (Level 1) ∷ []) []
     (record { sound = sound; is = λ after more. plain_choice (next_at at).token after (none_behind at after none more) }) (λ after more. plain_enters (next_at at).token after (none_behind at after none more))
 
-pub plain_refused : (used : ℕ) (at : Place) (depth : ℕ) (allocates : Bool) (f : ParseFault) → is_fault (next_at at).token ≡ false → NoAssignment at →
-    Refused (FailsAt depth (Part (Level 1) ∷ []) [] at) allocates used f → Refused (FailsAt depth (Part Expression ∷ []) [] at) allocates used f
-plain_refused used at depth allocates f sound none =
-    exit used depth depth (Part Expression ∷ []) (Part (Level 1) ∷ []) [] [] [] [] at at allocates allocates f (plain_stands at depth sound none) (λ stack same. same) (λ same. same)
+pub plain_refused : (used : ℕ) (at : Place) (depth : ℕ) (denied : Type 0) (f : ParseFault) → is_fault (next_at at).token ≡ false → NoAssignment at →
+    Refused (FailsAt depth (Part (Level 1) ∷ []) [] at) denied used f → Refused (FailsAt depth (Part Expression ∷ []) [] at) denied used f
+plain_refused used at depth denied f sound none =
+    exit used depth depth (Part Expression ∷ []) (Part (Level 1) ∷ []) [] [] [] [] at at denied denied f (plain_stands at depth sound none) (λ stack same. same) (λ same. same)
 
 pub plain_adds : (before after : Meaning) (at there : Place) (depth : ℕ) → is_fault (next_at at).token ≡ false → NoAssignment at →
     AddsExpr before after depth 1 (Part (Level 1) ∷ []) [] at there → AddsExpr before after depth 1 (Part Expression ∷ []) [] at there
@@ -72,10 +72,10 @@ plain_adds before after at there depth sound none h = record {
 }
 
 -- either, by the result
-pub plain_parses : {A : Type 0} (result : Result A ParseFault) (allocates : Bool) (before after : Meaning) (depth : ℕ) (old new : Standing) → is_fault (next_at old.place).token ≡ false → NoAssignment old.place →
-    Parses result allocates before after depth 1 (Level 1) old new → Parses result allocates before after depth 1 Expression old new
-plain_parses (Ok x) allocates before after depth old new sound none h = plain_adds before after old.place new.place depth sound none h
-plain_parses (Err fault) allocates before after depth old new sound none h = plain_refused (taken_at new.place) old.place depth allocates fault sound none h
+pub plain_parses : {A : Type 0} (result : Result A ParseFault) (denied : Type 0) (before after : Meaning) (depth : ℕ) (old new : Standing) → is_fault (next_at old.place).token ≡ false → NoAssignment old.place →
+    Parses result denied before after depth 1 (Level 1) old new → Parses result denied before after depth 1 Expression old new
+plain_parses (Ok x) denied before after depth old new sound none h = plain_adds before after old.place new.place depth sound none h
+plain_parses (Err fault) denied before after depth old new sound none h = plain_refused (taken_at new.place) old.place depth denied fault sound none h
 
 -- An assignment.
 
@@ -129,7 +129,7 @@ store_stands : (at : Place) (depth : ℕ) (o : StoreOp) (a : IsAssignment at o) 
     Derives depth (Part Expression ∷ []) (AName Mentioned ∷ Exactly s.m ∷ Part Expression ∷ Make (Store o) ∷ Close ∷ []) [] [] at at
 store_stands at depth o a shallow s = chosen_within at depth Expression (AName Mentioned ∷ Exactly s.m ∷ Part Expression ∷ Make (Store o) ∷ Close ∷ []) (store_chooses at o a s) shallow
 
-pub target_refused : (used : ℕ) (at : Place) (depth : ℕ) (o : StoreOp) (more : Bool) (f : ParseFault) → IsAssignment at o → depth < 64 → Refused (FailsItem (AName Mentioned) at) false used f → Refused (FailsAt depth (Part Expression ∷ []) [] at) more used f
+pub target_refused : (used : ℕ) (at : Place) (depth : ℕ) (o : StoreOp) (more : Type 0) (f : ParseFault) → IsAssignment at o → depth < 64 → Refused (FailsItem (AName Mentioned) at) ⊥ used f → Refused (FailsAt depth (Part Expression ∷ []) [] at) more used f
 target_refused used at depth o more f a shallow =
     let s : SpellsStore o (after_at at) = sign_of at o a in
     exit_item used depth (depth + 1) (Part Expression ∷ []) (AName Mentioned) (Exactly s.m ∷ Part Expression ∷ Make (Store o) ∷ Close ∷ []) [] [] at at more f
@@ -151,8 +151,8 @@ sign_goes_on at now o v a item = rw (next_is at now o v a item) (store_goes_on o
 sign_fits : (at now : Place) (o : StoreOp) (v : Var) → IsAssignment at o → DerivesItem (AName Mentioned) [] (AVariable v ∷ []) at now → (s : SpellsStore o (after_at at)) → is_punctuator s.m (next_at now).token ≡ true
 sign_fits at now o v a item s = rw (next_is at now o v a item) s.fits
 
-pub sign_refused : (used : ℕ) (at now : Place) (depth : ℕ) (o : StoreOp) (v : Var) (more : Bool) (f : ParseFault) → IsAssignment at o → depth < 64 → DerivesItem (AName Mentioned) [] (AVariable v ∷ []) at now →
-    Refused (StopsAt now) false used f → Refused (FailsAt depth (Part Expression ∷ []) [] at) more used f
+pub sign_refused : (used : ℕ) (at now : Place) (depth : ℕ) (o : StoreOp) (v : Var) (more : Type 0) (f : ParseFault) → IsAssignment at o → depth < 64 → DerivesItem (AName Mentioned) [] (AVariable v ∷ []) at now →
+    Refused (StopsAt now) ⊥ used f → Refused (FailsAt depth (Part Expression ∷ []) [] at) more used f
 sign_refused used at now depth o v more f a shallow item stop =
     let s : SpellsStore o (after_at at) = sign_of at o a in
     exit_item used depth (depth + 1) (Part Expression ∷ []) (Exactly s.m) (Part Expression ∷ Make (Store o) ∷ Close ∷ []) [] (AVariable v ∷ []) at now more f
@@ -165,10 +165,10 @@ sign_past at now next depth o v a shallow item goes =
     item_done depth (depth + 1) (Part Expression ∷ []) (Exactly s.m) (Part Expression ∷ Make (Store o) ∷ Close ∷ []) [] [] (AVariable v ∷ []) at now next
     (target_past at now depth o v a shallow item s) (punctuator_past now next s.m (sign_fits at now o v a item s) goes (depth + 1)) (λ stack same. ap (λ n. n + 1) same)
 
-pub value_refused : (used : ℕ) (at now next : Place) (depth : ℕ) (o : StoreOp) (v : Var) (allocates : Bool) (f : ParseFault) → IsAssignment at o → depth < 64 → DerivesItem (AName Mentioned) [] (AVariable v ∷ []) at now →
-    GoesPast now next → Refused (FailsAt (depth + 1) (Part Expression ∷ []) [] next) allocates used f → Refused (FailsAt depth (Part Expression ∷ []) [] at) allocates used f
-value_refused used at now next depth o v allocates f a shallow item goes =
-    exit used depth (depth + 1) (Part Expression ∷ []) (Part Expression ∷ []) (Make (Store o) ∷ Close ∷ []) [] [] (AVariable v ∷ []) at next allocates allocates f
+pub value_refused : (used : ℕ) (at now next : Place) (depth : ℕ) (o : StoreOp) (v : Var) (denied : Type 0) (f : ParseFault) → IsAssignment at o → depth < 64 → DerivesItem (AName Mentioned) [] (AVariable v ∷ []) at now →
+    GoesPast now next → Refused (FailsAt (depth + 1) (Part Expression ∷ []) [] next) denied used f → Refused (FailsAt depth (Part Expression ∷ []) [] at) denied used f
+value_refused used at now next depth o v denied f a shallow item goes =
+    exit used depth (depth + 1) (Part Expression ∷ []) (Part Expression ∷ []) (Make (Store o) ∷ Close ∷ []) [] [] (AVariable v ∷ []) at next denied denied f
     (sign_past at now next depth o v a shallow item goes) (λ stack same. ap (λ n. n + 1) same) (λ same. same)
 
 store_makes : (o : StoreOp) (v : Var) (e : Expr) → MakesOnly (Store o) (AnExpr e ∷ AVariable v ∷ []) (AnExpr (Assign o v e) ∷ [])

@@ -1,5 +1,5 @@
 -- Calls and their arguments.
-use Rattle.std.proofs.Common.{◌≡◌, ℕ, ◌+◌, ◌<◌, ◌≤◌, List, [], ◌∷◌, ◌++◌, refl, sym, ap, subst, ◌∙◌, Bool, true, false, arith, append_assoc, append-nil}
+use Rattle.std.proofs.Common.{◌≡◌, ℕ, ◌+◌, ◌<◌, ◌≤◌, List, [], ◌∷◌, ◌++◌, refl, sym, ap, subst, ◌∙◌, Bool, true, false, arith, append_assoc, append-nil, ⊥}
 use Rattle.std.specs.Prelude.{Some}
 use Rattle.tokens.specs.declared.located_tokens.Punctuator.TheVariants as punctuator
 use Rattle.tokens.specs.declared.located_tokens.Token.{Token}
@@ -76,10 +76,10 @@ first_stands at depth callee sound other =
     chosen at depth Arguments (Part Expression ∷ Make Pass ∷ Part MoreArguments ∷ []) (ACall callee NoMore ∷ [])
     (record { sound = sound; is = λ after more. first_choice (next_at at).token after other }) (λ after more. refl)
 
-pub first_refused : (used : ℕ) (at : Place) (depth : ℕ) (allocates : Bool) (f : ParseFault) → is_fault (next_at at).token ≡ false → is_punctuator punctuator.CloseRound (next_at at).token ≡ false →
-    Refused (FailsAt depth (Part Expression ∷ []) [] at) allocates used f → Refused (FailsArgs depth at) allocates used f
-first_refused used at depth allocates f sound other =
-    refused_map used (FailsAt depth (Part Expression ∷ []) [] at) (FailsArgs depth at) allocates allocates f
+pub first_refused : (used : ℕ) (at : Place) (depth : ℕ) (denied : Type 0) (f : ParseFault) → is_fault (next_at at).token ≡ false → is_punctuator punctuator.CloseRound (next_at at).token ≡ false →
+    Refused (FailsAt depth (Part Expression ∷ []) [] at) denied used f → Refused (FailsArgs depth at) denied used f
+first_refused used at depth denied f sound other =
+    refused_map used (FailsAt depth (Part Expression ∷ []) [] at) (FailsArgs depth at) denied denied f
     (λ d h callee. fails_behind depth depth (Part Arguments ∷ []) (Part Expression ∷ []) (Make Pass ∷ Part MoreArguments ∷ []) (ACall callee NoMore ∷ []) [] (ACall callee NoMore ∷ []) at at d
     (first_stands at depth callee sound other) (λ stack same. same) h) (λ same. same)
 
@@ -115,12 +115,12 @@ comma_stands before mid at now depth h callee fits =
     (chosen now depth MoreArguments (Exactly punctuator.Comma ∷ Part Expression ∷ Make Pass ∷ Part MoreArguments ∷ []) (ACall callee h.tree ∷ [])
     (record { sound = punctuator_sound punctuator.Comma (next_at now).token fits; is = λ after more. comma_choice (next_at now).token after fits }) (λ after more. refl)) (λ stack same. same)
 
-pub comma_refused : (used : ℕ) (before mid : Meaning) (at now : Place) (depth : ℕ) (more : Bool) (f : ParseFault) → AddsArgs before mid depth (Part Arguments ∷ []) (Part MoreArguments ∷ []) at now →
-    is_punctuator punctuator.Comma (next_at now).token ≡ true → Refused (FailsItem (Exactly punctuator.Comma) now) false used f → Refused (FailsArgs depth at) more used f
+pub comma_refused : (used : ℕ) (before mid : Meaning) (at now : Place) (depth : ℕ) (more : Type 0) (f : ParseFault) → AddsArgs before mid depth (Part Arguments ∷ []) (Part MoreArguments ∷ []) at now →
+    is_punctuator punctuator.Comma (next_at now).token ≡ true → Refused (FailsItem (Exactly punctuator.Comma) now) ⊥ used f → Refused (FailsArgs depth at) more used f
 comma_refused used before mid at now depth more f h fits =
-    refused_map used (FailsItem (Exactly punctuator.Comma) now) (FailsArgs depth at) false more f
+    refused_map used (FailsItem (Exactly punctuator.Comma) now) (FailsArgs depth at) ⊥ more f
     (λ d k callee. fails_behind depth depth (Part Arguments ∷ []) (Exactly punctuator.Comma ∷ []) (Part Expression ∷ Make Pass ∷ Part MoreArguments ∷ []) (ACall callee NoMore ∷ []) [] (ACall callee h.tree ∷ []) at now d
-    (comma_stands before mid at now depth h callee fits) (λ stack same. same) (k depth)) (λ never. absurd (cc))
+    (comma_stands before mid at now depth h callee fits) (λ stack same. same) (k depth)) (λ never. absurd never)
 
 comma_past : (before mid : Meaning) (at now next : Place) (depth : ℕ) (h : AddsArgs before mid depth (Part Arguments ∷ []) (Part MoreArguments ∷ []) at now) (callee : Callee) →
     is_punctuator punctuator.Comma (next_at now).token ≡ true → DerivesItem (Exactly punctuator.Comma) [] [] now next →
@@ -129,10 +129,10 @@ comma_past before mid at now next depth h callee fits sign =
     item_done depth depth (Part Arguments ∷ []) (Exactly punctuator.Comma) (Part Expression ∷ Make Pass ∷ Part MoreArguments ∷ []) (ACall callee NoMore ∷ []) [] (ACall callee h.tree ∷ []) at now next
     (comma_stands before mid at now depth h callee fits) (sign depth) (λ stack same. same)
 
-pub argument_refused : (used : ℕ) (before mid : Meaning) (at now next : Place) (depth : ℕ) (allocates : Bool) (f : ParseFault) → AddsArgs before mid depth (Part Arguments ∷ []) (Part MoreArguments ∷ []) at now →
-    is_punctuator punctuator.Comma (next_at now).token ≡ true → DerivesItem (Exactly punctuator.Comma) [] [] now next → Refused (FailsAt depth (Part Expression ∷ []) [] next) allocates used f → Refused (FailsArgs depth at) allocates used f
-argument_refused used before mid at now next depth allocates f h fits sign =
-    refused_map used (FailsAt depth (Part Expression ∷ []) [] next) (FailsArgs depth at) allocates allocates f
+pub argument_refused : (used : ℕ) (before mid : Meaning) (at now next : Place) (depth : ℕ) (denied : Type 0) (f : ParseFault) → AddsArgs before mid depth (Part Arguments ∷ []) (Part MoreArguments ∷ []) at now →
+    is_punctuator punctuator.Comma (next_at now).token ≡ true → DerivesItem (Exactly punctuator.Comma) [] [] now next → Refused (FailsAt depth (Part Expression ∷ []) [] next) denied used f → Refused (FailsArgs depth at) denied used f
+argument_refused used before mid at now next depth denied f h fits sign =
+    refused_map used (FailsAt depth (Part Expression ∷ []) [] next) (FailsArgs depth at) denied denied f
     (λ d k callee. fails_behind depth depth (Part Arguments ∷ []) (Part Expression ∷ []) (Make Pass ∷ Part MoreArguments ∷ []) (ACall callee NoMore ∷ []) [] (ACall callee h.tree ∷ []) at next d
     (comma_past before mid at now next depth h callee fits sign) (λ stack same. same) k) (λ same. same)
 
@@ -199,7 +199,7 @@ call_stands : (at : Place) (depth : ℕ) → IsCall at depth → Derives depth (
 call_stands at depth c =
     chosen_within at depth Primary (AName Called ∷ Exactly punctuator.OpenRound ∷ Part Arguments ∷ Exactly punctuator.CloseRound ∷ Make Invoke ∷ Close ∷ []) (call_chooses at c.named c.fits) c.shallow
 
-pub callee_refused : (used : ℕ) (at : Place) (depth : ℕ) (more : Bool) (f : ParseFault) → IsCall at depth → Refused (FailsItem (AName Called) at) false used f → Refused (FailsAt depth (Part Primary ∷ []) [] at) more used f
+pub callee_refused : (used : ℕ) (at : Place) (depth : ℕ) (more : Type 0) (f : ParseFault) → IsCall at depth → Refused (FailsItem (AName Called) at) ⊥ used f → Refused (FailsAt depth (Part Primary ∷ []) [] at) more used f
 callee_refused used at depth more f c =
     exit_item used depth (depth + 1) (Part Primary ∷ []) (AName Called) (Exactly punctuator.OpenRound ∷ Part Arguments ∷ Exactly punctuator.CloseRound ∷ Make Invoke ∷ Close ∷ []) [] [] at at more f
     (call_stands at depth c) (λ stack same. ap (λ n. n + 1) same)
@@ -217,8 +217,8 @@ callee_halts used at now depth callee c item near =
     halts depth (Part Primary ∷ []) (Exactly punctuator.OpenRound ∷ Part Arguments ∷ Exactly punctuator.CloseRound ∷ Make Invoke ∷ Close ∷ []) [] (ACall callee NoMore ∷ []) at now used
     (callee_past at now depth callee c item) near
 
-pub call_open_refused : (used : ℕ) (at now : Place) (depth : ℕ) (callee : Callee) (more : Bool) (f : ParseFault) → IsCall at depth → DerivesItem (AName Called) [] (ACall callee NoMore ∷ []) at now →
-    Refused (FailsItem (Exactly punctuator.OpenRound) now) false used f → Refused (FailsAt depth (Part Primary ∷ []) [] at) more used f
+pub call_open_refused : (used : ℕ) (at now : Place) (depth : ℕ) (callee : Callee) (more : Type 0) (f : ParseFault) → IsCall at depth → DerivesItem (AName Called) [] (ACall callee NoMore ∷ []) at now →
+    Refused (FailsItem (Exactly punctuator.OpenRound) now) ⊥ used f → Refused (FailsAt depth (Part Primary ∷ []) [] at) more used f
 call_open_refused used at now depth callee more f c item =
     exit_item used depth (depth + 1) (Part Primary ∷ []) (Exactly punctuator.OpenRound) (Part Arguments ∷ Exactly punctuator.CloseRound ∷ Make Invoke ∷ Close ∷ []) [] (ACall callee NoMore ∷ []) at now more f
     (callee_past at now depth callee c item) (λ stack same. ap (λ n. n + 1) same)
@@ -229,10 +229,10 @@ call_open_past at now inner depth callee c item bracket =
     item_done depth (depth + 1) (Part Primary ∷ []) (Exactly punctuator.OpenRound) (Part Arguments ∷ Exactly punctuator.CloseRound ∷ Make Invoke ∷ Close ∷ []) [] [] (ACall callee NoMore ∷ []) at now inner
     (callee_past at now depth callee c item) (bracket (depth + 1)) (λ stack same. ap (λ n. n + 1) same)
 
-pub arguments_refused : (used : ℕ) (at now inner : Place) (depth : ℕ) (callee : Callee) (allocates : Bool) (f : ParseFault) → IsCall at depth → DerivesItem (AName Called) [] (ACall callee NoMore ∷ []) at now →
-    DerivesItem (Exactly punctuator.OpenRound) [] [] now inner → Refused (FailsArgs (depth + 1) inner) allocates used f → Refused (FailsAt depth (Part Primary ∷ []) [] at) allocates used f
-arguments_refused used at now inner depth callee allocates f c item bracket =
-    refused_map used (FailsArgs (depth + 1) inner) (FailsAt depth (Part Primary ∷ []) [] at) allocates allocates f
+pub arguments_refused : (used : ℕ) (at now inner : Place) (depth : ℕ) (callee : Callee) (denied : Type 0) (f : ParseFault) → IsCall at depth → DerivesItem (AName Called) [] (ACall callee NoMore ∷ []) at now →
+    DerivesItem (Exactly punctuator.OpenRound) [] [] now inner → Refused (FailsArgs (depth + 1) inner) denied used f → Refused (FailsAt depth (Part Primary ∷ []) [] at) denied used f
+arguments_refused used at now inner depth callee denied f c item bracket =
+    refused_map used (FailsArgs (depth + 1) inner) (FailsAt depth (Part Primary ∷ []) [] at) denied denied f
     (λ d h. fails_behind depth (depth + 1) (Part Primary ∷ []) (Part Arguments ∷ []) (Exactly punctuator.CloseRound ∷ Make Invoke ∷ Close ∷ []) [] (ACall callee NoMore ∷ []) [] at inner d
     (call_open_past at now inner depth callee c item bracket) (λ stack same. ap (λ n. n + 1) same) (h callee)) (λ same. same)
 
@@ -243,8 +243,8 @@ arguments_past before after at now inner behind depth callee c item bracket h =
     joined depth (depth + 1) (Part Primary ∷ []) (Part Arguments ∷ []) [] (Exactly punctuator.CloseRound ∷ Make Invoke ∷ Close ∷ []) [] (ACall callee NoMore ∷ []) (ACall callee h.tree ∷ []) [] at inner behind
     (call_open_past at now inner depth callee c item bracket) (h.derives callee) (λ stack same. ap (λ n. n + 1) same)
 
-pub call_close_refused : (used : ℕ) (before after : Meaning) (at now inner behind : Place) (depth : ℕ) (callee : Callee) (more : Bool) (f : ParseFault) → IsCall at depth → DerivesItem (AName Called) [] (ACall callee NoMore ∷ []) at now →
-    DerivesItem (Exactly punctuator.OpenRound) [] [] now inner → AddsArgs before after (depth + 1) (Part Arguments ∷ []) [] inner behind → Refused (FailsItem (Exactly punctuator.CloseRound) behind) false used f →
+pub call_close_refused : (used : ℕ) (before after : Meaning) (at now inner behind : Place) (depth : ℕ) (callee : Callee) (more : Type 0) (f : ParseFault) → IsCall at depth → DerivesItem (AName Called) [] (ACall callee NoMore ∷ []) at now →
+    DerivesItem (Exactly punctuator.OpenRound) [] [] now inner → AddsArgs before after (depth + 1) (Part Arguments ∷ []) [] inner behind → Refused (FailsItem (Exactly punctuator.CloseRound) behind) ⊥ used f →
     Refused (FailsAt depth (Part Primary ∷ []) [] at) more used f
 call_close_refused used before after at now inner behind depth callee more f c item bracket h =
     exit_item used depth (depth + 1) (Part Primary ∷ []) (Exactly punctuator.CloseRound) (Make Invoke ∷ Close ∷ []) [] (ACall callee h.tree ∷ []) at behind more f

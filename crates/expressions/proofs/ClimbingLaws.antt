@@ -17,7 +17,8 @@ use Rattle.grammar.specs.Faults.{levels}
 use Rattle.grammar.specs.Following.{AValue, open_count}
 use Rattle.grammar.specs.Grammar.{Item, Level, Part, Tail, Unary, choice, is_fault}
 use Rattle.grammar.specs.Nesting.{nesting, right_side}
-use Rattle.grammar.specs.Operators.{binary_of, if_at, if_from, operator_at, operator_from, operator_of}
+use Rattle.grammar.specs.Operators.{binary_of, if_at, operator_at, operator_of}
+use Rattle.grammar.specs.Climbing.{if_from, operator_from}
 use Rattle.grammar.specs.Tree.{Binary}
 use Rattle.grammar.proofs.FollowingLaws.{expr_leads, origin_of}
 use Rattle.grammar.proofs.StandingLaws.{stands_then, appends_both}
@@ -263,10 +264,10 @@ climbs_first before after at there depth n sound h = record {
   };
 }
 
-pub first_stops : (used : ℕ) (at : Place) (depth n : ℕ) (allocates : Bool) (f : ParseFault) → is_fault (next_at at).token ≡ false →
-    Refused (FailsAt depth (Part Unary ∷ []) [] at) allocates used f → Refused (FailsAt depth (Part (Level n) ∷ []) [] at) allocates used f
-first_stops used at depth n allocates f sound =
-    exit used depth depth (Part (Level n) ∷ []) (Part Unary ∷ []) (tails (11 - n) n) [] [] [] at at allocates allocates f
+pub first_stops : (used : ℕ) (at : Place) (depth n : ℕ) (denied : Type 0) (f : ParseFault) → is_fault (next_at at).token ≡ false →
+    Refused (FailsAt depth (Part Unary ∷ []) [] at) denied used f → Refused (FailsAt depth (Part (Level n) ∷ []) [] at) denied used f
+first_stops used at depth n denied f sound =
+    exit used depth depth (Part (Level n) ∷ []) (Part Unary ∷ []) (tails (11 - n) n) [] [] [] at at denied denied f
     (reaches at depth n sound) (λ stack same. tails_open (11 - n) n stack depth same) (λ same. same)
 
 operator_sound : (t : Token) (b : AnOperator) → operator_of t ≡ Some b → is_fault t ≡ false
@@ -332,10 +333,10 @@ climbs_on before mid after at now there depth n b h is r none = record {
     wide_enough : (n l left right : ℕ) → n ≤ l → left ≤ room depth n → right ≤ room depth l → max left right ≤ room depth n
     wide_enough n l left right from small less = omega arith
 
-pub climb_refused : (used : ℕ) (before mid : Meaning) (at now : Place) (depth n : ℕ) (b : AnOperator) (allocates : Bool) (f : ParseFault) → Climbs before mid depth n at now →
-    operator_from n (next_at now).token ≡ Some b → Refused (FailsOperand depth b.level now) allocates used f → Refused (FailsAt depth (Part (Level n) ∷ []) [] at) allocates used f
-climb_refused used before mid at now depth n b allocates f h is =
-    refused_map used (FailsOperand depth b.level now) (FailsAt depth (Part (Level n) ∷ []) [] at) allocates allocates f
+pub climb_refused : (used : ℕ) (before mid : Meaning) (at now : Place) (depth n : ℕ) (b : AnOperator) (denied : Type 0) (f : ParseFault) → Climbs before mid depth n at now →
+    operator_from n (next_at now).token ≡ Some b → Refused (FailsOperand depth b.level now) denied used f → Refused (FailsAt depth (Part (Level n) ∷ []) [] at) denied used f
+climb_refused used before mid at now depth n b denied f h is =
+    refused_map used (FailsOperand depth b.level now) (FailsAt depth (Part (Level n) ∷ []) [] at) denied denied f
     (λ d fails. fails_behind depth depth (Part (Level n) ∷ []) (Part (Tail b.level) ∷ []) (tails (b.level - n) n) [] (AnExpr h.adds.tree ∷ []) [] at now d
     (climbed before mid at now depth n b h is) (λ stack same. tails_open (b.level - n) n stack depth same) (fails h.adds.tree)) (λ same. same)
 

@@ -1,5 +1,5 @@
 -- Brackets, and what begins no primary.
-use Rattle.std.proofs.Common.{◌≡◌, ℕ, ◌+◌, ◌<◌, ◌≤◌, List, [], ◌∷◌, refl, ap, Bool, true, false, arith}
+use Rattle.std.proofs.Common.{◌≡◌, ℕ, ◌+◌, ◌<◌, ◌≤◌, List, [], ◌∷◌, refl, ap, Bool, true, false, arith, ⊥}
 use Rattle.std.specs.Prelude.{Some, None}
 use Rattle.tokens.specs.declared.located_tokens.Punctuator.{Punctuator}
 use Rattle.tokens.specs.declared.located_tokens.Punctuator.TheVariants as punctuator
@@ -48,8 +48,8 @@ open_stands : (at : Place) (depth : ℕ) → is_punctuator punctuator.OpenRound 
     Derives depth (Part Primary ∷ []) (Exactly punctuator.OpenRound ∷ Part Expression ∷ Exactly punctuator.CloseRound ∷ Close ∷ []) [] [] at at
 open_stands at depth fits shallow = chosen_within at depth Primary (Exactly punctuator.OpenRound ∷ Part Expression ∷ Exactly punctuator.CloseRound ∷ Close ∷ []) (open_chooses at fits) shallow
 
-pub open_ends : (used : ℕ) (at : Place) (depth : ℕ) (more : Bool) (f : ParseFault) → is_punctuator punctuator.OpenRound (next_at at).token ≡ true → depth < 64 →
-    Refused (StopsAt at) false used f → Refused (FailsAt depth (Part Primary ∷ []) [] at) more used f
+pub open_ends : (used : ℕ) (at : Place) (depth : ℕ) (more : Type 0) (f : ParseFault) → is_punctuator punctuator.OpenRound (next_at at).token ≡ true → depth < 64 →
+    Refused (StopsAt at) ⊥ used f → Refused (FailsAt depth (Part Primary ∷ []) [] at) more used f
 open_ends used at depth more f fits shallow stop =
     exit_item used depth (depth + 1) (Part Primary ∷ []) (Exactly punctuator.OpenRound) (Part Expression ∷ Exactly punctuator.CloseRound ∷ Close ∷ []) [] [] at at more f
     (open_stands at depth fits shallow) (λ stack same. ap (λ n. n + 1) same) (punctuator_ends used at punctuator.OpenRound f fits stop)
@@ -60,10 +60,10 @@ open_past at now depth fits shallow goes =
     item_done depth (depth + 1) (Part Primary ∷ []) (Exactly punctuator.OpenRound) (Part Expression ∷ Exactly punctuator.CloseRound ∷ Close ∷ []) [] [] [] at at now
     (open_stands at depth fits shallow) (punctuator_past at now punctuator.OpenRound fits goes (depth + 1)) (λ stack same. ap (λ n. n + 1) same)
 
-pub inside_refused : (used : ℕ) (at now : Place) (depth : ℕ) (allocates : Bool) (f : ParseFault) → is_punctuator punctuator.OpenRound (next_at at).token ≡ true → depth < 64 → GoesPast at now →
-    Refused (FailsAt (depth + 1) (Part Expression ∷ []) [] now) allocates used f → Refused (FailsAt depth (Part Primary ∷ []) [] at) allocates used f
-inside_refused used at now depth allocates f fits shallow goes =
-    exit used depth (depth + 1) (Part Primary ∷ []) (Part Expression ∷ []) (Exactly punctuator.CloseRound ∷ Close ∷ []) [] [] [] at now allocates allocates f
+pub inside_refused : (used : ℕ) (at now : Place) (depth : ℕ) (denied : Type 0) (f : ParseFault) → is_punctuator punctuator.OpenRound (next_at at).token ≡ true → depth < 64 → GoesPast at now →
+    Refused (FailsAt (depth + 1) (Part Expression ∷ []) [] now) denied used f → Refused (FailsAt depth (Part Primary ∷ []) [] at) denied used f
+inside_refused used at now depth denied f fits shallow goes =
+    exit used depth (depth + 1) (Part Primary ∷ []) (Part Expression ∷ []) (Exactly punctuator.CloseRound ∷ Close ∷ []) [] [] [] at now denied denied f
     (open_past at now depth fits shallow goes) (λ stack same. ap (λ n. n + 1) same) (λ same. same)
 
 inside_past : (before after : Meaning) (at now behind : Place) (depth : ℕ) → is_punctuator punctuator.OpenRound (next_at at).token ≡ true → depth < 64 → GoesPast at now →
@@ -72,8 +72,8 @@ inside_past before after at now behind depth fits shallow goes h =
     joined depth (depth + 1) (Part Primary ∷ []) (Part Expression ∷ []) [] (Exactly punctuator.CloseRound ∷ Close ∷ []) [] [] (AnExpr h.tree ∷ []) [] at now behind
     (open_past at now depth fits shallow goes) h.derives (λ stack same. ap (λ n. n + 1) same)
 
-pub close_refused : (used : ℕ) (before after : Meaning) (at now behind : Place) (depth : ℕ) (more : Bool) (f : ParseFault) → is_punctuator punctuator.OpenRound (next_at at).token ≡ true → depth < 64 → GoesPast at now →
-    AddsExpr before after (depth + 1) 1 (Part Expression ∷ []) [] now behind → Refused (FailsItem (Exactly punctuator.CloseRound) behind) false used f → Refused (FailsAt depth (Part Primary ∷ []) [] at) more used f
+pub close_refused : (used : ℕ) (before after : Meaning) (at now behind : Place) (depth : ℕ) (more : Type 0) (f : ParseFault) → is_punctuator punctuator.OpenRound (next_at at).token ≡ true → depth < 64 → GoesPast at now →
+    AddsExpr before after (depth + 1) 1 (Part Expression ∷ []) [] now behind → Refused (FailsItem (Exactly punctuator.CloseRound) behind) ⊥ used f → Refused (FailsAt depth (Part Primary ∷ []) [] at) more used f
 close_refused used before after at now behind depth more f fits shallow goes h =
     exit_item used depth (depth + 1) (Part Primary ∷ []) (Exactly punctuator.CloseRound) (Close ∷ []) [] (AnExpr h.tree ∷ []) at behind more f
     (inside_past before after at now behind depth fits shallow goes h) (λ stack same. ap (λ n. n + 1) same)
@@ -133,10 +133,10 @@ primary_stands : (at : Place) (depth : ℕ) → NoOperator (next_at at).token �
 primary_stands at depth n =
     chosen at depth Unary (Part Primary ∷ []) [] (record { sound = n.sound; is = λ after more. primary_choice (next_at at).token after n.signs n.steps }) (λ after more. primary_enters (next_at at).token after n.signs)
 
-pub primary_refused : (used : ℕ) (at : Place) (depth : ℕ) (allocates : Bool) (f : ParseFault) → NoOperator (next_at at).token →
-    Refused (FailsAt depth (Part Primary ∷ []) [] at) allocates used f → Refused (FailsAt depth (Part Unary ∷ []) [] at) allocates used f
-primary_refused used at depth allocates f n =
-    exit used depth depth (Part Unary ∷ []) (Part Primary ∷ []) [] [] [] [] at at allocates allocates f (primary_stands at depth n) (λ stack same. same) (λ same. same)
+pub primary_refused : (used : ℕ) (at : Place) (depth : ℕ) (denied : Type 0) (f : ParseFault) → NoOperator (next_at at).token →
+    Refused (FailsAt depth (Part Primary ∷ []) [] at) denied used f → Refused (FailsAt depth (Part Unary ∷ []) [] at) denied used f
+primary_refused used at depth denied f n =
+    exit used depth depth (Part Unary ∷ []) (Part Primary ∷ []) [] [] [] [] at at denied denied f (primary_stands at depth n) (λ stack same. same) (λ same. same)
 
 pub primary_adds : (before after : Meaning) (at there : Place) (depth : ℕ) → NoOperator (next_at at).token → AddsExpr before after depth 11 (Part Primary ∷ []) [] at there → AddsExpr before after depth 11 (Part Unary ∷ []) [] at there
 primary_adds before after at there depth n h = record {

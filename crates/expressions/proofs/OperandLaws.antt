@@ -1,5 +1,5 @@
 -- Constants and variables, with ++ and --.
-use Rattle.std.proofs.Common.{◌≡◌, ℕ, pos, ◌+◌, ◌≤◌, List, [], ◌∷◌, refl, Bool, true, false, arith}
+use Rattle.std.proofs.Common.{◌≡◌, ℕ, pos, ◌+◌, ◌≤◌, List, [], ◌∷◌, refl, Bool, true, false, arith, ⊥}
 use Rattle.std.specs.Prelude.{ℤ, Some, is_some}
 use Rattle.tokens.specs.Tokens.{is_last}
 use Rattle.tokens.specs.declared.located_tokens.LocatedToken.{LocatedToken}
@@ -88,10 +88,10 @@ constant_past at there value is goes depth =
 constant_stands : (at : Place) (value : ℕ) → (next_at at).token ≡ token.Constant value → (depth : ℕ) → Derives depth (Part Primary ∷ []) (AConstant ∷ []) [] [] at at
 constant_stands at value is depth = chosen at depth Primary (AConstant ∷ []) [] (constant_chooses at value is) (constant_enters at value is)
 
-pub constant_ends : (used : ℕ) (at : Place) (value : ℕ) (more : Bool) (f : ParseFault) → (next_at at).token ≡ token.Constant value → Refused (StopsAt at) false used f → Refused (FailsItem (Part Primary) at) more used f
+pub constant_ends : (used : ℕ) (at : Place) (value : ℕ) (more : Type 0) (f : ParseFault) → (next_at at).token ≡ token.Constant value → Refused (StopsAt at) ⊥ used f → Refused (FailsItem (Part Primary) at) more used f
 constant_ends used at value more f is stop =
     item_exit used (Part Primary) AConstant [] [] at at more f (constant_stands at value is) (λ depth stack same. same)
-    (refused_map used (StopsAt at) (FailsItem AConstant at) false false f
+    (refused_map used (StopsAt at) (FailsItem AConstant at) ⊥ ⊥ f
     (λ d s depth. stops at.position.reading (scope_at at) (scope_at at) at.to_come d depth (AConstant ∷ []) [] [] (AnExpr (Constant (pos value)) ∷ []) (λ rest b. constant_leads (next_at at) value is depth (scope_at at) rest) s)
     (λ same. same) stop)
 
@@ -148,8 +148,8 @@ fetch_stands : (at : Place) → IsNamed (next_at at).token → is_punctuator pun
     Derives depth (Part Primary ∷ []) (AName Mentioned ∷ Make Fetch ∷ []) [] [] at at
 fetch_stands at n call none depth = chosen at depth Primary (AName Mentioned ∷ Make Fetch ∷ []) [] (fetch_chooses at n call none) (name_enters_none at n call)
 
-pub fetch_ends : (used : ℕ) (at : Place) (more : Bool) (f : ParseFault) → IsNamed (next_at at).token → is_punctuator punctuator.OpenRound (after_at at) ≡ false → NoStep at →
-    Refused (FailsItem (AName Mentioned) at) false used f → Refused (FailsItem (Part Primary) at) more used f
+pub fetch_ends : (used : ℕ) (at : Place) (more : Type 0) (f : ParseFault) → IsNamed (next_at at).token → is_punctuator punctuator.OpenRound (after_at at) ≡ false → NoStep at →
+    Refused (FailsItem (AName Mentioned) at) ⊥ used f → Refused (FailsItem (Part Primary) at) more used f
 fetch_ends used at more f n call none = item_exit used (Part Primary) (AName Mentioned) (Make Fetch ∷ []) [] at at more f (fetch_stands at n call none) (λ depth stack same. same)
 
 fetch_makes : (v : Var) → MakesOnly Fetch (AVariable v ∷ []) (AnExpr (Variable v) ∷ [])
@@ -195,8 +195,8 @@ behind_stands : (at : Place) (s : Step) → IsNamed (next_at at).token → is_pu
 behind_stands at s n fits depth =
     chosen at depth Primary (AName Mentioned ∷ Exactly (step_punctuator s) ∷ Make (StepBehind (step_store s)) ∷ []) [] (behind_chooses at s n fits) (behind_enters_none at s n fits)
 
-pub behind_name_ends : (used : ℕ) (at : Place) (s : Step) (more : Bool) (f : ParseFault) → IsNamed (next_at at).token → is_punctuator (step_punctuator s) (after_at at) ≡ true →
-    Refused (FailsItem (AName Mentioned) at) false used f → Refused (FailsItem (Part Primary) at) more used f
+pub behind_name_ends : (used : ℕ) (at : Place) (s : Step) (more : Type 0) (f : ParseFault) → IsNamed (next_at at).token → is_punctuator (step_punctuator s) (after_at at) ≡ true →
+    Refused (FailsItem (AName Mentioned) at) ⊥ used f → Refused (FailsItem (Part Primary) at) more used f
 behind_name_ends used at s more f n fits =
     item_exit used (Part Primary) (AName Mentioned) (Exactly (step_punctuator s) ∷ Make (StepBehind (step_store s)) ∷ []) [] at at more f (behind_stands at s n fits) (λ depth stack same. same)
 
@@ -212,8 +212,8 @@ pub behind_halts : (used : ℕ) (at now : Place) (s : Step) (v : Var) → IsName
 behind_halts used at now s v n fits item near depth =
     halts depth (Part Primary ∷ []) (Exactly (step_punctuator s) ∷ Make (StepBehind (step_store s)) ∷ []) [] (AVariable v ∷ []) at now used (behind_past_name at now s v n fits item depth) near
 
-pub behind_punctuator_ends : (used : ℕ) (at now : Place) (s : Step) (v : Var) (more : Bool) (f : ParseFault) → IsNamed (next_at at).token → is_punctuator (step_punctuator s) (after_at at) ≡ true →
-    DerivesItem (AName Mentioned) [] (AVariable v ∷ []) at now → Refused (FailsItem (Exactly (step_punctuator s)) now) false used f → Refused (FailsItem (Part Primary) at) more used f
+pub behind_punctuator_ends : (used : ℕ) (at now : Place) (s : Step) (v : Var) (more : Type 0) (f : ParseFault) → IsNamed (next_at at).token → is_punctuator (step_punctuator s) (after_at at) ≡ true →
+    DerivesItem (AName Mentioned) [] (AVariable v ∷ []) at now → Refused (FailsItem (Exactly (step_punctuator s)) now) ⊥ used f → Refused (FailsItem (Part Primary) at) more used f
 behind_punctuator_ends used at now s v more f n fits item =
     item_exit used (Part Primary) (Exactly (step_punctuator s)) (Make (StepBehind (step_store s)) ∷ []) (AVariable v ∷ []) at now more f (behind_past_name at now s v n fits item) (λ depth stack same. same)
 
@@ -253,7 +253,7 @@ before_stands at s fits depth =
     chosen at depth Unary (Exactly (step_punctuator s) ∷ AName Mentioned ∷ Make (StepBefore (step_store s)) ∷ []) []
     (record { sound = punctuator_sound (step_punctuator s) (next_at at).token fits; is = λ after more. rw t (before_choice s after) }) (λ after more. rw t (before_enters s after))
 
-pub before_punctuator_ends : (used : ℕ) (at : Place) (s : Step) (more : Bool) (f : ParseFault) → is_punctuator (step_punctuator s) (next_at at).token ≡ true → Refused (StopsAt at) false used f → Refused (FailsItem (Part Unary) at) more used f
+pub before_punctuator_ends : (used : ℕ) (at : Place) (s : Step) (more : Type 0) (f : ParseFault) → is_punctuator (step_punctuator s) (next_at at).token ≡ true → Refused (StopsAt at) ⊥ used f → Refused (FailsItem (Part Unary) at) more used f
 before_punctuator_ends used at s more f fits stop =
     item_exit used (Part Unary) (Exactly (step_punctuator s)) (AName Mentioned ∷ Make (StepBefore (step_store s)) ∷ []) [] at at more f (before_stands at s fits) (λ depth stack same. same) (punctuator_ends used at (step_punctuator s) f fits stop)
 
@@ -263,8 +263,8 @@ before_past_punctuator at now s fits goes depth =
     item_done depth depth (Part Unary ∷ []) (Exactly (step_punctuator s)) (AName Mentioned ∷ Make (StepBefore (step_store s)) ∷ []) [] [] [] at at now
     (before_stands at s fits depth) (punctuator_past at now (step_punctuator s) fits goes depth) (λ stack same. same)
 
-pub before_name_ends : (used : ℕ) (at now : Place) (s : Step) (more : Bool) (f : ParseFault) → is_punctuator (step_punctuator s) (next_at at).token ≡ true → GoesPast at now →
-    Refused (FailsItem (AName Mentioned) now) false used f → Refused (FailsItem (Part Unary) at) more used f
+pub before_name_ends : (used : ℕ) (at now : Place) (s : Step) (more : Type 0) (f : ParseFault) → is_punctuator (step_punctuator s) (next_at at).token ≡ true → GoesPast at now →
+    Refused (FailsItem (AName Mentioned) now) ⊥ used f → Refused (FailsItem (Part Unary) at) more used f
 before_name_ends used at now s more f fits goes =
     item_exit used (Part Unary) (AName Mentioned) (Make (StepBefore (step_store s)) ∷ []) [] at now more f (before_past_punctuator at now s fits goes) (λ depth stack same. same)
 

@@ -1,5 +1,5 @@
 -- The ten levels of binary operators.
-use Rattle.std.proofs.Common.{◌≡◌, ℕ, ◌+◌, ◌≤◌, [], ◌∷◌, ◌++◌, refl, subst, Bool, true, false, arith}
+use Rattle.std.proofs.Common.{◌≡◌, ℕ, ◌+◌, ◌≤◌, [], ◌∷◌, ◌++◌, refl, subst, Bool, true, false, arith, ⊥}
 use Rattle.std.proofs.lemmas.Bool.Decides.{nat_tests}
 use Rattle.std.specs.Prelude.{Some, None, ◌==◌, if◌then◌else◌}
 use Rattle.tokens.specs.declared.located_tokens.Punctuator.{Punctuator}
@@ -55,14 +55,14 @@ operator_stands at depth n o left s =
     chosen at depth (Tail n) (Exactly s.m ∷ Part (Level (n + 1)) ∷ Make (Operate o) ∷ Part (Tail n) ∷ []) (AnExpr left ∷ [])
     (record { sound = punctuator_sound s.m (next_at at).token s.fits; is = λ after more. s.choice_is after }) (λ after more. refl)
 
-pub operator_ends : (used : ℕ) (at : Place) (depth n : ℕ) (o : Op) (more : Bool) (f : ParseFault) → operator_at n (next_at at).token ≡ Some o → Refused (StopsAt at) false used f → Refused (FailsOperand depth n at) more used f
+pub operator_ends : (used : ℕ) (at : Place) (depth n : ℕ) (o : Op) (more : Type 0) (f : ParseFault) → operator_at n (next_at at).token ≡ Some o → Refused (StopsAt at) ⊥ used f → Refused (FailsOperand depth n at) more used f
 operator_ends used at depth n o more f is stop = ended (spells n o (next_at at).token is) f stop
   where
-    ended : (s : SpellsOperator n o (next_at at).token) (f : ParseFault) → Refused (StopsAt at) false used f → Refused (FailsOperand depth n at) more used f
+    ended : (s : SpellsOperator n o (next_at at).token) (f : ParseFault) → Refused (StopsAt at) ⊥ used f → Refused (FailsOperand depth n at) more used f
     ended s f stop =
-        refused_map used (FailsItem (Exactly s.m) at) (FailsOperand depth n at) false more f
+        refused_map used (FailsItem (Exactly s.m) at) (FailsOperand depth n at) ⊥ more f
         (λ d h left. fails_behind depth depth (Part (Tail n) ∷ []) (Exactly s.m ∷ []) (Part (Level (n + 1)) ∷ Make (Operate o) ∷ Part (Tail n) ∷ []) (AnExpr left ∷ []) [] (AnExpr left ∷ []) at at d
-        (operator_stands at depth n o left s) (λ stack same. same) (h depth)) (λ never. absurd (cc)) (punctuator_ends used at s.m f s.fits stop)
+        (operator_stands at depth n o left s) (λ stack same. same) (h depth)) (λ never. absurd never) (punctuator_ends used at s.m f s.fits stop)
 
 operator_past : (at now : Place) (depth n : ℕ) (o : Op) (left : Expr) → operator_at n (next_at at).token ≡ Some o → GoesPast at now →
     Derives depth (Part (Tail n) ∷ []) (Part (Level (n + 1)) ∷ Make (Operate o) ∷ Part (Tail n) ∷ []) (AnExpr left ∷ []) (AnExpr left ∷ []) at now
@@ -71,10 +71,10 @@ operator_past at now depth n o left is goes =
     item_done depth depth (Part (Tail n) ∷ []) (Exactly s.m) (Part (Level (n + 1)) ∷ Make (Operate o) ∷ Part (Tail n) ∷ []) (AnExpr left ∷ []) [] (AnExpr left ∷ []) at at now
     (operator_stands at depth n o left s) (punctuator_past at now s.m s.fits goes depth) (λ stack same. same)
 
-pub right_refused : (used : ℕ) (at now : Place) (depth n : ℕ) (o : Op) (allocates : Bool) (f : ParseFault) → operator_at n (next_at at).token ≡ Some o → GoesPast at now →
-    Refused (FailsAt depth (Part (Level (n + 1)) ∷ []) [] now) allocates used f → Refused (FailsOperand depth n at) allocates used f
-right_refused used at now depth n o allocates f is goes =
-    refused_map used (FailsAt depth (Part (Level (n + 1)) ∷ []) [] now) (FailsOperand depth n at) allocates allocates f
+pub right_refused : (used : ℕ) (at now : Place) (depth n : ℕ) (o : Op) (denied : Type 0) (f : ParseFault) → operator_at n (next_at at).token ≡ Some o → GoesPast at now →
+    Refused (FailsAt depth (Part (Level (n + 1)) ∷ []) [] now) denied used f → Refused (FailsOperand depth n at) denied used f
+right_refused used at now depth n o denied f is goes =
+    refused_map used (FailsAt depth (Part (Level (n + 1)) ∷ []) [] now) (FailsOperand depth n at) denied denied f
     (λ d h left. fails_behind depth depth (Part (Tail n) ∷ []) (Part (Level (n + 1)) ∷ []) (Make (Operate o) ∷ Part (Tail n) ∷ []) (AnExpr left ∷ []) [] (AnExpr left ∷ []) at now d
     (operator_past at now depth n o left is goes) (λ stack same. same) h) (λ same. same)
 

@@ -1,5 +1,5 @@
 -- What a production adds to a segment of the derivation: its choice, its punctuators, the trees made and the level close.
-use Rattle.std.proofs.Common.{◌≡◌, ℕ, ◌+◌, ◌<◌, ◌≤◌, List, [], ◌∷◌, ◌++◌, refl, ap, Bool, true, false, arith, eqb}
+use Rattle.std.proofs.Common.{◌≡◌, ℕ, ◌+◌, ◌<◌, ◌≤◌, List, [], ◌∷◌, ◌++◌, refl, ap, Bool, true, false, arith, eqb, ⊥}
 use Rattle.std.proofs.lemmas.Bool.Decides.{nat_tests}
 use Rattle.std.specs.Prelude.{Some, None, nat_le}
 use Rattle.tokens.specs.Tokens.{is_last}
@@ -46,9 +46,9 @@ pub punctuator_past : (at there : Place) (m : Punctuator) → is_punctuator m (n
 punctuator_past at there m fits goes = punctuator_derives at.position.reading (scope_at at) at.to_come there m (punctuator_sound m (next_at at).token fits) fits goes
 
 -- the token behind it is a fault
-pub punctuator_ends : (used : ℕ) (at : Place) (m : Punctuator) (f : ParseFault) → is_punctuator m (next_at at).token ≡ true → Refused (StopsAt at) false used f → Refused (FailsItem (Exactly m) at) false used f
+pub punctuator_ends : (used : ℕ) (at : Place) (m : Punctuator) (f : ParseFault) → is_punctuator m (next_at at).token ≡ true → Refused (StopsAt at) ⊥ used f → Refused (FailsItem (Exactly m) at) ⊥ used f
 punctuator_ends used at m f fits =
-    refused_map used (StopsAt at) (FailsItem (Exactly m) at) false false f (punctuator_stops at.position.reading (scope_at at) at.to_come m (punctuator_sound m (next_at at).token fits) fits) (λ same. same)
+    refused_map used (StopsAt at) (FailsItem (Exactly m) at) ⊥ ⊥ f (punctuator_stops at.position.reading (scope_at at) at.to_come m (punctuator_sound m (next_at at).token fits) fits) (λ same. same)
 
 -- The choice of a production.
 
@@ -127,12 +127,12 @@ makes_and_closes at depth rule taken left sound m = stand at depth (Make rule �
 
 -- The exits of a function that matches a symbol at any depth.
 
-pub item_exit : (used : ℕ) (whole item : Item) (below : List Item) (under : List Value) (at now : Place) (more : Bool) (f : ParseFault) →
+pub item_exit : (used : ℕ) (whole item : Item) (below : List Item) (under : List Value) (at now : Place) (more : Type 0) (f : ParseFault) →
     ((depth : ℕ) → Derives depth (whole ∷ []) (item ∷ below) [] under at now) → ((depth : ℕ) (stack : List Item) → levels stack ≡ depth → levels (below ++ stack) ≡ depth) →
-    Refused (FailsItem item now) false used f → Refused (FailsItem whole at) more used f
+    Refused (FailsItem item now) ⊥ used f → Refused (FailsItem whole at) more used f
 item_exit used whole item below under at now more f a enters =
-    refused_map used (FailsItem item now) (FailsItem whole at) false more f
-    (λ d h depth. fails_behind depth depth (whole ∷ []) (item ∷ []) below [] [] under at now d (a depth) (enters depth) (h depth)) (λ never. absurd (cc))
+    refused_map used (FailsItem item now) (FailsItem whole at) ⊥ more f
+    (λ d h depth. fails_behind depth depth (whole ∷ []) (item ∷ []) below [] [] under at now d (a depth) (enters depth) (h depth)) (λ never. absurd never)
 
 -- the next item is done, and its trees stand on the others
 pub item_done : (depth inner : ℕ) (front : List Item) (item : Item) (below : List Item) (taken left under : List Value) (at now there : Place) →

@@ -1,5 +1,5 @@
 -- The operators before an operand.
-use Rattle.std.proofs.Common.{◌≡◌, ℕ, pos, ◌+◌, ◌<◌, ◌≤◌, List, [], ◌∷◌, ◌++◌, refl, sym, ap, subst, Bool, true, false, arith}
+use Rattle.std.proofs.Common.{◌≡◌, ℕ, pos, ◌+◌, ◌<◌, ◌≤◌, List, [], ◌∷◌, ◌++◌, refl, sym, ap, subst, Bool, true, false, arith, ⊥}
 use Rattle.std.specs.Prelude.{Some}
 use Rattle.tokens.specs.declared.located_tokens.Token.{Token}
 use Rattle.tokens.specs.declared.located_tokens.Token.TheVariants as token
@@ -65,8 +65,8 @@ sign_stands : (at : Place) (depth : ℕ) (s : Sign) → is_punctuator (sign_punc
     Derives depth (Part Unary ∷ []) (Exactly (sign_punctuator s) ∷ Part Unary ∷ Make (sign_rule s) ∷ Close ∷ []) [] [] at at
 sign_stands at depth s fits shallow = chosen_within at depth Unary (Exactly (sign_punctuator s) ∷ Part Unary ∷ Make (sign_rule s) ∷ Close ∷ []) (sign_chooses at s fits) shallow
 
-pub sign_ends : (used : ℕ) (at : Place) (depth : ℕ) (s : Sign) (more : Bool) (f : ParseFault) → is_punctuator (sign_punctuator s) (next_at at).token ≡ true → depth < 64 →
-    Refused (StopsAt at) false used f → Refused (FailsAt depth (Part Unary ∷ []) [] at) more used f
+pub sign_ends : (used : ℕ) (at : Place) (depth : ℕ) (s : Sign) (more : Type 0) (f : ParseFault) → is_punctuator (sign_punctuator s) (next_at at).token ≡ true → depth < 64 →
+    Refused (StopsAt at) ⊥ used f → Refused (FailsAt depth (Part Unary ∷ []) [] at) more used f
 sign_ends used at depth s more f fits shallow stop =
     exit_item used depth (depth + 1) (Part Unary ∷ []) (Exactly (sign_punctuator s)) (Part Unary ∷ Make (sign_rule s) ∷ Close ∷ []) [] [] at at more f
     (sign_stands at depth s fits shallow) (λ stack same. ap (λ n. n + 1) same) (punctuator_ends used at (sign_punctuator s) f fits stop)
@@ -77,10 +77,10 @@ sign_past at now depth s fits shallow goes =
     item_done depth (depth + 1) (Part Unary ∷ []) (Exactly (sign_punctuator s)) (Part Unary ∷ Make (sign_rule s) ∷ Close ∷ []) [] [] [] at at now
     (sign_stands at depth s fits shallow) (punctuator_past at now (sign_punctuator s) fits goes (depth + 1)) (λ stack same. ap (λ n. n + 1) same)
 
-pub operand_refused : (used : ℕ) (at now : Place) (depth : ℕ) (s : Sign) (allocates : Bool) (f : ParseFault) → is_punctuator (sign_punctuator s) (next_at at).token ≡ true → depth < 64 → GoesPast at now →
-    Refused (FailsAt (depth + 1) (Part Unary ∷ []) [] now) allocates used f → Refused (FailsAt depth (Part Unary ∷ []) [] at) allocates used f
-operand_refused used at now depth s allocates f fits shallow goes =
-    exit used depth (depth + 1) (Part Unary ∷ []) (Part Unary ∷ []) (Make (sign_rule s) ∷ Close ∷ []) [] [] [] at now allocates allocates f
+pub operand_refused : (used : ℕ) (at now : Place) (depth : ℕ) (s : Sign) (denied : Type 0) (f : ParseFault) → is_punctuator (sign_punctuator s) (next_at at).token ≡ true → depth < 64 → GoesPast at now →
+    Refused (FailsAt (depth + 1) (Part Unary ∷ []) [] now) denied used f → Refused (FailsAt depth (Part Unary ∷ []) [] at) denied used f
+operand_refused used at now depth s denied f fits shallow goes =
+    exit used depth (depth + 1) (Part Unary ∷ []) (Part Unary ∷ []) (Make (sign_rule s) ∷ Close ∷ []) [] [] [] at now denied denied f
     (sign_past at now depth s fits shallow goes) (λ stack same. ap (λ n. n + 1) same) (λ same. same)
 
 -- What is told.

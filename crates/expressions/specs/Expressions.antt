@@ -11,7 +11,7 @@ use Rattle.grammar.specs.Building.{Meaning, AppendsAll}
 use Rattle.grammar.specs.Derivation.{ACall, AnExpr}
 use Rattle.grammar.specs.Grammar.{Item, Arguments, Part, Symbol, Tail}
 use Rattle.grammar.specs.Nesting.{args_nesting, nesting, right_side}
-use Rattle.grammar.specs.Operators.{operator_from}
+use Rattle.grammar.specs.Climbing.{operator_from}
 use Rattle.grammar.specs.Resolved.{InArgs, InExpr}
 use Rattle.grammar.specs.Tree.{Args, Binary, Expr, NoMore}
 use Rattle.parsing.specs.Position.{Place, Standing, taken_at, token_of}
@@ -58,34 +58,34 @@ FailsArgs depth here d = (callee : Callee) → FailsAt depth (Part Arguments ∷
 
 -- An expression was read by this symbol, at a level of the operators. Or the derivation stops within it, as the refusal
 -- says.
-abbrev pub Parses : {A : Type 0} → Result A ParseFault → (allocates : Bool) (before after : Meaning) (depth level : ℕ) →
+abbrev pub Parses : {A : Type 0} → Result A ParseFault → (denied : Type 0) (before after : Meaning) (depth level : ℕ) →
     Symbol → (old new : Standing) → Type 0
-Parses (Ok x) allocates before after depth level symbol old new =
+Parses (Ok x) denied before after depth level symbol old new =
     AddsExpr before after depth level (Part symbol ∷ []) [] old.place new.place
-Parses (Err fault) allocates before after depth level symbol old new =
-    Refused (FailsAt depth (Part symbol ∷ []) [] old.place) allocates (taken_at new.place) fault
+Parses (Err fault) denied before after depth level symbol old new =
+    Refused (FailsAt depth (Part symbol ∷ []) [] old.place) denied (taken_at new.place) fault
 
 -- the same of an operand that opens no level, at any depth
-abbrev pub ParsesOperandAlone : {A : Type 0} → Result A ParseFault → (allocates : Bool) (before after : Meaning) →
+abbrev pub ParsesOperandAlone : {A : Type 0} → Result A ParseFault → (denied : Type 0) (before after : Meaning) →
     Symbol → (old new : Standing) → Type 0
-ParsesOperandAlone (Ok x) allocates before after symbol old new =
+ParsesOperandAlone (Ok x) denied before after symbol old new =
     (depth : ℕ) → AddsExpr before after depth 11 (Part symbol ∷ []) [] old.place new.place
-ParsesOperandAlone (Err fault) allocates before after symbol old new =
-    Refused (FailsItem (Part symbol) old.place) allocates (taken_at new.place) fault
+ParsesOperandAlone (Err fault) denied before after symbol old new =
+    Refused (FailsItem (Part symbol) old.place) denied (taken_at new.place) fault
 
 -- the same of an operator and its right side, which goes up to an operator that binds no tighter
-abbrev pub ParsesOperand : {A : Type 0} → Result A ParseFault → (allocates : Bool) (before after : Meaning)
+abbrev pub ParsesOperand : {A : Type 0} → Result A ParseFault → (denied : Type 0) (before after : Meaning)
     (depth : ℕ) → AnOperator → (old new : Standing) → Type 0
-ParsesOperand (Ok x) allocates before after depth b old new =
+ParsesOperand (Ok x) denied before after depth b old new =
     AddsOperand before after depth b.level b.op old.place new.place
     × (operator_from (b.level + 1) (token_of new) ≡ None)
-ParsesOperand (Err fault) allocates before after depth b old new =
-    Refused (FailsOperand depth b.level old.place) allocates (taken_at new.place) fault
+ParsesOperand (Err fault) denied before after depth b old new =
+    Refused (FailsOperand depth b.level old.place) denied (taken_at new.place) fault
 
 -- the same of a call's arguments
-abbrev pub ParsesArgs : {A : Type 0} → Result A ParseFault → (allocates : Bool) (before after : Meaning) (depth : ℕ) →
+abbrev pub ParsesArgs : {A : Type 0} → Result A ParseFault → (denied : Type 0) (before after : Meaning) (depth : ℕ) →
     (old new : Standing) → Type 0
-ParsesArgs (Ok x) allocates before after depth old new =
+ParsesArgs (Ok x) denied before after depth old new =
     AddsArgs before after depth (Part Arguments ∷ []) [] old.place new.place
-ParsesArgs (Err fault) allocates before after depth old new =
-    Refused (FailsArgs depth old.place) allocates (taken_at new.place) fault
+ParsesArgs (Err fault) denied before after depth old new =
+    Refused (FailsArgs depth old.place) denied (taken_at new.place) fault

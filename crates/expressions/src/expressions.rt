@@ -5,7 +5,8 @@ ghost use Rattle.tokens.specs.declared.located_tokens.Punctuator.TheVariants as 
 ghost use Rattle.grammar.specs.Actions.{middle};
 ghost use Rattle.grammar.specs.Building.{AppendsAll, MayFollow, MayFollowAll, Refuses};
 ghost use Rattle.grammar.specs.Grammar.{Expression, Level, Primary, Unary, is_punctuator};
-ghost use Rattle.grammar.specs.Operators.{operator_from, operator_of};
+ghost use Rattle.grammar.specs.Operators.{operator_of};
+ghost use Rattle.grammar.specs.Climbing.{operator_from};
 ghost use Rattle.parsing.specs.Advancing.{Advances, IsReady, Keeps};
 ghost use Rattle.parsing.specs.Growing.{Grows};
 ghost use Rattle.parsing.specs.Position.{token_of};
@@ -32,7 +33,7 @@ pub fn expression<F: Feed, B: Build>(
 ) -> Result<(), ParseFault>
     requires open { HasRoom (B.stands build.old) (room depth 1) }
     requires ready { IsReady parser.old }
-    ensures parses { Parses result B.allocates (B.stands build.old) (B.stands build.new)
+    ensures parses { Parses result B.denied (B.stands build.old) (B.stands build.new)
         depth 1 Expression parser.old parser.new }
     ensures grown { Grows result (B.stands build.old) (B.stands build.new) }
     ensures kept { Advances result parser.old parser.new }
@@ -57,7 +58,7 @@ fn assignment<F: Feed, B: Build>(
     requires open { HasRoom (B.stands build.old) (room depth 1) }
     requires is { StartsAssignment op parser.old }
     requires ready { IsReady parser.old }
-    ensures parses { Parses result B.allocates (B.stands build.old) (B.stands build.new)
+    ensures parses { Parses result B.denied (B.stands build.old) (B.stands build.new)
         depth 1 Expression parser.old parser.new }
     ensures grown { Grows result (B.stands build.old) (B.stands build.new) }
     ensures kept { Advances result parser.old parser.new }
@@ -82,7 +83,7 @@ fn right_side<F: Feed, B: Build>(
 ) -> Result<(), ParseFault>
     requires open { HasRoom (B.stands build.old) (room depth 1) }
     requires ready { IsReady parser.old }
-    ensures parses { Parses result B.allocates (B.stands build.old) (B.stands build.new)
+    ensures parses { Parses result B.denied (B.stands build.old) (B.stands build.new)
         depth 1 Expression parser.old parser.new }
     ensures grown { Grows result (B.stands build.old) (B.stands build.new) }
     ensures kept { Advances result parser.old parser.new }
@@ -105,7 +106,7 @@ fn levels<F: Feed, B: Build>(
 ) -> Result<(), ParseFault>
     requires open { HasRoom (B.stands build.old) (room depth level) }
     requires ready { IsReady parser.old }
-    ensures parses { Parses result B.allocates (B.stands build.old) (B.stands build.new)
+    ensures parses { Parses result B.denied (B.stands build.old) (B.stands build.new)
         depth level (Level level) parser.old parser.new }
     ensures grown { Grows result (B.stands build.old) (B.stands build.new) }
     ensures none { OnOk result (operator_from level (token_of parser.new) ≡ None) }
@@ -130,7 +131,7 @@ fn operand<F: Feed, B: Build>(
     requires open { HasLeft (B.stands build.old) (room depth binary.level) }
     requires is { operator_of (token_of parser.old) ≡ Some binary }
     requires ready { IsReady parser.old }
-    ensures parses { ParsesOperand result B.allocates (B.stands build.old) (B.stands build.new)
+    ensures parses { ParsesOperand result B.denied (B.stands build.old) (B.stands build.new)
         depth binary parser.old parser.new }
     ensures grown { Grows result (B.stands build.old) (B.stands build.new) }
     ensures kept { Advances result parser.old parser.new }
@@ -152,7 +153,7 @@ fn unary<F: Feed, B: Build>(
 ) -> Result<(), ParseFault>
     requires open { HasRoom (B.stands build.old) (room depth 11) }
     requires ready { IsReady parser.old }
-    ensures parses { Parses result B.allocates (B.stands build.old) (B.stands build.new)
+    ensures parses { Parses result B.denied (B.stands build.old) (B.stands build.new)
         depth 11 Unary parser.old parser.new }
     ensures grown { Grows result (B.stands build.old) (B.stands build.new) }
     ensures kept { Advances result parser.old parser.new }
@@ -175,7 +176,7 @@ fn from_punctuator<F: Feed, B: Build>(
 ) -> Result<(), ParseFault>
     requires open { HasRoom (B.stands build.old) (room depth 11) }
     requires ready { IsReady parser.old }
-    ensures parses { Parses result B.allocates (B.stands build.old) (B.stands build.new)
+    ensures parses { Parses result B.denied (B.stands build.old) (B.stands build.new)
         depth 11 Unary parser.old parser.new }
     ensures grown { Grows result (B.stands build.old) (B.stands build.new) }
     ensures kept { Advances result parser.old parser.new }
@@ -202,7 +203,7 @@ fn signed<F: Feed, B: Build>(
     requires open { HasRoom (B.stands build.old) (room depth 11) }
     requires is { is_punctuator (sign_punctuator sign) (token_of parser.old) ≡ true }
     requires ready { IsReady parser.old }
-    ensures parses { Parses result B.allocates (B.stands build.old) (B.stands build.new)
+    ensures parses { Parses result B.denied (B.stands build.old) (B.stands build.new)
         depth 11 Unary parser.old parser.new }
     ensures grown { Grows result (B.stands build.old) (B.stands build.new) }
     ensures kept { Advances result parser.old parser.new }
@@ -227,7 +228,7 @@ fn primary<F: Feed, B: Build>(
 ) -> Result<(), ParseFault>
     requires open { HasRoom (B.stands build.old) (room depth 11) }
     requires ready { IsReady parser.old }
-    ensures parses { Parses result B.allocates (B.stands build.old) (B.stands build.new)
+    ensures parses { Parses result B.denied (B.stands build.old) (B.stands build.new)
         depth 11 Primary parser.old parser.new }
     ensures grown { Grows result (B.stands build.old) (B.stands build.new) }
     ensures kept { Advances result parser.old parser.new }
@@ -257,7 +258,7 @@ fn call<F: Feed, B: Build>(
     requires open { HasRoom (B.stands build.old) (room depth 11) }
     requires is { StartsCall parser.old }
     requires ready { IsReady parser.old }
-    ensures parses { Parses result B.allocates (B.stands build.old) (B.stands build.new)
+    ensures parses { Parses result B.denied (B.stands build.old) (B.stands build.new)
         depth 11 Primary parser.old parser.new }
     ensures grown { Grows result (B.stands build.old) (B.stands build.new) }
     ensures kept { Advances result parser.old parser.new }
@@ -283,7 +284,7 @@ fn arguments<F: Feed, B: Build>(
 ) -> Result<(), ParseFault>
     requires open { HasRoom (B.stands build.old) (room depth 1) }
     requires ready { IsReady parser.old }
-    ensures parses { ParsesArgs result B.allocates (B.stands build.old) (B.stands build.new)
+    ensures parses { ParsesArgs result B.denied (B.stands build.old) (B.stands build.new)
         depth parser.old parser.new }
     ensures grown { Grows result (B.stands build.old) (B.stands build.new) }
     ensures kept { Keeps result parser.old parser.new }
@@ -310,7 +311,7 @@ fn bracketed<F: Feed, B: Build>(
     requires open { HasRoom (B.stands build.old) (room depth 11) }
     requires is { is_punctuator punctuator.OpenRound (token_of parser.old) ≡ true }
     requires ready { IsReady parser.old }
-    ensures parses { Parses result B.allocates (B.stands build.old) (B.stands build.new)
+    ensures parses { Parses result B.denied (B.stands build.old) (B.stands build.new)
         depth 11 Primary parser.old parser.new }
     ensures grown { Grows result (B.stands build.old) (B.stands build.new) }
     ensures kept { Advances result parser.old parser.new }
@@ -339,7 +340,7 @@ fn assignment_operator<F: Feed>(parser: &Parser<'_, F>) -> Option<StoreOp>
 fn tell_middle<B: Build>(build: &mut B, op: Op) -> Result<(), BuildFault>
     requires follow { MayFollowAll (B.stands build.old) (middle op) }
     ensures told { OnOk result (AppendsAll (B.stands build.old) (B.stands build.new) (middle op)) }
-    ensures memory { Refuses result B.allocates }
+    ensures memory { Refuses result B.denied }
 {
     if op.is_logic() {
         build.logic_middle(op)?;

@@ -25,7 +25,7 @@ pub fn constant<F: Feed, B: Build>(
     requires open { HasRoom (B.stands build.old) 0 }
     requires is { StartsConstant value parser.old }
     requires ready { IsReady parser.old }
-    ensures parses { ParsesOperandAlone result B.allocates (B.stands build.old) (B.stands build.new)
+    ensures parses { ParsesOperandAlone result B.denied (B.stands build.old) (B.stands build.new)
         Primary parser.old parser.new }
     ensures grown { Grows result (B.stands build.old) (B.stands build.new) }
     ensures kept { Advances result parser.old parser.new }
@@ -44,7 +44,7 @@ pub fn variable<F: Feed, B: Build>(
     requires open { HasRoom (B.stands build.old) 0 }
     requires is { StartsVariable parser.old }
     requires ready { IsReady parser.old }
-    ensures parses { ParsesOperandAlone result B.allocates (B.stands build.old) (B.stands build.new)
+    ensures parses { ParsesOperandAlone result B.denied (B.stands build.old) (B.stands build.new)
         Primary parser.old parser.new }
     ensures grown { Grows result (B.stands build.old) (B.stands build.new) }
     ensures kept { Advances result parser.old parser.new }
@@ -68,7 +68,7 @@ fn step_behind<F: Feed, B: Build>(
     requires open { HasRoom (B.stands build.old) 0 }
     requires is { StartsStep step parser.old }
     requires ready { IsReady parser.old }
-    ensures parses { ParsesOperandAlone result B.allocates (B.stands build.old) (B.stands build.new)
+    ensures parses { ParsesOperandAlone result B.denied (B.stands build.old) (B.stands build.new)
         Primary parser.old parser.new }
     ensures grown { Grows result (B.stands build.old) (B.stands build.new) }
     ensures kept { Advances result parser.old parser.new }
@@ -92,7 +92,7 @@ pub fn step_before<F: Feed, B: Build>(
     requires open { HasRoom (B.stands build.old) 0 }
     requires is { is_punctuator (step_punctuator step) (token_of parser.old) ≡ true }
     requires ready { IsReady parser.old }
-    ensures parses { ParsesOperandAlone result B.allocates (B.stands build.old) (B.stands build.new)
+    ensures parses { ParsesOperandAlone result B.denied (B.stands build.old) (B.stands build.new)
         Unary parser.old parser.new }
     ensures grown { Grows result (B.stands build.old) (B.stands build.new) }
     ensures kept { Advances result parser.old parser.new }

@@ -81,7 +81,7 @@ impl Sign {
     pub fn begin<B: Build>(self, build: &mut B) -> Result<(), BuildFault>
         requires follow { MayFollowAll (B.stands build.old) (before_operand self) }
         ensures told { OnOk result (AppendsAll (B.stands build.old) (B.stands build.new) (before_operand self)) }
-        ensures memory { Refuses result B.allocates }
+        ensures memory { Refuses result B.denied }
     {
         if self == Sign::Negation {
             build.constant(0)?;
@@ -93,7 +93,7 @@ impl Sign {
     pub fn end<B: Build>(self, build: &mut B) -> Result<(), BuildFault>
         requires follow { MayFollowAll (B.stands build.old) (behind_operand self) }
         ensures told { OnOk result (AppendsAll (B.stands build.old) (B.stands build.new) (behind_operand self)) }
-        ensures memory { Refuses result B.allocates }
+        ensures memory { Refuses result B.denied }
     {
         match self {
             Sign::Negation => build.binop(Op::Subtract),
@@ -108,7 +108,7 @@ fn compare<B: Build>(build: &mut B, value: i32, op: Op) -> Result<(), BuildFault
     requires follow { MayFollowAll (B.stands build.old) (PushConstant value ∷ ApplyBinop op ∷ []) }
     ensures told { OnOk result (AppendsAll (B.stands build.old) (B.stands build.new)
         (PushConstant value ∷ ApplyBinop op ∷ [])) }
-    ensures memory { Refuses result B.allocates }
+    ensures memory { Refuses result B.denied }
 {
     build.constant(value)?;
     build.binop(op)?;

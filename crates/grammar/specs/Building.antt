@@ -1,5 +1,5 @@
 -- What a builder's calls do to the lists of actions that it represents.
-use Rattle.std.specs.Prelude.{◌≡◌, ◌+◌, ◌<◌, ◌≤◌, List, [], ◌∷◌, ◌++◌, Bool, Some, Result, Ok, Err, IsTrue}
+use Rattle.std.specs.Prelude.{◌≡◌, ◌+◌, ◌<◌, ◌≤◌, List, [], ◌∷◌, ◌++◌, Some, Result, Ok, Err}
 use Rattle.grammar.specs.declared.build.BuildFault.{BuildFault}
 use Rattle.grammar.specs.declared.build.BuildFault.TheVariants as fault
 use Rattle.grammar.specs.Actions.{Action, code_length}
@@ -50,8 +50,8 @@ abbrev pub IsOver : Meaning → Type 0
 IsOver before = (profile : Profile) (acts : List Action) → before profile acts
     → profile.instructions < code_length profile acts + 1
 
--- the one refusal is of memory, by a builder that asks for memory
-abbrev pub Refuses : {A : Type 0} → Result A BuildFault → Bool → Type 0
-Refuses (Ok x) allocates = Unit {0}
-Refuses (Err fault.Memory) allocates = IsTrue allocates
-Refuses (Err fault.Full) allocates = ⊥
+-- the one refusal is of memory, and then memory was refused
+abbrev pub Refuses : {A : Type 0} → Result A BuildFault → Type 0 → Type 0
+Refuses (Ok x) denied = Unit {0}
+Refuses (Err fault.Memory) denied = denied
+Refuses (Err fault.Full) denied = ⊥

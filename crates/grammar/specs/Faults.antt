@@ -23,7 +23,7 @@ unfoldable pub most_levels : ℕ
 most_levels = 64
 
 -- the most externals, variables of a function, and functions
-unfoldable pub most_names : ℕ
+abbrev pub most_names : ℕ
 most_names = 64
 
 -- a fault: the tokens from its token on, and its code

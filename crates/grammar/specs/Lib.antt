@@ -1,5 +1,6 @@
 pub mod Profile
 pub mod Operators
+pub mod Climbing
 pub mod Intrinsics
 pub mod Tree
 pub mod Actions

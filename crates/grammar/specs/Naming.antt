@@ -1,5 +1,5 @@
 -- What a name in a role does to what is known, and what may be wrong with it.
-use Rattle.std.specs.Prelude.{◌≡◌, ℕ, ◌+◌, ◌<◌, ◌≤◌, List, [], ◌∷◌, Option, Some, None, length, true, eqb, ◌==◌}
+use Rattle.std.specs.Prelude.{◌≡◌, ℕ, ◌+◌, ◌<◌, ◌≤◌, List, [], ◌∷◌, ◌++◌, Option, Some, None, length, true, eqb, ◌==◌}
 use Rattle.std.specs.Prelude.{if◌then◌else◌}
 use Rattle.std.specs.List.{IsDistinct, list_any}
 use Rattle.tokens.specs.declared.located_tokens.LocatedToken.{LocatedToken}
@@ -7,7 +7,7 @@ use Rattle.grammar.specs.declared.diagnostics.Code.{Code}
 use Rattle.grammar.specs.declared.pools.TheConstants.{MOST_NAMES}
 use Rattle.grammar.specs.Faults.{fault, role_faults}
 use Rattle.grammar.specs.Grammar.{Role}
-use Rattle.grammar.specs.Scope.{Scope, behind_name}
+use Rattle.grammar.specs.Scope.{Scope, behind_name, only_named}
 
 -- the name has no fault, and the new scope is that after it
 pub record Knows (role : Role) (name : List ℕ) (line : ℕ) (old new : Scope) : Type 0 where
@@ -17,6 +17,14 @@ pub record Knows (role : Role) (name : List ℕ) (line : ℕ) (old new : Scope) 
 -- the name has this one fault
 abbrev pub RefusesName : Role → List ℕ → Scope → Code → Type 0
 RefusesName role name scope c = (rest : List LocatedToken) → role_faults role name scope rest ≡ fault rest c ∷ []
+
+-- the definition of the function of this name and number begins
+abbrev pub with_begun : ℕ → List ℕ → Scope → Scope
+with_begun number name scope = record scope {
+  begun = scope.begun ++ number ∷ [];
+  number = number;
+  current = only_named name;
+}
 
 -- each function that was mentioned has its line, and the definition of each begins once at most
 pub record IsKept {F : Type 0} (functions : List F) (lines begun : List ℕ) : Type 0 where

@@ -1,5 +1,5 @@
 -- The punctuators that spell the binary operators, by the grammar's ten levels, and those of assignments.
-use Rattle.std.specs.Prelude.{ℕ, Bool, true, false, Option, Some, None, ◌==◌, nat_le, if◌then◌else◌}
+use Rattle.std.specs.Prelude.{ℕ, Bool, true, false, Option, Some, None, ◌==◌, if◌then◌else◌}
 use Rattle.tokens.specs.declared.located_tokens.Punctuator.{Punctuator}
 use Rattle.tokens.specs.declared.located_tokens.Punctuator.TheVariants as punctuator
 use Rattle.tokens.specs.declared.located_tokens.Token.{Token}
@@ -48,14 +48,6 @@ operator_at n _ = None
 abbrev pub operator_of : Token → Option Binary
 operator_of (token.Punctuator m) = binary_of m
 operator_of _ = None
-
-abbrev pub if_from : ℕ → Option Binary → Option Binary
-if_from n None = None
-if_from n (Some b) = if nat_le n b.level then Some b else None
-
--- the same, if it is of level n or of a tighter one
-abbrev pub operator_from : ℕ → Token → Option Binary
-operator_from n t = if_from n (operator_of t)
 
 -- the two operators between whose sides an action is reported to a builder
 abbrev pub is_logic : Op → Bool

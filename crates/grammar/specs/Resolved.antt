@@ -4,7 +4,7 @@ use Rattle.grammar.specs.declared.names.Callee.{Callee}
 use Rattle.grammar.specs.declared.names.Callee.TheVariants as callee
 use Rattle.grammar.specs.declared.names.Var.{Var}
 use Rattle.grammar.specs.declared.names.Var.TheVariants as var
-use Rattle.grammar.specs.declared.pools.TheConstants.{MOST_NAMES}
+use Rattle.grammar.specs.Faults.{most_names}
 use Rattle.grammar.specs.Tree.{Expr, Constant, Variable, Binary, Assign, Postfix, Call, Args, NoMore, Argument, Body}
 use Rattle.grammar.specs.Tree.{Done, ExpressionStatement, IfStatement, IfElseStatement, While, Return, Function, File}
 
@@ -43,7 +43,7 @@ InBody e l n (Return a rest) = InExpr e l n a × InBody e l n rest
 -- a function among so many externals and functions
 pub record InFile (externals functions : ℕ) (f : Function) : Type 0 where
   pub parameters : f.parameters ≤ length f.variables
-  pub variables : length f.variables ≤ MOST_NAMES
+  pub variables : length f.variables ≤ most_names
   pub body : InBody externals (length f.variables) functions f.body
 
 abbrev pub IsAmong : ℕ → List ℕ → Type 0
@@ -57,8 +57,8 @@ AreDistinct (n ∷ numbers) = (IsAmong n numbers → ⊥) × AreDistinct numbers
 
 -- the names are within the pools, and each function is defined once
 pub record IsResolved (file : File) : Type 0 where
-  pub externals : length file.externals ≤ MOST_NAMES
-  pub functions : length file.functions ≤ MOST_NAMES
+  pub externals : length file.externals ≤ most_names
+  pub functions : length file.functions ≤ most_names
   pub each : (k : ℕ) (f : Function) → slice_get file.functions k ≡ Some f
       → InFile (length file.externals) (length file.functions) f
   pub defined : (k : ℕ) → k < length file.functions → IsAmong k file.order

@@ -105,14 +105,6 @@ with_function name line scope = if is_function_new name scope then with_new_func
 abbrev pub begun_with : List ℕ → Scope → List ℕ
 begun_with name scope = if is_intrinsic name then scope.begun else scope.begun ++ number_for name scope ∷ []
 
--- the definition of the function of this name and number begins
-abbrev pub with_begun : ℕ → List ℕ → Scope → Scope
-with_begun number name scope = record scope {
-  begun = scope.begun ++ number ∷ [];
-  number = number;
-  current = only_named name;
-}
-
 -- a definition begins: the function is mentioned, and has no variables yet
 abbrev pub begin_definition : List ℕ → ℕ → Scope → Scope
 begin_definition name line scope =

@@ -1,7 +1,8 @@
 //! The eighteen binary operators and the eleven of assignments, with the punctuators that spell them.
 
 ghost use Rattle.std.specs.Prelude.{◌≡◌};
-ghost use Rattle.grammar.specs.Operators.{binary_of, is_logic, operator_from, store_of, store_operator};
+ghost use Rattle.grammar.specs.Operators.{binary_of, is_logic, store_of, store_operator};
+ghost use Rattle.grammar.specs.Climbing.{operator_from};
 
 use tokens::{Punctuator, Token};
 

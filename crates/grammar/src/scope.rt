@@ -96,7 +96,8 @@ impl Scope {
     ghost use Rattle.grammar.specs.Resolved.{IsCallable, IsVariable};
     ghost use Rattle.grammar.specs.Scope.{no_names, behind_name, end_definition, has_begun, number_for, is_local_new};
     ghost use Rattle.grammar.specs.Scope.{is_external_new, with_variable, with_parameter, with_external};
-    ghost use Rattle.grammar.specs.Scope.{variable_named, variable_of, callee_of, with_begun, with_new_function};
+    ghost use Rattle.grammar.specs.Scope.{variable_named, variable_of, callee_of, with_new_function};
+    ghost use Rattle.grammar.specs.Naming.{with_begun};
     ghost use Rattle.grammar.specs.Scope.{function_number};
 
     /// Makes the scope before a file's first token, in which nothing is known.

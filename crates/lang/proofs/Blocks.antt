@@ -1,5 +1,5 @@
 -- What the reading of a function derives.
-use Rattle.std.proofs.Common.{◌≡◌, ℕ, ◌+◌, ◌<◌, ◌≤◌, List, [], ◌∷◌, ◌++◌, refl, sym, ap, ◌∙◌, subst, Bool, true, false, arith, append_assoc, append-nil, le_refl}
+use Rattle.std.proofs.Common.{◌≡◌, ℕ, ◌+◌, ◌<◌, ◌≤◌, List, [], ◌∷◌, ◌++◌, refl, sym, ap, ◌∙◌, subst, Bool, true, false, arith, append_assoc, append-nil, le_refl, ⊥}
 use Rattle.std.proofs.lemmas.Bool.Decides.{nat_tests}
 use Rattle.std.specs.Prelude.{length, nat_lt}
 use Rattle.tokens.specs.declared.located_tokens.LocatedToken.{LocatedToken}
@@ -115,7 +115,7 @@ ended at new is = rw is (record { reading = refl; to_come = refl; scope = refl }
 pub renamed : (at new : Standing) → IsReady at → new ≡ with_scope (end_definition (scope_of at)) at → StayedOrWentOn at new
 renamed at new ready is = rw is (record {
   device = refl;
-  failures = refl;
+  account = refl;
   took = record { rest = λ total h. h };
   falls = le_refl _;
   ready = record { sound = ready.sound; near = ready.near; count = ready.count };
@@ -123,9 +123,9 @@ renamed at new ready is = rw is (record {
 
 -- a refusal that is not the device's, at a parser that did nothing
 pub short : (f : ParseFault) (at : Standing) → (refusal.Device ≡ f → ⊥) → Stopped f at at
-short (refusal.Source d) at other = record { device = refl; failures = refl; took = record { rest = λ total h. h } }
+short (refusal.Source d) at other = record { device = refl; account = refl; took = record { rest = λ total h. h } }
 short refusal.Device at other = absurd (other refl)
-short refusal.Memory at other = record { device = refl; failures = refl; took = record { rest = λ total h. h } }
+short refusal.Memory at other = record { device = refl; account = refl; took = record { rest = λ total h. h } }
 
 goes_ended : (brace ended : Place) (rest : List LocatedToken) → IsEnded brace ended → GoesOn ended rest → GoesOn brace rest
 goes_ended brace ended rest s g = record { behind = g.behind; is = g.is ∙ rw s.reading refl }
@@ -171,8 +171,8 @@ heading_stops : (before : Meaning) (at : Place) (d : Stop) → FailsAt 0 heading
 heading_stops before at d fails located_tokens is profile functions h =
     telling_inside before profile _ d (λ device. told_alone before profile functions h) (fails located_tokens is profile (Part FunctionBlock ∷ at_source) [] functions refl)
 
-pub heading_refused : (used : ℕ) (before : Meaning) (at : Place) (f : ParseFault) (more : Bool) → Refused (FailsAt 0 heading_items [] at) false used f → Refused (StopsReading before before at_definition at) more used f
-heading_refused used before at f more = refused_map used _ _ false more f (λ d. heading_stops before at d) (λ never. absurd (cc))
+pub heading_refused : (used : ℕ) (before : Meaning) (at : Place) (f : ParseFault) (more : Type 0) → Refused (FailsAt 0 heading_items [] at) ⊥ used f → Refused (StopsReading before before at_definition at) more used f
+heading_refused used before at f more = refused_map used _ _ ⊥ more f (λ d. heading_stops before at d) (λ never. absurd never)
 
 block_stops : (before after : Meaning) (at now : Place) (d : Stop) → Derives 0 heading_items [] [] [] at now → (refusal.Device ≡ d.fault → HasGrown before after) → FailsAt 0 (Part FunctionBlock ∷ []) [] now d →
     StopsReading before after at_definition at d
@@ -180,12 +180,12 @@ block_stops before after at now d h grown fails located_tokens is profile functi
     telling_inside after profile _ d (λ device. told_grown before after profile functions (grown device) k)
     (fails_then 0 definition_items (Part FunctionBlock ∷ []) [] [] at now d (headed at now h) fails located_tokens is profile at_source [] functions refl)
 
-pub block_refused : (used : ℕ) (before second after : Meaning) (at now : Place) (number parameters : ℕ) (f : ParseFault) (allocates : Bool) → Derives 0 heading_items [] [] [] at now →
-    AppendsAll before second (BeginFunction number parameters ∷ []) → (refusal.Device ≡ f → HasGrown second after) → Refused (FailsAt 0 (Part FunctionBlock ∷ []) [] now) allocates used f →
-    Refused (StopsReading before after at_definition at) allocates used f
-block_refused used before second after at now number parameters f allocates h told = by_fault f
+pub block_refused : (used : ℕ) (before second after : Meaning) (at now : Place) (number parameters : ℕ) (f : ParseFault) (denied : Type 0) → Derives 0 heading_items [] [] [] at now →
+    AppendsAll before second (BeginFunction number parameters ∷ []) → (refusal.Device ≡ f → HasGrown second after) → Refused (FailsAt 0 (Part FunctionBlock ∷ []) [] now) denied used f →
+    Refused (StopsReading before after at_definition at) denied used f
+block_refused used before second after at now number parameters f denied h told = by_fault f
   where
-    by_fault : (f : ParseFault) → (refusal.Device ≡ f → HasGrown second after) → Refused (FailsAt 0 (Part FunctionBlock ∷ []) [] now) allocates used f → Refused (StopsReading before after at_definition at) allocates used f
+    by_fault : (f : ParseFault) → (refusal.Device ≡ f → HasGrown second after) → Refused (FailsAt 0 (Part FunctionBlock ∷ []) [] now) denied used f → Refused (StopsReading before after at_definition at) denied used f
     by_fault (refusal.Source d) grown fails = block_stops before after at now (stop_with (refusal.Source d) used) h (λ device. absurd (cc)) fails
     by_fault refusal.Device grown fails = block_stops before after at now (stop_with refusal.Device used) h (λ device. grown_behind before second after _ told (grown refl)) fails
     by_fault refusal.Memory grown fails = (fails.0, block_stops before after at now (stop_with refusal.Memory used) h (λ device. absurd (cc)) fails.1)
@@ -210,13 +210,13 @@ too_much_stops first second third after at now brace number parameters d used ne
     rw t.is
     (telling_back after profile _ _ _ s.consumed refl (s.passes t.rest (told_goes brace t.rest t.shows) profile at_source [] functions refl) (record { stops = stop; told = λ device. absurd (cc) }))
 
-pub too_much_refused : (used : ℕ) (first second third after : Meaning) (at now brace : Place) (number parameters : ℕ) (f : ParseFault) (allocates : Bool) → IsNearTo brace.position.reading used → Derives 0 heading_items [] [] [] at now → AddsBlock second third now brace →
-    AppendsAll first second (BeginFunction number parameters ∷ []) → is_fault (next_at brace).token ≡ false → is_punctuator punctuator.CloseCurly (next_at brace).token ≡ true → RefusesEnd third (next_at brace).line allocates f →
-    Refused (StopsReading first after at_definition at) allocates used f
-too_much_refused used first second third after at now brace number parameters f allocates near h b told sound closed =
+pub too_much_refused : (used : ℕ) (first second third after : Meaning) (at now brace : Place) (number parameters : ℕ) (f : ParseFault) (denied : Type 0) → IsNearTo brace.position.reading used → Derives 0 heading_items [] [] [] at now → AddsBlock second third now brace →
+    AppendsAll first second (BeginFunction number parameters ∷ []) → is_fault (next_at brace).token ≡ false → is_punctuator punctuator.CloseCurly (next_at brace).token ≡ true → RefusesEnd third (next_at brace).line denied f →
+    Refused (StopsReading first after at_definition at) denied used f
+too_much_refused used first second third after at now brace number parameters f denied near h b told sound closed =
     by_fault f
   where
-    by_fault : (f : ParseFault) → RefusesEnd third (next_at brace).line allocates f → Refused (StopsReading first after at_definition at) allocates used f
+    by_fault : (f : ParseFault) → RefusesEnd third (next_at brace).line denied f → Refused (StopsReading first after at_definition at) denied used f
     by_fault (refusal.Source d) much = too_much_stops first second third after at now brace number parameters d used near h b told sound closed much
     by_fault refusal.Device never = absurd never
     by_fault refusal.Memory asks = (asks, definition_halts first after at_brace (ABody b.tree ∷ []) at brace used (braced second third at now brace h b) near)
@@ -242,12 +242,12 @@ brace_stops first second third fourth at now brace ended number parameters varia
     (telling_inside fourth profile _ d (λ device. told_alone fourth profile (functions ++ f ∷ []) all)
     (fails 1 t.rest (tokens_ended brace ended s ∙ t.shows) profile (Close ∷ at_source) [] (functions ++ f ∷ []) refl))))
 
-pub brace_refused : (used : ℕ) (first second third fourth : Meaning) (at now brace ended : Place) (number parameters variables : ℕ) (f : ParseFault) (more : Bool) →
+pub brace_refused : (used : ℕ) (first second third fourth : Meaning) (at now brace ended : Place) (number parameters variables : ℕ) (f : ParseFault) (more : Type 0) →
     Derives 0 heading_items [] [] [] at now → AddsBlock second third now brace → IsSame number parameters variables (scope_at brace) → IsEnded brace ended →
     AppendsAll first second (BeginFunction number parameters ∷ []) → ClosesFunction third fourth variables → is_fault (next_at brace).token ≡ false →
-    Refused (FailsItem (Exactly punctuator.CloseCurly) ended) false used f → Refused (StopsReading first fourth at_definition at) more used f
+    Refused (FailsItem (Exactly punctuator.CloseCurly) ended) ⊥ used f → Refused (StopsReading first fourth at_definition at) more used f
 brace_refused used first second third fourth at now brace ended number parameters variables f more h b same s told c sound =
-    refused_map used _ _ false more f (λ d. brace_stops first second third fourth at now brace ended number parameters variables d h b same s told c sound) (λ never. absurd (cc))
+    refused_map used _ _ ⊥ more f (λ d. brace_stops first second third fourth at now brace ended number parameters variables d h b same s told c sound) (λ never. absurd never)
 
 -- A closing brace is no fault.
 pub closing_sound : (t : Token) → is_punctuator punctuator.CloseCurly t ≡ true → is_fault t ≡ false

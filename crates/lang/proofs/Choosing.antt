@@ -1,5 +1,5 @@
 -- Which part of a file begins with the next token.
-use Rattle.std.proofs.Common.{◌≡◌, ℕ, List, [], ◌∷◌, ◌++◌, refl, ◌∙◌, Bool, true, false}
+use Rattle.std.proofs.Common.{◌≡◌, ℕ, List, [], ◌∷◌, ◌++◌, refl, ◌∙◌, Bool, true, false, ⊥}
 use Rattle.std.specs.Prelude.{Some, None}
 use Rattle.tokens.specs.declared.located_tokens.LocatedToken.{LocatedToken}
 use Rattle.tokens.specs.declared.located_tokens.Punctuator.TheVariants as punctuator
@@ -80,16 +80,16 @@ typed_head before at now behind is d e =
     advances_then before before before at_source (Part Types ∷ at_head) at_head at now behind
     (advances_then before before before at_source typed_items (Part Types ∷ at_head) at at now (source_typed before at is) (type_word before at now d)) (more_types before now behind e)
 
-pub word_refused : (used : ℕ) (before : Meaning) (at : Place) (f : ParseFault) (more : Bool) → is_word word.Type (next_at at).token ≡ true → Refused (FailsItem (AWord word.Type) at) false used f → Refused (StopsReading before before at_source at) more used f
-word_refused used before at f more is = refused_map used (FailsItem (AWord word.Type) at) (StopsReading before before at_source at) false more f
-    (λ d fails. stops_then before before before at_source typed_items at at d (source_typed before at is) (segment_stops before (AWord word.Type ∷ []) (Part Types ∷ at_head) at d refl (fails 0))) (λ never. absurd (cc))
+pub word_refused : (used : ℕ) (before : Meaning) (at : Place) (f : ParseFault) (more : Type 0) → is_word word.Type (next_at at).token ≡ true → Refused (FailsItem (AWord word.Type) at) ⊥ used f → Refused (StopsReading before before at_source at) more used f
+word_refused used before at f more is = refused_map used (FailsItem (AWord word.Type) at) (StopsReading before before at_source at) ⊥ more f
+    (λ d fails. stops_then before before before at_source typed_items at at d (source_typed before at is) (segment_stops before (AWord word.Type ∷ []) (Part Types ∷ at_head) at d refl (fails 0))) (λ never. absurd never)
 
-pub types_refused : (used : ℕ) (before : Meaning) (at now : Place) (f : ParseFault) (more : Bool) → is_word word.Type (next_at at).token ≡ true → DerivesItem (AWord word.Type) [] [] at now →
-    Refused (λ d. (depth : ℕ) → FailsAt depth (Part Types ∷ []) [] now d) false used f → Refused (StopsReading before before at_source at) more used f
-types_refused used before at now f more is passed = refused_map used (λ d. (depth : ℕ) → FailsAt depth (Part Types ∷ []) [] now d) (StopsReading before before at_source at) false more f
+pub types_refused : (used : ℕ) (before : Meaning) (at now : Place) (f : ParseFault) (more : Type 0) → is_word word.Type (next_at at).token ≡ true → DerivesItem (AWord word.Type) [] [] at now →
+    Refused (λ d. (depth : ℕ) → FailsAt depth (Part Types ∷ []) [] now d) ⊥ used f → Refused (StopsReading before before at_source at) more used f
+types_refused used before at now f more is passed = refused_map used (λ d. (depth : ℕ) → FailsAt depth (Part Types ∷ []) [] now d) (StopsReading before before at_source at) ⊥ more f
     (λ d fails. stops_then before before before at_source (Part Types ∷ at_head) at now d
     (advances_then before before before at_source typed_items (Part Types ∷ at_head) at at now (source_typed before at is) (type_word before at now passed))
-    (segment_stops before (Part Types ∷ []) at_head now d refl (fails 0))) (λ never. absurd (cc))
+    (segment_stops before (Part Types ∷ []) at_head now d refl (fails 0))) (λ never. absurd never)
 
 -- A head.
 
@@ -152,15 +152,15 @@ pub externals_read : (before : Meaning) (at now : Place) (name : List ℕ) → (
 externals_read before at now name same other d =
     advances_then before before before at_head (external_items ++ at_source) at_source at at now (head_external before at name same other) (segment_advances before external_items [] at_source at now refl d)
 
-pub externals_refused : (used : ℕ) (before : Meaning) (at : Place) (name : List ℕ) (f : ParseFault) (more : Bool) → (next_at at).token ≡ token.Name name → is_punctuator punctuator.OpenRound (after_at at) ≡ false →
-    Refused (λ d. (depth : ℕ) → FailsAt depth external_items [] at d) false used f → Refused (StopsReading before before at_head at) more used f
-externals_refused used before at name f more same other = refused_map used (λ d. (depth : ℕ) → FailsAt depth external_items [] at d) (StopsReading before before at_head at) false more f
-    (λ d fails. stops_then before before before at_head (external_items ++ at_source) at at d (head_external before at name same other) (segment_stops before external_items at_source at d refl (fails 0))) (λ never. absurd (cc))
+pub externals_refused : (used : ℕ) (before : Meaning) (at : Place) (name : List ℕ) (f : ParseFault) (more : Type 0) → (next_at at).token ≡ token.Name name → is_punctuator punctuator.OpenRound (after_at at) ≡ false →
+    Refused (λ d. (depth : ℕ) → FailsAt depth external_items [] at d) ⊥ used f → Refused (StopsReading before before at_head at) more used f
+externals_refused used before at name f more same other = refused_map used (λ d. (depth : ℕ) → FailsAt depth external_items [] at d) (StopsReading before before at_head at) ⊥ more f
+    (λ d fails. stops_then before before before at_head (external_items ++ at_source) at at d (head_external before at name same other) (segment_stops before external_items at_source at d refl (fails 0))) (λ never. absurd never)
 
 -- a function was read behind what leads to it
 pub function_read : (before after : Meaning) (front : List Item) (at there : Place) → ReadsOn before before front at_definition at at → ReadsOn before after at_definition at_source at there → ReadsOn before after front at_source at there
 function_read before after front at there a b = advances_then before before after front at_definition at_source at at there a b
 
-pub function_refused : (used : ℕ) (before after : Meaning) (front : List Item) (at : Place) (f : ParseFault) (allocates : Bool) → ReadsOn before before front at_definition at at →
-    Refused (StopsReading before after at_definition at) allocates used f → Refused (StopsReading before after front at) allocates used f
-function_refused used before after front at f allocates a = leave used before before after front at_definition at at allocates allocates f a (λ same. same)
+pub function_refused : (used : ℕ) (before after : Meaning) (front : List Item) (at : Place) (f : ParseFault) (denied : Type 0) → ReadsOn before before front at_definition at at →
+    Refused (StopsReading before after at_definition at) denied used f → Refused (StopsReading before after front at) denied used f
+function_refused used before after front at f denied a = leave used before before after front at_definition at at denied denied f a (λ same. same)

@@ -136,10 +136,10 @@ lacks_main before after told at there w defined none bytes shows profile h =
     (without_main profile (all_of before after told at there w) (scope_at there) w.reads.more (passes_all before after told at there w profile h) defined none
     ∙ ap (λ (n : ℕ). Err (diagnostic n code.NoMainFunction)) (last_line_is w.reads.consumed (next_at there)))
 
-pub lacking : (before after : Meaning) (told to_come : Option (List ℕ)) (at there : Place) (f : ParseFault) (allocates : Bool) → IsWhole before after told at there → Lacks there.position f →
-    IsRefused before after allocates told to_come f
-lacking before after told to_come at there f allocates w (ADefinition line is same) = rw same (lacks_definition before after told at there line w is)
-lacking before after told to_come at there f allocates w (AMain defined none same) = rw same (lacks_main before after told at there w defined none)
+pub lacking : (before after : Meaning) (told to_come : Option (List ℕ)) (at there : Place) (f : ParseFault) (denied : Type 0) → IsWhole before after told at there → Lacks there.position f →
+    IsRefused before after denied told to_come f
+lacking before after told to_come at there f denied w (ADefinition line is same) = rw same (lacks_definition before after told at there line w is)
+lacking before after told to_come at there f denied w (AMain defined none same) = rw same (lacks_main before after told at there w defined none)
 
 -- Where the reading stops, the file's first fault is there.
 
@@ -185,15 +185,15 @@ stops_reading : (before after : Meaning) (told : Option (List ℕ)) (at : Place)
 stops_reading before after told at stop nothing tells stops bytes shows profile h =
     subst (λ (known : Scope). Stops profile (state at_source (tokens bytes) [] known []) stop) nothing (stops (tokens bytes) (tells ∙ ap (option_map tokens) shows) profile [] h).stops
 
-pub stops_taking : (used : ℕ) (before after : Meaning) (told to_come : Option (List ℕ)) (at : Place) (f : ParseFault) (allocates : Bool) → scope_at at ≡ no_names → tokens_at at ≡ option_map tokens told →
-    HasTaken used told to_come → Refused (StopsReading before after at_source at) allocates used f → StopsTaking before told to_come f
-stops_taking used before after told to_come at (refusal.Source d) allocates nothing tells taken h = λ bytes shows profile stands.
+pub stops_taking : (used : ℕ) (before after : Meaning) (told to_come : Option (List ℕ)) (at : Place) (f : ParseFault) (denied : Type 0) → scope_at at ≡ no_names → tokens_at at ≡ option_map tokens told →
+    HasTaken used told to_come → Refused (StopsReading before after at_source at) denied used f → StopsTaking before told to_come f
+stops_taking used before after told to_come at (refusal.Source d) denied nothing tells taken h = λ bytes shows profile stands.
     let s = stops_reading before after told at (stop_with (refusal.Source d) used) nothing tells h bytes shows profile stands in
     takes_up_to profile bytes to_come used 4096 s.passed s.rest s.is s.none_before (taken.took bytes shows) taken.limited s.taken
-stops_taking used before after told to_come at refusal.Device allocates nothing tells taken h = λ bytes shows profile stands.
+stops_taking used before after told to_come at refusal.Device denied nothing tells taken h = λ bytes shows profile stands.
     let s = stops_reading before after told at (stop_with refusal.Device used) nothing tells h bytes shows profile stands in
     leaves_open profile bytes to_come used s.passed s.rest s.is s.none_before (taken.took bytes shows) taken.limited s.taken
-stops_taking used before after told to_come at refusal.Memory allocates nothing tells taken h = λ bytes shows profile stands.
+stops_taking used before after told to_come at refusal.Memory denied nothing tells taken h = λ bytes shows profile stands.
     let s = stops_reading before after told at (stop_with refusal.Memory used) nothing tells h.1 bytes shows profile stands in
     takes_up_to profile bytes to_come used 4096 s.passed s.rest s.is s.none_before (taken.took bytes shows) taken.limited s.taken
 
@@ -202,7 +202,7 @@ first_taking before told to_come (refusal.Source d) stops = λ bytes shows profi
     takes_up_to profile bytes to_come stops.taken 4096 [] (tokens bytes) refl (none_before profile (start (tokens bytes))) (stops.took bytes shows) stops.limited (stops.refused.taken (tokens bytes) (ap (option_map tokens) shows))
 first_taking before told to_come refusal.Device stops = λ bytes shows profile stands.
     leaves_open profile bytes to_come stops.taken [] (tokens bytes) refl (none_before profile (start (tokens bytes))) (stops.took bytes shows) stops.limited (stops.refused.taken (tokens bytes) (ap (option_map tokens) shows))
-first_taking before told to_come refusal.Memory stops = let never : false ≡ true = stops.refused.0 in absurd (cc)
+first_taking before told to_come refusal.Memory stops = absurd stops.refused.0
 
 -- a file that was read to its end
 pub whole_takes : (used : ℕ) (before after : Meaning) (told to_come : Option (List ℕ)) (at there : Place) → IsWhole before after told at there → IsNearTo there.position.reading used → HasTaken used told to_come →
@@ -245,11 +245,11 @@ stops_building used before after told to_come at nothing tells taken stops bytes
     builds_by after profile bytes to_come used s.stops (taken.took bytes shows) (s.told refl)
 
 -- what is said where the reading stops
-pub stopped : (used : ℕ) (before after : Meaning) (told to_come : Option (List ℕ)) (at : Place) (f : ParseFault) (allocates : Bool) → scope_at at ≡ no_names → tokens_at at ≡ option_map tokens told →
-    HasTaken used told to_come → Refused (StopsReading before after at_source at) allocates used f → IsRefused before after allocates told to_come f
-stopped used before after told to_come at (refusal.Source d) allocates nothing tells taken h = stops_bytes before after told at d used nothing tells h
-stopped used before after told to_come at refusal.Device allocates nothing tells taken h = stops_building used before after told to_come at nothing tells taken h
-stopped used before after told to_come at refusal.Memory allocates nothing tells taken h = h.0
+pub stopped : (used : ℕ) (before after : Meaning) (told to_come : Option (List ℕ)) (at : Place) (f : ParseFault) (denied : Type 0) → scope_at at ≡ no_names → tokens_at at ≡ option_map tokens told →
+    HasTaken used told to_come → Refused (StopsReading before after at_source at) denied used f → IsRefused before after denied told to_come f
+stopped used before after told to_come at (refusal.Source d) denied nothing tells taken h = stops_bytes before after told at d used nothing tells h
+stopped used before after told to_come at refusal.Device denied nothing tells taken h = stops_building used before after told to_come at nothing tells taken h
+stopped used before after told to_come at refusal.Memory denied nothing tells taken h = h.0
 
 opening_builds : (before : Meaning) (told to_come : Option (List ℕ)) (used : ℕ) → HasTaken used told to_come → StopsFirst (option_map tokens told) (stop_with refusal.Device used) → BuildsAhead before before told to_come
 opening_builds before told to_come used taken stops bytes shows profile h =
@@ -262,7 +262,7 @@ opening_builds before told to_come used taken stops bytes shows profile h =
     first_told before profile bytes used some h = rw (functions_here profile (start (tokens bytes)) (stop_with refusal.Device used) tt some) (record { more = []; stands = h })
 
 -- the same at the first token, where nothing was told
-pub first_refused : (before : Meaning) (told to_come : Option (List ℕ)) (f : ParseFault) (allocates : Bool) → StopsAtFirst told to_come f → IsRefused before before allocates told to_come f
-first_refused before told to_come (refusal.Source d) allocates stops = first_fails before told to_come d stops
-first_refused before told to_come refusal.Device allocates stops = opening_builds before told to_come stops.taken (record { took = stops.took; limited = stops.limited }) stops.refused
-first_refused before told to_come refusal.Memory allocates stops = let never : false ≡ true = stops.refused.0 in absurd (cc)
+pub first_refused : (before : Meaning) (told to_come : Option (List ℕ)) (f : ParseFault) (denied : Type 0) → StopsAtFirst told to_come f → IsRefused before before denied told to_come f
+first_refused before told to_come (refusal.Source d) denied stops = first_fails before told to_come d stops
+first_refused before told to_come refusal.Device denied stops = opening_builds before told to_come stops.taken (record { took = stops.took; limited = stops.limited }) stops.refused
+first_refused before told to_come refusal.Memory denied stops = absurd stops.refused.0

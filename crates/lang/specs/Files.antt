@@ -3,7 +3,7 @@ use Rattle.std.specs.Prelude.{ℕ, ◌+◌, ◌≡◌, ◌≤◌, List, [], ◌+
 use Rattle.std.specs.Prelude.{Result, Ok, Err}
 use Rattle.tokens.specs.Ends.{last_undecided_until}
 use Rattle.tokens.specs.Tokens.{tokens}
-use Rattle.tokens.specs.Limits.{most_bytes, window_bytes}
+use Rattle.tokens.specs.ReadLimits.{most_bytes, window_bytes}
 use Rattle.grammar.specs.declared.diagnostics.Diagnostic.{Diagnostic}
 use Rattle.grammar.specs.declared.diagnostics.ParseFault.{ParseFault}
 use Rattle.grammar.specs.declared.diagnostics.ParseFault.TheVariants as refusal
@@ -96,8 +96,8 @@ BuildsAhead before after told to_come =
 
 -- what a refusal says: of a source its fault, of a device what was built until it failed, of memory that the builder
 -- asks for it
-abbrev pub IsRefused : (before after : Meaning) (allocates : Bool) (told to_come : Option (List ℕ)) → ParseFault
+abbrev pub IsRefused : (before after : Meaning) (denied : Type 0) (told to_come : Option (List ℕ)) → ParseFault
     → Type 0
-IsRefused before after allocates told to_come (refusal.Source d) = FailsBytes before told d
-IsRefused before after allocates told to_come refusal.Device = BuildsAhead before after told to_come
-IsRefused before after allocates told to_come refusal.Memory = IsTrue allocates
+IsRefused before after denied told to_come (refusal.Source d) = FailsBytes before told d
+IsRefused before after denied told to_come refusal.Device = BuildsAhead before after told to_come
+IsRefused before after denied told to_come refusal.Memory = denied

@@ -106,10 +106,10 @@ pub record IsTooMuch (before : Meaning) (line : ℕ) (d : Diagnostic) : Type 0 w
       profile.instructions < code_length profile (acts ++ last_return) + 1
 
 -- what a refusal says at a function's end, whose closing brace is on this line
-abbrev pub RefusesEnd : (before : Meaning) (line : ℕ) (allocates : Bool) → ParseFault → Type 0
-RefusesEnd before line allocates (refusal.Source d) = IsTooMuch before line d
-RefusesEnd before line allocates refusal.Device = ⊥
-RefusesEnd before line allocates refusal.Memory = IsTrue allocates
+abbrev pub RefusesEnd : (before : Meaning) (line : ℕ) (denied : Type 0) → ParseFault → Type 0
+RefusesEnd before line denied (refusal.Source d) = IsTooMuch before line d
+RefusesEnd before line denied refusal.Device = ⊥
+RefusesEnd before line denied refusal.Memory = denied
 
 -- Each function that was mentioned is defined, and main is among them.
 pub record IsComplete (scope : Scope) : Type 0 where
@@ -127,15 +127,15 @@ pub data Lacks (position : Position) (fault : ParseFault) : Type 0 where
 -- What a parse of a file's parts says, by its result.
 
 -- Parts of a file were read from these items on. Or the derivation stops within them, as the refusal says.
-abbrev pub ReadsParts : {A : Type 0} → Result A ParseFault → (allocates : Bool) (before after : Meaning) →
+abbrev pub ReadsParts : {A : Type 0} → Result A ParseFault → (denied : Type 0) (before after : Meaning) →
     List Item → (old new : Standing) → Type 0
-ReadsParts (Ok x) allocates before after front old new = ReadsOn before after front at_source old.place new.place
-ReadsParts (Err fault) allocates before after front old new =
-    Refused (StopsReading before after front old.place) allocates (taken_at new.place) fault
+ReadsParts (Ok x) denied before after front old new = ReadsOn before after front at_source old.place new.place
+ReadsParts (Err fault) denied before after front old new =
+    Refused (StopsReading before after front old.place) denied (taken_at new.place) fault
 
 -- the same of a function's block, up to its closing brace
-abbrev pub ParsesBlock : {A : Type 0} → Result A ParseFault → (allocates : Bool) (before after : Meaning) →
+abbrev pub ParsesBlock : {A : Type 0} → Result A ParseFault → (denied : Type 0) (before after : Meaning) →
     (old new : Standing) → Type 0
-ParsesBlock (Ok x) allocates before after old new = AddsBlock before after old.place new.place
-ParsesBlock (Err fault) allocates before after old new =
-    Refused (FailsAt 0 (Part FunctionBlock ∷ []) [] old.place) allocates (taken_at new.place) fault
+ParsesBlock (Ok x) denied before after old new = AddsBlock before after old.place new.place
+ParsesBlock (Err fault) denied before after old new =
+    Refused (FailsAt 0 (Part FunctionBlock ∷ []) [] old.place) denied (taken_at new.place) fault

@@ -36,12 +36,12 @@ use tokens::{Feed, Punctuator, Token, Word};
 #[inline(never)]
 pub fn parse<F: Feed, B: Build>(feed: &mut F, build: &mut B) -> Result<Pools, ParseFault>
     requires new { IsNew (B.stands build.old) }
-    requires ready { MayRead (F.failures feed.old) (F.ended feed.old) }
+    requires ready { MayRead (F.account feed.old) (F.ended feed.old) }
     ensures file { IfOk result (λ pools. IsFile (B.stands build.old) (B.stands build.new) (F.to_come feed.old) pools) }
-    ensures refused { IfErr result (IsRefused (B.stands build.old) (B.stands build.new) B.allocates
+    ensures refused { IfErr result (IsRefused (B.stands build.old) (B.stands build.new) B.denied
         (F.to_come feed.old) (F.to_come feed.new)) }
     ensures taken { TakesEnough result (B.stands build.old) (F.to_come feed.old) (F.to_come feed.new) }
-    ensures counted { Counts result (F.failures feed.old) (F.failures feed.new) }
+    ensures counted { Counts result (F.account feed.old) (F.account feed.new) }
 {
     let cursor = first(feed)?;
     let mut parser = Parser::new(cursor, feed);
@@ -58,7 +58,7 @@ pub fn parse<F: Feed, B: Build>(feed: &mut F, build: &mut B) -> Result<Pools, Pa
 fn source<F: Feed, B: Build>(parser: &mut Parser<'_, F>, build: &mut B) -> Result<(), ParseFault>
     requires closed { StandsOpen (B.stands build.old) [] }
     requires ready { IsReady parser.old }
-    ensures reads { ReadsParts result B.allocates (B.stands build.old) (B.stands build.new)
+    ensures reads { ReadsParts result B.denied (B.stands build.old) (B.stands build.new)
         at_source parser.old parser.new }
     ensures closed { OnOk result (StandsOpen (B.stands build.new) []) }
     ensures ended { OnOk result (is_end (token_of parser.new) ≡ true) }
@@ -75,7 +75,7 @@ fn part<F: Feed, B: Build>(parser: &mut Parser<'_, F>, build: &mut B) -> Result<
     requires closed { StandsOpen (B.stands build.old) [] }
     requires ready { IsReady parser.old }
     requires more { token_of parser.old ≡ token.End → ⊥ }
-    ensures reads { ReadsParts result B.allocates (B.stands build.old) (B.stands build.new)
+    ensures reads { ReadsParts result B.denied (B.stands build.old) (B.stands build.new)
         at_source parser.old parser.new }
     ensures closed { OnOk result (StandsOpen (B.stands build.new) []) }
     ensures kept { Advances result parser.old parser.new }
@@ -95,7 +95,7 @@ fn typed<F: Feed, B: Build>(parser: &mut Parser<'_, F>, build: &mut B) -> Result
     requires closed { StandsOpen (B.stands build.old) [] }
     requires ready { IsReady parser.old }
     requires is { is_word word.Type (token_of parser.old) ≡ true }
-    ensures reads { ReadsParts result B.allocates (B.stands build.old) (B.stands build.new)
+    ensures reads { ReadsParts result B.denied (B.stands build.old) (B.stands build.new)
         at_source parser.old parser.new }
     ensures closed { OnOk result (StandsOpen (B.stands build.new) []) }
     ensures kept { Advances result parser.old parser.new }
@@ -110,7 +110,7 @@ fn typed<F: Feed, B: Build>(parser: &mut Parser<'_, F>, build: &mut B) -> Result
 fn head<F: Feed, B: Build>(parser: &mut Parser<'_, F>, build: &mut B) -> Result<(), ParseFault>
     requires closed { StandsOpen (B.stands build.old) [] }
     requires ready { IsReady parser.old }
-    ensures reads { ReadsParts result B.allocates (B.stands build.old) (B.stands build.new)
+    ensures reads { ReadsParts result B.denied (B.stands build.old) (B.stands build.new)
         (Part Head ∷ at_source) parser.old parser.new }
     ensures closed { OnOk result (StandsOpen (B.stands build.new) []) }
     ensures kept { Advances result parser.old parser.new }

@@ -22,7 +22,7 @@ pub fn function<F: Feed, B: Build>(
 ) -> Result<(), ParseFault>
     requires closed { StandsOpen (B.stands build.old) [] }
     requires ready { IsReady parser.old }
-    ensures reads { ReadsParts result B.allocates (B.stands build.old) (B.stands build.new)
+    ensures reads { ReadsParts result B.denied (B.stands build.old) (B.stands build.new)
         at_definition parser.old parser.new }
     ensures closed { OnOk result (StandsOpen (B.stands build.new) []) }
     ensures kept { Advances result parser.old parser.new }
@@ -40,7 +40,7 @@ pub fn function<F: Feed, B: Build>(
 fn block<F: Feed, B: Build>(parser: &mut Parser<'_, F>, build: &mut B) -> Result<(), ParseFault>
     requires open { HasPlace (B.stands build.old) (room 1 1) }
     requires ready { IsReady parser.old }
-    ensures parses { ParsesBlock result B.allocates (B.stands build.old) (B.stands build.new) parser.old parser.new }
+    ensures parses { ParsesBlock result B.denied (B.stands build.old) (B.stands build.new) parser.old parser.new }
     ensures grown { Grows result (B.stands build.old) (B.stands build.new) }
     ensures closed { OnOk result (is_punctuator punctuator.CloseCurly (token_of parser.new) ≡ true) }
     ensures kept { Advances result parser.old parser.new }
@@ -62,7 +62,7 @@ fn close<F: Feed, B: Build>(
 ) -> Result<(), ParseFault>
     requires open { MayEnd (B.stands build.old) variables }
     ensures closed { OnOk result (ClosesFunction (B.stands build.old) (B.stands build.new) variables) }
-    ensures refused { IfErr result (RefusesEnd (B.stands build.old) (next_at parser.now.place).line B.allocates) }
+    ensures refused { IfErr result (RefusesEnd (B.stands build.old) (next_at parser.now.place).line B.denied) }
     ensures device { IfErr result (λ fault. ParseFault.Device ≡ fault → ⊥) }
 {
     build.constant(0)?;

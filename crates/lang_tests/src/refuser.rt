@@ -1,6 +1,6 @@
 //! A builder that refuses, for tests.
 
-ghost use Rattle.std.specs.Prelude.{◌≡◌, true};
+ghost use Rattle.std.specs.Prelude.{◌≡◌, true, ⊤};
 ghost use Rattle.grammar.specs.Building.{Refuses};
 
 use lang::{Build, BuildFault, Callee, Op, StoreOp, Var};
@@ -29,7 +29,7 @@ impl Refuser {
 impl Build for Refuser {
     ghost stands = { λ _ p _. p.instructions ≡ 0 };
 
-    ghost allocates = { true };
+    ghost denied = { ⊤ };
 
     fn constant(&mut self, _value: i32) -> Result<(), BuildFault> {
         self.take()

@@ -51,7 +51,7 @@ impl<B> Depths<B> {
 impl<B: Build> Build for Depths<B> {
     ghost stands = { λ d. B.stands d.inner };
 
-    ghost allocates = { B.allocates };
+    ghost denied = { B.denied };
 
     fn constant(&mut self, value: i32) -> Result<(), BuildFault> {
         self.inner.constant(value)

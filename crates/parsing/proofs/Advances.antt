@@ -4,6 +4,7 @@ use Rattle.std.specs.Prelude.{Option, Result, Ok, Err}
 use Rattle.tokens.specs.Window.{Takes}
 use Rattle.grammar.specs.declared.diagnostics.ParseFault.{ParseFault}
 use Rattle.parsing.specs.Position.{Standing}
+use Rattle.tokens.specs.Feed.{Account}
 use Rattle.parsing.specs.Segment.{counted}
 use Rattle.parsing.specs.Advancing.{Advances, IsReady, StayedOrWentOn, Stopped, WentOn}
 
@@ -12,16 +13,16 @@ takes_then a b c x y z h i = record { rest = λ total e. i.rest total (h.rest to
 
 -- a parser that does nothing
 pub stays_ready : (at : Standing) → IsReady at → StayedOrWentOn at at
-stays_ready at ready = record { device = refl; failures = refl; took = record { rest = λ total h. h }; falls = le_refl _; ready = ready }
+stays_ready at ready = record { device = refl; account = refl; took = record { rest = λ total h. h }; falls = le_refl _; ready = ready }
 
 -- a call that went on, where none was needed
 pub on : (a b : Standing) → WentOn a b → StayedOrWentOn a b
-on a b h = record { device = h.device; failures = h.failures; took = h.took; falls = omega (arith, h.falls); ready = h.ready }
+on a b h = record { device = h.device; account = h.account; took = h.took; falls = omega (arith, h.falls); ready = h.ready }
 
 pub kept_then : (a b c : Standing) → StayedOrWentOn a b → StayedOrWentOn b c → StayedOrWentOn a c
 kept_then a b c h i = record {
   device = i.device ∙ h.device;
-  failures = i.failures ∙ h.failures;
+  account = i.account ∙ h.account;
   took = takes_then _ _ _ _ _ _ h.took i.took;
   falls = omega (arith, h.falls, i.falls);
   ready = i.ready;
@@ -30,7 +31,7 @@ kept_then a b c h i = record {
 pub on_then : (a b c : Standing) → WentOn a b → StayedOrWentOn b c → WentOn a c
 on_then a b c h i = record {
   device = i.device ∙ h.device;
-  failures = i.failures ∙ h.failures;
+  account = i.account ∙ h.account;
   took = takes_then _ _ _ _ _ _ h.took i.took;
   falls = omega (arith, h.falls, i.falls);
   ready = i.ready;
@@ -39,7 +40,7 @@ on_then a b c h i = record {
 pub kept_on : (a b c : Standing) → StayedOrWentOn a b → WentOn b c → WentOn a c
 kept_on a b c h i = record {
   device = i.device ∙ h.device;
-  failures = i.failures ∙ h.failures;
+  account = i.account ∙ h.account;
   took = takes_then _ _ _ _ _ _ h.took i.took;
   falls = omega (arith, h.falls, i.falls);
   ready = i.ready;
@@ -49,7 +50,7 @@ kept_on a b c h i = record {
 pub stopped_then : (f : ParseFault) (a b c : Standing) → StayedOrWentOn a b → Stopped f b c → Stopped f a c
 stopped_then f a b c h i = record {
   device = i.device ∙ h.device;
-  failures = i.failures ∙ ap (λ (n : ℕ). counted n f) h.failures;
+  account = i.account ∙ ap (λ (a : Account). counted a f) h.account;
   took = takes_then _ _ _ _ _ _ h.took i.took;
 }
 

@@ -35,6 +35,6 @@ abbrev pub unknown : Meaning
 unknown profile acts = Unit {0}
 
 -- it asks for memory
-pub refuses : (e : BuildFault) (allocates : Bool) → Refuses {A = Unit {0}} (Err e) allocates → IsTrue allocates
-refuses fault.Memory allocates h = h
-refuses fault.Full allocates h = absurd h
+pub refuses : (e : BuildFault) (denied : Type 0) → Refuses {A = Unit {0}} (Err e) denied → denied
+refuses fault.Memory denied h = h
+refuses fault.Full denied h = absurd h

@@ -1,5 +1,5 @@
 -- What it takes to match one item, and what happens where the next token doesn't fit.
-use Rattle.std.proofs.Common.{◌≡◌, ℕ, List, [], ◌∷◌, refl, true, false}
+use Rattle.std.proofs.Common.{◌≡◌, ℕ, List, [], ◌∷◌, refl, true, false, ⊥}
 use Rattle.std.specs.Prelude.{Option, Some}
 use Rattle.tokens.specs.Reading.{Reading, IsNearTo}
 use Rattle.tokens.specs.declared.located_tokens.LocatedToken.{LocatedToken}
@@ -94,7 +94,7 @@ name_refused at role bytes c near is fails depth =
     fails_at_next depth (AName role ∷ []) [] at _ _ near (λ tail b profile stack values functions depths. name_fails profile role bytes c stack (next_at at) tail values (scope_at at) functions (rw is refl) (rw is refl) (fails (next_at at ∷ tail)))
 
 -- there is no name
-pub name_misfits : (n : ℕ) (at : Place) (role : Role) (f : ParseFault) → IsNearTo at.position.reading n → IsNoName (next_at at) f → Refused (FailsItem (AName role) at) false n f
+pub name_misfits : (n : ℕ) (at : Place) (role : Role) (f : ParseFault) → IsNearTo at.position.reading n → IsNoName (next_at at) f → Refused (FailsItem (AName role) at) ⊥ n f
 name_misfits n at role f near none = rw none.is (fails)
   where
     fails : FailsItem (AName role) at (stop_with (refusal.Source (diagnostic (next_at at).line (misfit_code (next_at at).token))) n)

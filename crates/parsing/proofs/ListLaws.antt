@@ -1,5 +1,5 @@
 -- What lists of type words, names and declarations derive, by the next token.
-use Rattle.std.proofs.Common.{◌≡◌, ℕ, List, [], ◌∷◌, ◌++◌, refl, ◌∙◌, true, false}
+use Rattle.std.proofs.Common.{◌≡◌, ℕ, List, [], ◌∷◌, ◌++◌, refl, ◌∙◌, true, false, ⊥}
 use Rattle.std.specs.Prelude.{Result, Ok, Err}
 use Rattle.tokens.specs.declared.located_tokens.Punctuator.TheVariants as punctuator
 use Rattle.tokens.specs.declared.located_tokens.Token.{Token}
@@ -81,9 +81,9 @@ opens_on depth front symbol items at now sound gives a =
 
 -- a refusal behind a segment
 pub leaves : (used : ℕ) (front mid below : List Item) (at now : Place) (f : ParseFault) → AreLevel below → ((depth : ℕ) → Derives depth front (mid ++ below) [] [] at now) →
-    Refused (λ d. (depth : ℕ) → FailsAt depth mid [] now d) false used f → Refused (λ d. (depth : ℕ) → FailsAt depth front [] at d) false used f
+    Refused (λ d. (depth : ℕ) → FailsAt depth mid [] now d) ⊥ used f → Refused (λ d. (depth : ℕ) → FailsAt depth front [] at d) ⊥ used f
 leaves used front mid below at now f level a =
-    refused_map used (λ d. (depth : ℕ) → FailsAt depth mid [] now d) (λ d. (depth : ℕ) → FailsAt depth front [] at d) false false f (λ d fails depth. fails_behind depth depth front mid below [] [] [] at now d (a depth) (λ stack same. level stack ∙ same) (fails depth)) (λ same. same)
+    refused_map used (λ d. (depth : ℕ) → FailsAt depth mid [] now d) (λ d. (depth : ℕ) → FailsAt depth front [] at d) ⊥ ⊥ f (λ d fails depth. fails_behind depth depth front mid below [] [] [] at now d (a depth) (λ stack same. level stack ∙ same) (fails depth)) (λ same. same)
 
 -- behind a comma of a list
 pub more_behind : (depth : ℕ) (role : Role) (at now there : Place) → is_fault (next_at now).token ≡ false → is_punctuator punctuator.Comma (next_at now).token ≡ true →

@@ -1,5 +1,5 @@
 -- Segments of the derivation between two places of a parser.
-use Rattle.std.proofs.Common.{◌≡◌, ℕ, ◌+◌, ◌≤◌, drop, length, List, [], ◌∷◌, ◌++◌, refl, sym, ap, ◌∙◌, subst, Bool, true, false, append_assoc, arith}
+use Rattle.std.proofs.Common.{◌≡◌, ℕ, ◌+◌, ◌≤◌, drop, length, List, [], ◌∷◌, ◌++◌, refl, sym, ap, ◌∙◌, subst, Bool, true, false, append_assoc, arith, ⊥}
 use Rattle.std.specs.Prelude.{Option, Some, None, cond}
 use Rattle.std.specs.Option.{option_map}
 use Rattle.tokens.specs.Reading.{IsNear, Reading, reach, undecided_reach_of, reach_of, shown, taken, IsNearTo}
@@ -320,24 +320,24 @@ halts depth front mid taken between at now n d near = fails_then depth front mid
 
 -- Refusals.
 
-pub refused_map : (n : ℕ) (P Q : Stop → Type 0) (allocates more : Bool) (f : ParseFault) → ((d : Stop) → P d → Q d) → ((allocates ≡ true) → more ≡ true) → Refused P allocates n f → Refused Q more n f
-refused_map n P Q allocates more (refusal.Source d) each memory h = each (stop_with (refusal.Source d) n) h
-refused_map n P Q allocates more refusal.Device each memory h = each (stop_with refusal.Device n) h
-refused_map n P Q allocates more refusal.Memory each memory h = (memory h.0, each (stop_with refusal.Memory n) h.1)
+pub refused_map : (n : ℕ) (P Q : Stop → Type 0) (denied more : Type 0) (f : ParseFault) → ((d : Stop) → P d → Q d) → (denied → more) → Refused P denied n f → Refused Q more n f
+refused_map n P Q denied more (refusal.Source d) each memory h = each (stop_with (refusal.Source d) n) h
+refused_map n P Q denied more refusal.Device each memory h = each (stop_with refusal.Device n) h
+refused_map n P Q denied more refusal.Memory each memory h = (memory h.0, each (stop_with refusal.Memory n) h.1)
 
 -- a refusal of a callee behind a segment is one of the caller's
-pub exit : (n : ℕ) (depth inner : ℕ) (front mid below : List Item) (taken between under : List Value) (at now : Place) (allocates more : Bool) (f : ParseFault) →
+pub exit : (n : ℕ) (depth inner : ℕ) (front mid below : List Item) (taken between under : List Value) (at now : Place) (denied more : Type 0) (f : ParseFault) →
     Derives depth front (mid ++ below) taken (between ++ under) at now → ((stack : List Item) → levels stack ≡ depth → levels (below ++ stack) ≡ inner) →
-    ((allocates ≡ true) → more ≡ true) → Refused (FailsAt inner mid between now) allocates n f → Refused (FailsAt depth front taken at) more n f
-exit n depth inner front mid below taken between under at now allocates more f a opens memory =
-    refused_map n _ _ allocates more f (λ d. fails_behind depth inner front mid below taken between under at now d a opens) memory
+    (denied → more) → Refused (FailsAt inner mid between now) denied n f → Refused (FailsAt depth front taken at) more n f
+exit n depth inner front mid below taken between under at now denied more f a opens memory =
+    refused_map n _ _ denied more f (λ d. fails_behind depth inner front mid below taken between under at now d a opens) memory
 
 -- of one that matches an item
-pub exit_item : (n : ℕ) (depth inner : ℕ) (front : List Item) (item : Item) (below : List Item) (taken under : List Value) (at now : Place) (more : Bool) (f : ParseFault) →
+pub exit_item : (n : ℕ) (depth inner : ℕ) (front : List Item) (item : Item) (below : List Item) (taken under : List Value) (at now : Place) (more : Type 0) (f : ParseFault) →
     Derives depth front (item ∷ below) taken under at now → ((stack : List Item) → levels stack ≡ depth → levels (below ++ stack) ≡ inner) →
-    Refused (FailsItem item now) false n f → Refused (FailsAt depth front taken at) more n f
+    Refused (FailsItem item now) ⊥ n f → Refused (FailsAt depth front taken at) more n f
 exit_item n depth inner front item below taken under at now more f a opens =
-    refused_map n (FailsItem item now) (FailsAt depth front taken at) false more f (λ d h. fails_behind depth inner front (item ∷ []) below taken [] under at now d a opens (h inner)) (λ never. absurd (cc))
+    refused_map n (FailsItem item now) (FailsAt depth front taken at) ⊥ more f (λ d h. fails_behind depth inner front (item ∷ []) below taken [] under at now d a opens (h inner)) (λ never. absurd never)
 
 -- At the first token.
 

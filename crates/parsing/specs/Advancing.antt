@@ -1,6 +1,6 @@
 -- What each call of a parser needs and keeps. Every contract of the front end cites these facts.
 use Rattle.std.specs.Prelude.{ℕ, ◌-◌, ◌^◌, ◌≡◌, ◌<◌, ◌≤◌, false, Result, Ok, Err}
-use Rattle.tokens.specs.Limits.{most_bytes}
+use Rattle.tokens.specs.ReadLimits.{most_bytes}
 use Rattle.tokens.specs.Reading.{IsNear, Reading, taken}
 use Rattle.tokens.specs.Window.{Takes}
 use Rattle.grammar.specs.declared.diagnostics.ParseFault.{ParseFault}
@@ -24,13 +24,13 @@ pub record IsReadable (reading : Reading) : Type 0 where
 pub record IsReady (at : Standing) : Type 0 where
   pub sound : is_fault (token_of at) ≡ false
   pub near : IsNear at.place.position.reading
-  pub count : at.failures < most_failures
+  pub count : at.account.failures < most_failures
 
 -- A parser went on: it reads the same device, which did not fail, the device still has all but the bytes taken, fewer
 -- tokens can come, and the parser is ready for the next call.
 pub record WentOn (old new : Standing) : Type 0 where
   pub device : new.device ≡ old.device
-  pub failures : new.failures ≡ old.failures
+  pub account : new.account ≡ old.account
   pub took : Takes (taken_at old.place) (taken_at new.place) old.place.to_come new.place.to_come
   pub falls : to_go new < to_go old
   pub ready : IsReady new
@@ -38,7 +38,7 @@ pub record WentOn (old new : Standing) : Type 0 where
 -- The same where it may have consumed no token.
 pub record StayedOrWentOn (old new : Standing) : Type 0 where
   pub device : new.device ≡ old.device
-  pub failures : new.failures ≡ old.failures
+  pub account : new.account ≡ old.account
   pub took : Takes (taken_at old.place) (taken_at new.place) old.place.to_come new.place.to_come
   pub falls : to_go new ≤ to_go old
   pub ready : IsReady new
@@ -47,7 +47,7 @@ pub record StayedOrWentOn (old new : Standing) : Type 0 where
 -- still to come. The parser is of no more use.
 pub record Stopped (fault : ParseFault) (old new : Standing) : Type 0 where
   pub device : new.device ≡ old.device
-  pub failures : new.failures ≡ counted old.failures fault
+  pub account : new.account ≡ counted old.account fault
   pub took : Takes (taken_at old.place) (taken_at new.place) old.place.to_come new.place.to_come
 
 -- a call that consumes at least one token if it succeeds

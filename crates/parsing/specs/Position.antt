@@ -1,5 +1,6 @@
 -- Where a parser is: the next tokens, the names known, and the device that it reads.
 use Rattle.std.specs.Prelude.{ℕ, ◌≡◌, List, Option}
+use Rattle.tokens.specs.Feed.{Account}
 use Rattle.tokens.specs.Reading.{Reading, remaining, shown, taken}
 use Rattle.tokens.specs.Tokens.{followed_by}
 use Rattle.tokens.specs.declared.located_tokens.LocatedToken.{LocatedToken}
@@ -37,10 +38,10 @@ scope_at here = here.position.scope
 abbrev pub tokens_at : Place → Option (List LocatedToken)
 tokens_at here = shown here.position.reading here.to_come
 
--- What a contract sees of a parser: its place, how often its device has failed, and which device that is.
+-- What a contract sees of a parser: its place, what is known of its device's failures, and which borrow of it that is.
 pub record Standing : Type 0 where
   pub place : Place
-  pub failures : ℕ
+  pub account : Account
   pub device : ℕ
 
 -- the next token of a parser, and the one after it

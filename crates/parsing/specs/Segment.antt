@@ -1,8 +1,9 @@
 -- What a part of the parser did: a segment of the derivation without a fault, or one that stops.
-use Rattle.std.specs.Prelude.{ℕ, ◌+◌, ◌≡◌, ◌<◌, ◌≤◌, List, [], ◌∷◌, ◌++◌, drop, length, Bool, true, false, IsTrue}
+use Rattle.std.specs.Prelude.{ℕ, ◌+◌, ◌≡◌, ◌<◌, ◌≤◌, List, [], ◌∷◌, ◌++◌, drop, length, Bool, true, false, IsTrue, ⊥}
 use Rattle.std.specs.Prelude.{Option, Some, None, Result, Ok, Err}
 use Rattle.std.specs.Option.{option_map}
-use Rattle.tokens.specs.Limits.{most_bytes}
+use Rattle.tokens.specs.Feed.{Account, failed_again}
+use Rattle.tokens.specs.ReadLimits.{most_bytes}
 use Rattle.tokens.specs.Tokens.{is_last, tokens}
 use Rattle.tokens.specs.declared.located_tokens.LocatedToken.{LocatedToken}
 use Rattle.grammar.specs.declared.diagnostics.Diagnostic.{Diagnostic}
@@ -94,25 +95,26 @@ pub record BeginsDefinition (number : ℕ) (old new : Position) : Type 0 where
   pub mentioned : number < length new.scope.functions
   pub within : IsWithin old.scope → IsWithin new.scope
 
--- what a refusal says, with so many bytes taken: where the derivation stops, and of memory that the builder asks for it
-abbrev pub Refused : (Stop → Type 0) → Bool → ℕ → ParseFault → Type 0
-Refused stops allocates taken (refusal.Source d) = stops (stop_with (refusal.Source d) taken)
-Refused stops allocates taken refusal.Device = stops (stop_with refusal.Device taken)
-Refused stops allocates taken refusal.Memory = IsTrue allocates × stops (stop_with refusal.Memory taken)
+-- What a refusal says, with so many bytes taken: where the derivation stops, and of memory that it was refused to the
+-- builder.
+abbrev pub Refused : (Stop → Type 0) → Type 0 → ℕ → ParseFault → Type 0
+Refused stops denied taken (refusal.Source d) = stops (stop_with (refusal.Source d) taken)
+Refused stops denied taken refusal.Device = stops (stop_with refusal.Device taken)
+Refused stops denied taken refusal.Memory = denied × stops (stop_with refusal.Memory taken)
 
 -- what a refusal at the first token says, by the bytes to come before and behind
 pub record StopsAtFirst (told told' : Option (List ℕ)) (fault : ParseFault) : Type 0 where
   pub taken : ℕ
   pub took : (bytes : List ℕ) → told ≡ Some bytes → told' ≡ Some (drop taken bytes)
   pub limited : taken ≤ most_bytes
-  pub refused : Refused (StopsFirst (option_map tokens told)) false taken fault
+  pub refused : Refused (StopsFirst (option_map tokens told)) ⊥ taken fault
 
--- failures of a device, before and behind: one more where it is the device that is answered
-abbrev pub counted : ℕ → ParseFault → ℕ
-counted failures refusal.Device = failures + 1
-counted failures (refusal.Source d) = failures
-counted failures refusal.Memory = failures
+-- the same device, of which one more read has failed if it is the device that is answered
+abbrev pub counted : Account → ParseFault → Account
+counted account refusal.Device = failed_again account
+counted account (refusal.Source d) = account
+counted account refusal.Memory = account
 
-abbrev pub Counts : {A : Type 0} → Result A ParseFault → ℕ → ℕ → Type 0
+abbrev pub Counts : {A : Type 0} → Result A ParseFault → Account → Account → Type 0
 Counts (Ok x) before behind = behind ≡ before
 Counts (Err e) before behind = behind ≡ counted before e

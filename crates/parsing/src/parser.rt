@@ -14,7 +14,7 @@ ghost use Rattle.grammar.specs.Resolved.{IsCallable, IsVariable};
 ghost use Rattle.grammar.specs.Scope.{end_definition, function_number, no_names};
 ghost use Rattle.grammar.specs.Tree.{NoMore};
 ghost use Rattle.parsing.specs.Advancing.{IsReadable, most_failures};
-ghost use Rattle.tokens.specs.Limits.{most_bytes};
+ghost use Rattle.tokens.specs.ReadLimits.{most_bytes};
 ghost use Rattle.parsing.specs.Position.{with_scope};
 ghost use Rattle.parsing.specs.Roles.{role_of};
 ghost use Rattle.parsing.specs.Segment.{Counts, IsNoName, StopsAtFirst};
@@ -44,14 +44,14 @@ impl<'a, F: Feed> Model for Parser<'a, F> {
     ghost use Rattle.tokens.specs.Reading.{beyond, taken};
     ghost use Rattle.tokens.specs.Window.{KnowsEnd};
     ghost use Rattle.grammar.specs.Grammar.{is_fault};
-    ghost use Rattle.tokens.specs.Limits.{most_bytes};
+    ghost use Rattle.tokens.specs.ReadLimits.{most_bytes};
     ghost use Rattle.parsing.specs.Position.{Standing, place};
 
     ghost Value = { Standing };
 
     ghost view = { λ p. record {
       place = place (record { reading = p.cursor; scope = p.scope }) (F.to_come p.feed.now);
-      failures = F.failures p.feed.now;
+      account = F.account p.feed.now;
       device = p.feed.ghost_name;
     } };
 
@@ -64,13 +64,13 @@ impl<'a, F: Feed> Model for Parser<'a, F> {
 /// # Errors
 /// `Source` if the first token is a lexical error, `Device` if the device failed.
 pub fn first<F: Feed>(feed: &mut F) -> Result<Cursor, ParseFault>
-    requires count { F.failures feed.old < most_failures }
+    requires count { (F.account feed.old).failures < most_failures }
     requires not_ended { F.ended feed.old ≡ false }
     ensures opens { IfOk result (λ cursor.
         Opens cursor (F.to_come feed.old) (F.to_come feed.new) (F.ended feed.new)) }
     ensures ready { IfOk result IsReadable }
     ensures refused { IfErr result (StopsAtFirst (F.to_come feed.old) (F.to_come feed.new)) }
-    ensures counted { Counts result (F.failures feed.old) (F.failures feed.new) }
+    ensures counted { Counts result (F.account feed.old) (F.account feed.new) }
 {
     let cursor = Cursor::open(feed)?;
     if let Token::Fault(_) = cursor.peek().token {
@@ -94,7 +94,7 @@ impl<'a, F: Feed> Parser<'a, F> {
         requires ready { IsReadable cursor }
         requires known { KnowsEnd (beyond cursor) (F.ended feed.old) }
         ensures place { result.place ≡ place (record { reading = cursor; scope = no_names }) (F.to_come feed.old) }
-        ensures failures { result.failures ≡ F.failures feed.old }
+        ensures account { result.account ≡ F.account feed.old }
         ensures device { result.device ≡ feed.entry.ghost_name }
     {
         Parser {
@@ -302,7 +302,7 @@ impl<'a, F: Feed> Parser<'a, F> {
             record { externals = (scope_of self.entry).externals; functions = (scope_of self.entry).functions } }
         ensures device { result.1.ghost_name ≡ self.entry.device }
         ensures to_come { F.to_come result.1.now ≡ self.entry.place.to_come }
-        ensures failures { F.failures result.1.now ≡ self.entry.failures }
+        ensures account { F.account result.1.now ≡ self.entry.account }
         ensures limited { taken_at self.entry.place ≤ most_bytes }
     {
         let Parser { scope, feed, .. } = self;

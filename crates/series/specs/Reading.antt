@@ -1,6 +1,6 @@
 -- How much of the source files a run reads.
 use Rattle.std.specs.Prelude.{◌≡◌, ℕ, ◌+◌, ◌<◌, List, Option, Some, None, Result, MatchResult, drop, get_or, length}
-use Rattle.tokens.specs.Limits.{window_bytes}
+use Rattle.tokens.specs.ReadLimits.{window_bytes}
 use Rattle.grammar.specs.Profile.{Profile}
 use Rattle.lang.specs.Files.{LeavesUndecided, TakesUpTo}
 use Rattle.series.specs.declared.endings.RunFault.{RunFault}

@@ -1,7 +1,7 @@
 //! Files are compiled, and the programs of all are kept.
 
 ghost use Rattle.std.specs.Prelude.{◌≡◌, ℕ, ◌+◌, ◌-◌, ◌^◌, ◌<◌, ◌≤◌, List, [], Some, false, length, map, All, IfOk, OnOk, OnErr};
-ghost use Rattle.tokens.specs.Limits.{window_bytes};
+ghost use Rattle.tokens.specs.ReadLimits.{window_bytes};
 ghost use Rattle.tokens.specs.Feed.{Counts};
 ghost use Rattle.series.specs.Compiling.{Source, compiled_code, pieces_of};
 ghost use Rattle.series.specs.Failures.{Accounts, CountsSinks, failures};
@@ -31,7 +31,7 @@ pub(crate) fn compile_into<F: Feed, O: Sink, E: Sink>(
 ) -> Result<Status, RunFault>
     requires none { programs.old ≡ [] }
     requires files { length feeds.old ≡ length settings.now.words }
-    requires feeds { All (λ feed. F.failures feed < 2 ^ 64 - 1) feeds.old }
+    requires feeds { All (λ feed. (F.account feed).failures < 2 ^ 64 - 1) feeds.old }
     requires not_ended { All (λ feed. F.ended feed ≡ false) feeds.old }
     requires text { O.failures out.old < 2 ^ 64 - 1 }
     requires faults { E.failures err.old < 2 ^ 64 - 1 }
@@ -41,8 +41,8 @@ pub(crate) fn compile_into<F: Feed, O: Sink, E: Sink>(
     ensures manned { IfOk result (λ status. status ≡ Status.Done → length programs.new ≡ length settings.now.words) }
     ensures read { Reads settings.now.profile result (map F.to_come feeds.old) (map F.to_come feeds.new) }
     ensures failures { Accounts result
-        (failures (map F.failures feeds.old) (O.failures out.old) (E.failures err.old))
-        (failures (map F.failures feeds.new) (O.failures out.new) (E.failures err.new)) }
+        (failures (map F.account feeds.old) (O.failures out.old) (E.failures err.old))
+        (failures (map F.account feeds.new) (O.failures out.new) (E.failures err.new)) }
 {
     let words = settings.words();
     let profile = settings.profile();
@@ -87,7 +87,7 @@ fn compile_file<F: Feed, O: Sink, E: Sink>(
     err: &mut E,
 ) -> Result<Result<Status, DeviceFault>, DeviceFault>
     requires room { length programs.old < FILES_MAX }
-    requires count { F.failures feed.old < 2 ^ 64 - 1 }
+    requires count { (F.account feed.old).failures < 2 ^ 64 - 1 }
     requires not_ended { F.ended feed.old ≡ false }
     requires text { O.failures out.old < 2 ^ 64 - 1 }
     requires faults { E.failures err.old < 2 ^ 64 - 1 }
@@ -103,7 +103,7 @@ fn compile_file<F: Feed, O: Sink, E: Sink>(
         (O.failures out.new) (E.failures err.new)) }
     ensures taken { OnOk result (TakesOf profile (F.to_come feed.old) (F.to_come feed.new) window_bytes) }
     ensures stopped { OnErr result (MayLeaveUndecided profile (F.to_come feed.old) (F.to_come feed.new)) }
-    ensures count { Counts result (F.failures feed.old) (F.failures feed.new) }
+    ensures count { Counts result (F.account feed.old) (F.account feed.new) }
 {
     let mut maker = Maker::new(profile);
     match parse(feed, &mut maker) {

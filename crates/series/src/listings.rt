@@ -1,7 +1,7 @@
 //! Listings of files: each program is listed and let go, so that only one takes room at a time.
 
 ghost use Rattle.std.specs.Prelude.{◌≡◌, ℕ, ◌+◌, ◌-◌, ◌^◌, ◌<◌, ◌≤◌, List, [], ◌∷◌, Some, false, length, map, All, IfOk, OnOk, OnErr};
-ghost use Rattle.tokens.specs.Limits.{window_bytes};
+ghost use Rattle.tokens.specs.ReadLimits.{window_bytes};
 ghost use Rattle.tokens.specs.Feed.{Counts};
 ghost use Rattle.series.specs.Compiling.{Source, compiled_code, pieces_of};
 ghost use Rattle.series.specs.Failures.{Accounts, CountsSinks, failures};
@@ -33,7 +33,7 @@ pub(crate) fn list_files<F: Feed, O: Sink, E: Sink>(
 ) -> Result<Status, RunFault>
     requires listing { settings.now.mode ≡ Listing }
     requires files { length feeds.old ≡ length settings.now.words }
-    requires feeds { All (λ feed. F.failures feed < 2 ^ 64 - 1) feeds.old }
+    requires feeds { All (λ feed. (F.account feed).failures < 2 ^ 64 - 1) feeds.old }
     requires not_ended { All (λ feed. F.ended feed ≡ false) feeds.old }
     requires text { O.failures out.old < 2 ^ 64 - 1 }
     requires faults { E.failures err.old < 2 ^ 64 - 1 }
@@ -42,8 +42,8 @@ pub(crate) fn list_files<F: Feed, O: Sink, E: Sink>(
         (taken (O.portions out.new) (E.portions err.new)) }
     ensures read { Reads settings.now.profile result (map F.to_come feeds.old) (map F.to_come feeds.new) }
     ensures failures { Accounts result
-        (failures (map F.failures feeds.old) (O.failures out.old) (E.failures err.old))
-        (failures (map F.failures feeds.new) (O.failures out.new) (E.failures err.new)) }
+        (failures (map F.account feeds.old) (O.failures out.old) (E.failures err.old))
+        (failures (map F.account feeds.new) (O.failures out.new) (E.failures err.new)) }
 {
     let words = settings.words();
     let profile = settings.profile();
@@ -72,7 +72,7 @@ fn list_file<F: Feed, O: Sink, E: Sink>(
     out: &mut O,
     err: &mut E,
 ) -> Result<Result<Status, DeviceFault>, DeviceFault>
-    requires count { F.failures feed.old < 2 ^ 64 - 1 }
+    requires count { (F.account feed.old).failures < 2 ^ 64 - 1 }
     requires not_ended { F.ended feed.old ≡ false }
     requires text { O.failures out.old < 2 ^ 64 - 1 }
     requires faults { E.failures err.old < 2 ^ 64 - 1 }
@@ -86,7 +86,7 @@ fn list_file<F: Feed, O: Sink, E: Sink>(
         (O.failures out.new) (E.failures err.new)) }
     ensures taken { OnOk result (TakesOf profile (F.to_come feed.old) (F.to_come feed.new) window_bytes) }
     ensures stopped { OnErr result (MayLeaveUndecided profile (F.to_come feed.old) (F.to_come feed.new)) }
-    ensures count { Counts result (F.failures feed.old) (F.failures feed.new) }
+    ensures count { Counts result (F.account feed.old) (F.account feed.new) }
 {
     let mut maker = Maker::new(profile);
     match parse(feed, &mut maker) {

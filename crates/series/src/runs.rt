@@ -38,7 +38,7 @@ pub fn run<F: Feed, O: Sink, E: Sink>(
     err: &mut E,
 ) -> Result<Status, RunFault>
     requires files { length feeds.old ≡ length settings.now.words }
-    requires feeds { All (λ feed. F.failures feed < 2 ^ 64 - 1) feeds.old }
+    requires feeds { All (λ feed. (F.account feed).failures < 2 ^ 64 - 1) feeds.old }
     requires not_ended { All (λ feed. F.ended feed ≡ false) feeds.old }
     requires text { O.failures out.old < 2 ^ 64 - 1 }
     requires faults { E.failures err.old < 2 ^ 64 - 1 }
@@ -47,8 +47,8 @@ pub fn run<F: Feed, O: Sink, E: Sink>(
         (taken (O.portions out.new) (E.portions err.new)) }
     ensures read { Reads settings.now.profile result (map F.to_come feeds.old) (map F.to_come feeds.new) }
     ensures failures { Accounts result
-        (failures (map F.failures feeds.old) (O.failures out.old) (E.failures err.old))
-        (failures (map F.failures feeds.new) (O.failures out.new) (E.failures err.new)) }
+        (failures (map F.account feeds.old) (O.failures out.old) (E.failures err.old))
+        (failures (map F.account feeds.new) (O.failures out.new) (E.failures err.new)) }
 {
     match settings.mode() {
         Mode::Listing => list_files(settings, feeds, out, err),
@@ -68,7 +68,7 @@ fn play_files<F: Feed, O: Sink, E: Sink>(
 ) -> Result<Status, RunFault>
     requires matches { settings.now.mode ≡ Matches }
     requires files { length feeds.old ≡ length settings.now.words }
-    requires feeds { All (λ feed. F.failures feed < 2 ^ 64 - 1) feeds.old }
+    requires feeds { All (λ feed. (F.account feed).failures < 2 ^ 64 - 1) feeds.old }
     requires not_ended { All (λ feed. F.ended feed ≡ false) feeds.old }
     requires text { O.failures out.old < 2 ^ 64 - 1 }
     requires faults { E.failures err.old < 2 ^ 64 - 1 }
@@ -77,8 +77,8 @@ fn play_files<F: Feed, O: Sink, E: Sink>(
         (taken (O.portions out.new) (E.portions err.new)) }
     ensures read { Reads settings.now.profile result (map F.to_come feeds.old) (map F.to_come feeds.new) }
     ensures failures { Accounts result
-        (failures (map F.failures feeds.old) (O.failures out.old) (E.failures err.old))
-        (failures (map F.failures feeds.new) (O.failures out.new) (E.failures err.new)) }
+        (failures (map F.account feeds.old) (O.failures out.old) (E.failures err.old))
+        (failures (map F.account feeds.new) (O.failures out.new) (E.failures err.new)) }
 {
     let mut programs = Programs::new();
     match compile_into(&mut programs, settings, feeds, out, err) {
@@ -125,7 +125,7 @@ pub fn compile_files<F: Feed, O: Sink, E: Sink>(
     err: &mut E,
 ) -> Result<Option<Programs>, RunFault>
     requires files { length feeds.old ≡ length settings.now.words }
-    requires feeds { All (λ feed. F.failures feed < 2 ^ 64 - 1) feeds.old }
+    requires feeds { All (λ feed. (F.account feed).failures < 2 ^ 64 - 1) feeds.old }
     requires not_ended { All (λ feed. F.ended feed ≡ false) feeds.old }
     requires text { O.failures out.old < 2 ^ 64 - 1 }
     requires faults { E.failures err.old < 2 ^ 64 - 1 }
@@ -136,8 +136,8 @@ pub fn compile_files<F: Feed, O: Sink, E: Sink>(
         (λ programs. length programs ≡ length settings.now.words)) }
     ensures read { Reads settings.now.profile result (map F.to_come feeds.old) (map F.to_come feeds.new) }
     ensures failures { Accounts result
-        (failures (map F.failures feeds.old) (O.failures out.old) (E.failures err.old))
-        (failures (map F.failures feeds.new) (O.failures out.new) (E.failures err.new)) }
+        (failures (map F.account feeds.old) (O.failures out.old) (E.failures err.old))
+        (failures (map F.account feeds.new) (O.failures out.new) (E.failures err.new)) }
 {
     let mut programs = Programs::new();
     match compile_into(&mut programs, settings, feeds, out, err) {

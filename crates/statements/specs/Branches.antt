@@ -55,9 +55,9 @@ FailsElse depth here d =
 -- What a parse of a second branch says by its result.
 abbrev pub ParsesElse : {A : Type 0} → Result A ParseFault → Bool → (before after : Meaning) → ℕ →
     (old new : Standing) → Type 0
-ParsesElse (Ok x) allocates before after depth old new = AddsElse before after depth old.place new.place
-ParsesElse (Err fault) allocates before after depth old new =
-    Refused (FailsElse depth old.place) allocates (taken_at new.place) fault
+ParsesElse (Ok x) denied before after depth old new = AddsElse before after depth old.place new.place
+ParsesElse (Err fault) denied before after depth old new =
+    Refused (FailsElse depth old.place) denied (taken_at new.place) fault
 
 -- A list is stood for that leaves this open, where a statement stands, and room for so many more.
 pub record HasInside (inner : Open) (before : Meaning) (count : ℕ) : Type 0 where

@@ -27,7 +27,7 @@ in_brackets = Exactly punctuator.OpenRound ∷ Part Expression ∷ Exactly punct
 -- What a parse of a condition says by its result: it was read, or the derivation stops within it, as the refusal says.
 abbrev pub ParsesCondition : {A : Type 0} → Result A ParseFault → Bool → (before after : Meaning) → ℕ →
     (old new : Standing) → Type 0
-ParsesCondition (Ok x) allocates before after depth old new =
+ParsesCondition (Ok x) denied before after depth old new =
     AddsExpr before after depth 1 in_brackets [] old.place new.place
-ParsesCondition (Err fault) allocates before after depth old new =
-    Refused (FailsAt depth in_brackets [] old.place) allocates (taken_at new.place) fault
+ParsesCondition (Err fault) denied before after depth old new =
+    Refused (FailsAt depth in_brackets [] old.place) denied (taken_at new.place) fault

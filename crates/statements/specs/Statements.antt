@@ -31,7 +31,7 @@ FailsBody depth front here d = (body : Body) → FailsAt depth front (ABody body
 -- says.
 abbrev pub ParsesBody : {A : Type 0} → Result A ParseFault → Bool → (before after : Meaning) → ℕ → Symbol →
     (old new : Standing) → Type 0
-ParsesBody (Ok x) allocates before after depth symbol old new =
+ParsesBody (Ok x) denied before after depth symbol old new =
     AddsBody before after depth (Part symbol ∷ []) [] old.place new.place
-ParsesBody (Err fault) allocates before after depth symbol old new =
-    Refused (FailsBody depth (Part symbol ∷ []) old.place) allocates (taken_at new.place) fault
+ParsesBody (Err fault) denied before after depth symbol old new =
+    Refused (FailsBody depth (Part symbol ∷ []) old.place) denied (taken_at new.place) fault

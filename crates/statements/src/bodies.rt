@@ -28,7 +28,7 @@ pub fn statements<F: Feed, B: Build>(
 ) -> Result<(), ParseFault>
     requires open { HasPlace (B.stands build.old) (room depth 1) }
     requires ready { IsReady parser.old }
-    ensures parses { ParsesBody result B.allocates (B.stands build.old) (B.stands build.new) depth Statements
+    ensures parses { ParsesBody result B.denied (B.stands build.old) (B.stands build.new) depth Statements
         parser.old parser.new }
     ensures grown { Grows result (B.stands build.old) (B.stands build.new) }
     ensures closed { OnOk result (is_punctuator punctuator.CloseCurly (token_of parser.new) ≡ true) }
@@ -49,7 +49,7 @@ fn statement<F: Feed, B: Build>(
 ) -> Result<(), ParseFault>
     requires open { HasPlace (B.stands build.old) (room depth 1) }
     requires ready { IsReady parser.old }
-    ensures parses { ParsesBody result B.allocates (B.stands build.old) (B.stands build.new) depth Statement
+    ensures parses { ParsesBody result B.denied (B.stands build.old) (B.stands build.new) depth Statement
         parser.old parser.new }
     ensures grown { Grows result (B.stands build.old) (B.stands build.new) }
     ensures kept { Advances result parser.old parser.new }
@@ -75,7 +75,7 @@ fn block<F: Feed, B: Build>(
     requires open { HasPlace (B.stands build.old) (room depth 1) }
     requires is { is_punctuator punctuator.OpenCurly (token_of parser.old) ≡ true }
     requires ready { IsReady parser.old }
-    ensures parses { ParsesBody result B.allocates (B.stands build.old) (B.stands build.new) depth Statement
+    ensures parses { ParsesBody result B.denied (B.stands build.old) (B.stands build.new) depth Statement
         parser.old parser.new }
     ensures grown { Grows result (B.stands build.old) (B.stands build.new) }
     ensures kept { Advances result parser.old parser.new }
@@ -100,7 +100,7 @@ fn branch<F: Feed, B: Build>(
     requires open { HasPlace (B.stands build.old) (room depth 1) }
     requires is { is_word word.If (token_of parser.old) ≡ true }
     requires ready { IsReady parser.old }
-    ensures parses { ParsesBody result B.allocates (B.stands build.old) (B.stands build.new) depth Statement
+    ensures parses { ParsesBody result B.denied (B.stands build.old) (B.stands build.new) depth Statement
         parser.old parser.new }
     ensures grown { Grows result (B.stands build.old) (B.stands build.new) }
     ensures kept { Advances result parser.old parser.new }
@@ -127,7 +127,7 @@ fn else_part<F: Feed, B: Build>(
 ) -> Result<(), ParseFault>
     requires open { HasInside InBranch (B.stands build.old) (room depth 1) }
     requires ready { IsReady parser.old }
-    ensures parses { ParsesElse result B.allocates (B.stands build.old) (B.stands build.new) depth
+    ensures parses { ParsesElse result B.denied (B.stands build.old) (B.stands build.new) depth
         parser.old parser.new }
     ensures grown { Grows result (B.stands build.old) (B.stands build.new) }
     ensures kept { Keeps result parser.old parser.new }
@@ -150,7 +150,7 @@ fn repetition<F: Feed, B: Build>(
     requires open { HasPlace (B.stands build.old) (room depth 1) }
     requires is { is_word word.While (token_of parser.old) ≡ true }
     requires ready { IsReady parser.old }
-    ensures parses { ParsesBody result B.allocates (B.stands build.old) (B.stands build.new) depth Statement
+    ensures parses { ParsesBody result B.denied (B.stands build.old) (B.stands build.new) depth Statement
         parser.old parser.new }
     ensures grown { Grows result (B.stands build.old) (B.stands build.new) }
     ensures kept { Advances result parser.old parser.new }
@@ -176,7 +176,7 @@ fn condition<F: Feed, B: Build>(
 ) -> Result<(), ParseFault>
     requires open { HasRoom (B.stands build.old) (room depth 1) }
     requires ready { IsReady parser.old }
-    ensures parses { ParsesCondition result B.allocates (B.stands build.old) (B.stands build.new) depth
+    ensures parses { ParsesCondition result B.denied (B.stands build.old) (B.stands build.new) depth
         parser.old parser.new }
     ensures grown { Grows result (B.stands build.old) (B.stands build.new) }
     ensures kept { Advances result parser.old parser.new }
@@ -196,7 +196,7 @@ fn give_back<F: Feed, B: Build>(
     requires open { HasPlace (B.stands build.old) (room depth 1) }
     requires is { is_word word.Return (token_of parser.old) ≡ true }
     requires ready { IsReady parser.old }
-    ensures parses { ParsesBody result B.allocates (B.stands build.old) (B.stands build.new) depth Statement
+    ensures parses { ParsesBody result B.denied (B.stands build.old) (B.stands build.new) depth Statement
         parser.old parser.new }
     ensures grown { Grows result (B.stands build.old) (B.stands build.new) }
     ensures kept { Advances result parser.old parser.new }
@@ -216,7 +216,7 @@ fn back<F: Feed, B: Build>(
 ) -> Result<(), ParseFault>
     requires open { HasRoom (B.stands build.old) (room depth 1) }
     requires ready { IsReady parser.old }
-    ensures parses { Parses result B.allocates (B.stands build.old) (B.stands build.new) depth 1 Back
+    ensures parses { Parses result B.denied (B.stands build.old) (B.stands build.new) depth 1 Back
         parser.old parser.new }
     ensures grown { Grows result (B.stands build.old) (B.stands build.new) }
     ensures kept { Keeps result parser.old parser.new }
@@ -238,7 +238,7 @@ fn evaluation<F: Feed, B: Build>(
     requires open { HasPlace (B.stands build.old) (room depth 1) }
     requires plain { begins_statement (token_of parser.old) ≡ false }
     requires ready { IsReady parser.old }
-    ensures parses { ParsesBody result B.allocates (B.stands build.old) (B.stands build.new) depth Statement
+    ensures parses { ParsesBody result B.denied (B.stands build.old) (B.stands build.new) depth Statement
         parser.old parser.new }
     ensures grown { Grows result (B.stands build.old) (B.stands build.new) }
     ensures kept { Advances result parser.old parser.new }

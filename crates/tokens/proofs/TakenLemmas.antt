@@ -3,6 +3,7 @@ use Rattle.std.proofs.Common.{◌≡◌, refl, ℕ, zero, suc, ◌+◌, ◌*◌,
 use Rattle.std.specs.Prelude.{IsErrAnd, OnErr, fold, nat_le}
 use Rattle.std.specs.List.{prefix_len}
 use Rattle.std.proofs.lemmas.Option.{same_Some}
+use Rattle.tokens.specs.Feed.{Account, failed_again}
 use Rattle.tokens.specs.Punctuators.{punctuator_of, spelling}
 use Rattle.tokens.specs.Words.{word_of}
 use Rattle.tokens.specs.Ends.{is_decided_by_last_byte, undecided_until}
@@ -30,7 +31,7 @@ pub Takes-pass : {old mid new : ℕ} {told told' : Option (List ℕ)} → new �
 Takes-pass {old} {mid} {new} {told} {told'} e f = subst (λ (n : ℕ). Takes old n told told') (sym e) f
 
 -- a window that went on goes on
-goes_on : (counted counted' : ℕ) (old mid new : Held) (told told' told'' : Option (List ℕ)) (after : ℕ) (ended : Bool) → Takes old.taken mid.taken told told' → old.place ≤ mid.place → counted' ≡ counted → WentOn mid new told' told'' counted' after ended → WentOn old new told told'' counted after ended
+goes_on : (counted counted' : Account) (old mid new : Held) (told told' told'' : Option (List ℕ)) (after : Account) (ended : Bool) → Takes old.taken mid.taken told told' → old.place ≤ mid.place → counted' ≡ counted → WentOn mid new told' told'' counted' after ended → WentOn old new told told'' counted after ended
 goes_on counted counted' old mid new told told' told'' after ended took forward count asks = record {
   took = Takes-then took asks.took;
   forward = omega (arith, forward, asks.forward);
@@ -41,14 +42,14 @@ goes_on counted counted' old mid new told told' told'' after ended took forward 
   known = asks.known;
 }
 
-pub then-asks : {T : Type 0} (r : Result T DeviceFault) (old mid new : Held) (told told' told'' : Option (List ℕ)) (before between after : ℕ) (ended : Bool) → Takes old.taken mid.taken told told' → old.place ≤ mid.place → between ≡ before → Asks r mid new told' told'' between after ended → Asks r old new told told'' before after ended
+pub then-asks : {T : Type 0} (r : Result T DeviceFault) (old mid new : Held) (told told' told'' : Option (List ℕ)) (before between after : Account) (ended : Bool) → Takes old.taken mid.taken told told' → old.place ≤ mid.place → between ≡ before → Asks r mid new told' told'' between after ended → Asks r old new told told'' before after ended
 then-asks (Ok x) old mid new told told' told'' before between after ended took forward count asks = goes_on before between old mid new told told' told'' after ended took forward count asks
-then-asks (Err x) old mid new told told' told'' before between after ended took forward count asks = goes_on (before + 1) (between + 1) old mid new told told' told'' after ended took forward (ap (λ n. n + 1) count) asks
+then-asks (Err x) old mid new told told' told'' before between after ended took forward count asks = goes_on (failed_again before) (failed_again between) old mid new told told' told'' after ended took forward (ap failed_again count) asks
 
 -- and may fail then
-pub then-fails : {T : Type 0} (r : Result T DeviceFault) (P : DeviceFault → Type 0) → IsErrAnd r P → (old mid new : Held) (told told' told'' : Option (List ℕ)) (before between after : ℕ) (ended : Bool) → Takes old.taken mid.taken told told' → old.place ≤ mid.place → between ≡ before → WentOn mid new told' told'' (between + 1) after ended → Asks r old new told told'' before after ended
+pub then-fails : {T : Type 0} (r : Result T DeviceFault) (P : DeviceFault → Type 0) → IsErrAnd r P → (old mid new : Held) (told told' told'' : Option (List ℕ)) (before between after : Account) (ended : Bool) → Takes old.taken mid.taken told told' → old.place ≤ mid.place → between ≡ before → WentOn mid new told' told'' (failed_again between) after ended → Asks r old new told told'' before after ended
 then-fails (Ok x) P h old mid new told told' told'' before between after ended took forward count asks = absurd h
-then-fails (Err x) P h old mid new told told' told'' before between after ended took forward count asks = goes_on (before + 1) (between + 1) old mid new told told' told'' after ended took forward (ap (λ n. n + 1) count) asks
+then-fails (Err x) P h old mid new told told' told'' before between after ended took forward count asks = goes_on (failed_again before) (failed_again between) old mid new told told' told'' after ended took forward (ap failed_again count) asks
 
 -- nothing was taken before the window went on
 pub Takes-from : {old mid new : ℕ} {told told' : Option (List ℕ)} → mid ≡ old → Takes mid new told told' → Takes old new told told'

@@ -3,9 +3,18 @@ use Rattle.std.specs.Prelude.{◌≡◌, ◌==◌, ℕ, ◌+◌, ◌-◌, ◌^�
 use Rattle.std.specs.Prelude.{List, [], length, take, drop, Option, Some, None, Result, Ok, Err}
 use Rattle.tokens.specs.declared.devices.DeviceFault.{DeviceFault}
 
+-- which device it is, by a number that it keeps, and how often a read of it has failed
+pub record Account : Type 0 where
+  pub device : ℕ
+  pub failures : ℕ
+
+-- the same device, of which one more read has failed
+abbrev pub failed_again : Account → Account
+failed_again account = record account { failures = account.failures + 1 }
+
 -- a device may be asked: a further failure can be counted, and it has not ended
-pub record MayRead (failures : ℕ) (ended : Bool) : Type 0 where
-  pub countable : failures < 2 ^ 64 - 1
+pub record MayRead (account : Account) (ended : Bool) : Type 0 where
+  pub countable : account.failures < 2 ^ 64 - 1
   pub not_ended : ended ≡ false
 
 -- the next n bytes of those to come stand at the front of the buffer, and none only at the end
@@ -35,7 +44,7 @@ abbrev pub gives_none : Result ℕ DeviceFault → Bool
 gives_none (Ok n) = n == 0
 gives_none (Err e) = false
 
--- the count of failures rises by one at an error, and else stays
-abbrev pub Counts : {T : Type 0} → Result T DeviceFault → ℕ → ℕ → Type 0
+-- it is the same device as before, of which one more read has failed after an error, and none without one
+abbrev pub Counts : {T : Type 0} → Result T DeviceFault → Account → Account → Type 0
 Counts (Ok x) before after = after ≡ before
-Counts (Err e) before after = after ≡ before + 1
+Counts (Err e) before after = after ≡ failed_again before

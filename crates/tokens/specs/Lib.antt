@@ -8,6 +8,7 @@ pub mod Punctuators
 pub mod Front
 pub mod Tokens
 pub mod Limits
+pub mod ReadLimits
 pub mod Window
 pub mod Lexing
 pub mod Ends

@@ -1,7 +1,8 @@
 -- What a cursor stands for: the next token, the one behind it, and what was read behind that.
 use Rattle.std.specs.Prelude.{ℕ, ◌+◌, ◌-◌, ◌<◌, ◌≤◌, ◌≡◌, Bool, List, [], ◌∷◌, Option, drop, if◌then◌else◌}
 use Rattle.std.specs.Option.{option_map}
-use Rattle.tokens.specs.Limits.{most_bytes, most_tokens, source_bytes, window_bytes}
+use Rattle.tokens.specs.Limits.{source_bytes}
+use Rattle.tokens.specs.ReadLimits.{most_bytes, most_tokens, window_bytes}
 use Rattle.tokens.specs.Tokens.{is_last, located_tokens, followed_by, tokens}
 use Rattle.tokens.specs.Ends.{undecided_until}
 use Rattle.tokens.specs.Window.{Held, KnowsEnd, ahead}

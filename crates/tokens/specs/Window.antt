@@ -3,8 +3,10 @@ use Rattle.std.specs.Prelude.{◌≡◌, ◌≢◌, ℕ, zero, suc, ◌+◌, ◌
 use Rattle.std.specs.Prelude.{false, not, List, [], ◌∷◌, ◌++◌, length, take, drop, Option, nat_lt, ◌==◌}
 use Rattle.std.specs.List.{prefix_len}
 use Rattle.std.specs.Option.{option_map}
-use Rattle.tokens.specs.Limits.{most_bytes, source_bytes, window_bytes}
+use Rattle.tokens.specs.Limits.{source_bytes}
+use Rattle.tokens.specs.ReadLimits.{most_bytes, window_bytes}
 use Rattle.tokens.specs.Characters.{is_blank}
+use Rattle.tokens.specs.Feed.{Account, failed_again}
 use Rattle.tokens.specs.Source.{source}
 use Rattle.tokens.specs.Tokens.{Ahead, line_behind}
 use Rattle.tokens.specs.declared.devices.DeviceFault.{DeviceFault}
@@ -119,26 +121,27 @@ pub record IsBounded (held : Held) : Type 0 where
   pub within : held.place ≤ source_bytes
 
 -- a window may ask its device: a further failure can be counted, and it knows if the device has ended
-pub record MayAsk (held : Held) (failures : ℕ) (ended : Bool) : Type 0 where
-  pub countable : failures < 2 ^ 64 - 1
+pub record MayAsk (held : Held) (account : Account) (ended : Bool) : Type 0 where
+  pub countable : account.failures < 2 ^ 64 - 1
   pub known : KnowsEnd held.beyond ended
 
 -- A window went on, or stayed: its device has still to give all but the bytes taken, and failed so often. The window is
 -- as every window is, and knows if the device has ended.
-pub record WentOn (old new : Held) (told told' : Option (List ℕ)) (counted failures : ℕ) (ended : Bool) : Type 0 where
+pub record WentOn (old new : Held) (told told' : Option (List ℕ)) (counted account : Account) (ended : Bool)
+    : Type 0 where
   pub took : Takes old.taken new.taken told told'
   pub forward : old.place ≤ new.place
   pub near : new.taken ≤ new.place + window_bytes
   pub limited : new.taken ≤ most_bytes
   pub within : new.place ≤ source_bytes
-  pub count : failures ≡ counted
+  pub count : account ≡ counted
   pub known : KnowsEnd new.beyond ended
 
 -- what a call leaves that may ask the device, which fails once more if the call fails
-abbrev pub Asks : {T : Type 0} → Result T DeviceFault → Held → Held → Option (List ℕ) → Option (List ℕ) → ℕ → ℕ → Bool
-    → Type 0
+abbrev pub Asks : {T : Type 0} → Result T DeviceFault → Held → Held → Option (List ℕ) → Option (List ℕ)
+    → Account → Account → Bool → Type 0
 Asks (Ok x) old new told told' before after ended = WentOn old new told told' before after ended
-Asks (Err e) old new told told' before after ended = WentOn old new told told' (before + 1) after ended
+Asks (Err e) old new told told' before after ended = WentOn old new told told' (failed_again before) after ended
 
 -- a window passed bytes at hand, and asked nothing
 pub record Passes (old new : Held) : Type 0 where

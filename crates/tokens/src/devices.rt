@@ -1,7 +1,7 @@
 //! Devices that give bytes.
 
 ghost use Rattle.std.specs.Prelude.{◌≡◌, ℕ, ◌<◌, Bool, List, Option, length};
-ghost use Rattle.tokens.specs.Feed.{Counts, MayRead, Reads, gives_none};
+ghost use Rattle.tokens.specs.Feed.{Account, Counts, MayRead, Reads, gives_none};
 
 /// A read that failed.
 #[derive(Clone, Copy, Debug, PartialEq, Eq)]
@@ -9,8 +9,8 @@ pub struct DeviceFault;
 
 /// A device that gives bytes, in pieces of any size.
 pub trait Feed {
-    /// How often a read has failed.
-    ghost failures: { Self → ℕ };
+    /// Which device it is, by a number that it keeps, and how often a read has failed.
+    ghost account: { Self → Account };
 
     /// The bytes still to come, where the device tells them.
     ghost to_come: { Self → Option (List ℕ) };
@@ -22,8 +22,8 @@ pub trait Feed {
     /// After an `Err` no byte was taken.
     fn fill(&mut self, buf: &mut [u8]) -> Result<usize, DeviceFault>
         requires nonempty { 0 < length buf.old }
-        requires ready { MayRead (failures self.old) (ended self.old) }
+        requires ready { MayRead (account self.old) (ended self.old) }
         ensures reads { Reads result (length buf.old) (to_come self.old) (to_come self.new) buf.new }
-        ensures count { Counts result (failures self.old) (failures self.new) }
+        ensures count { Counts result (account self.old) (account self.new) }
         ensures ended { ended self.new ≡ gives_none result };
 }

@@ -43,14 +43,14 @@ impl Lexer {
         here: &mut LocatedToken,
         feed: &mut F,
     ) -> Result<(), DeviceFault>
-        requires ready { MayAsk self.old.window (F.failures feed.old) (F.ended feed.old) }
+        requires ready { MayAsk self.old.window (F.account feed.old) (F.ended feed.old) }
         ensures tokens { OnOk result (to_read (followed here.new) self.new.window (F.to_come feed.new)
             ≡ to_read located_tokens self.old.window (F.to_come feed.old)) }
         ensures read { OnOk result (IsRead here.new self.old.window self.new.window) }
         ensures stopped { OnErr result (Fails located_tokens self.old.window self.new.window
             (F.to_come feed.old) here.old here.new) }
         ensures kept { Asks result self.old.window self.new.window (F.to_come feed.old) (F.to_come feed.new)
-            (F.failures feed.old) (F.failures feed.new) (F.ended feed.new) }
+            (F.account feed.old) (F.account feed.new) (F.ended feed.new) }
     {
         match self.window.first() {
             Some(b) if !is_blank(b) && b != b'/' => self.token(b, here, feed),
@@ -65,14 +65,14 @@ impl Lexer {
         here: &mut LocatedToken,
         feed: &mut F,
     ) -> Result<(), DeviceFault>
-        requires ready { MayAsk self.old.window (F.failures feed.old) (F.ended feed.old) }
+        requires ready { MayAsk self.old.window (F.account feed.old) (F.ended feed.old) }
         ensures tokens { OnOk result (to_read (followed here.new) self.new.window (F.to_come feed.new)
             ≡ to_read located_tokens self.old.window (F.to_come feed.old)) }
         ensures read { OnOk result (IsRead here.new self.old.window self.new.window) }
         ensures stopped { OnErr result (Fails located_tokens self.old.window self.new.window
             (F.to_come feed.old) here.old here.new) }
         ensures kept { Asks result self.old.window self.new.window (F.to_come feed.old) (F.to_come feed.new)
-            (F.failures feed.old) (F.failures feed.new) (F.ended feed.new) }
+            (F.account feed.old) (F.account feed.new) (F.ended feed.new) }
     {
         match self.window.first() {
             Some(b) if is_blank(b) => self.read_behind(b, here, feed),
@@ -88,7 +88,7 @@ impl Lexer {
         here: &mut LocatedToken,
         feed: &mut F,
     ) -> Result<(), DeviceFault>
-        requires ready { MayAsk self.old.window (F.failures feed.old) (F.ended feed.old) }
+        requires ready { MayAsk self.old.window (F.account feed.old) (F.ended feed.old) }
         requires begins { BeginsBlank blank self.old.window }
         ensures tokens { OnOk result (to_read (followed here.new) self.new.window (F.to_come feed.new)
             ≡ to_read located_tokens self.old.window (F.to_come feed.old)) }
@@ -96,7 +96,7 @@ impl Lexer {
         ensures stopped { OnErr result (Fails located_tokens self.old.window self.new.window
             (F.to_come feed.old) here.old here.new) }
         ensures kept { Asks result self.old.window self.new.window (F.to_come feed.old) (F.to_come feed.new)
-            (F.failures feed.old) (F.failures feed.new) (F.ended feed.new) }
+            (F.account feed.old) (F.account feed.new) (F.ended feed.new) }
     {
         self.window.pass();
         match self.window.first() {
@@ -108,14 +108,14 @@ impl Lexer {
     /// Does the same after blanks and comments.
     #[inline(never)]
     fn read_on<F: Feed>(&mut self, here: &mut LocatedToken, feed: &mut F) -> Result<(), DeviceFault>
-        requires ready { MayAsk self.old.window (F.failures feed.old) (F.ended feed.old) }
+        requires ready { MayAsk self.old.window (F.account feed.old) (F.ended feed.old) }
         ensures tokens { OnOk result (to_read (followed here.new) self.new.window (F.to_come feed.new)
             ≡ to_read located_tokens self.old.window (F.to_come feed.old)) }
         ensures read { OnOk result (IsRead here.new self.old.window self.new.window) }
         ensures stopped { OnErr result (Fails located_tokens self.old.window self.new.window
             (F.to_come feed.old) here.old here.new) }
         ensures kept { Asks result self.old.window self.new.window (F.to_come feed.old) (F.to_come feed.new)
-            (F.failures feed.old) (F.failures feed.new) (F.ended feed.new) }
+            (F.account feed.old) (F.account feed.new) (F.ended feed.new) }
     {
         loop {
             match self.skip_blanks(feed)? {
@@ -136,7 +136,7 @@ impl Lexer {
     /// Skips blanks. Answers the byte after them, or `None` at the end.
     #[inline(always)]
     fn skip_blanks<F: Feed>(&mut self, feed: &mut F) -> Result<Option<u8>, DeviceFault>
-        requires ready { MayAsk self.old.window (F.failures feed.old) (F.ended feed.old) }
+        requires ready { MayAsk self.old.window (F.account feed.old) (F.ended feed.old) }
         ensures tokens { OnOk result (to_read located_tokens self.new.window (F.to_come feed.new)
             ≡ to_read located_tokens self.old.window (F.to_come feed.old)) }
         ensures next { IfOk result (λ first. IsNext first self.new.window) }
@@ -144,7 +144,7 @@ impl Lexer {
         ensures stopped { OnErr result (StopsWithin located_tokens self.old.window
             self.new.window (F.to_come feed.old)) }
         ensures kept { Asks result self.old.window self.new.window (F.to_come feed.old) (F.to_come feed.new)
-            (F.failures feed.old) (F.failures feed.new) (F.ended feed.new) }
+            (F.account feed.old) (F.account feed.new) (F.ended feed.new) }
     {
         loop {
             self.window.pass_blanks();
@@ -158,7 +158,7 @@ impl Lexer {
 
     /// Skips a comment at a `/`, or puts the token that begins there here. Answers whether there was one.
     fn slash<F: Feed>(&mut self, here: &mut LocatedToken, feed: &mut F) -> Result<bool, DeviceFault>
-        requires ready { MayAsk self.old.window (F.failures feed.old) (F.ended feed.old) }
+        requires ready { MayAsk self.old.window (F.account feed.old) (F.ended feed.old) }
         requires slash { slice_get self.old.window.at_hand 0 ≡ Some 47 }
         ensures past { IfOk result (λ found. Slashes found self.old.window
             self.new.window (F.to_come feed.old) (F.to_come feed.new)
@@ -167,7 +167,7 @@ impl Lexer {
         ensures stopped { OnErr result (Fails located_tokens self.old.window self.new.window
             (F.to_come feed.old) here.old here.new) }
         ensures kept { Asks result self.old.window self.new.window (F.to_come feed.old) (F.to_come feed.new)
-            (F.failures feed.old) (F.failures feed.new) (F.ended feed.new) }
+            (F.account feed.old) (F.account feed.new) (F.ended feed.new) }
     {
         let line = self.window.line();
         self.window.pass();
@@ -186,7 +186,7 @@ impl Lexer {
 
     /// Goes past the `*/` of a comment that it is inside. Answers `false` if there is none.
     fn skip_comment<F: Feed>(&mut self, feed: &mut F) -> Result<bool, DeviceFault>
-        requires ready { MayAsk self.old.window (F.failures feed.old) (F.ended feed.old) }
+        requires ready { MayAsk self.old.window (F.account feed.old) (F.ended feed.old) }
         ensures tokens { IfOk result (λ closed. (line : ℕ)
             → to_read (after_comment closed line) self.new.window (F.to_come feed.new)
             ≡ to_read (in_comment line) self.old.window (F.to_come feed.old)) }
@@ -194,7 +194,7 @@ impl Lexer {
         ensures stopped { OnErr result ((line : ℕ)
             → StopsWithin (in_comment line) self.old.window self.new.window (F.to_come feed.old)) }
         ensures kept { Asks result self.old.window self.new.window (F.to_come feed.old) (F.to_come feed.new)
-            (F.failures feed.old) (F.failures feed.new) (F.ended feed.new) }
+            (F.account feed.old) (F.account feed.new) (F.ended feed.new) }
     {
         loop {
             self.window.pass_plain();
@@ -220,7 +220,7 @@ impl Lexer {
         here: &mut LocatedToken,
         feed: &mut F,
     ) -> Result<(), DeviceFault>
-        requires ready { MayAsk self.old.window (F.failures feed.old) (F.ended feed.old) }
+        requires ready { MayAsk self.old.window (F.account feed.old) (F.ended feed.old) }
         requires begins { BeginsToken first self.old.window }
         ensures tokens { OnOk result (to_read (followed here.new) self.new.window (F.to_come feed.new)
             ≡ to_read located_tokens self.old.window (F.to_come feed.old)) }
@@ -228,7 +228,7 @@ impl Lexer {
         ensures stopped { OnErr result (Fails located_tokens self.old.window self.new.window
             (F.to_come feed.old) here.old here.new) }
         ensures kept { Asks result self.old.window self.new.window (F.to_come feed.old) (F.to_come feed.new)
-            (F.failures feed.old) (F.failures feed.new) (F.ended feed.new) }
+            (F.account feed.old) (F.account feed.new) (F.ended feed.new) }
     {
         self.window.pass();
         if is_letter(first) {
@@ -258,14 +258,14 @@ impl Lexer {
         feed: &mut F,
         first: u8,
     ) -> Result<(), DeviceFault>
-        requires ready { MayAsk self.old.window (F.failures feed.old) (F.ended feed.old) }
+        requires ready { MayAsk self.old.window (F.account feed.old) (F.ended feed.old) }
         ensures tokens { OnOk result (to_read (followed here.new) self.new.window (F.to_come feed.new)
             ≡ to_read (in_name (first ∷ []) false) self.old.window (F.to_come feed.old)) }
         ensures found { OnOk result (IsFound here.new self.new.window) }
         ensures stopped { OnErr result (Fails (in_name (first ∷ []) false) self.old.window self.new.window
             (F.to_come feed.old) here.old here.new) }
         ensures kept { Asks result self.old.window self.new.window (F.to_come feed.old) (F.to_come feed.new)
-            (F.failures feed.old) (F.failures feed.new) (F.ended feed.new) }
+            (F.account feed.old) (F.account feed.new) (F.ended feed.new) }
     {
         match self.window.first() {
             Some(b) if !is_name_byte(b) => {
@@ -284,14 +284,14 @@ impl Lexer {
         feed: &mut F,
         first: u8,
     ) -> Result<(), DeviceFault>
-        requires ready { MayAsk self.old.window (F.failures feed.old) (F.ended feed.old) }
+        requires ready { MayAsk self.old.window (F.account feed.old) (F.ended feed.old) }
         ensures tokens { OnOk result (to_read (followed here.new) self.new.window (F.to_come feed.new)
             ≡ to_read (in_name (first ∷ []) false) self.old.window (F.to_come feed.old)) }
         ensures found { OnOk result (IsFound here.new self.new.window) }
         ensures stopped { OnErr result (Fails (in_name (first ∷ []) false) self.old.window self.new.window
             (F.to_come feed.old) here.old here.new) }
         ensures kept { Asks result self.old.window self.new.window (F.to_come feed.old) (F.to_come feed.new)
-            (F.failures feed.old) (F.failures feed.new) (F.ended feed.new) }
+            (F.account feed.old) (F.account feed.new) (F.ended feed.new) }
     {
         let mut name = Name::new();
         if name.begin(first, self.window.at_hand()) {
@@ -310,14 +310,14 @@ impl Lexer {
         feed: &mut F,
         first: u8,
     ) -> Result<(), DeviceFault>
-        requires ready { MayAsk self.old.window (F.failures feed.old) (F.ended feed.old) }
+        requires ready { MayAsk self.old.window (F.account feed.old) (F.ended feed.old) }
         ensures tokens { OnOk result (to_read (followed here.new) self.new.window (F.to_come feed.new)
             ≡ to_read (in_name (first ∷ []) false) self.old.window (F.to_come feed.old)) }
         ensures found { OnOk result (IsFound here.new self.new.window) }
         ensures stopped { OnErr result (Fails (in_name (first ∷ []) false) self.old.window self.new.window
             (F.to_come feed.old) here.old here.new) }
         ensures kept { Asks result self.old.window self.new.window (F.to_come feed.old) (F.to_come feed.new)
-            (F.failures feed.old) (F.failures feed.new) (F.ended feed.new) }
+            (F.account feed.old) (F.account feed.new) (F.ended feed.new) }
     {
         let mut name = Name::new();
         name.push(first);
@@ -348,7 +348,7 @@ impl Lexer {
         feed: &mut F,
         first: u8,
     ) -> Result<(), DeviceFault>
-        requires ready { MayAsk self.old.window (F.failures feed.old) (F.ended feed.old) }
+        requires ready { MayAsk self.old.window (F.account feed.old) (F.ended feed.old) }
         requires digit { is_digit first ≡ true }
         ensures tokens { OnOk result (to_read (followed here.new) self.new.window (F.to_come feed.new)
             ≡ to_read (in_constant (first - 48)) self.old.window (F.to_come feed.old)) }
@@ -356,7 +356,7 @@ impl Lexer {
         ensures stopped { OnErr result (Fails (in_constant (first - 48)) self.old.window self.new.window
             (F.to_come feed.old) here.old here.new) }
         ensures kept { Asks result self.old.window self.new.window (F.to_come feed.old) (F.to_come feed.new)
-            (F.failures feed.old) (F.failures feed.new) (F.ended feed.new) }
+            (F.account feed.old) (F.account feed.new) (F.ended feed.new) }
     {
         if let Some((value, count)) = constant_begun(first, self.window.at_hand()) {
             self.window.pass_in_line(count);
@@ -374,7 +374,7 @@ impl Lexer {
         feed: &mut F,
         first: u8,
     ) -> Result<(), DeviceFault>
-        requires ready { MayAsk self.old.window (F.failures feed.old) (F.ended feed.old) }
+        requires ready { MayAsk self.old.window (F.account feed.old) (F.ended feed.old) }
         requires digit { is_digit first ≡ true }
         ensures tokens { OnOk result (to_read (followed here.new) self.new.window (F.to_come feed.new)
             ≡ to_read (in_constant (first - 48)) self.old.window (F.to_come feed.old)) }
@@ -382,7 +382,7 @@ impl Lexer {
         ensures stopped { OnErr result (Fails (in_constant (first - 48)) self.old.window self.new.window
             (F.to_come feed.old) here.old here.new) }
         ensures kept { Asks result self.old.window self.new.window (F.to_come feed.old) (F.to_come feed.new)
-            (F.failures feed.old) (F.failures feed.new) (F.ended feed.new) }
+            (F.account feed.old) (F.account feed.new) (F.ended feed.new) }
     {
         let mut value = u64::from(first - b'0');
         loop {
@@ -407,14 +407,14 @@ impl Lexer {
         feed: &mut F,
         mut punctuator: Punctuator,
     ) -> Result<(), DeviceFault>
-        requires ready { MayAsk self.old.window (F.failures feed.old) (F.ended feed.old) }
+        requires ready { MayAsk self.old.window (F.account feed.old) (F.ended feed.old) }
         ensures tokens { OnOk result (to_read (followed here.new) self.new.window (F.to_come feed.new)
             ≡ to_read (in_punctuator punctuator) self.old.window (F.to_come feed.old)) }
         ensures found { OnOk result (IsFound here.new self.new.window) }
         ensures stopped { OnErr result (Fails (in_punctuator punctuator) self.old.window self.new.window
             (F.to_come feed.old) here.old here.new) }
         ensures kept { Asks result self.old.window self.new.window (F.to_come feed.old) (F.to_come feed.new)
-            (F.failures feed.old) (F.failures feed.new) (F.ended feed.new) }
+            (F.account feed.old) (F.account feed.new) (F.ended feed.new) }
     {
         loop {
             let next = self.window.peek(feed)?;

@@ -245,7 +245,7 @@ impl Many {
 }
 
 impl Feed for Many {
-    ghost failures = { λ _. 0 };
+    ghost account = { λ _. record { device = 0; failures = 0 } };
 
     ghost to_come = { λ _. None };
 

@@ -2,7 +2,8 @@
 
 ghost use Rattle.std.specs.Prelude.{◌≡◌, ◌+◌, ◌<◌, ◌≤◌, [], ◌==◌, length, take, slice_get, OnOk, OnErr, IfOk};
 ghost use Rattle.std.specs.List.{count_by};
-ghost use Rattle.tokens.specs.Limits.{source_bytes, window_bytes};
+ghost use Rattle.tokens.specs.Limits.{source_bytes};
+ghost use Rattle.tokens.specs.ReadLimits.{window_bytes};
 ghost use Rattle.tokens.specs.Source.{source};
 ghost use Rattle.tokens.specs.Window.{Asks, Cuts, IsAtSamePlace, IsBounded, IsNext, MayAsk, Passes, Shows};
 ghost use Rattle.tokens.specs.Window.{behind, behind_blanks, behind_first, behind_plain, seen, untouched};
@@ -94,13 +95,13 @@ impl Window {
     /// Returns the next byte, or `None` at the end. The device is asked only if no byte is at hand.
     #[inline(always)]
     pub fn peek<F: Feed>(&mut self, feed: &mut F) -> Result<Option<u8>, DeviceFault>
-        requires ready { MayAsk self.old (F.failures feed.old) (F.ended feed.old) }
+        requires ready { MayAsk self.old (F.account feed.old) (F.ended feed.old) }
         ensures next { IfOk result (λ first. IsNext first self.new) }
         ensures seen { OnOk result (seen self.new (F.to_come feed.new) ≡ seen self.old (F.to_come feed.old)) }
         ensures place { IsAtSamePlace self.old self.new }
         ensures failed { OnErr result (self.new.taken ≡ self.new.place) }
         ensures kept { Asks result self.old self.new (F.to_come feed.old) (F.to_come feed.new)
-            (F.failures feed.old) (F.failures feed.new) (F.ended feed.new) }
+            (F.account feed.old) (F.account feed.new) (F.ended feed.new) }
     {
         if self.next < self.filled {
             return Ok(Some(self.bytes[self.next]));
@@ -184,12 +185,12 @@ impl Window {
     #[inline(never)]
     fn refill<F: Feed>(&mut self, feed: &mut F) -> Result<(), DeviceFault>
         requires empty { self.old.at_hand ≡ [] }
-        requires ready { MayAsk self.old (F.failures feed.old) (F.ended feed.old) }
+        requires ready { MayAsk self.old (F.account feed.old) (F.ended feed.old) }
         ensures shows { OnOk result (Shows self.old self.new (F.to_come feed.old) (F.to_come feed.new)) }
         ensures place { IsAtSamePlace self.old self.new }
         ensures failed { OnErr result (self.new.taken ≡ self.new.place) }
         ensures kept { Asks result self.old self.new (F.to_come feed.old) (F.to_come feed.new)
-            (F.failures feed.old) (F.failures feed.new) (F.ended feed.new) }
+            (F.account feed.old) (F.account feed.new) (F.ended feed.new) }
     {
         if self.beyond != Beyond::Unread {
             return Ok(());

@@ -66,7 +66,7 @@ fn compile<F: Feed>(
     profile: Profile,
     feed: &mut F,
 ) -> Result<Result<Program, Diagnostic>, DeviceFault>
-    requires count { F.failures feed.old < 2 ^ 64 - 1 }
+    requires count { (F.account feed.old).failures < 2 ^ 64 - 1 }
     requires not_ended { F.ended feed.old ≡ false }
 {
     let mut maker = Maker::new(profile);

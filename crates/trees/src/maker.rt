@@ -1,6 +1,6 @@
 //! The builder that makes trees.
 
-ghost use Rattle.std.specs.Prelude.{◌≡◌, ◌+◌, [], min, nat_le, true};
+ghost use Rattle.std.specs.Prelude.{◌≡◌, ◌+◌, [], min, nat_le, true, ⊤};
 ghost use Rattle.grammar.specs.Actions.{ApplyBinop, LogicMiddle, instructions};
 ghost use Rattle.trees.specs.Standing.{Stands};
 
@@ -100,7 +100,7 @@ fn end_length(profile: Profile, op: Op) -> u16
 impl Build for TreeMaker {
     ghost stands = { λ m p acts. Stands m p acts };
 
-    ghost allocates = { true };
+    ghost denied = { ⊤ };
 
     fn constant(&mut self, value: i32) -> Result<(), BuildFault> {
         if self.passes(1) {

@@ -24,7 +24,7 @@ impl TreeMaker {
         requires told_nothing { StandsForNone (B.stands build.old) }
         ensures ok { OnOk result (AppendsThose self.now (B.stands build.old) (B.stands build.new)) }
         ensures full { IsErrOf result BuildFault.Full → IsOverWithThose self.now (B.stands build.old) }
-        ensures memory { IsErrOf result BuildFault.Memory → IsTrue B.allocates }
+        ensures memory { IsErrOf result BuildFault.Memory → B.denied }
     {
         for function in self.functions() {
             tell_function(function, build)?;
@@ -40,7 +40,7 @@ fn tell_function<B: Build>(function: &Function, build: &mut B) -> Result<(), Bui
         (function_actions function.now.number (function_tree function.now))) }
     ensures full { IsErrOf result BuildFault.Full
         → IsOverWith (B.stands build.old) (function_actions function.now.number (function_tree function.now)) }
-    ensures memory { IsErrOf result BuildFault.Memory → IsTrue B.allocates }
+    ensures memory { IsErrOf result BuildFault.Memory → B.denied }
 {
     build.begin_function(function.number, function.parameters)?;
     tell_statements(&function.body, build)?;
@@ -53,7 +53,7 @@ fn tell_function<B: Build>(function: &Function, build: &mut B) -> Result<(), Bui
 fn tell_last_return<B: Build>(build: &mut B) -> Result<(), BuildFault>
     requires { MayFollowAll (B.stands build.old) last_return }
     ensures ok { OnOk result (AppendsAll (B.stands build.old) (B.stands build.new) last_return) }
-    ensures memory { Refuses result B.allocates }
+    ensures memory { Refuses result B.denied }
 {
     build.constant(0)?;
     build.give_back()
@@ -65,7 +65,7 @@ fn tell_statements<B: Build>(statements: &[Statement], build: &mut B) -> Result<
     requires { MayFollowAll (B.stands build.old) (body_actions (body_tree statements.now)) }
     ensures ok { OnOk result (AppendsAll (B.stands build.old) (B.stands build.new)
         (body_actions (body_tree statements.now))) }
-    ensures memory { Refuses result B.allocates }
+    ensures memory { Refuses result B.denied }
 {
     for statement in statements {
         tell_statement(statement, build)?;
@@ -78,7 +78,7 @@ fn tell_statements<B: Build>(statements: &[Statement], build: &mut B) -> Result<
 fn tell_statement<B: Build>(statement: &Statement, build: &mut B) -> Result<(), BuildFault>
     requires { MayFollowAll (B.stands build.old) (statement_actions statement.now) }
     ensures ok { OnOk result (AppendsAll (B.stands build.old) (B.stands build.new) (statement_actions statement.now)) }
-    ensures memory { Refuses result B.allocates }
+    ensures memory { Refuses result B.denied }
 {
     match statement {
         Statement::ExpressionStatement(expr) => tell_alone(expr, build),
@@ -108,7 +108,7 @@ fn tell_alone<B: Build>(expr: &Expr, build: &mut B) -> Result<(), BuildFault>
     requires { MayFollowAll (B.stands build.old) (expr_actions (expr_tree expr.now) ++ Chop ∷ []) }
     ensures ok { OnOk result (AppendsAll (B.stands build.old) (B.stands build.new)
         (expr_actions (expr_tree expr.now) ++ Chop ∷ [])) }
-    ensures memory { Refuses result B.allocates }
+    ensures memory { Refuses result B.denied }
 {
     tell_expr(expr, build)?;
     build.chop()
@@ -119,7 +119,7 @@ fn tell_test<B: Build>(condition: &Expr, build: &mut B) -> Result<(), BuildFault
     requires { MayFollowAll (B.stands build.old) (expr_actions (expr_tree condition.now) ++ IfTest ∷ []) }
     ensures ok { OnOk result (AppendsAll (B.stands build.old) (B.stands build.new)
         (expr_actions (expr_tree condition.now) ++ IfTest ∷ [])) }
-    ensures memory { Refuses result B.allocates }
+    ensures memory { Refuses result B.denied }
 {
     tell_expr(condition, build)?;
     build.if_test()
@@ -131,7 +131,7 @@ fn tell_loop_test<B: Build>(condition: &Expr, build: &mut B) -> Result<(), Build
         (BeginWhile ∷ (expr_actions (expr_tree condition.now) ++ WhileTest ∷ [])) }
     ensures ok { OnOk result (AppendsAll (B.stands build.old) (B.stands build.new)
         (BeginWhile ∷ (expr_actions (expr_tree condition.now) ++ WhileTest ∷ []))) }
-    ensures memory { Refuses result B.allocates }
+    ensures memory { Refuses result B.denied }
 {
     build.begin_while()?;
     tell_expr(condition, build)?;
@@ -143,7 +143,7 @@ fn tell_return<B: Build>(expr: &Expr, build: &mut B) -> Result<(), BuildFault>
     requires { MayFollowAll (B.stands build.old) (expr_actions (expr_tree expr.now) ++ GiveBack ∷ []) }
     ensures ok { OnOk result (AppendsAll (B.stands build.old) (B.stands build.new)
         (expr_actions (expr_tree expr.now) ++ GiveBack ∷ [])) }
-    ensures memory { Refuses result B.allocates }
+    ensures memory { Refuses result B.denied }
 {
     tell_expr(expr, build)?;
     build.give_back()
@@ -155,7 +155,7 @@ fn tell_expr<B: Build>(expr: &Expr, build: &mut B) -> Result<(), BuildFault>
     requires { MayFollowAll (B.stands build.old) (expr_actions (expr_tree expr.now)) }
     ensures ok { OnOk result (AppendsAll (B.stands build.old) (B.stands build.new)
         (expr_actions (expr_tree expr.now))) }
-    ensures memory { Refuses result B.allocates }
+    ensures memory { Refuses result B.denied }
 {
     match expr {
         Expr::Constant(value) => build.constant(*value),
@@ -185,7 +185,7 @@ fn tell_arguments<B: Build>(exprs: &[Expr], build: &mut B) -> Result<(), BuildFa
     requires { MayFollowAll (B.stands build.old) (args_actions (arguments (map expr_tree exprs.now))) }
     ensures ok { OnOk result (AppendsAll (B.stands build.old) (B.stands build.new)
         (args_actions (arguments (map expr_tree exprs.now)))) }
-    ensures memory { Refuses result B.allocates }
+    ensures memory { Refuses result B.denied }
 {
     for expr in exprs {
         tell_expr(expr, build)?;
@@ -197,7 +197,7 @@ fn tell_arguments<B: Build>(exprs: &[Expr], build: &mut B) -> Result<(), BuildFa
 fn tell_middle<B: Build>(op: Op, build: &mut B) -> Result<(), BuildFault>
     requires { MayFollowAll (B.stands build.old) (middle op) }
     ensures ok { OnOk result (AppendsAll (B.stands build.old) (B.stands build.new) (middle op)) }
-    ensures memory { Refuses result B.allocates }
+    ensures memory { Refuses result B.denied }
 {
     if !op.is_logic() {
         return Ok(());
@@ -211,7 +211,7 @@ fn tell_step<B: Build>(op: StoreOp, var: Var, build: &mut B) -> Result<(), Build
         (FetchVariable var ∷ PushConstant (pos 1) ∷ StoreVariable var op ∷ Chop ∷ []) }
     ensures ok { OnOk result (AppendsAll (B.stands build.old) (B.stands build.new)
         (FetchVariable var ∷ PushConstant (pos 1) ∷ StoreVariable var op ∷ Chop ∷ [])) }
-    ensures memory { Refuses result B.allocates }
+    ensures memory { Refuses result B.denied }
 {
     build.fetch(var)?;
     build.constant(1)?;

@@ -6,5 +6,5 @@ use Rattle.command.proofs.running.open_files.Given as goal
 abbrev pub invariant-loop-word : goal.invariant-loop-word
 invariant-loop-word g l =
     (map g.D.File.Feed.to_come l.feeds.items ≡ map (λ word. g.D.Opener.holds l.disk word.now) (take l.word-index l.words))
-    × All (λ feed. g.D.File.Feed.failures feed ≡ 0) l.feeds.items
+    × All (λ feed. g.D.File.Feed.account feed ≡ 0) l.feeds.items
     × All (λ feed. g.D.File.Feed.ended feed ≡ false) l.feeds.items

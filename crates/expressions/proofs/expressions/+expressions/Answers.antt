@@ -6,7 +6,8 @@ use Rattle.tokens.specs.declared.located_tokens.LocatedToken.{LocatedToken}
 use Rattle.tokens.specs.declared.located_tokens.Punctuator.TheVariants as punctuator
 use Rattle.grammar.specs.declared.diagnostics.ParseFault.TheVariants as refusal
 use Rattle.grammar.specs.Grammar.{Level, Part, Unary, is_fault, is_punctuator}
-use Rattle.grammar.specs.Operators.{operator_from, operator_of}
+use Rattle.grammar.specs.Operators.{operator_of}
+use Rattle.grammar.specs.Climbing.{operator_from}
 use Rattle.parsing.specs.Room.{HasLeft, HasRoom, room}
 use Rattle.parsing.proofs.Advances.{kept_then, on, on_then}
 use Rattle.parsing.proofs.Growing.{grown, grown_behind, grown_nothing, refuses, unknown}
@@ -327,7 +328,7 @@ primary-returns-in_default-2 g t c =
     record {
       parses = rw c.misfit.ensures (primary_misfits c.args.parser.now.place _ c.requires.ready.near c.args.depth c.requires.ready.sound none);
       grown = λ device. grown_nothing _;
-      kept = rw c.misfit.ensures (record { device = refl; failures = refl; took = record { rest = λ total h. h } });
+      kept = rw c.misfit.ensures (record { device = refl; account = refl; took = record { rest = λ total h. h } });
     }
 
 pub from_punctuator-returns-in_err-primary-clause-parses : goal.from_punctuator-returns-in_err-primary-clause-parses

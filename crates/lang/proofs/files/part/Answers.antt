@@ -22,7 +22,7 @@ returns-in_default g c =
       reads = rw c.misfit.ensures (source_misfits (g.B.Build.stands c.args.build.now) _ _ c.requires.ready.near sound c.requires.more other
           (λ name same. c.in_default.not-Name name (ap (λ (l : LocatedToken). l.token) c.peek-else-is_word.ensures.value ∙ same)));
       closed = tt;
-      kept = rw c.misfit.ensures (record { device = refl; failures = refl; took = record { rest = λ total h. h } });
+      kept = rw c.misfit.ensures (record { device = refl; account = refl; took = record { rest = λ total h. h } });
     }
 
 pub returns-in_ok-function-clause-reads : goal.returns-in_ok-function-clause-reads

@@ -1,4 +1,4 @@
-use Rattle.std.proofs.Common.{◌≡◌, ℕ, ◌+◌, [], ◌∷◌, true, false, ap}
+use Rattle.std.proofs.Common.{◌≡◌, ℕ, ◌+◌, [], ◌∷◌, true, false, ap, ⊥}
 use Rattle.std.proofs.lemmas.Result.{err_from_is_err_and}
 use Rattle.tokens.specs.declared.located_tokens.Punctuator.TheVariants as punctuator
 use Rattle.grammar.specs.Derivation.{ABody}
@@ -23,15 +23,15 @@ pub returns-in_err-advance-clause-parses : goal.returns-in_err-advance-clause-pa
 returns-in_err-advance-clause-parses g c =
     let is : is_punctuator punctuator.OpenCurly c.args.parser.now.place.position.reading.next.token ≡ true = cc in
     let p = err_from_is_err_and c.from_residual.result c.from_residual.ensures.1 in
-    rw (p.1, p.2) (refused_map _ _ _ false _ c.in_err-advance.field-0.0 (brace_stops c.args.parser.now.place.position.reading c.args.parser.now.place.position.scope _ is) (λ never. absurd (cc)) c.in_err-advance.ensures.consumes)
+    rw (p.1, p.2) (refused_map _ _ _ ⊥ _ c.in_err-advance.field-0.0 (brace_stops c.args.parser.now.place.position.reading c.args.parser.now.place.position.scope _ is) (λ never. absurd never) c.in_err-advance.ensures.consumes)
 
 pub returns-in_err-declarations-clause-parses : goal.returns-in_err-declarations-clause-parses
 returns-in_err-declarations-clause-parses g c =
     let is : is_punctuator punctuator.OpenCurly c.args.parser.now.place.position.reading.next.token ≡ true = cc in
     let p = err_from_is_err_and c.from_residual-in_err-declarations.result c.from_residual-in_err-declarations.ensures.1 in
     let opened = block_opened c.args.parser.now.place.position.reading c.args.parser.now.place.position.scope _ _ is c.in_ok-advance.ensures.kept.ready.sound c.in_ok-advance.ensures.consumes in
-    rw (p.1, p.2) (exit _ 0 1 (Part FunctionBlock ∷ []) (Part Declarations ∷ []) (Part Statements ∷ at_brace) [] [] (ABody Done ∷ []) _ _ false _ c.in_err-declarations.field-0.0 opened (λ stack same. ap (λ n. n + 1) same) (λ never. absurd (cc))
-    (refused_map _ (λ d. (depth : ℕ) → FailsAt depth (Part Declarations ∷ []) [] c.advance.new.self.place d) (FailsAt 1 (Part Declarations ∷ []) [] c.advance.new.self.place) false false c.in_err-declarations.field-0.0 (λ d fails. fails 1) (λ same. same) c.in_err-declarations.ensures.matches))
+    rw (p.1, p.2) (exit _ 0 1 (Part FunctionBlock ∷ []) (Part Declarations ∷ []) (Part Statements ∷ at_brace) [] [] (ABody Done ∷ []) _ _ ⊥ _ c.in_err-declarations.field-0.0 opened (λ stack same. ap (λ n. n + 1) same) (λ never. absurd never)
+    (refused_map _ (λ d. (depth : ℕ) → FailsAt depth (Part Declarations ∷ []) [] c.advance.new.self.place d) (FailsAt 1 (Part Declarations ∷ []) [] c.advance.new.self.place) ⊥ ⊥ c.in_err-declarations.field-0.0 (λ d fails. fails 1) (λ same. same) c.in_err-declarations.ensures.matches))
 
 pub returns-in_err-statements-clause-parses : goal.returns-in_err-statements-clause-parses
 returns-in_err-statements-clause-parses g c =

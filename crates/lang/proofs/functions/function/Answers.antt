@@ -1,4 +1,4 @@
-use Rattle.std.proofs.Common.{◌≡◌, ℕ, [], ◌∷◌, false, sym, ◌∙◌, arith}
+use Rattle.std.proofs.Common.{◌≡◌, ℕ, [], ◌∷◌, false, sym, ◌∙◌, arith, ⊥}
 use Rattle.std.proofs.lemmas.Result.{err_from_is_err_and}
 use Rattle.parsing.specs.Declarations.{heading_items}
 use Rattle.parsing.specs.Segment.{FailsAt}
@@ -21,7 +21,7 @@ pub returns-in_err-number-clause-reads : goal.returns-in_err-number-clause-reads
 returns-in_err-number-clause-reads g c =
     let p = err_from_is_err_and c.from_residual.result c.from_residual.ensures.1 in
     rw (p.1, p.2) (heading_refused _ (g.B.Build.stands c.args.build.now) _ c.in_err-number.field-0.0 _
-    (refused_map _ (λ d. (depth : ℕ) → FailsAt depth heading_items [] c.args.parser.now.place d) (FailsAt 0 heading_items [] c.args.parser.now.place) false false c.in_err-number.field-0.0 (λ d fails. fails 0) (λ same. same) c.in_err-number.ensures.matches))
+    (refused_map _ (λ d. (depth : ℕ) → FailsAt depth heading_items [] c.args.parser.now.place d) (FailsAt 0 heading_items [] c.args.parser.now.place) ⊥ ⊥ c.in_err-number.field-0.0 (λ d fails. fails 0) (λ same. same) c.in_err-number.ensures.matches))
 
 pub returns-in_err-begin_function-clause-reads : goal.returns-in_err-begin_function-clause-reads
 returns-in_err-begin_function-clause-reads g c =

@@ -12,7 +12,7 @@ pub compile_file-requires-clause-count : goal.compile_file-requires-clause-count
 compile_file-requires-clause-count g c =
     let within : c.loop-file.file < length c.args.feeds.now = omega arith in
     rw (feed_here c.args.feeds.now c.loop-file.feeds c.loop-file.file c.index-feeds-file.result c.loop-file.invariant.0)
-    (All-get_or (λ feed. g.F.Feed.failures feed < 2 ^ 64 - 1) c.args.feeds.now c.loop-file.file c.index-feeds-file.result within c.requires.feeds)
+    (All-get_or (λ feed. (g.F.Feed.account feed).failures < 2 ^ 64 - 1) c.args.feeds.now c.loop-file.file c.index-feeds-file.result within c.requires.feeds)
 
 pub compile_file-requires-clause-not_ended : goal.compile_file-requires-clause-not_ended
 compile_file-requires-clause-not_ended g c =
@@ -57,7 +57,7 @@ pub loop-file-preserved : goal.loop-file-preserved
 loop-file-preserved g c = (
   rest_more c.args.feeds.now c.loop-file.feeds c.loop-file.file c.compile_file.new.feed c.loop-file.invariant.0,
   rw (
-    none_failed g.F.Feed.failures c.loop-file.feeds c.loop-file.file c.index-feeds-file.result c.compile_file.new.feed c.in-Ok.ensures.count,
+    none_failed g.F.Feed.account c.loop-file.feeds c.loop-file.file c.index-feeds-file.result c.compile_file.new.feed c.in-Ok.ensures.count,
     (rw c.in-Ok-put.is at c.in-Ok.ensures.failures).0,
     (rw c.in-Ok-put.is at c.in-Ok.ensures.failures).1,
   ) c.loop-file.invariant.1,
@@ -93,13 +93,13 @@ loop-file-preserved g c = (
 pub returns-in-Err-clause-failures : goal.returns-in-Err-clause-failures
 returns-in-Err-clause-failures g c =
     let within : c.loop-file.file < length c.args.feeds.now = omega arith in (
-      rw (length-map c.args.feeds.now g.F.Feed.failures) within,
+      rw (length-map c.args.feeds.now g.F.Feed.account) within,
       rw (c.in-Err.ensures.quiet.0, c.in-Err.ensures.quiet.1)
-          (read_failed g.F.Feed.failures c.args.feeds.now c.loop-file.feeds c.loop-file.file _ _ _ _ c.index-feeds-file.result c.compile_file.new.feed
+          (read_failed g.F.Feed.account c.args.feeds.now c.loop-file.feeds c.loop-file.file _ _ _ _ c.index-feeds-file.result c.compile_file.new.feed
           c.loop-file.invariant.1 (same_length c.args.feeds.now c.loop-file.feeds c.loop-file.file within c.loop-file.invariant.0) c.in-Err.ensures.count),
     )
 
 pub returns-in-Err-put-clause-failures : goal.returns-in-Err-put-clause-failures
 returns-in-Err-put-clause-failures g c =
-    write_failed g.F.Feed.failures c.args.feeds.now c.loop-file.feeds c.loop-file.file _ _ _ _ _ _ c.index-feeds-file.result c.compile_file.new.feed
+    write_failed g.F.Feed.account c.args.feeds.now c.loop-file.feeds c.loop-file.file _ _ _ _ _ _ c.index-feeds-file.result c.compile_file.new.feed
     c.loop-file.invariant.1 c.in-Ok.ensures.count (rw c.in-Err-put.is at c.in-Ok.ensures.failures)

@@ -12,8 +12,8 @@ use Rattle.series.proofs.compiling.compile_into.Given as goal
 abbrev pub invariant-loop-file : goal.invariant-loop-file
 invariant-loop-file g l =
     (drop l.file l.feeds ≡ drop l.file l.fn.feeds)
-    × (failures (map g.F.Feed.failures l.feeds) (g.O.Sink.failures l.out) (g.E.Sink.failures l.err)
-    ≡ failures (map g.F.Feed.failures l.fn.feeds) (g.O.Sink.failures l.fn.out) (g.E.Sink.failures l.fn.err))
+    × (failures (map g.F.Feed.account l.feeds) (g.O.Sink.failures l.out) (g.E.Sink.failures l.err)
+    ≡ failures (map g.F.Feed.account l.fn.feeds) (g.O.Sink.failures l.fn.out) (g.E.Sink.failures l.fn.err))
     × ((length l.programs ≤ l.file) × (l.status ≡ Done → length l.programs ≡ l.file))
     × ((sources : List Source) → AreSources sources l.settings.words (map g.F.Feed.to_come l.fn.feeds)
     → Writes (taken (g.O.Sink.portions l.fn.out) (g.E.Sink.portions l.fn.err)) (taken (g.O.Sink.portions l.out) (g.E.Sink.portions l.err))

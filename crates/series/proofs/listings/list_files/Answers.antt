@@ -13,7 +13,7 @@ pub list_file-requires-clause-count : goal.list_file-requires-clause-count
 list_file-requires-clause-count g c =
     let within : c.loop-file.file < length c.args.feeds.now = omega arith in
     rw (feed_here c.args.feeds.now c.loop-file.feeds c.loop-file.file c.index-feeds-file.result c.loop-file.invariant.0)
-    (All-get_or (λ feed. g.F.Feed.failures feed < 2 ^ 64 - 1) c.args.feeds.now c.loop-file.file c.index-feeds-file.result within c.requires.feeds)
+    (All-get_or (λ feed. (g.F.Feed.account feed).failures < 2 ^ 64 - 1) c.args.feeds.now c.loop-file.file c.index-feeds-file.result within c.requires.feeds)
 
 pub list_file-requires-clause-not_ended : goal.list_file-requires-clause-not_ended
 list_file-requires-clause-not_ended g c =
@@ -58,7 +58,7 @@ pub loop-file-preserved : goal.loop-file-preserved
 loop-file-preserved g c = (
   rest_more c.args.feeds.now c.loop-file.feeds c.loop-file.file c.list_file.new.feed c.loop-file.invariant.0,
   rw (
-    none_failed g.F.Feed.failures c.loop-file.feeds c.loop-file.file c.index-feeds-file.result c.list_file.new.feed c.in-Ok.ensures.count,
+    none_failed g.F.Feed.account c.loop-file.feeds c.loop-file.file c.index-feeds-file.result c.list_file.new.feed c.in-Ok.ensures.count,
     (rw c.in-Ok-put.is at c.in-Ok.ensures.failures).0,
     (rw c.in-Ok-put.is at c.in-Ok.ensures.failures).1,
   ) c.loop-file.invariant.1,

@@ -1,5 +1,5 @@
 -- What each exit _ leaves _ to show: the fault goes back to the start, or the segments join; and what a builder may be told.
-use Rattle.std.proofs.Common.{◌≡◌, ◌+◌, ◌<◌, [], ◌∷◌, refl, true, false, arith, rules}
+use Rattle.std.proofs.Common.{◌≡◌, ◌+◌, ◌<◌, [], ◌∷◌, refl, true, false, arith, rules, ⊥}
 use Rattle.std.proofs.lemmas.Result.{err_from_is_err_and}
 use Rattle.tokens.specs.declared.located_tokens.Punctuator.TheVariants as punctuator
 use Rattle.tokens.specs.declared.located_tokens.Token.TheVariants as token
@@ -25,13 +25,13 @@ pub block-returns-in_err-advance-clause-parses : goal.block-returns-in_err-advan
 block-returns-in_err-advance-clause-parses g t c =
     let shallow : c.args.depth < 64 = omega arith in
     let p = err_from_is_err_and c.from_residual.result c.from_residual.ensures.1 in
-    rw (p.1, p.2) (refused_map _ _ _ false _ c.in_err-advance.field-0.0 (brace_stops _ c.args.depth c.requires.ready.sound c.requires.is shallow) (λ never. absurd (cc)) c.in_err-advance.ensures.consumes)
+    rw (p.1, p.2) (refused_map _ _ _ ⊥ _ c.in_err-advance.field-0.0 (brace_stops _ c.args.depth c.requires.ready.sound c.requires.is shallow) (λ never. absurd never) c.in_err-advance.ensures.consumes)
 
 pub block-returns-in_err-declarations-clause-parses : goal.block-returns-in_err-declarations-clause-parses
 block-returns-in_err-declarations-clause-parses g t c =
     let shallow : c.args.depth < 64 = omega arith in
     let p = err_from_is_err_and c.from_residual-in_err-declarations.result c.from_residual-in_err-declarations.ensures.1 in
-    rw (p.1, p.2) (refused_map _ _ _ false _ c.in_err-declarations.field-0.0 (declarations_fail _ _ c.args.depth c.requires.ready.sound c.requires.is shallow c.in_ok-advance.ensures.consumes) (λ never. absurd (cc)) c.in_err-declarations.ensures.matches)
+    rw (p.1, p.2) (refused_map _ _ _ ⊥ _ c.in_err-declarations.field-0.0 (declarations_fail _ _ c.args.depth c.requires.ready.sound c.requires.is shallow c.in_ok-advance.ensures.consumes) (λ never. absurd never) c.in_err-declarations.ensures.matches)
 
 pub block-returns-in_err-statements-clause-parses : goal.block-returns-in_err-statements-clause-parses
 block-returns-in_err-statements-clause-parses g t c =
@@ -43,7 +43,7 @@ pub block-returns-in_err-expect-clause-parses : goal.block-returns-in_err-expect
 block-returns-in_err-expect-clause-parses g t c =
     let shallow : c.args.depth < 64 = omega arith in
     let p = err_from_is_err_and c.from_residual-in_err-expect.result c.from_residual-in_err-expect.ensures.1 in
-    rw (p.1, p.2) (refused_map _ _ _ false _ c.in_err-expect.field-0.0 (brace_fails _ _ _ _ _ _ c.args.depth c.requires.ready.sound c.requires.is shallow c.in_ok-advance.ensures.consumes c.in_ok-declarations.ensures.matches c.in_ok-statements.ensures.parses) (λ never. absurd (cc)) c.in_err-expect.ensures.matches)
+    rw (p.1, p.2) (refused_map _ _ _ ⊥ _ c.in_err-expect.field-0.0 (brace_fails _ _ _ _ _ _ c.args.depth c.requires.ready.sound c.requires.is shallow c.in_ok-advance.ensures.consumes c.in_ok-declarations.ensures.matches c.in_ok-statements.ensures.parses) (λ never. absurd never) c.in_err-expect.ensures.matches)
 
 pub block-returns-clause-parses : goal.block-returns-clause-parses
 block-returns-clause-parses g t c =
@@ -59,7 +59,7 @@ pub branch-returns-in_err-advance-clause-parses : goal.branch-returns-in_err-adv
 branch-returns-in_err-advance-clause-parses g t c =
     let shallow : c.args.depth < 64 = omega arith in
     let p = err_from_is_err_and c.from_residual.result c.from_residual.ensures.1 in
-    rw (p.1, p.2) (refused_map _ _ _ false _ c.in_err-advance.field-0.0 (if_stops _ c.args.depth c.requires.ready.sound c.requires.is shallow) (λ never. absurd (cc)) c.in_err-advance.ensures.consumes)
+    rw (p.1, p.2) (refused_map _ _ _ ⊥ _ c.in_err-advance.field-0.0 (if_stops _ c.args.depth c.requires.ready.sound c.requires.is shallow) (λ never. absurd never) c.in_err-advance.ensures.consumes)
 
 pub branch-returns-in_err-condition-clause-parses : goal.branch-returns-in_err-condition-clause-parses
 branch-returns-in_err-condition-clause-parses g t c =
@@ -98,7 +98,7 @@ pub repetition-returns-in_err-advance-clause-parses : goal.repetition-returns-in
 repetition-returns-in_err-advance-clause-parses g t c =
     let shallow : c.args.depth < 64 = omega arith in
     let p = err_from_is_err_and c.from_residual-in_err-advance.result c.from_residual-in_err-advance.ensures.1 in
-    rw (p.1, p.2) (refused_map _ _ _ false _ c.in_err-advance.field-0.0 (while_stops _ c.args.depth c.requires.ready.sound c.requires.is shallow) (λ never. absurd (cc)) c.in_err-advance.ensures.consumes)
+    rw (p.1, p.2) (refused_map _ _ _ ⊥ _ c.in_err-advance.field-0.0 (while_stops _ c.args.depth c.requires.ready.sound c.requires.is shallow) (λ never. absurd never) c.in_err-advance.ensures.consumes)
 
 pub repetition-returns-in_err-condition-clause-parses : goal.repetition-returns-in_err-condition-clause-parses
 repetition-returns-in_err-condition-clause-parses g t c =
@@ -236,7 +236,7 @@ else_part-returns-in_err-advance-clause-parses g t c =
     let sound : is_fault c.args.parser.now.place.position.reading.next.token ≡ false = cc in
     let is : is_word word.Else c.args.parser.now.place.position.reading.next.token ≡ true = cc in
     let p = err_from_is_err_and c.from_residual-in_err-advance.result c.from_residual-in_err-advance.ensures.1 in
-    rw (p.1, p.2) (refused_map _ _ _ false _ c.in_err-advance.field-0.0 (else_stops _ c.args.depth sound is) (λ never. absurd (cc)) c.in_err-advance.ensures.consumes)
+    rw (p.1, p.2) (refused_map _ _ _ ⊥ _ c.in_err-advance.field-0.0 (else_stops _ c.args.depth sound is) (λ never. absurd never) c.in_err-advance.ensures.consumes)
 
 pub else_part-returns-in_err-statement-clause-parses : goal.else_part-returns-in_err-statement-clause-parses
 else_part-returns-in_err-statement-clause-parses g t c =
@@ -265,7 +265,7 @@ statement-returns-in_err-expect-in-Punctuator-Semicolon-clause-parses g t c =
     let at : c.args.parser.now.place.position.reading.next.token ≡ token.Punctuator punctuator.Semicolon = search rules in
     let is : is_punctuator punctuator.Semicolon c.args.parser.now.place.position.reading.next.token ≡ true = rw at refl in
     let p = err_from_is_err_and c.from_residual.result c.from_residual.ensures.1 in
-    rw (p.1, p.2) (refused_map _ _ _ false _ c.in_err-expect-in-Punctuator-Semicolon.field-0.0 (empty_fails _ c.args.depth sound is) (λ never. absurd (cc)) c.in_err-expect-in-Punctuator-Semicolon.ensures.matches)
+    rw (p.1, p.2) (refused_map _ _ _ ⊥ _ c.in_err-expect-in-Punctuator-Semicolon.field-0.0 (empty_fails _ c.args.depth sound is) (λ never. absurd never) c.in_err-expect-in-Punctuator-Semicolon.ensures.matches)
 
 pub statement-returns-in_ok-expect-in-Punctuator-Semicolon-clause-parses : goal.statement-returns-in_ok-expect-in-Punctuator-Semicolon-clause-parses
 statement-returns-in_ok-expect-in-Punctuator-Semicolon-clause-parses g t c =

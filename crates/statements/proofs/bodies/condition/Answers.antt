@@ -1,4 +1,4 @@
-use Rattle.std.proofs.Common.{false}
+use Rattle.std.proofs.Common.{false, ⊥}
 use Rattle.std.proofs.lemmas.Result.{err_from_is_err_and}
 use Rattle.parsing.proofs.Advances.{kept_then, on, on_then}
 use Rattle.parsing.proofs.Growing.{grown, grown_nothing}
@@ -9,7 +9,7 @@ use Rattle.statements.proofs.bodies.condition.Goals as goal
 pub returns-in_err-expect-clause-parses : goal.returns-in_err-expect-clause-parses
 returns-in_err-expect-clause-parses g c =
     let p = err_from_is_err_and c.from_residual.result c.from_residual.ensures.1 in
-    rw (p.1, p.2) (refused_map _ _ _ false _ c.in_err-expect.field-0.0 (bracket_fails _ c.args.depth) (λ never. absurd (cc)) c.in_err-expect.ensures.matches)
+    rw (p.1, p.2) (refused_map _ _ _ ⊥ _ c.in_err-expect.field-0.0 (bracket_fails _ c.args.depth) (λ never. absurd never) c.in_err-expect.ensures.matches)
 
 pub returns-in_err-expression-clause-parses : goal.returns-in_err-expression-clause-parses
 returns-in_err-expression-clause-parses g c =
@@ -19,7 +19,7 @@ returns-in_err-expression-clause-parses g c =
 pub returns-in_err-expect-2-clause-parses : goal.returns-in_err-expect-2-clause-parses
 returns-in_err-expect-2-clause-parses g c =
     let p = err_from_is_err_and c.from_residual-in_err-expect-2.result c.from_residual-in_err-expect-2.ensures.1 in
-    rw (p.1, p.2) (refused_map _ _ _ false _ c.in_err-expect-2.field-0.0 (condition_unended _ _ _ _ _ c.args.depth c.in_ok-expect.ensures.matches c.in_ok-expression.ensures.parses) (λ never. absurd (cc)) c.in_err-expect-2.ensures.matches)
+    rw (p.1, p.2) (refused_map _ _ _ ⊥ _ c.in_err-expect-2.field-0.0 (condition_unended _ _ _ _ _ c.args.depth c.in_ok-expect.ensures.matches c.in_ok-expression.ensures.parses) (λ never. absurd never) c.in_err-expect-2.ensures.matches)
 
 pub returns-clause-parses : goal.returns-clause-parses
 returns-clause-parses g c =

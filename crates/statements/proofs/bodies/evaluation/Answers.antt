@@ -1,4 +1,4 @@
-use Rattle.std.proofs.Common.{false}
+use Rattle.std.proofs.Common.{false, ⊥}
 use Rattle.std.proofs.lemmas.Result.{err_from_is_err_and}
 use Rattle.parsing.proofs.Advances.{on, on_then}
 use Rattle.parsing.proofs.Growing.{grown, refuses, unknown}
@@ -16,7 +16,7 @@ returns-in_err-expression-clause-parses g c =
 pub returns-in_err-expect-clause-parses : goal.returns-in_err-expect-clause-parses
 returns-in_err-expect-clause-parses g c =
     let p = err_from_is_err_and c.from_residual-in_err-expect.result c.from_residual-in_err-expect.ensures.1 in
-    rw (p.1, p.2) (refused_map _ _ _ false _ c.in_err-expect.field-0.0 (semicolon_fails _ _ _ _ c.args.depth c.requires.ready.sound c.requires.plain c.in_ok-expression.ensures.parses) (λ never. absurd (cc)) c.in_err-expect.ensures.matches)
+    rw (p.1, p.2) (refused_map _ _ _ ⊥ _ c.in_err-expect.field-0.0 (semicolon_fails _ _ _ _ c.args.depth c.requires.ready.sound c.requires.plain c.in_ok-expression.ensures.parses) (λ never. absurd never) c.in_err-expect.ensures.matches)
 
 pub chop-requires : goal.chop-requires
 chop-requires g c =

@@ -1,4 +1,4 @@
-use Rattle.std.proofs.Common.{false, refl}
+use Rattle.std.proofs.Common.{false, refl, ⊥}
 use Rattle.std.proofs.lemmas.Result.{err_from_is_err_and}
 use Rattle.grammar.specs.Actions.{GiveBack}
 use Rattle.grammar.specs.Following.{AValue, is_number}
@@ -14,7 +14,7 @@ use Rattle.statements.proofs.bodies.give_back.Goals as goal
 pub returns-in_err-advance-clause-parses : goal.returns-in_err-advance-clause-parses
 returns-in_err-advance-clause-parses g c =
     let p = err_from_is_err_and c.from_residual.result c.from_residual.ensures.1 in
-    rw (p.1, p.2) (refused_map _ _ _ false _ c.in_err-advance.field-0.0 (return_stops _ c.args.depth c.requires.ready.sound c.requires.is) (λ never. absurd (cc)) c.in_err-advance.ensures.consumes)
+    rw (p.1, p.2) (refused_map _ _ _ ⊥ _ c.in_err-advance.field-0.0 (return_stops _ c.args.depth c.requires.ready.sound c.requires.is) (λ never. absurd never) c.in_err-advance.ensures.consumes)
 
 pub returns-in_err-back-clause-parses : goal.returns-in_err-back-clause-parses
 returns-in_err-back-clause-parses g c =
@@ -24,7 +24,7 @@ returns-in_err-back-clause-parses g c =
 pub returns-in_err-expect-clause-parses : goal.returns-in_err-expect-clause-parses
 returns-in_err-expect-clause-parses g c =
     let p = err_from_is_err_and c.from_residual-in_err-expect.result c.from_residual-in_err-expect.ensures.1 in
-    rw (p.1, p.2) (refused_map _ _ _ false _ c.in_err-expect.field-0.0 (return_unended _ _ _ _ _ c.args.depth c.requires.ready.sound c.requires.is c.in_ok-advance.ensures.consumes c.in_ok-back.ensures.parses) (λ never. absurd (cc)) c.in_err-expect.ensures.matches)
+    rw (p.1, p.2) (refused_map _ _ _ ⊥ _ c.in_err-expect.field-0.0 (return_unended _ _ _ _ _ c.args.depth c.requires.ready.sound c.requires.is c.in_ok-advance.ensures.consumes c.in_ok-back.ensures.parses) (λ never. absurd never) c.in_err-expect.ensures.matches)
 
 pub give_back-requires : goal.give_back-requires
 give_back-requires g c =

@@ -1,4 +1,4 @@
-use Rattle.std.proofs.Common.{◌≡◌, subst, sym, false}
+use Rattle.std.proofs.Common.{◌≡◌, subst, sym, false, ⊥}
 use Rattle.std.proofs.lemmas.Result.{err_from_is_err_and}
 use Rattle.tokens.specs.Reading.{IsNear}
 use Rattle.tokens.specs.declared.located_tokens.Token.TheVariants as token
@@ -25,7 +25,7 @@ pub returns-in_err-advance-clause-matches : goal.returns-in_err-advance-clause-m
 returns-in_err-advance-clause-matches g c =
     let found : c.self.inside.cursor.next.token ≡ token.Name c.in_ok-name.name.now = c.in_ok-name.ensures.found in
     let p = err_from_is_err_and c.from_residual-in_err-advance.result c.from_residual-in_err-advance.ensures.1 in
-    rw (p.1, p.2, sym c.self.view_is) (refused_map _ _ _ false false c.in_err-advance.field-0.0 (name_stops c.self.inside.cursor c.self.inside.scope _ _ (role_of c.args.declared) c.in_ok-name.name.now found (c.in_default.ensures.known _)) (λ same. same) c.in_err-advance.ensures.consumes)
+    rw (p.1, p.2, sym c.self.view_is) (refused_map _ _ _ ⊥ ⊥ c.in_err-advance.field-0.0 (name_stops c.self.inside.cursor c.self.inside.scope _ _ (role_of c.args.declared) c.in_ok-name.name.now found (c.in_default.ensures.known _)) (λ same. same) c.in_err-advance.ensures.consumes)
 
 pub returns-clause-matches : goal.returns-clause-matches
 returns-clause-matches g c =

@@ -1,4 +1,4 @@
-use Rattle.std.proofs.Common.{◌≡◌, ℕ, subst, refl, sym, ap, false}
+use Rattle.std.proofs.Common.{◌≡◌, ℕ, subst, refl, sym, ap, false, ⊥}
 use Rattle.std.proofs.lemmas.Result.{err_from_is_err_and}
 use Rattle.tokens.specs.declared.located_tokens.LocatedToken.{LocatedToken}
 use Rattle.tokens.specs.Reading.{IsNear}
@@ -29,7 +29,7 @@ returns-in_err-advance-clause-matches g c =
     let found : c.self.inside.cursor.next.token ≡ token.Name c.in_ok-name.name.now = c.in_ok-name.ensures.found in
     let line : c.peek.result.now.line ≡ c.self.inside.cursor.next.line = ap (λ (l : LocatedToken). l.line) c.peek.ensures.value in
     let p = err_from_is_err_and c.from_residual-in_err-advance.result c.from_residual-in_err-advance.ensures.1 in
-    rw (p.1, p.2, sym c.self.view_is) (refused_map _ _ _ false false c.in_err-advance.field-0.0 (name_stops c.self.inside.cursor c.self.inside.scope _ _ Defined c.in_ok-name.name.now found (subst (λ (n : ℕ). Knows Defined c.in_ok-name.name.now n c.self.inside.scope c.define.new.self) line c.in-Ok.ensures.known)) (λ same. same) c.in_err-advance.ensures.consumes)
+    rw (p.1, p.2, sym c.self.view_is) (refused_map _ _ _ ⊥ ⊥ c.in_err-advance.field-0.0 (name_stops c.self.inside.cursor c.self.inside.scope _ _ Defined c.in_ok-name.name.now found (subst (λ (n : ℕ). Knows Defined c.in_ok-name.name.now n c.self.inside.scope c.define.new.self) line c.in-Ok.ensures.known)) (λ same. same) c.in_err-advance.ensures.consumes)
 
 pub returns-clause-matches : goal.returns-clause-matches
 returns-clause-matches g c =

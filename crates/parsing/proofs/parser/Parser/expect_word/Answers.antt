@@ -1,4 +1,4 @@
-use Rattle.std.proofs.Common.{◌≡◌, true, false}
+use Rattle.std.proofs.Common.{◌≡◌, true, false, ⊥}
 use Rattle.std.proofs.lemmas.Result.{err_from_is_err_and}
 use Rattle.grammar.specs.Grammar.{is_fault, is_word}
 use Rattle.parsing.proofs.Items.{word_misfits, word_stops, word_derives}
@@ -16,7 +16,7 @@ returns-in_err-advance-clause-matches g c =
     let sound : is_fault c.args.self.now.place.position.reading.next.token ≡ false = cc in
     let fits : is_word c.args.word c.args.self.now.place.position.reading.next.token ≡ true = cc in
     let p = err_from_is_err_and c.from_residual.result c.from_residual.ensures.1 in
-    rw (p.1, p.2) (refused_map _ _ _ false false c.in_err-advance.field-0.0 (word_stops c.args.self.now.place.position.reading c.args.self.now.place.position.scope _ c.args.word sound fits) (λ same. same) c.in_err-advance.ensures.consumes)
+    rw (p.1, p.2) (refused_map _ _ _ ⊥ ⊥ c.in_err-advance.field-0.0 (word_stops c.args.self.now.place.position.reading c.args.self.now.place.position.scope _ c.args.word sound fits) (λ same. same) c.in_err-advance.ensures.consumes)
 
 pub returns-clause-matches : goal.returns-clause-matches
 returns-clause-matches g c =

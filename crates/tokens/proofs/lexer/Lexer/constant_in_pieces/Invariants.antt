@@ -9,7 +9,7 @@ invariant-loop-b g l = record {
   bounded : l.value ≤ 2147483648;
   took : Takes l.initial.self.window.taken l.self.window.taken (g.F.Feed.to_come l.initial.feed) (g.F.Feed.to_come l.feed);
   forward : l.initial.self.window.place ≤ l.self.window.place;
-  count : g.F.Feed.failures l.feed ≡ g.F.Feed.failures l.initial.feed;
+  count : g.F.Feed.account l.feed ≡ g.F.Feed.account l.initial.feed;
   here : l.here ≡ l.initial.here;
   known : KnowsEnd l.self.window.beyond (g.F.Feed.ended l.feed);
 }
