@@ -28,10 +28,10 @@ ShowsFailure {F} account file failed = (later : F) → account later ≡ failed_
 
 -- each of these devices shows it of the word in its place
 abbrev pub EachShows : {F : Type 0} → (F → Account) → (List ℕ → Type 0) → List (List ℕ) → List F → Type 0
-EachShows account fails words [] = Unit {0}
-EachShows account fails [] (file ∷ files) = ⊥
+EachShows account fails [] [] = Unit {0}
 EachShows account fails (word ∷ words) (file ∷ files) =
     ShowsFailure account file (fails word) × EachShows account fails words files
+EachShows account fails _ _ = ⊥
 
 -- of these devices, one for each word, that of this word has failed once more since
 pub record HasFailed (words : List (List ℕ)) (before after : List Account) (word : List ℕ) : Type 0 where
