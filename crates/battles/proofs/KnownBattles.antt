@@ -21,7 +21,7 @@ use Rattle.tokens.specs.Tokens.{tokens, located_tokens}
 use Rattle.tokens.specs.Punctuators.{punctuator_of}
 use Rattle.tokens.specs.Words.{word_of}
 use Rattle.grammar.specs.Compiled.{compiled}
-use Rattle.grammar.specs.Faults.{most_levels, most_names}
+use Rattle.grammar.specs.Faults.{most_levels,}
 use Rattle.grammar.specs.Intrinsics.{intrinsic_named, name_of}
 use Rattle.battles.specs.KnownBattles.{idle_file, KnownBattles, KnownShortBattles}
 use Rattle.battles.specs.Pairing.{robots_of}
@@ -29,7 +29,7 @@ use Rattle.code.specs.KnownPrograms.{shooting_file}
 use Rattle.battles.proofs.Limits.{longer}
 
 pub battles : KnownBattles
-unfolding brought along way_east way_north candidate_x candidate_y place_x place_y begun stopped steered approached sped grown is_outside hits_wall walled tried driven damage_of is_alive no_robot robot_at is_live live_count metres_x metres_y candidate mover moves square is_close is_no_further collides others touches aimed_x aimed_y flight shot in_air due_at ring bursts put_back settled knocks moved_robot moved apart east_to north_to in_arc sees range_of nearest scanned generator word standing quadrant drawn_place drawn_robot start placed argument fired wanting directed random_limit random_number answer granted step robot_of turn turns is_due updated cycle is_over stage_after first_above last_cycle opening damages_of battle alive sine_at cosine_at sine_of cosine_of degree_of sines tangents value_of int_wrap number_op stored first_profile second_profile tokens located_tokens punctuator_of word_of most_levels most_names intrinsic_named name_of compiled
+unfolding brought along way_east way_north candidate_x candidate_y place_x place_y begun stopped steered approached sped grown is_outside hits_wall walled tried driven damage_of is_alive no_robot robot_at is_live live_count metres_x metres_y candidate mover moves square is_close is_no_further collides others touches aimed_x aimed_y flight shot in_air due_at ring bursts put_back settled knocks moved_robot moved apart east_to north_to in_arc sees range_of nearest scanned generator word standing quadrant drawn_place drawn_robot start placed argument fired wanting directed random_limit random_number answer granted step robot_of turn turns is_due updated cycle is_over stage_after first_above last_cycle opening damages_of battle alive sine_at cosine_at sine_of cosine_of degree_of sines tangents value_of int_wrap number_op stored first_profile second_profile tokens located_tokens punctuator_of word_of most_levels intrinsic_named name_of compiled
 battles = record {
   empty = record { compiles = refl; ends = refl };
   none_survives = record { compiles = refl; ends = longer (robots_of first_profile (shooting_file ∷ [])) 1 1 90 500000 90 (100 ∷ 100 ∷ []) refl refl (omega arith) (omega arith) };
@@ -42,7 +42,7 @@ battles = record {
 }
 
 pub short_battles : KnownShortBattles
-unfolding brought along way_east way_north candidate_x candidate_y place_x place_y begun stopped steered approached sped grown is_outside hits_wall walled tried driven damage_of is_alive no_robot robot_at is_live live_count metres_x metres_y candidate mover moves square is_close is_no_further collides others touches aimed_x aimed_y flight shot in_air due_at ring bursts put_back settled knocks moved_robot moved apart east_to north_to in_arc sees range_of nearest scanned generator word standing quadrant drawn_place drawn_robot start placed argument fired wanting directed random_limit random_number answer granted step robot_of turn turns is_due updated cycle is_over stage_after first_above last_cycle opening damages_of battle alive sine_at cosine_at sine_of cosine_of degree_of sines tangents value_of int_wrap number_op stored first_profile second_profile tokens located_tokens punctuator_of word_of most_levels most_names intrinsic_named name_of compiled
+unfolding brought along way_east way_north candidate_x candidate_y place_x place_y begun stopped steered approached sped grown is_outside hits_wall walled tried driven damage_of is_alive no_robot robot_at is_live live_count metres_x metres_y candidate mover moves square is_close is_no_further collides others touches aimed_x aimed_y flight shot in_air due_at ring bursts put_back settled knocks moved_robot moved apart east_to north_to in_arc sees range_of nearest scanned generator word standing quadrant drawn_place drawn_robot start placed argument fired wanting directed random_limit random_number answer granted step robot_of turn turns is_due updated cycle is_over stage_after first_above last_cycle opening damages_of battle alive sine_at cosine_at sine_of cosine_of degree_of sines tangents value_of int_wrap number_op stored first_profile second_profile tokens located_tokens punctuator_of word_of most_levels intrinsic_named name_of compiled
 short_battles = record {
   left_out = record { compiles = refl; ends = refl };
   taken = record { compiles = refl; ends = refl };

@@ -2,17 +2,17 @@
 //! can give, with its line.
 
 use arguments::read_words;
-use command::{StreamSink, program};
+use command::{FileFeed, StreamSink, program, program_of};
 use series::{Recorder, Sink};
 use settings::{Mode, UseFault};
 use std::alloc::{Allocator, Global};
 use std::fs::{File, Metadata, OpenOptions};
-use std::io::{ErrorKind, Write};
+use std::io::{ErrorKind, Read, Write};
 use std::process::Abort;
 use std::rt::Files;
 use std::test::Fail;
 use std::{fs, io};
-use tokens::DeviceFault;
+use tokens::{DeviceFault, Feed};
 
 /// The line of wrong usage.
 const USAGE: &[u8] =
@@ -354,6 +354,65 @@ fn a_failed_write_is_not_tried_again(rt: HostRuntime) {
     let mut sink = StreamSink::new(Flaky { writes: 0 });
     assert_eq!(rt; sink.put(b"text"), Err(DeviceFault));
     assert_eq!(rt; sink.put(b"text"), Ok(4));
+}
+
+/// A file whose first read is interrupted, and which then gives a byte at each read.
+#[derive(Drop)]
+struct Interrupted {
+    reads: u64,
+}
+
+impl Read for Interrupted {
+    fn read(&mut self, buf: &mut [u8]) -> io::Result<usize> {
+        self.reads = self.reads.saturating_add(1);
+        if self.reads == 1 {
+            return Err(io::Error::from(ErrorKind::Interrupted));
+        }
+        match buf.first_mut() {
+            Some(first) => {
+                *first = b'a';
+                Ok(1)
+            }
+            None => Ok(0),
+        }
+    }
+}
+
+#[test]
+fn an_interrupted_read_is_not_tried_again(rt: HostRuntime) {
+    let mut feed = FileFeed::new(Interrupted { reads: 0 });
+    let mut buf = [0; 4];
+    assert_eq!(rt; feed.fill(&mut buf), Err(DeviceFault));
+    assert_eq!(rt; feed.fill(&mut buf), Ok(1));
+}
+
+/// Runs the program over what its process got for words, and compares its status and its line.
+fn check_process(
+    rt: &HostRuntime,
+    words: io::Result<Vec<String>>,
+    status: u8,
+    faults: &[u8],
+) -> Result<(), Fail> {
+    let mut out = Recorder::new(rt.alloc());
+    let mut err = Recorder::new(rt.alloc());
+    assert_eq!(rt; program_of(rt, words, &mut out, &mut err), status);
+    assert_eq!(rt; taken(rt, &out)?.as_slice(), b"".as_slice());
+    assert_eq!(rt; taken(rt, &err)?.as_slice(), faults);
+    Ok(())
+}
+
+#[test]
+fn words_of_a_process(rt: HostRuntime) -> Result<(), Fail> {
+    let mut words = Vec::new(rt.alloc());
+    words.push(format!(in rt.alloc(); "crobots")?)?;
+    words.push(format!(in rt.alloc(); "-c")?)?;
+    words.push(format!(in rt.alloc(); "absent.r")?)?;
+    check_process(&rt, Ok(words), 3, b"crobots: cannot open absent.r\n")?;
+    check_process(&rt, Ok(Vec::new(rt.alloc())), 2, USAGE)?;
+    let no_text = io::Error::from(ErrorKind::InvalidData);
+    check_process(&rt, Err(no_text), 2, USAGE)?;
+    let no_memory = io::Error::from(ErrorKind::OutOfMemory);
+    check_process(&rt, Err(no_memory), 5, b"crobots: out of memory\n")
 }
 
 /// A file system that is refused memory at each call.

@@ -5,7 +5,7 @@ use Rattle.tokens.specs.Tokens.{tokens, located_tokens}
 use Rattle.tokens.specs.Punctuators.{punctuator_of}
 use Rattle.tokens.specs.Words.{word_of}
 use Rattle.grammar.specs.Compiled.{compiled}
-use Rattle.grammar.specs.Faults.{most_levels, most_names}
+use Rattle.grammar.specs.Faults.{most_levels,}
 use Rattle.grammar.specs.Intrinsics.{intrinsic_named, name_of}
 use Rattle.grammar.specs.Profile.{first_profile}
 use Rattle.grammar.specs.Texts.{text_of}
@@ -33,5 +33,5 @@ unfolding digits report totals alive
 reports = record { single_file = refl; dead_and_alive = refl; scores = refl }
 
 pub outputs : KnownOutputs
-unfolding digits tokens located_tokens punctuator_of word_of first_profile most_levels most_names intrinsic_named name_of compiled text_of operator_text instr_text in_five_columns name_line instr_line function_line
+unfolding digits tokens located_tokens punctuator_of word_of first_profile most_levels intrinsic_named name_of compiled text_of operator_text instr_text in_five_columns name_line instr_line function_line
 outputs = record { listed = refl; faulty = refl; mixed = refl }
