@@ -1,14 +1,15 @@
 //! Runs over files and sinks in memory, for tests.
 
-ghost use Rattle.std.specs.Prelude.{◌≡◌, ◌<◌, ◌≤◌, length};
+ghost use Rattle.std.specs.Prelude.{◌≡◌, ◌<◌, ◌≤◌, length, IfOk};
+ghost use Rattle.battles.specs.Programs.{AreOfProfile};
 
 use arrayvec::ArrayVec;
 use code::{Maker, Program};
 use grammar::Profile;
 use lang::parse;
 use series::{
-    CYCLES_DEFAULT, CYCLES_MAX, FILES_MAX, FIRST_MAX, MATCHES_MAX, Mode, Recorder, RunFault,
-    SEED_DEFAULT, Settings, Status, run,
+    CYCLES_DEFAULT, CYCLES_MAX, FILES_MAX, FIRST_MAX, MATCHES_MAX, Mode, Programs, Recorder,
+    RunFault, SEED_DEFAULT, Settings, Status, run,
 };
 use std::alloc::{AllocError, Global};
 use std::process::Abort;
@@ -117,6 +118,20 @@ pub fn program_of(source: &[u8]) -> Result<Program, Fail> {
         Ok(names) => Ok(maker.finish(names)),
         Err(_) => Err("the source has a fault".into()),
     }
+}
+
+/// Returns the program of a good file, for a series of these settings.
+pub fn programs_of(source: &[u8], settings: &Settings) -> Result<Programs, Fail>
+    ensures one { IfOk result (λ programs. length programs ≡ 1) }
+    ensures profile { IfOk result (λ programs. AreOfProfile settings.now.profile programs) }
+{
+    let program = program_of(source)?;
+    if program.profile() != settings.profile() {
+        return Err("the settings are of another profile".into());
+    }
+    let mut programs = Programs::new();
+    programs.push(program);
+    Ok(programs)
 }
 
 /// Lists a good file, whole and byte by byte, and compares the text.

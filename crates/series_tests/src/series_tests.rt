@@ -1,7 +1,7 @@
 //! A series, match by match, and what it answers after a write has failed.
 
-use crate::checks::{Game, game_of_one, program_of, taken};
-use series::{Programs, Recorder, Series, SeriesFault, Step, compile_files};
+use crate::checks::{Game, game_of_one, programs_of, taken};
+use series::{Recorder, Series, SeriesFault, Step, compile_files};
 use std::test::Fail;
 use tokens::Pieces;
 
@@ -16,8 +16,7 @@ const TWO_MATCHES: Game = Game {
 #[test]
 fn matches_are_played_one_by_one(rt: HostRuntime) -> Result<(), Fail> {
     let settings = game_of_one(TWO_MATCHES, "a.r");
-    let mut programs = Programs::new();
-    programs.push(program_of(b"main(){}")?);
+    let programs = programs_of(b"main(){}", &settings)?;
     let mut series = Series::new(&programs, &settings);
     let mut out = Recorder::new(rt.alloc());
     assert_eq!(rt; series.next(&mut out), Ok(Step::Played(1)));
@@ -33,8 +32,7 @@ fn matches_are_played_one_by_one(rt: HostRuntime) -> Result<(), Fail> {
 #[test]
 fn a_series_stops_at_a_failed_report(rt: HostRuntime) -> Result<(), Fail> {
     let settings = game_of_one(TWO_MATCHES, "a.r");
-    let mut programs = Programs::new();
-    programs.push(program_of(b"main(){}")?);
+    let programs = programs_of(b"main(){}", &settings)?;
     let mut series = Series::new(&programs, &settings);
     let mut out = Recorder::new(rt.alloc()).with_room(10);
     assert_eq!(rt; series.next(&mut out), Err(SeriesFault::Write));
@@ -56,8 +54,7 @@ fn a_series_stops_at_failed_totals(rt: HostRuntime) -> Result<(), Fail> {
         ..TWO_MATCHES
     };
     let settings = game_of_one(game, "a.r");
-    let mut programs = Programs::new();
-    programs.push(program_of(b"main(){}")?);
+    let programs = programs_of(b"main(){}", &settings)?;
     let mut series = Series::new(&programs, &settings);
     let mut out = Recorder::new(rt.alloc()).failing_after(1);
     assert_eq!(rt; series.next(&mut out), Ok(Step::Played(1)));
@@ -77,8 +74,7 @@ fn a_series_stops_at_failed_totals(rt: HostRuntime) -> Result<(), Fail> {
 #[test]
 fn a_series_may_own_its_programs(rt: HostRuntime) -> Result<(), Fail> {
     let settings = game_of_one(TWO_MATCHES, "a.r");
-    let mut programs = Programs::new();
-    programs.push(program_of(b"main(){}")?);
+    let programs = programs_of(b"main(){}", &settings)?;
     let mut series = Series::new(programs, &settings);
     let mut out = Recorder::new(rt.alloc());
     assert_eq!(rt; series.next(&mut out), Ok(Step::Played(1)));

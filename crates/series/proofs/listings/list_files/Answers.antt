@@ -6,7 +6,7 @@ use Rattle.series.specs.Runs.{AreSources}
 use Rattle.series.proofs.CompilingLemmas.{pieces_more, pieces_cut, status_more}
 use Rattle.series.proofs.OutputLemmas.{listing_stop}
 use Rattle.series.proofs.ReadingLemmas.{fails_at, reads_first, reads_more}
-use Rattle.series.proofs.RunsLemmas.{feed_here, told_here, name_here, length_sources, none_failed, rest_more}
+use Rattle.series.proofs.RunsLemmas.{feed_here, told_here, write_failed, name_here, length_sources, none_failed, rest_more}
 use Rattle.series.proofs.listings.list_files.Goals as goal
 
 pub list_file-requires-clause-count : goal.list_file-requires-clause-count
@@ -84,3 +84,8 @@ loop-file-preserved g c = (
   reads_more g.F.Feed.to_come c.args.settings.now.profile c.args.feeds.now c.loop-file.feeds c.loop-file.file c.index-feeds-file.result c.list_file.new.feed
       (omega arith) c.loop-file.invariant.0 c.loop-file.invariant.3 (rw c.profile-profile.ensures.value at c.in-Ok.ensures.taken),
 )
+
+pub returns-in-Err-put-clause-failures : goal.returns-in-Err-put-clause-failures
+returns-in-Err-put-clause-failures g c =
+    write_failed g.F.Feed.account c.args.feeds.now c.loop-file.feeds c.loop-file.file _ _ _ _ _ _ c.index-feeds-file.result c.list_file.new.feed
+    c.loop-file.invariant.1 c.in-Ok.ensures.count (rw c.in-Err-put.is at c.in-Ok.ensures.failures)
