@@ -1,7 +1,8 @@
 -- What opening files one after the other gives, and what a failed read shows.
-use Rattle.std.proofs.Common.{◌≡◌, ◌<◌, ℕ, zero, suc, List, [], ◌∷◌, ◌++◌, Some, drop, length, map, ap, subst, arith}
-use Rattle.std.specs.Prelude.{slice_get, slice_index_or, slice_set}
-use Rattle.std.proofs.lemmas.Option.{same_Some}
+use Rattle.std.proofs.Common.{◌≡◌, ◌<◌, ◌+◌, ℕ, zero, suc, List, [], ◌∷◌, ◌++◌, Option, Some, drop, take, get_or, length, map, ap, refl, subst, arith, Bor}
+use Rattle.std.specs.Prelude.{All, slice_get, slice_index_or, slice_set}
+use Rattle.std.proofs.lemmas.List.{map_more, map_push}
+use Rattle.std.proofs.lemmas.List.Elements.{All-push}
 use Rattle.tokens.specs.Feed.{Account, failed_again}
 use Rattle.series.specs.Failures.{no_device}
 use Rattle.command.specs.Files.{EachShows, HasFailed, ShowsFailure}
@@ -26,10 +27,50 @@ module _ {F : Type 0} (account : F → Account) (fails : List ℕ → Type 0) wh
   shown_at (first ∷ words) (old ∷ olds) [] word zero each here within is = absurd (cc is)
   shown_at (first ∷ words) (old ∷ olds) [] word (suc place) each here within is = absurd (cc is)
   shown_at (first ∷ words) (old ∷ olds) (new ∷ news) word zero each here within is =
-      subst fails (same_Some here) (each.0 new (ap (λ l. slice_index_or l 0 no_device) is))
+      let same : first ≡ word = cc here in
+      subst fails same (each.0 new (ap (λ (l : List Account). slice_index_or l 0 no_device) is))
   shown_at (first ∷ words) (old ∷ olds) (new ∷ news) word (suc place) each here within is =
-      shown_at words olds news word place each.1 here (omega (arith, within)) (ap (λ l. drop 1 l) is)
+      shown_at words olds news word place each.1 here (omega (arith, within)) (ap (λ (l : List Account). drop 1 l) is)
 
   pub shown : (words : List (List ℕ)) (olds news : List F) (word : List ℕ) → EachShows account fails words olds
       → HasFailed words (map account olds) (map account news) word → fails word
   shown words olds news word each failed = shown_at words olds news word failed.place each failed.here failed.within failed.is
+
+  -- one more word and its file
+  pub each_more : (words : List (Bor (List ℕ))) (files : List F) (i : ℕ) (d : Bor (List ℕ)) (file : F) → i < length words
+      → EachShows account fails (map (λ (w : Bor (List ℕ)). w.now) (take i words)) files
+      → ShowsFailure account file (fails (get_or words i d).now)
+      → EachShows account fails (map (λ (w : Bor (List ℕ)). w.now) (take (i + 1) words)) (files ++ file ∷ [])
+  each_more words files i d file within each shows =
+      rw (map_more (λ (w : Bor (List ℕ)). w.now) words i d within)
+      (each_pushed (map (λ (w : Bor (List ℕ)). w.now) (take i words)) files (get_or words i d).now file each shows)
+
+  -- and its contents
+  pub told_more : (tells : F → Option (List ℕ)) (holds : List ℕ → Option (List ℕ)) (words : List (Bor (List ℕ))) (files : List F) (i : ℕ)
+      (d : Bor (List ℕ)) (file : F) → i < length words → map tells files ≡ map (λ (w : Bor (List ℕ)). holds w.now) (take i words)
+      → tells file ≡ holds (get_or words i d).now
+      → map tells (files ++ file ∷ []) ≡ map (λ (w : Bor (List ℕ)). holds w.now) (take (i + 1) words)
+  told_more tells holds words files i d file within same one =
+      rw (map_more (λ (w : Bor (List ℕ)). holds w.now) words i d within, map_push tells files file, same, one) refl
+
+-- and what holds of the words so far holds of one more
+pub all_more : (P : List ℕ → Type 0) (words : List (Bor (List ℕ))) (i : ℕ) (d : Bor (List ℕ)) → i < length words
+    → All P (map (λ (w : Bor (List ℕ)). w.now) (take i words)) → P (get_or words i d).now
+    → All P (map (λ (w : Bor (List ℕ)). w.now) (take (i + 1) words))
+all_more P words i d within each one =
+    rw (map_more (λ (w : Bor (List ℕ)). w.now) words i d within)
+    (All-push P (map (λ (w : Bor (List ℕ)). w.now) (take i words)) (get_or words i d).now each one)
+
+-- the word in a place
+pub word_at : (words : List (Bor (List ℕ))) (place : ℕ) (d : Bor (List ℕ)) → place < length words
+    → slice_get (map (λ (w : Bor (List ℕ)). w.now) words) place ≡ Some (get_or words place d).now
+word_at [] place d within = absurd (omega (arith, within))
+word_at (word ∷ words) zero d within = refl
+word_at (word ∷ words) (suc place) d within = word_at words place d (omega (arith, within))
+
+-- the first words, as texts
+pub texts_take : (words : List (Bor (List ℕ))) (place : ℕ)
+    → take place (map (λ (w : Bor (List ℕ)). w.now) words) ≡ map (λ (w : Bor (List ℕ)). w.now) (take place words)
+texts_take words zero = refl
+texts_take [] (suc place) = refl
+texts_take (word ∷ words) (suc place) = ap (λ l. word.now ∷ l) (texts_take words place)

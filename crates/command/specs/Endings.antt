@@ -32,6 +32,11 @@ abbrev pub PutsLine : Portions → ℕ → Portions → ℕ → List ℕ → Typ
 PutsLine before n after m line =
     (Takes before after line × (m ≡ n)) ⊎ (TakesFront before after line × (m ≡ n + 1))
 
+-- the program ended so: it put the line, and answered the status
+pub record IsEnded (ending : Ending) (result : ℕ) (before : Portions) (n : ℕ) (after : Portions) (m : ℕ) : Type 0 where
+  pub status : result ≡ status_of ending
+  pub line : PutsLine before n after m (line_of ending)
+
 -- how often the two sinks failed in a run that ended so: only if writing failed one of them did, once
 abbrev pub Accounts : Ending → ℕ → ℕ → ℕ → ℕ → Type 0
 Accounts CannotWrite text faults later_text later_faults =

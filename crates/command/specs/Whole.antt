@@ -1,8 +1,6 @@
 -- How the program ends, by what the words ask for, what the files hold, and which can't be opened.
 use Rattle.std.specs.Prelude.{◌≡◌, ◌⊎◌, ℕ, List, Option, Some, Result, Ok, Err, All, map, slice_get, take}
 use Rattle.std.specs.Borrow.{Bor}
-use Rattle.std_io.specs.declared.io.kind.ErrorKind.{ErrorKind}
-use Rattle.std_io.specs.declared.io.kind.ErrorKind.TheVariants as kind
 use Rattle.series.specs.declared.endings.RunFault.{RunFault}
 use Rattle.series.specs.declared.endings.RunFault.TheVariants as fault
 use Rattle.series.specs.declared.endings.Status.{Status}
@@ -54,11 +52,6 @@ abbrev pub IsNotOpened : Files → List (List ℕ) → Ending → Type 0
 IsNotOpened files words (CannotOpen word) = IsFirstRefused files words word.now
 IsNotOpened files words OutOfMemory = Unit {0}
 IsNotOpened files words _ = ⊥
-
--- words that were not read for this cause: memory was refused, or else they are no text
-abbrev pub ending_unread : ErrorKind → Ending
-ending_unread kind.OutOfMemory = OutOfMemory
-ending_unread other = WrongUsage
 
 -- How the program ends, up to its own line. Refused words end it at once; else the files are opened, and then they run.
 abbrev pub Ends : Files → Result Setup UseFault → Ending → Taken → Taken → Type 0

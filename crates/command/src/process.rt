@@ -1,12 +1,12 @@
 //! The program over the words of its process, the first of which is its own name.
 
-ghost use Rattle.std.specs.Prelude.{◌≡◌, ◌-◌, ◌^◌, ◌<◌, drop, map, string_bytes, IfErr, IfOk};
-ghost use Rattle.std_io.specs.IoError.{error_kind};
+ghost use Rattle.std.specs.Prelude.{◌≡◌, ◌≢◌, ◌-◌, ◌^◌, ◌<◌, drop, map, string_bytes, IfErr, IfOk, OnErr};
+ghost use Rattle.std.specs.IoError.{error_kind};
 ghost use Rattle.series.specs.Pieces.{taken};
 ghost use Rattle.arguments.specs.Words.{asked};
-ghost use Rattle.command.specs.Endings.{PutsLine, line_of, status_of};
+ghost use Rattle.command.specs.Endings.{IsEnded};
 ghost use Rattle.command.specs.Files.{real_files};
-ghost use Rattle.command.specs.Whole.{Concludes, ending_unread};
+ghost use Rattle.command.specs.Whole.{Concludes};
 
 use crate::endings::Ending;
 use crate::running::program;
@@ -28,13 +28,14 @@ pub fn program_of<R: Files + AllocGlobal, O: Sink, E: Sink>(
 ) -> u8
     requires text { O.failures out.old < 2 ^ 64 - 1 }
     requires faults { E.failures err.old < 2 ^ 64 - 2 }
-    ensures read { IfOk words.entry (λ all. Concludes real_files (asked (drop 1 (map string_bytes all.items))) result
+    ensures read { IfOk words (λ all. Concludes real_files (asked (drop 1 (map string_bytes all.items))) result
         (taken (O.portions out.old) (E.portions err.old)) (taken (O.portions out.new) (E.portions err.new))
         (E.failures err.old) (E.failures err.new)) }
-    ensures unread { IfErr words.entry (λ fault. (result ≡ status_of (ending_unread (error_kind fault)))
-        × (O.portions out.new ≡ O.portions out.old)
-        × PutsLine (E.portions err.old) (E.failures err.old) (E.portions err.new) (E.failures err.new)
-        (line_of (ending_unread (error_kind fault)))) }
+    ensures no_text { IfErr words (λ fault. error_kind fault ≢ ErrorKind.OutOfMemory →
+        IsEnded Ending.WrongUsage result (E.portions err.old) (E.failures err.old) (E.portions err.new) (E.failures err.new)) }
+    ensures no_memory { IfErr words (λ fault. error_kind fault ≡ ErrorKind.OutOfMemory →
+        IsEnded Ending.OutOfMemory result (E.portions err.old) (E.failures err.old) (E.portions err.new) (E.failures err.new)) }
+    ensures quiet { OnErr words (O.portions out.new ≡ O.portions out.old) }
 {
     match words {
         Ok(words) => match borrowed(rt, words.as_slice()) {
@@ -47,7 +48,8 @@ pub fn program_of<R: Files + AllocGlobal, O: Sink, E: Sink>(
 
 /// Returns how the program ends if its words were not read.
 fn unread(kind: ErrorKind) -> Ending<'static>
-    ensures { result ≡ ending_unread kind }
+    ensures no_text { kind ≢ ErrorKind.OutOfMemory → result ≡ Ending.WrongUsage }
+    ensures no_memory { kind ≡ ErrorKind.OutOfMemory → result ≡ Ending.OutOfMemory }
 {
     match kind {
         ErrorKind::OutOfMemory => Ending::OutOfMemory,
@@ -59,10 +61,7 @@ fn unread(kind: ErrorKind) -> Ending<'static>
 fn after_first<'a>(words: &'a [&'a str]) -> &'a [&'a str]
     ensures { map (λ word. word.now) result.now ≡ drop 1 (map (λ word. word.now) words.now) }
 {
-    match words.split_first() {
-        Some((_, others)) => others,
-        None => words,
-    }
+    &words[words.len().min(1)..]
 }
 
 /// Returns the words as texts.
