@@ -1,5 +1,5 @@
 -- The opened files ran, and so the program ends as the definition says.
-use Rattle.std.proofs.Common.{◌≡◌, ◌⊎◌, List, ℕ, Option, Result, Ok, Err, map, subst, inl, inr}
+use Rattle.std.proofs.Common.{◌≡◌, ◌⊎◌, List, ℕ, Option, Result, Ok, Err, map, refl, subst, inl, inr}
 use Rattle.series.specs.declared.endings.RunFault.{RunFault}
 use Rattle.series.specs.declared.endings.RunFault.TheVariants as fault
 use Rattle.series.specs.declared.endings.Status.{Status}
@@ -10,6 +10,7 @@ use Rattle.settings.specs.declared.faults.UseFault.{UseFault}
 use Rattle.settings.specs.declared.faults.UseFault.TheVariants.{Memory}
 use Rattle.settings.specs.Setup.{Setup}
 use Rattle.command.specs.declared.endings.Ending.{Ending}
+use Rattle.command.specs.declared.endings.Ending.TheVariants.{OutOfMemory}
 use Rattle.command.specs.Files.{Files}
 use Rattle.command.specs.Whole.{Ends, IsEndingOf, RunsTo}
 
@@ -38,3 +39,8 @@ ends_by_run files asked setup fails known ending before after failed failed_afte
     let told : RunsTo files.fails setup (map files.holds setup.words) ending before after failed failed_after =
     subst (λ contents. RunsTo files.fails setup contents ending before after failed failed_after) same over in
     subst (λ answer. Ends files answer ending before after) is (inr (failed, failed_after, told))
+
+-- it may end for want of memory whatever its words ask for
+pub ends_without_memory : (files : Files) (asked : Result Setup UseFault) (before : Taken) → Ends files asked OutOfMemory before before
+ends_without_memory files (Ok setup) before = inl (tt, refl)
+ends_without_memory files (Err fault) before = (inr refl, refl)

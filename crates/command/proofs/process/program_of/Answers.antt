@@ -1,0 +1,17 @@
+use Rattle.std.proofs.Common.{refl, rules}
+use Rattle.series.specs.Pieces.{taken}
+use Rattle.command.specs.declared.endings.Ending.TheVariants.{OutOfMemory}
+use Rattle.command.specs.Files.{real_files}
+use Rattle.command.proofs.WholeLemmas.{ends_without_memory}
+use Rattle.command.proofs.process.program_of.Goals as goal
+
+pub returns-in-Ok-clause-read : goal.returns-in-Ok-clause-read
+returns-in-Ok-clause-read g c = rw c.in-Ok.is (record {
+  ending = OutOfMemory;
+  between = taken (g.O.Sink.portions c.args.out.now) (g.E.Sink.portions c.args.err.now);
+  ends = ends_without_memory real_files _ _;
+  text = refl;
+  front = search rules;
+  whole = search rules;
+  status = c.end.ensures.status;
+})
