@@ -11,9 +11,13 @@ mod checks;
 #[cfg(test)]
 mod device_tests;
 #[cfg(test)]
+mod large_tests;
+#[cfg(test)]
 mod memory_tests;
 #[cfg(test)]
 mod piece_tests;
+#[cfg(test)]
+mod recorder;
 #[cfg(test)]
 mod refuser;
 #[cfg(test)]

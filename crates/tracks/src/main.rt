@@ -2,6 +2,8 @@
 //! ended.
 #![tactic(auto)]
 
+ghost use Rattle.std.specs.Prelude.{◌≡◌, ◌≢◌};
+
 mod feeds;
 mod matches;
 mod picture;
@@ -55,10 +57,7 @@ fn main(rt: HostRuntime) -> ExitCode {
 /// Reads the words, plays the match, and writes its picture at once when it is whole. The lines about sources are
 /// written.
 fn run(rt: &HostRuntime) -> Result<(), Fault> {
-    let words = arguments(rt).map_err(|fault| match fault.kind() {
-        ErrorKind::OutOfMemory => Fault::Memory,
-        _ => Fault::Usage,
-    })?;
+    let words = arguments(rt).map_err(|error| fault_by(error.kind()))?;
     let words = borrowed(rt, words.as_slice()).map_err(|_| Fault::Memory)?;
     let Some(wish) = read_words(words.as_slice()) else {
         return Err(Fault::Usage);
@@ -84,6 +83,17 @@ fn recorded(rt: &HostRuntime, wish: &Wish<'_>) -> Result<Recording, Fault> {
         wish.number(),
         wish.limit(),
     ))
+}
+
+/// Returns why there are no words: memory was refused, or they are no text.
+fn fault_by(kind: ErrorKind) -> Fault
+    ensures memory { kind ≡ ErrorKind.OutOfMemory → result ≡ Fault.Memory }
+    ensures usage { kind ≢ ErrorKind.OutOfMemory → result ≡ Fault.Usage }
+{
+    match kind {
+        ErrorKind::OutOfMemory => Fault::Memory,
+        _ => Fault::Usage,
+    }
 }
 
 /// Returns the words of the command line after the program's name. Words that are no text are an error.

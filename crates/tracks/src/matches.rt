@@ -1,6 +1,7 @@
 //! Matches: how one is played, and what is recorded of it.
 
-ghost use Rattle.std.specs.Prelude.{◌≡◌, ◌+◌, ◌/◌, ◌≤◌, ◌<◌, length};
+ghost use Rattle.std.specs.Prelude.{◌≡◌, ◌+◌, ◌/◌, ◌≤◌, ◌<◌, length, nat_lt, Some, if◌then◌else◌};
+ghost use Rattle.std.specs.Option.{option_or};
 
 use crate::pilots::Pilot;
 use arena::{Arena, MOST_ROBOTS};
@@ -40,8 +41,27 @@ impl Default for Track {
 
 impl Track {
     /// Reports whether the robot is alive at the end.
-    pub fn is_alive(&self) -> bool {
+    pub fn is_alive(&self) -> bool
+        ensures { result ≡ nat_lt self.now.damage DEADLY }
+    {
         self.damage < DEADLY
+    }
+
+    /// Records where the robot is after the update of this number, and its damage. Its death is in the first update
+    /// after which it isn't alive.
+    fn record(&mut self, place: Place, damage: u8, update: u32)
+        ensures end { self.new.end ≡ place }
+        ensures damage { self.new.damage ≡ damage }
+        ensures death { self.new.death ≡ (if nat_lt damage DEADLY then self.old.death
+            else option_or self.old.death (Some update)) }
+    {
+        self.end = place;
+        self.damage = damage;
+        if self.is_alive() {
+            self.path.add(place);
+        } else if self.death.is_none() {
+            self.death = Some(update);
+        }
     }
 }
 
@@ -151,13 +171,6 @@ fn watch(tracks: &mut [Track], arena: &Arena, update: u32)
     requires { length arena.now.robots ≡ length tracks.old }
 {
     for robot in 0..tracks.len() {
-        let track = &mut tracks[robot];
-        track.end = Place::of(arena, robot);
-        track.damage = arena.damage(robot);
-        if track.is_alive() {
-            track.path.add(track.end);
-        } else if track.death.is_none() {
-            track.death = Some(update);
-        }
+        tracks[robot].record(Place::of(arena, robot), arena.damage(robot), update);
     }
 }

@@ -171,10 +171,7 @@ fn add_piece(
     let path: &Path = &track.path;
     let len = path.places().len();
     text.push_str("<polyline")?;
-    add_opacity(
-        text,
-        opacity(path.stride().saturating_mul(next as u32 - 1), updates),
-    )?;
+    add_opacity(text, opacity(path.update_of(next - 1), updates))?;
     text.push_str(" points=\"")?;
     let mut last = None;
     for place in &path.places()[first..len.min(next + 1)] {

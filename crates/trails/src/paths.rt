@@ -93,6 +93,15 @@ impl Path {
         self.places.as_slice()
     }
 
+    /// Returns after how many updates the robot was at the place of this number.
+    pub fn update_of(&self, place: usize) -> u32
+        requires { place < length self.now.places }
+        ensures { result ≡ place * self.now.stride }
+    {
+        let stride = self.stride;
+        stride * place as u32
+    }
+
     /// Returns of how many places one is kept.
     pub fn stride(&self) -> u32
         ensures value { result ≡ self.now.stride }
