@@ -71,6 +71,7 @@ class Player:
     def __init__(self, program: str, jobs: int) -> None:
         self._program = program
         self._jobs = jobs
+        self._environment = dict(os.environb)
         self._selector = selectors.DefaultSelector()
         self._running: dict[int, Child] = {}
 
@@ -105,7 +106,7 @@ class Player:
         output, writing = os.pipe()
         actions = [(os.POSIX_SPAWN_OPEN, 0, os.devnull, os.O_RDONLY, 0), (os.POSIX_SPAWN_DUP2, writing, 1), (os.POSIX_SPAWN_DUP2, writing, 2)]
         try:
-            process = os.posix_spawn(self._program, words, os.environ, file_actions=actions, setsigdef=[signal.SIGPIPE])
+            process = os.posix_spawn(self._program, words, self._environment, file_actions=actions, setsigdef=[signal.SIGPIPE])
         except OSError as why:
             os.close(output)
             raise Fault(f"{self._program} can't be run: {why.strerror}", PROGRAM) from why

@@ -2,6 +2,7 @@
 
 from __future__ import annotations
 
+import functools
 import os
 import re
 from dataclasses import dataclass
@@ -58,7 +59,7 @@ class Record:
         group = ",".join(str(at + 1) for at in self.series.group)
         hashes = ",".join(robot.sha256 for robot in self.robots)
         files = ",".join(encoded(robot.path) for robot in self.robots)
-        return f"series {self.settings.text()} group={group} first={self.series.first} count={self.series.count} sha256={hashes} files={files}"
+        return f"series {self.settings.text} group={group} first={self.series.first} count={self.series.count} sha256={hashes} files={files}"
 
     def line(self) -> str:
         return f"{self.head()} results={self.results}\n"
@@ -68,6 +69,7 @@ class Record:
         return ((self.series.first + at, match(it)) for at, it in enumerate(self.results.split(",")))
 
 
+@functools.cache
 def encoded(path: str) -> str:
     """A path without blanks, commas and quotes."""
     return quote(os.fsencode(path))

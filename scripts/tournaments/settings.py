@@ -3,6 +3,7 @@
 from __future__ import annotations
 
 from dataclasses import dataclass
+from functools import cached_property
 
 Group = tuple[int, ...]
 
@@ -19,6 +20,7 @@ class Settings:
     sizes: tuple[int, ...]
     sample: int = 0
 
+    @cached_property
     def text(self) -> str:
         """The settings as a record has them."""
         sizes = ",".join(map(str, self.sizes))
