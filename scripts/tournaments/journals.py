@@ -1,0 +1,118 @@
+"""The journal: a file with a record of each series that was played, from which a tournament goes on.
+
+A match is found again by the bytes of its robots, in their order, and by its number: so a robot whose bytes changed plays
+anew, and one that came or went leaves the matches of the others as they were."""
+
+from __future__ import annotations
+
+import contextlib
+import fcntl
+import os
+import stat
+import sys
+from typing import Callable, Iterator
+
+from .faults import FILE, Fault, unreadable, unwritable
+from .records import Record, played
+from .settings import Settings
+
+Hashes = tuple[str, ...]
+
+
+class Journal:
+    """The matches that were played, by the robots' hashes; adds to the file, if there is one."""
+
+    def __init__(self, path: str | None = None, file: int = -1) -> None:
+        self._path = path
+        self._file = file
+        self._kept: dict[Hashes, list[tuple[int, str]]] = {}
+
+    def matches(self, hashes: Hashes, most: int) -> dict[int, str]:
+        """The results of the matches of these robots, by their numbers, as far as a tournament goes."""
+        found: dict[int, str] = {}
+        for first, results in self._kept.get(hashes, ()):
+            for number, result in enumerate(results.split(","), first):
+                if found.setdefault(number, result) != result:
+                    raise Fault(f"{self._path} has two results of one match", FILE)
+        return {number: found[number] for number in sorted(found) if number <= most}
+
+    def keep(self, record: Record) -> None:
+        """Remembers a record that the file has."""
+        hashes = tuple(sys.intern(robot.sha256) for robot in record.robots)
+        self._kept.setdefault(hashes, []).append((record.series.first, record.results))
+
+    def add(self, record: Record) -> None:
+        """Adds a record to the file, by one write unless the disk is full. If it can't be written whole, nothing of it stays."""
+        if self._path is None:
+            return
+        line = record.line().encode()
+        end = os.fstat(self._file).st_size
+        try:
+            while line:
+                line = line[os.write(self._file, line):]
+        except OSError as why:
+            with contextlib.suppress(OSError):
+                os.ftruncate(self._file, end)
+            unwritable(self._path, why)
+
+
+@contextlib.contextmanager
+def journal(path: str | None, settings: Settings, tell: Callable[[str], None]) -> Iterator[Journal]:
+    """Opens a journal that goes on from what it has; without a path one that keeps nothing."""
+    if path is None:
+        yield Journal()
+        return
+    try:
+        file = os.open(path, os.O_RDWR | os.O_CREAT | os.O_APPEND | os.O_CLOEXEC, 0o666)
+    except OSError as why:
+        unwritable(path, why)
+    try:
+        if not stat.S_ISREG(os.fstat(file).st_mode):
+            raise Fault(f"{path} is no regular file", FILE)
+        it = Journal(path, file)
+        lock(path, file)
+        load(it, path, file, settings, tell)
+        yield it
+        with contextlib.suppress(OSError):
+            os.fsync(file)
+    finally:
+        os.close(file)
+
+
+def lock(path: str, file: int) -> None:
+    """Keeps the journal from another tournament that would add to it."""
+    try:
+        fcntl.flock(file, fcntl.LOCK_EX | fcntl.LOCK_NB)
+    except BlockingIOError as why:
+        raise Fault(f"{path} is the journal of a tournament that is being played", FILE) from why
+
+
+def load(journal: Journal, path: str, file: int, settings: Settings, tell: Callable[[str], None]) -> None:
+    """Reads all records, and drops a last line that was cut."""
+    whole = 0
+    try:
+        with open(file, "rb", closefd=False) as lines:
+            for number, line in enumerate(lines, 1):
+                if line.endswith(b"\n"):
+                    journal.keep(checked(line, f"line {number} of {path}", path, settings))
+                    whole += len(line)
+                elif number == 1 and not b"series m=".startswith(line[:9]):
+                    raise Fault(f"{path} is no journal", FILE)
+                else:
+                    tell(f"the last line of {path} was cut, and is dropped")
+                    os.ftruncate(file, whole)
+    except OSError as why:
+        unreadable(path, why)
+
+
+def checked(line: bytes, place: str, path: str, settings: Settings) -> Record:
+    """The record of a line, if it was played with these settings."""
+    record = played(line.decode("ascii", errors="replace"))
+    if record is None:
+        raise Fault(f"{place} is no record of a series", FILE)
+    ours = (settings.cycles, settings.seed, settings.profile)
+    theirs = (record.settings.cycles, record.settings.seed, record.settings.profile)
+    for name, one, other in zip(("limit", "seed", "profile"), ours, theirs):
+        if one != other:
+            raise Fault(f"{path} is a journal of other settings: {name} {other}, not {one}")
+    return record

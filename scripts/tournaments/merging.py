@@ -1,0 +1,154 @@
+"""Puts the records that a plan's command lines wrote together again, if each match is there exactly once."""
+
+from __future__ import annotations
+
+import contextlib
+import sys
+from collections import Counter
+from typing import IO, Iterable, Iterator
+
+from .faults import FILE, Fault, unreadable
+from .groups import groups
+from .records import Record, Series, planned, played
+from .robots import Robot
+from .settings import Group, Settings, difference
+
+Runs = list[tuple[int, int]]
+
+
+class Merger:
+    """The records so far."""
+
+    def __init__(self) -> None:
+        self.settings: Settings | None = None
+        self._robots: dict[int, Robot] = {}
+        self._runs: dict[Group, Runs] = {}
+        self.series: Counter[Series] = Counter()
+
+    def take(self, record: Record, place: str) -> None:
+        """Takes a record of the same tournament."""
+        if self.settings is None:
+            self.settings = record.settings
+        elif self.settings != record.settings:
+            raise Fault(f"{place} is of another tournament: {difference(self.settings, record.settings)}")
+        for at, robot in zip(record.series.group, record.robots):
+            known = self._robots.setdefault(at, robot)
+            if known != robot:
+                said = "other bytes" if known.path == robot.path else f"the name {robot.path}"
+                raise Fault(f"{place} is of other robots: {known.path} has {said} there")
+        self._runs.setdefault(record.series.group, []).append((record.series.first, record.series.last))
+        self.series[record.series] += 1
+
+    def robots(self) -> list[Robot]:
+        """The robots in their order, when all matches are there."""
+        return [self._robots[at] for at in sorted(self._robots)]
+
+    def wrong(self) -> str:
+        """What is missing or more than once, in a few words; nothing if each match is there once."""
+        assert self.settings
+        missing, twice = Found("missing"), Found("there twice or more")
+        for group in groups(self.settings):
+            free, more = gaps(self._runs.pop(group, []), self.settings.matches)
+            missing.add(group, free)
+            twice.add(group, more)
+        said = [it.text(self._robots) for it in (missing, twice) if it.count]
+        if self._runs:
+            said.append(f"{len(self._runs)} groups are not of this tournament")
+        return "; ".join(said)
+
+
+class Found:
+    """Matches that are not as they should be: how many, and which is the first."""
+
+    def __init__(self, what: str) -> None:
+        self._what = what
+        self._first: tuple[Group, int] | None = None
+        self.count = 0
+
+    def add(self, group: Group, runs: Runs) -> None:
+        if runs and self._first is None:
+            self._first = group, runs[0][0]
+        self.count += sum(last - first + 1 for first, last in runs)
+
+    def text(self, robots: dict[int, Robot]) -> str:
+        assert self._first
+        group, number = self._first
+        among = ", ".join(robots[at].path if at in robots else f"robot {at + 1}" for at in group)
+        if self.count == 1:
+            return f"1 match is {self._what}: match {number} of {among}"
+        return f"{self.count} matches are {self._what}, the first is match {number} of {among}"
+
+
+def gaps(runs: Runs, most: int) -> tuple[Runs, Runs]:
+    """The runs of matches that are missing, and those that are more than once."""
+    missing, twice = [], []
+    end = 0
+    for first, last in sorted(runs):
+        if first > end + 1:
+            missing.append((end + 1, first - 1))
+        if first <= end:
+            twice.append((first, min(last, end)))
+        end = max(end, last)
+    if end < most:
+        missing.append((end + 1, most))
+    return missing, twice
+
+
+@contextlib.contextmanager
+def opened(path: str | None) -> Iterator[IO[str]]:
+    """Opens a file, or standard input."""
+    try:
+        if path is None:
+            yield sys.stdin
+            return
+        with open(path, encoding="utf-8", errors="replace", newline="\n") as file:
+            yield file
+    except OSError as why:
+        unreadable(path or "standard input", why)
+
+
+def records(files: list[str]) -> Iterator[tuple[Record, str]]:
+    """The records of these files, or of standard input, each with its place."""
+    paths: list[str | None] = [*files] or [None]
+    for path in paths:
+        with opened(path) as lines:
+            for number, line in enumerate(lines, 1):
+                place = f"line {number} of {path or 'standard input'}"
+                record = played(line)
+                if record is None:
+                    raise Fault(f"{place} is cut short, or is no record of a series")
+                yield record, place
+
+
+def numbered(path: str) -> dict[Series, list[int]]:
+    """The series of a plan, each with the numbers of its lines."""
+    found: dict[Series, list[int]] = {}
+    with opened(path) as lines:
+        for number, line in enumerate(lines, 1):
+            record = planned(line)
+            if record is None:
+                raise Fault(f"line {number} of {path} is no line of a plan", FILE)
+            found.setdefault(record.series, []).append(number)
+    return found
+
+
+def against(path: str, series: Counter[Series]) -> str:
+    """Which lines of a plan were not played, or more than once, or what was played that no line has."""
+    plan = numbered(path)
+    missing = [number for it, numbers in plan.items() for number in numbers if it not in series]
+    twice = [numbers[0] for it, numbers in plan.items() if series[it] > len(numbers)]
+    strange = sum(it not in plan for it in series)
+    said = [f"{lines_of(numbers)} of {path} {'is' if len(numbers) == 1 else 'are'} {what}" for what, numbers in (("missing", missing), ("there twice or more", twice)) if numbers]
+    return "; ".join(said + ([f"{strange} series are in no line of {path}"] if strange else []))
+
+
+def lines_of(numbers: Iterable[int]) -> str:
+    """Numbers of lines, as 'lines 1-3, 7'."""
+    runs: Runs = []
+    for number in sorted(numbers):
+        if runs and runs[-1][1] == number - 1:
+            runs[-1] = runs[-1][0], number
+        else:
+            runs.append((number, number))
+    said = ", ".join(str(first) if first == last else f"{first}-{last}" for first, last in runs)
+    return f"line {said}" if len(runs) == 1 and runs[0][0] == runs[0][1] else f"lines {said}"

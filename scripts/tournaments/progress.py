@@ -1,0 +1,59 @@
+"""Says how far a tournament is: in one line of a terminal, or by a line a minute."""
+
+from __future__ import annotations
+
+import sys
+import time
+from typing import Callable, TextIO
+
+EACH_TERMINAL, EACH_LOG = 0.2, 60.0
+
+
+class Progress:
+    """Counts the series and matches that were played, and says so from time to time."""
+
+    def __init__(self, series: int, quiet: bool, script: str = "tournament", stream: TextIO = sys.stderr, clock: Callable[[], float] = time.monotonic) -> None:
+        self.series = series
+        self._quiet = quiet
+        self._script = script
+        self._stream = stream
+        self._clock = clock
+        self._terminal = stream.isatty()
+        self._begun = self._said = clock()
+        self._width = 0
+        self.done = 0
+        self.matches = 0
+
+    def count(self, matches: int) -> None:
+        """Counts a series that ended."""
+        self.done += 1
+        self.matches += matches
+        now = self._clock()
+        if not self._quiet and now - self._said >= (EACH_TERMINAL if self._terminal else EACH_LOG):
+            self._said = now
+            self._say(self.line(now))
+
+    def line(self, now: float) -> str:
+        """Series done and left, matches a second, the time that it will take."""
+        taken = max(now - self._begun, 1e-9)
+        left = taken * (self.series - self.done) / max(self.done, 1)
+        return f"{self.done} of {self.series} series, {self.series - self.done} left, {self.matches / taken:.1f} matches a second, {duration(left)} to go"
+
+    def _say(self, line: str) -> None:
+        self._stream.write(f"\r{line.ljust(self._width)}" if self._terminal else f"{self._script}: {line}\n")
+        self._stream.flush()
+        self._width = len(line)
+
+    def clear(self) -> None:
+        """Clears the terminal's line."""
+        if self._terminal and self._width:
+            self._stream.write("\r" + " " * self._width + "\r")
+            self._stream.flush()
+            self._width = 0
+
+
+def duration(seconds: float) -> str:
+    """A time as 1:02:03 or 2:03."""
+    whole = round(seconds)
+    hours, minutes = whole // 3600, whole // 60 % 60
+    return f"{hours}:{minutes:02}:{whole % 60:02}" if hours else f"{minutes}:{whole % 60:02}"

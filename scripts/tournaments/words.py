@@ -1,0 +1,85 @@
+"""The words of the command lines."""
+
+from __future__ import annotations
+
+import argparse
+import os
+import re
+from decimal import Decimal
+from typing import Callable, NoReturn
+
+from .faults import Fault
+
+MATCHES_MAX, CYCLES_MAX, SEED_MAX = 1_000_000, 1_000_000_000, 2**64 - 1
+
+
+def within(least: int, most: int) -> Callable[[str], int]:
+    """Reads a whole number within limits."""
+
+    def read(text: str) -> int:
+        if not re.fullmatch(r"[0-9]{1,30}", text) or not least <= int(text) <= most:
+            raise argparse.ArgumentTypeError(f"{text!r} is no number from {least} to {most}")
+        return int(text)
+
+    return read
+
+
+def decimals(count: int) -> Callable[[str], list[Decimal]]:
+    """Reads so many numbers with commas between them, each with at most three digits after its point."""
+
+    def read(text: str) -> list[Decimal]:
+        one = r"[0-9]{1,6}(?:\.[0-9]{1,3})?"
+        if not re.fullmatch(",".join([one] * count), text):
+            raise argparse.ArgumentTypeError(f"{text!r} is not {count} numbers with commas between them")
+        return [Decimal(it) for it in text.split(",")]
+
+    return read
+
+
+class Parser(argparse.ArgumentParser):
+    def error(self, message: str) -> NoReturn:
+        raise Fault(message)
+
+
+def common(name: str, does: str) -> Parser:
+    """The words that both scripts take."""
+    it = Parser(prog=name, description=does, allow_abbrev=False)
+    it.set_defaults(script=name)
+    it.add_argument("-j", dest="jobs", metavar="JOBS", type=within(1, 1024), default=os.cpu_count() or 1, help="series at a time (default: the processors)")
+    it.add_argument("-m", dest="matches", metavar="MATCHES", type=within(1, MATCHES_MAX), default=100, help="matches of each group (default 100)")
+    it.add_argument("-l", dest="cycles", metavar="CYCLES", type=within(1, CYCLES_MAX), default=500_000, help="cycles of a match (default 500000)")
+    it.add_argument("-s", dest="seed", metavar="SEED", type=within(0, SEED_MAX), default=1, help="seed (default 1)")
+    it.add_argument("-p", dest="profile", metavar="PROFILE", type=within(1, 2), default=1, help="language profile, 1 or 2 (default 1)")
+    it.add_argument("--points", metavar="WIN,TIE", type=decimals(2), default=[Decimal(3), Decimal(1)], help="what a win and a tie count (default 3,1)")
+    it.add_argument("--journal", metavar="FILE", help="keep what was played in this file, and go on from it")
+    it.add_argument("--quiet", action="store_true", help="don't say how far it is")
+    it.add_argument("--crobots", metavar="PROGRAM", help="the program (default: crobots on the path, or the repository's)")
+    return it
+
+
+def tournament() -> Parser:
+    """The words of `tournament`."""
+    it = common("tournament", "Plays every pair of robots (or every three, or four), and prints a table.")
+    it.add_argument("--size", metavar="2|3|4", type=within(2, 4), help="robots of a match (default 2)")
+    it.add_argument("--by-size", metavar="A,B,C", type=decimals(3), help="play pairs, threes and fours, and add up their points a match with these weights")
+    it.add_argument("--sample", metavar="N", type=within(1, 10_000_000), default=0, help="play only N groups, in which each robot is equally often")
+    it.add_argument("--piece", metavar="MATCHES", type=within(1, MATCHES_MAX), help="most matches of one series (default: so that all processors are busy)")
+    it.add_argument("--plan", action="store_true", help="print the command lines of all series, one a line, and play nothing")
+    it.add_argument("--merge", action="store_true", help="read what such command lines wrote from files, or from standard input")
+    it.add_argument("--against", metavar="PLAN", help="with --merge: name the lines of the plan that are missing or twice")
+    forms = it.add_mutually_exclusive_group()
+    forms.add_argument("--csv", action="store_true", help="print the table as comma-separated values")
+    forms.add_argument("--matrix", action="store_true", help="print what each robot won, tied and lost against each other")
+    forms.add_argument("--long", action="store_true", help="print comma-separated values, a row for each match and robot")
+    forms.add_argument("--json", action="store_true", help="print everything as JSON")
+    it.add_argument("robots", metavar="ROBOT", nargs="*", help="source files; with --merge, outputs")
+    return it
+
+
+def challenge() -> Parser:
+    """The words of `challenge`."""
+    it = common("challenge", "Plays a robot and its older version against the same robots in the same matches, and says what the change is worth.")
+    it.add_argument("--old", metavar="OLD", required=True, help="the older version")
+    it.add_argument("new", metavar="NEW", help="the newer version")
+    it.add_argument("field", metavar="ROBOT", nargs="+", help="the robots that they play against")
+    return it
