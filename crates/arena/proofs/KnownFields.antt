@@ -5,33 +5,45 @@ use Rattle.arith.specs.Degree.{degree_of}
 use Rattle.arith.specs.Circle.{sine_at, cosine_at}
 use Rattle.arith.specs.Root.{root_by_quarters, root_of}
 use Rattle.arith.specs.Bearing.{reach_of, first_greatest, reaches, bearing_of}
-use Rattle.arena.specs.Leg.{brought, along, way_east, way_north, candidate_x, candidate_y, place_x, place_y, begun, stopped, steered, approached, sped, grown, is_outside, hits_wall, walled, tried, driven}
+use Rattle.arena.specs.Leg.{clamped, along, way_east, way_north, end_x, end_y, place_x, place_y, begun, steered, approached, sped, grown, is_outside, hits_wall, walled, tried, driven}
 use Rattle.arena.specs.Field.{damage_of, is_alive, no_robot, robot_at, metres_x, metres_y}
 use Rattle.arena.specs.Collisions.{candidate, mover, moves, square, is_close, is_no_further, collides, others, touches}
 use Rattle.arena.specs.Shots.{aimed_x, aimed_y, flight, shot, in_air, due_at, ring, bursts}
 use Rattle.arena.specs.Moved.{put_back, settled, knocks, moved_robot, moved}
+use Rattle.arena.specs.Rest.{moved_times}
 use Rattle.arena.specs.Scan.{apart, east_to, north_to, in_arc, sees, range_of, nearest, scanned}
 use Rattle.arena.specs.Words.{generator, word}
-use Rattle.arena.specs.Start.{standing, quadrant, drawn_place, drawn_robot, start, placed}
+use Rattle.arena.specs.Start.{standing, quadrant, drawn_place, drawn_robot, start}
+use Rattle.arena.specs.Placed.{placed}
 use Rattle.arena.specs.Answer.{argument, fired, wanting, directed, random_limit, random_number, answer}
 use Rattle.arena.specs.KnownFields.{Scans, Starts, Drives, Knocks, Rings, Missiles}
 
 pub scans : Scans
-unfolding answer scanned nearest sees in_arc east_to north_to apart range_of argument degree_of brought robot_at others placed standing is_alive damage_of no_robot metres_x metres_y place_x place_y candidate_x candidate_y way_east way_north along square root_of root_by_quarters bearing_of first_greatest reaches reach_of cosine_at sine_at sines
+unfolding answer scanned nearest sees in_arc east_to north_to apart range_of argument degree_of clamped robot_at others placed standing is_alive damage_of no_robot metres_x metres_y place_x place_y end_x end_y way_east way_north along square root_of root_by_quarters bearing_of first_greatest reaches reach_of cosine_at sine_at sines
 scans = record {
   at_the_edge = refl;
   past_the_edge = refl;
   resolution_below_0 = refl;
   resolution_is_0 = refl;
   same_metre = refl;
+  nearer_of_two = refl;
 }
 
 pub starts : Starts
-unfolding start drawn_robot drawn_place quadrant word generator standing answer random_number random_limit argument brought place_x place_y candidate_x candidate_y way_east way_north along cosine_at sine_at sines
-starts = record { words = refl; quadrants = refl; stand = refl; next_word = refl }
+unfolding start drawn_robot drawn_place quadrant word generator standing answer random_number random_limit argument clamped place_x place_y end_x end_y way_east way_north along cosine_at sine_at sines
+starts = record {
+  words = refl;
+  quadrants = refl;
+  stand = refl;
+  next_word = refl;
+  rand_of_0 = refl;
+  rand_below_0 = refl;
+  rand_of_0_takes_a_word = refl;
+  rand_past_most = refl;
+}
 
 pub drives : Drives
-unfolding answer directed wanting argument degree_of brought robot_at placed standing is_alive damage_of no_robot place_x place_y candidate_x candidate_y way_east way_north along begun stopped steered approached sped grown is_outside hits_wall walled tried driven candidate mover moves square is_close is_no_further collides others touches due_at ring bursts put_back settled knocks moved_robot moved cosine_at sine_at sines
+unfolding answer directed wanting argument degree_of clamped robot_at placed standing is_alive damage_of no_robot place_x place_y end_x end_y way_east way_north along begun steered approached sped grown is_outside hits_wall walled tried driven candidate mover moves square is_close is_no_further collides others touches due_at ring bursts put_back settled knocks moved_robot moved moved_times cosine_at sine_at sines
 drives = record {
   six_updates = (refl, refl, refl);
   brakes = (refl, refl, refl);
@@ -43,7 +55,7 @@ drives = record {
 }
 
 pub knocks_ : Knocks
-unfolding answer directed wanting argument degree_of brought robot_at placed standing is_alive damage_of no_robot place_x place_y metres_x candidate_x candidate_y way_east way_north along begun stopped steered approached sped grown is_outside hits_wall walled tried driven candidate mover moves square is_close is_no_further collides others touches due_at ring bursts put_back settled knocks moved_robot moved cosine_at sine_at sines
+unfolding answer directed wanting argument degree_of clamped robot_at placed standing is_alive damage_of no_robot place_x place_y metres_x end_x end_y way_east way_north along begun steered approached sped grown is_outside hits_wall walled tried driven candidate mover moves square is_close is_no_further collides others touches due_at ring bursts put_back settled knocks moved_robot moved moved_times cosine_at sine_at sines
 knocks_ = record {
   both_hurt = refl;
   both_back = refl;
@@ -54,10 +66,21 @@ knocks_ = record {
   last_metre = refl;
   all_three = refl;
   three_stay = refl;
+  corner_hurts_once = refl;
+  corner_holds = refl;
+  wall_and_robot_hurt = refl;
+  neither_moves = refl;
+  driving_away_is_free = refl;
+  drives_on = refl;
+  same_distance_hurts = refl;
+  none_passes = refl;
+  standing_is_free = refl;
+  turned_and_put_back = refl;
+  keeps_its_heading = refl;
 }
 
 pub rings : Rings
-unfolding answer fired shot aimed_x aimed_y flight in_air argument degree_of brought robot_at placed standing is_alive damage_of no_robot place_x place_y candidate_x candidate_y way_east way_north along begun stopped steered approached sped grown is_outside hits_wall walled tried driven candidate mover moves square is_close is_no_further collides others touches due_at ring bursts put_back settled knocks moved_robot moved cosine_at sine_at sines
+unfolding answer fired shot aimed_x aimed_y flight in_air argument degree_of clamped robot_at placed standing is_alive damage_of no_robot place_x place_y end_x end_y way_east way_north along begun steered approached sped grown is_outside hits_wall walled tried driven candidate mover moves square is_close is_no_further collides others touches due_at ring bursts put_back settled knocks moved_robot moved moved_times cosine_at sine_at sines
 rings = record {
   at_5_metres = refl;
   at_5_metres_aslant = refl;
@@ -70,7 +93,7 @@ rings = record {
 }
 
 pub missiles : Missiles
-unfolding answer fired shot aimed_x aimed_y flight in_air argument degree_of brought robot_at placed standing is_alive damage_of no_robot place_x place_y candidate_x candidate_y way_east way_north along begun stopped steered approached sped grown is_outside hits_wall walled tried driven candidate mover moves square is_close is_no_further collides others touches due_at ring bursts put_back settled knocks moved_robot moved cosine_at sine_at sines
+unfolding answer scanned nearest sees in_arc east_to north_to apart range_of metres_x metres_y root_of root_by_quarters bearing_of first_greatest reaches reach_of fired shot aimed_x aimed_y flight in_air argument degree_of clamped robot_at placed standing is_alive damage_of no_robot place_x place_y end_x end_y way_east way_north along begun steered approached sped grown is_outside hits_wall walled tried driven candidate mover moves square is_close is_no_further collides others touches due_at ring bursts put_back settled knocks moved_robot moved moved_times cosine_at sine_at sines
 missiles = record {
   first = refl;
   second = refl;
@@ -82,4 +105,6 @@ missiles = record {
   shooter_is_hurt = refl;
   shooter_dies = refl;
   missile_of_the_dead = refl;
+  weak_is_seen = refl;
+  dead_is_not_seen = refl;
 }

@@ -11,7 +11,8 @@ use Rattle.arith.specs.Root.{IsRoot, root_of}
 use Rattle.arena.proofs.Roots.{root_grows, root_of_0, root_of_1}
 use Rattle.arena.specs.Field.{Robot, Field, robot_at, metres_x, metres_y}
 use Rattle.arena.specs.Collisions.{square, others}
-use Rattle.arena.specs.Scan.{sees, range_of, square_to, nearest, nearer, scanned}
+use Rattle.arena.specs.Scan.{sees, range_of, nearest, scanned}
+use Rattle.arena.specs.Nearer.{square_to, nearer}
 
 -- one element more, which is seen or not
 pub one_more : {X : Type 0} (f : X → ℕ) (p : X → Bool) (n : ℕ) (xs : List X) (i : ℕ) (d : X) (so_far : ℕ) → i < length xs → so_far ≡ fold nearer n (map f (filter p (take i xs))) →

@@ -1,7 +1,7 @@
 -- An update of a still field leaves its robots as they are.
-use Rattle.std.proofs.Common.{◌≡◌, ℕ, suc, zero, ◌+◌, ◌<◌, ◌≤◌, min, Bool, true, false, not, ◌&&◌, ◌==◌, List, [], ◌∷◌, ◌++◌, length, take, drop, map, get_or, sum, cond, add-one, refl, sym, ap, subst, ◌∙◌, arith}
+use Rattle.std.proofs.Common.{◌≡◌, ℕ, suc, zero, ◌+◌, ◌<◌, ◌≤◌, min, Bool, true, false, not, nat_lt, inl, inr, ◌&&◌, ◌==◌, List, [], ◌∷◌, ◌++◌, length, take, drop, map, get_or, sum, cond, add-one, refl, sym, ap, subst, ◌∙◌, arith}
 use Rattle.std.specs.List.{All, range_with_len}
-use Rattle.std.proofs.lemmas.Bool.{eq-eqb}
+use Rattle.std.proofs.lemmas.Bool.{eq-eqb, ltb-true}
 use Rattle.std.proofs.lemmas.List.{map_more, get_or-map, length-map, take_all}
 use Rattle.std.proofs.lemmas.List.Elements.{All-get_or, All-take, All-drop}
 use Rattle.std.proofs.lemmas.List.FromFn.{map-range_with_len_more}
@@ -13,14 +13,23 @@ use Rattle.arena.specs.Moved.{moved_robot, moved}
 use Rattle.arena.specs.Ground.{Ground, body_of}
 use Rattle.arena.specs.Standing.{StandsFor}
 use Rattle.arena.specs.Drive.{ahead}
-use Rattle.arena.specs.Rest.{Rests, Stays, IsStill, rested}
+use Rattle.arena.specs.Rest.{Stays, IsStill, moved_times}
 use Rattle.arena.proofs.Loops.{after_at, after_all}
 use Rattle.arena.proofs.SlotLaws.{none_hurt, holds_still}
 use Rattle.arena.proofs.Touches.{touches_none}
+use Rattle.arena.proofs.Tracks.{StandsFree, rests_is}
 use Rattle.arena.proofs.Wear.{ahead_is}
 use Rattle.arena.proofs.Represents.{updates}
 
-driven_is : (leg : Leg) → Rests leg → driven leg ≡ leg
+-- a live robot that stays is at rest
+live_rests : (robot : Robot) → Stays (body_of robot) → is_alive robot ≡ true → StandsFree robot.leg
+unfolding is_alive body_of
+live_rests robot (inl dead) live =
+    let none : nat_lt 100 100 ≡ true = rw dead at live in
+    absurd (omega (arith, ltb-true 100 100 none))
+live_rests robot (inr rests) live = rests_is robot.leg rests
+
+driven_is : (leg : Leg) → StandsFree leg → driven leg ≡ leg
 unfolding driven walled
 driven_is leg r = ap walled r.stands ∙ rw r.free refl
 
@@ -29,7 +38,7 @@ unfolding candidate
 candidate_is robot stays = by_life (is_alive robot) refl
   where
     by_life : (live : Bool) → is_alive robot ≡ live → cond live (driven robot.leg) robot.leg ≡ robot.leg
-    by_life true e = driven_is robot.leg (stays robot refl e)
+    by_life true e = driven_is robot.leg (live_rests robot stays e)
     by_life false e = refl
 
 -- so as collisions see it the robot doesn't move
@@ -71,7 +80,7 @@ ahead_stays robot stays =
     rw (candidate_is robot stays, free, same) refl
   where
     by_life : (live : Bool) → is_alive robot ≡ live → (live && hits_wall (tried robot.leg)) ≡ false
-    by_life true e = let r = stays robot refl e in ap hits_wall r.stands ∙ r.free
+    by_life true e = let r = live_rests robot stays e in ap hits_wall r.stands ∙ r.free
     by_life false e = refl
 
 stays_as_is : (robot : Robot) (update : ℕ) (shots : List Shot) → Stays (body_of robot) → ((x y : ℕ) → sum (bursts update shots x y) ≡ 0) → body_of robot ≡ body_of (moved_robot update shots 0 robot)
@@ -110,11 +119,11 @@ only_counts g f s still =
     updates g (record g { updates = g.updates + 1 }) f s refl refl (s.robots ∙ robots) (holds_still f.updates (f.updates + 1) g.slots f.shots refl s.missiles still.none_flies)
 
 -- and so for some updates
-pub only_rests : (g : Ground) (f : Field) (n : ℕ) → StandsFor g f → IsStill g.robots g.slots → StandsFor (record g { updates = g.updates + n }) (rested n f)
-unfolding rested
+pub only_rests : (g : Ground) (f : Field) (n : ℕ) → StandsFor g f → IsStill g.robots g.slots → StandsFor (record g { updates = g.updates + n }) (moved_times n f)
+unfolding moved_times
 only_rests g f zero s still =
     let none : g.updates + 0 ≡ g.updates = omega arith in
     rw none s
 only_rests g f (suc n) s still =
     let more : g.updates + suc n ≡ g.updates + n + 1 = omega arith in
-    rw more (only_counts (record g { updates = g.updates + n }) (rested n f) (only_rests g f n s still) still)
+    rw more (only_counts (record g { updates = g.updates + n }) (moved_times n f) (only_rests g f n s still) still)

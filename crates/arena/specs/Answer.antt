@@ -7,7 +7,7 @@ use Rattle.arith.specs.Circle.{sine_of, cosine_of}
 use Rattle.arith.specs.Tangent.{tangent_of}
 use Rattle.arith.specs.Arctangent.{arctangent_of}
 use Rattle.arith.specs.Root.{root_of}
-use Rattle.arena.specs.Leg.{Leg, brought}
+use Rattle.arena.specs.Leg.{Leg, clamped}
 use Rattle.arena.specs.Field.{Field, damage_of, robot_at, metres_x, metres_y}
 use Rattle.arena.specs.Shots.{shot, in_air}
 use Rattle.arena.specs.Scan.{scanned}
@@ -35,16 +35,16 @@ directed field i degree speed =
 
 -- a random number is below its limit, which lies in 1..32767
 unfoldable pub random_limit : ℤ → ℕ
-random_limit n = max 1 (brought 32767 n)
+random_limit n = max 1 (clamped 32767 n)
 
 unfoldable pub random_number : Field → ℤ → ℕ
 random_number field n = word field.seed field.number field.drawn % random_limit n
 
 -- the reply, and the field afterwards
 unfoldable pub answer : Field → ℕ → Intrinsic → List ℤ → ℤ × Field
-answer field i Scan a = (pos (scanned field i (degree_of (argument a 0)) (brought 10 (argument a 1))), field)
-answer field i Cannon a = fired field i (degree_of (argument a 0)) (brought 700 (argument a 1))
-answer field i Drive a = (pos 1, directed field i (degree_of (argument a 0)) (brought 100 (argument a 1)))
+answer field i Scan a = (pos (scanned field i (degree_of (argument a 0)) (clamped 10 (argument a 1))), field)
+answer field i Cannon a = fired field i (degree_of (argument a 0)) (clamped 700 (argument a 1))
+answer field i Drive a = (pos 1, directed field i (degree_of (argument a 0)) (clamped 100 (argument a 1)))
 answer field i Damage a = (pos (damage_of (robot_at field i)), field)
 answer field i Speed a = (pos (robot_at field i).leg.speed, field)
 answer field i LocX a = (pos (metres_x (robot_at field i)), field)

@@ -48,6 +48,10 @@ pub record Missile : Type 0 where
 unfoldable pub shot_of : ℕ → Missile → Shot
 shot_of owner missile = record { owner = owner; burst = missile.burst; x = missile.x; y = missile.y }
 
+-- an arena counts so many updates at most: those of 1,000,000,000 cycles
+abbrev pub most_updates : ℕ
+most_updates = 66666667
+
 -- of a field
 pub record Ground : Type 0 where
   pub updates : ℕ

@@ -4,8 +4,10 @@ pub mod Collisions
 pub mod Shots
 pub mod Moved
 pub mod Scan
+pub mod Nearer
 pub mod Words
 pub mod Start
+pub mod Placed
 pub mod Answer
 pub mod Ground
 pub mod Rest

@@ -1,4 +1,13 @@
--- One update. Every robot and every pair is judged on the same old field and the same candidates.
+-- One update, `moved`. Every robot and every pair is judged on the same old field and the same candidates. Its steps:
+--  1. Heading: `steered` (Leg), which turns, or brakes for the turn.
+--  2. Speed: `sped` (Leg), by `approached`.
+--  3. Distance: `grown` (Leg). The three make the leg that a robot tries to drive, `tried`.
+--  4. Walls: `walled` (Leg) stops and clamps it if it `hits_wall`, which makes it `driven`, the candidate; `knocks` has
+--     what the wall takes.
+--  5. Collisions: `touches` (Collisions) counts the pairs; `settled` puts those back that are in one, and `knocks` has
+--     what each takes.
+--  6. Bursts: `bursts` (Shots), of the shots that are due, at the place of the settled leg.
+--  7. Deaths: `damage_of` and `is_alive` (Field), from the sum of all hurts.
 use Rattle.std.specs.Prelude.{ℕ, ◌+◌, nat_lt, if◌then◌else◌, List, [], ◌∷◌, ◌++◌, length, map, replicate}
 use Rattle.std.specs.List.{range_with_len}
 use Rattle.arena.specs.Leg.{Leg, place_x, place_y, driven, tried, hits_wall}

@@ -1,18 +1,23 @@
 -- When a field is still: an update then changes nothing but the number of updates. When the next missile bursts.
-use Rattle.std.specs.Prelude.{◌≡◌, ℕ, zero, suc, ◌≤◌, List, [], true, false, All}
-use Rattle.arena.specs.Leg.{Leg, tried, hits_wall}
-use Rattle.arena.specs.Field.{Robot, Field, is_alive}
-use Rattle.arena.specs.Ground.{Body, Missile, body_of}
+use Rattle.std.specs.Prelude.{◌≡◌, ◌⊎◌, ℕ, zero, suc, ◌≤◌, List, [], pos, All}
+use Rattle.arena.specs.Leg.{last_place, along}
+use Rattle.arena.specs.Field.{Field}
+use Rattle.arena.specs.Ground.{Track, Body, Missile}
 use Rattle.arena.specs.Moved.{moved}
 
--- a robot at rest: what it tries to drive is the leg that it has, which no wall stops
-pub record Rests (leg : Leg) : Type 0 where
-  pub stands : tried leg ≡ leg
-  pub free : hits_wall leg ≡ false
+-- a robot at rest, at the place inside the field to which its leg leads: it has no speed, and wants none and no other
+-- heading
+pub record Rests (track : Track) : Type 0 where
+  pub stands : track.speed ≡ 0
+  pub wants_none : track.wanted_speed ≡ 0
+  pub heads : track.wanted_heading ≡ track.heading
+  pub leads_x : pos track.x ≡ along track.origin_x track.east
+  pub leads_y : pos track.y ≡ along track.origin_y track.north
+  pub inside : (track.x ≤ last_place) × (track.y ≤ last_place)
 
--- of what an arena keeps of a robot: it is dead, or at rest
+-- an update without bursts leaves a robot as it is: it is dead, or at rest
 abbrev pub Stays : Body → Type 0
-Stays body = (robot : Robot) → body ≡ body_of robot → is_alive robot ≡ true → Rests robot.leg
+Stays body = (body.damage ≡ 100) ⊎ Rests body.track
 
 -- all robots stay, and no missile is in the air
 pub record IsStill (robots : List Body) (slots : List (List Missile)) : Type 0 where
@@ -20,9 +25,9 @@ pub record IsStill (robots : List Body) (slots : List (List Missile)) : Type 0 w
   pub none_flies : All (λ s. s ≡ []) slots
 
 -- the field after so many updates
-unfoldable pub rested : ℕ → Field → Field
-rested zero field = field
-rested (suc n) field = moved (rested n field)
+unfoldable pub moved_times : ℕ → Field → Field
+moved_times zero field = field
+moved_times (suc n) field = moved (moved_times n field)
 
 -- no missile in the air bursts before an update
 abbrev pub NoneBefore : ℕ → List (List Missile) → Type 0

@@ -1,5 +1,5 @@
 -- What a scan sees: the nearest live robot in an arc.
-use Rattle.std.specs.Prelude.{ℕ, min, max, fold, Bool, ◌&&◌, ◌||◌, ◌==◌, nat_le, if◌then◌else◌, List, [], ◌∷◌, filter, map, ℤ, pos, ◌-ℤ◌, unsigned_abs}
+use Rattle.std.specs.Prelude.{ℕ, min, max, fold, Bool, ◌&&◌, ◌||◌, ◌==◌, nat_le, List, [], ◌∷◌, filter, map, ℤ, pos, ◌-ℤ◌, unsigned_abs}
 unfoldable pub use Rattle.arith.specs.Degree.{apart}
 use Rattle.arith.specs.Root.{root_of}
 use Rattle.arith.specs.Bearing.{bearing_of}
@@ -26,14 +26,6 @@ sees from degree resolution to = is_alive to && in_arc from degree resolution to
 unfoldable pub range_of : Robot → Robot → ℕ
 range_of from to =
     max 1 (unsigned_abs (root_of (pos (square (metres_x from) (metres_y from) (metres_x to) (metres_y to)))))
-
--- ranges compare as these do: the squared distance in whole metres, and at least 1
-unfoldable pub square_to : Robot → Robot → ℕ
-square_to from to = max 1 (square (metres_x from) (metres_y from) (metres_x to) (metres_y to))
-
--- the lesser of two ranges, of which the first may be 0, for none
-unfoldable pub nearer : ℕ → ℕ → ℕ
-nearer range other = if range == 0 then other else min range other
 
 -- the least of some ranges, or 0
 unfoldable pub nearest : List ℕ → ℕ

@@ -2,16 +2,16 @@
 use Rattle.std.specs.Prelude.{ℕ, ◌+◌, ◌*◌, max, ◌&&◌, ◌==◌, nat_lt, nat_le, if◌then◌else◌, List, filter, map, pos, ◌*ℤ◌}
 use Rattle.std.specs.Int.{div_ceil}
 use Rattle.arith.specs.Circle.{sine_at, cosine_at}
-use Rattle.arena.specs.Leg.{Leg, last_place, brought, along, place_x, place_y}
+use Rattle.arena.specs.Leg.{Leg, last_place, clamped, along, place_x, place_y}
 use Rattle.arena.specs.Field.{Shot}
 use Rattle.arena.specs.Collisions.{square}
 
 -- the place of a burst, at this range in metres and inside the field
 unfoldable pub aimed_x : ℕ → ℕ → ℕ → ℕ
-aimed_x from degree range = brought last_place (along from (pos (10 * range) *ℤ cosine_at degree))
+aimed_x from degree range = clamped last_place (along from (pos (10 * range) *ℤ cosine_at degree))
 
 unfoldable pub aimed_y : ℕ → ℕ → ℕ → ℕ
-aimed_y from degree range = brought last_place (along from (pos (10 * range) *ℤ sine_at degree))
+aimed_y from degree range = clamped last_place (along from (pos (10 * range) *ℤ sine_at degree))
 
 -- a missile flies 50 metres in an update, and at least one update
 unfoldable pub flight : ℕ → ℕ

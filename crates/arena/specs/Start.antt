@@ -1,7 +1,6 @@
 -- The field at the start of a match: each robot in a quadrant of its own.
-use Rattle.std.specs.Prelude.{ℕ, ◌+◌, ◌*◌, ◌/◌, ◌%◌, ◌==◌, if◌then◌else◌, List, [], map, ℤ, pos, ◌≤ℤ◌}
+use Rattle.std.specs.Prelude.{ℕ, ◌+◌, ◌*◌, ◌/◌, ◌%◌, ◌==◌, if◌then◌else◌, [], map}
 use Rattle.std.specs.List.{range_with_len}
-use Rattle.arena.specs.Leg.{last_place, brought}
 use Rattle.arena.specs.Field.{Robot, Field}
 use Rattle.arena.specs.Words.{word}
 
@@ -42,20 +41,5 @@ start seed number n = record {
   drawn = 1 + 2 * n;
   updates = 0;
   robots = map (drawn_robot seed number) (range_with_len 0 n);
-  shots = [];
-}
-
--- a place inside the field
-abbrev pub IsPlace : ℤ × ℤ → Type 0
-IsPlace place = (pos 0 ≤ℤ place.0) × (place.0 ≤ℤ pos 9999) × (pos 0 ≤ℤ place.1) × (place.1 ≤ℤ pos 9999)
-
--- robots at given places, with no word drawn
-unfoldable pub placed : ℕ → ℕ → List (ℤ × ℤ) → Field
-placed seed number places = record {
-  seed = seed;
-  number = number;
-  drawn = 0;
-  updates = 0;
-  robots = map (λ place. standing (brought last_place place.0) (brought last_place place.1)) places;
   shots = [];
 }

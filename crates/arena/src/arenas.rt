@@ -3,14 +3,15 @@
 ghost use Rattle.std.specs.Prelude.{◌≡◌, ℕ, ◌+◌, ◌*◌, ◌<◌, ◌≤◌, true, nat_lt, ℤ, pos, All, count_by, length, slice_index_or};
 ghost use Rattle.grammar.specs.declared.names.Intrinsic.TheVariants.{Scan, Cannon, Drive, Damage, Speed, LocX, LocY, Rand, Sqrt, Sin, Cos, Tan, Atan};
 ghost use Rattle.arith.specs.Degree.{degree_of};
-ghost use Rattle.arena.specs.Leg.{brought, place_x, place_y};
+ghost use Rattle.arena.specs.Leg.{last_place, clamped, place_x, place_y};
 ghost use Rattle.arena.specs.Field.{Field, no_robot, damage_of, robot_at, is_live, live_count};
 ghost use Rattle.arena.specs.Moved.{moved};
-ghost use Rattle.arena.specs.Rest.{IsStill, rested};
+ghost use Rattle.arena.specs.Rest.{IsStill, moved_times};
 ghost use Rattle.arena.specs.Scan.{scanned};
-ghost use Rattle.arena.specs.Start.{start, placed, IsPlace};
+ghost use Rattle.arena.specs.Start.{start};
+ghost use Rattle.arena.specs.Placed.{placed, IsPlace};
 ghost use Rattle.arena.specs.Answer.{answer, fired, directed, random_number};
-ghost use Rattle.arena.specs.Ground.{Body, body_of, lives};
+ghost use Rattle.arena.specs.Ground.{most_updates, Body, body_of, lives};
 ghost use Rattle.arena.specs.Standing.{StandsFor};
 
 use crate::limits::MOST_ROBOTS;
@@ -49,7 +50,7 @@ pub struct Arena {
 
 impl Model for Arena {
     ghost use Rattle.std.specs.Prelude.{◌≡◌, ◌*◌, ◌≤◌, true, All, length};
-    ghost use Rattle.arena.specs.Ground.{Body, Ground, IsWithin};
+    ghost use Rattle.arena.specs.Ground.{most_updates, Body, Ground, IsWithin};
     ghost use Rattle.arena.specs.Rest.{IsStill};
 
     ghost Value = { Ground };
@@ -61,7 +62,7 @@ impl Model for Arena {
       random = a.random;
     } };
 
-    ghost invariant = { λ a. (a.updates ≤ 66666667) × (length a.missiles ≡ length a.robots.items)
+    ghost invariant = { λ a. (a.updates ≤ most_updates) × (length a.missiles ≡ length a.robots.items)
         × (length a.robots.items ≤ 4) × All (λ (b : Body). IsWithin (10000000 * a.updates) b.track) a.robots.items
         × All (λ s. length s ≤ 2) a.missiles × (a.is_still ≡ true → IsStill a.robots.items a.missiles) };
 }
@@ -134,7 +135,7 @@ impl Arena {
 
     /// Does one update: moves all live robots, and lets the missiles burst that are due.
     pub fn update(&mut self)
-        requires { self.old.updates < 66666667 }
+        requires { self.old.updates < most_updates }
         ensures stands { (f : Field) → StandsFor self.old f → StandsFor self.new (moved f) }
         ensures updates { self.new.updates ≡ self.old.updates + 1 }
         ensures manned { length self.new.robots ≡ length self.old.robots }
@@ -162,8 +163,8 @@ impl Arena {
     #[inline(always)]
     pub fn rest(&mut self, updates: u32)
         requires still { IsStill self.old.robots self.old.slots }
-        requires few { self.old.updates + updates ≤ 66666667 }
-        ensures stands { (f : Field) → StandsFor self.old f → StandsFor self.new (rested updates f) }
+        requires few { self.old.updates + updates ≤ most_updates }
+        ensures stands { (f : Field) → StandsFor self.old f → StandsFor self.new (moved_times updates f) }
         ensures value { self.new ≡ record self.old { updates = self.old.updates + updates } }
     {
         self.updates += updates;
@@ -192,8 +193,8 @@ impl Arena {
         requires { robot < length self.now.robots }
         ensures x { (f : Field) → StandsFor self.now f → result.0 ≡ place_x (robot_at f robot).leg }
         ensures y { (f : Field) → StandsFor self.now f → result.1 ≡ place_y (robot_at f robot).leg }
-        ensures most_x { result.0 ≤ 9999 }
-        ensures most_y { result.1 ≤ 9999 }
+        ensures most_x { result.0 ≤ last_place }
+        ensures most_y { result.1 ≤ last_place }
     {
         let robot = self.robot(robot);
         (robot.x(), robot.y())
@@ -226,9 +227,9 @@ impl Arena {
     fn scan(&self, robot: usize, degree: i32, resolution: i32) -> i32
         requires { robot < length self.now.robots }
         ensures { (f : Field) → StandsFor self.now f
-            → result ≡ pos (scanned f robot (degree_of degree) (brought 10 resolution)) }
+            → result ≡ pos (scanned f robot (degree_of degree) (clamped 10 resolution)) }
     {
-        let resolution = brought(resolution, MOST_RESOLUTION);
+        let resolution = clamped(resolution, MOST_RESOLUTION);
         i32::from(scan(
             self.robots.as_slice(),
             robot,
@@ -241,16 +242,16 @@ impl Arena {
     fn cannon(&mut self, robot: usize, degree: i32, range: i32) -> i32
         requires { robot < length self.old.robots }
         ensures reply { (f : Field) → StandsFor self.old f
-            → result ≡ (fired f robot (degree_of degree) (brought 700 range)).0 }
+            → result ≡ (fired f robot (degree_of degree) (clamped 700 range)).0 }
         ensures stands { (f : Field) → StandsFor self.old f
-            → StandsFor self.new (fired f robot (degree_of degree) (brought 700 range)).1 }
+            → StandsFor self.new (fired f robot (degree_of degree) (clamped 700 range)).1 }
         ensures updates { self.new.updates ≡ self.old.updates }
         ensures manned { length self.new.robots ≡ length self.old.robots }
     {
         if !self.missiles.may_fire(robot) {
             return 0;
         }
-        let range = brought(range, MOST_RANGE);
+        let range = clamped(range, MOST_RANGE);
         let (x, y) = self.place(robot);
         let missile = Missile::new(self.updates, x, y, norm_degree(degree), range);
         self.is_still = false;
@@ -263,11 +264,11 @@ impl Arena {
         requires { robot < length self.old.robots }
         ensures reply { result ≡ pos 1 }
         ensures stands { (f : Field) → StandsFor self.old f
-            → StandsFor self.new (directed f robot (degree_of degree) (brought 100 speed)) }
+            → StandsFor self.new (directed f robot (degree_of degree) (clamped 100 speed)) }
         ensures updates { self.new.updates ≡ self.old.updates }
         ensures manned { length self.new.robots ≡ length self.old.robots }
     {
-        let speed = brought(speed, MOST_SPEED) as u8;
+        let speed = clamped(speed, MOST_SPEED) as u8;
         let wanting = self.robot(robot).wanting(norm_degree(degree), speed);
         self.is_still = false;
         self.robots[robot] = wanting;
@@ -283,9 +284,9 @@ fn living(robots: &[Robot]) -> usize
 }
 
 // Returns a number from 0 to `most` as it is, and the nearer end of that range for any other.
-#[tactic(auto, unfolding(crate::specs::Leg::brought))]
-fn brought(number: i32, most: u16) -> u16
-    ensures value { result ≡ brought most number }
+#[tactic(auto, unfolding(crate::specs::Leg::clamped))]
+fn clamped(number: i32, most: u16) -> u16
+    ensures value { result ≡ clamped most number }
     ensures most { result ≤ most }
 {
     number.clamp(0, i32::from(most)) as u16

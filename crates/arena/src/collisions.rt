@@ -1,6 +1,7 @@
 //! Which robots collide in an update.
 
 ghost use Rattle.std.specs.Prelude.{◌≡◌, ℕ, ◌<◌, ◌≤◌, false, All, count_by, length};
+ghost use Rattle.arena.specs.Leg.{last_place};
 ghost use Rattle.arena.specs.Collisions.{square, moves, is_close, is_no_further, collides, touches};
 
 use std::marker::Model;
@@ -20,6 +21,7 @@ pub struct Mover {
 
 impl Model for Mover {
     ghost use Rattle.std.specs.Prelude.{◌≤◌};
+    ghost use Rattle.arena.specs.Leg.{last_place};
     ghost use Rattle.arena.specs.Collisions.{Mover};
 
     ghost Value = { Mover };
@@ -28,17 +30,18 @@ impl Model for Mover {
 
     ghost inverse = { λ m. record { live = m.live; from_x = m.from_x; from_y = m.from_y; x = m.x; y = m.y } };
 
-    ghost invariant = { λ m. (m.from_x ≤ 9999) × (m.from_y ≤ 9999) × (m.x ≤ 9999) × (m.y ≤ 9999) };
+    ghost invariant = { λ m. (m.from_x ≤ last_place) × (m.from_y ≤ last_place)
+        × (m.x ≤ last_place) × (m.y ≤ last_place) };
 }
 
 impl Mover {
     /// Makes the mover of a robot, live or not, from its place and its candidate for the next one, in tenths of a
     /// metre.
     pub fn new(live: bool, from_x: u16, from_y: u16, x: u16, y: u16) -> Mover
-        requires from_x { from_x ≤ 9999 }
-        requires from_y { from_y ≤ 9999 }
-        requires x { x ≤ 9999 }
-        requires y { y ≤ 9999 }
+        requires from_x { from_x ≤ last_place }
+        requires from_y { from_y ≤ last_place }
+        requires x { x ≤ last_place }
+        requires y { y ≤ last_place }
         ensures { result ≡ record { live = live; from_x = from_x; from_y = from_y; x = x; y = y } }
     {
         Mover {
@@ -60,7 +63,7 @@ impl Mover {
     /// Returns the place before the update on the axis to the east, in tenths of a metre.
     pub fn from_x(&self) -> u16
         ensures value { result ≡ self.now.from_x }
-        ensures most { result ≤ 9999 }
+        ensures most { result ≤ last_place }
     {
         self.from_x
     }
@@ -68,7 +71,7 @@ impl Mover {
     /// Returns the place before the update on the axis to the north, in tenths of a metre.
     pub fn from_y(&self) -> u16
         ensures value { result ≡ self.now.from_y }
-        ensures most { result ≤ 9999 }
+        ensures most { result ≤ last_place }
     {
         self.from_y
     }
@@ -114,10 +117,10 @@ impl Mover {
 /// Returns the squared distance of two points of the field, whose coordinates are in tenths of a metre.
 #[tactic(auto, unfolding(crate::specs::Collisions::square))]
 pub fn square(x: u16, y: u16, to_x: u16, to_y: u16) -> u32
-    requires x { x ≤ 9999 }
-    requires y { y ≤ 9999 }
-    requires to_x { to_x ≤ 9999 }
-    requires to_y { to_y ≤ 9999 }
+    requires x { x ≤ last_place }
+    requires y { y ≤ last_place }
+    requires to_x { to_x ≤ last_place }
+    requires to_y { to_y ≤ last_place }
     ensures { result ≡ square x y to_x to_y }
 {
     let dx = u32::from(x.abs_diff(to_x));

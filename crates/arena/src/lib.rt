@@ -18,4 +18,4 @@ mod words;
 
 pub use arenas::Arena;
 pub use known::known_fields;
-pub use limits::{LAST_PLACE, MOST_MISSILES, MOST_ROBOTS, MOST_UPDATES};
+pub use limits::{LAST_PLACE, MOST_ROBOTS};

@@ -9,8 +9,5 @@ pub const MOST_MISSILES: usize = 2;
 /// The last place on each axis, in tenths of a metre; the first is 0.
 pub const LAST_PLACE: u16 = 9999;
 
-/// The most updates of an arena.
-pub const MOST_UPDATES: u32 = 66_666_667;
-
 /// The damage, in percent, at which a robot is dead.
 pub const DEADLY: u8 = 100;

@@ -1,6 +1,7 @@
 //! The missiles of all robots that are in the air, and the update before which none of them bursts.
 
 ghost use Rattle.std.specs.Prelude.{◌≡◌, ℕ, ◌+◌, ◌<◌, ◌≤◌, ◌++◌, ◌∷◌, [], List, All, sum, true, nat_lt, length, slice_index_or};
+ghost use Rattle.arena.specs.Leg.{last_place};
 ghost use Rattle.arena.specs.Field.{Shot};
 ghost use Rattle.arena.specs.Shots.{bursts, in_air};
 ghost use Rattle.arena.specs.Ground.{shot_of};
@@ -86,8 +87,8 @@ impl Missiles {
 
     /// Returns the damage in percent that the bursts of an update do at a place in tenths of a metre.
     pub fn damage_at(&self, update: u32, x: u16, y: u16) -> u8
-        requires x { x ≤ 9999 }
-        requires y { y ≤ 9999 }
+        requires x { x ≤ last_place }
+        requires y { y ≤ last_place }
         ensures most { result ≤ 80 }
         ensures shots { (updates : ℕ) (shots : List Shot) → update ≡ updates + 1 → HoldsShots updates self.now shots
             → result ≡ sum (bursts update shots x y) }

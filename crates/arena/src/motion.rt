@@ -1,7 +1,7 @@
 //! How a robot moves: its leg, with the sums of the way in place of the distance.
 
 ghost use Rattle.std.specs.Prelude.{◌≡◌, true, ◌+◌, ◌^◌, ◌<◌, ◌≤◌, ℤ, pos, ◌+ℤ◌, ◌*ℤ◌, unsigned_abs, ◌||◌};
-ghost use Rattle.arena.specs.Leg.{Leg, last_place, brought, along, place_x, place_y, approached, begun, steered, sped, grown, walled, is_outside, hits_wall, tried, driven};
+ghost use Rattle.arena.specs.Leg.{Leg, last_place, clamped, along, place_x, place_y, approached, begun, steered, sped, grown, walled, is_outside, hits_wall, tried, driven};
 ghost use Rattle.arena.specs.Start.{standing};
 ghost use Rattle.arena.specs.Moved.{put_back};
 ghost use Rattle.arena.specs.Answer.{wanting};
@@ -39,7 +39,7 @@ pub struct Motion {
 
 impl Model for Motion {
     ghost use Rattle.std.specs.Prelude.{◌≡◌, ◌<◌, ◌≤◌, pos};
-    ghost use Rattle.arena.specs.Leg.{along};
+    ghost use Rattle.arena.specs.Leg.{last_place, along};
     ghost use Rattle.arena.specs.Ground.{Track};
 
     ghost Value = { Track };
@@ -70,8 +70,9 @@ impl Model for Motion {
       wanted_speed = m.wanted_speed;
     } };
 
-    ghost invariant = { λ m. (m.origin_x ≤ 9999) × (m.origin_y ≤ 9999) × (m.x ≤ 9999) × (m.y ≤ 9999)
-        × (m.heading < 360) × (m.wanted_heading < 360) × (m.speed ≤ 100) × (m.wanted_speed ≤ 100)
+    ghost invariant = { λ m. (m.origin_x ≤ last_place) × (m.origin_y ≤ last_place)
+        × (m.x ≤ last_place) × (m.y ≤ last_place) × (m.heading < 360) × (m.wanted_heading < 360)
+        × (m.speed ≤ 100) × (m.wanted_speed ≤ 100)
         × (pos m.x ≡ along m.origin_x m.east) × (pos m.y ≡ along m.origin_y m.north) };
 }
 
@@ -91,8 +92,8 @@ impl Default for Motion {
 impl Motion {
     /// Makes the motion of a robot that stands at a place in tenths of a metre, at rest.
     pub fn standing(x: u16, y: u16) -> Motion
-        requires x { x ≤ 9999 }
-        requires y { y ≤ 9999 }
+        requires x { x ≤ last_place }
+        requires y { y ≤ last_place }
         ensures track { result ≡ track_of (standing x y).leg }
         ensures still { (result.east ≡ pos 0) × (result.north ≡ pos 0) }
     {
@@ -113,7 +114,7 @@ impl Motion {
     /// Returns the place on the axis to the east, in tenths of a metre.
     pub fn x(&self) -> u16
         ensures value { result ≡ self.now.x }
-        ensures most { result ≤ 9999 }
+        ensures most { result ≤ last_place }
     {
         self.x
     }
@@ -121,7 +122,7 @@ impl Motion {
     /// Returns the place on the axis to the north, in tenths of a metre.
     pub fn y(&self) -> u16
         ensures value { result ≡ self.now.y }
-        ensures most { result ≤ 9999 }
+        ensures most { result ≤ last_place }
     {
         self.y
     }
@@ -136,7 +137,7 @@ impl Motion {
 
     /// Reports whether the robot stands still and wants nothing else, so that an update leaves its leg as it is.
     pub fn rests(&self) -> bool
-        ensures { result ≡ true → (leg : Leg) → self.now ≡ track_of leg → Rests leg }
+        ensures { result ≡ true → Rests self.now }
     {
         self.speed == 0 && self.wanted_speed == 0 && self.wanted_heading == self.heading
     }
@@ -204,8 +205,8 @@ impl Motion {
 
     // Stops at a place, which is the origin of a new leg with the same heading.
     fn stopped_at(self, x: u16, y: u16) -> Motion
-        requires x { x ≤ 9999 }
-        requires y { y ≤ 9999 }
+        requires x { x ≤ last_place }
+        requires y { y ≤ last_place }
         ensures { result ≡ record self {
           origin_x = x;
           origin_y = y;
@@ -250,8 +251,8 @@ impl Motion {
         let to_x = along(self.origin_x, east);
         let to_y = along(self.origin_y, north);
         let walled = hits_wall(to_x, to_y);
-        let x = brought(to_x);
-        let y = brought(to_y);
+        let x = clamped(to_x);
+        let y = clamped(to_y);
         if walled {
             return Drive {
                 motion: self.stopped_at(x, y),
@@ -285,8 +286,8 @@ impl Motion {
 
     /// Stops at the place where it was before the update.
     pub fn put_back(self, x: u16, y: u16) -> Motion
-        requires x { x ≤ 9999 }
-        requires y { y ≤ 9999 }
+        requires x { x ≤ last_place }
+        requires y { y ≤ last_place }
         ensures leg { (old leg : Leg) → x ≡ place_x old → y ≡ place_y old → self ≡ track_of leg
             → result ≡ track_of (put_back old leg) }
         ensures way { (result.east ≡ pos 0) × (result.north ≡ pos 0) }
@@ -331,10 +332,10 @@ fn hits_wall(x: i64, y: i64) -> bool
 }
 
 /// Returns the place of the field that is nearest to a coordinate.
-#[tactic(auto, unfolding(crate::specs::Leg::brought))]
-pub(crate) fn brought(z: i64) -> u16
-    ensures value { result ≡ brought last_place z }
-    ensures most { result ≤ 9999 }
+#[tactic(auto, unfolding(crate::specs::Leg::clamped))]
+pub(crate) fn clamped(z: i64) -> u16
+    ensures value { result ≡ clamped last_place z }
+    ensures most { result ≤ last_place }
 {
     z.clamp(0, i64::from(LAST_PLACE)) as u16
 }

@@ -1,7 +1,7 @@
 //! Robots: how they move and how much they were hurt.
 
 ghost use Rattle.std.specs.Prelude.{◌≡◌, ℕ, ◌+◌, ◌*◌, ◌^◌, ◌<◌, ◌≤◌, true, min, if◌then◌else◌, nat_lt, unsigned_abs};
-ghost use Rattle.arena.specs.Leg.{hits_wall, tried};
+ghost use Rattle.arena.specs.Leg.{last_place, hits_wall, tried};
 ghost use Rattle.arena.specs.Field.{Robot as FieldRobot, is_alive, metres_x, metres_y};
 ghost use Rattle.arena.specs.Collisions.{candidate, mover};
 ghost use Rattle.arena.specs.Start.{standing};
@@ -54,8 +54,8 @@ impl Robot {
     /// Makes a robot that stands at a place in tenths of a metre, at rest and unhurt.
     #[tactic(auto, unfolding(crate::specs::Ground::body_of, crate::specs::Field::damage_of, crate::specs::Start::standing))]
     pub fn standing(x: u16, y: u16) -> Robot
-        requires x { x ≤ 9999 }
-        requires y { y ≤ 9999 }
+        requires x { x ≤ last_place }
+        requires y { y ≤ last_place }
         ensures body { result ≡ body_of (standing x y) }
         ensures still { IsWithin 0 result.track }
     {
@@ -199,7 +199,7 @@ impl Robot {
     /// Returns the place on the axis to the east, in tenths of a metre.
     pub fn x(&self) -> u16
         ensures value { result ≡ self.now.track.x }
-        ensures most { result ≤ 9999 }
+        ensures most { result ≤ last_place }
     {
         self.motion.x()
     }
@@ -207,7 +207,7 @@ impl Robot {
     /// Returns the place on the axis to the north, in tenths of a metre.
     pub fn y(&self) -> u16
         ensures value { result ≡ self.now.track.y }
-        ensures most { result ≤ 9999 }
+        ensures most { result ≤ last_place }
     {
         self.motion.y()
     }

@@ -6,7 +6,8 @@ ghost use Rattle.arith.specs.Bearing.{bearing_of};
 ghost use Rattle.arena.specs.Field.{Robot as FieldRobot, Field};
 ghost use Rattle.arena.specs.Collisions.{square};
 ghost use Rattle.arith.specs.Degree.{apart};
-ghost use Rattle.arena.specs.Scan.{sees, square_to, nearer, scanned};
+ghost use Rattle.arena.specs.Scan.{sees, scanned};
+ghost use Rattle.arena.specs.Nearer.{square_to, nearer};
 ghost use Rattle.arena.specs.Ground.{body_of};
 
 use crate::collisions::square;
@@ -64,7 +65,7 @@ fn nearer(from: &Robot, other: &Robot, degree: u16, resolution: u16, so_far: u32
 }
 
 // Reports whether a squared distance is less than another one, of which 0 is none.
-#[tactic(auto, using(std::proofs::lemmas::Bool::Decides::nat_tests), unfolding(crate::specs::Scan::nearer))]
+#[tactic(auto, using(std::proofs::lemmas::Bool::Decides::nat_tests), unfolding(crate::specs::Nearer::nearer))]
 fn is_nearer(square: u32, so_far: u32) -> bool
     ensures nearer { result ≡ true → nearer so_far square ≡ square }
     ensures farther { result ≡ false → nearer so_far square ≡ so_far }
@@ -110,7 +111,7 @@ fn in_arc(x: u16, y: u16, to_x: u16, to_y: u16, degree: u16, resolution: u16) ->
 }
 
 // Returns the squared distance of two robots, in metres: at least 1.
-#[tactic(auto, unfolding(crate::specs::Scan::square_to))]
+#[tactic(auto, unfolding(crate::specs::Nearer::square_to))]
 fn square_to(from: &Robot, to: &Robot) -> u32
     ensures value { (a b : FieldRobot) → from.now ≡ body_of a → to.now ≡ body_of b → result ≡ square_to a b }
     ensures most { result ≤ 2000000 }

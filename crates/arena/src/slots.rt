@@ -1,16 +1,16 @@
 //! Missiles: where and when they burst, and which of each robot's are in the air.
 
 ghost use Rattle.std.specs.Prelude.{◌≡◌, ℕ, ◌+◌, ◌*◌, ◌<◌, ◌≤◌, ◌++◌, ◌∷◌, [], ℤ, pos, ◌*ℤ◌, unsigned_abs, List, All, filter, map, sum, true, nat_lt, length, slice_index_or};
-ghost use Rattle.arena.specs.Leg.{last_place, brought, along};
+ghost use Rattle.arena.specs.Leg.{last_place, clamped, along};
 ghost use Rattle.arena.specs.Field.{Shot};
 ghost use Rattle.arena.specs.Shots.{aimed_x, aimed_y, bursts, flight, in_air, ring};
-ghost use Rattle.arena.specs.Ground.{shot_of};
+ghost use Rattle.arena.specs.Ground.{most_updates, shot_of};
 ghost use Rattle.arena.specs.Rest.{NoneBefore};
 ghost use Rattle.arena.specs.Standing.{HoldsShots};
 
 use crate::collisions::square;
 use crate::limits::{MOST_MISSILES, MOST_ROBOTS};
-use crate::motion::{along, brought};
+use crate::motion::{along, clamped};
 use arith::{cosine_at, sine_at};
 use arrayvec::ArrayVec;
 use std::marker::Model;
@@ -29,6 +29,7 @@ pub struct Missile {
 
 impl Model for Missile {
     ghost use Rattle.std.specs.Prelude.{◌≤◌};
+    ghost use Rattle.arena.specs.Leg.{last_place};
     ghost use Rattle.arena.specs.Ground.{Missile};
 
     ghost Value = { Missile };
@@ -37,7 +38,7 @@ impl Model for Missile {
 
     ghost inverse = { λ m. record { burst = m.burst; x = m.x; y = m.y } };
 
-    ghost invariant = { λ m. (m.x ≤ 9999) × (m.y ≤ 9999) };
+    ghost invariant = { λ m. (m.x ≤ last_place) × (m.y ≤ last_place) };
 }
 
 impl Missile {
@@ -45,9 +46,9 @@ impl Missile {
     /// degree and at a range in metres.
     #[tactic(auto, unfolding(crate::specs::Shots::aimed_x, crate::specs::Shots::aimed_y))]
     pub fn new(updates: u32, x: u16, y: u16, degree: u16, range: u16) -> Missile
-        requires updates { updates ≤ 66666667 }
-        requires x { x ≤ 9999 }
-        requires y { y ≤ 9999 }
+        requires updates { updates ≤ most_updates }
+        requires x { x ≤ last_place }
+        requires y { y ≤ last_place }
         requires degree { degree < 360 }
         requires range { range ≤ 700 }
         ensures { result ≡ record {
@@ -80,8 +81,8 @@ impl Missile {
     // Returns the damage in percent that the missile does in an update at a place.
     #[tactic(auto, unfolding(crate::specs::Shots::bursts, crate::specs::Shots::due_at, crate::specs::Ground::shot_of))]
     fn damage_at(&self, update: u32, x: u16, y: u16) -> u8
-        requires x { x ≤ 9999 }
-        requires y { y ≤ 9999 }
+        requires x { x ≤ last_place }
+        requires y { y ≤ last_place }
         ensures most { result ≤ 10 }
         ensures bursts { (owner : ℕ) → result ≡ sum (bursts update (shot_of owner self.now ∷ []) x y) }
     {
@@ -106,14 +107,14 @@ fn flight(range: u16) -> u32
 // Returns where a missile bursts on an axis, from a place in tenths of a metre and at a range in metres, by the part of
 // the range that lies on the axis.
 fn aimed(from: u16, range: u16, part: i32) -> u16
-    requires from { from ≤ 9999 }
+    requires from { from ≤ last_place }
     requires range { range ≤ 700 }
     requires part { unsigned_abs part ≤ 100000 }
-    ensures value { result ≡ brought last_place (along from (pos (10 * range) *ℤ part)) }
-    ensures most { result ≤ 9999 }
+    ensures value { result ≡ clamped last_place (along from (pos (10 * range) *ℤ part)) }
+    ensures most { result ≤ last_place }
 {
     let way = i64::from(10 * range) * i64::from(part);
-    brought(along(from, way))
+    clamped(along(from, way))
 }
 
 // Returns the damage in percent of a burst at a squared distance in tenths of a metre: by the smallest ring of 5, 20
@@ -183,8 +184,8 @@ impl Slots {
 
     // Returns the damage in percent that the missiles do in an update at a place.
     fn damage_at(&self, update: u32, x: u16, y: u16) -> u8
-        requires x { x ≤ 9999 }
-        requires y { y ≤ 9999 }
+        requires x { x ≤ last_place }
+        requires y { y ≤ last_place }
         ensures most { result ≤ 20 }
         ensures bursts { (owner : ℕ) → result ≡ sum (bursts update (map (shot_of owner) self.now) x y) }
     {
@@ -298,8 +299,8 @@ pub fn next_burst(slots: &[Slots]) -> u32
 /// Returns the damage in percent that the bursts of an update do at a place in tenths of a metre.
 pub fn damage_at(slots: &[Slots], update: u32, x: u16, y: u16) -> u8
     requires robots { length slots.now ≤ MOST_ROBOTS }
-    requires x { x ≤ 9999 }
-    requires y { y ≤ 9999 }
+    requires x { x ≤ last_place }
+    requires y { y ≤ last_place }
     ensures most { result ≤ 80 }
     ensures shots { (updates : ℕ) (shots : List Shot) → update ≡ updates + 1 → HoldsShots updates slots.now shots
         → result ≡ sum (bursts update shots x y) }

@@ -1,9 +1,10 @@
 //! Where robots stand at the start of a match.
 
 ghost use Rattle.std.specs.Prelude.{◌≡◌, ℕ, ◌+◌, ◌*◌, ◌/◌, ◌%◌, ◌<◌, ◌≤◌, ℤ, pos, ◌≤ℤ◌, map, All, length};
-ghost use Rattle.arena.specs.Leg.{last_place, brought};
+ghost use Rattle.arena.specs.Leg.{last_place, clamped};
 ghost use Rattle.arena.specs.Words.{generator, word};
-ghost use Rattle.arena.specs.Start.{standing, drawn_place, start, placed, IsPlace};
+ghost use Rattle.arena.specs.Start.{standing, drawn_place, start};
+ghost use Rattle.arena.specs.Placed.{placed, IsPlace};
 ghost use Rattle.arena.specs.Ground.{Body, IsWithin, body_of};
 
 use crate::limits::MOST_ROBOTS;
@@ -59,7 +60,7 @@ fn drawn_robot(random: &mut Pcg32, quadrant: u32) -> Robot
 #[tactic(auto, unfolding(crate::specs::Start::drawn_place))]
 fn drawn_place(half: u32, word: u32) -> u16
     ensures value { result ≡ drawn_place half word }
-    ensures most { result ≤ 9999 }
+    ensures most { result ≤ last_place }
 {
     let from = if half == 0 { LOW_HALF } else { HIGH_HALF };
     (from + word % PLACES) as u16
@@ -82,12 +83,12 @@ pub(crate) fn placed_robots(
 }
 
 // Returns a given coordinate as a place of the field.
-#[tactic(auto, unfolding(crate::specs::Leg::brought))]
+#[tactic(auto, unfolding(crate::specs::Leg::clamped))]
 fn coordinate(z: i32) -> u16
     requires least { pos 0 ≤ℤ z }
-    requires most { z ≤ℤ pos 9999 }
-    ensures value { result ≡ brought last_place z }
-    ensures most { result ≤ 9999 }
+    requires most { z ≤ℤ pos last_place }
+    ensures value { result ≡ clamped last_place z }
+    ensures most { result ≤ last_place }
 {
     z as u16
 }

@@ -41,7 +41,7 @@ pub(crate) fn random_number(random: &mut Pcg32, limit: i32) -> i32
 }
 
 // Brings the limit of a random number into 1 to 32,767.
-#[tactic(auto, unfolding(crate::specs::Answer::random_limit, crate::specs::Leg::brought))]
+#[tactic(auto, unfolding(crate::specs::Answer::random_limit, crate::specs::Leg::clamped))]
 fn random_limit(limit: i32) -> u32
     ensures value { result ≡ random_limit limit }
     ensures least { 1 ≤ result }

@@ -1,8 +1,9 @@
 //! Fields with known outcomes, through the calls of an arena.
 
 ghost use Rattle.std.specs.Prelude.{◌≡◌, ◌+◌, ◌<◌, ◌≤◌, length};
+ghost use Rattle.arena.specs.Ground.{most_updates};
 
-use arena::{Arena, MOST_ROBOTS};
+use arena::{Arena, LAST_PLACE, MOST_ROBOTS};
 use arrayvec::ArrayVec;
 use grammar::Intrinsic;
 use std::process::Abort;
@@ -18,7 +19,7 @@ pub fn arena_of(places: &[(u16, u16)]) -> Arena
 {
     let mut list = ArrayVec::new();
     for &(x, y) in places {
-        list.push((i32::from(x.min(9999)), i32::from(y.min(9999))));
+        list.push((i32::from(x.min(LAST_PLACE)), i32::from(y.min(LAST_PLACE))));
     }
     Arena::placed(1, 1, &list)
 }
@@ -41,7 +42,7 @@ pub fn reply(
 
 /// Does some updates.
 pub fn pass(arena: &mut Arena, updates: u32)
-    requires { arena.old.updates + updates ≤ 66666667 }
+    requires { arena.old.updates + updates ≤ most_updates }
     ensures updates { arena.new.updates ≡ arena.old.updates + updates }
     ensures manned { length arena.new.robots ≡ length arena.old.robots }
 {
@@ -98,7 +99,7 @@ fn drives_and_turns(rt: HostRuntime) {
 // Checks that robot 0 is at these places with these speeds after the next updates.
 fn stops_at(rt: &impl Abort, arena: &mut Arena, stops: &[(u16, u16, i32)])
     requires two { 0 < length arena.old.robots }
-    requires updates { arena.old.updates + length stops.now ≤ 66666667 }
+    requires updates { arena.old.updates + length stops.now ≤ most_updates }
     ensures updates { arena.new.updates ≡ arena.old.updates + length stops.now }
     ensures manned { length arena.new.robots ≡ length arena.old.robots }
 {

@@ -4,7 +4,8 @@ use Rattle.std.proofs.lemmas.Int.{ints, by_lt_z}
 use Rattle.std.proofs.lemmas.Bool.{cases_lt}
 use Rattle.std.proofs.lemmas.Bool.Decides.{nat_tests}
 use Rattle.arith.specs.Degree.{apart}
-use Rattle.arith.specs.Bearing.{reach_of, IsBearing, bearing_of, leads}
+use Rattle.arith.specs.Bearing.{reach_of, bearing_of}
+use Rattle.arith.specs.Furthest.{IsBearing, leads}
 use Rattle.arith.proofs.BearingLemmas.{bearing_of-IsBearing}
 use Rattle.arith.proofs.Turning.{gain, gains, some_turn, rises, falls, gains_back}
 

@@ -15,7 +15,8 @@ use Rattle.std.proofs.lemmas.Bool.Decides.{Decides-int_eq, nat_tests}
 use Rattle.std.proofs.lemmas.List.FromFn.{length-map-range_with_len, get_or-map-range_with_len}
 use Rattle.arith.specs.Table.{sines}
 use Rattle.arith.specs.Circle.{sine_at, cosine_at}
-use Rattle.arith.specs.Bearing.{reach_of, IsBearing, IsGreatest, first_greatest, reaches, bearing_of}
+use Rattle.arith.specs.Bearing.{reach_of, first_greatest, reaches, bearing_of}
+use Rattle.arith.specs.Furthest.{IsBearing, IsGreatest}
 
 -- a reach fits 32 bits, and so do its two parts
 size_of_sum : (a b : ℤ) → unsigned_abs (a +ℤ b) ≤ unsigned_abs a + unsigned_abs b

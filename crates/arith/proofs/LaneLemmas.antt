@@ -12,7 +12,8 @@ use Rattle.std.proofs.lemmas.List.FromFn.{get_or-map-range_with_len}
 use Rattle.std.proofs.lemmas.Simd.{bitmask_splat, trailing_mask_l, leading_from_mask_l, tops_compared}
 use Rattle.std.proofs.lemmas.Int.{fold-int_max_bounds, fold-int_max_reached, ints, to_z-of_z, int_wrap_fits, wrapping_add-bits, wrapping_mul-bits}
 use Rattle.arith.specs.Circle.{sine_at, cosine_at}
-use Rattle.arith.specs.Bearing.{reach_of, IsGreatest}
+use Rattle.arith.specs.Bearing.{reach_of}
+use Rattle.arith.specs.Furthest.{IsGreatest}
 use Rattle.arith.proofs.CircleLemmas.{round_sine, sine_fits, sine_bound}
 use Rattle.arith.proofs.BearingLemmas.{part_fits, reach_fits}
 

@@ -4,7 +4,8 @@ ghost use Rattle.std.specs.Prelude.{◌≡◌, ◌<◌, ◌≤◌, ◌*◌, nat_
 ghost use Rattle.std.specs.List.{position, range_with_len};
 ghost use Rattle.std.specs.Ordering.{int_eq};
 ghost use Rattle.arith.specs.Degree.{apart};
-ghost use Rattle.arith.specs.Bearing.{reach_of, reaches, IsBearing, bearing_of, leads, IsGreatest};
+ghost use Rattle.arith.specs.Bearing.{reach_of, reaches, bearing_of};
+ghost use Rattle.arith.specs.Furthest.{IsBearing, leads, IsGreatest};
 
 use crate::circle::{cosine_at, sine_at};
 use crate::tables::{LANES, round_entries};
@@ -47,7 +48,7 @@ pub fn bears_within(dx: i32, dy: i32, degree: u16, spread: u16) -> bool
 }
 
 /// Reports whether a point reaches further at one degree than at another; of equals the lesser degree comes first.
-#[tactic(auto, unfolding(crate::specs::Bearing::leads))]
+#[tactic(auto, unfolding(crate::specs::Furthest::leads))]
 fn leads(dx: i32, dy: i32, degree: u16, other: u16) -> bool
     requires dx_in_field { unsigned_abs dx ≤ 999 }
     requires dy_in_field { unsigned_abs dy ≤ 999 }

@@ -10,7 +10,7 @@ use Rattle.arith.specs.Degree.{degree_of}
 use Rattle.arena.specs.Answer.{answer, argument, fired, directed, random_number}
 use Rattle.arena.specs.Field.{Field, Shot, is_live, robot_at}
 use Rattle.arena.specs.Ground.{Ground}
-use Rattle.arena.specs.Leg.{brought}
+use Rattle.arena.specs.Leg.{clamped}
 use Rattle.arena.specs.Scan.{scanned}
 use Rattle.arena.specs.Shots.{in_air, shot}
 use Rattle.arena.specs.Standing.{StandsFor as IsGroundOf}
@@ -97,7 +97,7 @@ answer_like : (f : Field) (shots : List Shot) (i : ℕ) (intrinsic : Intrinsic) 
 unfolding answer directed robot_at scanned random_number
 answer_like f shots i Cannon a same =
     let degree = degree_of (argument a 0) in
-    let range = brought 700 (argument a 1) in
+    let range = clamped 700 (argument a 1) in
     let there = fires f shots i degree range (same.in_air i) in
     let here = fires f f.shots i degree range refl in (
       ap (λ (asked : ℤ × Field). asked.0) there,

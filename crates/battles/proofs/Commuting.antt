@@ -10,7 +10,7 @@ use Rattle.grammar.specs.declared.names.Intrinsic.TheVariants.{Scan, Cannon, Dri
 use Rattle.arena.specs.Answer.{answer, argument, fired, directed, random_number, wanting}
 use Rattle.arena.specs.Collisions.{others}
 use Rattle.arena.specs.Field.{Field, Shot, Robot as Body, no_robot, robot_at, is_live, is_alive, damage_of, metres_x, metres_y}
-use Rattle.arena.specs.Leg.{brought, way_east, way_north, candidate_x, candidate_y, place_x, place_y}
+use Rattle.arena.specs.Leg.{clamped, way_east, way_north, end_x, end_y, place_x, place_y}
 use Rattle.arith.specs.Degree.{degree_of}
 use Rattle.arena.specs.Shots.{in_air, shot}
 use Rattle.arena.specs.Scan.{east_to, north_to, in_arc, sees, range_of, nearest, scanned}
@@ -74,8 +74,8 @@ ranges_same seen range l i j x none sight distance =
 -- so a scan doesn't depend on what was answered to others
 scans_same : (f : Field) (i j : ℕ) (intrinsic : Intrinsic) (a : List ℤ) (degree resolution : ℕ) → i ≢ j
     → scanned (answer f j intrinsic a).1 i degree resolution ≡ scanned f i degree resolution
-unfolding answer robot_at directed wanting scanned sees range_of is_alive damage_of in_arc east_to north_to metres_x metres_y place_x place_y candidate_x candidate_y way_east way_north
-scans_same f i j Cannon a degree resolution distinct = rw (robots_of_fired f j (degree_of (argument a 0)) (brought 700 (argument a 1))) refl
+unfolding answer robot_at directed wanting scanned sees range_of is_alive damage_of in_arc east_to north_to metres_x metres_y place_x place_y end_x end_y way_east way_north
+scans_same f i j Cannon a degree resolution distinct = rw (robots_of_fired f j (degree_of (argument a 0)) (clamped 700 (argument a 1))) refl
 scans_same f i j Drive a degree resolution distinct =
     let from = robot_at f i in
     rw (get_or-set_other f.robots j i _ no_robot distinct)
@@ -149,23 +149,23 @@ fired_reply f i degree range = elim (cases_Bool (nat_lt (length (in_air f.update
 reply_same : (intrinsic other : Intrinsic) (a b : List ℤ) (i j : ℕ) (f : Field) → (draws intrinsic ≡ true → draws other ≡ false) → i ≢ j
     → (answer (answer f j other b).1 i intrinsic a).0 ≡ (answer f i intrinsic a).0
 unfolding answer draws directed random_number
-reply_same Scan other a b i j f either distinct = ap pos (scans_same f i j other b (degree_of (argument a 0)) (brought 10 (argument a 1)) distinct)
+reply_same Scan other a b i j f either distinct = ap pos (scans_same f i j other b (degree_of (argument a 0)) (clamped 10 (argument a 1)) distinct)
 reply_same Damage other a b i j f either distinct = ap (λ r. pos (damage_of r)) (others_stay f i j other b distinct)
 reply_same Speed other a b i j f either distinct = ap (λ (r : Body). pos r.leg.speed) (others_stay f i j other b distinct)
 reply_same LocX other a b i j f either distinct = ap (λ r. pos (metres_x r)) (others_stay f i j other b distinct)
 reply_same LocY other a b i j f either distinct = ap (λ r. pos (metres_y r)) (others_stay f i j other b distinct)
 reply_same Rand Rand a b i j f either distinct = absurd (true≢false (either refl))
 reply_same Rand Cannon a b i j f either distinct =
-    rw (fired_field f j (degree_of (argument b 0)) (brought 700 (argument b 1))) refl
+    rw (fired_field f j (degree_of (argument b 0)) (clamped 700 (argument b 1))) refl
 reply_same Rand _ a b i j f either distinct = refl
 reply_same Cannon Cannon a b i j f either distinct =
     let towards = degree_of (argument b 0) in
-    let far = brought 700 (argument b 1) in
+    let far = clamped 700 (argument b 1) in
     rw (fired_field f j towards far)
-    (ap (λ (asked : ℤ × Field). asked.0) (fires f (f.shots ++ pushed f j towards far) i (degree_of (argument a 0)) (brought 700 (argument a 1))
+    (ap (λ (asked : ℤ × Field). asked.0) (fires f (f.shots ++ pushed f j towards far) i (degree_of (argument a 0)) (clamped 700 (argument a 1))
     (own_air f f.shots i j towards far distinct)))
 reply_same Cannon Drive a b i j f either distinct =
-    fired_reply (directed f j (degree_of (argument b 0)) (brought 100 (argument b 1))) i _ _ ∙ sym (fired_reply f i _ _)
+    fired_reply (directed f j (degree_of (argument b 0)) (clamped 100 (argument b 1))) i _ _ ∙ sym (fired_reply f i _ _)
 reply_same Cannon Rand a b i j f either distinct =
     fired_reply (record f { drawn = f.drawn + 1 }) i _ _ ∙ sym (fired_reply f i _ _)
 reply_same Cannon _ a b i j f either distinct = refl
@@ -195,9 +195,9 @@ unfolding answer draws directed robot_at pushed
 fields_alike Rand other a b i j f is distinct = absurd (true≢false is)
 fields_alike Cannon Cannon a b i j f is distinct =
     let degree = degree_of (argument a 0) in
-    let range = brought 700 (argument a 1) in
+    let range = clamped 700 (argument a 1) in
     let towards = degree_of (argument b 0) in
-    let far = brought 700 (argument b 1) in
+    let far = clamped 700 (argument b 1) in
     let back : j ≢ i = λ same. distinct (sym same) in
     rw (
       fired_field f i degree range,
@@ -211,29 +211,29 @@ fields_alike Cannon Cannon a b i j f is distinct =
     })
 fields_alike Cannon Drive a b i j f is distinct =
     let degree = degree_of (argument a 0) in
-    let range = brought 700 (argument a 1) in
+    let range = clamped 700 (argument a 1) in
     let towards = degree_of (argument b 0) in
-    let speed = brought 100 (argument b 1) in
+    let speed = clamped 100 (argument b 1) in
     rw (fired_field f i degree range, fired_field (directed f j towards speed) i degree range, pushed_same f i j degree range towards speed distinct)
     (like_refl _)
 fields_alike Cannon Rand a b i j f is distinct =
     let degree = degree_of (argument a 0) in
-    let range = brought 700 (argument a 1) in
+    let range = clamped 700 (argument a 1) in
     rw (fired_field f i degree range, fired_field (record f { drawn = f.drawn + 1 }) i degree range) (like_refl _)
 fields_alike Cannon _ a b i j f is distinct = like_refl _
 fields_alike Drive Cannon a b i j f is distinct =
     let degree = degree_of (argument a 0) in
-    let speed = brought 100 (argument a 1) in
+    let speed = clamped 100 (argument a 1) in
     let towards = degree_of (argument b 0) in
-    let far = brought 700 (argument b 1) in
+    let far = clamped 700 (argument b 1) in
     let back : j ≢ i = λ same. distinct (sym same) in
     rw (fired_field f j towards far, fired_field (directed f i degree speed) j towards far, pushed_same f j i towards far degree speed back)
     (like_refl _)
 fields_alike Drive Drive a b i j f is distinct =
     let degree = degree_of (argument a 0) in
-    let speed = brought 100 (argument a 1) in
+    let speed = clamped 100 (argument a 1) in
     let towards = degree_of (argument b 0) in
-    let fast = brought 100 (argument b 1) in
+    let fast = clamped 100 (argument b 1) in
     let back : j ≢ i = λ same. distinct (sym same) in
     rw (driven_twice f i j degree speed towards fast distinct) (like_refl _)
 fields_alike Drive _ a b i j f is distinct = like_refl _
@@ -298,7 +298,7 @@ unfolding answer directed is_live is_alive damage_of robot_at
 answer_lives Cannon a i f = ap (λ robots. is_alive (get_or robots i no_robot)) (robots_of_fired f i _ _)
 answer_lives Drive a i f =
     ap (λ hurts. nat_lt (min (sum hurts) 100) 100)
-    (keeps_hurts f.robots i (record (robot_at f i) { leg = wanting (robot_at f i).leg (degree_of (argument a 0)) (brought 100 (argument a 1)) }) no_robot refl)
+    (keeps_hurts f.robots i (record (robot_at f i) { leg = wanting (robot_at f i).leg (degree_of (argument a 0)) (clamped 100 (argument a 1)) }) no_robot refl)
 answer_lives _ a i f = refl
 
 granted_lives : (want : Want) (i : ℕ) (f : Field) (trace : List ℤ) → is_live (granted want i f trace).0 i ≡ is_live f i

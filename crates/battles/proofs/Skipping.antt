@@ -7,7 +7,7 @@ use Rattle.std.proofs.lemmas.List.{append-nil, get_or-set_same, get_or-set_other
 use Rattle.arena.specs.Field.{Field, is_live, is_alive, live_count}
 use Rattle.arena.specs.Ground.{Body, Ground, body_of, lives}
 use Rattle.arena.specs.Moved.{moved}
-use Rattle.arena.specs.Rest.{IsStill, rested}
+use Rattle.arena.specs.Rest.{IsStill, moved_times}
 use Rattle.arena.specs.Standing.{StandsFor as IsGroundOf}
 use Rattle.arena.proofs.Represents.{body_at, living}
 use Rattle.arena.proofs.Still.{only_rests}
@@ -164,8 +164,8 @@ quiet_within g robots traces k n less quiet i low live = quiet_less (robot_of ro
 
 segments_wait : (g : Ground) (robots : List Robot) (k : ℕ) (s : Stage) → IsGroundOf g s.field → IsStill g.robots g.slots
     → length robots ≤ length s.traces → AreQuiet g robots s.traces (15 * k)
-    → segments robots k s ≡ record { field = rested k s.field; traces = waits (lives g) (length robots) (15 * k) s.traces }
-unfolding segments segment rested lives updated_stage waits
+    → segments robots k s ≡ record { field = moved_times k s.field; traces = waits (lives g) (length robots) (15 * k) s.traces }
+unfolding segments segment moved_times lives updated_stage waits
 segments_wait g robots zero s ground still all quiet = refl
 segments_wait g robots (suc k) s ground still all quiet =
     let traces = waits (lives g) (length robots) (15 * k) s.traces in
@@ -174,9 +174,9 @@ segments_wait g robots (suc k) s ground still all quiet =
     let more : AreQuiet g robots s.traces (15 * k + 15) = quiet_within g robots s.traces (15 * k + 15) (15 * suc k) (omega arith) quiet in
     let sum : 15 * k + 15 ≡ 15 * suc k = omega arith in
     ap (segment robots) before
-    ∙ ap updated_stage (rounds_wait grown robots 15 (record { field = rested k s.field; traces = traces }) (only_rests g s.field k ground still)
+    ∙ ap updated_stage (rounds_wait grown robots 15 (record { field = moved_times k s.field; traces = traces }) (only_rests g s.field k ground still)
     (omega (arith, all, waits_length (lives g) (length robots) (15 * k) s.traces)) (quiet_on g robots (15 * k) 15 s.traces all more))
-    ∙ ap (λ (ts : List (List ℤ)). updated_stage (record { field = rested k s.field; traces = ts }))
+    ∙ ap (λ (ts : List (List ℤ)). updated_stage (record { field = moved_times k s.field; traces = ts }))
     (waits_plus (lives g) (length robots) (15 * k) 15 s.traces ∙ ap (λ m. waits (lives g) (length robots) m s.traces) sum)
 
 -- The machines are ahead by cycles in which the robots are quiet.
@@ -243,7 +243,7 @@ skips_alive codes robots runners g s k n are reached still ahead within =
     let quiet = some_quiet codes robots runners g s (15 * n) are reached
     (ahead_fewer (length runners) (15 * k) (15 * n) g runners (omega arith) ahead) in
     ap (λ (t : Stage). live_count t.field) (segments_wait g robots n s reached.field still all quiet)
-    ∙ count_is (record g { updates = g.updates + n }) (rested n s.field) (only_rests g s.field n reached.field still)
+    ∙ count_is (record g { updates = g.updates + n }) (moved_times n s.field) (only_rests g s.field n reached.field still)
     ∙ sym (count_is g s.field reached.field)
 
 -- no window passes

@@ -43,6 +43,13 @@ abbrev pub truth_file : File
 truth_file = file_of_main [] (IfStatement (Binary op.Equal (Binary op.And (constant 2) (constant 3)) (constant 1))
     shot_tree idle)
 
+-- main(){while(1)cannon(0,rand(41));}
+abbrev pub drawing_file : File
+drawing_file = file_of_main [] (While (constant 1)
+    (ExpressionStatement (Call (callee.Intrinsic intrinsic.Cannon) (Argument (constant 0)
+    (Argument (Call (callee.Intrinsic intrinsic.Rand) (Argument (constant 41) NoMore)) NoMore))) Done)
+    Done)
+
 -- how a battle ends
 abbrev pub after : ℕ → List ℕ → Outcome
 after cycles damages = record { cycles = cycles; damages = damages }
@@ -57,6 +64,14 @@ pub record Fights (p : Profile) (sources : List (List ℕ)) (files : List File) 
 abbrev pub shooting : List ℕ
 shooting = codes "main(){while(1)cannon(0,0);}"
 
+-- A robot that does nothing, and one that shoots as far to the east as a random number says, 0 to 40 metres. The words
+-- come in the order of the cycles, and within a cycle in that of the robots.
+abbrev pub idling : List ℕ
+idling = codes "main(){while(1);}"
+
+abbrev pub drawing : List ℕ
+drawing = codes "main(){while(1)cannon(0,rand(41));}"
+
 abbrev pub shooting_stage : ℕ → Stage
 shooting_stage n = stage_after (robots_of first_profile (shooting_file ∷ [])) (opening 2 1 1) n
 
@@ -66,8 +81,16 @@ pub record KnownBattles : Type 0 where
   pub damages : map (λ n. damages_of 2 (shooting_stage n).field) (15 ∷ 30 ∷ 45 ∷ 60 ∷ 75 ∷ 90 ∷ [])
       ≡ (20 ∷ 20 ∷ []) ∷ (30 ∷ 30 ∷ []) ∷ (50 ∷ 50 ∷ []) ∷ (70 ∷ 70 ∷ []) ∷ (80 ∷ 80 ∷ []) ∷ (100 ∷ 100 ∷ []) ∷ []
   pub stopped_before : Fights first_profile (shooting ∷ []) (shooting_file ∷ []) 89 (after 89 (80 ∷ 80 ∷ []))
-  pub one_survives : Fights first_profile (shooting ∷ codes "main(){while(1);}" ∷ [])
+  pub one_survives : Fights first_profile (shooting ∷ idling ∷ [])
       (shooting_file ∷ idle_file ∷ []) 500000 (after 90 (100 ∷ 0 ∷ []))
+  pub one_of_three_survives : Fights first_profile (idling ∷ shooting ∷ shooting ∷ [])
+      (idle_file ∷ shooting_file ∷ shooting_file ∷ []) 500000 (after 90 (0 ∷ 100 ∷ 100 ∷ []))
+  pub one_of_four_survives : Fights first_profile (shooting ∷ shooting ∷ idling ∷ shooting ∷ [])
+      (shooting_file ∷ shooting_file ∷ idle_file ∷ shooting_file ∷ []) 500000 (after 90 (100 ∷ 100 ∷ 0 ∷ 100 ∷ []))
+  pub two_draw_in_turn : Fights first_profile (drawing ∷ drawing ∷ []) (drawing_file ∷ drawing_file ∷ []) 30
+      (after 30 (20 ∷ 9 ∷ []))
+  pub three_draw_in_turn : Fights first_profile (drawing ∷ drawing ∷ drawing ∷ [])
+      (drawing_file ∷ drawing_file ∷ drawing_file ∷ []) 30 (after 30 (16 ∷ 9 ∷ 13 ∷ []))
   pub both_sides : Fights first_profile (codes "main(){0 && cannon(0,0);}" ∷ [])
       (beside_shot op.And 0 ∷ []) 15 (after 15 (20 ∷ 20 ∷ []))
   pub late_read : Fights first_profile

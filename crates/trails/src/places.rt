@@ -17,6 +17,7 @@ pub struct Place {
 
 impl Model for Place {
     ghost use Rattle.std.specs.Prelude.{◌≤◌};
+    ghost use Rattle.arena.specs.Leg.{last_place};
     ghost use Rattle.trails.specs.Spot.{Spot};
 
     ghost Value = { Spot };
@@ -25,7 +26,7 @@ impl Model for Place {
 
     ghost inverse = { λ p. record { x = p.x; y = p.y } };
 
-    ghost invariant = { λ p. (p.x ≤ 9999) × (p.y ≤ 9999) };
+    ghost invariant = { λ p. (p.x ≤ last_place) × (p.y ≤ last_place) };
 }
 
 impl Place {

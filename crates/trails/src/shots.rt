@@ -2,8 +2,9 @@
 
 ghost use Rattle.std.specs.Prelude.{◌≡◌, ◌+◌, ◌*◌, ◌%◌, ◌^◌, ◌≤◌, ◌<◌, ◌++◌, ◌∷◌, [], length, slice_set, ℤ, pos, ◌*ℤ◌, unsigned_abs};
 ghost use Rattle.arith.specs.Degree.{degree_of};
-ghost use Rattle.arena.specs.Leg.{along, brought, last_place};
+ghost use Rattle.arena.specs.Leg.{along, clamped, last_place};
 ghost use Rattle.arena.specs.Shots.{aimed_x, aimed_y, flight};
+ghost use Rattle.arena.specs.Ground.{most_updates};
 
 use crate::places::Place;
 use arena::LAST_PLACE;
@@ -42,13 +43,13 @@ impl Shot {
     /// Makes the shot of a robot that calls `cannon` with these arguments after so many updates.
     #[tactic(auto, unfolding(arena::specs::Shots::aimed_x, arena::specs::Shots::aimed_y))]
     pub fn new(robot: usize, updates: u32, from: Place, arguments: [i32; 2]) -> Shot
-        requires { updates ≤ 66666667 }
+        requires { updates ≤ most_updates }
         ensures robot { result.robot ≡ robot }
         ensures fired { result.fired ≡ updates }
         ensures from { result.from ≡ from }
-        ensures burst { (d r : ℤ) → arguments ≡ d ∷ r ∷ [] → result.burst ≡ updates + flight (brought 700 r) }
-        ensures x { (d r : ℤ) → arguments ≡ d ∷ r ∷ [] → result.to.x ≡ aimed_x from.x (degree_of d) (brought 700 r) }
-        ensures y { (d r : ℤ) → arguments ≡ d ∷ r ∷ [] → result.to.y ≡ aimed_y from.y (degree_of d) (brought 700 r) }
+        ensures burst { (d r : ℤ) → arguments ≡ d ∷ r ∷ [] → result.burst ≡ updates + flight (clamped 700 r) }
+        ensures x { (d r : ℤ) → arguments ≡ d ∷ r ∷ [] → result.to.x ≡ aimed_x from.x (degree_of d) (clamped 700 r) }
+        ensures y { (d r : ℤ) → arguments ≡ d ∷ r ∷ [] → result.to.y ≡ aimed_y from.y (degree_of d) (clamped 700 r) }
     {
         let degree = norm_degree(arguments[0]);
         let range = range(arguments[1]);
@@ -65,9 +66,9 @@ impl Shot {
 }
 
 /// Returns the range of a shot in metres that is asked for.
-#[tactic(auto, unfolding(arena::specs::Leg::brought))]
+#[tactic(auto, unfolding(arena::specs::Leg::clamped))]
 fn range(asked: i32) -> u16
-    ensures value { result ≡ brought 700 asked }
+    ensures value { result ≡ clamped 700 asked }
     ensures most { result ≤ 700 }
 {
     asked.clamp(0, MOST_RANGE) as u16
@@ -89,11 +90,11 @@ fn aimed(from: u16, range: u16, part: i32) -> u16
     requires from { from ≤ LAST_PLACE }
     requires range { range ≤ 700 }
     requires part { unsigned_abs part ≤ 100000 }
-    ensures value { result ≡ brought last_place (along from (pos (10 * range) *ℤ part)) }
+    ensures value { result ≡ clamped last_place (along from (pos (10 * range) *ℤ part)) }
     ensures most { result ≤ LAST_PLACE }
 {
     let way = i64::from(10 * range) * i64::from(part);
-    brought(along(from, way))
+    clamped(along(from, way))
 }
 
 /// Returns the coordinate to which a way leads, perhaps beyond a wall.
@@ -106,9 +107,9 @@ fn along(from: u16, way: i64) -> i64
 }
 
 /// Returns the nearest coordinate of the field.
-#[tactic(auto, unfolding(arena::specs::Leg::brought))]
-fn brought(z: i64) -> u16
-    ensures value { result ≡ brought last_place z }
+#[tactic(auto, unfolding(arena::specs::Leg::clamped))]
+fn clamped(z: i64) -> u16
+    ensures value { result ≡ clamped last_place z }
     ensures most { result ≤ LAST_PLACE }
 {
     z.clamp(0, i64::from(LAST_PLACE)) as u16

@@ -1,5 +1,6 @@
 use Rattle.std.proofs.Common.{◌≡◌, true, false, sym, ap, ◌∙◌, refl}
-use Rattle.arena.specs.Scan.{sees, nearer}
+use Rattle.arena.specs.Scan.{sees}
+use Rattle.arena.specs.Nearer.{nearer}
 use Rattle.arena.proofs.Nearest.{either_way}
 use Rattle.arena.proofs.scans.nearer.Goals as goal
 

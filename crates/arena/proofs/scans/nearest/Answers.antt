@@ -2,7 +2,8 @@ use Rattle.std.proofs.Common.{◌<◌, length, map, ap, ◌∙◌, arith}
 use Rattle.std.specs.List.{fold, filter}
 use Rattle.std.proofs.lemmas.List.{length-map, take_all}
 use Rattle.arena.specs.Field.{no_robot}
-use Rattle.arena.specs.Scan.{sees, square_to, nearer}
+use Rattle.arena.specs.Scan.{sees}
+use Rattle.arena.specs.Nearer.{square_to, nearer}
 use Rattle.arena.specs.Ground.{body_of}
 use Rattle.arena.proofs.Loops.{mapped_is}
 use Rattle.arena.proofs.Nearest.{one_more}

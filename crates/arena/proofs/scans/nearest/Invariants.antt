@@ -1,7 +1,8 @@
 use Rattle.std.proofs.Common.{◌≡◌, ◌≤◌, List, take, map}
 use Rattle.std.specs.List.{fold, filter}
 use Rattle.arena.specs.Field.{Robot}
-use Rattle.arena.specs.Scan.{sees, square_to, nearer}
+use Rattle.arena.specs.Scan.{sees}
+use Rattle.arena.specs.Nearer.{square_to, nearer}
 use Rattle.arena.specs.Ground.{body_of}
 use Rattle.arena.proofs.scans.nearest.Given as goal
 

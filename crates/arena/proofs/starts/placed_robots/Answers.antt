@@ -3,15 +3,16 @@ use Rattle.std.proofs.lemmas.Int.{to_z-of_z}
 use Rattle.std.proofs.lemmas.List.{take_all, map_more}
 use Rattle.std.proofs.lemmas.List.Elements.{All-push}
 use Rattle.std.proofs.lemmas.Simd.{map-map}
-use Rattle.arena.specs.Leg.{last_place, brought}
+use Rattle.arena.specs.Leg.{last_place, clamped}
 use Rattle.arena.specs.Field.{Robot}
-use Rattle.arena.specs.Start.{standing, placed}
+use Rattle.arena.specs.Start.{standing}
+use Rattle.arena.specs.Placed.{placed}
 use Rattle.arena.specs.Ground.{Body, body_of, IsWithin}
 use Rattle.arena.proofs.starts.placed_robots.Goals as goal
 
 -- the robot at a given place
 abbrev robot_at_place : ℤ × ℤ → Robot
-robot_at_place place = standing (brought last_place place.0) (brought last_place place.1)
+robot_at_place place = standing (clamped last_place place.0) (clamped last_place place.1)
 
 pub loop-place-preserved : goal.loop-place-preserved
 loop-place-preserved c = record {

@@ -1,5 +1,5 @@
 use Rattle.std.proofs.Common.{◌≡◌, length, All}
-use Rattle.arena.specs.Start.{IsPlace}
+use Rattle.arena.specs.Placed.{IsPlace}
 use Rattle.arena_tests.proofs.tests.arena_of.Given as goal
 
 abbrev pub invariant-loop-x : goal.invariant-loop-x

@@ -2,7 +2,8 @@
 use Rattle.std.proofs.Common.{◌*◌, ◌+◌, FitsSigned, rules, arith}
 use Rattle.std.specs.Int.{w32}
 use Rattle.std.proofs.lemmas.Int.{to_z-of_z}
-use Rattle.arith.specs.Bearing.{reach_of, reaches, IsGreatest}
+use Rattle.arith.specs.Bearing.{reach_of, reaches}
+use Rattle.arith.specs.Furthest.{IsGreatest}
 use Rattle.arith.proofs.BearingLemmas.{IsFirstGreatest, first_of_chunk, none_in_chunk, some_reaches, bearing_is_first, bearing_of_is_first}
 use Rattle.arith.proofs.bearings.bearing.Goals as goal
 

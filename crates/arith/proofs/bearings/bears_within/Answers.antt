@@ -1,6 +1,6 @@
 use Rattle.std.proofs.Common.{◌+◌, ◌%◌, true, false, refl, sym, ◌∙◌, arith}
 use Rattle.std.proofs.lemmas.Int.{to_z-of_z}
-use Rattle.arith.specs.Bearing.{leads}
+use Rattle.arith.specs.Furthest.{leads}
 use Rattle.arith.proofs.Arcs.{decides_by}
 use Rattle.arith.proofs.bearings.bears_within.Goals as goal
 

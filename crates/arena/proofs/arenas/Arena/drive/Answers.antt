@@ -30,6 +30,6 @@ returns-clause-stands c = λ f s.
     let speed_fits = c.ranges.speed in
     let items = c.self.inside.robots.items in
     let now : StandsFor (the_view c.self.inside) f = rw c.self.view_is s in
-    let body = simp (c.norm_degree.ensures.value, c.brought-speed.ensures.value, to_z-of_z) at (c.wanting-wanting.ensures.robot (robot_at f c.args.robot) (c.robot.ensures.stands f s)) in
+    let body = simp (c.norm_degree.ensures.value, c.clamped-speed.ensures.value, to_z-of_z) at (c.wanting-wanting.ensures.robot (robot_at f c.args.robot) (c.robot.ensures.stands f s)) in
     rw (put_is items c.deref_mut.result.now c.args.robot c.wanting-wanting.result c.deref_mut.ensures.value)
     (directs (the_view c.self.inside) f c.args.robot _ _ c.wanting-wanting.result now body)

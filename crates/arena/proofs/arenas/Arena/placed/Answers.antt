@@ -1,5 +1,5 @@
 use Rattle.std.proofs.Common.{refl}
-use Rattle.arena.specs.Start.{placed}
+use Rattle.arena.specs.Placed.{placed}
 use Rattle.arena.proofs.arenas.Arena.placed.Goals as goal
 
 pub returns-clause-stands : goal.returns-clause-stands

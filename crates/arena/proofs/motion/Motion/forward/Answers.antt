@@ -15,23 +15,23 @@ returns-then-self-eq0-clause-walled c = λ leg e.
 
 pub returns-then-walled-clause-walled : goal.returns-then-walled-clause-walled
 returns-then-walled-clause-walled c = λ leg e.
-    let f = forward_from _ _ _ _ _ _ _ _ _ _ c.cosine_at.ensures.value c.sine_at.ensures.value c.further-east.ensures.value c.further-north.ensures.value c.along-to_x.ensures c.along-to_y.ensures c.brought-x.ensures.value c.brought-y.ensures.value c.hits_wall-walled.ensures (search rules) (search rules) (search rules) (search rules) (search rules) (search rules) (search rules) (search rules) in
+    let f = forward_from _ _ _ _ _ _ _ _ _ _ c.cosine_at.ensures.value c.sine_at.ensures.value c.further-east.ensures.value c.further-north.ensures.value c.along-to_x.ensures c.along-to_y.ensures c.clamped-x.ensures.value c.clamped-y.ensures.value c.hits_wall-walled.ensures (search rules) (search rules) (search rules) (search rules) (search rules) (search rules) (search rules) (search rules) in
     out_is _ leg _ _ _ _ _ _ _ (c.self.view_is ∙ e) f
 
 pub returns-clause-walled : goal.returns-clause-walled
 returns-clause-walled c = λ leg e.
-    let f = forward_from _ _ _ _ _ _ _ _ _ _ c.cosine_at.ensures.value c.sine_at.ensures.value c.further-east.ensures.value c.further-north.ensures.value c.along-to_x.ensures c.along-to_y.ensures c.brought-x.ensures.value c.brought-y.ensures.value c.hits_wall-walled.ensures (search rules) (search rules) (search rules) (search rules) (search rules) (search rules) (search rules) (search rules) in
+    let f = forward_from _ _ _ _ _ _ _ _ _ _ c.cosine_at.ensures.value c.sine_at.ensures.value c.further-east.ensures.value c.further-north.ensures.value c.along-to_x.ensures c.along-to_y.ensures c.clamped-x.ensures.value c.clamped-y.ensures.value c.hits_wall-walled.ensures (search rules) (search rules) (search rules) (search rules) (search rules) (search rules) (search rules) (search rules) in
     out_is _ leg _ _ _ _ _ _ _ (c.self.view_is ∙ e) f
 
 pub returns-then-walled-clause-motion : goal.returns-then-walled-clause-motion
 returns-then-walled-clause-motion c = λ leg e.
-    let f = forward_from _ _ _ _ _ _ _ _ _ _ c.cosine_at.ensures.value c.sine_at.ensures.value c.further-east.ensures.value c.further-north.ensures.value c.along-to_x.ensures c.along-to_y.ensures c.brought-x.ensures.value c.brought-y.ensures.value c.hits_wall-walled.ensures (search rules) (search rules) (search rules) (search rules) (search rules) (search rules) (search rules) (search rules) in
+    let f = forward_from _ _ _ _ _ _ _ _ _ _ c.cosine_at.ensures.value c.sine_at.ensures.value c.further-east.ensures.value c.further-north.ensures.value c.along-to_x.ensures c.along-to_y.ensures c.clamped-x.ensures.value c.clamped-y.ensures.value c.hits_wall-walled.ensures (search rules) (search rules) (search rules) (search rules) (search rules) (search rules) (search rules) (search rules) in
     let h = wall_is _ leg _ _ _ _ _ _ _ (c.self.view_is ∙ e) f c.if-walled.true in
     grind arith
 
 pub returns-clause-motion : goal.returns-clause-motion
 returns-clause-motion c = λ leg e.
-    let f = forward_from _ _ _ _ _ _ _ _ _ _ c.cosine_at.ensures.value c.sine_at.ensures.value c.further-east.ensures.value c.further-north.ensures.value c.along-to_x.ensures c.along-to_y.ensures c.brought-x.ensures.value c.brought-y.ensures.value c.hits_wall-walled.ensures (search rules) (search rules) (search rules) (search rules) (search rules) (search rules) (search rules) (search rules) in
+    let f = forward_from _ _ _ _ _ _ _ _ _ _ c.cosine_at.ensures.value c.sine_at.ensures.value c.further-east.ensures.value c.further-north.ensures.value c.along-to_x.ensures c.along-to_y.ensures c.clamped-x.ensures.value c.clamped-y.ensures.value c.hits_wall-walled.ensures (search rules) (search rules) (search rules) (search rules) (search rules) (search rules) (search rules) (search rules) in
     let h = free_is _ leg _ _ _ _ _ _ _ (c.self.view_is ∙ e) f c.if-walled.false in
     grind (arith, to_z-of_z)
 
@@ -40,7 +40,7 @@ invariant_of-result c =
     let fx : FitsSigned w64 c.along-to_x.result = search rules in
     let fy : FitsSigned w64 c.along-to_y.result = search rules in
     let out = simp to_z-of_z at c.hits_wall-walled.ensures in
-    let px = simp to_z-of_z at c.brought-x.ensures.value in
-    let py = simp to_z-of_z at c.brought-y.ensures.value in
+    let px = simp to_z-of_z at c.clamped-x.ensures.value in
+    let py = simp to_z-of_z at c.clamped-y.ensures.value in
     let free = both_free c.along-to_x.result c.along-to_y.result (sym out ∙ c.if-walled.false) in
     grind arith

@@ -1,18 +1,17 @@
-use Rattle.std.proofs.Common.{◌≡◌, ◌∙◌, arith}
+use Rattle.std.proofs.Common.{◌≡◌, subst, arith}
 use Rattle.std.proofs.lemmas.Bool.Decides.{nat_tests}
-use Rattle.arena.specs.contracts.motion.Motion.{the_view}
-use Rattle.arena.proofs.Tracks.{rests_is}
+use Rattle.arena.specs.Rest.{Rests}
 use Rattle.arena.proofs.motion.Motion.rests.Goals as goal
 use Rattle.arena.proofs.motion.Motion.rests.Goals.{then-self-eq0, else-self-eq0}
 
 pub returns-then-self-eq0-2 : goal.returns-then-self-eq0-2
-returns-then-self-eq0-2 c = λ e leg is.
+returns-then-self-eq0-2 c = λ e.
     let i = c.self.invariant in
     let heads : c.self.inside.wanted_heading ≡ c.self.inside.heading = grind (arith, nat_tests) in
     let known = c.if-self-eq0-2.true in
     elim c.if-self-eq0.branch [
       | then-self-eq0 w ↦
           let wants : c.self.inside.wanted_speed ≡ 0 = grind (arith, nat_tests, w.value-is, known) in
-          rests_is (the_view c.self.inside) leg (c.self.view_is ∙ is) w.if-self-eq0.true wants heads i.2 i.3 i.8 i.9
+          subst Rests c.self.view_is (record { stands = w.if-self-eq0.true; wants_none = wants; heads = heads; leads_x = i.8; leads_y = i.9; inside = (i.2, i.3) })
       | else-self-eq0 w ↦ absurd (w.if-self-eq0.false (grind (arith, nat_tests, w.value-is, known)))
     ]

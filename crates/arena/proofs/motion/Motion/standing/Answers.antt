@@ -6,4 +6,4 @@ pub invariant_of-result : goal.invariant_of-result
 invariant_of-result c = grind (arith, along-none)
 
 pub returns-clause-track : goal.returns-clause-track
-returns-clause-track c = sym (standing-track c.args.x c.args.y c.requires.x c.requires.y)
+returns-clause-track c = sym (standing-track c.args.x c.args.y)

@@ -1,15 +1,16 @@
-use Rattle.std.proofs.Common.{◌≡◌, false, nat_lt, sym, ap, ◌∙◌}
-use Rattle.arena.specs.Field.{is_alive}
-use Rattle.arena.specs.Ground.{Body, body_of}
+use Rattle.std.proofs.Common.{◌≡◌, inl, inr, ap, subst, arith}
+use Rattle.std.proofs.lemmas.Bool.Decides.{nat_tests}
+use Rattle.arena.specs.Ground.{Body}
+use Rattle.arena.specs.Rest.{Rests}
 use Rattle.arena.proofs.robots.Robot.stays.Goals as goal
 
 pub returns-then-not-is_alive : goal.returns-then-not-is_alive
-unfolding is_alive body_of
-returns-then-not-is_alive c = λ e robot is live.
-    let dead : is_alive robot ≡ false = sym (c.is_alive.ensures ∙ ap (λ (b : Body). nat_lt b.damage 100) is) ∙ c.if-not-is_alive.true in
-    absurd (cc)
+returns-then-not-is_alive c =
+    let most = c.self.invariant in
+    let same = ap (λ (b : Body). b.damage) c.self.view_is in
+    let dead : c.args.self.now.damage ≡ 100 = grind (arith, nat_tests) in
+    λ e. inl dead
 
 pub returns-else-not-is_alive : goal.returns-else-not-is_alive
-unfolding body_of
-returns-else-not-is_alive c = λ e robot is live.
-    c.rests.ensures e robot.leg (ap (λ (b : Body). b.track) (c.self.view_is ∙ is))
+returns-else-not-is_alive c = λ e.
+    inr (subst Rests (ap (λ (b : Body). b.track) c.self.view_is) (c.rests.ensures e))

@@ -1,0 +1,21 @@
+-- A field whose robots were put at given places, for tests and drills.
+use Rattle.std.specs.Prelude.{ℕ, List, [], map, ℤ, pos, ◌≤ℤ◌}
+use Rattle.arena.specs.Leg.{last_place, clamped}
+use Rattle.arena.specs.Field.{Field}
+use Rattle.arena.specs.Start.{standing}
+
+-- a place inside the field
+abbrev pub IsPlace : ℤ × ℤ → Type 0
+IsPlace place =
+    (pos 0 ≤ℤ place.0) × (place.0 ≤ℤ pos last_place) × (pos 0 ≤ℤ place.1) × (place.1 ≤ℤ pos last_place)
+
+-- robots at given places, with no word drawn
+unfoldable pub placed : ℕ → ℕ → List (ℤ × ℤ) → Field
+placed seed number places = record {
+  seed = seed;
+  number = number;
+  drawn = 0;
+  updates = 0;
+  robots = map (λ place. standing (clamped last_place place.0) (clamped last_place place.1)) places;
+  shots = [];
+}
