@@ -3,7 +3,7 @@
 ghost use Rattle.std.specs.Prelude.{◌≡◌, ◌<◌, ◌≤◌, [], ◌∷◌, ◌++◌, List, length, flat_map, slice_get, Some};
 ghost use Rattle.std.specs.Option.{option_to_list};
 ghost use Rattle.battles.specs.Pairing.{paired};
-ghost use Rattle.battles.specs.Programs.{AllSome};
+ghost use Rattle.battles.specs.Programs.{AllSome, AreOfProfile};
 ghost use Rattle.code.specs.Generation.{ObjectCode};
 
 use arrayvec::ArrayVec;
@@ -11,7 +11,7 @@ use code::Program;
 use settings::FILES_MAX;
 use std::marker::Model;
 
-/// The programs of a series, one to four, in the order of their files.
+/// The programs of a series, one to four of one profile, in the order of their files.
 #[derive(Drop)]
 pub struct Programs {
     programs: ArrayVec<Option<Program>, FILES_MAX>,
@@ -43,9 +43,10 @@ impl Programs {
         self.programs.len()
     }
 
-    /// Adds a program.
+    /// Adds a program, of the profile of those that are there.
     pub fn push(&mut self, program: Program)
-        requires { length self.old < FILES_MAX }
+        requires room { length self.old < FILES_MAX }
+        requires alike { AreOfProfile program.profile self.old }
         ensures { self.new ≡ self.old ++ program ∷ [] }
     {
         self.programs.push(Some(program));

@@ -1,5 +1,5 @@
 -- What a maker's owner shows at the end, and what a program keeps.
-use Rattle.std.specs.Prelude.{◌≡◌, Some, map}
+use Rattle.std.specs.Prelude.{ℕ, ◌≡◌, ◌≤◌, Some, length, map}
 use Rattle.grammar.specs.Actions.{actions}
 use Rattle.grammar.specs.Compiled.{main_name}
 use Rattle.grammar.specs.Pools.{Names, FunctionNames, names_of}
@@ -11,21 +11,28 @@ use Rattle.code.specs.Generation.{ObjectCode, IsProgramOf}
 use Rattle.code.specs.Making.{Made}
 use Rattle.code.specs.Told.{Stands}
 
+-- the number is that of the first function named main
+abbrev pub IsMain : Names → ℕ → Type 0
+IsMain names number = number_of_name main_name (map (λ (f : FunctionNames). f.name) names.functions) ≡ Some number
+
 -- the maker was told the actions of a resolved file, the names are that file's, and its main is the function of that
 -- name
 pub record IsTold (maker : Made) (p : Profile) (names : Names) (file : File) : Type 0 where
   pub resolved : IsResolved file
   pub stands : Stands maker p (actions file)
   pub named : names ≡ names_of file
-  pub main : number_of_name main_name (map (λ (f : FunctionNames). f.name) names.functions) ≡ Some file.main
+  pub main : IsMain names file.main
 
 pub record IsToldSomeFile (maker : Made) (names : Names) : Type 0 where
   pub profile : Profile
   pub file : File
   pub told : IsTold maker profile names file
 
--- the code is that of a resolved file
+-- The code is that of a resolved file by its profile, within the profile's limit, and the function of main's number is
+-- named main.
 pub record IsOfSomeFile (code : ObjectCode) : Type 0 where
   pub file : File
   pub resolved : IsResolved file
   pub is : IsProgramOf code code.profile file
+  pub limit : length code.instructions ≤ code.profile.instructions
+  pub main : IsMain code.names code.main

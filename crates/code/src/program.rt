@@ -2,7 +2,7 @@
 
 ghost use Rattle.std.specs.Prelude.{◌≡◌, ◌<◌, ◌≤◌, length};
 ghost use Rattle.grammar.specs.Profile.{IsProfile};
-ghost use Rattle.code.specs.Finishing.{IsOfSomeFile};
+ghost use Rattle.code.specs.Finishing.{IsMain, IsOfSomeFile};
 ghost use Rattle.code.specs.Listing.{functions_lines};
 ghost use Rattle.code.specs.Machine.{names_at, address_at};
 
@@ -85,6 +85,7 @@ impl Program {
     pub fn instructions(&self) -> &[Coded]
         ensures code { result.now ≡ self.now.instructions }
         ensures most { length result.now ≤ MOST_INSTRUCTIONS }
+        ensures limit { length result.now ≤ self.now.profile.instructions }
         ensures file { IsOfSomeFile self.now }
         ensures known { IsProfile self.now.profile }
     {
@@ -120,6 +121,7 @@ impl Program {
     pub fn main(&self) -> u8
         ensures main { result ≡ self.now.main }
         ensures known { result < length self.now.names.functions }
+        ensures named { IsMain self.now.names result }
     {
         self.main
     }

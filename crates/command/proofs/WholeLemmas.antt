@@ -1,19 +1,40 @@
 -- The opened files ran, and so the program ends as the definition says.
 use Rattle.std.proofs.Common.{◌≡◌, ◌⊎◌, List, ℕ, Option, Result, Ok, Err, map, subst, inl, inr}
+use Rattle.series.specs.declared.endings.RunFault.{RunFault}
+use Rattle.series.specs.declared.endings.RunFault.TheVariants as fault
+use Rattle.series.specs.declared.endings.Status.{Status}
+use Rattle.series.specs.declared.endings.Status.TheVariants as status
 use Rattle.series.specs.Pieces.{Taken}
 use Rattle.series.specs.Failures.{Failures}
 use Rattle.settings.specs.declared.faults.UseFault.{UseFault}
 use Rattle.settings.specs.declared.faults.UseFault.TheVariants.{Memory}
 use Rattle.settings.specs.Setup.{Setup}
 use Rattle.command.specs.declared.endings.Ending.{Ending}
-use Rattle.command.specs.Whole.{Ends, RunsTo}
+use Rattle.command.specs.Files.{Files}
+use Rattle.command.specs.Whole.{Ends, IsEndingOf, RunsTo}
 
-pub ends_by_run : (holds : List ℕ → Option (List ℕ)) (refuses : List ℕ → Type 0) (asked : Result Setup UseFault) (setup : Setup)
+-- what a failed read shows, shows more
+ending_of : (fails more : List ℕ → Type 0) (words : List (List ℕ)) (answer : Result Status RunFault) (ending : Ending)
+    → ((word : List ℕ) → fails word → more word) → IsEndingOf fails words answer ending → IsEndingOf more words answer ending
+ending_of fails more words (Ok status.Done) ending so is = is
+ending_of fails more words (Ok status.Faulty) ending so is = is
+ending_of fails more words (Err (fault.Read place)) ending so (word, is, here, failed) = (word, is, here, so word.now failed)
+ending_of fails more words (Err fault.Write) ending so is = is
+ending_of fails more words (Err fault.Memory) ending so is = is
+
+pub ends_by_run : (files : Files) (asked : Result Setup UseFault) (setup : Setup) (fails : List ℕ → Type 0)
     (known : List (Option (List ℕ))) (ending : Ending) (before after : Taken) (failed failed_after : Failures)
-    → (◌≡◌ {A = Result Setup UseFault} (Ok setup) (Err Memory)) ⊎ (Ok setup ≡ asked) → known ≡ map holds setup.words
-    → RunsTo setup known ending before after failed failed_after → Ends holds refuses asked ending before after
-ends_by_run holds refuses asked setup known ending before after failed failed_after (inl memory) same ran = cc
-ends_by_run holds refuses asked setup known ending before after failed failed_after (inr is) same ran =
-    let over : RunsTo setup (map holds setup.words) ending before after failed failed_after =
-    subst (λ contents. RunsTo setup contents ending before after failed failed_after) same ran in
-    subst (λ answer. Ends holds refuses answer ending before after) is (inr (failed, failed_after, over))
+    → (◌≡◌ {A = Result Setup UseFault} (Ok setup) (Err Memory)) ⊎ (Ok setup ≡ asked) → known ≡ map files.holds setup.words
+    → ((word : List ℕ) → fails word → files.fails word)
+    → RunsTo fails setup known ending before after failed failed_after → Ends files asked ending before after
+ends_by_run files asked setup fails known ending before after failed failed_after (inl memory) same so ran = absurd (cc memory)
+ends_by_run files asked setup fails known ending before after failed failed_after (inr is) same so ran =
+    let over : RunsTo files.fails setup known ending before after failed failed_after = record {
+      answer = ran.answer;
+      ends = ending_of fails files.fails setup.words ran.answer ending so ran.ends;
+      output = ran.output;
+      devices = ran.devices;
+    } in
+    let told : RunsTo files.fails setup (map files.holds setup.words) ending before after failed failed_after =
+    subst (λ contents. RunsTo files.fails setup contents ending before after failed failed_after) same over in
+    subst (λ answer. Ends files answer ending before after) is (inr (failed, failed_after, told))

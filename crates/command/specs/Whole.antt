@@ -1,6 +1,8 @@
 -- How the program ends, by what the words ask for, what the files hold, and which can't be opened.
-use Rattle.std.specs.Prelude.{◌≡◌, ◌⊎◌, ℕ, List, Option, Some, Result, Ok, Err, map, slice_get, Contains}
+use Rattle.std.specs.Prelude.{◌≡◌, ◌⊎◌, ℕ, List, Option, Some, Result, Ok, Err, All, map, slice_get, take}
 use Rattle.std.specs.Borrow.{Bor}
+use Rattle.std_io.specs.declared.io.kind.ErrorKind.{ErrorKind}
+use Rattle.std_io.specs.declared.io.kind.ErrorKind.TheVariants as kind
 use Rattle.series.specs.declared.endings.RunFault.{RunFault}
 use Rattle.series.specs.declared.endings.RunFault.TheVariants as fault
 use Rattle.series.specs.declared.endings.Status.{Status}
@@ -17,51 +19,63 @@ use Rattle.settings.specs.Setup.{Setup}
 use Rattle.command.specs.declared.endings.Ending.{Ending}
 use Rattle.command.specs.declared.endings.Ending.TheVariants.{Done, Faulty, WrongUsage, CannotOpen, CannotRead, CannotWrite, OutOfMemory}
 use Rattle.command.specs.Endings.{line_of, status_of}
+use Rattle.command.specs.Files.{Files}
 
--- the ending is about this file
-abbrev pub IsAbout : (Bor (List ℕ) → Ending) → Option (List ℕ) → Ending → Type 0
-IsAbout about named ending = (word : Bor (List ℕ)) × (ending ≡ about word) × (named ≡ Some word.now)
+-- the ending is that a read of the file failed whose word is in this place
+abbrev pub IsUnread : (List ℕ → Type 0) → List (List ℕ) → ℕ → Ending → Type 0
+IsUnread fails words place ending = (word : Bor (List ℕ)) × (ending ≡ CannotRead word)
+    × (slice_get words place ≡ Some word.now) × fails word.now
 
 -- the ending of a run over the files of these words that answers so
-abbrev pub IsEndingOf : List (List ℕ) → Result Status RunFault → Ending → Type 0
-IsEndingOf words (Ok status.Done) ending = ending ≡ Done
-IsEndingOf words (Ok status.Faulty) ending = ending ≡ Faulty
-IsEndingOf words (Err (fault.Read file)) ending = IsAbout CannotRead (slice_get words file) ending
-IsEndingOf words (Err fault.Write) ending = ending ≡ CannotWrite
-IsEndingOf words (Err fault.Memory) ending = ending ≡ OutOfMemory
+abbrev pub IsEndingOf : (List ℕ → Type 0) → List (List ℕ) → Result Status RunFault → Ending → Type 0
+IsEndingOf fails words (Ok status.Done) ending = ending ≡ Done
+IsEndingOf fails words (Ok status.Faulty) ending = ending ≡ Faulty
+IsEndingOf fails words (Err (fault.Read place)) ending = IsUnread fails words place ending
+IsEndingOf fails words (Err fault.Write) ending = ending ≡ CannotWrite
+IsEndingOf fails words (Err fault.Memory) ending = ending ≡ OutOfMemory
 
 -- a run over files whose contents are known so ended in this way
-pub record RunsTo (setup : Setup) (known : List (Option (List ℕ))) (ending : Ending) (before after : Taken)
-    (failed failed_after : Failures) : Type 0 where
+pub record RunsTo (fails : List ℕ → Type 0) (setup : Setup) (known : List (Option (List ℕ))) (ending : Ending)
+    (before after : Taken) (failed failed_after : Failures) : Type 0 where
   pub answer : Result Status RunFault
-  pub ends : IsEndingOf setup.words answer ending
+  pub ends : IsEndingOf fails setup.words answer ending
   pub output : (sources : List Source) → AreSources sources setup.words known → Runs setup sources answer before after
   pub devices : Counts answer failed failed_after
 
+-- the file of the word in this place was refused, after those of all words before it were opened
+pub record IsFirstRefused (files : Files) (words : List (List ℕ)) (word : List ℕ) : Type 0 where
+  pub place : ℕ
+  pub here : slice_get words place ≡ Some word
+  pub refused : files.refuses word
+  pub opened : All files.opens (take place words)
+
 -- a file of these words was not opened, or memory was refused
-abbrev pub IsNotOpened : (List ℕ → Type 0) → List (List ℕ) → Ending → Type 0
-IsNotOpened refuses words (CannotOpen word) = Contains words word.now × refuses word.now
-IsNotOpened refuses words OutOfMemory = Unit {0}
-IsNotOpened refuses words _ = ⊥
+abbrev pub IsNotOpened : Files → List (List ℕ) → Ending → Type 0
+IsNotOpened files words (CannotOpen word) = IsFirstRefused files words word.now
+IsNotOpened files words OutOfMemory = Unit {0}
+IsNotOpened files words _ = ⊥
+
+-- words that were not read for this cause: memory was refused, or else they are no text
+abbrev pub ending_unread : ErrorKind → Ending
+ending_unread kind.OutOfMemory = OutOfMemory
+ending_unread other = WrongUsage
 
 -- How the program ends, up to its own line. Refused words end it at once; else the files are opened, and then they run.
-abbrev pub Ends : (List ℕ → Option (List ℕ)) → (List ℕ → Type 0) → Result Setup UseFault → Ending → Taken → Taken
-    → Type 0
-Ends holds refuses (Err fault) ending before after = ((ending ≡ WrongUsage) ⊎ (ending ≡ OutOfMemory)) × (after ≡ before)
-Ends holds refuses (Ok setup) ending before after =
-    (IsNotOpened refuses setup.words ending × (after ≡ before))
+abbrev pub Ends : Files → Result Setup UseFault → Ending → Taken → Taken → Type 0
+Ends files (Err fault) ending before after = ((ending ≡ WrongUsage) ⊎ (ending ≡ OutOfMemory)) × (after ≡ before)
+Ends files (Ok setup) ending before after =
+    (IsNotOpened files setup.words ending × (after ≡ before))
     ⊎ ((failed : Failures) × (failed_after : Failures)
-    × RunsTo setup (map holds setup.words) ending before after failed failed_after)
+    × RunsTo files.fails setup (map files.holds setup.words) ending before after failed failed_after)
 
 -- The program ends so, puts the line of its ending, whole if the channel of faults never failed, and answers its
 -- status.
 -- The two counts say how often that channel had failed before, and has failed after.
-pub record Concludes (holds : List ℕ → Option (List ℕ)) (refuses : List ℕ → Type 0) (asked : Result Setup UseFault)
-    (result : ℕ)
-    (before after : Taken) (failed failed_after : ℕ) : Type 0 where
+pub record Concludes (files : Files) (asked : Result Setup UseFault) (result : ℕ) (before after : Taken)
+    (failed failed_after : ℕ) : Type 0 where
   pub ending : Ending
   pub between : Taken
-  pub ends : Ends holds refuses asked ending before between
+  pub ends : Ends files asked ending before between
   pub text : after.text ≡ between.text
   pub front : TakesFront between.faults after.faults (line_of ending)
   pub whole : failed_after ≡ failed → Takes between.faults after.faults (line_of ending)

@@ -1,7 +1,8 @@
 //! Real files and streams as the devices of a run.
 
 ghost use Rattle.std.specs.Prelude.{◌≡◌, ℕ, ◌+◌, ◌-◌, ◌^◌, ◌<◌, ◌≤◌, None, false, length, take, IfOk, OnOk, OnErr};
-ghost use Rattle.tokens.specs.Feed.{MayRead, gives_none};
+ghost use Rattle.tokens.specs.Feed.{Counts, MayRead, gives_none};
+ghost use Rattle.command.specs.Files.{real_account};
 ghost use Rattle.std.specs.Io.KnownBytes.{Appends, Consumes, IsAtEnd, Keeps};
 
 use series::Sink;
@@ -30,7 +31,7 @@ impl<F> FileFeed<F> {
 }
 
 impl<F: Read> Feed for FileFeed<F> {
-    ghost failures = { λ feed. feed.failures };
+    ghost account = { λ feed. real_account feed.failures };
 
     ghost to_come = { λ _. None };
 
@@ -38,10 +39,9 @@ impl<F: Read> Feed for FileFeed<F> {
 
     fn fill(&mut self, buf: &mut [u8]) -> Result<usize, DeviceFault>
         requires nonempty { 0 < length buf.old }
-        requires ready { MayRead self.old.failures self.old.ended }
+        requires ready { MayRead (real_account self.old.failures) self.old.ended }
         ensures within { IfOk result (λ n. n ≤ length buf.old) }
-        ensures calm { OnOk result (self.new.failures ≡ self.old.failures) }
-        ensures counted { OnErr result (self.new.failures ≡ self.old.failures + 1) }
+        ensures count { Counts result (real_account self.old.failures) (real_account self.new.failures) }
         // A file whose bytes are known has then lost those that were given, and gives none only at its end.
         ensures given { IfOk result (λ n. Consumes (F.remaining self.old.file) (F.remaining self.new.file)
             (take n buf.new)) }

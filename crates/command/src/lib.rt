@@ -4,9 +4,11 @@
 mod devices;
 mod endings;
 mod openers;
+mod process;
 mod running;
 
 pub use devices::{FileFeed, StreamSink};
 pub use endings::Ending;
 pub use openers::{Disk, OpenFault, Opener};
+pub use process::program_of;
 pub use running::{program, program_over};

@@ -1,6 +1,7 @@
 //! What opens the files of a run.
 
-ghost use Rattle.std.specs.Prelude.{◌≡◌, ℕ, List, Option, None, Err, IfOk, false, ⊤};
+ghost use Rattle.std.specs.Prelude.{◌≡◌, ℕ, List, Option, None, Err, IfOk, OnOk, false, ⊤};
+ghost use Rattle.command.specs.Files.{ShowsFailure};
 
 use crate::devices::FileFeed;
 use std::fs::File;
@@ -24,14 +25,23 @@ pub trait Opener {
     /// What the file of a word holds, if its contents are known.
     ghost holds: { Self → List ℕ → Option (List ℕ) };
 
+    /// The file of a word was opened.
+    ghost opens: { Self → List ℕ → Type 0 };
+
     /// The file of a word can't be opened.
     ghost refuses: { Self → List ℕ → Type 0 };
+
+    /// A read of the file of a word failed.
+    ghost fails: { Self → List ℕ → Type 0 };
 
     /// Opens the file of a word, of which nothing is read yet.
     fn open(&self, word: &str) -> Result<Self::File, OpenFault>
         ensures contents { IfOk result (λ file. Self.File.to_come file ≡ holds self.now word.now) }
-        ensures calm { IfOk result (λ file. Self.File.failures file ≡ 0) }
+        ensures opened { OnOk result (opens self.now word.now) }
+        ensures calm { IfOk result (λ file. (Self.File.account file).failures ≡ 0) }
         ensures not_ended { IfOk result (λ file. Self.File.ended file ≡ false) }
+        // If a read of this very file fails later, that shows it.
+        ensures shows { IfOk result (λ file. ShowsFailure Self.File.account file (fails self.now word.now)) }
         ensures refused { result ≡ Err OpenFault.Refused → refuses self.now word.now };
 }
 
@@ -55,7 +65,11 @@ impl<R: Files> Opener for Disk<'_, R> {
 
     ghost holds = { λ _ _. None };
 
+    ghost opens = { λ _ _. ⊤ };
+
     ghost refuses = { λ _ _. ⊤ };
+
+    ghost fails = { λ _ _. ⊤ };
 
     fn open(&self, word: &str) -> Result<FileFeed<R::File>, OpenFault> {
         match File::open(self.rt, word) {

@@ -1,10 +1,11 @@
 //! Runs the program over given words, files and streams.
 
-ghost use Rattle.std.specs.Prelude.{◌≡◌, ◌⊎◌, ℕ, ◌+◌, ◌-◌, ◌^◌, ◌<◌, ◌≤◌, List, [], ◌∷◌, map, length, false, None, IsErr, IfOk, IfErr, All, ⊤};
+ghost use Rattle.std.specs.Prelude.{◌≡◌, ◌⊎◌, ℕ, ◌+◌, ◌-◌, ◌^◌, ◌<◌, ◌≤◌, List, [], ◌∷◌, map, length, false, IsErr, IfOk, IfErr, All};
 ghost use Rattle.series.specs.Pieces.{taken};
 ghost use Rattle.series.specs.Failures.{failures};
 ghost use Rattle.arguments.specs.Words.{asked};
 ghost use Rattle.command.specs.Endings.{Accounts};
+ghost use Rattle.command.specs.Files.{EachShows, HasFailed, files, real_files};
 ghost use Rattle.command.specs.Whole.{Concludes, Ends, IsNotOpened, RunsTo};
 
 use crate::endings::Ending;
@@ -33,7 +34,7 @@ pub fn program<'a, R: Files + AllocGlobal, O: Sink, E: Sink>(
     // If the status says that all was written, no write failed.
     ensures whole { result ≤ 1 → (O.failures out.new ≡ O.failures out.old) × (E.failures err.new ≡ E.failures err.old) }
     ensures write { result ≡ 4 → (O.failures out.old < O.failures out.new) ⊎ (E.failures err.old < E.failures err.new) }
-    ensures ended { Concludes (λ _. None) (λ _. ⊤) (asked (map (λ word. word.now) words.now)) result
+    ensures ended { Concludes real_files (asked (map (λ word. word.now) words.now)) result
         (taken (O.portions out.old) (E.portions err.old)) (taken (O.portions out.new) (E.portions err.new))
         (E.failures err.old) (E.failures err.new) }
 {
@@ -55,8 +56,8 @@ pub fn program_over<'a, D: Opener, O: Sink, E: Sink>(
     ensures only_usage { result ≡ 2 → IsErr (asked (map (λ word. word.now) words.now)) }
     ensures whole { result ≤ 1 → (O.failures out.new ≡ O.failures out.old) × (E.failures err.new ≡ E.failures err.old) }
     ensures write { result ≡ 4 → (O.failures out.old < O.failures out.new) ⊎ (E.failures err.old < E.failures err.new) }
-    ensures ended { Concludes (D.holds disk.now) (D.refuses disk.now) (asked (map (λ word. word.now) words.now)) result
-        (taken (O.portions out.old) (E.portions err.old)) (taken (O.portions out.new) (E.portions err.new))
+    ensures ended { Concludes (files (D.holds disk.now) (D.opens disk.now) (D.refuses disk.now) (D.fails disk.now))
+        (asked (map (λ word. word.now) words.now)) result (taken (O.portions out.old) (E.portions err.old)) (taken (O.portions out.new) (E.portions err.new))
         (E.failures err.old) (E.failures err.new) }
 {
     ending(alloc, disk, words, out, err).end(err)
@@ -72,8 +73,8 @@ fn ending<'a, D: Opener, O: Sink, E: Sink>(
 ) -> Ending<'a>
     requires text { O.failures out.old < 2 ^ 64 - 1 }
     requires faults { E.failures err.old < 2 ^ 64 - 2 }
-    ensures ends { Ends (D.holds disk.now) (D.refuses disk.now) (asked (map (λ word. word.now) words.now)) result
-        (taken (O.portions out.old) (E.portions err.old)) (taken (O.portions out.new) (E.portions err.new)) }
+    ensures ends { Ends (files (D.holds disk.now) (D.opens disk.now) (D.refuses disk.now) (D.fails disk.now))
+        (asked (map (λ word. word.now) words.now)) result (taken (O.portions out.old) (E.portions err.old)) (taken (O.portions out.new) (E.portions err.new)) }
     ensures failures { Accounts result (O.failures out.old) (E.failures err.old) (O.failures out.new)
         (E.failures err.new) }
 {
@@ -97,9 +98,12 @@ fn open_files<'a, D: Opener>(
 ) -> Result<Vec<D::File>, Ending<'a>>
     ensures contents { IfOk result (λ feeds. map D.File.to_come feeds.items
         ≡ map (λ word. D.holds disk.now word.now) words.now) }
-    ensures calm { IfOk result (λ feeds. All (λ feed. D.File.failures feed ≡ 0) feeds.items) }
+    ensures calm { IfOk result (λ feeds. All (λ feed. (D.File.account feed).failures ≡ 0) feeds.items) }
     ensures not_ended { IfOk result (λ feeds. All (λ feed. D.File.ended feed ≡ false) feeds.items) }
-    ensures refused { IfErr result (IsNotOpened (D.refuses disk.now) (map (λ word. word.now) words.now)) }
+    ensures shows { IfOk result (λ feeds. EachShows D.File.account (D.fails disk.now)
+        (map (λ word. word.now) words.now) feeds.items) }
+    ensures refused { IfErr result (IsNotOpened
+        (files (D.holds disk.now) (D.opens disk.now) (D.refuses disk.now) (D.fails disk.now)) (map (λ word. word.now) words.now)) }
 {
     let mut feeds = Vec::new(alloc);
     for word in words {
@@ -127,7 +131,8 @@ fn run_files<'a, F: Feed, O: Sink, E: Sink>(
     requires not_ended { All (λ feed. F.ended feed ≡ false) feeds.old }
     requires text { O.failures out.old < 2 ^ 64 - 1 }
     requires faults { E.failures err.old < 2 ^ 64 - 1 }
-    ensures ran { RunsTo settings.now (map F.to_come feeds.old) result
+    ensures ran { RunsTo (HasFailed settings.now.words (map F.account feeds.old) (map F.account feeds.new))
+        settings.now (map F.to_come feeds.old) result
         (taken (O.portions out.old) (E.portions err.old)) (taken (O.portions out.new) (E.portions err.new))
         (failures (map F.account feeds.old) (O.failures out.old) (E.failures err.old))
         (failures (map F.account feeds.new) (O.failures out.new) (E.failures err.new)) }

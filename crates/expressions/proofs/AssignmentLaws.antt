@@ -1,5 +1,5 @@
 -- Assignments, and expressions that are none.
-use Rattle.std.proofs.Common.{◌≡◌, ℕ, ◌+◌, ◌<◌, ◌≤◌, List, [], ◌∷◌, refl, ap, Bool, true, false, arith, ⊥}
+use Rattle.std.proofs.Common.{◌≡◌, ℕ, ◌+◌, ◌<◌, ◌≤◌, List, [], ◌∷◌, refl, ap, Bool, true, false, arith}
 use Rattle.std.specs.Prelude.{Some, None, Result, Ok, Err, is_some}
 use Rattle.tokens.specs.Tokens.{is_last}
 use Rattle.tokens.specs.declared.located_tokens.LocatedToken.{LocatedToken}

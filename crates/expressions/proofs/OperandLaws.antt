@@ -1,5 +1,5 @@
 -- Constants and variables, with ++ and --.
-use Rattle.std.proofs.Common.{◌≡◌, ℕ, pos, ◌+◌, ◌≤◌, List, [], ◌∷◌, refl, Bool, true, false, arith, ⊥}
+use Rattle.std.proofs.Common.{◌≡◌, ℕ, pos, ◌+◌, ◌≤◌, List, [], ◌∷◌, refl, Bool, true, false, arith}
 use Rattle.std.specs.Prelude.{ℤ, Some, is_some}
 use Rattle.tokens.specs.Tokens.{is_last}
 use Rattle.tokens.specs.declared.located_tokens.LocatedToken.{LocatedToken}

@@ -1,6 +1,6 @@
 //! A builder that refuses, for tests.
 
-ghost use Rattle.std.specs.Prelude.{◌≡◌, true, ⊤};
+ghost use Rattle.std.specs.Prelude.{◌≡◌, ⊤};
 ghost use Rattle.grammar.specs.Building.{Refuses};
 
 use lang::{Build, BuildFault, Callee, Op, StoreOp, Var};
@@ -16,7 +16,7 @@ pub struct Refuser {
 impl Refuser {
     // Takes an action, if one is left.
     fn take(&mut self) -> Result<(), BuildFault>
-        ensures { Refuses result true }
+        ensures { Refuses result ⊤ }
     {
         if self.left == 0 {
             return Err(BuildFault::Memory);

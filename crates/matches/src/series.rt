@@ -1,6 +1,7 @@
 //! Series of matches.
 
 ghost use Rattle.std.specs.Prelude.{◌≡◌, ℕ, ◌+◌, ◌-◌, ◌^◌, ◌<◌, ◌≤◌, List, length, is_err, nat_eq, false, true, IfOk};
+ghost use Rattle.battles.specs.Programs.{AreOfProfile};
 ghost use Rattle.code.specs.Codes.{AreCodesOf};
 ghost use Rattle.code.specs.Generation.{ObjectCode};
 ghost use Rattle.grammar.specs.Tree.{File};
@@ -55,6 +56,7 @@ pub struct Series<'a, P: HoldsPrograms> {
 
 impl<'a, P: HoldsPrograms> Model for Series<'a, P> {
     ghost use Rattle.std.specs.Prelude.{◌≡◌, List, length};
+    ghost use Rattle.battles.specs.Programs.{AreOfProfile};
     ghost use Rattle.code.specs.Codes.{AreCodesOf};
     ghost use Rattle.grammar.specs.Tree.{File};
     ghost use Rattle.matches.specs.Courses.{IsTallyOf, Standing};
@@ -70,14 +72,17 @@ impl<'a, P: HoldsPrograms> Model for Series<'a, P> {
     } };
 
     ghost invariant = { λ s. (length (P.codes s.programs) ≡ length s.course.setup.words)
+        × AreOfProfile s.course.setup.profile (P.codes s.programs)
         × ((files : List File) → AreCodesOf (P.codes s.programs) s.course.setup.profile files
         → IsTallyOf s.course.tally (outcomes s.course.setup files s.course.tally.matches)) };
 }
 
 impl<'a, P: HoldsPrograms> Series<'a, P> {
-    /// Makes the series of these programs, one for each word of the settings, of which no match was played.
+    /// Makes the series of these programs, one for each word of the settings and of their profile, of which no match was
+    /// played.
     pub fn new(programs: P, settings: &'a Settings<'a>) -> Series<'a, P>
         requires manned { length (P.codes programs) ≡ length settings.now.words }
+        requires profile { AreOfProfile settings.now.profile (P.codes programs) }
         ensures { result ≡ record { setup = settings.now; codes = P.codes programs; played = 0; failed = false } }
     {
         Series {

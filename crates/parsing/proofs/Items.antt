@@ -1,5 +1,5 @@
 -- What it takes to match one item, and what happens where the next token doesn't fit.
-use Rattle.std.proofs.Common.{◌≡◌, ℕ, List, [], ◌∷◌, refl, true, false, ⊥}
+use Rattle.std.proofs.Common.{◌≡◌, ℕ, List, [], ◌∷◌, refl, true, false}
 use Rattle.std.specs.Prelude.{Option, Some}
 use Rattle.tokens.specs.Reading.{Reading, IsNearTo}
 use Rattle.tokens.specs.declared.located_tokens.LocatedToken.{LocatedToken}

@@ -1,6 +1,8 @@
 -- What compiling one file writes.
 use Rattle.std.specs.Prelude.{slice_get}
 use Rattle.std.proofs.Common.{length, ◌≡◌, ℕ, List, [], ◌∷◌, ◌++◌, Some, None, Result, Ok, Err, refl, sym, ap, ◌∙◌, subst, inl}
+use Rattle.std.proofs.lemmas.List.Elements.{All-push}
+use Rattle.battles.specs.Programs.{AreOfProfile}
 use Rattle.grammar.specs.Profile.{Profile}
 use Rattle.grammar.specs.declared.diagnostics.Diagnostic.{Diagnostic}
 use Rattle.grammar.specs.Compiled.{compiled}
@@ -27,6 +29,17 @@ pub good_kept : (profile : Profile) (bytes : List ℕ) (file : File) (code : Obj
     → compiled profile bytes ≡ Ok file → code ≡ code_of profile file → after ≡ kept ++ code ∷ []
     → Some after ≡ and_code (Some kept) (compiled_code profile bytes)
 good_kept profile bytes file code kept after is made adds = rw (good_code profile bytes file code is made, adds) refl
+
+-- the programs kept so far are of a good file's profile
+pub alike : (profile : Profile) (file : File) (code : ObjectCode) (kept : List ObjectCode) → code ≡ code_of profile file
+    → AreOfProfile profile kept → AreOfProfile code.profile kept
+alike profile file code kept made each = rw (ap (λ (c : ObjectCode). c.profile) made) each
+
+-- and with its program they are
+pub alike_more : (profile : Profile) (file : File) (code : ObjectCode) (kept after : List ObjectCode) → code ≡ code_of profile file
+    → AreOfProfile profile kept → after ≡ kept ++ code ∷ [] → AreOfProfile profile after
+alike_more profile file code kept after made each adds =
+    rw adds (All-push (λ (c : ObjectCode). c.profile ≡ profile) kept code each (ap (λ (c : ObjectCode). c.profile) made))
 
 -- of a faulty one none is
 pub faulty_kept : (profile : Profile) (bytes : List ℕ) (d : Diagnostic) (kept : List ObjectCode) → compiled profile bytes ≡ Err d

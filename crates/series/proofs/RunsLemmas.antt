@@ -3,7 +3,8 @@ use Rattle.std.proofs.Common.{◌≡◌, ◌⊎◌, ℕ, ◌+◌, ◌<◌, List,
 use Rattle.std.proofs.lemmas.List.{get_or-map, get_or-drop, drop-set-lt, length-map, map-set}
 use Rattle.std.proofs.Math.Seq.{map-set_same}
 use Rattle.series.specs.Compiling.{Source}
-use Rattle.series.specs.Failures.{Failures, failures, feed_failed, SinkFailed}
+use Rattle.tokens.specs.Feed.{Account, failed_again}
+use Rattle.series.specs.Failures.{Failures, failures, feed_failed, no_device, SinkFailed}
 use Rattle.series.specs.Runs.{AreSources}
 use Rattle.sinks.specs.Texts.{file_name}
 
@@ -42,23 +43,23 @@ module _ {X : Type 0} where
       ∙ get_or-map (λ (s : Source). Some s.bytes) sources file no_source (tells x) in_sources
 
   -- a feed that was read without a failure
-  pub none_failed : (fails : X → ℕ) (feeds : List X) (file : ℕ) (x y : X) → fails y ≡ fails (get_or feeds file x)
+  pub none_failed : (fails : X → Account) (feeds : List X) (file : ℕ) (x y : X) → fails y ≡ fails (get_or feeds file x)
       → map fails (set feeds file y) ≡ map fails feeds
   none_failed fails feeds file x y same = map-set_same fails feeds file y x same
 
   -- a feed failed
-  pub read_failed : (fails : X → ℕ) (start feeds : List X) (file text faults first_text first_faults : ℕ) (x y : X)
+  pub read_failed : (fails : X → Account) (start feeds : List X) (file text faults first_text first_faults : ℕ) (x y : X)
       → failures (map fails feeds) text faults ≡ failures (map fails start) first_text first_faults
-      → file < length feeds → fails y ≡ fails (get_or feeds file x) + 1
+      → file < length feeds → fails y ≡ failed_again (fails (get_or feeds file x))
       → failures (map fails (set feeds file y)) text faults ≡ feed_failed (failures (map fails start) first_text first_faults) file
   read_failed fails start feeds file text faults first_text first_faults x y before within more =
-      let here : get_or (map fails feeds) file 0 ≡ fails (get_or feeds file x) = get_or-map fails feeds file x 0 within in
-      let later : fails y ≡ get_or (map fails feeds) file 0 + 1 = more ∙ ap (λ n. n + 1) (sym here) in
+      let here : get_or (map fails feeds) file no_device ≡ fails (get_or feeds file x) = get_or-map fails feeds file x no_device within in
+      let later : fails y ≡ failed_again (get_or (map fails feeds) file no_device) = more ∙ ap failed_again (sym here) in
       let P : Failures → Type 0 = λ f. failures (map fails (set feeds file y)) text faults ≡ feed_failed f file in
-      subst P before (ap (λ l. failures l text faults) (map-set fails feeds file y ∙ ap (λ n. set (map fails feeds) file n) later))
+      subst P before (ap (λ l. failures l text faults) (map-set fails feeds file y ∙ ap (λ a. set (map fails feeds) file a) later))
 
   -- a sink failed
-  pub write_failed : (fails : X → ℕ) (start feeds : List X) (file text faults first_text first_faults later_text later_faults : ℕ) (x y : X)
+  pub write_failed : (fails : X → Account) (start feeds : List X) (file text faults first_text first_faults later_text later_faults : ℕ) (x y : X)
       → failures (map fails feeds) text faults ≡ failures (map fails start) first_text first_faults
       → fails y ≡ fails (get_or feeds file x)
       → ((later_text ≡ text + 1) × (later_faults ≡ faults)) ⊎ ((later_text ≡ text) × (later_faults ≡ faults + 1))

@@ -1,20 +1,26 @@
 -- Which devices failed, and how often.
-use Rattle.std.specs.Prelude.{◌≡◌, ◌⊎◌, ℕ, ◌+◌, ◌<◌, List, Result, MatchResult, length, slice_index, slice_set}
+use Rattle.std.specs.Prelude.{◌≡◌, ◌⊎◌, ℕ, ◌+◌, ◌<◌, List, Result, MatchResult, length, slice_index_or, slice_set}
+use Rattle.tokens.specs.Feed.{Account, failed_again}
 use Rattle.series.specs.declared.endings.RunFault.{RunFault}
 use Rattle.series.specs.declared.endings.RunFault.TheVariants as fault
 
--- how often each feed, the sink of texts and that of faults have failed
+-- which device each feed is and how often it has failed, and how often the sink of texts and that of faults have
 pub record Failures : Type 0 where
-  pub feeds : List ℕ
+  pub feeds : List Account
   pub text : ℕ
   pub faults : ℕ
 
-abbrev pub failures : List ℕ → ℕ → ℕ → Failures
+abbrev pub failures : List Account → ℕ → ℕ → Failures
 failures feeds text faults = record { feeds = feeds; text = text; faults = faults }
+
+-- past the last feed
+abbrev pub no_device : Account
+no_device = record { device = 0; failures = 0 }
 
 -- one feed has failed once more
 abbrev pub feed_failed : Failures → ℕ → Failures
-feed_failed before file = record before { feeds = slice_set before.feeds file (slice_index before.feeds file + 1) }
+feed_failed before file = record before
+    { feeds = slice_set before.feeds file (failed_again (slice_index_or before.feeds file no_device)) }
 
 -- one sink has failed once more
 abbrev pub SinkFailed : Failures → Failures → Type 0

@@ -1,6 +1,7 @@
 //! Files are compiled, and the programs of all are kept.
 
 ghost use Rattle.std.specs.Prelude.{◌≡◌, ℕ, ◌+◌, ◌-◌, ◌^◌, ◌<◌, ◌≤◌, List, [], Some, false, length, map, All, IfOk, OnOk, OnErr};
+ghost use Rattle.battles.specs.Programs.{AreOfProfile};
 ghost use Rattle.tokens.specs.ReadLimits.{window_bytes};
 ghost use Rattle.tokens.specs.Feed.{Counts};
 ghost use Rattle.series.specs.Compiling.{Source, compiled_code, pieces_of};
@@ -39,6 +40,7 @@ pub(crate) fn compile_into<F: Feed, O: Sink, E: Sink>(
         → Compiles settings.now sources (programs_by result programs.new)
         (taken (O.portions out.old) (E.portions err.old)) (taken (O.portions out.new) (E.portions err.new)) }
     ensures manned { IfOk result (λ status. status ≡ Status.Done → length programs.new ≡ length settings.now.words) }
+    ensures profile { AreOfProfile settings.now.profile programs.new }
     ensures read { Reads settings.now.profile result (map F.to_come feeds.old) (map F.to_come feeds.new) }
     ensures failures { Accounts result
         (failures (map F.account feeds.old) (O.failures out.old) (E.failures err.old))
@@ -87,6 +89,7 @@ fn compile_file<F: Feed, O: Sink, E: Sink>(
     err: &mut E,
 ) -> Result<Result<Status, DeviceFault>, DeviceFault>
     requires room { length programs.old < FILES_MAX }
+    requires profile { AreOfProfile profile programs.old }
     requires count { (F.account feed.old).failures < 2 ^ 64 - 1 }
     requires not_ended { F.ended feed.old ≡ false }
     requires text { O.failures out.old < 2 ^ 64 - 1 }
@@ -98,6 +101,7 @@ fn compile_file<F: Feed, O: Sink, E: Sink>(
         kept_by status programs.new ≡ and_code (Some programs.old) (compiled_code profile bytes))) }
     ensures manned { IfOk result (λ put. IfOk put (λ status.
         length programs.new ≡ length programs.old + count_of status)) }
+    ensures profile { AreOfProfile profile programs.new }
     ensures quiet { OnErr result ((out.new ≡ out.old) × (err.new ≡ err.old)) }
     ensures failures { IfOk result (λ put. CountsSinks put (O.failures out.old) (E.failures err.old)
         (O.failures out.new) (E.failures err.new)) }

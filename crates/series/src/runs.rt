@@ -1,6 +1,7 @@
 //! Runs: files are compiled, and listed or sent to matches.
 
 ghost use Rattle.std.specs.Prelude.{◌≡◌, ◌-◌, ◌^◌, ◌<◌, List, false, length, map, All, MatchResult, IfOk, IfSome};
+ghost use Rattle.battles.specs.Programs.{AreOfProfile};
 ghost use Rattle.code.specs.Codes.{AreCodesOf};
 ghost use Rattle.grammar.specs.Tree.{File};
 ghost use Rattle.series.specs.Compiling.{Source};
@@ -98,6 +99,7 @@ fn play_all<O: Sink>(
     out: &mut O,
 ) -> Result<Status, RunFault>
     requires manned { length programs.now ≡ length settings.now.words }
+    requires profile { AreOfProfile settings.now.profile programs.now }
     requires countable { O.failures out.old < 2 ^ 64 - 1 }
     ensures output { (files : List File) (faults : Portions) → AreCodesOf programs.now settings.now.profile files
         → PutsPieces result (taken (O.portions out.old) faults) (taken (O.portions out.new) faults)
@@ -134,6 +136,8 @@ pub fn compile_files<F: Feed, O: Sink, E: Sink>(
         (taken (O.portions out.new) (E.portions err.new)) }
     ensures manned { IfOk result (λ programs. IfSome programs
         (λ programs. length programs ≡ length settings.now.words)) }
+    ensures profile { IfOk result (λ programs. IfSome programs
+        (λ programs. AreOfProfile settings.now.profile programs)) }
     ensures read { Reads settings.now.profile result (map F.to_come feeds.old) (map F.to_come feeds.new) }
     ensures failures { Accounts result
         (failures (map F.account feeds.old) (O.failures out.old) (E.failures err.old))

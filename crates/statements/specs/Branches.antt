@@ -53,7 +53,7 @@ FailsElse depth here d =
     (s : Body) (c : Expr) (body : Body) → FailsAt depth (Part ElsePart ∷ []) (before_else s c body) here d
 
 -- What a parse of a second branch says by its result.
-abbrev pub ParsesElse : {A : Type 0} → Result A ParseFault → Bool → (before after : Meaning) → ℕ →
+abbrev pub ParsesElse : {A : Type 0} → Result A ParseFault → Type 0 → (before after : Meaning) → ℕ →
     (old new : Standing) → Type 0
 ParsesElse (Ok x) denied before after depth old new = AddsElse before after depth old.place new.place
 ParsesElse (Err fault) denied before after depth old new =

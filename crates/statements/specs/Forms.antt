@@ -25,7 +25,7 @@ abbrev pub in_brackets : List Item
 in_brackets = Exactly punctuator.OpenRound ∷ Part Expression ∷ Exactly punctuator.CloseRound ∷ []
 
 -- What a parse of a condition says by its result: it was read, or the derivation stops within it, as the refusal says.
-abbrev pub ParsesCondition : {A : Type 0} → Result A ParseFault → Bool → (before after : Meaning) → ℕ →
+abbrev pub ParsesCondition : {A : Type 0} → Result A ParseFault → Type 0 → (before after : Meaning) → ℕ →
     (old new : Standing) → Type 0
 ParsesCondition (Ok x) denied before after depth old new =
     AddsExpr before after depth 1 in_brackets [] old.place new.place

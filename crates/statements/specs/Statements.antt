@@ -1,6 +1,6 @@
 -- What the parse of statements did: the builder was told their actions, and the derivation put them behind the body so
 -- far.
-use Rattle.std.specs.Prelude.{ℕ, ◌≤◌, List, [], ◌∷◌, Bool, Result, Ok, Err}
+use Rattle.std.specs.Prelude.{ℕ, ◌≤◌, List, [], ◌∷◌, Result, Ok, Err}
 use Rattle.parsing.specs.Stopping.{Stop}
 use Rattle.grammar.specs.Actions.{body_actions}
 use Rattle.grammar.specs.Building.{Meaning, AppendsAll}
@@ -29,7 +29,7 @@ FailsBody depth front here d = (body : Body) → FailsAt depth front (ABody body
 
 -- What a parse of statements says by its result: they were read, or the derivation stops within them, as the refusal
 -- says.
-abbrev pub ParsesBody : {A : Type 0} → Result A ParseFault → Bool → (before after : Meaning) → ℕ → Symbol →
+abbrev pub ParsesBody : {A : Type 0} → Result A ParseFault → Type 0 → (before after : Meaning) → ℕ → Symbol →
     (old new : Standing) → Type 0
 ParsesBody (Ok x) denied before after depth symbol old new =
     AddsBody before after depth (Part symbol ∷ []) [] old.place new.place

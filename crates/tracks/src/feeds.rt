@@ -28,7 +28,7 @@ impl<F> FileFeed<F> {
 }
 
 impl<F: Read> Feed for FileFeed<F> {
-    ghost failures = { λ feed. feed.failures };
+    ghost account = { λ feed. record { device = 0; failures = feed.failures } };
 
     ghost to_come = { λ _. None };
 

@@ -1,6 +1,6 @@
 //! The trees that each action makes of what is open.
 
-ghost use Rattle.std.specs.Prelude.{◌≡◌, OnOk, true};
+ghost use Rattle.std.specs.Prelude.{◌≡◌, OnOk, ⊤};
 ghost use Rattle.grammar.specs.Actions.{PushConstant, FetchVariable, StoreVariable, ApplyBinop, LogicMiddle, BeginCall};
 ghost use Rattle.grammar.specs.Actions.{EndCall, IfTest, ElsePart, EndIf, BeginWhile, WhileTest, EndWhile, GiveBack};
 ghost use Rattle.grammar.specs.Actions.{Chop, BeginFunction, EndFunction};
@@ -18,7 +18,7 @@ impl Stack {
     pub fn constant(&mut self, value: i32) -> Result<(), BuildFault>
         requires { IsAllowed (PushConstant value) self.old }
         ensures ok { OnOk result (Continues (PushConstant value) self.old self.new) }
-        ensures memory { Refuses result true }
+        ensures memory { Refuses result ⊤ }
     {
         self.push(Open::Value(Expr::Constant(value)))
     }
@@ -27,7 +27,7 @@ impl Stack {
     pub fn fetch(&mut self, var: Var) -> Result<(), BuildFault>
         requires { IsAllowed (FetchVariable var) self.old }
         ensures ok { OnOk result (Continues (FetchVariable var) self.old self.new) }
-        ensures memory { Refuses result true }
+        ensures memory { Refuses result ⊤ }
     {
         self.push(Open::Value(Expr::Variable(var)))
     }
@@ -36,7 +36,7 @@ impl Stack {
     pub fn store(&mut self, var: Var, op: StoreOp) -> Result<(), BuildFault>
         requires { IsAllowed (StoreVariable var op) self.old }
         ensures ok { OnOk result (Continues (StoreVariable var op) self.old self.new) }
-        ensures memory { Refuses result true }
+        ensures memory { Refuses result ⊤ }
     {
         let right = self.value();
         let right = boxed(self.allocator(), right)?;
@@ -47,7 +47,7 @@ impl Stack {
     pub fn binop(&mut self, op: Op) -> Result<(), BuildFault>
         requires { IsAllowed (ApplyBinop op) self.old }
         ensures ok { OnOk result (Continues (ApplyBinop op) self.old self.new) }
-        ensures memory { Refuses result true }
+        ensures memory { Refuses result ⊤ }
     {
         let right = self.value();
         let left = self.left_side();
@@ -60,7 +60,7 @@ impl Stack {
     pub fn logic_middle(&mut self, op: Op) -> Result<(), BuildFault>
         requires { IsAllowed (LogicMiddle op) self.old }
         ensures ok { OnOk result (Continues (LogicMiddle op) self.old self.new) }
-        ensures memory { Refuses result true }
+        ensures memory { Refuses result ⊤ }
     {
         self.push(Open::RightSide(op))
     }
@@ -69,7 +69,7 @@ impl Stack {
     pub fn begin_call(&mut self) -> Result<(), BuildFault>
         requires { IsAllowed BeginCall self.old }
         ensures ok { OnOk result (Continues BeginCall self.old self.new) }
-        ensures memory { Refuses result true }
+        ensures memory { Refuses result ⊤ }
     {
         self.push(Open::Call)
     }
@@ -78,7 +78,7 @@ impl Stack {
     pub fn end_call(&mut self, callee: Callee) -> Result<(), BuildFault>
         requires { IsAllowed (EndCall callee) self.old }
         ensures ok { OnOk result (Continues (EndCall callee) self.old self.new) }
-        ensures memory { Refuses result true }
+        ensures memory { Refuses result ⊤ }
     {
         let arguments = self.arguments()?;
         self.push(Open::Value(Expr::Call(callee, arguments)))
@@ -88,7 +88,7 @@ impl Stack {
     pub fn if_test(&mut self) -> Result<(), BuildFault>
         requires { IsAllowed IfTest self.old }
         ensures ok { OnOk result (Continues IfTest self.old self.new) }
-        ensures memory { Refuses result true }
+        ensures memory { Refuses result ⊤ }
     {
         let condition = self.value();
         self.begin(Heading::First(condition))
@@ -98,7 +98,7 @@ impl Stack {
     pub fn else_part(&mut self) -> Result<(), BuildFault>
         requires { IsAllowed ElsePart self.old }
         ensures ok { OnOk result (Continues ElsePart self.old self.new) }
-        ensures memory { Refuses result true }
+        ensures memory { Refuses result ⊤ }
     {
         let Body {
             heading,
@@ -114,7 +114,7 @@ impl Stack {
     pub fn end_if(&mut self) -> Result<(), BuildFault>
         requires { IsAllowed EndIf self.old }
         ensures ok { OnOk result (Continues EndIf self.old self.new) }
-        ensures memory { Refuses result true }
+        ensures memory { Refuses result ⊤ }
     {
         let Body {
             heading,
@@ -133,7 +133,7 @@ impl Stack {
     pub fn begin_while(&mut self) -> Result<(), BuildFault>
         requires { IsAllowed BeginWhile self.old }
         ensures ok { OnOk result (Continues BeginWhile self.old self.new) }
-        ensures memory { Refuses result true }
+        ensures memory { Refuses result ⊤ }
     {
         self.push(Open::Test)
     }
@@ -142,7 +142,7 @@ impl Stack {
     pub fn while_test(&mut self) -> Result<(), BuildFault>
         requires { IsAllowed WhileTest self.old }
         ensures ok { OnOk result (Continues WhileTest self.old self.new) }
-        ensures memory { Refuses result true }
+        ensures memory { Refuses result ⊤ }
     {
         let condition = self.value();
         self.leave();
@@ -153,7 +153,7 @@ impl Stack {
     pub fn end_while(&mut self) -> Result<(), BuildFault>
         requires { IsAllowed EndWhile self.old }
         ensures ok { OnOk result (Continues EndWhile self.old self.new) }
-        ensures memory { Refuses result true }
+        ensures memory { Refuses result ⊤ }
     {
         let Body {
             heading,
@@ -169,7 +169,7 @@ impl Stack {
     pub fn give_back(&mut self) -> Result<(), BuildFault>
         requires { IsAllowed GiveBack self.old }
         ensures ok { OnOk result (Continues GiveBack self.old self.new) }
-        ensures memory { Refuses result true }
+        ensures memory { Refuses result ⊤ }
     {
         let value = self.value();
         self.add(Statement::Return(value))
@@ -180,7 +180,7 @@ impl Stack {
     pub fn chop(&mut self) -> Result<(), BuildFault>
         requires { IsAllowed Chop self.old }
         ensures ok { OnOk result (Continues Chop self.old self.new) }
-        ensures memory { Refuses result true }
+        ensures memory { Refuses result ⊤ }
     {
         let value = self.value();
         if !self.ends_in_value() {
@@ -197,7 +197,7 @@ impl Stack {
     pub fn begin_function(&mut self, number: u8, parameters: u8) -> Result<(), BuildFault>
         requires { IsAllowed (BeginFunction number parameters) self.old }
         ensures ok { OnOk result (Continues (BeginFunction number parameters) self.old self.new) }
-        ensures memory { Refuses result true }
+        ensures memory { Refuses result ⊤ }
     {
         self.begin(Heading::Function(number, parameters))
     }

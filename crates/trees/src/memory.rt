@@ -1,6 +1,6 @@
 //! Requests of memory, whose refusal is the builder's.
 
-ghost use Rattle.std.specs.Prelude.{◌≡◌, [], ◌∷◌, ◌++◌, IfOk, OnOk, true};
+ghost use Rattle.std.specs.Prelude.{◌≡◌, [], ◌∷◌, ◌++◌, IfOk, OnOk, ⊤};
 ghost use Rattle.grammar.specs.Building.{Refuses};
 
 use crate::tree::Expr;
@@ -10,7 +10,7 @@ use std::alloc::{AllocError, Global};
 /// Puts one more after the items, or refuses for want of memory.
 pub fn put<T: Drop>(items: &mut Vec<T>, item: T) -> Result<(), BuildFault>
     ensures ok { OnOk result (items.new.items ≡ items.old.items ++ item ∷ []) }
-    ensures memory { Refuses result true }
+    ensures memory { Refuses result ⊤ }
 {
     items.push(item).map_err(AllocError::from).map_err(refused)
 }
@@ -18,7 +18,7 @@ pub fn put<T: Drop>(items: &mut Vec<T>, item: T) -> Result<(), BuildFault>
 /// Moves an expression to a place of its own, or refuses for want of memory.
 pub fn boxed(alloc: Global, expr: Expr) -> Result<Box<Expr>, BuildFault>
     ensures ok { IfOk result (λ b. b.value ≡ expr) }
-    ensures memory { Refuses result true }
+    ensures memory { Refuses result ⊤ }
 {
     Box::new(alloc, expr)
         .map_err(AllocError::from)

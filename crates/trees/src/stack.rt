@@ -1,6 +1,6 @@
 //! The stack of what is open in a function while its tree is made.
 
-ghost use Rattle.std.specs.Prelude.{◌≡◌, ◌≢◌, List, [], ◌∷◌, IfOk, OnOk, true};
+ghost use Rattle.std.specs.Prelude.{◌≡◌, ◌≢◌, List, [], ◌∷◌, IfOk, OnOk, true, ⊤};
 ghost use Rattle.grammar.specs.Building.{Refuses};
 ghost use Rattle.trees.specs.declared.stack.Open.TheVariants.{Value, Body as the_body};
 ghost use Rattle.trees.specs.Stacks.{AddsTo, Begins, above_call, below, below_call, ends_in_body, ends_in_value};
@@ -89,7 +89,7 @@ impl Stack {
     /// Opens something more.
     pub fn push(&mut self, item: Open) -> Result<(), BuildFault>
         ensures ok { OnOk result (self.new ≡ item ∷ self.old) }
-        ensures memory { Refuses result true }
+        ensures memory { Refuses result ⊤ }
     {
         put(&mut self.items, item)
     }
@@ -155,7 +155,7 @@ impl Stack {
     pub fn add(&mut self, statement: Statement) -> Result<(), BuildFault>
         requires { ends_in_body self.old ≡ true }
         ensures ok { OnOk result (AddsTo statement self.old self.new) }
-        ensures memory { Refuses result true }
+        ensures memory { Refuses result ⊤ }
     {
         let mut body = self.body();
         put(&mut body.statements, statement)?;
@@ -165,7 +165,7 @@ impl Stack {
     /// Opens a body without statements.
     pub fn begin(&mut self, heading: Heading) -> Result<(), BuildFault>
         ensures ok { OnOk result (Begins heading self.old self.new) }
-        ensures memory { Refuses result true }
+        ensures memory { Refuses result ⊤ }
     {
         let statements = Vec::new(self.alloc);
         self.push(Open::Body(Body {
@@ -178,7 +178,7 @@ impl Stack {
     pub fn arguments(&mut self) -> Result<Vec<Expr>, BuildFault>
         ensures arguments { IfOk result (λ es. es.items ≡ above_call self.old) }
         ensures below { OnOk result (self.new ≡ below_call self.old) }
-        ensures memory { Refuses result true }
+        ensures memory { Refuses result ⊤ }
     {
         let mut arguments = Vec::new(self.alloc);
         while self.ends_in_value() {

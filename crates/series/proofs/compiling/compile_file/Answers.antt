@@ -3,7 +3,7 @@ use Rattle.code.specs.Told.{Stands}
 use Rattle.lang.specs.Files.{IsFile}
 use Rattle.code.specs.Listing.{listing_of}
 use Rattle.sinks.specs.Portions.{Takes, TakesFront}
-use Rattle.series.proofs.FileLemmas.{diagnostic_cut, diagnostic_put, faulty_kept, good_code, good_kept, listing_cut, listing_put, of_last}
+use Rattle.series.proofs.FileLemmas.{alike, alike_more, diagnostic_cut, diagnostic_put, faulty_kept, good_code, good_kept, listing_cut, listing_put, of_last}
 use Rattle.series.proofs.compiling.compile_file.Goals as goal
 use Rattle.series.proofs.compiling.compile_file.Goals.{in-Listing, in-Matches}
 
@@ -102,3 +102,21 @@ returns-in-Err-Device-clause-count g c = rw c.in-Err-Device.field-0-is at c.in-E
 
 pub returns-in-Err-Device-clause-quiet : goal.returns-in-Err-Device-clause-quiet
 returns-in-Err-Device-clause-quiet g c = (refl, refl)
+
+pub push-requires-clause-alike : goal.push-requires-clause-alike
+push-requires-clause-alike g c =
+    let made = c.in-Ok.ensures.file in
+    let code = c.finish.ensures c.args.profile made.file (record { resolved = made.resolved; stands = made.built _ c.new-maker.ensures; named = made.named; main = made.main }) in
+    alike c.args.profile made.file c.finish.result _ code c.requires.profile
+
+pub returns-in-Ok-put-clause-profile : goal.returns-in-Ok-put-clause-profile
+returns-in-Ok-put-clause-profile g c =
+    let made = c.in-Ok.ensures.file in
+    let code = c.finish.ensures c.args.profile made.file (record { resolved = made.resolved; stands = made.built _ c.new-maker.ensures; named = made.named; main = made.main }) in
+    alike_more c.args.profile made.file c.finish.result _ _ code c.requires.profile c.push.ensures
+
+pub returns-in-Err-clause-profile : goal.returns-in-Err-clause-profile
+returns-in-Err-clause-profile g c =
+    let made = c.in-Ok.ensures.file in
+    let code = c.finish.ensures c.args.profile made.file (record { resolved = made.resolved; stands = made.built _ c.new-maker.ensures; named = made.named; main = made.main }) in
+    alike_more c.args.profile made.file c.finish.result _ _ code c.requires.profile c.push.ensures

@@ -45,13 +45,13 @@ returns-in-Err-put-clause-read g c = (
   reads_first g.F.Feed.to_come c.args.settings.now.profile c.args.feeds.now _ (c.loop-file.file + 1)
       (rest_more c.args.feeds.now c.loop-file.feeds c.loop-file.file c.compile_file.new.feed c.loop-file.invariant.0)
       (reads_more g.F.Feed.to_come c.args.settings.now.profile c.args.feeds.now c.loop-file.feeds c.loop-file.file c.index-feeds-file.result c.compile_file.new.feed
-      (omega arith) c.loop-file.invariant.0 c.loop-file.invariant.4 (rw c.profile-profile.ensures.value at c.in-Ok.ensures.taken)),
+      (omega arith) c.loop-file.invariant.0 c.loop-file.invariant.4.0 (rw c.profile-profile.ensures.value at c.in-Ok.ensures.taken)),
 )
 
 pub returns-in-Err-clause-read : goal.returns-in-Err-clause-read
 returns-in-Err-clause-read g c =
     fails_at g.F.Feed.to_come c.args.settings.now.profile c.args.feeds.now c.loop-file.feeds c.loop-file.file c.index-feeds-file.result c.compile_file.new.feed
-    (omega arith) c.loop-file.invariant.0 c.loop-file.invariant.4 (rw c.profile-profile.ensures.value at c.in-Err.ensures.stopped)
+    (omega arith) c.loop-file.invariant.0 c.loop-file.invariant.4.0 (rw c.profile-profile.ensures.value at c.in-Err.ensures.stopped)
 
 pub loop-file-preserved : goal.loop-file-preserved
 loop-file-preserved g c = (
@@ -87,8 +87,12 @@ loop-file-preserved g c = (
             ∙ kept_more c.args.settings.now.profile sources c.loop-file.file _ _ in_sources (c.loop-file.invariant.3 sources are).1 refl),
       ),
   reads_more g.F.Feed.to_come c.args.settings.now.profile c.args.feeds.now c.loop-file.feeds c.loop-file.file c.index-feeds-file.result c.compile_file.new.feed
-      (omega arith) c.loop-file.invariant.0 c.loop-file.invariant.4 (rw c.profile-profile.ensures.value at c.in-Ok.ensures.taken),
+      (omega arith) c.loop-file.invariant.0 c.loop-file.invariant.4.0 (rw c.profile-profile.ensures.value at c.in-Ok.ensures.taken),
+  rw c.profile-profile.ensures.value at c.compile_file.ensures.profile,
 )
+
+pub compile_file-requires-clause-profile : goal.compile_file-requires-clause-profile
+compile_file-requires-clause-profile g c = rw c.profile-profile.ensures.value c.loop-file.invariant.4.1
 
 pub returns-in-Err-clause-failures : goal.returns-in-Err-clause-failures
 returns-in-Err-clause-failures g c =

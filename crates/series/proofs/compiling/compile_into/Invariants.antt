@@ -1,4 +1,5 @@
 use Rattle.std.proofs.Common.{◌≡◌, ◌≤◌, List, length, drop, take, map}
+use Rattle.battles.specs.Programs.{AreOfProfile}
 use Rattle.series.specs.Compiling.{Source, compiling, codes_of}
 use Rattle.series.specs.Failures.{failures}
 use Rattle.series.specs.Pieces.{taken, Writes}
@@ -8,7 +9,8 @@ use Rattle.series.specs.declared.endings.Status.TheVariants.{Done}
 use Rattle.series.proofs.compiling.compile_into.Given as goal
 
 -- The feeds of the files to come are as they were, nothing failed, there is a program for each file so far unless one
--- was faulty, the files so far are compiled, and of each no more is taken than decides it and a window.
+-- was faulty, the files so far are compiled, of each no more is taken than decides it and a window, and all programs are
+-- of the profile asked for.
 abbrev pub invariant-loop-file : goal.invariant-loop-file
 invariant-loop-file g l =
     (drop l.file l.feeds ≡ drop l.file l.fn.feeds)
@@ -20,3 +22,4 @@ invariant-loop-file g l =
     (compiling l.settings.mode l.settings.profile (take l.file sources))
     × (kept_by l.status l.programs ≡ codes_of l.settings.profile (take l.file sources)))
     × TakesOfFirst l.settings.profile (map g.F.Feed.to_come l.fn.feeds) (map g.F.Feed.to_come l.feeds) l.file
+    × AreOfProfile l.settings.profile l.programs

@@ -1,4 +1,4 @@
-use Rattle.std.proofs.Common.{false, ⊥}
+use Rattle.std.proofs.Common.{false}
 use Rattle.std.proofs.lemmas.Result.{err_from_is_err_and}
 use Rattle.parsing.proofs.Advances.{kept_then, on, on_then}
 use Rattle.parsing.proofs.Growing.{grown, grown_nothing}

@@ -1,4 +1,4 @@
-use Rattle.std.proofs.Common.{false, refl, ⊥}
+use Rattle.std.proofs.Common.{false, refl}
 use Rattle.std.proofs.lemmas.Result.{err_from_is_err_and}
 use Rattle.grammar.specs.Actions.{GiveBack}
 use Rattle.grammar.specs.Following.{AValue, is_number}

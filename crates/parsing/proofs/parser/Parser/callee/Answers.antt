@@ -1,4 +1,4 @@
-use Rattle.std.proofs.Common.{◌≡◌, ℕ, subst, [], ◌∷◌, sym, ap, false, ⊥}
+use Rattle.std.proofs.Common.{◌≡◌, ℕ, subst, [], ◌∷◌, sym, ap, false}
 use Rattle.std.proofs.lemmas.Result.{err_from_is_err_and}
 use Rattle.tokens.specs.declared.located_tokens.LocatedToken.{LocatedToken}
 use Rattle.tokens.specs.Reading.{IsNear}

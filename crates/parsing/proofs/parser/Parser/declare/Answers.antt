@@ -1,4 +1,4 @@
-use Rattle.std.proofs.Common.{◌≡◌, subst, sym, false, ⊥}
+use Rattle.std.proofs.Common.{◌≡◌, subst, sym, false}
 use Rattle.std.proofs.lemmas.Result.{err_from_is_err_and}
 use Rattle.tokens.specs.Reading.{IsNear}
 use Rattle.tokens.specs.declared.located_tokens.Token.TheVariants as token

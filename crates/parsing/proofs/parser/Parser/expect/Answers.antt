@@ -1,4 +1,4 @@
-use Rattle.std.proofs.Common.{◌≡◌, true, false, ⊥}
+use Rattle.std.proofs.Common.{◌≡◌, true, false}
 use Rattle.std.proofs.lemmas.Result.{err_from_is_err_and}
 use Rattle.grammar.specs.Grammar.{is_fault, is_punctuator}
 use Rattle.parsing.proofs.Items.{punctuator_misfits, punctuator_stops, punctuator_derives}

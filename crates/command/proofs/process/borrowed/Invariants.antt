@@ -1,6 +1,6 @@
 use Rattle.std.proofs.Common.{◌≡◌, map, take}
 use Rattle.std.specs.Prelude.{string_bytes}
-use Rattle.crobots.proofs.borrowed.Given as goal
+use Rattle.command.proofs.process.borrowed.Given as goal
 
 -- the texts so far are those of the words
 abbrev pub invariant-loop-word : goal.invariant-loop-word

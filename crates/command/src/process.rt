@@ -1,0 +1,77 @@
+//! The program over the words of its process, the first of which is its own name.
+
+ghost use Rattle.std.specs.Prelude.{◌≡◌, ◌-◌, ◌^◌, ◌<◌, drop, map, string_bytes, IfErr, IfOk};
+ghost use Rattle.std_io.specs.IoError.{error_kind};
+ghost use Rattle.series.specs.Pieces.{taken};
+ghost use Rattle.arguments.specs.Words.{asked};
+ghost use Rattle.command.specs.Endings.{PutsLine, line_of, status_of};
+ghost use Rattle.command.specs.Files.{real_files};
+ghost use Rattle.command.specs.Whole.{Concludes, ending_unread};
+
+use crate::endings::Ending;
+use crate::running::program;
+use series::Sink;
+use std::alloc::AllocError;
+use std::io;
+use std::io::ErrorKind;
+use std::rt::Files;
+
+/// Runs the program over the words that its process got, or that were not read: its own name is the first. Answers the
+/// exit status.
+///
+/// Words that are no text are wrong usage. If memory was refused for them, the program says that.
+pub fn program_of<R: Files + AllocGlobal, O: Sink, E: Sink>(
+    rt: &R,
+    words: io::Result<Vec<String>>,
+    out: &mut O,
+    err: &mut E,
+) -> u8
+    requires text { O.failures out.old < 2 ^ 64 - 1 }
+    requires faults { E.failures err.old < 2 ^ 64 - 2 }
+    ensures read { IfOk words.entry (λ all. Concludes real_files (asked (drop 1 (map string_bytes all.items))) result
+        (taken (O.portions out.old) (E.portions err.old)) (taken (O.portions out.new) (E.portions err.new))
+        (E.failures err.old) (E.failures err.new)) }
+    ensures unread { IfErr words.entry (λ fault. (result ≡ status_of (ending_unread (error_kind fault)))
+        × (O.portions out.new ≡ O.portions out.old)
+        × PutsLine (E.portions err.old) (E.failures err.old) (E.portions err.new) (E.failures err.new)
+        (line_of (ending_unread (error_kind fault)))) }
+{
+    match words {
+        Ok(words) => match borrowed(rt, words.as_slice()) {
+            Ok(words) => program(rt, after_first(words.as_slice()), out, err),
+            Err(_) => Ending::OutOfMemory.end(err),
+        },
+        Err(fault) => unread(fault.kind()).end(err),
+    }
+}
+
+/// Returns how the program ends if its words were not read.
+fn unread(kind: ErrorKind) -> Ending<'static>
+    ensures { result ≡ ending_unread kind }
+{
+    match kind {
+        ErrorKind::OutOfMemory => Ending::OutOfMemory,
+        _ => Ending::WrongUsage,
+    }
+}
+
+/// Returns the words after the first.
+fn after_first<'a>(words: &'a [&'a str]) -> &'a [&'a str]
+    ensures { map (λ word. word.now) result.now ≡ drop 1 (map (λ word. word.now) words.now) }
+{
+    match words.split_first() {
+        Some((_, others)) => others,
+        None => words,
+    }
+}
+
+/// Returns the words as texts.
+fn borrowed<'a, R: Alloc>(rt: &R, words: &'a [String]) -> Result<Vec<&'a str, R::A>, AllocError>
+    ensures { IfOk result (λ texts. map (λ text. text.now) texts.items ≡ map string_bytes words.now) }
+{
+    let mut texts = Vec::new(rt.alloc());
+    for word in words {
+        texts.push(word.as_str())?;
+    }
+    Ok(texts)
+}
