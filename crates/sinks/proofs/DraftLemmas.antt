@@ -1,14 +1,14 @@
 -- How a pen goes on.
-use Rattle.std.proofs.Common.{◌≡◌, ℕ, ◌+◌, true, false, List, [], ◌++◌, Result, Ok, Err, refl, sym, ap, ◌∙◌}
+use Rattle.std.proofs.Common.{◌≡◌, ℕ, ◌+◌, ◌<◌, ◌≤◌, true, false, List, [], ◌∷◌, ◌++◌, length, Result, Ok, Err, refl, sym, ap, ◌∙◌, arith, length-append}
 use Rattle.std.specs.Prelude.{is_err}
-use Rattle.sinks.specs.Portions.{Portions, Puts}
-use Rattle.sinks.specs.Draft.{Draft, blank, WritesSoFar}
-use Rattle.sinks.proofs.PortionsLemmas.{nothing_taken, takes_then, none_left, front_then, all_but_more, front_more}
+use Rattle.sinks.specs.Portions.{Portions, Puts, Takes, TakesWhole, and_portions, page_bytes}
+use Rattle.sinks.specs.Draft.{Draft, blank, IsOnPage, PutsSoFar, WritesSoFar}
+use Rattle.sinks.proofs.PortionsLemmas.{nothing_taken, all_but_then, all_taken, none_left, front_then, all_but_more, front_more}
 
 module _ {before now : Portions} {n failures : ℕ} where
   -- a fragment goes on the page
-  pub writes_more : (pen later : Draft) (text more : List ℕ) → WritesSoFar before now n failures pen text
-      → later.failed ≡ pen.failed → later.page ≡ pen.page ++ more → WritesSoFar before now n failures later (text ++ more)
+  pub writes_more : (pen later : Draft) (text more : List ℕ) → PutsSoFar before now n failures pen text
+      → later.failed ≡ pen.failed → later.page ≡ pen.page ++ more → PutsSoFar before now n failures later (text ++ more)
   writes_more pen later text more so_far same page = record {
     going = λ h. rw page (all_but_more before now text pen.page more (so_far.going (sym same ∙ h)));
     calm = λ h. so_far.calm (sym same ∙ h);
@@ -17,8 +17,8 @@ module _ {before now : Portions} {n failures : ℕ} where
   }
 
   -- once a put has failed the page no longer matters
-  pub writes_no_more : (pen later : Draft) (text more : List ℕ) → WritesSoFar before now n failures pen text
-      → pen.failed ≡ true → later.failed ≡ true → WritesSoFar before now n failures later (text ++ more)
+  pub writes_no_more : (pen later : Draft) (text more : List ℕ) → PutsSoFar before now n failures pen text
+      → pen.failed ≡ true → later.failed ≡ true → PutsSoFar before now n failures later (text ++ more)
   writes_no_more pen later text more so_far was is = record {
     going = λ h. cc;
     calm = λ h. cc;
@@ -28,11 +28,11 @@ module _ {before now : Portions} {n failures : ℕ} where
 
   -- the page is put
   pub page_put : {T E : Type 0} (pen later : Draft) (after : Portions) (count : ℕ) (page text : List ℕ) (put : Result T E)
-      → WritesSoFar before now n failures pen text → pen.failed ≡ false → page ≡ pen.page
+      → PutsSoFar before now n failures pen text → pen.failed ≡ false → page ≡ pen.page
       → later.failed ≡ is_err put → later.page ≡ []
-      → Puts put now failures after count page → WritesSoFar before after n count later text
+      → Puts put now failures after count page → PutsSoFar before after n count later text
   page_put pen later after count page text (Ok _) so_far was same is empty puts = record {
-    going = λ h. rw empty (none_left before after text (takes_then before now after text page (rw same (so_far.going was)) puts.0));
+    going = λ h. rw empty (all_but_then before now after text page [] (rw same (so_far.going was)) (none_left now after page puts.0));
     calm = λ h. puts.1 ∙ so_far.calm was;
     stopped = λ h. cc;
     counted = λ h. cc;
@@ -46,28 +46,70 @@ module _ {before now : Portions} {n failures : ℕ} where
 
   -- a fragment is put behind an empty page
   pub fragment_put : {T E : Type 0} (pen later : Draft) (after : Portions) (count : ℕ) (bytes text : List ℕ) (put : Result T E)
-      → WritesSoFar before now n failures pen text → pen.failed ≡ false → pen.page ≡ []
+      → PutsSoFar before now n failures pen text → pen.failed ≡ false → pen.page ≡ []
       → later.failed ≡ is_err put → later.page ≡ pen.page
-      → Puts put now failures after count bytes → WritesSoFar before after n count later (text ++ bytes)
+      → Puts put now failures after count bytes → PutsSoFar before after n count later (text ++ bytes)
   fragment_put pen later after count bytes text put so_far was empty is same puts =
       let page : bytes ≡ pen.page ++ bytes = rw empty in
       page_put (record { page = bytes; failed = false }) later after count bytes (text ++ bytes) put
       (writes_more pen (record { page = bytes; failed = false }) text bytes so_far (sym was) page) refl refl is (same ∙ empty) puts
+
+  -- a text that fits the page is on it, and a fragment goes on the page
+  pub kept_more : (pen later : Draft) (text more : List ℕ) → WritesSoFar before now n failures pen text
+      → later.failed ≡ pen.failed → later.page ≡ pen.page ++ more → length (text ++ more) ≤ page_bytes → IsOnPage before now later (text ++ more)
+  kept_more pen later text more so_far same page fits =
+      let less : length text ≤ page_bytes = omega (arith, length-append text more) in
+      let on_page : IsOnPage before now pen text = so_far.kept less in
+      record {
+        going = same ∙ on_page.going;
+        page = page ∙ ap (λ l. l ++ more) on_page.page;
+        nothing = on_page.nothing;
+      }
+
+  -- a text with a fragment that does not fit the page has more bytes than the page
+  pub too_long : (pen : Draft) (text more : List ℕ) → WritesSoFar before now n failures pen text
+      → page_bytes < length pen.page + length more → length (text ++ more) ≤ page_bytes → ⊥
+  too_long pen text more so_far long fits =
+      let less : length text ≤ page_bytes = omega (arith, length-append text more) in
+      let on_page : IsOnPage before now pen text = so_far.kept less in
+      omega (arith, length-append text more, ap length on_page.page)
+
+  -- nothing is added once a put has failed
+  pub nothing_more : (pen : Draft) (text more : List ℕ) → PutsSoFar before now n failures pen text → pen.failed ≡ true
+      → (length (text ++ more) ≤ page_bytes → ⊥) → WritesSoFar before now n failures pen (text ++ more)
+  nothing_more pen text more so_far was long = record { puts = writes_no_more pen pen text more so_far was was; kept = λ fits. absurd (long fits) }
+
+  -- a pen whose put has failed has written more bytes than the page
+  pub not_failed : (pen : Draft) (text more : List ℕ) → WritesSoFar before now n failures pen text
+      → pen.failed ≡ true → length (text ++ more) ≤ page_bytes → ⊥
+  not_failed pen text more so_far was fits =
+      let less : length text ≤ page_bytes = omega (arith, length-append text more) in
+      let going : pen.failed ≡ false = (so_far.kept less).going in
+      cc
 
   -- the last page is put
   pub piece_put : {T E : Type 0} (pen : Draft) (after : Portions) (count : ℕ) (page text : List ℕ) (put : Result T E)
       → WritesSoFar before now n failures pen text → pen.failed ≡ false → page ≡ pen.page
       → Puts put now failures after count page → Puts put before n after count text
   piece_put pen after count page text (Ok _) so_far was same puts =
-      (takes_then before now after text page (rw same (so_far.going was)) puts.0, puts.1 ∙ so_far.calm was)
+      (all_taken before after text (all_but_then before now after text page [] (rw same (so_far.puts.going was)) (none_left now after page puts.0)) one, puts.1 ∙ so_far.puts.calm was)
+    where
+      one : TakesWhole before → 0 < length text → length text ≤ page_bytes → after ≡ and_portions before (text ∷ [])
+      one whole some fits =
+          let on_page : IsOnPage before now pen text = so_far.kept fits in
+          let whole_text : Takes before after text = rw (← on_page.nothing, ← (same ∙ on_page.page)) puts.0 in
+          whole_text.one whole some fits
   piece_put pen after count page text (Err _) so_far was same puts =
-      (front_then before now after text page (rw same (so_far.going was)) puts.0, puts.1 ∙ ap (λ m. m + 1) (so_far.calm was))
+      (front_then before now after text page (rw same (so_far.puts.going was)) puts.0, puts.1 ∙ ap (λ m. m + 1) (so_far.puts.calm was))
 
 -- a pen at its begin has written nothing
 pub writes_nothing : (pen : Draft) (now : Portions) (n : ℕ) → pen ≡ blank → WritesSoFar now now n n pen []
 writes_nothing pen now n e = rw e (record {
-  going = λ h. nothing_taken now [];
-  calm = λ h. refl;
-  stopped = λ h. cc;
-  counted = λ h. cc;
+  puts = record {
+    going = λ h. nothing_taken now [];
+    calm = λ h. refl;
+    stopped = λ h. cc;
+    counted = λ h. cc;
+  };
+  kept = λ fits. record { going = refl; page = refl; nothing = refl };
 })

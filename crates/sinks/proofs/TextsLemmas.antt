@@ -1,8 +1,5 @@
 -- Numbers in columns, digit by digit.
-use Rattle.std.proofs.Common.{◌≡◌, ℕ, ◌+◌, ◌-◌, ◌/◌, ◌%◌, ◌^◌, ◌<◌, ◌≤◌, List, [], ◌∷◌, ◌++◌, length, replicate, decimal, ap, ◌∙◌, sym, append_assoc, arith, rules, length-append, take, get_or, ◌≢◌, not, ◌==◌}
-use Rattle.std.proofs.lemmas.List.{take_more, append-nil}
-use Rattle.std.proofs.lemmas.List.Folds.{concat-append}
-use mathlib.Core.List.{map-append}
+use Rattle.std.proofs.Common.{◌≡◌, ℕ, ◌+◌, ◌-◌, ◌/◌, ◌%◌, ◌^◌, ◌<◌, ◌≤◌, List, [], ◌∷◌, ◌++◌, length, replicate, decimal, ap, ◌∙◌, sym, append_assoc, arith, rules, length-append, get_or, ◌≢◌, not, ◌==◌}
 use Rattle.std.specs.List.{between, suffix_len}
 use Rattle.std.proofs.lemmas.List.Sums.{suffix_len_is}
 use Rattle.std.proofs.lemmas.Slice.{between_to_end}

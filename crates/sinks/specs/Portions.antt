@@ -1,21 +1,37 @@
 -- What a sink took: one portion for each call, in the order of the calls.
-use Rattle.std.specs.Prelude.{◌≡◌, ℕ, ◌+◌, List, ◌++◌, Option, Some, None, Result, MatchResult}
+use Rattle.std.specs.Prelude.{◌≡◌, ℕ, ◌+◌, ◌<◌, ◌≤◌, Bool, true, List, [], ◌∷◌, ◌++◌, length, Option, Some, None, Result, MatchResult}
 use Rattle.std.specs.List.{concat}
 
--- the portions that a sink took so far, if its contents are known
+-- the most bytes of a text that is put by one call: those of a pen's page
+abbrev pub page_bytes : ℕ
+page_bytes = 512
+
+-- the portions that a sink took so far, and whether it takes each put whole: all bytes of a call, if it succeeds
+pub record Contents : Type 0 where
+  pub portions : List (List ℕ)
+  pub whole : Bool
+
+-- what a sink took so far, if its contents are known
 abbrev pub Portions : Type 0
-Portions = Option (List (List ℕ))
+Portions = Option Contents
 
 -- the same, with these portions taken since
 abbrev pub and_portions : Portions → List (List ℕ) → Portions
 and_portions None more = None
-and_portions (Some taken) more = Some (taken ++ more)
+and_portions (Some taken) more = Some (record taken { portions = taken.portions ++ more })
 
--- from before to after the sink took exactly these bytes
+-- the sink takes each put whole
+abbrev pub TakesWhole : Portions → Type 0
+TakesWhole None = ⊥
+TakesWhole (Some taken) = taken.whole ≡ true
+
+-- From before to after the sink took exactly these bytes. If it takes each put whole, and they are 1 to as many as a
+-- page has, it took them as one portion.
 pub record Takes (before after : Portions) (bytes : List ℕ) : Type 0 where
   pub portions : List (List ℕ)
   pub told : after ≡ and_portions before portions
   pub joined : concat portions ≡ bytes
+  pub one : TakesWhole before → 0 < length bytes → length bytes ≤ page_bytes → after ≡ and_portions before (bytes ∷ [])
 
 -- it took these bytes but for the ones that are left at their end
 pub record TakesAllBut (before after : Portions) (bytes left : List ℕ) : Type 0 where

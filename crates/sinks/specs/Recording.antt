@@ -1,12 +1,13 @@
 -- What a sink in memory keeps.
-use Rattle.std.specs.Prelude.{ℕ, zero, suc, List, Option, Some, None, min}
+use Rattle.std.specs.Prelude.{ℕ, zero, suc, List, Option, Some, None, min, is_none, unwrap_or, ◌&&◌}
+use Rattle.sinks.specs.Portions.{Portions}
 
--- the portions that it took, the most bytes that a call takes, the room that is left, the calls that succeed
--- before one fails, and how often it failed
+-- the portions that it took, the most bytes that a call takes and the room that is left, if they are limited, the calls
+-- that succeed before one fails, and how often it failed
 pub record Recording : Type 0 where
   pub portions : List (List ℕ)
-  pub most : ℕ
-  pub room : ℕ
+  pub most : Option ℕ
+  pub room : Option ℕ
   pub failing : Option ℕ
   pub failures : ℕ
 
@@ -15,7 +16,11 @@ abbrev pub size_of_next : Recording → ℕ → ℕ
 size_of_next r len = elim r.failing [ None ↦ fitting | Some calls ↦ elim calls [ zero ↦ 0 | suc _ ↦ fitting ] ]
   where
     fitting : ℕ
-    fitting = min (min len r.most) r.room
+    fitting = min (min len (unwrap_or r.most len)) (unwrap_or r.room len)
+
+-- what it took; it takes each put whole unless it was limited
+abbrev pub contents_of : Recording → Portions
+contents_of r = Some (record { portions = r.portions; whole = is_none r.most && is_none r.room })
 
 -- a call nearer to the one that fails
 abbrev pub failing_then : Option ℕ → Option ℕ

@@ -2,7 +2,7 @@
 
 ghost use Rattle.std.specs.Prelude.{◌≡◌, ℕ, ◌+◌, ◌-◌, ◌^◌, ◌<◌, ◌≤◌, List, [], ◌∷◌, ◌++◌, length, OnOk, OnErr, true, false};
 ghost use Rattle.sinks.specs.Portions.{Portions, Puts};
-ghost use Rattle.sinks.specs.Draft.{Draft, blank, MayFail, WritesSoFar, Adds};
+ghost use Rattle.sinks.specs.Draft.{Draft, blank, MayFail, PutsSoFar, WritesSoFar, Adds};
 
 use crate::sink::{Sink, put_all};
 use arrayvec::ArrayVec;
@@ -61,8 +61,8 @@ impl Pen {
         requires { MayFail self.old (S.failures sink.old) }
         ensures countable { MayFail self.new (S.failures sink.new) }
         ensures text { (before : Portions) (n : ℕ) (text : List ℕ)
-            → WritesSoFar before (S.portions sink.old) n (S.failures sink.old) self.old text
-            → WritesSoFar before (S.portions sink.new) n (S.failures sink.new) self.new text }
+            → PutsSoFar before (S.portions sink.old) n (S.failures sink.old) self.old text
+            → PutsSoFar before (S.portions sink.new) n (S.failures sink.new) self.new text }
         ensures empty { self.new.failed ≡ false → self.new.page ≡ [] }
     {
         if !self.failed {
@@ -76,8 +76,9 @@ impl Pen {
         requires countable { MayFail self.old (S.failures sink.old) }
         requires empty { self.old.failed ≡ false → self.old.page ≡ [] }
         ensures countable { MayFail self.new (S.failures sink.new) }
-        ensures text { Adds (S.portions sink.old) (S.failures sink.old) self.old (S.portions sink.new)
-            (S.failures sink.new) self.new bytes.now }
+        ensures text { (before : Portions) (n : ℕ) (text : List ℕ)
+            → PutsSoFar before (S.portions sink.old) n (S.failures sink.old) self.old text
+            → PutsSoFar before (S.portions sink.new) n (S.failures sink.new) self.new (text ++ bytes.now) }
     {
         if !self.failed {
             self.failed = put_all(sink, bytes).is_err();

@@ -1,8 +1,8 @@
 //! A sink in memory, for tests.
 
-ghost use Rattle.std.specs.Prelude.{◌≡◌, ℕ, ◌+◌, ◌-◌, ◌^◌, ◌<◌, ◌≤◌, List, [], ◌∷◌, ◌++◌, map, length, take, Some, None, IfOk, OnOk, OnErr, IfSome, OnSome, min};
-ghost use Rattle.sinks.specs.Recording.{Recording, size_of_next, failing_then};
-ghost use Rattle.sinks.specs.Portions.{and_portions};
+ghost use Rattle.std.specs.Prelude.{◌≡◌, ℕ, ◌+◌, ◌-◌, ◌^◌, ◌<◌, ◌≤◌, List, [], ◌∷◌, ◌++◌, map, option_map, length, take, Some, None, IfOk, OnOk, OnErr, IfSome, OnSome, min};
+ghost use Rattle.sinks.specs.Recording.{Recording, contents_of, size_of_next, failing_then};
+ghost use Rattle.sinks.specs.Portions.{TakesWhole, and_portions};
 
 use crate::sink::Sink;
 use std::alloc::{AllocError, Global};
@@ -14,8 +14,8 @@ use tokens::DeviceFault;
 #[derive(Debug, Drop)]
 pub struct Recorder {
     portions: Vec<Vec<u8>>,
-    most: usize,
-    room: usize,
+    most: Option<usize>,
+    room: Option<usize>,
     failing: Option<u64>,
     failures: u64,
 }
@@ -35,12 +35,12 @@ impl Model for Recorder {
 impl Recorder {
     /// Makes a sink that takes all that it is given.
     pub fn new(alloc: Global) -> Recorder
-        ensures { result ≡ record { portions = []; most = usize.MAX; room = usize.MAX; failing = None; failures = 0 } }
+        ensures { result ≡ record { portions = []; most = None; room = None; failing = None; failures = 0 } }
     {
         Recorder {
             portions: Vec::new(alloc),
-            most: usize::MAX,
-            room: usize::MAX,
+            most: None,
+            room: None,
             failing: None,
             failures: 0,
         }
@@ -48,16 +48,22 @@ impl Recorder {
 
     /// Limits each call to at most so many bytes.
     pub fn with_most(self, most: usize) -> Recorder
-        ensures { result ≡ record self { most = most } }
+        ensures { result ≡ record self { most = Some most } }
     {
-        Recorder { most, ..self }
+        Recorder {
+            most: Some(most),
+            ..self
+        }
     }
 
     /// Lets it take only so many bytes more and then fail.
     pub fn with_room(self, room: usize) -> Recorder
-        ensures { result ≡ record self { room = room } }
+        ensures { result ≡ record self { room = Some room } }
     {
-        Recorder { room, ..self }
+        Recorder {
+            room: Some(room),
+            ..self
+        }
     }
 
     /// Lets the call after so many more fail.
@@ -94,22 +100,22 @@ impl Recorder {
         if failing == Some(0) {
             0
         } else {
-            len.min(self.most).min(self.room)
+            len.min(self.most.unwrap_or(len))
+                .min(self.room.unwrap_or(len))
         }
     }
 
     /// Keeps a portion.
     fn keep(&mut self, portion: &[u8]) -> Result<(), AllocError>
-        requires { length portion.now ≤ self.old.room }
         ensures ok { OnOk result (self.new ≡ record self.old {
           portions = self.old.portions ++ portion.now ∷ [];
-          room = self.old.room - length portion.now;
+          room = option_map (λ room. room - length portion.now) self.old.room;
         }) }
         ensures err { OnErr result (self.new ≡ self.old) }
     {
         let kept = Vec::from_slice(*self.portions.allocator(), portion)?;
         self.portions.push(kept)?;
-        self.room -= portion.len();
+        self.room = self.room.map(|room| room.saturating_sub(portion.len()));
         Ok(())
     }
 }
@@ -117,7 +123,7 @@ impl Recorder {
 impl Sink for Recorder {
     ghost failures = { λ r. r.failures };
 
-    ghost portions = { λ r. Some r.portions };
+    ghost portions = { contents_of };
 
     fn put(&mut self, bytes: &[u8]) -> Result<usize, DeviceFault> {
         let n = self.next_size(bytes.len());

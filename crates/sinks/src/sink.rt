@@ -1,14 +1,15 @@
 //! Devices that take bytes.
 
 ghost use Rattle.std.specs.Prelude.{◌≡◌, ℕ, ◌+◌, ◌-◌, ◌^◌, ◌<◌, ◌≤◌, List, [], ◌∷◌, length, take, IfOk, OnOk, OnErr};
-ghost use Rattle.sinks.specs.Portions.{Portions, and_portions, Puts};
+ghost use Rattle.sinks.specs.Portions.{Portions, and_portions, Puts, TakesWhole};
 
 use tokens::DeviceFault;
 
 /// A device that takes bytes.
 ///
 /// `failures` counts the calls that failed; `portions` are those taken so far, one for each call that
-/// succeeded, if the device's contents are known. Joined in order they are the bytes that it took.
+/// succeeded, if the device's contents are known. Joined in order they are the bytes that it took. They say too
+/// whether the device takes each put whole.
 pub trait Sink {
     ghost failures: { Self → ℕ };
 
@@ -20,6 +21,7 @@ pub trait Sink {
         requires countable { failures self.old < 2 ^ 64 - 1 }
         ensures some { IfOk result (λ n. 0 < n) }
         ensures front { IfOk result (λ n. n ≤ length bytes.now) }
+        ensures whole { IfOk result (λ n. TakesWhole (portions self.old) → n ≡ length bytes.now) }
         ensures taken { IfOk result (λ n. portions self.new
             ≡ and_portions (portions self.old) (take n bytes.now ∷ [])) }
         ensures calm { OnOk result (failures self.new ≡ failures self.old) }
