@@ -3,7 +3,7 @@
 
 ghost use Rattle.std.specs.Prelude.{◌≡◌, ◌<◌, ◌≤◌, ◌+◌, ◌*◌, ℕ, true, false, ℤ, List, length, slice_index_or};
 ghost use Rattle.arena.specs.Field.{Field, live_count};
-ghost use Rattle.arena.specs.Ground.{lives};
+ghost use Rattle.arena.specs.Ground.{lives, most_updates};
 ghost use Rattle.arena.specs.Standing.{StandsFor as IsGroundOf};
 ghost use Rattle.code.specs.Generation.{ObjectCode};
 ghost use Rattle.battles.specs.Battle.{Robot, Stage};
@@ -39,7 +39,7 @@ pub(crate) fn pass(runners: &mut [Runner], arena: &Arena, cycles: u32) -> bool
 pub(crate) fn skip(runners: &mut [Runner], arena: &mut Arena, most: u32) -> u32
     requires manned { length arena.old.robots ≡ length runners.old }
     requires few { length runners.old ≤ FILES_MAX }
-    requires updates { arena.old.updates + most ≤ 66666667 }
+    requires updates { arena.old.updates + most ≤ most_updates }
     ensures stage { (codes : List ObjectCode) (robots : List Robot) (s : Stage)
         → AreRobotsOf codes robots → HasReached runners.old codes arena.old s
         → HasReached runners.new codes arena.new (segments robots result s) }

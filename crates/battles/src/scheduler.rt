@@ -1,6 +1,7 @@
 //! The scheduler: windows of cycles, and the updates between them.
 
 ghost use Rattle.std.specs.Prelude.{◌≡◌, ◌<◌, ◌≤◌, ◌+◌, List, length, nat_le};
+ghost use Rattle.arena.specs.Ground.{most_updates};
 ghost use Rattle.arena.specs.Field.{live_count};
 ghost use Rattle.battles.specs.Battle.{Robot, Stage, stage_after, last_cycle};
 ghost use Rattle.battles.specs.Carrying.{AreRobotsOf, EachFits, HasReached};
@@ -22,7 +23,7 @@ fn segment(runners: &mut [Runner], programs: &Programs, arena: &mut Arena, farth
     requires manned { length arena.old.robots ≡ length (paired programs.now) }
     requires few { length (paired programs.now) ≤ FILES_MAX }
     requires fits { EachFits runners.old (paired programs.now) }
-    requires updates { arena.old.updates < 66666667 }
+    requires updates { arena.old.updates < most_updates }
     requires far { UPDATE_CYCLES ≤ farthest }
     ensures stage { (robots : List Robot) (s : Stage) → AreRobotsOf (paired programs.now) robots
         → HasReached runners.old (paired programs.now) arena.old s

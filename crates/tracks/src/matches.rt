@@ -1,6 +1,7 @@
 //! Matches: how one is played, and what is recorded of it.
 
 ghost use Rattle.std.specs.Prelude.{◌≡◌, ◌+◌, ◌/◌, ◌≤◌, ◌<◌, length, nat_lt, Some, if◌then◌else◌};
+ghost use Rattle.arena.specs.Ground.{most_updates};
 ghost use Rattle.std.specs.Option.{option_or};
 
 use crate::pilots::Pilot;
@@ -145,7 +146,7 @@ fn run(
 /// Runs the turns of one cycle after so many updates, in the order of the robots.
 fn turns(pilots: &mut [Pilot<'_>], arena: &mut Arena, shots: &mut Shots, updates: u32)
     requires manned { length arena.old.robots ≡ length pilots.old }
-    requires most { updates ≤ 66666667 }
+    requires most { updates ≤ most_updates }
     ensures manned { length arena.new.robots ≡ length arena.old.robots }
     ensures updates { arena.new.updates ≡ arena.old.updates }
 {
@@ -157,7 +158,7 @@ fn turns(pilots: &mut [Pilot<'_>], arena: &mut Arena, shots: &mut Shots, updates
 /// Does the update of this number, and records it. Reports whether it decided the match.
 fn updated(arena: &mut Arena, tracks: &mut [Track], update: u32) -> bool
     requires manned { length arena.old.robots ≡ length tracks.old }
-    requires most { arena.old.updates < 66666667 }
+    requires most { arena.old.updates < most_updates }
     ensures manned { length arena.new.robots ≡ length arena.old.robots }
     ensures updates { arena.new.updates ≡ arena.old.updates + 1 }
 {

@@ -1,6 +1,7 @@
 //! Pilots: a robot's program with the machine that runs it.
 
 ghost use Rattle.std.specs.Prelude.{◌≡◌, ◌==◌, ◌<◌, ◌≤◌, if◌then◌else◌, IfOk, length};
+ghost use Rattle.arena.specs.Ground.{most_updates};
 
 use arena::Arena;
 use code::{Intrinsic, Machine, Program, Want};
@@ -40,7 +41,7 @@ impl<'a> Pilot<'a> {
     /// Runs one cycle after so many updates, and keeps the shot that the robot fires. A dead robot does nothing.
     pub fn turn(&mut self, arena: &mut Arena, robot: usize, shots: &mut Shots, updates: u32)
         requires inside { robot < length arena.old.robots }
-        requires updates { updates ≤ 66666667 }
+        requires updates { updates ≤ most_updates }
         ensures program { self.new.code ≡ self.old.code }
         ensures manned { length arena.new.robots ≡ length arena.old.robots }
         ensures updates { arena.new.updates ≡ arena.old.updates }
