@@ -216,6 +216,20 @@ fn words_refused(rt: HostRuntime) -> Result<(), Fail> {
 }
 
 #[test]
+fn texts_of_refusals(rt: HostRuntime) -> Result<(), Fail> {
+    for (fault, text) in [
+        (UseFault::Usage, "wrong usage"),
+        (UseFault::Number, "a value is no number within its limits"),
+        (UseFault::TooMany, "too many files"),
+        (UseFault::NoMode, "no mode"),
+        (UseFault::Memory, "out of memory"),
+    ] {
+        assert_eq!(rt; format!(in rt.alloc(); "{fault}")?.as_str(), text);
+    }
+    Ok(())
+}
+
+#[test]
 fn done(rt: HostRuntime) -> Result<(), Fail> {
     fs::write(&rt, "done.r", "main(){}")?;
     let listing = format!(in rt.alloc(); "File done.r\n{EMPTY}")?;

@@ -3,4 +3,3 @@ pub mod Setup
 pub mod Numbers
 pub mod Given
 pub mod KnownSettings
-pub mod Faults
