@@ -22,7 +22,7 @@ use Rattle.tokens.specs.Tokens.{tokens, located_tokens}
 use Rattle.tokens.specs.Punctuators.{punctuator_of}
 use Rattle.tokens.specs.Words.{word_of}
 use Rattle.grammar.specs.Compiled.{compiled}
-use Rattle.grammar.specs.Faults.{most_levels,}
+use Rattle.grammar.specs.Faults.{most_levels}
 use Rattle.grammar.specs.Intrinsics.{intrinsic_named, name_of}
 use Rattle.battles.specs.KnownBattles.{idle_file, KnownBattles, KnownShortBattles}
 use Rattle.battles.specs.Pairing.{robots_of}

@@ -29,7 +29,8 @@ pub data Action : Type 0 where
   BeginFunction : (number parameters : ℕ) → Action  -- a function begins
   EndFunction : (variables : ℕ) → Action  -- it ends
 
--- if the right side of && and || is left out: how many instructions are made between the sides
+-- If the right side of && and || is left out: how many instructions are made between the sides. That generation makes
+-- so many is the law `length_of_code` of `code`.
 abbrev pub middle_length : Op → ℕ
 middle_length op.And = 1
 middle_length op.Or = 4

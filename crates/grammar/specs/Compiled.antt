@@ -61,7 +61,8 @@ verdict located_tokens [] scope definitions = resolved located_tokens scope defi
 verdict located_tokens (f ∷ faults) scope definitions =
     let first = first_of f faults in Err (diagnostic (line_of first.rest) first.code)
 
--- A derivation of so many tokens has ended after this many steps: at most 40 a token, and 71 for the whole.
+-- A derivation of so many tokens has ended after this many steps: at most 40 a token, and 71 for the whole. That it has
+-- is the law `EachDerivationEnds` (`Laws.antt`), so the two numbers decide nothing.
 abbrev pub enough : List LocatedToken → ℕ
 enough located_tokens = 40 * length located_tokens + 71
 
