@@ -401,8 +401,8 @@ fn an_interrupted_read_is_not_tried_again(rt: HostRuntime) {
 }
 
 /// Runs the program over what its process got for words, and compares its status and its line.
-fn check_process(
-    rt: &HostRuntime,
+fn check_process<R: Abort + Files + AllocGlobal>(
+    rt: &R,
     words: io::Result<Vec<String>>,
     status: u8,
     faults: &[u8],

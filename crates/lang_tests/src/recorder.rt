@@ -1,6 +1,6 @@
 //! A builder that keeps a list of the actions that are reported to it, around another builder, for tests.
 
-ghost use Rattle.std.specs.Prelude.{◌≡◌, true};
+ghost use Rattle.std.specs.Prelude.{◌≡◌, ⊤};
 ghost use Rattle.grammar.specs.Building.{Refuses};
 
 use lang::{Build, BuildFault, Callee, Op, StoreOp, Var};
@@ -68,7 +68,7 @@ impl<B> Recorder<B> {
     // Adds an action.
     fn add(&mut self, action: Reported) -> Result<(), BuildFault>
         ensures inner { self.new.inner ≡ self.old.inner }
-        ensures memory { Refuses result true }
+        ensures memory { Refuses result ⊤ }
     {
         match self.actions.push(action) {
             Ok(()) => Ok(()),
@@ -80,7 +80,7 @@ impl<B> Recorder<B> {
 impl<B: Build> Build for Recorder<B> {
     ghost stands = { λ r. B.stands r.inner };
 
-    ghost allocates = { true };
+    ghost denied = { ⊤ };
 
     fn constant(&mut self, value: i32) -> Result<(), BuildFault> {
         self.inner.constant(value)?;
