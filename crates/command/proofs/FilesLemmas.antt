@@ -67,10 +67,3 @@ pub word_at : (words : List (Bor (List ℕ))) (place : ℕ) (d : Bor (List ℕ))
 word_at [] place d within = absurd (omega (arith, within))
 word_at (word ∷ words) zero d within = refl
 word_at (word ∷ words) (suc place) d within = word_at words place d (omega (arith, within))
-
--- the first words, as texts
-pub texts_take : (words : List (Bor (List ℕ))) (place : ℕ)
-    → take place (map (λ (w : Bor (List ℕ)). w.now) words) ≡ map (λ (w : Bor (List ℕ)). w.now) (take place words)
-texts_take words zero = refl
-texts_take [] (suc place) = refl
-texts_take (word ∷ words) (suc place) = ap (λ l. word.now ∷ l) (texts_take words place)

@@ -1,6 +1,6 @@
 //! The program over the words of its process, the first of which is its own name.
 
-ghost use Rattle.std.specs.Prelude.{◌≡◌, ◌≢◌, ◌-◌, ◌^◌, ◌<◌, drop, map, string_bytes, IfErr, IfOk, OnErr};
+ghost use Rattle.std.specs.Prelude.{◌≡◌, ◌≢◌, ◌⊎◌, ◌-◌, ◌^◌, ◌<◌, ◌≤◌, drop, map, string_bytes, IsErr, IfErr, IfOk, OnErr};
 ghost use Rattle.std.specs.IoError.{error_kind};
 ghost use Rattle.series.specs.Pieces.{taken};
 ghost use Rattle.arguments.specs.Words.{asked};
@@ -28,13 +28,21 @@ pub fn program_of<R: Files + AllocGlobal, O: Sink, E: Sink>(
 ) -> u8
     requires text { O.failures out.old < 2 ^ 64 - 1 }
     requires faults { E.failures err.old < 2 ^ 64 - 2 }
+    ensures within { result ≤ 5 }
+    ensures usage { IfOk words (λ all. IsErr (asked (drop 1 (map string_bytes all.items)))
+        → (result ≡ 2) ⊎ (result ≡ 5)) }
+    ensures only_usage { IfOk words (λ all. result ≡ 2 → IsErr (asked (drop 1 (map string_bytes all.items)))) }
+    ensures whole { result ≤ 1 → (O.failures out.new ≡ O.failures out.old) × (E.failures err.new ≡ E.failures err.old) }
+    ensures write { result ≡ 4 → (O.failures out.old < O.failures out.new) ⊎ (E.failures err.old < E.failures err.new) }
     ensures read { IfOk words (λ all. Concludes real_files (asked (drop 1 (map string_bytes all.items))) result
         (taken (O.portions out.old) (E.portions err.old)) (taken (O.portions out.new) (E.portions err.new))
         (E.failures err.old) (E.failures err.new)) }
     ensures no_text { IfErr words (λ fault. error_kind fault ≢ ErrorKind.OutOfMemory →
-        IsEnded Ending.WrongUsage result (E.portions err.old) (E.failures err.old) (E.portions err.new) (E.failures err.new)) }
+        IsEnded Ending.WrongUsage result (E.portions err.old) (E.failures err.old)
+        (E.portions err.new) (E.failures err.new)) }
     ensures no_memory { IfErr words (λ fault. error_kind fault ≡ ErrorKind.OutOfMemory →
-        IsEnded Ending.OutOfMemory result (E.portions err.old) (E.failures err.old) (E.portions err.new) (E.failures err.new)) }
+        IsEnded Ending.OutOfMemory result (E.portions err.old) (E.failures err.old)
+        (E.portions err.new) (E.failures err.new)) }
     ensures quiet { OnErr words (O.portions out.new ≡ O.portions out.old) }
 {
     match words {

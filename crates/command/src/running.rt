@@ -57,7 +57,8 @@ pub fn program_over<'a, D: Opener, O: Sink, E: Sink>(
     ensures whole { result ≤ 1 → (O.failures out.new ≡ O.failures out.old) × (E.failures err.new ≡ E.failures err.old) }
     ensures write { result ≡ 4 → (O.failures out.old < O.failures out.new) ⊎ (E.failures err.old < E.failures err.new) }
     ensures ended { Concludes (files (D.holds disk.now) (D.opens disk.now) (D.refuses disk.now) (D.fails disk.now))
-        (asked (map (λ word. word.now) words.now)) result (taken (O.portions out.old) (E.portions err.old)) (taken (O.portions out.new) (E.portions err.new))
+        (asked (map (λ word. word.now) words.now)) result
+        (taken (O.portions out.old) (E.portions err.old)) (taken (O.portions out.new) (E.portions err.new))
         (E.failures err.old) (E.failures err.new) }
 {
     ending(alloc, disk, words, out, err).end(err)
@@ -74,7 +75,8 @@ fn ending<'a, D: Opener, O: Sink, E: Sink>(
     requires text { O.failures out.old < 2 ^ 64 - 1 }
     requires faults { E.failures err.old < 2 ^ 64 - 2 }
     ensures ends { Ends (files (D.holds disk.now) (D.opens disk.now) (D.refuses disk.now) (D.fails disk.now))
-        (asked (map (λ word. word.now) words.now)) result (taken (O.portions out.old) (E.portions err.old)) (taken (O.portions out.new) (E.portions err.new)) }
+        (asked (map (λ word. word.now) words.now)) result
+        (taken (O.portions out.old) (E.portions err.old)) (taken (O.portions out.new) (E.portions err.new)) }
     ensures failures { Accounts result (O.failures out.old) (E.failures err.old) (O.failures out.new)
         (E.failures err.new) }
 {
@@ -103,7 +105,8 @@ fn open_files<'a, D: Opener>(
     ensures shows { IfOk result (λ feeds. EachShows D.File.account (D.fails disk.now)
         (map (λ word. word.now) words.now) feeds.items) }
     ensures refused { IfErr result (IsNotOpened
-        (files (D.holds disk.now) (D.opens disk.now) (D.refuses disk.now) (D.fails disk.now)) (map (λ word. word.now) words.now)) }
+        (files (D.holds disk.now) (D.opens disk.now) (D.refuses disk.now) (D.fails disk.now))
+        (map (λ word. word.now) words.now)) }
 {
     let mut feeds = Vec::new(alloc);
     for word in words {

@@ -94,8 +94,8 @@ BuildsAhead before after told to_come =
     (bytes : List ℕ) → told ≡ Some bytes → (profile : Profile) → before profile [] →
     HasBuilt after profile bytes to_come
 
--- what a refusal says: of a source its fault, of a device what was built until it failed, of memory that the builder
--- asks for it
+-- what a refusal says: of a source its fault, of a device what was built until it failed, of memory that it was
+-- refused to the builder
 abbrev pub IsRefused : (before after : Meaning) (denied : Type 0) (told to_come : Option (List ℕ)) → ParseFault
     → Type 0
 IsRefused before after denied told to_come (refusal.Source d) = FailsBytes before told d

@@ -78,7 +78,7 @@ impl<'a, P: HoldsPrograms> Model for Series<'a, P> {
 }
 
 impl<'a, P: HoldsPrograms> Series<'a, P> {
-    /// Makes the series of these programs, one for each word of the settings and of their profile, of which no match was
+    /// Makes the series of these programs, one for each word of the settings and of their profile. No match of it was
     /// played.
     pub fn new(programs: P, settings: &'a Settings<'a>) -> Series<'a, P>
         requires manned { length (P.codes programs) ≡ length settings.now.words }

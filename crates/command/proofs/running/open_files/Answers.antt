@@ -1,7 +1,9 @@
-use Rattle.std.proofs.Common.{◌≡◌, ◌<◌, ◌++◌, [], ◌∷◌, length, rules, false}
+use Rattle.std.proofs.Common.{◌≡◌, ◌<◌, ◌++◌, [], ◌∷◌, length, List, ℕ, rules, false}
 use Rattle.std.specs.Prelude.{All}
+use Rattle.std.specs.Borrow.{Bor}
+use Rattle.std.proofs.lemmas.List.{take-map}
 use Rattle.std.proofs.lemmas.List.Elements.{All-push}
-use Rattle.command.proofs.FilesLemmas.{all_more, each_more, texts_take, told_more, word_at}
+use Rattle.command.proofs.FilesLemmas.{all_more, each_more, told_more, word_at}
 use Rattle.command.proofs.running.open_files.Goals as goal
 
 pub returns-in-Err-Refused-clause-refused : goal.returns-in-Err-Refused-clause-refused
@@ -11,7 +13,7 @@ returns-in-Err-Refused-clause-refused g c =
       place = c.loop-word.word-index;
       here = word_at c.args.words.now c.loop-word.word-index _ within;
       refused = search rules;
-      opened = rw (texts_take c.args.words.now c.loop-word.word-index) c.loop-word.invariant.4;
+      opened = rw (take-map (λ (word : Bor (List ℕ)). word.now) c.loop-word.word-index c.args.words.now) c.loop-word.invariant.4;
     }
 
 pub loop-word-preserved : goal.loop-word-preserved
