@@ -1,12 +1,13 @@
 //! Real files and streams as the devices of a run.
 
-ghost use Rattle.std.specs.Prelude.{◌≡◌, ℕ, ◌+◌, ◌-◌, ◌^◌, ◌<◌, ◌≤◌, None, false, length, take, IfOk, OnOk, OnErr};
+ghost use Rattle.std.specs.Prelude.{◌≡◌, ◌≢◌, ℕ, ◌+◌, ◌-◌, ◌^◌, ◌<◌, ◌≤◌, None, false, length, take, IfOk, OnOk, OnErr};
 ghost use Rattle.tokens.specs.Feed.{Counts, MayRead, gives_none};
 ghost use Rattle.command.specs.Files.{real_account};
 ghost use Rattle.std.specs.Io.KnownBytes.{Appends, Consumes, IsAtEnd, Keeps};
 
 use series::Sink;
 use std::io::{Read, Write};
+use std::marker::Model;
 use tokens::{DeviceFault, Feed};
 
 /// A file that is read. Each error of a read is a failure, an interrupted call too.
@@ -59,6 +60,48 @@ impl<F: Read> Feed for FileFeed<F> {
                 Err(DeviceFault)
             }
         }
+    }
+}
+
+/// A file whose bytes are known, such as bytes in memory behind a reader. It tells them, so a run over such files has
+/// all that is promised of known contents.
+#[derive(Drop)]
+pub struct KnownFeed<F: Read> {
+    feed: FileFeed<F>,
+}
+
+impl<F: Read> Model for KnownFeed<F> {
+    ghost use Rattle.std.specs.Prelude.{◌≢◌, None};
+    ghost use Rattle.command.specs.declared.devices.FileFeed.{FileFeed};
+
+    ghost Value = { FileFeed F };
+
+    ghost view = { λ known. known.feed };
+
+    ghost invariant = { λ known. F.remaining known.feed.file ≢ None };
+}
+
+impl<F: Read> KnownFeed<F> {
+    /// Makes the feed of a file of known bytes that has not failed, and not ended.
+    pub fn new(file: F) -> KnownFeed<F>
+        requires known { F.remaining file ≢ None }
+        ensures { result ≡ record { file = file; failures = 0; ended = false } }
+    {
+        KnownFeed {
+            feed: FileFeed::new(file),
+        }
+    }
+}
+
+impl<F: Read> Feed for KnownFeed<F> {
+    ghost account = { λ known. real_account known.failures };
+
+    ghost to_come = { λ known. F.remaining known.file };
+
+    ghost ended = { λ known. known.ended };
+
+    fn fill(&mut self, buf: &mut [u8]) -> Result<usize, DeviceFault> {
+        self.feed.fill(buf)
     }
 }
 

@@ -7,7 +7,7 @@ mod openers;
 mod process;
 mod running;
 
-pub use devices::{FileFeed, StreamSink};
+pub use devices::{FileFeed, KnownFeed, StreamSink};
 pub use endings::Ending;
 pub use openers::{Disk, OpenFault, Opener};
 pub use process::program_of;

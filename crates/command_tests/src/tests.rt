@@ -1,8 +1,12 @@
 //! What the words ask for, and the program over files that the tests write, and sinks in memory: each status that it
 //! can give, with its line.
 
+ghost use Rattle.std.specs.Prelude.{Some, ⊤};
+
 use arguments::read_words;
-use command::{FileFeed, StreamSink, program, program_of};
+use command::{
+    FileFeed, KnownFeed, OpenFault, Opener, StreamSink, program, program_of, program_over,
+};
 use series::{Recorder, Sink};
 use settings::{Mode, UseFault};
 use std::alloc::{Allocator, Global};
@@ -398,6 +402,45 @@ fn an_interrupted_read_is_not_tried_again(rt: HostRuntime) {
     let mut buf = [0; 4];
     assert_eq!(rt; feed.fill(&mut buf), Err(DeviceFault));
     assert_eq!(rt; feed.fill(&mut buf), Ok(1));
+}
+
+/// Files in memory behind readers: each word's file holds this source.
+#[derive(Drop)]
+struct Everywhere {
+    source: &'static [u8],
+}
+
+impl Opener for Everywhere {
+    type File = KnownFeed<&'static [u8]>;
+
+    ghost holds = { λ disk _. Some disk.source.now };
+
+    ghost opens = { λ _ _. ⊤ };
+
+    ghost refuses = { λ _ _. ⊥ };
+
+    ghost fails = { λ _ _. ⊤ };
+
+    fn open(&self, _: &str) -> Result<KnownFeed<&'static [u8]>, OpenFault> {
+        Ok(KnownFeed::new(self.source))
+    }
+}
+
+#[test]
+fn readers_of_known_contents(rt: HostRuntime) -> Result<(), Fail> {
+    let disk = Everywhere {
+        source: b"main(){}",
+    };
+    let mut out = Recorder::new(rt.alloc());
+    let mut err = Recorder::new(rt.alloc());
+    assert_eq!(rt;
+        program_over(rt.alloc(), &disk, &["-c", "a.r", "b.r"], &mut out, &mut err),
+        0
+    );
+    let listed = format!(in rt.alloc(); "File a.r\n{EMPTY}File b.r\n{EMPTY}")?;
+    assert_eq!(rt; taken(&rt, &out)?.as_slice(), listed.as_bytes());
+    assert_eq!(rt; taken(&rt, &err)?.as_slice(), b"".as_slice());
+    Ok(())
 }
 
 /// Runs the program over what its process got for words, and compares its status and its line.

@@ -1,6 +1,6 @@
-use Rattle.std.proofs.Common.{◌≡◌, ◌∙◌, List, ℕ, Option, map, ap, sym, subst, Bor}
+use Rattle.std.proofs.Common.{◌≡◌, ◌∙◌, List, ℕ, Option, map, ap, sym, Bor}
 use Rattle.std.proofs.lemmas.Simd.{map-map}
-use Rattle.command.specs.Files.{EachShows, HasFailed, files}
+use Rattle.command.specs.Files.{EachShows, files}
 use Rattle.command.proofs.FilesLemmas.{shown}
 use Rattle.command.proofs.WholeLemmas.{ends_by_run}
 use Rattle.command.proofs.running.ending.Goals as goal
