@@ -10,6 +10,14 @@ writes_then before now after [] more first second = let P : Taken → Type 0 = �
 writes_then before now after (piece ∷ pieces) more (between, takes, rest) second =
     (between, takes, writes_then between now after pieces more rest second)
 
+-- pieces, and between them what was taken of the first
+pub writes_split : (before after : Taken) (pieces more : List Piece) → Writes before after (pieces ++ more)
+    → (between : Taken) × Writes before between pieces × Writes between after more
+writes_split before after [] more writes = (before, refl, writes)
+writes_split before after (piece ∷ pieces) more (first, takes, rest) =
+    let (between, front, back) = writes_split first after pieces more rest in
+    (between, (first, takes, front), back)
+
 -- at first the sinks took a beginning
 pub begins_here : (now : Taken) (pieces : List Piece) → Begins now now pieces
 begins_here now [] = refl

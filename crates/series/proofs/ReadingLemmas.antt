@@ -1,8 +1,20 @@
 -- How much was read, file by file.
-use Rattle.std.proofs.Common.{◌≡◌, ◌≢◌, ℕ, ◌+◌, ◌-◌, ◌<◌, List, Option, None, length, drop, get_or, map, set, sym, ap, ◌∙◌, subst, arith, below_more, get_or-set_other, get_or-set_same}
-use Rattle.std.proofs.lemmas.List.{get_or-map, drop-map, length-drop, length-map, map-set}
+use Rattle.std.proofs.Common.{◌≡◌, ◌≢◌, ℕ, ◌+◌, ◌-◌, ◌<◌, List, ◌++◌, Option, None, Result, Ok, Err, length, take, drop, get_or, map, set, sym, ap, ◌∙◌, subst, arith, below_more, get_or-set_other, get_or-set_same}
+use Rattle.std.specs.Prelude.{MatchResult}
+use Rattle.std.proofs.lemmas.List.{get_or-map, drop-map, length-drop, length-map, map-set, take-append-drop}
+use Rattle.std.proofs.lemmas.Grind.{flat_map-append}
 use Rattle.grammar.specs.Profile.{Profile}
-use Rattle.series.specs.Reading.{FailsAt, MayLeaveUndecided, ReadsFirst, TakesOf, TakesOfFirst}
+use Rattle.settings.specs.declared.settings.Mode.{Mode}
+use Rattle.settings.specs.Setup.{Setup}
+use Rattle.series.specs.declared.endings.RunFault.{RunFault}
+use Rattle.series.specs.declared.endings.RunFault.TheVariants as fault
+use Rattle.series.specs.declared.endings.Status.{Status}
+use Rattle.series.specs.declared.endings.Status.TheVariants.{Done}
+use Rattle.series.specs.Compiling.{Source, compiling, source_pieces}
+use Rattle.series.specs.Pieces.{Begins, Piece, Taken, Writes}
+use Rattle.series.specs.Reading.{FailsAt, MayLeaveUndecided, Reads, ReadsFirst, StopsReading, TakesOf, TakesOfFirst, TakesPast}
+use Rattle.series.specs.Runs.{AreSources}
+use Rattle.series.proofs.PiecesLemmas.{begins_then, writes_split}
 use Rattle.series.proofs.RunsLemmas.{feed_here, rest_more}
 
 module _ {X : Type 0} where
@@ -70,3 +82,38 @@ module _ {X : Type 0} where
     here = reads_here (MayLeaveUndecided profile) tells start feeds file x y within same takes;
     unread = unread_of tells start (set feeds file y) (file + 1) (rest_more start feeds file y same);
   }
+
+-- a write of this file's pieces failed
+pub cut_at : (mode : Mode) (profile : Profile) (sources : List Source) (file : ℕ) (before now after : Taken) (pieces : List Piece)
+    → Writes before now (compiling mode profile (take file sources)) → Begins now after pieces
+    → TakesPast before after (compiling mode profile (take (file + 1 - 1) sources))
+cut_at mode profile sources file before now after pieces so_far begins =
+    let P : ℕ → Type 0 = λ n. TakesPast before after (compiling mode profile (take n sources)) in
+    let same : file ≡ file + 1 - 1 = omega arith in
+    subst P same (now, so_far, (pieces, begins))
+
+-- a write failed after all files were compiled
+pub cut_behind : (mode : Mode) (profile : Profile) (sources : List Source) (count : ℕ) (before now after : Taken) (pieces : List Piece)
+    → Writes before now (compiling mode profile sources) → Begins now after pieces
+    → TakesPast before after (compiling mode profile (take count sources))
+cut_behind mode profile sources count before now after pieces writes begins =
+    let first : List Piece = compiling mode profile (take count sources) in
+    let rest : List Piece = compiling mode profile (drop count sources) in
+    let split : compiling mode profile sources ≡ first ++ rest =
+    sym (ap (λ l. compiling mode profile l) (take-append-drop count sources))
+    ∙ flat_map-append (source_pieces mode profile) (take count sources) (drop count sources) in
+    let W : List Piece → Type 0 = λ l. Writes before now l in
+    let (between, front, back) = writes_split before now first rest (subst W split writes) in
+    (between, front, (rest ++ pieces, begins_then between now after rest pieces back begins))
+
+-- what was read by the end of the matches
+pub reads_played : (setup : Setup) (result : Result Status RunFault) (told later : List (Option (List ℕ))) (before after : Taken)
+    → ReadsFirst setup.profile told later (length told)
+    → MatchResult result (λ status. status ≡ Done) (λ stopped. stopped ≡ fault.Write)
+    → (result ≡ Err fault.Write → (sources : List Source) → AreSources sources setup.words told
+    → TakesPast before after (compiling setup.mode setup.profile (take (length told - 1) sources)))
+    → Reads setup result told later before after
+reads_played setup (Ok status) told later before after reads is puts = reads
+reads_played setup (Err stopped) told later before after reads is puts =
+    let P : RunFault → Type 0 = λ f. StopsReading setup f told later before after in
+    subst P (sym is) (record { count = length told; reads = reads; puts = puts (ap (λ f. Err f) is) })

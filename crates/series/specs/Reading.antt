@@ -1,8 +1,12 @@
 -- How much of the source files a run reads.
-use Rattle.std.specs.Prelude.{◌≡◌, ℕ, ◌+◌, ◌<◌, List, Option, Some, None, Result, MatchResult, drop, get_or, length}
+use Rattle.std.specs.Prelude.{◌≡◌, ℕ, ◌+◌, ◌-◌, ◌<◌, List, Option, Some, None, Result, MatchResult, drop, get_or, length, take}
 use Rattle.tokens.specs.ReadLimits.{window_bytes}
 use Rattle.grammar.specs.Profile.{Profile}
 use Rattle.lang.specs.Files.{LeavesUndecided, TakesUpTo}
+use Rattle.settings.specs.Setup.{Setup}
+use Rattle.series.specs.Compiling.{Source, compiling}
+use Rattle.series.specs.Pieces.{Begins, Piece, Taken, Writes}
+use Rattle.series.specs.Runs.{AreSources}
 use Rattle.series.specs.declared.endings.RunFault.{RunFault}
 use Rattle.series.specs.declared.endings.RunFault.TheVariants as fault
 
@@ -30,13 +34,28 @@ pub record FailsAt (profile : Profile) (told later : List (Option (List ℕ))) (
   pub here : MayLeaveUndecided profile (get_or told file None) (get_or later file None)
   pub unread : drop (file + 1) later ≡ drop (file + 1) told
 
--- what was read if a device stopped the run
-abbrev pub StopsReading : Profile → RunFault → (told later : List (Option (List ℕ))) → Type 0
-StopsReading profile (fault.Read file) told later = FailsAt profile told later file
-StopsReading profile fault.Write told later = (count : ℕ) × ReadsFirst profile told later count
-StopsReading profile fault.Memory told later = ⊥
+-- the sinks took these pieces, each whole, and perhaps more
+abbrev pub TakesPast : Taken → Taken → List Piece → Type 0
+TakesPast before after pieces = (between : Taken) × Writes before between pieces
+    × ((more : List Piece) × Begins between after more)
 
--- what was read by the end
-abbrev pub Reads : {T : Type 0} → Profile → Result T RunFault → (told later : List (Option (List ℕ))) → Type 0
-Reads profile result told later = MatchResult result (λ _. ReadsFirst profile told later (length told))
-    (λ fault. StopsReading profile fault told later)
+-- A write failed: before the last file that was read, what all files before it give had been put whole. So no file is
+-- read after the one whose piece failed.
+pub record FailsToPut (setup : Setup) (told later : List (Option (List ℕ))) (before after : Taken) : Type 0 where
+  pub count : ℕ
+  pub reads : ReadsFirst setup.profile told later count
+  pub puts : (sources : List Source) → AreSources sources setup.words told
+      → TakesPast before after (compiling setup.mode setup.profile (take (count - 1) sources))
+
+-- what was read if a device stopped the run
+abbrev pub StopsReading : Setup → RunFault → (told later : List (Option (List ℕ))) → (before after : Taken) → Type 0
+StopsReading setup (fault.Read file) told later before after = FailsAt setup.profile told later file
+StopsReading setup fault.Write told later before after = FailsToPut setup told later before after
+StopsReading setup fault.Memory told later before after = ⊥
+
+-- what was read by the end, and of a failed write what the sinks had taken then
+abbrev pub Reads : {T : Type 0} → Setup → Result T RunFault → (told later : List (Option (List ℕ)))
+    → (before after : Taken) → Type 0
+Reads setup result told later before after = MatchResult result
+    (λ _. ReadsFirst setup.profile told later (length told))
+    (λ fault. StopsReading setup fault told later before after)

@@ -41,7 +41,8 @@ pub(crate) fn compile_into<F: Feed, O: Sink, E: Sink>(
         (taken (O.portions out.old) (E.portions err.old)) (taken (O.portions out.new) (E.portions err.new)) }
     ensures manned { IfOk result (λ status. status ≡ Status.Done → length programs.new ≡ length settings.now.words) }
     ensures profile { AreOfProfile settings.now.profile programs.new }
-    ensures read { Reads settings.now.profile result (map F.to_come feeds.old) (map F.to_come feeds.new) }
+    ensures read { Reads settings.now result (map F.to_come feeds.old) (map F.to_come feeds.new)
+        (taken (O.portions out.old) (E.portions err.old)) (taken (O.portions out.new) (E.portions err.new)) }
     ensures failures { Accounts result
         (failures (map F.account feeds.old) (O.failures out.old) (E.failures err.old))
         (failures (map F.account feeds.new) (O.failures out.new) (E.failures err.new)) }

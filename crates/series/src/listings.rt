@@ -40,7 +40,8 @@ pub(crate) fn list_files<F: Feed, O: Sink, E: Sink>(
     ensures output { (sources : List Source) → AreSources sources settings.now.words (map F.to_come feeds.old)
         → Runs settings.now sources result (taken (O.portions out.old) (E.portions err.old))
         (taken (O.portions out.new) (E.portions err.new)) }
-    ensures read { Reads settings.now.profile result (map F.to_come feeds.old) (map F.to_come feeds.new) }
+    ensures read { Reads settings.now result (map F.to_come feeds.old) (map F.to_come feeds.new)
+        (taken (O.portions out.old) (E.portions err.old)) (taken (O.portions out.new) (E.portions err.new)) }
     ensures failures { Accounts result
         (failures (map F.account feeds.old) (O.failures out.old) (E.failures err.old))
         (failures (map F.account feeds.new) (O.failures out.new) (E.failures err.new)) }

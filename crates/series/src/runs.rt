@@ -46,7 +46,8 @@ pub fn run<F: Feed, O: Sink, E: Sink>(
     ensures output { (sources : List Source) → AreSources sources settings.now.words (map F.to_come feeds.old)
         → Runs settings.now sources result (taken (O.portions out.old) (E.portions err.old))
         (taken (O.portions out.new) (E.portions err.new)) }
-    ensures read { Reads settings.now.profile result (map F.to_come feeds.old) (map F.to_come feeds.new) }
+    ensures read { Reads settings.now result (map F.to_come feeds.old) (map F.to_come feeds.new)
+        (taken (O.portions out.old) (E.portions err.old)) (taken (O.portions out.new) (E.portions err.new)) }
     ensures failures { Accounts result
         (failures (map F.account feeds.old) (O.failures out.old) (E.failures err.old))
         (failures (map F.account feeds.new) (O.failures out.new) (E.failures err.new)) }
@@ -76,7 +77,8 @@ fn play_files<F: Feed, O: Sink, E: Sink>(
     ensures output { (sources : List Source) → AreSources sources settings.now.words (map F.to_come feeds.old)
         → Runs settings.now sources result (taken (O.portions out.old) (E.portions err.old))
         (taken (O.portions out.new) (E.portions err.new)) }
-    ensures read { Reads settings.now.profile result (map F.to_come feeds.old) (map F.to_come feeds.new) }
+    ensures read { Reads settings.now result (map F.to_come feeds.old) (map F.to_come feeds.new)
+        (taken (O.portions out.old) (E.portions err.old)) (taken (O.portions out.new) (E.portions err.new)) }
     ensures failures { Accounts result
         (failures (map F.account feeds.old) (O.failures out.old) (E.failures err.old))
         (failures (map F.account feeds.new) (O.failures out.new) (E.failures err.new)) }
@@ -138,7 +140,8 @@ pub fn compile_files<F: Feed, O: Sink, E: Sink>(
         (λ programs. length programs ≡ length settings.now.words)) }
     ensures profile { IfOk result (λ programs. IfSome programs
         (λ programs. AreOfProfile settings.now.profile programs)) }
-    ensures read { Reads settings.now.profile result (map F.to_come feeds.old) (map F.to_come feeds.new) }
+    ensures read { Reads settings.now result (map F.to_come feeds.old) (map F.to_come feeds.new)
+        (taken (O.portions out.old) (E.portions err.old)) (taken (O.portions out.new) (E.portions err.new)) }
     ensures failures { Accounts result
         (failures (map F.account feeds.old) (O.failures out.old) (E.failures err.old))
         (failures (map F.account feeds.new) (O.failures out.new) (E.failures err.new)) }

@@ -4,7 +4,7 @@ use Rattle.std.proofs.lemmas.List.Elements.{All-get_or}
 use Rattle.series.specs.Compiling.{compiled_code}
 use Rattle.series.specs.Runs.{AreSources}
 use Rattle.series.proofs.CompilingLemmas.{kept_both, kept_more, manned_more, pieces_more, pieces_cut}
-use Rattle.series.proofs.ReadingLemmas.{fails_at, reads_first, reads_more, same_length}
+use Rattle.series.proofs.ReadingLemmas.{cut_at, fails_at, reads_first, reads_more, same_length}
 use Rattle.series.proofs.RunsLemmas.{feed_here, no_source, told_here, name_here, length_sources, none_failed, read_failed, rest_more, write_failed}
 use Rattle.series.proofs.compiling.compile_into.Goals as goal
 
@@ -40,13 +40,18 @@ returns-in-Err-put-clause-output g c = λ sources are.
     ) at ((rw c.in-Err-put.is at c.in-Ok.ensures.output) _ told))
 
 pub returns-in-Err-put-clause-read : goal.returns-in-Err-put-clause-read
-returns-in-Err-put-clause-read g c = (
-  c.loop-file.file + 1,
-  reads_first g.F.Feed.to_come c.args.settings.now.profile c.args.feeds.now _ (c.loop-file.file + 1)
+returns-in-Err-put-clause-read g c = record {
+  count = c.loop-file.file + 1;
+  reads = reads_first g.F.Feed.to_come c.args.settings.now.profile c.args.feeds.now _ (c.loop-file.file + 1)
       (rest_more c.args.feeds.now c.loop-file.feeds c.loop-file.file c.compile_file.new.feed c.loop-file.invariant.0)
       (reads_more g.F.Feed.to_come c.args.settings.now.profile c.args.feeds.now c.loop-file.feeds c.loop-file.file c.index-feeds-file.result c.compile_file.new.feed
-      (omega arith) c.loop-file.invariant.0 c.loop-file.invariant.4 (rw c.profile-profile.ensures.value at c.in-Ok.ensures.taken)),
-)
+      (omega arith) c.loop-file.invariant.0 c.loop-file.invariant.4 (rw c.profile-profile.ensures.value at c.in-Ok.ensures.taken));
+  puts = λ sources are.
+      let told = told_here g.F.Feed.to_come c.args.feeds.now c.loop-file.feeds sources c.args.settings.now.words
+      c.loop-file.file c.index-feeds-file.result are c.requires.files (omega arith) c.loop-file.invariant.0 in
+      cut_at c.args.settings.now.mode c.args.settings.now.profile sources c.loop-file.file _ _ _ _
+      (c.loop-file.invariant.3 sources are).0 ((rw c.in-Err-put.is at c.in-Ok.ensures.output) _ told);
+}
 
 pub returns-in-Err-clause-read : goal.returns-in-Err-clause-read
 returns-in-Err-clause-read g c =

@@ -5,7 +5,7 @@ use Rattle.settings.specs.declared.settings.Mode.TheVariants.{Listing}
 use Rattle.series.specs.Runs.{AreSources}
 use Rattle.series.proofs.CompilingLemmas.{pieces_more, pieces_cut, status_more}
 use Rattle.series.proofs.OutputLemmas.{listing_stop}
-use Rattle.series.proofs.ReadingLemmas.{fails_at, reads_first, reads_more}
+use Rattle.series.proofs.ReadingLemmas.{cut_at, fails_at, reads_first, reads_more}
 use Rattle.series.proofs.RunsLemmas.{feed_here, told_here, write_failed, name_here, length_sources, none_failed, rest_more}
 use Rattle.series.proofs.listings.list_files.Goals as goal
 
@@ -41,13 +41,18 @@ returns-in-Err-put-clause-output g c = λ sources are.
     ) at ((rw c.in-Err-put.is at c.in-Ok.ensures.output) _ told)))
 
 pub returns-in-Err-put-clause-read : goal.returns-in-Err-put-clause-read
-returns-in-Err-put-clause-read g c = (
-  c.loop-file.file + 1,
-  reads_first g.F.Feed.to_come c.args.settings.now.profile c.args.feeds.now _ (c.loop-file.file + 1)
+returns-in-Err-put-clause-read g c = record {
+  count = c.loop-file.file + 1;
+  reads = reads_first g.F.Feed.to_come c.args.settings.now.profile c.args.feeds.now _ (c.loop-file.file + 1)
       (rest_more c.args.feeds.now c.loop-file.feeds c.loop-file.file c.list_file.new.feed c.loop-file.invariant.0)
       (reads_more g.F.Feed.to_come c.args.settings.now.profile c.args.feeds.now c.loop-file.feeds c.loop-file.file c.index-feeds-file.result c.list_file.new.feed
-      (omega arith) c.loop-file.invariant.0 c.loop-file.invariant.3 (rw c.profile-profile.ensures.value at c.in-Ok.ensures.taken)),
-)
+      (omega arith) c.loop-file.invariant.0 c.loop-file.invariant.3 (rw c.profile-profile.ensures.value at c.in-Ok.ensures.taken));
+  puts = λ sources are.
+      let told = told_here g.F.Feed.to_come c.args.feeds.now c.loop-file.feeds sources c.args.settings.now.words
+      c.loop-file.file c.index-feeds-file.result are c.requires.files (omega arith) c.loop-file.invariant.0 in
+      rw c.requires.listing (cut_at Listing c.args.settings.now.profile sources c.loop-file.file _ _ _ _
+      (c.loop-file.invariant.2 sources are).0 ((rw c.in-Err-put.is at c.in-Ok.ensures.output) _ told));
+}
 
 pub returns-in-Err-clause-read : goal.returns-in-Err-clause-read
 returns-in-Err-clause-read g c =
