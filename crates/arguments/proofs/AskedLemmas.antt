@@ -3,13 +3,13 @@ use Rattle.std.proofs.Common.{◌≡◌, ◌≢◌, List, [], ◌∷◌, Result,
 use Rattle.clap.specs.Words.{Kinds, Row, Text, fault_of, matches_of}
 use Rattle.settings.specs.declared.faults.UseFault.{UseFault}
 use Rattle.settings.specs.declared.faults.UseFault.TheVariants.{Usage}
-use Rattle.settings.specs.Given.{settled}
+use Rattle.settings.specs.Given.{asked_by}
 use Rattle.settings.specs.Setup.{Setup}
 use Rattle.arguments.specs.CommandLine.{robots}
 use Rattle.arguments.specs.Words.{asked, given_by, unless_refused}
 
 pub asked-taken : (words : List Text) (rows : List Row) → fault_of robots words ≡ [] → rows ≡ matches_of robots words
-    → settled (given_by rows) ≡ asked words
+    → asked_by (given_by rows) ≡ asked words
 unfolding asked
 asked-taken words rows taken is = rw (taken, is) refl
 
@@ -19,4 +19,4 @@ refused (k ∷ ks) answer some = refl
 
 pub asked-refused : (words : List Text) → fault_of robots words ≢ [] → Err Usage ≡ asked words
 unfolding asked
-asked-refused words some = refused (fault_of robots words) (settled (given_by (matches_of robots words))) some
+asked-refused words some = refused (fault_of robots words) (asked_by (given_by (matches_of robots words))) some

@@ -5,7 +5,7 @@ use Rattle.std.specs.Str.{bytes_eq}
 use Rattle.clap.specs.Words.{Kinds, Row, Text, all_of, fault_of, first_of, matches_of}
 use Rattle.settings.specs.declared.faults.UseFault.{UseFault}
 use Rattle.settings.specs.declared.faults.UseFault.TheVariants.{Usage}
-use Rattle.settings.specs.Given.{Given, settled}
+use Rattle.settings.specs.Given.{Given, asked_by}
 use Rattle.settings.specs.Setup.{Setup}
 use Rattle.arguments.specs.CommandLine.{robots}
 
@@ -36,4 +36,4 @@ unless_refused (_ ∷ _) answer = Err Usage
 
 -- what the words ask for
 unfoldable pub asked : List Text → Result Setup UseFault
-asked words = unless_refused (fault_of robots words) (settled (given_by (matches_of robots words)))
+asked words = unless_refused (fault_of robots words) (asked_by (given_by (matches_of robots words)))

@@ -8,25 +8,25 @@ use Rattle.arena.specs.Ground.{Ground}
 use Rattle.arena.specs.Standing.{StandsFor as IsGroundOf}
 use Rattle.code.specs.declared.want.Want.TheVariants.{Quiet}
 use Rattle.code.specs.Generation.{ObjectCode}
-use Rattle.battles.specs.Battle.{Robot, Stage, step, turn, robot_of}
+use Rattle.battles.specs.Battle.{Behaviour, Stage, step, turn, robot_of}
 use Rattle.battles.specs.Carrying.{Runner, AreRobotsOf, EachIsAt, HasReached, IsAt, IsRobotOf}
-use Rattle.battles.specs.Windows.{AreSlots, HasCome, HasRun, IsLike, OthersArePast, alone, RunsAlone, rest, is_left, rounds}
+use Rattle.battles.specs.Windows.{AreSlots, HasCome, HasRun, IsLike, OthersArePast, alone, RunsAlone, turns_left, is_left, rounds}
 use Rattle.battles.proofs.Alike.{stands_like, stages_refl, like_same, stages_trans}
 use Rattle.battles.proofs.Commuting.{TurnsAlone}
 use Rattle.battles.proofs.Turns.{rest_all, rest_none, left_not, slots_one, slots_set, next_taken}
 use Rattle.battles.proofs.Stages.{robot_at, robots_length, stands_at, stands_set}
 
 -- a robot has run alone for so many cycles
-unfoldable pub ran : List Robot → ℕ → Stage → ℕ → Stage
+unfoldable pub ran : List Behaviour → ℕ → Stage → ℕ → Stage
 ran robots i s n =
     let run = alone (robot_of robots i) i s.field (get_or s.traces i []) n in
     record { field = run.0; traces = set s.traces i run.1 }
 
-ran_none : (robots : List Robot) (i : ℕ) (s : Stage) → ran robots i s 0 ≡ s
+ran_none : (robots : List Behaviour) (i : ℕ) (s : Stage) → ran robots i s 0 ≡ s
 unfolding ran alone
 ran_none robots i s = ap (λ traces. record s { traces = traces }) (set-get_or s.traces i [])
 
-ran_more : (robots : List Robot) (i : ℕ) (s : Stage) (n : ℕ) → i < length s.traces
+ran_more : (robots : List Behaviour) (i : ℕ) (s : Stage) (n : ℕ) → i < length s.traces
     → turn robots i (ran robots i s n) ≡ ran robots i s (suc n)
 unfolding ran alone turn
 ran_more robots i s n inside =
@@ -34,7 +34,7 @@ ran_more robots i s n inside =
     let run = alone robot i s.field (get_or s.traces i []) n in
     rw (get_or-set_same s.traces i run.1 [] inside, set-set s.traces i run.1 (step robot i run.0 run.1).1) refl
 
-ran_alone : (robots : List Robot) (i : ℕ) (s : Stage) (n k : ℕ) → i < length s.traces
+ran_alone : (robots : List Behaviour) (i : ℕ) (s : Stage) (n k : ℕ) → i < length s.traces
     → RunsAlone (robot_of robots i) i s.field (get_or s.traces i []) n → k < n → TurnsAlone robots i (ran robots i s k)
 unfolding ran TurnsAlone
 ran_alone robots i s n k inside runs within = λ live.
@@ -60,10 +60,10 @@ first_left next i end n are small within past j low =
     ]
 
 -- Its turns are no longer left: each was one that it does alone, or none of the others' was left.
-pub run_taken : (robots : List Robot) (next : List ℕ) (i end n : ℕ) (s : Stage) → AreSlots next → i < 4 → i < length s.traces
+pub run_taken : (robots : List Behaviour) (next : List ℕ) (i end n : ℕ) (s : Stage) → AreSlots next → i < 4 → i < length s.traces
     → get_or next i 0 + 4 * n < end + 4
     → RunsAlone (robot_of robots i) i s.field (get_or s.traces i []) n ⊎ OthersArePast end i next
-    → IsLike (rest robots (is_left (set next i (get_or next i 0 + 4 * n))) 0 end (ran robots i s n)) (rest robots (is_left next) 0 end s)
+    → IsLike (turns_left robots (is_left (set next i (get_or next i 0 + 4 * n))) 0 end (ran robots i s n)) (turns_left robots (is_left next) 0 end s)
 run_taken robots next i end zero s are small inside within ready =
     let same : get_or next i 0 + 4 * 0 ≡ get_or next i 0 = omega arith in
     rw (ran_none robots i s, same, set-get_or next i 0) (stages_refl _)
@@ -84,19 +84,19 @@ run_taken robots next i end (suc n) s are small inside within ready =
     ] in
     let later : set before i (get_or before i 0 + 4) ≡ set next i (d + 4 * suc n) =
     ap (λ k. set before i (k + 4)) slot ∙ set-set next i (d + 4 * n) (d + 4 * n + 4) ∙ ap (set next i) (omega arith) in
-    let last : IsLike (rest robots (is_left (set next i (d + 4 * suc n))) 0 end (ran robots i s (suc n))) (rest robots (is_left before) 0 end (ran robots i s n)) =
+    let last : IsLike (turns_left robots (is_left (set next i (d + 4 * suc n))) 0 end (ran robots i s (suc n))) (turns_left robots (is_left before) 0 end (ran robots i s n)) =
     rw (later, ran_more robots i s n inside) at
     (next_taken robots before i end (ran robots i s n) (slots_set next i n are small) small (omega (arith, slot)) turns) in
     stages_trans _ _ _ last (run_taken robots next i end n s are small inside (omega arith) fewer)
 
 -- What a robot that runs alone makes of its machine and of the arena, whatever its trace and the field are.
 pub record Runs (free : Type 0) (i : ℕ) (code : ObjectCode) (n : ℕ) (runner after : Runner) (arena grown : Ground) : Type 0 where
-  pub on : (r : Robot) (f : Field) (trace : List ℤ) → IsRobotOf code r → IsGroundOf arena f → IsAt runner code trace
+  pub on : (r : Behaviour) (f : Field) (trace : List ℤ) → IsRobotOf code r → IsGroundOf arena f → IsAt runner code trace
       → HasRun free r i f trace n code after grown
 
 -- And one that takes the turn that is next before it runs.
 pub record GoesOn (free : Type 0) (i : ℕ) (code : ObjectCode) (n : ℕ) (runner after : Runner) (arena grown : Ground) : Type 0 where
-  pub on : (r : Robot) (f : Field) (trace : List ℤ) → IsRobotOf code r → IsGroundOf arena f → IsAt runner code trace
+  pub on : (r : Behaviour) (f : Field) (trace : List ℤ) → IsRobotOf code r → IsGroundOf arena f → IsAt runner code trace
       → HasRun free r i (step r i f trace).0 (step r i f trace).1 (n - 1) code after grown
 
 traces_length : (runners : List Runner) (codes : List ObjectCode) (traces : List (List ℤ)) → EachIsAt runners codes traces → length traces ≡ length codes
@@ -104,7 +104,7 @@ traces_length [] [] [] stands = refl
 traces_length (runner ∷ runners) (code ∷ codes) (trace ∷ traces) stands = ap suc (traces_length runners codes traces stands.1)
 traces_length _ _ _ stands = absurd stands
 
-pub come_alone : (robots : List Robot) (codes : List ObjectCode) (next : List ℕ) (w n i : ℕ) (runners : List Runner) (arena grown : Ground) (opened : Stage)
+pub come_alone : (robots : List Behaviour) (codes : List ObjectCode) (next : List ℕ) (w n i : ℕ) (runners : List Runner) (arena grown : Ground) (opened : Stage)
     (code : ObjectCode) (none after : Runner) (free : Type 0)
     → AreRobotsOf codes robots → AreSlots next → i < 4 → i < length codes → get_or next i 0 + 4 * n < 4 * w + 4
     → (free → OthersArePast (4 * w) i next) → HasCome robots codes next w runners arena opened → slice_get codes i ≡ Some code
@@ -128,7 +128,7 @@ come_alone robots codes next w n i runners arena grown opened code none after fr
       ends = stages_trans _ _ _ (run_taken robots next i (4 * w) n s slots small (omega (arith, lengths, inside)) within ready) come.ends;
     }
 
-pub come_on : (robots : List Robot) (codes : List ObjectCode) (next : List ℕ) (w n i : ℕ) (runners : List Runner) (arena grown : Ground) (opened : Stage)
+pub come_on : (robots : List Behaviour) (codes : List ObjectCode) (next : List ℕ) (w n i : ℕ) (runners : List Runner) (arena grown : Ground) (opened : Stage)
     (code : ObjectCode) (none after : Runner) (free : Type 0)
     → AreRobotsOf codes robots → AreSlots next → i < 4 → i < length codes → get_or next i 0 + 4 * n < 4 * w + 4 → 0 < n
     → ((j : ℕ) → j < 4 → get_or next i 0 ≤ get_or next j 0) → (free → OthersArePast (4 * w) i next)
@@ -187,7 +187,7 @@ left_less end (a ∷ []) i n four small within some = absurd (omega arith)
 left_less end [] i n four small within some = absurd (omega arith)
 
 -- the window begins
-pub opens : (robots : List Robot) (codes : List ObjectCode) (next : List ℕ) (w : ℕ) (runners : List Runner) (arena : Ground) (s : Stage)
+pub opens : (robots : List Behaviour) (codes : List ObjectCode) (next : List ℕ) (w : ℕ) (runners : List Runner) (arena : Ground) (s : Stage)
     → AreRobotsOf codes robots → AreSlots next → length codes ≤ 4
     → ((i : ℕ) → i < length codes → i < 4 → get_or next i 0 ≡ i) → ((i : ℕ) → length codes ≤ i → i < 4 → 4 * w ≤ get_or next i 0)
     → HasReached runners codes arena s → HasCome robots codes next w runners arena s
@@ -196,11 +196,11 @@ opens robots codes next w runners arena s are slots most first past reached =
     record { stage = s; reached = reached; ends = like_same _ _ (rest_all robots next (length codes) w s slots (sym all) most (λ i low. first i low (omega arith)) past) }
 
 -- and ends
-pub closes : (robots : List Robot) (codes : List ObjectCode) (next : List ℕ) (w : ℕ) (runners : List Runner) (arena : Ground) (s : Stage)
+pub closes : (robots : List Behaviour) (codes : List ObjectCode) (next : List ℕ) (w : ℕ) (runners : List Runner) (arena : Ground) (s : Stage)
     → ((i : ℕ) → i < 4 → 4 * w ≤ get_or next i 0)
     → HasCome robots codes next w runners arena s → HasReached runners codes arena (rounds robots w s)
 closes robots codes next w runners arena s past come =
-    let done : rest robots (is_left next) 0 (4 * w) come.stage ≡ come.stage =
+    let done : turns_left robots (is_left next) 0 (4 * w) come.stage ≡ come.stage =
     rest_none robots (is_left next) 0 (4 * w) come.stage (λ t from to. left_not next t (omega (arith, past (t % 4) (omega arith), to))) in
     let like : IsLike come.stage (rounds robots w s) = rw done at come.ends in
     record {

@@ -16,8 +16,8 @@ use Rattle.arena.specs.Shots.{in_air, shot}
 use Rattle.arena.specs.Standing.{StandsFor as IsGroundOf}
 use Rattle.code.specs.declared.want.Want.{Want}
 use Rattle.code.specs.declared.want.Want.TheVariants.{Ask}
-use Rattle.battles.specs.Battle.{Robot, Stage, granted, step, robot_of, turn}
-use Rattle.battles.specs.Windows.{SameShots, AreAlike, IsLike, rest}
+use Rattle.battles.specs.Battle.{Behaviour, Stage, granted, step, robot_of, turn}
+use Rattle.battles.specs.Windows.{SameShots, AreAlike, IsLike, turns_left}
 
 shots_refl : (updates : ℕ) (shots : List Shot) → SameShots updates shots shots
 shots_refl updates shots = record { in_air = λ i. refl; owned = λ n all. all }
@@ -118,7 +118,7 @@ granted_like (Ask intrinsic a) f shots i trace same =
     (ap (λ reply. trace ++ reply ∷ []) like.0, like.1)
 granted_like _ f shots i trace same = (refl, record { shots = shots; is = refl; same = same })
 
-step_like : (robot : Robot) (f : Field) (shots : List Shot) (i : ℕ) (trace : List ℤ) → SameShots f.updates f.shots shots
+step_like : (robot : Behaviour) (f : Field) (shots : List Shot) (i : ℕ) (trace : List ℤ) → SameShots f.updates f.shots shots
     → ((step robot i (record f { shots = shots }) trace).1 ≡ (step robot i f trace).1)
     × AreAlike (step robot i f trace).0 (step robot i (record f { shots = shots }) trace).0
 unfolding step is_live robot_at
@@ -140,7 +140,7 @@ stages_trans s t u first second = record {
   traces = second.traces ∙ first.traces;
 }
 
-turn_like : (robots : List Robot) (i : ℕ) (s t : Stage) → IsLike s t → IsLike (turn robots i s) (turn robots i t)
+turn_like : (robots : List Behaviour) (i : ℕ) (s t : Stage) → IsLike s t → IsLike (turn robots i s) (turn robots i t)
 unfolding turn
 turn_like robots i s t like =
     let stepped = step_like (robot_of robots i) s.field like.field.shots i (get_or s.traces i []) like.field.same in
@@ -149,9 +149,9 @@ turn_like robots i s t like =
       traces = ap (set s.traces i) stepped.0;
     })
 
-pub rest_like : (robots : List Robot) (left : ℕ → Bool) (t n : ℕ) (s u : Stage) → IsLike s u
-    → IsLike (rest robots left t n s) (rest robots left t n u)
-unfolding rest
+pub rest_like : (robots : List Behaviour) (left : ℕ → Bool) (t n : ℕ) (s u : Stage) → IsLike s u
+    → IsLike (turns_left robots left t n s) (turns_left robots left t n u)
+unfolding turns_left
 rest_like robots left t zero s u like = like
 rest_like robots left t (suc n) s u like = elim (cases_Bool (left t)) [
   | inl here ↦ rw here (rest_like robots left (t + 1) n (turn robots (t % 4) s) (turn robots (t % 4) u) (turn_like robots (t % 4) s u like))

@@ -12,7 +12,7 @@ use Rattle.grammar.specs.Tree.{File}
 use Rattle.code.specs.Generation.{ObjectCode, code_of}
 use Rattle.code.specs.Meaning.{want}
 use Rattle.code.specs.Standing.{FitsProgram}
-use Rattle.battles.specs.Battle.{Robot, Outcome, opening, damages_of, stage_after, last_cycle, battle}
+use Rattle.battles.specs.Battle.{Behaviour, Outcome, opening, damages_of, stage_after, last_cycle, battle}
 use Rattle.battles.specs.Carrying.{Runner, AreRobotsOf, IsAt, EachFits, EachIsAt, HasReached}
 use Rattle.code.specs.Codes.{AreCodesOf}
 use Rattle.battles.specs.Pairing.{paired, robots_of}
@@ -89,7 +89,7 @@ unfolding damages_of
 damages_more n f = map-range_with_len_more (λ i. damage_of (robot_at f i)) 0 n n (omega arith)
 
 -- a battle begins with no replies
-pub opening_reached : (runners : List Runner) (codes : List ObjectCode) (arena : Ground) (robots : List Robot) (n seed number : ℕ)
+pub opening_reached : (runners : List Runner) (codes : List ObjectCode) (arena : Ground) (robots : List Behaviour) (n seed number : ℕ)
     → AreRobotsOf codes robots → n ≡ length codes → IsGroundOf arena (start seed number n)
     → EachIsAt runners codes (replicate (length codes) [])
     → HasReached runners codes arena (opening (length robots) seed number)
@@ -99,7 +99,7 @@ opening_reached runners codes arena robots n seed number are e begun stands =
     record { field = rw all begun; traces = rw (all, e) stands }
 
 -- a battle's outcome is made of its last cycle and the damages after it
-pub battle_is : (robots : List Robot) (seed number limit cycles : ℕ) (damages : List ℕ)
+pub battle_is : (robots : List Behaviour) (seed number limit cycles : ℕ) (damages : List ℕ)
     → cycles ≡ last_cycle robots (opening (length robots) seed number) limit
     → damages ≡ damages_of (length robots) (stage_after robots (opening (length robots) seed number) cycles).field
     → (let outcome : Outcome = record { cycles = cycles; damages = damages } in outcome) ≡ battle robots seed number limit

@@ -16,7 +16,7 @@ use Rattle.arena.specs.Shots.{in_air, shot}
 use Rattle.arena.specs.Scan.{east_to, north_to, in_arc, sees, range_of, nearest, scanned}
 use Rattle.code.specs.declared.want.Want.{Want}
 use Rattle.code.specs.declared.want.Want.TheVariants.{Ask}
-use Rattle.battles.specs.Battle.{Robot, Stage, granted, step, robot_of, turn}
+use Rattle.battles.specs.Battle.{Behaviour, Stage, granted, step, robot_of, turn}
 use Rattle.battles.specs.Windows.{IsAlone, StepsAlone, SameShots, AreAlike, IsLike, draws}
 use Rattle.battles.proofs.Alike.{like_refl, air_append, all_front, all_back, pushed, fires}
 
@@ -264,7 +264,7 @@ unfolding granted
 granted_stays (Ask intrinsic a) i j f trace distinct = others_stay f i j intrinsic a distinct
 granted_stays _ i j f trace distinct = refl
 
-step_stays : (robot : Robot) (i j : ℕ) (f : Field) (trace : List ℤ) → i ≢ j
+step_stays : (robot : Behaviour) (i j : ℕ) (f : Field) (trace : List ℤ) → i ≢ j
     → robot_at (step robot j f trace).0 i ≡ robot_at f i
 unfolding step
 step_stays robot i j f trace distinct = elim (cases_Bool (is_live f j)) [
@@ -272,17 +272,17 @@ step_stays robot i j f trace distinct = elim (cases_Bool (is_live f j)) [
   | inr dead ↦ rw dead refl
 ]
 
-live_same : (robot : Robot) (i j : ℕ) (f : Field) (trace : List ℤ) → i ≢ j
+live_same : (robot : Behaviour) (i j : ℕ) (f : Field) (trace : List ℤ) → i ≢ j
     → is_live (step robot j f trace).0 i ≡ is_live f i
 unfolding is_live
 live_same robot i j f trace distinct = ap is_alive (step_stays robot i j f trace distinct)
 
-step_live : (robot : Robot) (i : ℕ) (f : Field) (trace : List ℤ) → is_live f i ≡ true
+step_live : (robot : Behaviour) (i : ℕ) (f : Field) (trace : List ℤ) → is_live f i ≡ true
     → step robot i f trace ≡ granted (robot trace) i f trace
 unfolding step
 step_live robot i f trace live = rw live refl
 
-step_dead : (robot : Robot) (i : ℕ) (f : Field) (trace : List ℤ) → is_live f i ≡ false → step robot i f trace ≡ (f, trace)
+step_dead : (robot : Behaviour) (i : ℕ) (f : Field) (trace : List ℤ) → is_live f i ≡ false → step robot i f trace ≡ (f, trace)
 unfolding step
 step_dead robot i f trace dead = rw dead refl
 
@@ -306,14 +306,14 @@ unfolding granted
 granted_lives (Ask intrinsic a) i f trace = answer_lives intrinsic a i f
 granted_lives _ i f trace = refl
 
-pub step_lives : (robot : Robot) (i : ℕ) (f : Field) (trace : List ℤ) → is_live (step robot i f trace).0 i ≡ is_live f i
+pub step_lives : (robot : Behaviour) (i : ℕ) (f : Field) (trace : List ℤ) → is_live (step robot i f trace).0 i ≡ is_live f i
 step_lives robot i f trace = elim (cases_Bool (is_live f i)) [
   | inl live ↦ ap (λ (stepped : Field × List ℤ). is_live stepped.0 i) (step_live robot i f trace live) ∙ granted_lives (robot trace) i f trace
   | inr dead ↦ ap (λ (stepped : Field × List ℤ). is_live stepped.0 i) (step_dead robot i f trace dead)
 ]
 
 -- The same of two robots: the first one's step is one that it does alone.
-steps_alike : (robot other : Robot) (i j : ℕ) (f : Field) (trace others : List ℤ) → StepsAlone robot i f trace → i ≢ j
+steps_alike : (robot other : Behaviour) (i j : ℕ) (f : Field) (trace others : List ℤ) → StepsAlone robot i f trace → i ≢ j
     → AreAlike (step other j (step robot i f trace).0 others).0 (step robot i (step other j f others).0 trace).0
     × ((step robot i (step other j f others).0 trace).1 ≡ (step robot i f trace).1)
     × ((step other j (step robot i f trace).0 others).1 ≡ (step other j f others).1)
@@ -345,17 +345,17 @@ steps_alike robot other i j f trace others steps distinct =
     ]
 
 -- The same of whole stages: the next turn of a robot is one that it does alone.
-unfoldable pub TurnsAlone : List Robot → ℕ → Stage → Type 0
+unfoldable pub TurnsAlone : List Behaviour → ℕ → Stage → Type 0
 TurnsAlone robots i s = StepsAlone (robot_of robots i) i s.field (get_or s.traces i [])
 
-pub alone_stays : (robots : List Robot) (i j : ℕ) (s : Stage) → TurnsAlone robots i s → i ≢ j → TurnsAlone robots i (turn robots j s)
+pub alone_stays : (robots : List Behaviour) (i j : ℕ) (s : Stage) → TurnsAlone robots i s → i ≢ j → TurnsAlone robots i (turn robots j s)
 unfolding turn TurnsAlone
 alone_stays robots i j s alone distinct = λ live.
     let other = robot_of robots j in
     rw (get_or-set_other s.traces j i (step other j s.field (get_or s.traces j [])).1 [] distinct)
     (alone (sym (live_same other i j s.field (get_or s.traces j []) distinct) ∙ live))
 
-pub commutes : (robots : List Robot) (i j : ℕ) (s : Stage) → TurnsAlone robots i s → i ≢ j
+pub commutes : (robots : List Behaviour) (i j : ℕ) (s : Stage) → TurnsAlone robots i s → i ≢ j
     → IsLike (turn robots j (turn robots i s)) (turn robots i (turn robots j s))
 unfolding turn TurnsAlone
 commutes robots i j s alone distinct =

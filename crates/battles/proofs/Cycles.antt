@@ -7,7 +7,7 @@ use Rattle.arena.specs.Ground.{Ground}
 use Rattle.arena.specs.Moved.{moved}
 use Rattle.arena.specs.Standing.{StandsFor as IsGroundOf}
 use Rattle.code.specs.Generation.{ObjectCode}
-use Rattle.battles.specs.Battle.{Robot, Stage, turns, is_due, updated, cycle, is_over, stage_after, first_above, last_cycle}
+use Rattle.battles.specs.Battle.{Behaviour, Stage, turns, is_due, updated, cycle, is_over, stage_after, first_above, last_cycle}
 use Rattle.battles.specs.Carrying.{Runner, HasReached}
 
 is_due_yes : (number : ℕ) → number % 15 ≡ 0 → is_due number ≡ true
@@ -19,7 +19,7 @@ unfolding is_due
 is_due_no number e = grind (arith, nat_tests)
 
 -- no update is due
-pub cycle_alone : (robots : List Robot) (number : ℕ) (s : Stage) → number % 15 ≢ 0 → cycle robots number s ≡ turns robots (length robots) s
+pub cycle_alone : (robots : List Behaviour) (number : ℕ) (s : Stage) → number % 15 ≢ 0 → cycle robots number s ≡ turns robots (length robots) s
 unfolding cycle updated
 cycle_alone robots number s e = rw (is_due_no number e) refl
 
@@ -28,7 +28,7 @@ unfolding is_over
 goes_on number s e = rw (is_due_no number e) refl
 
 -- one is due
-pub cycle_updates : (robots : List Robot) (number : ℕ) (s : Stage) → number % 15 ≡ 0
+pub cycle_updates : (robots : List Behaviour) (number : ℕ) (s : Stage) → number % 15 ≡ 0
     → cycle robots number s ≡ record { field = moved (turns robots (length robots) s).field; traces = (turns robots (length robots) s).traces }
 unfolding cycle updated
 cycle_updates robots number s e = rw (is_due_yes number e) refl
@@ -43,16 +43,16 @@ pub updated_reached : (runners : List Runner) (codes : List ObjectCode) (arena a
 updated_reached runners codes arena after s reached moves = record { field = moves; traces = reached.traces }
 
 -- no cycle was run yet
-pub stage_none : (robots : List Robot) (s : Stage) → stage_after robots s 0 ≡ s
+pub stage_none : (robots : List Behaviour) (s : Stage) → stage_after robots s 0 ≡ s
 unfolding stage_after
 stage_none robots s = refl
 
-pub stage_more : (robots : List Robot) (s : Stage) (n : ℕ) → stage_after robots s (n + 1) ≡ cycle robots (n + 1) (stage_after robots s n)
+pub stage_more : (robots : List Behaviour) (s : Stage) (n : ℕ) → stage_after robots s (n + 1) ≡ cycle robots (n + 1) (stage_after robots s n)
 unfolding stage_after
 stage_more robots s n = rw add-one refl
 
 -- the search for the last cycle goes on from a cycle that is not the last
-pub first_begins : (robots : List Robot) (s : Stage) (limit : ℕ)
+pub first_begins : (robots : List Behaviour) (s : Stage) (limit : ℕ)
     → first_above (λ n. is_over n (stage_after robots s n)) 0 (limit - 0) ≡ last_cycle robots s limit
 unfolding last_cycle
 first_begins robots s limit = let e : limit - 0 ≡ limit = omega arith in rw e refl

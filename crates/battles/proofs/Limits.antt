@@ -1,7 +1,7 @@
 -- A battle that is over within a limit is the same within a longer one.
 use Rattle.std.proofs.Common.{◌≡◌, ◌≢◌, ℕ, ◌+◌, ◌≤◌, ◌<◌, zero, suc, Bool, true, List, length, sym, ap, ◌∙◌, inl, inr, arith}
 use Rattle.std.proofs.lemmas.Bool.{cases_Bool, false≢true}
-use Rattle.battles.specs.Battle.{Robot, Outcome, opening, stage_after, is_over, first_above, last_cycle, damages_of, battle}
+use Rattle.battles.specs.Battle.{Behaviour, Outcome, opening, stage_after, is_over, first_above, last_cycle, damages_of, battle}
 use Rattle.battles.proofs.Cycles.{first_here, first_later, first_none}
 
 -- the first of some numbers that passes is the first of more numbers too
@@ -20,7 +20,7 @@ first_longer passes n (suc count) (suc more) first within is over some =
     ]
 
 -- the battle doesn't change
-pub longer : (robots : List Robot) (seed number limit more cycles : ℕ) (damages : List ℕ)
+pub longer : (robots : List Behaviour) (seed number limit more cycles : ℕ) (damages : List ℕ)
     → battle robots seed number limit ≡ record { cycles = cycles; damages = damages }
     → is_over cycles (stage_after robots (opening (length robots) seed number) cycles) ≡ true → 0 < cycles → limit ≤ more
     → battle robots seed number more ≡ record { cycles = cycles; damages = damages }

@@ -9,7 +9,7 @@ use Rattle.arena.specs.Ground.{Ground, lives}
 use Rattle.arena.specs.Standing.{StandsFor as IsGroundOf}
 use Rattle.code.specs.Generation.{ObjectCode}
 use Rattle.code.specs.Standing.{FitsProgram}
-use Rattle.battles.specs.Battle.{Robot, Stage}
+use Rattle.battles.specs.Battle.{Behaviour, Stage}
 use Rattle.battles.specs.Carrying.{Runner, AreRobotsOf, EachFits, EachIsAt, HasReached, IsAt, IsRobotOf}
 use Rattle.battles.specs.Windows.{AreAhead, AreSlots, HasCome, HasRun, rounds}
 use Rattle.battles.proofs.Ahead.{Runs, come_alone, opens, closes}
@@ -19,7 +19,7 @@ use Rattle.battles.proofs.Stages.{fits_at, fits_length, fits_set}
 use Rattle.battles.proofs.Turns.{slots_set}
 
 -- a live robot goes on
-pub goes_ahead : (runner : Runner) (code : ObjectCode) (r : Robot) (i : ℕ) (f : Field) (trace : List ℤ) (n : ℕ) (arena : Ground)
+pub goes_ahead : (runner : Runner) (code : ObjectCode) (r : Behaviour) (i : ℕ) (f : Field) (trace : List ℤ) (n : ℕ) (arena : Ground)
     → n ≤ runner.ahead → is_live f i ≡ true → IsRobotOf code r → IsGroundOf arena f → IsAt runner code trace
     → HasRun ⊥ r i f trace n code (record { machine = runner.machine; ahead = runner.ahead - n }) arena
 goes_ahead runner code r i f trace n arena within live is ground at =
@@ -41,7 +41,7 @@ ahead_more n cycles arena runners before here i none within lives = elim (cases_
 ]
 
 -- So many robots have passed the window; the others are at its begin.
-pub record HavePassed (robots : List Robot) (codes : List ObjectCode) (k w : ℕ) (runners : List Runner) (arena : Ground) (opened : Stage) : Type 0 where
+pub record HavePassed (robots : List Behaviour) (codes : List ObjectCode) (k w : ℕ) (runners : List Runner) (arena : Ground) (opened : Stage) : Type 0 where
   pub next : List ℕ
   pub slots : AreSlots next
   pub done : (i : ℕ) → i < k → 4 * w ≤ get_or next i 0
@@ -85,7 +85,7 @@ slots_are n w = record {
   own = λ i small. rw (slots_at n w i small) (slot_own n w i small);
 }
 
-pub none_passed : (robots : List Robot) (codes : List ObjectCode) (w : ℕ) (runners : List Runner) (arena : Ground) (s : Stage)
+pub none_passed : (robots : List Behaviour) (codes : List ObjectCode) (w : ℕ) (runners : List Runner) (arena : Ground) (s : Stage)
     → AreRobotsOf codes robots → length codes ≤ 4 → HasReached runners codes arena s → HavePassed robots codes 0 w runners arena s
 none_passed robots codes w runners arena s are few reached =
     let n = length codes in
@@ -100,7 +100,7 @@ none_passed robots codes w runners arena s are few reached =
       come = opens robots codes (slots_of n w) w runners arena s are (slots_are n w) few first past reached;
     }
 
-pub one_passes : (robots : List Robot) (codes : List ObjectCode) (k w : ℕ) (runners : List Runner) (arena : Ground) (s : Stage)
+pub one_passes : (robots : List Behaviour) (codes : List ObjectCode) (k w : ℕ) (runners : List Runner) (arena : Ground) (s : Stage)
     (code : ObjectCode) (none after : Runner)
     → AreRobotsOf codes robots → length codes ≤ 4 → k < length codes → slice_get codes k ≡ Some code
     → HavePassed robots codes k w runners arena s → Runs ⊥ k code w (get_or runners k none) after arena arena
@@ -128,7 +128,7 @@ one_passes robots codes k w runners arena s code none after are few inside here 
           (omega (arith, here')) (λ free. absurd free) passed.come here gone;
     }
 
-pub all_passed : (robots : List Robot) (codes : List ObjectCode) (w : ℕ) (runners : List Runner) (arena : Ground) (s : Stage)
+pub all_passed : (robots : List Behaviour) (codes : List ObjectCode) (w : ℕ) (runners : List Runner) (arena : Ground) (s : Stage)
     → HavePassed robots codes (length codes) w runners arena s → HasReached runners codes arena (rounds robots w s)
 all_passed robots codes w runners arena s passed =
     closes robots codes passed.next w runners arena s (λ i small. elim (cases_lt i (length codes)) [

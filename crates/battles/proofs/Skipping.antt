@@ -13,7 +13,7 @@ use Rattle.arena.proofs.Represents.{body_at, living}
 use Rattle.arena.proofs.Still.{only_rests}
 use Rattle.code.specs.declared.want.Want.TheVariants.{Quiet}
 use Rattle.code.specs.Generation.{ObjectCode}
-use Rattle.battles.specs.Battle.{Robot, Stage, granted, step, robot_of, turn, turns}
+use Rattle.battles.specs.Battle.{Behaviour, Stage, granted, step, robot_of, turn, turns}
 use Rattle.battles.specs.Carrying.{Runner, AreRobotsOf, EachIsAt, HasReached, IsQuiet}
 use Rattle.battles.specs.Windows.{AreAhead, rounds, segment, segments}
 use Rattle.battles.proofs.Passed.{code_at, runners_length}
@@ -99,18 +99,18 @@ waits_plus live n k (suc j) traces =
     rw more (ap (waited live n) (waits_plus live n k j traces))
 
 -- each live robot is quiet for so many cycles
-abbrev AreQuiet : Ground → List Robot → List (List ℤ) → ℕ → Type 0
+abbrev AreQuiet : Ground → List Behaviour → List (List ℤ) → ℕ → Type 0
 AreQuiet g robots traces k =
     (i : ℕ) → i < length robots → lives g i ≡ true → IsQuiet (robot_of robots i) (get_or traces i []) k
 
 -- So the field stays as it is in these.
-step_waits : (r : Robot) (i : ℕ) (f : Field) (trace : List ℤ) (live : Bool) → is_live f i ≡ live
+step_waits : (r : Behaviour) (i : ℕ) (f : Field) (trace : List ℤ) (live : Bool) → is_live f i ≡ live
     → (live ≡ true → r trace ≡ Quiet) → step r i f trace ≡ (f, if live then trace ++ pos 0 ∷ [] else trace)
 unfolding step granted
 step_waits r i f trace true is quiet = rw (is, quiet refl) refl
 step_waits r i f trace false is quiet = rw is refl
 
-turn_waits : (g : Ground) (robots : List Robot) (i : ℕ) (s : Stage) → IsGroundOf g s.field
+turn_waits : (g : Ground) (robots : List Behaviour) (i : ℕ) (s : Stage) → IsGroundOf g s.field
     → (lives g i ≡ true → robot_of robots i (get_or s.traces i []) ≡ Quiet)
     → turn robots i s ≡ record {
       field = s.field;
@@ -121,7 +121,7 @@ turn_waits g robots i s ground quiet =
     ap (λ (after : Field × List ℤ). record { field = after.0; traces = set s.traces i after.1 })
     (step_waits (robot_of robots i) i s.field (get_or s.traces i []) (lives g i) (live_is g s.field i ground) quiet)
 
-turns_wait : (g : Ground) (robots : List Robot) (n : ℕ) (s : Stage) → IsGroundOf g s.field
+turns_wait : (g : Ground) (robots : List Behaviour) (n : ℕ) (s : Stage) → IsGroundOf g s.field
     → ((i : ℕ) → i < n → lives g i ≡ true → robot_of robots i (get_or s.traces i []) ≡ Quiet)
     → turns robots n s ≡ record { field = s.field; traces = waited (lives g) n s.traces }
 unfolding turns waited
@@ -131,7 +131,7 @@ turns_wait g robots (suc n) s ground quiet =
     ∙ turn_waits g robots n (record { field = s.field; traces = waited (lives g) n s.traces }) ground
     (λ live. ap (robot_of robots n) (waited_later (lives g) n s.traces n (omega arith)) ∙ quiet n (omega arith) live)
 
-rounds_wait : (g : Ground) (robots : List Robot) (k : ℕ) (s : Stage) → IsGroundOf g s.field → length robots ≤ length s.traces
+rounds_wait : (g : Ground) (robots : List Behaviour) (k : ℕ) (s : Stage) → IsGroundOf g s.field → length robots ≤ length s.traces
     → AreQuiet g robots s.traces k
     → rounds robots k s ≡ record { field = s.field; traces = waits (lives g) (length robots) k s.traces }
 unfolding rounds waits
@@ -145,7 +145,7 @@ rounds_wait g robots (suc k) s ground all quiet =
     ∙ quiet i low live k (omega arith))
 
 -- If the field is still the windows follow one another in the same way.
-quiet_on : (g : Ground) (robots : List Robot) (k j : ℕ) (traces : List (List ℤ)) → length robots ≤ length traces
+quiet_on : (g : Ground) (robots : List Behaviour) (k j : ℕ) (traces : List (List ℤ)) → length robots ≤ length traces
     → AreQuiet g robots traces (k + j) → AreQuiet g robots (waits (lives g) (length robots) k traces) j
 quiet_on g robots k j traces all quiet i low live m less =
     ap (λ trace. robot_of robots i (trace ++ replicate m (pos 0)))
@@ -158,11 +158,11 @@ quiet_on g robots k j traces all quiet i low live m less =
 updated_stage : Stage → Stage
 updated_stage s = record { field = moved s.field; traces = s.traces }
 
-quiet_within : (g : Ground) (robots : List Robot) (traces : List (List ℤ)) (k n : ℕ) → k ≤ n → AreQuiet g robots traces n
+quiet_within : (g : Ground) (robots : List Behaviour) (traces : List (List ℤ)) (k n : ℕ) → k ≤ n → AreQuiet g robots traces n
     → AreQuiet g robots traces k
 quiet_within g robots traces k n less quiet i low live = quiet_less (robot_of robots i) (get_or traces i []) k n less (quiet i low live)
 
-segments_wait : (g : Ground) (robots : List Robot) (k : ℕ) (s : Stage) → IsGroundOf g s.field → IsStill g.robots g.slots
+segments_wait : (g : Ground) (robots : List Behaviour) (k : ℕ) (s : Stage) → IsGroundOf g s.field → IsStill g.robots g.slots
     → length robots ≤ length s.traces → AreQuiet g robots s.traces (15 * k)
     → segments robots k s ≡ record { field = moved_times k s.field; traces = waits (lives g) (length robots) (15 * k) s.traces }
 unfolding segments segment moved_times lives updated_stage waits
@@ -186,7 +186,7 @@ traces_length [] [] [] at = refl
 traces_length (runner ∷ runners) (code ∷ codes) (trace ∷ traces) at = ap suc (traces_length runners codes traces at.1)
 traces_length _ _ _ at = absurd at
 
-are_quiet : (codes : List ObjectCode) (robots : List Robot) (runners : List Runner) (none : Runner) (g : Ground) (s : Stage) (cycles : ℕ)
+are_quiet : (codes : List ObjectCode) (robots : List Behaviour) (runners : List Runner) (none : Runner) (g : Ground) (s : Stage) (cycles : ℕ)
     → AreRobotsOf codes robots → HasReached runners codes g s → AreAhead (length runners) cycles g runners
     → AreQuiet g robots s.traces cycles
 unfolding robot_of
@@ -204,7 +204,7 @@ ahead_fewer n most cycles arena runners fewer ahead i none inside live =
     let here : most ≤ (get_or runners i none).ahead = ahead i none inside live in
     omega arith
 
-some_quiet : (codes : List ObjectCode) (robots : List Robot) (runners : List Runner) (g : Ground) (s : Stage) (cycles : ℕ)
+some_quiet : (codes : List ObjectCode) (robots : List Behaviour) (runners : List Runner) (g : Ground) (s : Stage) (cycles : ℕ)
     → AreRobotsOf codes robots → HasReached runners codes g s → AreAhead (length runners) cycles g runners
     → AreQuiet g robots s.traces cycles
 some_quiet [] [] [] g s cycles are reached ahead = λ i low live. absurd (omega arith)
@@ -214,13 +214,13 @@ some_quiet (code ∷ codes) robots [] g s cycles are reached ahead =
     absurd (omega (arith, runners_length [] (code ∷ codes) s.traces reached.traces))
 some_quiet [] (robot ∷ robots) [] g s cycles are reached ahead = absurd are
 
-enough : (codes : List ObjectCode) (robots : List Robot) (runners : List Runner) (g : Ground) (s : Stage)
+enough : (codes : List ObjectCode) (robots : List Behaviour) (runners : List Runner) (g : Ground) (s : Stage)
     → AreRobotsOf codes robots → HasReached runners codes g s → length robots ≤ length s.traces
 enough codes robots runners g s are reached =
     omega (arith, robots_length codes robots are, traces_length runners codes s.traces reached.traces)
 
 -- Where the cycles of some windows lead, and as many updates: to where the windows lead.
-pub skips : (codes : List ObjectCode) (robots : List Robot) (runners after : List Runner) (g : Ground) (s : Stage) (k : ℕ)
+pub skips : (codes : List ObjectCode) (robots : List Behaviour) (runners after : List Runner) (g : Ground) (s : Stage) (k : ℕ)
     → AreRobotsOf codes robots → HasReached runners codes g s → IsStill g.robots g.slots
     → AreAhead (length runners) (15 * k) g runners → HasReached after codes g (rounds robots (15 * k) s)
     → HasReached after codes (record g { updates = g.updates + k }) (segments robots k s)
@@ -235,7 +235,7 @@ skips codes robots runners after g s k are reached still ahead gone =
     })
 
 -- as many robots live
-pub skips_alive : (codes : List ObjectCode) (robots : List Robot) (runners : List Runner) (g : Ground) (s : Stage) (k n : ℕ)
+pub skips_alive : (codes : List ObjectCode) (robots : List Behaviour) (runners : List Runner) (g : Ground) (s : Stage) (k n : ℕ)
     → AreRobotsOf codes robots → HasReached runners codes g s → IsStill g.robots g.slots
     → AreAhead (length runners) (15 * k) g runners → n ≤ k → live_count (segments robots n s).field ≡ live_count s.field
 skips_alive codes robots runners g s k n are reached still ahead within =
@@ -247,6 +247,6 @@ skips_alive codes robots runners g s k n are reached still ahead within =
     ∙ sym (count_is g s.field reached.field)
 
 -- no window passes
-pub skips_none : (robots : List Robot) (s : Stage) → segments robots 0 s ≡ s
+pub skips_none : (robots : List Behaviour) (s : Stage) → segments robots 0 s ≡ s
 unfolding segments
 skips_none robots s = refl

@@ -3,12 +3,12 @@ use Rattle.std.proofs.Common.{◌≡◌, ℕ, ◌+◌, ◌*◌, ◌-◌, ◌%◌
 use Rattle.std.specs.Prelude.{nat_le}
 use Rattle.arena.specs.Field.{live_count}
 use Rattle.arena.specs.Moved.{moved}
-use Rattle.battles.specs.Battle.{Robot, Stage, turns, is_over, stage_after, first_above}
+use Rattle.battles.specs.Battle.{Behaviour, Stage, turns, is_over, stage_after, first_above}
 use Rattle.battles.specs.Windows.{rounds, segment, segments}
 use Rattle.battles.proofs.Cycles.{cycle_alone, cycle_updates, goes_on, stage_more, over_if_few, first_later, first_none, first_is, first_more}
 
 -- no update falls within a window
-pub stage_within : (robots : List Robot) (s : Stage) (n w : ℕ) → n % 15 ≡ 0 → w < 15
+pub stage_within : (robots : List Behaviour) (s : Stage) (n w : ℕ) → n % 15 ≡ 0 → w < 15
     → stage_after robots s (n + w) ≡ rounds robots w (stage_after robots s n)
 unfolding rounds
 stage_within robots s n zero begins small = ap (stage_after robots s) (omega arith)
@@ -23,7 +23,7 @@ stage_within robots s n (suc w) begins small =
 updated_stage : Stage → Stage
 updated_stage s = record { field = moved s.field; traces = s.traces }
 
-stage_updated : (robots : List Robot) (s : Stage) (n : ℕ) → n % 15 ≡ 0
+stage_updated : (robots : List Behaviour) (s : Stage) (n : ℕ) → n % 15 ≡ 0
     → stage_after robots s (n + 15) ≡ segment robots (stage_after robots s n)
 unfolding rounds segment updated_stage
 stage_updated robots s n begins =
@@ -33,13 +33,13 @@ stage_updated robots s n begins =
     ∙ cycle_updates robots (n + 14 + 1) (stage_after robots s (n + 14)) (omega arith)
     ∙ ap (λ before. updated_stage (turns robots (length robots) before)) (stage_within robots s n 14 begins (omega arith))
 
-pub stage_segment : (robots : List Robot) (s : Stage) (n : ℕ)
+pub stage_segment : (robots : List Behaviour) (s : Stage) (n : ℕ)
     → stage_after robots s (15 * (n + 1)) ≡ segment robots (stage_after robots s (15 * n))
 stage_segment robots s n =
     let next : 15 * (n + 1) ≡ 15 * n + 15 = omega arith in
     ap (stage_after robots s) next ∙ stage_updated robots s (15 * n) (omega arith)
 
-pub stage_segments : (robots : List Robot) (s : Stage) (n k : ℕ)
+pub stage_segments : (robots : List Behaviour) (s : Stage) (n k : ℕ)
     → stage_after robots s (15 * (n + k)) ≡ segments robots k (stage_after robots s (15 * n))
 unfolding segments
 stage_segments robots s n zero = ap (stage_after robots s) (omega arith)
@@ -49,7 +49,7 @@ stage_segments robots s n (suc k) =
     ∙ stage_segment robots s (n + k)
     ∙ ap (segment robots) (stage_segments robots s n k)
 
-pub stage_rest : (robots : List Robot) (s : Stage) (n limit : ℕ) → n ≡ limit / 15
+pub stage_rest : (robots : List Behaviour) (s : Stage) (n limit : ℕ) → n ≡ limit / 15
     → stage_after robots s limit ≡ rounds robots (limit % 15) (stage_after robots s (15 * n))
 stage_rest robots s n limit all =
     let sum : limit ≡ 15 * n + limit % 15 = omega arith in
@@ -70,15 +70,15 @@ first_skips passes n (suc k) count none =
     ∙ first_skips passes (n + 1) k count (λ j above most. none j (omega arith) (omega arith))
     ∙ ap (λ m. first_above passes m count) (sym next)
 
-over : (robots : List Robot) (s : Stage) → ℕ → Bool
+over : (robots : List Behaviour) (s : Stage) → ℕ → Bool
 over robots s n = is_over n (stage_after robots s n)
 
-not_over : (robots : List Robot) (s : Stage) (n j : ℕ) → n % 15 ≡ 0 → n < j → j < n + 15 → over robots s j ≡ false
+not_over : (robots : List Behaviour) (s : Stage) (n j : ℕ) → n % 15 ≡ 0 → n < j → j < n + 15 → over robots s j ≡ false
 unfolding over
 not_over robots s n j begins above below = goes_on j (stage_after robots s j) (omega arith)
 
 -- the next update is where the search goes on
-first_update : (robots : List Robot) (s : Stage) (n limit last : ℕ) → n % 15 ≡ 0 → n + 15 ≤ limit
+first_update : (robots : List Behaviour) (s : Stage) (n limit last : ℕ) → n % 15 ≡ 0 → n + 15 ≤ limit
     → first_above (λ k. is_over k (stage_after robots s k)) n (limit - n) ≡ last
     → first_above (λ k. is_over k (stage_after robots s k)) (n + 14) (limit - (n + 14)) ≡ last
 unfolding over
@@ -87,7 +87,7 @@ first_update robots s n limit last begins within so =
     sym (first_skips (over robots s) n 14 (limit - (n + 14)) (λ j above most. not_over robots s n j begins above (omega arith)))
     ∙ rw count at so
 
-few_after : (robots : List Robot) (s : Stage) (n : ℕ)
+few_after : (robots : List Behaviour) (s : Stage) (n : ℕ)
     → over robots s (15 * n + 14 + 1) ≡ nat_le (live_count (segment robots (stage_after robots s (15 * n))).field) 1
 unfolding over
 few_after robots s n =
@@ -95,7 +95,7 @@ few_after robots s n =
     over_if_few (15 * n + 14 + 1) (stage_after robots s (15 * n + 14 + 1)) (omega arith)
     ∙ ap (λ (t : Stage). nat_le (live_count t.field) 1) (ap (stage_after robots s) next ∙ stage_updated robots s (15 * n) (omega arith))
 
-pub first_decided : (robots : List Robot) (s : Stage) (n limit last : ℕ) → 15 * n + 15 ≤ limit
+pub first_decided : (robots : List Behaviour) (s : Stage) (n limit last : ℕ) → 15 * n + 15 ≤ limit
     → first_above (λ k. is_over k (stage_after robots s k)) (15 * n) (limit - 15 * n) ≡ last
     → nat_le (live_count (segment robots (stage_after robots s (15 * n))).field) 1 ≡ true → 15 * (n + 1) ≡ last
 unfolding over
@@ -104,7 +104,7 @@ first_decided robots s n limit last within so decided =
     next ∙ first_is (over robots s) (15 * n + 14) limit last (omega arith)
     (first_update robots s (15 * n) limit last (omega arith) within so) (few_after robots s n ∙ decided)
 
-pub first_undecided : (robots : List Robot) (s : Stage) (n limit last : ℕ) → 15 * n + 15 ≤ limit
+pub first_undecided : (robots : List Behaviour) (s : Stage) (n limit last : ℕ) → 15 * n + 15 ≤ limit
     → first_above (λ k. is_over k (stage_after robots s k)) (15 * n) (limit - 15 * n) ≡ last
     → nat_le (live_count (segment robots (stage_after robots s (15 * n))).field) 1 ≡ false
     → first_above (λ k. is_over k (stage_after robots s k)) (15 * (n + 1)) (limit - 15 * (n + 1)) ≡ last
@@ -115,7 +115,7 @@ first_undecided robots s n limit last within so undecided =
     (first_update robots s (15 * n) limit last (omega arith) within so) (few_after robots s n ∙ undecided))
 
 -- and so of some windows that leave more than one alive
-pub first_skipped : (robots : List Robot) (s : Stage) (n k limit last : ℕ) → 15 * (n + k) ≤ limit
+pub first_skipped : (robots : List Behaviour) (s : Stage) (n k limit last : ℕ) → 15 * (n + k) ≤ limit
     → first_above (λ m. is_over m (stage_after robots s m)) (15 * n) (limit - 15 * n) ≡ last
     → ((j : ℕ) → j ≤ k → nat_le (live_count (segments robots j (stage_after robots s (15 * n))).field) 1 ≡ false)
     → first_above (λ m. is_over m (stage_after robots s m)) (15 * (n + k)) (limit - 15 * (n + k)) ≡ last
@@ -130,7 +130,7 @@ first_skipped robots s n (suc k) limit last within so undecided =
     (ap (λ (t : Stage). nat_le (live_count t.field) 1) (ap (segment robots) (stage_segments robots s n k)) ∙ undecided (suc k) (omega arith)))
 
 -- no update comes before the limit
-pub first_limit : (robots : List Robot) (s : Stage) (n limit last : ℕ) → n % 15 ≡ 0 → n ≤ limit → limit < n + 15
+pub first_limit : (robots : List Behaviour) (s : Stage) (n limit last : ℕ) → n % 15 ≡ 0 → n ≤ limit → limit < n + 15
     → first_above (λ k. is_over k (stage_after robots s k)) n (limit - n) ≡ last → limit ≡ last
 unfolding over
 first_limit robots s n limit last begins within short so =

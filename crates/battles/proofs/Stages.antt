@@ -7,11 +7,11 @@ use Rattle.arena.specs.Standing.{StandsFor as IsGroundOf}
 use Rattle.code.specs.declared.want.Want.TheVariants.{Quiet}
 use Rattle.code.specs.Generation.{ObjectCode}
 use Rattle.code.specs.Standing.{FitsProgram}
-use Rattle.battles.specs.Battle.{Robot, Stage, step, robot_of, turn, turns}
+use Rattle.battles.specs.Battle.{Behaviour, Stage, step, robot_of, turn, turns}
 use Rattle.battles.specs.Carrying.{Runner, IsRobotOf, AreRobotsOf, IsAt, EachFits, EachIsAt, HasReached}
 
 -- the robot with an index is that of the program there
-pub robot_at : (codes : List ObjectCode) (robots : List Robot) (i : ℕ) (code : ObjectCode) (none : Robot)
+pub robot_at : (codes : List ObjectCode) (robots : List Behaviour) (i : ℕ) (code : ObjectCode) (none : Behaviour)
     → AreRobotsOf codes robots → slice_get codes i ≡ Some code → IsRobotOf code (get_or robots i none)
 robot_at [] [] i code none are here = cc
 robot_at [] (robot ∷ robots) i code none are here = absurd are
@@ -48,7 +48,7 @@ fits_length (runner ∷ runners) (code ∷ codes) fits = ap suc (fits_length run
 fits_length [] (code ∷ codes) fits = absurd fits
 fits_length (runner ∷ runners) [] fits = absurd fits
 
-pub robots_length : (codes : List ObjectCode) (robots : List Robot) → AreRobotsOf codes robots → length robots ≡ length codes
+pub robots_length : (codes : List ObjectCode) (robots : List Behaviour) → AreRobotsOf codes robots → length robots ≡ length codes
 robots_length [] [] are = refl
 robots_length (code ∷ codes) (robot ∷ robots) are = ap suc (robots_length codes robots are.1)
 robots_length [] (robot ∷ robots) are = absurd are
@@ -76,23 +76,23 @@ stands_set (runner' ∷ runners) (code' ∷ codes) (trace' ∷ traces) (suc i) r
 stands_set _ _ _ i runner code trace stands here new = absurd stands
 
 -- none has had its turn yet
-pub turns_none : (robots : List Robot) (s : Stage) → turns robots 0 s ≡ s
+pub turns_none : (robots : List Behaviour) (s : Stage) → turns robots 0 s ≡ s
 unfolding turns
 turns_none robots s = refl
 
-pub turns_more : (robots : List Robot) (i : ℕ) (s : Stage) → turns robots (i + 1) s ≡ turn robots i (turns robots i s)
+pub turns_more : (robots : List Behaviour) (i : ℕ) (s : Stage) → turns robots (i + 1) s ≡ turn robots i (turns robots i s)
 unfolding turns
 turns_more robots i s = rw add-one refl
 
 -- What one robot's cycle makes of its runner and of the arena, whatever its trace and the field are.
 pub record HasStepped (i : ℕ) (code : ObjectCode) (runner after : Runner) (arena grown : Ground) : Type 0 where
-  pub field : (r : Robot) (f : Field) (trace : List ℤ) → IsRobotOf code r → IsGroundOf arena f → IsAt runner code trace
+  pub field : (r : Behaviour) (f : Field) (trace : List ℤ) → IsRobotOf code r → IsGroundOf arena f → IsAt runner code trace
       → IsGroundOf grown (step r i f trace).0
-  pub trace : (r : Robot) (f : Field) (trace : List ℤ) → IsRobotOf code r → IsGroundOf arena f → IsAt runner code trace
+  pub trace : (r : Behaviour) (f : Field) (trace : List ℤ) → IsRobotOf code r → IsGroundOf arena f → IsAt runner code trace
       → IsAt after code (step r i f trace).1
 
 -- So the stage is that after the robot's turn.
-pub turn_reached : (codes : List ObjectCode) (robots : List Robot) (runners : List Runner) (arena grown : Ground) (s : Stage) (i : ℕ)
+pub turn_reached : (codes : List ObjectCode) (robots : List Behaviour) (runners : List Runner) (arena grown : Ground) (s : Stage) (i : ℕ)
     (code : ObjectCode) (none after : Runner)
     → AreRobotsOf codes robots → HasReached runners codes arena s → slice_get codes i ≡ Some code
     → HasStepped i code (get_or runners i none) after arena grown

@@ -4,42 +4,42 @@ use Rattle.std.specs.Prelude.{nat_lt, nat_le, min}
 use Rattle.std.proofs.lemmas.Bool.{cases_Bool, cases_eq, cases_lt, false≢true}
 use Rattle.std.proofs.lemmas.List.{get_or-set_same, get_or-set_other, length-set}
 use Rattle.std.proofs.lemmas.Bool.Decides.{nat_tests}
-use Rattle.battles.specs.Battle.{Robot, Stage, turn, turns}
-use Rattle.battles.specs.Windows.{rounds, rest, is_left, AreSlots, IsLike}
+use Rattle.battles.specs.Battle.{Behaviour, Stage, turn, turns}
+use Rattle.battles.specs.Windows.{rounds, turns_left, is_left, AreSlots, IsLike}
 use Rattle.battles.proofs.Alike.{like_same, stages_trans, rest_like}
 use Rattle.battles.proofs.Commuting.{TurnsAlone, alone_stays, commutes}
 
-rest_more : (robots : List Robot) (left : ℕ → Bool) (t n : ℕ) (s : Stage) → left t ≡ true
-    → rest robots left t (suc n) s ≡ rest robots left (t + 1) n (turn robots (t % 4) s)
-unfolding rest
+rest_more : (robots : List Behaviour) (left : ℕ → Bool) (t n : ℕ) (s : Stage) → left t ≡ true
+    → turns_left robots left t (suc n) s ≡ turns_left robots left (t + 1) n (turn robots (t % 4) s)
+unfolding turns_left
 rest_more robots left t n s here = rw here refl
 
-rest_less : (robots : List Robot) (left : ℕ → Bool) (t n : ℕ) (s : Stage) → left t ≡ false
-    → rest robots left t (suc n) s ≡ rest robots left (t + 1) n s
-unfolding rest
+rest_less : (robots : List Behaviour) (left : ℕ → Bool) (t n : ℕ) (s : Stage) → left t ≡ false
+    → turns_left robots left t (suc n) s ≡ turns_left robots left (t + 1) n s
+unfolding turns_left
 rest_less robots left t n s gone = rw gone refl
 
 -- the same turns are left
-rest_same : (robots : List Robot) (left other : ℕ → Bool) (t n : ℕ) (s : Stage)
-    → ((k : ℕ) → t ≤ k → k < t + n → left k ≡ other k) → rest robots left t n s ≡ rest robots other t n s
-unfolding rest
+rest_same : (robots : List Behaviour) (left other : ℕ → Bool) (t n : ℕ) (s : Stage)
+    → ((k : ℕ) → t ≤ k → k < t + n → left k ≡ other k) → turns_left robots left t n s ≡ turns_left robots other t n s
+unfolding turns_left
 rest_same robots left other t zero s same = refl
 rest_same robots left other t (suc n) s same =
     rw (same t (omega arith) (omega arith)) (rest_same robots left other (t + 1) n _ (λ k from to. same k (omega arith) (omega arith)))
 
 -- none is left
-pub rest_none : (robots : List Robot) (left : ℕ → Bool) (t n : ℕ) (s : Stage)
-    → ((k : ℕ) → t ≤ k → k < t + n → left k ≡ false) → rest robots left t n s ≡ s
-unfolding rest
+pub rest_none : (robots : List Behaviour) (left : ℕ → Bool) (t n : ℕ) (s : Stage)
+    → ((k : ℕ) → t ≤ k → k < t + n → left k ≡ false) → turns_left robots left t n s ≡ s
+unfolding turns_left
 rest_none robots left t zero s none = refl
 rest_none robots left t (suc n) s none =
     rw (none t (omega arith) (omega arith)) (rest_none robots left (t + 1) n s (λ k from to. none k (omega arith) (omega arith)))
 
 -- A robot's next turn can be taken at once if the robot does it alone, or if no turn is left before it.
-takes : (robots : List Robot) (left other : ℕ → Bool) (i d t n : ℕ) (s : Stage) → d % 4 ≡ i → left d ≡ true → other d ≡ false
+takes : (robots : List Behaviour) (left other : ℕ → Bool) (i d t n : ℕ) (s : Stage) → d % 4 ≡ i → left d ≡ true → other d ≡ false
     → ((k : ℕ) → k ≢ d → left k ≡ other k) → ((k : ℕ) → k < d → k % 4 ≡ i → left k ≡ false) → t ≤ d → d < t + n
     → TurnsAlone robots i s ⊎ ((k : ℕ) → t ≤ k → k < d → left k ≡ false)
-    → IsLike (rest robots other t n (turn robots i s)) (rest robots left t n s)
+    → IsLike (turns_left robots other t n (turn robots i s)) (turns_left robots left t n s)
 takes robots left other i d t zero s own here gone same later from to ready = absurd (omega arith)
 takes robots left other i d t (suc n) s own here gone same later from to ready = elim (cases_eq t d) [
   | inl now ↦
@@ -57,7 +57,7 @@ takes robots left other i d t (suc n) s own here gone same later from to ready =
         ] in
         let after = turn robots (t % 4) s in
         rw (rest_more robots left t n s held, rest_more robots other t n (turn robots i s) (sym (same t before) ∙ held))
-        (stages_trans (rest robots other (t + 1) n (turn robots (t % 4) (turn robots i s))) (rest robots other (t + 1) n (turn robots i after)) (rest robots left (t + 1) n after)
+        (stages_trans (turns_left robots other (t + 1) n (turn robots (t % 4) (turn robots i s))) (turns_left robots other (t + 1) n (turn robots i after)) (turns_left robots left (t + 1) n after)
         (rest_like robots other (t + 1) n (turn robots (t % 4) (turn robots i s)) (turn robots i after) (commutes robots i (t % 4) s alone distinct))
         (takes robots left other i d (t + 1) n after own here gone same later (omega arith) (omega arith) (inl (alone_stays robots i (t % 4) s alone distinct))))
     | inr free ↦
@@ -114,9 +114,9 @@ slots_one next i are inside =
     let once : get_or next i 0 + 4 * 1 ≡ get_or next i 0 + 4 = omega arith in
     rw once at (slots_set next i 1 are inside)
 
-pub next_taken : (robots : List Robot) (next : List ℕ) (i end : ℕ) (s : Stage) → AreSlots next → i < 4 → get_or next i 0 < end
+pub next_taken : (robots : List Behaviour) (next : List ℕ) (i end : ℕ) (s : Stage) → AreSlots next → i < 4 → get_or next i 0 < end
     → TurnsAlone robots i s ⊎ ((j : ℕ) → j < 4 → get_or next i 0 ≤ get_or next j 0)
-    → IsLike (rest robots (is_left (set next i (get_or next i 0 + 4))) 0 end (turn robots i s)) (rest robots (is_left next) 0 end s)
+    → IsLike (turns_left robots (is_left (set next i (get_or next i 0 + 4))) 0 end (turn robots i s)) (turns_left robots (is_left next) 0 end s)
 unfolding is_left
 next_taken robots next i end s are inside within ready =
     let four = are.four in
@@ -139,8 +139,8 @@ next_taken robots next i end s are inside within ready =
 in_row : ℕ → ℕ → Bool
 in_row n t = nat_lt (t % 4) n
 
-row_step : (robots : List Robot) (n j t m : ℕ) (s : Stage) → t % 4 ≡ j
-    → rest robots (in_row n) t (suc m) (turns robots (min j n) s) ≡ rest robots (in_row n) (t + 1) m (turns robots (min (j + 1) n) s)
+row_step : (robots : List Behaviour) (n j t m : ℕ) (s : Stage) → t % 4 ≡ j
+    → turns_left robots (in_row n) t (suc m) (turns robots (min j n) s) ≡ turns_left robots (in_row n) (t + 1) m (turns robots (min (j + 1) n) s)
 unfolding in_row turns
 row_step robots n j t m s place = elim (cases_lt j n) [
   | inl inside ↦
@@ -151,31 +151,31 @@ row_step robots n j t m s place = elim (cases_lt j n) [
   | inr outside ↦
       let same : min j n ≡ min (j + 1) n = omega arith in
       let no : nat_lt (t % 4) n ≡ false = grind (arith, nat_tests) in
-      rest_less robots (in_row n) t m (turns robots (min j n) s) no ∙ ap (λ k. rest robots (in_row n) (t + 1) m (turns robots k s)) same
+      rest_less robots (in_row n) t m (turns robots (min j n) s) no ∙ ap (λ k. turns_left robots (in_row n) (t + 1) m (turns robots k s)) same
 ]
 
-row : (robots : List Robot) (n t m : ℕ) (s : Stage) → t % 4 ≡ 0 → n ≤ 4
-    → rest robots (in_row n) t (suc (suc (suc (suc m)))) s ≡ rest robots (in_row n) (t + 1 + 1 + 1 + 1) m (turns robots n s)
+row : (robots : List Behaviour) (n t m : ℕ) (s : Stage) → t % 4 ≡ 0 → n ≤ 4
+    → turns_left robots (in_row n) t (suc (suc (suc (suc m)))) s ≡ turns_left robots (in_row n) (t + 1 + 1 + 1 + 1) m (turns robots n s)
 unfolding turns
 row robots n t m s begins most =
     let first : min 0 n ≡ 0 = omega arith in
     let last : min (3 + 1) n ≡ n = omega arith in
-    ap (λ k. rest robots (in_row n) t (suc (suc (suc (suc m)))) (turns robots k s)) (sym first)
+    ap (λ k. turns_left robots (in_row n) t (suc (suc (suc (suc m)))) (turns robots k s)) (sym first)
     ∙ row_step robots n 0 t (suc (suc (suc m))) s begins
     ∙ row_step robots n 1 (t + 1) (suc (suc m)) s (omega arith)
     ∙ row_step robots n 2 (t + 1 + 1) (suc m) s (omega arith)
     ∙ row_step robots n 3 (t + 1 + 1 + 1) m s (omega arith)
-    ∙ ap (λ k. rest robots (in_row n) (t + 1 + 1 + 1 + 1) m (turns robots k s)) last
+    ∙ ap (λ k. turns_left robots (in_row n) (t + 1 + 1 + 1 + 1) m (turns robots k s)) last
 
-rounds_first : (robots : List Robot) (w : ℕ) (s : Stage)
+rounds_first : (robots : List Behaviour) (w : ℕ) (s : Stage)
     → rounds robots w (turns robots (length robots) s) ≡ rounds robots (suc w) s
 unfolding rounds
 rounds_first robots zero s = refl
 rounds_first robots (suc w) s = ap (turns robots (length robots)) (rounds_first robots w s)
 
-rows : (robots : List Robot) (t w : ℕ) (s : Stage) → t % 4 ≡ 0 → length robots ≤ 4
-    → rest robots (in_row (length robots)) t (4 * w) s ≡ rounds robots w s
-unfolding rounds rest
+rows : (robots : List Behaviour) (t w : ℕ) (s : Stage) → t % 4 ≡ 0 → length robots ≤ 4
+    → turns_left robots (in_row (length robots)) t (4 * w) s ≡ rounds robots w s
+unfolding rounds turns_left
 rows robots t zero s begins most = refl
 rows robots t (suc w) s begins most =
     let more : 4 * suc w ≡ suc (suc (suc (suc (4 * w)))) = omega arith in
@@ -184,9 +184,9 @@ rows robots t (suc w) s begins most =
     ∙ rounds_first robots w s
 
 -- a window begins
-pub rest_all : (robots : List Robot) (next : List ℕ) (n w : ℕ) (s : Stage) → AreSlots next → n ≡ length robots → n ≤ 4
+pub rest_all : (robots : List Behaviour) (next : List ℕ) (n w : ℕ) (s : Stage) → AreSlots next → n ≡ length robots → n ≤ 4
     → ((i : ℕ) → i < n → get_or next i 0 ≡ i) → ((i : ℕ) → n ≤ i → i < 4 → 4 * w ≤ get_or next i 0)
-    → rest robots (is_left next) 0 (4 * w) s ≡ rounds robots w s
+    → turns_left robots (is_left next) 0 (4 * w) s ≡ rounds robots w s
 unfolding is_left in_row
 rest_all robots next n w s are all most first past =
     rest_same robots (is_left next) (in_row n) 0 (4 * w) s (λ t from to. elim (cases_lt (t % 4) n) [

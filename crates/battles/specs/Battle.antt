@@ -9,8 +9,8 @@ use Rattle.code.specs.declared.want.Want.{Want}
 use Rattle.code.specs.declared.want.Want.TheVariants.{Quiet, Ask, Restart}
 
 -- A robot is what it wants next, given its trace: the replies that it got since it began.
-abbrev pub Robot : Type 0
-Robot = List ℤ → Want
+abbrev pub Behaviour : Type 0
+Behaviour = List ℤ → Want
 
 -- a stage of a battle: the field, and the trace of each robot
 pub record Stage : Type 0 where
@@ -25,20 +25,20 @@ granted (Ask intrinsic arguments) i field trace =
 granted Restart i field trace = (field, [])
 
 -- one cycle of one robot: a dead one does nothing
-unfoldable pub step : Robot → ℕ → Field → List ℤ → Field × List ℤ
+unfoldable pub step : Behaviour → ℕ → Field → List ℤ → Field × List ℤ
 step robot i field trace = if is_live field i then granted (robot trace) i field trace else (field, trace)
 
 -- past the last robot there is one that asks nothing
-unfoldable pub robot_of : List Robot → ℕ → Robot
+unfoldable pub robot_of : List Behaviour → ℕ → Behaviour
 robot_of robots i = slice_index_or robots i (λ trace. Quiet)
 
 -- the turn of one robot, and the turns of the first n robots in their order
-unfoldable pub turn : List Robot → ℕ → Stage → Stage
+unfoldable pub turn : List Behaviour → ℕ → Stage → Stage
 turn robots i stage =
     let stepped = step (robot_of robots i) i stage.field (slice_index_or stage.traces i []) in
     record { field = stepped.0; traces = slice_set stage.traces i stepped.1 }
 
-unfoldable pub turns : List Robot → ℕ → Stage → Stage
+unfoldable pub turns : List Behaviour → ℕ → Stage → Stage
 turns robots zero stage = stage
 turns robots (suc n) stage = turn robots n (turns robots n stage)
 
@@ -51,11 +51,11 @@ updated number stage =
     if is_due number then record { field = moved stage.field; traces = stage.traces } else stage
 
 -- the cycle of this number; the first is 1
-unfoldable pub cycle : List Robot → ℕ → Stage → Stage
+unfoldable pub cycle : List Behaviour → ℕ → Stage → Stage
 cycle robots number stage = updated number (turns robots (length robots) stage)
 
 -- the stage after so many cycles
-unfoldable pub stage_after : List Robot → Stage → ℕ → Stage
+unfoldable pub stage_after : List Behaviour → Stage → ℕ → Stage
 stage_after robots opening zero = opening
 stage_after robots opening (suc n) = cycle robots (suc n) (stage_after robots opening n)
 
@@ -69,7 +69,7 @@ first_above passes n zero = n
 first_above passes n (suc count) = if passes (n + 1) then n + 1 else first_above passes (n + 1) count
 
 -- the least cycle after which the battle is over, or its limit
-unfoldable pub last_cycle : List Robot → Stage → ℕ → ℕ
+unfoldable pub last_cycle : List Behaviour → Stage → ℕ → ℕ
 last_cycle robots opening limit = first_above (λ number. is_over number (stage_after robots opening number)) 0 limit
 
 -- so many robots at the start of the match of this number, with no replies yet
@@ -86,7 +86,7 @@ pub record Outcome : Type 0 where
   pub damages : List ℕ
 
 -- the battle of these robots in the match of this number, with this seed and limit of cycles
-unfoldable pub battle : List Robot → (seed number limit : ℕ) → Outcome
+unfoldable pub battle : List Behaviour → (seed number limit : ℕ) → Outcome
 battle robots seed number limit =
     let begun = opening (length robots) seed number in
     let cycles = last_cycle robots begun limit in

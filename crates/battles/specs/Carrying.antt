@@ -9,18 +9,18 @@ use Rattle.code.specs.declared.want.Want.TheVariants.{Quiet}
 use Rattle.code.specs.Generation.{ObjectCode, IsProgramOf}
 use Rattle.code.specs.Machine.{State}
 use Rattle.code.specs.Meaning.{want}
-use Rattle.code.specs.Standing.{StandsFor, FitsProgram}
-use Rattle.battles.specs.Battle.{Robot, Stage}
+use Rattle.code.specs.Standing.{IsReached, FitsProgram}
+use Rattle.battles.specs.Battle.{Behaviour, Stage}
 
 -- the robot wants what the trees of the program's file want
-pub record IsRobotOf (code : ObjectCode) (robot : Robot) : Type 0 where
+pub record IsRobotOf (code : ObjectCode) (robot : Behaviour) : Type 0 where
   pub profile : Profile
   pub file : File
   pub resolved : IsResolved file
   pub program : IsProgramOf code profile file
   pub wants : robot ≡ want profile file
 
-abbrev pub AreRobotsOf : List ObjectCode → List Robot → Type 0
+abbrev pub AreRobotsOf : List ObjectCode → List Behaviour → Type 0
 AreRobotsOf [] [] = Unit {0}
 AreRobotsOf (code ∷ codes) (robot ∷ robots) = IsRobotOf code robot × AreRobotsOf codes robots
 AreRobotsOf _ _ = ⊥
@@ -31,13 +31,13 @@ pub record Runner : Type 0 where
   pub ahead : ℕ
 
 -- the robot asks nothing in its next so many cycles
-abbrev pub IsQuiet : Robot → List ℤ → ℕ → Type 0
+abbrev pub IsQuiet : Behaviour → List ℤ → ℕ → Type 0
 IsQuiet robot trace n = (k : ℕ) → k < n → robot (trace ++ replicate k (pos 0)) ≡ Quiet
 
 -- the machine got the replies of the robot's trace, and is ahead by quiet cycles alone
 pub record IsAt (runner : Runner) (code : ObjectCode) (trace : List ℤ) : Type 0 where
-  pub stands : StandsFor runner.machine code (trace ++ replicate runner.ahead (pos 0))
-  pub quiet : (robot : Robot) → IsRobotOf code robot → IsQuiet robot trace runner.ahead
+  pub stands : IsReached runner.machine code (trace ++ replicate runner.ahead (pos 0))
+  pub quiet : (robot : Behaviour) → IsRobotOf code robot → IsQuiet robot trace runner.ahead
 
 -- each machine can go on with its program
 abbrev pub EachFits : List Runner → List ObjectCode → Type 0

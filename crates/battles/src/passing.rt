@@ -6,7 +6,7 @@ ghost use Rattle.arena.specs.Field.{Field, live_count};
 ghost use Rattle.arena.specs.Ground.{lives, most_updates};
 ghost use Rattle.arena.specs.Standing.{StandsFor as IsGroundOf};
 ghost use Rattle.code.specs.Generation.{ObjectCode};
-ghost use Rattle.battles.specs.Battle.{Robot, Stage};
+ghost use Rattle.battles.specs.Battle.{Behaviour, Stage};
 ghost use Rattle.battles.specs.Carrying.{IsRobotOf, IsAt, AreRobotsOf, EachFits, HasReached};
 ghost use Rattle.battles.specs.Windows.{AreAhead, HasRun, rounds, segments};
 
@@ -20,7 +20,7 @@ use settings::FILES_MAX;
 pub(crate) fn pass(runners: &mut [Runner], arena: &Arena, cycles: u32) -> bool
     requires manned { length arena.now.robots ≡ length runners.old }
     requires few { length runners.old ≤ FILES_MAX }
-    ensures stage { result ≡ true → (codes : List ObjectCode) (robots : List Robot) (s : Stage)
+    ensures stage { result ≡ true → (codes : List ObjectCode) (robots : List Behaviour) (s : Stage)
         → AreRobotsOf codes robots → HasReached runners.old codes arena.now s
         → HasReached runners.new codes arena.now (rounds robots cycles s) }
     ensures stays { result ≡ false → runners.new ≡ runners.old }
@@ -40,10 +40,10 @@ pub(crate) fn skip(runners: &mut [Runner], arena: &mut Arena, most: u32) -> u32
     requires manned { length arena.old.robots ≡ length runners.old }
     requires few { length runners.old ≤ FILES_MAX }
     requires updates { arena.old.updates + most ≤ most_updates }
-    ensures stage { (codes : List ObjectCode) (robots : List Robot) (s : Stage)
+    ensures stage { (codes : List ObjectCode) (robots : List Behaviour) (s : Stage)
         → AreRobotsOf codes robots → HasReached runners.old codes arena.old s
         → HasReached runners.new codes arena.new (segments robots result s) }
-    ensures alive { (codes : List ObjectCode) (robots : List Robot) (s : Stage)
+    ensures alive { (codes : List ObjectCode) (robots : List Behaviour) (s : Stage)
         → AreRobotsOf codes robots → HasReached runners.old codes arena.old s
         → (n : ℕ) → n ≤ result → live_count (segments robots n s).field ≡ live_count s.field }
     ensures fits { (codes : List ObjectCode) → EachFits runners.old codes → EachFits runners.new codes }
@@ -99,7 +99,7 @@ fn go_on(runners: &mut [Runner], arena: &Arena, cycles: u32)
     requires manned { length arena.now.robots ≡ length runners.old }
     requires few { length runners.old ≤ FILES_MAX }
     requires ahead { AreAhead (length runners.old) cycles arena.now runners.old }
-    ensures stage { (codes : List ObjectCode) (robots : List Robot) (s : Stage)
+    ensures stage { (codes : List ObjectCode) (robots : List Behaviour) (s : Stage)
         → AreRobotsOf codes robots → HasReached runners.old codes arena.now s
         → HasReached runners.new codes arena.now (rounds robots cycles s) }
     ensures fits { (codes : List ObjectCode) → EachFits runners.old codes → EachFits runners.new codes }
@@ -114,7 +114,7 @@ fn go_on(runners: &mut [Runner], arena: &Arena, cycles: u32)
 fn go_on_alone(runner: &mut Runner, arena: &Arena, robot: usize, cycles: u32)
     requires inside { robot < length arena.now.robots }
     requires ahead { lives arena.now robot ≡ true → cycles ≤ runner.old.ahead }
-    ensures alone { (code : ObjectCode) (r : Robot) (f : Field) (trace : List ℤ) → IsRobotOf code r
+    ensures alone { (code : ObjectCode) (r : Behaviour) (f : Field) (trace : List ℤ) → IsRobotOf code r
         → IsGroundOf arena.now f → IsAt runner.old code trace
         → HasRun ⊥ r robot f trace cycles code runner.new arena.now }
     ensures machine { runner.new.machine ≡ runner.old.machine }

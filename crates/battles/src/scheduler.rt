@@ -3,7 +3,7 @@
 ghost use Rattle.std.specs.Prelude.{◌≡◌, ◌<◌, ◌≤◌, ◌+◌, List, length, nat_le};
 ghost use Rattle.arena.specs.Ground.{most_updates};
 ghost use Rattle.arena.specs.Field.{live_count};
-ghost use Rattle.battles.specs.Battle.{Robot, Stage, stage_after, last_cycle};
+ghost use Rattle.battles.specs.Battle.{Behaviour, Stage, stage_after, last_cycle};
 ghost use Rattle.battles.specs.Carrying.{AreRobotsOf, EachFits, HasReached};
 ghost use Rattle.battles.specs.Pairing.{paired};
 ghost use Rattle.battles.specs.Windows.{segment};
@@ -25,10 +25,10 @@ fn segment(runners: &mut [Runner], programs: &Programs, arena: &mut Arena, farth
     requires fits { EachFits runners.old (paired programs.now) }
     requires updates { arena.old.updates < most_updates }
     requires far { UPDATE_CYCLES ≤ farthest }
-    ensures stage { (robots : List Robot) (s : Stage) → AreRobotsOf (paired programs.now) robots
+    ensures stage { (robots : List Behaviour) (s : Stage) → AreRobotsOf (paired programs.now) robots
         → HasReached runners.old (paired programs.now) arena.old s
         → HasReached runners.new (paired programs.now) arena.new (segment robots s) }
-    ensures decided { (robots : List Robot) (s : Stage) → AreRobotsOf (paired programs.now) robots
+    ensures decided { (robots : List Behaviour) (s : Stage) → AreRobotsOf (paired programs.now) robots
         → HasReached runners.old (paired programs.now) arena.old s
         → result ≡ nat_le (live_count (segment robots s).field) 1 }
     ensures fits { EachFits runners.new (paired programs.now) }
@@ -54,10 +54,10 @@ pub(crate) fn play(
     requires fits { EachFits runners.old (paired programs.now) }
     requires updates { arena.old.updates ≡ 0 }
     requires within { limit ≤ CYCLES_MAX }
-    ensures stage { (robots : List Robot) (s : Stage) → AreRobotsOf (paired programs.now) robots
+    ensures stage { (robots : List Behaviour) (s : Stage) → AreRobotsOf (paired programs.now) robots
         → HasReached runners.old (paired programs.now) arena.old s
         → HasReached runners.new (paired programs.now) arena.new (stage_after robots s result) }
-    ensures cycles { (robots : List Robot) (s : Stage) → AreRobotsOf (paired programs.now) robots
+    ensures cycles { (robots : List Behaviour) (s : Stage) → AreRobotsOf (paired programs.now) robots
         → HasReached runners.old (paired programs.now) arena.old s → result ≡ last_cycle robots s limit }
     ensures manned { length arena.new.robots ≡ length (paired programs.now) }
 {

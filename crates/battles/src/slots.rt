@@ -11,11 +11,11 @@ pub(crate) const CYCLE_SLOTS: u32 = FILES_MAX as u32;
 
 /// The slot of each robot's next turn. In slot `CYCLE_SLOTS * c + r` robot `r` has its turn of cycle `c`.
 #[derive(Drop)]
-pub(crate) struct Slots {
+pub(crate) struct NextSlots {
     next: [u32; FILES_MAX],
 }
 
-impl Model for Slots {
+impl Model for NextSlots {
     ghost use Rattle.std.specs.Prelude.{ℕ, List};
     ghost use Rattle.battles.specs.Windows.{AreSlots};
 
@@ -26,17 +26,17 @@ impl Model for Slots {
     ghost invariant = { λ s. AreSlots s.next };
 }
 
-impl Slots {
+impl NextSlots {
     /// Makes the slots of so many robots before a window of so many cycles. Robots that aren't there have no turn in
     /// it.
     #[inline(always)]
-    pub(crate) fn new(robots: usize, cycles: u32) -> Slots
+    pub(crate) fn new(robots: usize, cycles: u32) -> NextSlots
         requires { cycles ≤ 1000 }
         ensures slots { AreSlots result }
         ensures first { (i : ℕ) → i < robots → i < 4 → slice_index_or result i 0 ≡ i }
         ensures past { (i : ℕ) → robots ≤ i → i < 4 → CYCLE_SLOTS * cycles ≤ slice_index_or result i 0 }
     {
-        Slots {
+        NextSlots {
             next: [
                 first_of(0, robots, cycles),
                 first_of(1, robots, cycles),

@@ -19,7 +19,7 @@ use Rattle.code.specs.declared.want.Want.TheVariants.{Quiet}
 use Rattle.code.specs.Generation.{ObjectCode, Piece, ◌⨾◌, only, body_code, function_code, last_return}
 use Rattle.code.specs.declared.frame.Frame.{Frame}
 use Rattle.code.specs.Machine.{instr_at, address_at, names_at, parameters_at, variables_at, variables_of}
-use Rattle.code.specs.Meaning.{Vars, Outcome, Gives, Flow, Through, Returns, Again, and_then, tick, closed, returned, called, first_locals}
+use Rattle.code.specs.Meaning.{Vars, Evaluated, Gives, Flow, Through, Returns, Again, and_then, tick, closed, returned, called, first_locals}
 use Rattle.grammar.specs.Resolved.{IsCallable, InBody, InFile}
 use Rattle.code.proofs.Follows.{HasSizes, Follows, chain, follows_from, wants}
 use Rattle.code.proofs.Instructions.{run, IsDepth, opened, entered, back_with, on_const, on_frame, on_ask, on_call, on_retsub, length-words}
@@ -99,7 +99,7 @@ first_sizes f arguments =
 
 module _ (code : ObjectCode) (e l n : ℕ) {A : Type 0} where
   -- the end of a function's run
-  pub closed_law : (v : ℕ) (below : List ℤ) (f g : Frame) (fs : List Frame) (at : ℕ) (depth frames : ℕ) (go : ℤ → Vars → List ℤ → Outcome A) (k : A → Vars → List ℤ → Option Want) → f.base ≡ length below → IsDepth v below [] depth → frames ≡ length (f ∷ g ∷ fs) → StandsAt code at (Const (pos 0) ∷ Retsub ∷ []) → ((x : ℤ) (vars : Vars) (rest : List ℤ) → HasSizes e v vars → length rest ≤ n → Follows e l n (go x vars rest) (wants code (back_with f below (g ∷ fs) vars.externals x) rest) k) → (flow : Flow) (vars : Vars) (rest : List ℤ) → HasSizes e v vars → length rest ≤ n → Follows e l n (closed code.profile depth frames flow vars rest go) (flown code at below f (g ∷ fs) flow vars rest) k
+  pub closed_law : (v : ℕ) (below : List ℤ) (f g : Frame) (fs : List Frame) (at : ℕ) (depth frames : ℕ) (go : ℤ → Vars → List ℤ → Evaluated A) (k : A → Vars → List ℤ → Option Want) → f.base ≡ length below → IsDepth v below [] depth → frames ≡ length (f ∷ g ∷ fs) → StandsAt code at (Const (pos 0) ∷ Retsub ∷ []) → ((x : ℤ) (vars : Vars) (rest : List ℤ) → HasSizes e v vars → length rest ≤ n → Follows e l n (go x vars rest) (wants code (back_with f below (g ∷ fs) vars.externals x) rest) k) → (flow : Flow) (vars : Vars) (rest : List ℤ) → HasSizes e v vars → length rest ≤ n → Follows e l n (closed code.profile depth frames flow vars rest go) (flown code at below f (g ∷ fs) flow vars rest) k
   closed_law v below f g fs at depth frames go k base deep count s next (Returns x) vars rest sizes short = next x vars rest sizes short
   closed_law v below f g fs at depth frames go k base deep count s next Through vars rest sizes short =
       on_const code e l n below (f ∷ g ∷ fs) at k v vars [] depth (pos 0) rest (λ rest. tick (nat_lt 1 frames) Quiet rest (λ reply rest. go (pos 0) vars rest)) s.0 sizes deep

@@ -17,7 +17,7 @@ use Rattle.code.specs.declared.want.Want.{Want}
 use Rattle.code.specs.declared.want.Want.TheVariants.{Quiet, Restart}
 use Rattle.code.specs.Generation.{ObjectCode, expr_code, args_code, body_code, function_code, functions_code, last_return, place_of, code_of}
 use Rattle.code.specs.Machine.{State, instr_at, address_at, names_at, first_frame, start_state, want_next, reached, is_ready, want_code}
-use Rattle.code.specs.Meaning.{Vars, Outcome, Gives, Awaits, Flow, Through, Returns, Again, and_then, tick, closed, wanted, zeros, value, values, effect, effect_within, want}
+use Rattle.code.specs.Meaning.{Vars, Evaluated, Gives, Awaits, Flow, Through, Returns, Again, and_then, tick, closed, wanted, zeros, value, values, effect, effect_within, want}
 use Rattle.grammar.specs.Resolved.{IsAmong, IsResolved, InExpr, InArgs, InBody}
 use Rattle.code.proofs.Follows.{Follows, follows_longer, chain, shown, wants}
 use Rattle.code.proofs.Instructions.{run, IsDepth, on_const, on_retsub_of_main}
@@ -143,12 +143,12 @@ module _ (p : Profile) (file : File) where
       ap (λ (names : FunctionNames). make (zeros (length names.variables))) named ∙ ap make (sym (append-nil (zeros (length main.variables))))
 
   -- what an evaluation of main wants
-  read_off : (e l n : ℕ) (o : Outcome ℤ) (w : Option Want) → Follows e l n o w (λ x vars rest. Some Restart) → w ≡ Some (wanted o)
+  read_off : (e l n : ℕ) (o : Evaluated ℤ) (w : Option Want) → Follows e l n o w (λ x vars rest. Some Restart) → w ≡ Some (wanted o)
   read_off e l n (Gives x vars rest) w f = f.same
   read_off e l n (Awaits event) w f = f
 
   -- main does not end
-  main_law : (n : ℕ) (o : Outcome Flow) (w : Option Want) (at : ℕ) → StandsAt (code_of p file) at (Const (pos 0) ∷ Retsub ∷ []) → Follows (length file.externals) (length main.variables) n o w (flown (code_of p file) at [] first_frame []) → w ≡ Some (wanted (and_then o (λ flow vars rest. closed p (length main.variables) 1 flow vars rest (λ x vars rest. Awaits Restart))))
+  main_law : (n : ℕ) (o : Evaluated Flow) (w : Option Want) (at : ℕ) → StandsAt (code_of p file) at (Const (pos 0) ∷ Retsub ∷ []) → Follows (length file.externals) (length main.variables) n o w (flown (code_of p file) at [] first_frame []) → w ≡ Some (wanted (and_then o (λ flow vars rest. closed p (length main.variables) 1 flow vars rest (λ x vars rest. Awaits Restart))))
   main_law n o w at s f =
       let code = code_of p file in
       let e = length file.externals in

@@ -17,9 +17,9 @@ use Rattle.code.specs.declared.want.Want.{Want}
 use Rattle.code.specs.declared.want.Want.TheVariants.{Quiet, Ask}
 use Rattle.code.specs.Generation.{ObjectCode}
 use Rattle.code.specs.declared.frame.Frame.{Frame}
-use Rattle.code.specs.Machine.{State, instr_at, done_with, has_variable, read_variable, with_variable, next_with, word, without, address_at, parameters_at, variables_at, variables_of}
+use Rattle.code.specs.Machine.{State, instr_at, done_with, has_variable, read_variable, with_variable, next_with, nth_word, without, address_at, parameters_at, variables_at, variables_of}
 use Rattle.grammar.specs.Resolved.{IsVariable}
-use Rattle.code.specs.Meaning.{Vars, Outcome, tick, push, pass, value_of_variable, assigned}
+use Rattle.code.specs.Meaning.{Vars, Evaluated, tick, push, pass, value_of_variable, assigned}
 use Rattle.code.specs.Values.{combined, stored, asked}
 use Rattle.code.proofs.Follows.{HasSizes, Follows, follows_from, wants, ticks, ticks_not}
 use Rattle.code.proofs.Lists.{words_of, length-words_of, pushed, taken_one, top_one, taken_two, top_two, top_of_two, local_read, local_set, above, beneath}
@@ -90,14 +90,14 @@ next_run at below fs vars words temps before e =
 
 module _ (code : ObjectCode) (e l n : ℕ) (below : List ℤ) (fs : List Frame) {A : Type 0} (at : ℕ) (k : A → Vars → List ℤ → Option Want) where
   -- what comes behind a cycle
-  abbrev Next : List ℤ → (List ℤ → Outcome A) → ℕ → Vars → List ℤ → Type 0
+  abbrev Next : List ℤ → (List ℤ → Evaluated A) → ℕ → Vars → List ℤ → Type 0
   Next trace go to vars temps =
       (rest : List ℤ) → suc (length rest) ≡ length trace → Follows e l n (go rest) (wants code (run to below fs vars temps) rest) k
 
-  moved : (s t : State) (o : Outcome A) (rest : List ℤ) → s ≡ t → Follows e l n o (wants code t rest) k → Follows e l n o (wants code s rest) k
+  moved : (s t : State) (o : Evaluated A) (rest : List ℤ) → s ≡ t → Follows e l n o (wants code t rest) k → Follows e l n o (wants code s rest) k
   moved s t o rest same f = follows_from e l n o (wants code s rest) (wants code t rest) k (ap (λ (s : State). wants code s rest) same) f
 
-  pub on_const : (m : ℕ) (vars : Vars) (temps : List ℤ) (depth : ℕ) (x : ℤ) (trace : List ℤ) (go : List ℤ → Outcome A) → instr_at code at ≡ Some (Const x) → HasSizes e m vars → IsDepth m below temps depth → Next trace go (at + 1) vars (temps ++ x ∷ []) → Follows e l n (push code.profile depth trace go) (wants code (run at below fs vars temps) trace) k
+  pub on_const : (m : ℕ) (vars : Vars) (temps : List ℤ) (depth : ℕ) (x : ℤ) (trace : List ℤ) (go : List ℤ → Evaluated A) → instr_at code at ≡ Some (Const x) → HasSizes e m vars → IsDepth m below temps depth → Next trace go (at + 1) vars (temps ++ x ∷ []) → Follows e l n (push code.profile depth trace go) (wants code (run at below fs vars temps) trace) k
   on_const m vars temps depth x trace go here sizes d next =
       let s = run at below fs vars temps in
       ticks code s (Const x) here refl e l n (nat_lt depth code.profile.words) Quiet trace (λ reply rest. go rest) k
@@ -106,7 +106,7 @@ module _ (code : ObjectCode) (e l n : ℕ) (below : List ℤ) (fs : List Frame) 
       moved (done_with code reply s (Some (Const x))) (run (at + 1) below fs vars (temps ++ x ∷ [])) (go rest) rest
       (next_run at below fs vars (s.words ++ x ∷ []) (temps ++ x ∷ []) temps (pushed below vars.locals temps (x ∷ []))) (next rest shorter))
 
-  pub on_fetch : (vars : Vars) (temps : List ℤ) (depth : ℕ) (v : Var) (trace : List ℤ) (go : List ℤ → Outcome A) → instr_at code at ≡ Some (Fetch v) → HasSizes e l vars → IsVariable e l v → IsDepth l below temps depth → Next trace go (at + 1) vars (temps ++ value_of_variable vars v ∷ []) → Follows e l n (push code.profile depth trace go) (wants code (run at below fs vars temps) trace) k
+  pub on_fetch : (vars : Vars) (temps : List ℤ) (depth : ℕ) (v : Var) (trace : List ℤ) (go : List ℤ → Evaluated A) → instr_at code at ≡ Some (Fetch v) → HasSizes e l vars → IsVariable e l v → IsDepth l below temps depth → Next trace go (at + 1) vars (temps ++ value_of_variable vars v ∷ []) → Follows e l n (push code.profile depth trace go) (wants code (run at below fs vars temps) trace) k
   on_fetch vars temps depth v trace go here sizes known d next =
       let s = run at below fs vars temps in
       let x = value_of_variable vars v in
@@ -118,7 +118,7 @@ module _ (code : ObjectCode) (e l n : ℕ) (below : List ℤ) (fs : List Frame) 
       (ap (λ (y : ℤ). s.words ++ y ∷ []) (variable_read e l at below fs vars temps v sizes known) ∙ pushed below vars.locals temps (x ∷ [])))
       (next rest shorter))
 
-  pub on_chop : (vars : Vars) (temps : List ℤ) (x : ℤ) (trace : List ℤ) (go : List ℤ → Outcome A) → instr_at code at ≡ Some Chop → Next trace go (at + 1) vars temps → Follows e l n (pass trace go) (wants code (run at below fs vars (temps ++ x ∷ [])) trace) k
+  pub on_chop : (vars : Vars) (temps : List ℤ) (x : ℤ) (trace : List ℤ) (go : List ℤ → Evaluated A) → instr_at code at ≡ Some Chop → Next trace go (at + 1) vars temps → Follows e l n (pass trace go) (wants code (run at below fs vars (temps ++ x ∷ [])) trace) k
   on_chop vars temps x trace go here next =
       let s = run at below fs vars (temps ++ x ∷ []) in
       ticks code s Chop here (one_word below vars.locals temps x) e l n true Quiet trace (λ reply rest. go rest) k refl refl
@@ -126,41 +126,41 @@ module _ (code : ObjectCode) (e l n : ℕ) (below : List ℤ) (fs : List Frame) 
       moved (done_with code reply s (Some Chop)) (run (at + 1) below fs vars temps) (go rest) rest
       (next_run at below fs vars (without 1 s.words) temps (temps ++ x ∷ []) (taken_one below vars.locals temps x)) (next rest shorter))
 
-  pub on_binop : (vars : Vars) (temps : List ℤ) (o : Op) (x y : ℤ) (trace : List ℤ) (go : List ℤ → Outcome A) → instr_at code at ≡ Some (Binop o) → Next trace go (at + 1) vars (temps ++ combined o x y ∷ []) → Follows e l n (pass trace go) (wants code (run at below fs vars ((temps ++ x ∷ []) ++ y ∷ [])) trace) k
+  pub on_binop : (vars : Vars) (temps : List ℤ) (o : Op) (x y : ℤ) (trace : List ℤ) (go : List ℤ → Evaluated A) → instr_at code at ≡ Some (Binop o) → Next trace go (at + 1) vars (temps ++ combined o x y ∷ []) → Follows e l n (pass trace go) (wants code (run at below fs vars ((temps ++ x ∷ []) ++ y ∷ [])) trace) k
   on_binop vars temps o x y trace go here next =
       let s = run at below fs vars ((temps ++ x ∷ []) ++ y ∷ []) in
       let z = combined o x y in
-      let words : without 2 s.words ++ combined o (word s.words 2) (word s.words 1) ∷ [] ≡ words_of below vars.locals (temps ++ z ∷ []) =
-      ap (λ (l : List ℤ). l ++ combined o (word s.words 2) (word s.words 1) ∷ []) (taken_two below vars.locals temps x y)
-      ∙ ap (λ (a : ℤ). words_of below vars.locals temps ++ combined o a (word s.words 1) ∷ []) (top_two below vars.locals temps x y)
+      let words : without 2 s.words ++ combined o (nth_word s.words 2) (nth_word s.words 1) ∷ [] ≡ words_of below vars.locals (temps ++ z ∷ []) =
+      ap (λ (l : List ℤ). l ++ combined o (nth_word s.words 2) (nth_word s.words 1) ∷ []) (taken_two below vars.locals temps x y)
+      ∙ ap (λ (a : ℤ). words_of below vars.locals temps ++ combined o a (nth_word s.words 1) ∷ []) (top_two below vars.locals temps x y)
       ∙ ap (λ (b : ℤ). words_of below vars.locals temps ++ combined o x b ∷ []) (top_of_two below vars.locals temps x y)
       ∙ pushed below vars.locals temps (z ∷ [])
       in
       ticks code s (Binop o) here (two_words below vars.locals temps x y) e l n true Quiet trace (λ reply rest. go rest) k refl refl
       (λ reply rest shorter.
       moved (done_with code reply s (Some (Binop o))) (run (at + 1) below fs vars (temps ++ z ∷ [])) (go rest) rest
-      (next_run at below fs vars (without 2 s.words ++ combined o (word s.words 2) (word s.words 1) ∷ []) (temps ++ z ∷ []) ((temps ++ x ∷ []) ++ y ∷ []) words) (next rest shorter))
+      (next_run at below fs vars (without 2 s.words ++ combined o (nth_word s.words 2) (nth_word s.words 1) ∷ []) (temps ++ z ∷ []) ((temps ++ x ∷ []) ++ y ∷ []) words) (next rest shorter))
 
-  pub on_truth : (vars : Vars) (temps : List ℤ) (x : ℤ) (trace : List ℤ) (go : List ℤ → Outcome A) → instr_at code at ≡ Some Truth → Next trace go (at + 1) vars (temps ++ truth (holds x) ∷ []) → Follows e l n (pass trace go) (wants code (run at below fs vars (temps ++ x ∷ [])) trace) k
+  pub on_truth : (vars : Vars) (temps : List ℤ) (x : ℤ) (trace : List ℤ) (go : List ℤ → Evaluated A) → instr_at code at ≡ Some Truth → Next trace go (at + 1) vars (temps ++ truth (holds x) ∷ []) → Follows e l n (pass trace go) (wants code (run at below fs vars (temps ++ x ∷ [])) trace) k
   on_truth vars temps x trace go here next =
       let s = run at below fs vars (temps ++ x ∷ []) in
       let z = truth (holds x) in
-      let words : without 1 s.words ++ truth (holds (word s.words 1)) ∷ [] ≡ words_of below vars.locals (temps ++ z ∷ []) =
-      ap (λ (l : List ℤ). l ++ truth (holds (word s.words 1)) ∷ []) (taken_one below vars.locals temps x)
+      let words : without 1 s.words ++ truth (holds (nth_word s.words 1)) ∷ [] ≡ words_of below vars.locals (temps ++ z ∷ []) =
+      ap (λ (l : List ℤ). l ++ truth (holds (nth_word s.words 1)) ∷ []) (taken_one below vars.locals temps x)
       ∙ ap (λ (b : ℤ). words_of below vars.locals temps ++ truth (holds b) ∷ []) (top_one below vars.locals temps x)
       ∙ pushed below vars.locals temps (z ∷ [])
       in
       ticks code s Truth here (one_word below vars.locals temps x) e l n true Quiet trace (λ reply rest. go rest) k refl refl
       (λ reply rest shorter.
       moved (done_with code reply s (Some Truth)) (run (at + 1) below fs vars (temps ++ z ∷ [])) (go rest) rest
-      (next_run at below fs vars (without 1 s.words ++ truth (holds (word s.words 1)) ∷ []) (temps ++ z ∷ []) (temps ++ x ∷ []) words) (next rest shorter))
+      (next_run at below fs vars (without 1 s.words ++ truth (holds (nth_word s.words 1)) ∷ []) (temps ++ z ∷ []) (temps ++ x ∷ []) words) (next rest shorter))
 
-  pub on_store : (vars : Vars) (temps : List ℤ) (v : Var) (o : StoreOp) (x : ℤ) (trace : List ℤ) (go : List ℤ → Outcome A) → instr_at code at ≡ Some (Store v o) → HasSizes e l vars → IsVariable e l v → Next trace go (at + 1) (assigned vars v (stored o (value_of_variable vars v) x)) (temps ++ stored o (value_of_variable vars v) x ∷ []) → Follows e l n (pass trace go) (wants code (run at below fs vars (temps ++ x ∷ [])) trace) k
+  pub on_store : (vars : Vars) (temps : List ℤ) (v : Var) (o : StoreOp) (x : ℤ) (trace : List ℤ) (go : List ℤ → Evaluated A) → instr_at code at ≡ Some (Store v o) → HasSizes e l vars → IsVariable e l v → Next trace go (at + 1) (assigned vars v (stored o (value_of_variable vars v) x)) (temps ++ stored o (value_of_variable vars v) x ∷ []) → Follows e l n (pass trace go) (wants code (run at below fs vars (temps ++ x ∷ [])) trace) k
   on_store vars temps v o x trace go here sizes known next =
       let s = run at below fs vars (temps ++ x ∷ []) in
       let y = stored o (value_of_variable vars v) x in
-      let new : stored o (read_variable s v) (word s.words 1) ≡ y =
-      ap (λ (a : ℤ). stored o a (word s.words 1)) (variable_read e l at below fs vars (temps ++ x ∷ []) v sizes known)
+      let new : stored o (read_variable s v) (nth_word s.words 1) ≡ y =
+      ap (λ (a : ℤ). stored o a (nth_word s.words 1)) (variable_read e l at below fs vars (temps ++ x ∷ []) v sizes known)
       ∙ ap (λ (b : ℤ). stored o (value_of_variable vars v) b) (top_one below vars.locals temps x)
       in
       let t = run at below fs (assigned vars v y) (temps ++ x ∷ []) in
@@ -177,7 +177,7 @@ module _ (code : ObjectCode) (e l n : ℕ) (below : List ℤ) (fs : List Frame) 
       ∙ next_run at below fs (assigned vars v y) (without 1 t.words ++ y ∷ []) (temps ++ y ∷ []) (temps ++ x ∷ []) words)
       (next rest shorter))
 
-  pub on_branch : (vars : Vars) (temps : List ℤ) (to : ℕ) (x : ℤ) (trace : List ℤ) (go : List ℤ → Outcome A) → instr_at code at ≡ Some (Branch to) → Next trace go (if holds x then at + 1 else to) vars temps → Follows e l n (pass trace go) (wants code (run at below fs vars (temps ++ x ∷ [])) trace) k
+  pub on_branch : (vars : Vars) (temps : List ℤ) (to : ℕ) (x : ℤ) (trace : List ℤ) (go : List ℤ → Evaluated A) → instr_at code at ≡ Some (Branch to) → Next trace go (if holds x then at + 1 else to) vars temps → Follows e l n (pass trace go) (wants code (run at below fs vars (temps ++ x ∷ [])) trace) k
   on_branch vars temps to x trace go here next =
       let s = run at below fs vars (temps ++ x ∷ []) in
       let place = λ (y : ℤ). if holds y then at + 1 else to in
@@ -206,14 +206,14 @@ back_with f below fs externals x = record {
 }
 
 module _ (code : ObjectCode) (e l n : ℕ) (below : List ℤ) (fs : List Frame) {A : Type 0} (at : ℕ) (k : A → Vars → List ℤ → Option Want) where
-  abbrev Reaches : List ℤ → (List ℤ → Outcome A) → State → Type 0
+  abbrev Reaches : List ℤ → (List ℤ → Evaluated A) → State → Type 0
   Reaches trace go s =
       (rest : List ℤ) → suc (length rest) ≡ length trace → Follows e l n (go rest) (wants code s rest) k
 
-  moves : (s t : State) (o : Outcome A) (rest : List ℤ) → s ≡ t → Follows e l n o (wants code t rest) k → Follows e l n o (wants code s rest) k
+  moves : (s t : State) (o : Evaluated A) (rest : List ℤ) → s ≡ t → Follows e l n o (wants code t rest) k → Follows e l n o (wants code s rest) k
   moves s t o rest same f = follows_from e l n o (wants code s rest) (wants code t rest) k (ap (λ (s : State). wants code s rest) same) f
 
-  pub on_frame : (vars : Vars) (temps : List ℤ) (depth frames : ℕ) (trace : List ℤ) (go : List ℤ → Outcome A) → instr_at code at ≡ Some instr.Frame → HasSizes e l vars → IsDepth l below temps depth → frames ≡ length fs → Reaches trace go (run (at + 1) below (opened below depth ∷ fs) vars temps) → Follows e l n (tick (nat_lt frames code.profile.frames) Quiet trace (λ reply rest. go rest)) (wants code (run at below fs vars temps) trace) k
+  pub on_frame : (vars : Vars) (temps : List ℤ) (depth frames : ℕ) (trace : List ℤ) (go : List ℤ → Evaluated A) → instr_at code at ≡ Some instr.Frame → HasSizes e l vars → IsDepth l below temps depth → frames ≡ length fs → Reaches trace go (run (at + 1) below (opened below depth ∷ fs) vars temps) → Follows e l n (tick (nat_lt frames code.profile.frames) Quiet trace (λ reply rest. go rest)) (wants code (run at below fs vars temps) trace) k
   on_frame vars temps depth frames trace go here sizes d count next =
       let s = run at below fs vars temps in
       let target = run (at + 1) below (opened below depth ∷ fs) vars temps in
@@ -224,7 +224,7 @@ module _ (code : ObjectCode) (e l n : ℕ) (below : List ℤ) (fs : List Frame) 
       (ap (λ (m : ℕ). let t : State = record { at = at + 1; home = length below; words = s.words; frames = opened below m ∷ fs; externals = vars.externals } in t) (length-words e l below vars temps depth sizes d))
       (next rest shorter))
 
-  pub on_ask : (vars : Vars) (temps arguments : List ℤ) (depth : ℕ) (i : Intrinsic) (trace : List ℤ) (go : ℤ → List ℤ → Outcome A) → instr_at code at ≡ Some (Fcall (callee.Intrinsic i)) → HasSizes e l vars → IsDepth l below temps depth → ((reply : ℤ) → Reaches trace (go reply) (run (at + 1) below fs vars (temps ++ reply ∷ []))) → Follows e l n (tick (nat_le (depth + 1) code.profile.words) (Ask i (asked i arguments)) trace go) (wants code (run at below (opened below depth ∷ fs) vars (temps ++ arguments)) trace) k
+  pub on_ask : (vars : Vars) (temps arguments : List ℤ) (depth : ℕ) (i : Intrinsic) (trace : List ℤ) (go : ℤ → List ℤ → Evaluated A) → instr_at code at ≡ Some (Fcall (callee.Intrinsic i)) → HasSizes e l vars → IsDepth l below temps depth → ((reply : ℤ) → Reaches trace (go reply) (run (at + 1) below fs vars (temps ++ reply ∷ []))) → Follows e l n (tick (nat_le (depth + 1) code.profile.words) (Ask i (asked i arguments)) trace go) (wants code (run at below (opened below depth ∷ fs) vars (temps ++ arguments)) trace) k
   on_ask vars temps arguments depth i trace go here sizes d next =
       let s = run at below (opened below depth ∷ fs) vars (temps ++ arguments) in
       let is : depth ≡ length (words_of below vars.locals temps) = sym (length-words e l below vars temps depth sizes d) in
@@ -237,7 +237,7 @@ module _ (code : ObjectCode) (e l n : ℕ) (below : List ℤ) (fs : List Frame) 
       (ap (λ (words : List ℤ). words ++ reply ∷ []) (beneath below vars.locals temps arguments depth is) ∙ pushed below vars.locals temps (reply ∷ [])))
       (next reply rest shorter))
 
-  pub on_call : (vars : Vars) (temps arguments : List ℤ) (depth j : ℕ) (trace : List ℤ) (go : List ℤ → Outcome A) → instr_at code at ≡ Some (Fcall (callee.Function j)) → j < length code.names.functions → HasSizes e l vars → IsDepth l below temps depth → Reaches trace go (run (address_at code j) (words_of below vars.locals temps) (entered below depth (at + 1) ∷ fs) (record { externals = vars.externals; locals = variables_of (parameters_at code j) (variables_at code j) arguments }) []) → Follows e l n (tick (nat_le (depth + variables_at code j) code.profile.words) Quiet trace (λ reply rest. go rest)) (wants code (run at below (opened below depth ∷ fs) vars (temps ++ arguments)) trace) k
+  pub on_call : (vars : Vars) (temps arguments : List ℤ) (depth j : ℕ) (trace : List ℤ) (go : List ℤ → Evaluated A) → instr_at code at ≡ Some (Fcall (callee.Function j)) → j < length code.names.functions → HasSizes e l vars → IsDepth l below temps depth → Reaches trace go (run (address_at code j) (words_of below vars.locals temps) (entered below depth (at + 1) ∷ fs) (record { externals = vars.externals; locals = variables_of (parameters_at code j) (variables_at code j) arguments }) []) → Follows e l n (tick (nat_le (depth + variables_at code j) code.profile.words) Quiet trace (λ reply rest. go rest)) (wants code (run at below (opened below depth ∷ fs) vars (temps ++ arguments)) trace) k
   on_call vars temps arguments depth j trace go here there sizes d next =
       let s = run at below (opened below depth ∷ fs) vars (temps ++ arguments) in
       let is : depth ≡ length (words_of below vars.locals temps) = sym (length-words e l below vars temps depth sizes d) in
@@ -258,7 +258,7 @@ module _ (code : ObjectCode) (e l n : ℕ) (below : List ℤ) (fs : List Frame) 
       (ap (λ (l : List ℤ). make depth l) words ∙ ap (λ (home : ℕ). make home (base ++ (own arguments ++ []))) is)
       (next rest shorter))
 
-  pub on_retsub : (f : Frame) (vars : Vars) (temps : List ℤ) (frames : ℕ) (x : ℤ) (trace : List ℤ) (go : List ℤ → Outcome A) → instr_at code at ≡ Some Retsub → f.base ≡ length below → frames ≡ length (f ∷ fs) → Reaches trace go (back_with f below fs vars.externals x) → Follows e l n (tick (nat_lt 1 frames) Quiet trace (λ reply rest. go rest)) (wants code (run at below (f ∷ fs) vars (temps ++ x ∷ [])) trace) k
+  pub on_retsub : (f : Frame) (vars : Vars) (temps : List ℤ) (frames : ℕ) (x : ℤ) (trace : List ℤ) (go : List ℤ → Evaluated A) → instr_at code at ≡ Some Retsub → f.base ≡ length below → frames ≡ length (f ∷ fs) → Reaches trace go (back_with f below fs vars.externals x) → Follows e l n (tick (nat_lt 1 frames) Quiet trace (λ reply rest. go rest)) (wants code (run at below (f ∷ fs) vars (temps ++ x ∷ [])) trace) k
   on_retsub f vars temps frames x trace go here base count next =
       let s = run at below (f ∷ fs) vars (temps ++ x ∷ []) in
       let make = λ (words : List ℤ). let t : State = record { at = f.back; home = f.home; words = words; frames = fs; externals = vars.externals } in t in
@@ -273,7 +273,7 @@ module _ (code : ObjectCode) (e l n : ℕ) (below : List ℤ) (fs : List Frame) 
       (next rest shorter))
 
   -- main does not return
-  pub on_retsub_of_main : (f : Frame) (vars : Vars) (temps : List ℤ) (frames : ℕ) (x : ℤ) (trace : List ℤ) (go : List ℤ → Outcome A) → instr_at code at ≡ Some Retsub → f.base ≡ length below → frames ≡ length (f ∷ []) → Follows e l n (tick (nat_lt 1 frames) Quiet trace (λ reply rest. go rest)) (wants code (run at below (f ∷ []) vars (temps ++ x ∷ [])) trace) k
+  pub on_retsub_of_main : (f : Frame) (vars : Vars) (temps : List ℤ) (frames : ℕ) (x : ℤ) (trace : List ℤ) (go : List ℤ → Evaluated A) → instr_at code at ≡ Some Retsub → f.base ≡ length below → frames ≡ length (f ∷ []) → Follows e l n (tick (nat_lt 1 frames) Quiet trace (λ reply rest. go rest)) (wants code (run at below (f ∷ []) vars (temps ++ x ∷ [])) trace) k
   on_retsub_of_main f vars temps frames x trace go here base count =
       let s = run at below (f ∷ []) vars (temps ++ x ∷ []) in
       subst (λ (m : ℕ). Follows e l n (tick (nat_lt 1 m) Quiet trace (λ reply rest. go rest)) (wants code s trace) k) (sym count)

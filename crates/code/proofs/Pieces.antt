@@ -8,7 +8,7 @@ use Rattle.code.specs.declared.want.Want.TheVariants.{Restart}
 use Rattle.code.specs.Generation.{ObjectCode, Piece, ◌⨾◌, either}
 use Rattle.code.specs.declared.frame.Frame.{Frame}
 use Rattle.code.specs.Machine.{instr_at}
-use Rattle.code.specs.Meaning.{Vars, Outcome, Flow, Through, Returns}
+use Rattle.code.specs.Meaning.{Vars, Evaluated, Flow, Through, Returns}
 use Rattle.code.proofs.Follows.{HasSizes, Arrives, Follows, wants}
 use Rattle.code.proofs.Instructions.{run, IsDepth, back_with}
 
@@ -71,7 +71,7 @@ pub record Tied (e l n : ℕ) (below : List ℤ) (fs : List Frame) (vars : Vars)
 
 -- how an evaluation goes: at these variables, depth, frames, along these replies
 abbrev pub Evaluation : Type 0 → Type 0
-Evaluation A = Vars → ℕ → ℕ → List ℤ → Outcome A
+Evaluation A = Vars → ℕ → ℕ → List ℤ → Evaluated A
 
 module _ (code : ObjectCode) where
   -- the run of a function goes on behind a piece, with its values pushed

@@ -8,7 +8,7 @@ use Rattle.code.specs.declared.want.Want.TheVariants.{Quiet}
 use Rattle.code.specs.Generation.{ObjectCode, Piece, ◌⨾◌, only, no_code, past, either, loop}
 use Rattle.code.specs.declared.frame.Frame.{Frame}
 use Rattle.code.specs.Machine.{instr_at}
-use Rattle.code.specs.Meaning.{Vars, Outcome, Gives, Flow, Through, Returns, and_then, tick, pass, on_through, and_on, over}
+use Rattle.code.specs.Meaning.{Vars, Evaluated, Gives, Flow, Through, Returns, and_then, tick, pass, on_through, and_on, over}
 use Rattle.code.proofs.Follows.{HasSizes, Follows, chain, wants}
 use Rattle.code.proofs.Instructions.{run, IsDepth, on_const, on_chop, on_branch, on_retsub, on_retsub_of_main}
 use Rattle.code.proofs.Pieces.{StandsAt, stands, ends, other_of, end_of, stands_either, ends_either, Tied, Evaluation, gone_on, flown, Evaluates, Effects}
@@ -20,7 +20,7 @@ module _ (code : ObjectCode) (e l n : ℕ) where
   same_return a b below f (g ∷ fs) x vars rest = refl
 
   -- statements and what comes behind them
-  flow_chain : (o : Outcome Flow) (w : Option Want) (at1 at2 : ℕ) (below : List ℤ) (f : Frame) (fs : List Frame) (go : Vars → List ℤ → Outcome Flow) → Follows e l n o w (flown code at1 below f fs) → ((vars : Vars) (rest : List ℤ) → HasSizes e l vars → length rest ≤ n → Follows e l n (go vars rest) (wants code (run at1 below (f ∷ fs) vars []) rest) (flown code at2 below f fs)) → Follows e l n (and_on o go) w (flown code at2 below f fs)
+  flow_chain : (o : Evaluated Flow) (w : Option Want) (at1 at2 : ℕ) (below : List ℤ) (f : Frame) (fs : List Frame) (go : Vars → List ℤ → Evaluated Flow) → Follows e l n o w (flown code at1 below f fs) → ((vars : Vars) (rest : List ℤ) → HasSizes e l vars → length rest ≤ n → Follows e l n (go vars rest) (wants code (run at1 below (f ∷ fs) vars []) rest) (flown code at2 below f fs)) → Follows e l n (and_on o go) w (flown code at2 below f fs)
   flow_chain o w at1 at2 below f fs go first next =
       chain e l e l n o w (flown code at1 below f fs) (λ flow vars rest. on_through flow vars rest go) (flown code at2 below f fs) first
       (λ flow vars rest sizes short.
@@ -30,7 +30,7 @@ module _ (code : ObjectCode) (e l n : ℕ) where
       ])
 
   -- the same effect at an address that is given otherwise
-  ends_at : (from to : ℕ) (below : List ℤ) (f : Frame) (fs : List Frame) (o : Outcome Flow) (w : Option Want) → from ≡ to → Follows e l n o w (flown code from below f fs) → Follows e l n o w (flown code to below f fs)
+  ends_at : (from to : ℕ) (below : List ℤ) (f : Frame) (fs : List Frame) (o : Evaluated Flow) (w : Option Want) → from ≡ to → Follows e l n o w (flown code from below f fs) → Follows e l n o w (flown code to below f fs)
   ends_at from to below f fs o w same h = subst (λ (a : ℕ). Follows e l n o w (flown code a below f fs)) same h
 
   -- the tie along fewer replies
@@ -98,7 +98,7 @@ module _ (code : ObjectCode) (e l n : ℕ) where
       ]))
 
   -- the end of a first branch, or of a turn: a push of 0, and a branch that is taken
-  over_law : (at to : ℕ) (below : List ℤ) (fs : List Frame) (vars : Vars) (depth frames : ℕ) (rest : List ℤ) (go : List ℤ → Outcome Flow) (k : Flow → Vars → List ℤ → Option Want) → HasSizes e l vars → IsDepth l below [] depth → instr_at code at ≡ Some (Const (pos 0)) → instr_at code (at + 1) ≡ Some (Branch to) → ((r : List ℤ) → length r < length rest → Follows e l n (go r) (wants code (run to below fs vars []) r) k) → Follows e l n (over code.profile depth rest go) (wants code (run at below fs vars []) rest) k
+  over_law : (at to : ℕ) (below : List ℤ) (fs : List Frame) (vars : Vars) (depth frames : ℕ) (rest : List ℤ) (go : List ℤ → Evaluated Flow) (k : Flow → Vars → List ℤ → Option Want) → HasSizes e l vars → IsDepth l below [] depth → instr_at code at ≡ Some (Const (pos 0)) → instr_at code (at + 1) ≡ Some (Branch to) → ((r : List ℤ) → length r < length rest → Follows e l n (go r) (wants code (run to below fs vars []) r) k) → Follows e l n (over code.profile depth rest go) (wants code (run at below fs vars []) rest) k
   over_law at to below fs vars depth frames rest go k sizes deep zero_at jump next =
       on_const code e l n below fs at k l vars [] depth (pos 0) rest (λ rest. pass rest go) zero_at sizes deep
       (λ r1 h1.

@@ -30,17 +30,17 @@ assigned vars (External j) x = record { externals = slice_set vars.externals j x
 assigned vars (Local j) x = record { externals = vars.externals; locals = slice_set vars.locals j x }
 
 -- an evaluation is done, with the replies left, or wants an event
-pub data Outcome (A : Type 0) : Type 0 where
-  Gives : (value : A) (vars : Vars) (rest : List ℤ) → Outcome A
-  Awaits : (event : Want) → Outcome A
+pub data Evaluated (A : Type 0) : Type 0 where
+  Gives : (value : A) (vars : Vars) (rest : List ℤ) → Evaluated A
+  Awaits : (event : Want) → Evaluated A
 
 -- an evaluation, and what comes behind it
-abbrev pub and_then : {A B : Type 0} → Outcome A → (A → Vars → List ℤ → Outcome B) → Outcome B
+abbrev pub and_then : {A B : Type 0} → Evaluated A → (A → Vars → List ℤ → Evaluated B) → Evaluated B
 and_then (Gives x vars rest) go = go x vars rest
 and_then (Awaits event) go = Awaits event
 
 -- One cycle. What doesn't fit wants a restart; a reply that isn't there yet is wanted.
-abbrev pub tick : {A : Type 0} → Bool → Want → List ℤ → (ℤ → List ℤ → Outcome A) → Outcome A
+abbrev pub tick : {A : Type 0} → Bool → Want → List ℤ → (ℤ → List ℤ → Evaluated A) → Evaluated A
 tick false event trace go = Awaits Restart
 tick true event [] go = Awaits event
 tick true event (reply ∷ rest) go = go reply rest
@@ -52,7 +52,7 @@ pub data Flow : Type 0 where
 
 -- a body's meaning at these variables, depth and frames, along these replies
 abbrev pub Again : Type 0
-Again = Body → Vars → ℕ → ℕ → List ℤ → Outcome Flow
+Again = Body → Vars → ℕ → ℕ → List ℤ → Evaluated Flow
 
 -- the variables that a function begins with: a parameter is the argument in its place, and all else is 0
 abbrev pub first_locals : Function → List ℤ → List ℤ
@@ -61,22 +61,22 @@ first_locals f arguments =
     (range_with_len 0 (length f.variables))
 
 -- a word is pushed
-abbrev pub push : {A : Type 0} → Profile → ℕ → List ℤ → (List ℤ → Outcome A) → Outcome A
+abbrev pub push : {A : Type 0} → Profile → ℕ → List ℤ → (List ℤ → Evaluated A) → Evaluated A
 push p depth trace go = tick (nat_lt depth p.words) Quiet trace (λ reply rest. go rest)
 
 -- a cycle that always fits
-abbrev pub pass : {A : Type 0} → List ℤ → (List ℤ → Outcome A) → Outcome A
+abbrev pub pass : {A : Type 0} → List ℤ → (List ℤ → Evaluated A) → Evaluated A
 pass trace go = tick true Quiet trace (λ reply rest. go rest)
 
 -- an operator behind both of its sides
-abbrev pub full : Op → ℕ → Outcome ℤ → (Vars → ℕ → List ℤ → Outcome ℤ) → Outcome ℤ
+abbrev pub full : Op → ℕ → Evaluated ℤ → (Vars → ℕ → List ℤ → Evaluated ℤ) → Evaluated ℤ
 full o depth left right =
     and_then left (λ x vars rest.
     and_then (right vars (depth + 1) rest) (λ y vars rest.
     pass rest (λ rest. Gives (combined o x y) vars rest)))
 
 -- an operator that leaves out its right side where the left decides
-abbrev pub short : Profile → Op → ℕ → Outcome ℤ → (Vars → ℕ → List ℤ → Outcome ℤ) → Outcome ℤ
+abbrev pub short : Profile → Op → ℕ → Evaluated ℤ → (Vars → ℕ → List ℤ → Evaluated ℤ) → Evaluated ℤ
 short p op.And depth left right =
     and_then left (λ x vars rest.
     pass rest (λ rest.
@@ -93,34 +93,34 @@ short p op.Or depth left right =
     pass rest (λ rest. Gives (truth (holds y)) vars rest))))
 short p o depth left right = full o depth left right
 
-abbrev pub binary : Profile → Op → ℕ → Outcome ℤ → (Vars → ℕ → List ℤ → Outcome ℤ) → Outcome ℤ
+abbrev pub binary : Profile → Op → ℕ → Evaluated ℤ → (Vars → ℕ → List ℤ → Evaluated ℤ) → Evaluated ℤ
 binary p o depth left right = if p.short_circuit then short p o depth left right else full o depth left right
 
 -- what comes behind a statement that is passed through
-abbrev pub on_through : Flow → Vars → List ℤ → (Vars → List ℤ → Outcome Flow) → Outcome Flow
+abbrev pub on_through : Flow → Vars → List ℤ → (Vars → List ℤ → Evaluated Flow) → Evaluated Flow
 on_through Through vars rest go = go vars rest
 on_through (Returns x) vars rest go = Gives (Returns x) vars rest
 
-abbrev pub and_on : Outcome Flow → (Vars → List ℤ → Outcome Flow) → Outcome Flow
+abbrev pub and_on : Evaluated Flow → (Vars → List ℤ → Evaluated Flow) → Evaluated Flow
 and_on outcome go = and_then outcome (λ flow vars rest. on_through flow vars rest go)
 
 -- the end of a first branch, and of each turn: a push of 0, and a cycle that takes it
-abbrev pub over : Profile → ℕ → List ℤ → (List ℤ → Outcome Flow) → Outcome Flow
+abbrev pub over : Profile → ℕ → List ℤ → (List ℤ → Evaluated Flow) → Evaluated Flow
 over p depth trace go = push p depth trace (λ rest. pass rest go)
 
 -- the end of a function's run, with the value that it returned: a body that is passed through returns 0
-abbrev pub closed : {A : Type 0} → Profile → ℕ → ℕ → Flow → Vars → List ℤ → (ℤ → Vars → List ℤ → Outcome A) → Outcome A
+abbrev pub closed : {A : Type 0} → Profile → ℕ → ℕ → Flow → Vars → List ℤ → (ℤ → Vars → List ℤ → Evaluated A) → Evaluated A
 closed p depth frames (Returns x) vars rest go = go x vars rest
 closed p depth frames Through vars rest go =
     push p depth rest (λ rest. tick (nat_lt 1 frames) Quiet rest (λ reply rest. go (pos 0) vars rest))
 
 -- the value of a call, with the caller's variables again
-abbrev pub returned : Vars → ℤ → Vars → List ℤ → Outcome ℤ
+abbrev pub returned : Vars → ℤ → Vars → List ℤ → Evaluated ℤ
 returned caller x vars rest = Gives x (record { externals = vars.externals; locals = caller.locals }) rest
 
 module _ (p : Profile) (file : File) (again : Again) where
   -- a call behind its arguments
-  abbrev pub called : Callee → List ℤ → Vars → ℕ → ℕ → List ℤ → Outcome ℤ
+  abbrev pub called : Callee → List ℤ → Vars → ℕ → ℕ → List ℤ → Evaluated ℤ
   called (callee.Intrinsic i) arguments vars depth frames trace =
       tick (nat_le (depth + 1) p.words) (Ask i (asked i arguments)) trace (λ reply rest. Gives reply vars rest)
   called (callee.Function k) arguments vars depth frames trace =
@@ -133,7 +133,7 @@ module _ (p : Profile) (file : File) (again : Again) where
 
   abbrev mutual
     -- the value of an expression
-    pub value : Expr → Vars → ℕ → ℕ → List ℤ → Outcome ℤ
+    pub value : Expr → Vars → ℕ → ℕ → List ℤ → Evaluated ℤ
     value (Constant n) vars depth frames trace = push p depth trace (λ rest. Gives n vars rest)
     value (Variable v) vars depth frames trace =
         push p depth trace (λ rest. Gives (value_of_variable vars v) vars rest)
@@ -155,14 +155,14 @@ module _ (p : Profile) (file : File) (again : Again) where
         called f xs vars depth frames rest))
 
     -- the values of arguments, in order: each is pushed on those before it
-    pub values : Args → Vars → ℕ → ℕ → List ℤ → Outcome (List ℤ)
+    pub values : Args → Vars → ℕ → ℕ → List ℤ → Evaluated (List ℤ)
     values NoMore vars depth frames trace = Gives [] vars trace
     values (Argument e arguments) vars depth frames trace =
         and_then (value e vars depth frames trace) (λ x vars rest.
         and_then (values arguments vars (depth + 1) frames rest) (λ xs vars rest. Gives (x ∷ xs) vars rest))
 
   -- the effect of statements
-  abbrev pub effect : Body → Vars → ℕ → ℕ → List ℤ → Outcome Flow
+  abbrev pub effect : Body → Vars → ℕ → ℕ → List ℤ → Evaluated Flow
   effect Done vars depth frames trace = Gives Through vars trace
   effect (ExpressionStatement e next) vars depth frames trace =
       and_then (value e vars depth frames trace) (λ x vars rest.
@@ -195,7 +195,7 @@ effect_within p file (suc n) body vars depth frames trace = effect p file (effec
     frames trace
 
 -- main does not end: where it would return, it wants a restart
-abbrev pub wanted : Outcome ℤ → Want
+abbrev pub wanted : Evaluated ℤ → Want
 wanted (Awaits event) = event
 wanted (Gives x vars rest) = Restart
 

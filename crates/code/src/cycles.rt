@@ -4,7 +4,7 @@ ghost use Rattle.std.specs.Prelude.{◌≡◌, ◌-◌, ◌<◌, ◌≤◌, ◌�
 ghost use Rattle.grammar.specs.declared.names.Intrinsic.{Intrinsic};
 ghost use Rattle.code.specs.Machine.{want_next, want_code};
 ghost use Rattle.code.specs.Places.{state_at};
-ghost use Rattle.code.specs.Standing.{StandsFor, FitsProgram, HasCoasted};
+ghost use Rattle.code.specs.Standing.{IsReached, FitsProgram, HasCoasted};
 ghost use Rattle.code.specs.declared.want.Want.TheVariants.{Restart};
 
 use crate::cells::{Cells, Place};
@@ -24,7 +24,7 @@ impl Cells {
     #[tactic(auto, using(crate::proofs::Machines::wants_code))]
     pub(crate) fn next(&self, program: &Program, place: Place) -> Want
         requires { FitsProgram (state_at place self.now) program.now }
-        ensures code { (trace : List ℤ) → StandsFor (state_at place self.now) program.now trace
+        ensures code { (trace : List ℤ) → IsReached (state_at place self.now) program.now trace
             → result ≡ want_code program.now trace }
     {
         let opcode = self.opcode(program, place);
@@ -47,8 +47,8 @@ impl Cells {
     pub(crate) fn advance(&mut self, program: &Program, place: Place, reply: i32) -> Place
         requires fits { FitsProgram (state_at place self.old) program.now }
         requires goes_on { want_next program.now (state_at place self.old) ≢ Restart }
-        ensures stands { (trace : List ℤ) → StandsFor (state_at place self.old) program.now trace
-            → StandsFor (state_at result self.new) program.now (trace ++ reply ∷ []) }
+        ensures stands { (trace : List ℤ) → IsReached (state_at place self.old) program.now trace
+            → IsReached (state_at result self.new) program.now (trace ++ reply ∷ []) }
         ensures fits { FitsProgram (state_at result self.new) program.now }
     {
         let coast = self.coast(program, place, 1);
@@ -64,8 +64,8 @@ impl Cells {
         requires fits { FitsProgram (state_at place self.old) program.now }
         requires asks { (intrinsic : Intrinsic) × (arguments : List ℤ)
             × (want_next program.now (state_at place self.old) ≡ Want.Ask intrinsic arguments) }
-        ensures stands { (trace : List ℤ) → StandsFor (state_at place self.old) program.now trace
-            → StandsFor (state_at result self.new) program.now (trace ++ reply ∷ []) }
+        ensures stands { (trace : List ℤ) → IsReached (state_at place self.old) program.now trace
+            → IsReached (state_at result self.new) program.now (trace ++ reply ∷ []) }
         ensures fits { FitsProgram (state_at result self.new) program.now }
     {
         let _opcode = self.opcode(program, place);

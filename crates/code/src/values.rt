@@ -102,7 +102,7 @@ pub fn is_greater(a: i32, b: i32) -> i32
 /// Returns what `%` makes of its sides.
 #[inline(always)]
 #[tactic(auto, using(arith::proofs::OpLemmas::op_steps), unfolding(crate::specs::Values::number_op))]
-pub fn rest(a: i32, b: i32) -> i32
+pub fn remainder(a: i32, b: i32) -> i32
     ensures { result ≡ combined Op.Remainder a b }
 {
     if b == 0 { 0 } else { a.wrapping_rem(b) }

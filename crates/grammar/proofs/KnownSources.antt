@@ -1,7 +1,7 @@
 -- The known sources, worked out.
 use Rattle.std.proofs.Common.{refl, ◌∷◌}
 use Rattle.grammar.specs.Actions.{BeginFunction}
-use Rattle.grammar.specs.Faults.{most_levels, most_names}
+use Rattle.grammar.specs.Faults.{most_levels}
 use Rattle.grammar.specs.Following.{most_numbers}
 use Rattle.grammar.specs.Intrinsics.{intrinsic_named, name_of}
 use Rattle.grammar.specs.Profile.{first_profile}
@@ -9,7 +9,7 @@ use Rattle.grammar.specs.KnownSources.{calls_begun, KnownBeginnings, KnownLimits
 use Rattle.grammar.proofs.Beginnings.{follows_begins}
 
 pub trees : KnownTrees
-unfolding most_levels most_names intrinsic_named name_of first_profile
+unfolding most_levels intrinsic_named name_of first_profile
 trees = record {
   nothing = record { compiled = refl; code = refl };
   sum_of_postfix = record { compiled = refl; code = refl };
@@ -22,7 +22,7 @@ trees = record {
 }
 
 pub misfits : KnownMisfits
-unfolding most_levels most_names intrinsic_named name_of first_profile
+unfolding most_levels intrinsic_named name_of first_profile
 misfits = record {
   sum_assigned = refl;
   brackets_stepped = refl;
@@ -39,7 +39,7 @@ misfits = record {
 }
 
 pub names : KnownNameFaults
-unfolding most_levels most_names intrinsic_named name_of first_profile
+unfolding most_levels intrinsic_named name_of first_profile
 names = record {
   defined_twice = refl;
   mentioned_as_twice = refl;
@@ -57,7 +57,7 @@ names = record {
 }
 
 pub needs : KnownNeeds
-unfolding most_levels most_names intrinsic_named name_of first_profile
+unfolding most_levels intrinsic_named name_of first_profile
 needs = record {
   all = refl;
   misfit = refl;
@@ -68,7 +68,7 @@ needs = record {
 }
 
 pub limits : KnownLimits
-unfolding most_levels most_names intrinsic_named name_of first_profile
+unfolding most_levels intrinsic_named name_of first_profile
 limits = record {
   deepest = refl;
   too_deep = refl;

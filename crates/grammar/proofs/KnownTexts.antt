@@ -4,14 +4,14 @@ use Rattle.tokens.specs.Punctuators.{punctuator_of}
 use Rattle.tokens.specs.Tokens.{located_tokens, tokens}
 use Rattle.tokens.specs.Words.{word_of}
 use Rattle.grammar.specs.Compiled.{compiled}
-use Rattle.grammar.specs.Faults.{most_levels, most_names}
+use Rattle.grammar.specs.Faults.{most_levels}
 use Rattle.grammar.specs.Intrinsics.{intrinsic_named, name_of}
 use Rattle.grammar.specs.KnownTexts.{KnownTexts}
 use Rattle.grammar.specs.Need.{built, need}
 use Rattle.grammar.specs.Profile.{first_profile}
 
 pub texts : KnownTexts
-unfolding compiled need built tokens located_tokens punctuator_of word_of most_levels most_names intrinsic_named name_of first_profile
+unfolding compiled need built tokens located_tokens punctuator_of word_of most_levels intrinsic_named name_of first_profile
 texts = record {
   nothing = refl;
   sum_of_postfix = refl;

@@ -19,6 +19,7 @@ pub mod Unfinished
 pub mod UnfinishedSteps
 pub mod Beginnings
 pub mod Phases
+pub mod DistinctNames
 pub mod Soundness
 pub mod ResolvedLaws
 pub mod IndexLaws

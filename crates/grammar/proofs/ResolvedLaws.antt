@@ -1,8 +1,8 @@
 -- A file that compiles is resolved.
 use Rattle.std.proofs.Common.{◌≡◌, ℕ, zero, suc, ◌+◌, ◌<◌, List, [], ◌∷◌, ◌++◌, refl, sym, ap, ◌∙◌, subst, inl, inr, Bool, true, false, arith, length, append-nil, drop}
 use Rattle.std.proofs.lemmas.Bool.Decides.{nat_tests}
-use Rattle.std.proofs.lemmas.List.{length-set, map-append}
-use Rattle.std.specs.Prelude.{Option, Some, None, Result, Ok, Err, if◌then◌else◌, unwrap_or, slice_get, ◌==◌}
+use Rattle.std.proofs.lemmas.List.{length-map, length-set, map-append}
+use Rattle.std.specs.Prelude.{Option, Some, None, Result, Ok, Err, if◌then◌else◌, unwrap_or, map, slice_get, ◌==◌}
 use Rattle.tokens.specs.declared.located_tokens.LocatedToken.{LocatedToken}
 use Rattle.grammar.specs.declared.diagnostics.Diagnostic.{Diagnostic}
 use Rattle.grammar.specs.Compiled.{order_of, defined_as, in_front, all_defined, file_of, resolved, verdict, main_name, all_faults, last_state, enough, last_line}
@@ -11,12 +11,15 @@ use Rattle.grammar.specs.Faults.{Fault, faults_at, faults_in, item_faults, name_
 use Rattle.grammar.specs.Grammar.{Item, Exactly, AWord, AName, AConstant, AnEnd, Part, Make, Close, Symbol, SemanticAction, Operate, Negate, Not, Complement, Fetch, Store, StepBefore, StepBehind, Pass, Invoke, Empty, Evaluate, Decide, DecideElse, Repeat, Zero, GiveBack, Define, Role, Defined, External, Parameter, Typed, Local, Called, Mentioned, Production, choice, is_fault}
 use Rattle.grammar.specs.Laws.{CompiledIsResolved}
 use Rattle.grammar.specs.Profile.{Profile}
+use Rattle.grammar.specs.Pools.{FunctionNames}
 use Rattle.grammar.specs.Resolved.{InFile, IsAmong, AreDistinct, IsResolved}
 use Rattle.grammar.specs.Scope.{Scope, behind_name, end_definition, function_number, number_for}
 use Rattle.grammar.specs.Tree.{Function, File}
 use Rattle.grammar.proofs.Phases.{Phase, Outside, Before, Inside, Wrong, Stays, inside, outside_then, begun, by_role, phase_of, part_stays}
+use Rattle.grammar.proofs.DistinctNames.{distinct_front, HaveNames, names, names_append, names_kept}
+use Rattle.grammar.proofs.Places.{map_of_places}
 use Rattle.grammar.proofs.Runs.{append_empty}
-use Rattle.grammar.proofs.Soundness.{ValuesIn, values_wider, made_in, last_body_in, Known, Grows, Clean, AllIn, all_append, BeginsWell, definition_begins, role_grows, callee_in, variable_in, distinct_front, function_below}
+use Rattle.grammar.proofs.Soundness.{ValuesIn, values_wider, made_in, last_body_in, Known, Grows, Clean, AllIn, all_append, BeginsWell, definition_begins, role_grows, callee_in, variable_in, function_below}
 
 -- The names and trees, by the phase.
 
@@ -27,6 +30,7 @@ pub record Quiet (values : List Value) (scope : Scope) (ds : List Definition) : 
 pub record Busy (values : List Value) (scope : Scope) (ds : List Definition) : Type 0 where
   pub within : ValuesIn (length scope.externals) (length scope.current.variables) (length scope.functions) values
   pub begun : scope.begun ≡ order_of ds ++ scope.number ∷ []
+  pub named : slice_get (names scope.functions) scope.number ≡ Some scope.current.name
 
 abbrev pub Tied : Phase → List Value → Scope → List Definition → Type 0
 Tied Outside values scope ds = Quiet values scope ds
@@ -60,6 +64,7 @@ busy_grows : (values : List Value) (old new : Scope) (ds : List Definition) → 
 busy_grows values old new ds g b = record {
   within = values_wider _ _ _ _ _ _ g.wider values b.within;
   begun = g.begun ∙ b.begun ∙ ap (λ n. order_of ds ++ n ∷ []) (sym g.number);
+  named = rw (g.number, g.current) (g.same old.number old.current.name b.named);
 }
 
 tied_grows : (phase : Phase) (values : List Value) (old new : Scope) (ds : List Definition) → Grows old new ds → Tied phase values old ds → Tied phase values new ds
@@ -99,7 +104,7 @@ name_sound Defined name stack rest line left values scope ds k clean t =
     record {
       known = w.known;
       tied = tied_begun (phase_of stack) values scope (behind_name Defined name line scope) ds
-          (λ q. record { within = rw q.none tt; begun = w.begun ∙ ap (λ ns. ns ++ number_for name scope ∷ []) q.begun }) t;
+          (λ q. record { within = rw q.none tt; begun = w.begun ∙ ap (λ ns. ns ++ number_for name scope ∷ []) q.begun; named = w.named }) t;
     }
 name_sound External name stack rest line left values scope ds k clean t =
     let g : Grows scope (behind_name External name line scope) ds = role_grows External name line scope ds rest tt k clean in
@@ -119,7 +124,7 @@ name_sound Called name stack rest line left values scope ds k clean t =
       known = g.known;
       tied = tied_inside (phase_of stack) values _ scope _ ds
           (λ b. let c : Busy values (behind_name Called name line scope) ds = busy_grows values scope _ ds g b in
-          record { within = (record { callable = callee_in name line scope; arguments = tt }, c.within); begun = c.begun }) t;
+          record { within = (record { callable = callee_in name line scope; arguments = tt }, c.within); begun = c.begun; named = c.named }) t;
     }
 name_sound Mentioned name stack rest line left values scope ds k clean t =
     let g : Grows scope (behind_name Mentioned name line scope) ds = role_grows Mentioned name line scope ds rest tt k clean in
@@ -127,7 +132,7 @@ name_sound Mentioned name stack rest line left values scope ds k clean t =
       known = g.known;
       tied = tied_inside (phase_of stack) values _ scope _ ds
           (λ b. let c : Busy values (behind_name Mentioned name line scope) ds = busy_grows values scope _ ds g b in
-          record { within = (variable_in name scope, c.within); begun = c.begun }) t;
+          record { within = (variable_in name scope, c.within); begun = c.begun; named = c.named }) t;
     }
 
 order-append : (ds : List Definition) (d : Definition) → order_of (ds ++ d ∷ []) ≡ order_of ds ++ d.number ∷ []
@@ -141,6 +146,7 @@ among_last n (x ∷ ns) = inr (among_last n ns)
 define_known : (values : List Value) (scope : Scope) (ds : List Definition) → Known scope ds → Busy values scope ds → Known (end_definition scope) (ds ++ definition_of scope (last_body values) ∷ [])
 define_known values scope ds k b =
     let same : length (end_definition scope).functions ≡ length scope.functions = length-set scope.functions scope.number scope.current in
+    let kept : names (end_definition scope).functions ≡ names scope.functions = names_kept scope.functions scope.number scope.current b.named in
     record {
       externals = k.externals;
       functions = omega (arith, k.functions);
@@ -150,9 +156,13 @@ define_known values scope ds k b =
       definitions = subst (λ (n : ℕ). AllIn (length scope.externals) n (ds ++ definition_of scope (last_body values) ∷ [])) (sym same)
           (all_append _ _ ds _ k.definitions
           (k.below scope.number (subst (λ (ns : List ℕ). IsAmong scope.number ns) (sym b.begun) (among_last scope.number (order_of ds))))
-          (record { parameters = k.parameters; variables = k.variables; body = last_body_in _ _ _ values b.within }));
+          (record { parameters = k.parameters; variables = k.variables; distinct = k.distinct_variables; body = last_body_in _ _ _ values b.within }));
       begun = k.begun;
       below = λ j i. let low : j < length scope.functions = k.below j i in omega (arith, same);
+      distinct_externals = k.distinct_externals;
+      distinct_variables = tt;
+      distinct_functions = rw kept k.distinct_functions;
+      named = rw kept (names_append (names scope.functions) ds (definition_of scope (last_body values)) k.named b.named);
     }
 
 -- a function that ends had begun
@@ -175,7 +185,7 @@ make_sound : (rule : SemanticAction) (stack : List Item) (rest : List LocatedTok
     Known scope ds → Tied (inside (phase_of stack)) values scope ds → Sound (state stack rest (made rule values) scope (ds ++ []))
 make_sound rule stack rest values scope ds k t = subst (λ (xs : List Definition). Sound (state stack rest (made rule values) scope xs)) (sym (append-nil ds)) (record {
   known = k;
-  tied = tied_inside (phase_of stack) values (made rule values) scope scope ds (λ b. record { within = made_in _ _ _ rule values b.within; begun = b.begun }) t;
+  tied = tied_inside (phase_of stack) values (made rule values) scope scope ds (λ b. record { within = made_in _ _ _ rule values b.within; begun = b.begun; named = b.named }) t;
 })
 
 abbrev IfSound : Option State → Type 0
@@ -192,7 +202,7 @@ constant_sound : (value : Option ℕ) (stack : List Item) (rest : List LocatedTo
 constant_sound None stack rest values scope ds k t = tt
 constant_sound (Some value) stack rest values scope ds k t = record {
   known = k;
-  tied = tied_inside (phase_of stack) values _ scope scope ds (λ b. record { within = (tt, b.within); begun = b.begun }) t;
+  tied = tied_inside (phase_of stack) values _ scope scope ds (λ b. record { within = (tt, b.within); begun = b.begun; named = b.named }) t;
 }
 
 named_sound : (role : Role) (name : Option (List ℕ)) (stack : List Item) (rest : List LocatedToken) (values : List Value) (scope : Scope) (ds : List Definition) →
@@ -268,6 +278,10 @@ start_sound located_tokens = record {
     definitions = tt;
     begun = tt;
     below = λ k i. absurd i;
+    distinct_externals = tt;
+    distinct_variables = tt;
+    distinct_functions = tt;
+    named = tt;
   };
   tied = record { none = refl; begun = refl };
 }
@@ -378,6 +392,31 @@ distinct_of Before values scope ds h t = subst (λ (ns : List ℕ). AreDistinct 
 distinct_of Inside values scope ds h t = distinct_front (order_of ds) scope.number (subst (λ (ns : List ℕ). AreDistinct ns) t.begun h)
 distinct_of Wrong values scope ds h t = absurd t
 
+-- a function of this number is named as it was mentioned
+named_as : (all : List (List ℕ)) (k : ℕ) (f : Function) (ds : List Definition) → HaveNames all ds → defined_as k ds ≡ Some f → slice_get all k ≡ Some f.name
+named_as all k f [] h is = absurd (cc)
+named_as all k f (d ∷ ds) h is = at_test (λ g. named_as all k f ds h.1 g) (d.number == k) refl is
+  where
+    same_number : (x y : ℕ) → (x == y) ≡ true → x ≡ y
+    same_number x y e = grind (arith, nat_tests)
+
+    at_test : (defined_as k ds ≡ Some f → slice_get all k ≡ Some f.name) → (b : Bool) → (d.number == k) ≡ b → (if b then Some d.function else defined_as k ds) ≡ Some f
+        → slice_get all k ≡ Some f.name
+    at_test again true e g =
+        let same : d.function ≡ f = cc in
+        subst (λ (n : ℕ). slice_get all n ≡ Some f.name) (same_number d.number k e) (h.0 ∙ ap (λ (x : Function). Some x.name) same)
+    at_test again false e g = again g
+
+-- so the functions' names are those that were mentioned
+defined_names : (functions : List FunctionNames) (lines : List ℕ) (ds : List Definition) (all : List Function) → AreDefined 0 lines ds all → HaveNames (names functions) ds
+    → length all ≡ length functions → map (λ (f : Function). f.name) all ≡ names functions
+defined_names functions lines ds all a h count =
+    map_of_places (λ (f : Function). f.name) all (names functions) (count ∙ sym (length-map functions (λ (f : FunctionNames). f.name)))
+    (λ k f e. named_as (names functions) k f ds h (subst (λ (n : ℕ). defined_as n ds ≡ Some f) (from_zero k) (a.each k f e)))
+  where
+    from_zero : (k : ℕ) → 0 + k ≡ k
+    from_zero k = omega arith
+
 resolved_of : (s : State) (all : List Function) (place : ℕ) → Sound s → all_defined 0 s.scope.lines s.functions ≡ Ok all → function_number main_name s.scope ≡ Some place →
     IsResolved (made_file s.scope (order_of s.functions) all place)
 resolved_of s all place h found named =
@@ -386,6 +425,8 @@ resolved_of s all place h found named =
     record {
       externals = h.known.externals;
       functions = omega (arith, h.known.functions);
+      distinct_externals = h.known.distinct_externals;
+      distinct_functions = rw (defined_names s.scope.functions s.scope.lines s.functions all a h.known.named count) h.known.distinct_functions;
       each = λ k f e. subst (λ (n : ℕ). InFile (length s.scope.externals) n f) (sym count) (defined_in _ _ (0 + k) f s.functions h.known.definitions (a.each k f e));
       defined = λ k less. subst (λ (n : ℕ). IsAmong n (order_of s.functions)) (from_zero k) (a.all k (omega (arith, a.count)));
       only = λ k i. subst (λ (n : ℕ). k < n) (sym count) (order_below _ _ k s.functions h.known.definitions i);

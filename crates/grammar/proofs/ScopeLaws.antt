@@ -13,7 +13,7 @@ use Rattle.std.specs.Prelude.{nat_le, nat_lt, slice_index_or, ◌==◌}
 use Rattle.tokens.specs.declared.located_tokens.LocatedToken.{LocatedToken}
 use Rattle.grammar.specs.declared.diagnostics.Code.{Code}
 use Rattle.grammar.specs.declared.diagnostics.Code.TheVariants as code
-use Rattle.grammar.specs.Faults.{fault, no_room, most_names, parameter_faults}
+use Rattle.grammar.specs.Faults.{fault, no_room, parameter_faults}
 use Rattle.grammar.specs.Grammar.{Called}
 use Rattle.grammar.specs.Intrinsics.{intrinsic_named}
 use Rattle.grammar.specs.Index.{NoneBefore}
@@ -30,13 +30,11 @@ position_of_map p f xs = ap₂ (λ n m. cond (nat_lt n m) (Some n) None) (positi
 
 -- a new name that finds room
 pub room : (new : Bool) (n : ℕ) (c : Code) (rest : List LocatedToken) → nat_le 64 n ≡ false → no_room new n c rest ≡ []
-unfolding most_names
 room false n c rest small = refl
 room true n c rest small = rw small refl
 
 -- and one that finds none
 pub full : (new : Bool) (n : ℕ) (c : Code) (rest : List LocatedToken) → new ≡ true → nat_le 64 n ≡ true → no_room new n c rest ≡ fault rest c ∷ []
-unfolding most_names
 full new n c rest is large = rw (is, large) refl
 
 -- a name that isn't new

@@ -2,7 +2,7 @@
 use Rattle.std.proofs.Common.{◌≡◌, ℕ, ◌+◌, ◌<◌, ◌≤◌, ◌⊎◌, List, [], ◌∷◌, ◌++◌, refl, sym, subst, inl, inr, Bool, true, false, arith, length, cond, length-append}
 use Rattle.std.proofs.lemmas.Bool.Decides.{nat_tests}
 use Rattle.std.proofs.lemmas.List.{length-map}
-use Rattle.std.specs.Prelude.{Option, Some, None, if◌then◌else◌, map, nat_lt, nat_le, ◌==◌, ◌||◌}
+use Rattle.std.specs.Prelude.{Option, Some, None, if◌then◌else◌, map, nat_lt, nat_le, slice_get, ◌==◌, ◌||◌}
 use Rattle.std.specs.List.{position_or_len, list_any}
 use Rattle.std.specs.Str.{bytes_eq}
 use Rattle.tokens.specs.declared.located_tokens.LocatedToken.{LocatedToken}
@@ -11,7 +11,7 @@ use Rattle.grammar.specs.declared.diagnostics.Code.TheVariants as code
 use Rattle.grammar.specs.declared.names.Callee.{Callee}
 use Rattle.grammar.specs.declared.names.Intrinsic.{Intrinsic}
 use Rattle.grammar.specs.Derivation.{Value, AnExpr, AVariable, ACall, ABody, Definition, last_body, made}
-use Rattle.grammar.specs.Faults.{Fault, fault, no_room, most_names, role_faults}
+use Rattle.grammar.specs.Faults.{Fault, fault, no_room, role_faults}
 use Rattle.grammar.specs.Grammar.{SemanticAction, Operate, Negate, Not, Complement, Fetch, Store, StepBefore, StepBehind, Pass, Invoke, Empty, Evaluate, Decide, DecideElse, Repeat, Zero, GiveBack, Define, Role, Defined, External, Parameter, Typed, Local, Called, Mentioned}
 use Rattle.grammar.specs.Intrinsics.{intrinsic_named, is_intrinsic}
 use Rattle.grammar.specs.Pools.{FunctionNames}
@@ -19,6 +19,8 @@ use Rattle.grammar.specs.Resolved.{IsVariable, IsCallable, InExpr, InArgs, InBod
 use Rattle.grammar.specs.Scope.{Scope, number_of_name, function_number, variable_of, callee_or, callee_of, is_variable_new, is_local_new, is_external_new, is_function_new, number_for, has_begun, with_variable, with_parameter, with_external, with_function, behind_name, begun_with, begin_definition, only_named}
 use Rattle.grammar.specs.Tree as tree
 use Rattle.grammar.specs.Tree.{Expr, Args, Body, add_argument, join}
+use Rattle.grammar.proofs.DistinctNames.{among_append, distinct_append, less_of, local_free, external_free, variable_free, function_free, names, names_more, named_there, HaveNames, names_wider}
+use Rattle.grammar.proofs.Places.{get_append}
 use Rattle.grammar.proofs.Widening.{IsWider, expr_wider, args_wider, body_wider, variable_wider, callable_wider, function_wider}
 
 -- Trees among so many names.
@@ -100,35 +102,6 @@ pub all_append : (e n : ℕ) (ds : List Definition) (d : Definition) → AllIn e
 all_append e n [] d h k i = (k, i, tt)
 all_append e n (x ∷ ds) d h k i = (h.0, h.1, all_append e n ds d h.2 k i)
 
--- Numbers that are there once.
-
-among_append : (k n : ℕ) (ns : List ℕ) → IsAmong k (ns ++ n ∷ []) → IsAmong k ns ⊎ (k ≡ n)
-among_append k n [] (inl e) = inr e
-among_append k n [] (inr h) = absurd h
-among_append k n (x ∷ ns) (inl e) = inl (inl e)
-among_append k n (x ∷ ns) (inr h) = further (among_append k n ns h)
-  where
-    further : IsAmong k ns ⊎ (k ≡ n) → IsAmong k (x ∷ ns) ⊎ (k ≡ n)
-    further (inl i) = inl (inr i)
-    further (inr e) = inr e
-
-distinct_append : (ns : List ℕ) (n : ℕ) → AreDistinct ns → (IsAmong n ns → ⊥) → AreDistinct (ns ++ n ∷ [])
-distinct_append [] n h new = (λ no. no, tt)
-distinct_append (x ∷ ns) n h new = (λ i. apart (among_append x n ns i), distinct_append ns n h.1 (λ i. new (inr i)))
-  where
-    apart : IsAmong x ns ⊎ (x ≡ n) → ⊥
-    apart (inl i) = h.0 i
-    apart (inr e) = new (inl (sym e))
-
-pub distinct_front : (ns : List ℕ) (n : ℕ) → AreDistinct (ns ++ n ∷ []) → AreDistinct ns
-distinct_front [] n h = tt
-distinct_front (x ∷ ns) n h = (λ i. h.0 (among_front x n ns i), distinct_front ns n h.1)
-  where
-    among_front : (k m : ℕ) (xs : List ℕ) → IsAmong k xs → IsAmong k (xs ++ m ∷ [])
-    among_front k m [] i = absurd i
-    among_front k m (y ∷ xs) (inl e) = inl e
-    among_front k m (y ∷ xs) (inr i) = inr (among_front k m xs i)
-
 not_among : (k : ℕ) (ns : List ℕ) → list_any (λ x. x == k) ns ≡ false → IsAmong k ns → ⊥
 not_among k [] e h = h
 not_among k (n ∷ ns) e h = at_test (λ g i. not_among k ns g i) (n == k) refl e h
@@ -143,9 +116,6 @@ not_among k (n ∷ ns) e h = at_test (λ g i. not_among k ns g i) (n == k) refl 
 
 -- Places of names.
 
-less_of : (n m : ℕ) → nat_lt n m ≡ true → n < m
-less_of n m h = grind (arith, nat_tests)
-
 chosen_below : (n m k : ℕ) (b : Bool) → nat_lt n m ≡ b → cond b (Some n) None ≡ Some k → k < m
 chosen_below n m k true less e = let same : n ≡ k = cc in subst (λ (x : ℕ). x < m) same (less_of n m less)
 chosen_below n m k false less e = absurd (cc)
@@ -158,7 +128,6 @@ function_below name scope k e = omega (arith, place_below name (map (λ (f : Fun
 
 -- if there is room for a name that is new
 pub room : (count : ℕ) (c : Code) (rest : List LocatedToken) → no_room true count c rest ≡ [] → count < 64
-unfolding most_names
 room count c rest e = below (nat_le 64 count) refl e
   where
     below : (b : Bool) → nat_le 64 count ≡ b → (if b then fault rest c ∷ [] else []) ≡ [] → count < 64
@@ -176,6 +145,10 @@ pub record Known (scope : Scope) (ds : List Definition) : Type 0 where
   pub definitions : AllIn (length scope.externals) (length scope.functions) ds
   pub begun : AreDistinct scope.begun
   pub below : (k : ℕ) → IsAmong k scope.begun → k < length scope.functions
+  pub distinct_externals : AreDistinct scope.externals
+  pub distinct_variables : AreDistinct scope.current.variables
+  pub distinct_functions : AreDistinct (names scope.functions)
+  pub named : HaveNames (names scope.functions) ds
 
 -- more names are known, of the same function
 pub record Grows (old new : Scope) (ds : List Definition) : Type 0 where
@@ -183,12 +156,14 @@ pub record Grows (old new : Scope) (ds : List Definition) : Type 0 where
   pub wider : IsWider (length old.externals) (length old.current.variables) (length old.functions) (length new.externals) (length new.current.variables) (length new.functions)
   pub begun : new.begun ≡ old.begun
   pub number : new.number ≡ old.number
+  pub current : new.current.name ≡ old.current.name
+  pub same : (n : ℕ) (name : List ℕ) → slice_get (names old.functions) n ≡ Some name → slice_get (names new.functions) n ≡ Some name
 
 same_grows : (scope : Scope) (ds : List Definition) → Known scope ds → Grows scope scope ds
-same_grows scope ds k = record { known = k; wider = record { externals = omega arith; locals = omega arith; functions = omega arith }; begun = refl; number = refl }
+same_grows scope ds k = record { known = k; wider = record { externals = omega arith; locals = omega arith; functions = omega arith }; begun = refl; number = refl; current = refl; same = λ n name e. e }
 
-external_grows : (name : List ℕ) (scope : Scope) (ds : List Definition) → Known scope ds → length scope.externals < 64 → Grows scope (with_external name scope) ds
-external_grows name scope ds k less =
+external_grows : (name : List ℕ) (scope : Scope) (ds : List Definition) → Known scope ds → length scope.externals < 64 → is_external_new name scope ≡ true → Grows scope (with_external name scope) ds
+external_grows name scope ds k less new =
     let longer : length (scope.externals ++ name ∷ []) ≡ length scope.externals + 1 = length-append scope.externals (name ∷ []) in
     record {
       known = record {
@@ -200,17 +175,23 @@ external_grows name scope ds k less =
         definitions = all_wider _ _ _ _ (omega arith) (omega arith) ds k.definitions;
         begun = k.begun;
         below = k.below;
+        distinct_externals = distinct_append scope.externals name k.distinct_externals (external_free name scope new);
+        distinct_variables = k.distinct_variables;
+        distinct_functions = k.distinct_functions;
+        named = k.named;
       };
       wider = record { externals = omega arith; locals = omega arith; functions = omega arith };
       begun = refl;
       number = refl;
+      current = refl;
+      same = λ n name e. e;
     }
 
 -- one variable more, of which so many are parameters
 local_grows : (name : List ℕ) (parameters : ℕ) (scope : Scope) (ds : List Definition) → Known scope ds →
-    length scope.current.variables < 64 → parameters ≤ length scope.current.variables + 1 →
+    length scope.current.variables < 64 → parameters ≤ length scope.current.variables + 1 → (IsAmong name scope.current.variables → ⊥) →
     Grows scope (record scope { current = record scope.current { parameters = parameters; variables = scope.current.variables ++ name ∷ [] } }) ds
-local_grows name parameters scope ds k less few =
+local_grows name parameters scope ds k less few free =
     let longer : length (scope.current.variables ++ name ∷ []) ≡ length scope.current.variables + 1 = length-append scope.current.variables (name ∷ []) in
     record {
       known = record {
@@ -222,16 +203,24 @@ local_grows name parameters scope ds k less few =
         definitions = k.definitions;
         begun = k.begun;
         below = k.below;
+        distinct_externals = k.distinct_externals;
+        distinct_variables = distinct_append scope.current.variables name k.distinct_variables free;
+        distinct_functions = k.distinct_functions;
+        named = k.named;
       };
       wider = record { externals = omega arith; locals = omega arith; functions = omega arith };
       begun = refl;
       number = refl;
+      current = refl;
+      same = λ n name e. e;
     }
 
-variable_grows : (name : List ℕ) (scope : Scope) (ds : List Definition) → Known scope ds → length scope.current.variables < 64 → Grows scope (with_variable name scope) ds
+variable_grows : (name : List ℕ) (scope : Scope) (ds : List Definition) → Known scope ds → length scope.current.variables < 64
+    → (IsAmong name scope.current.variables → ⊥) → Grows scope (with_variable name scope) ds
 variable_grows name scope ds k less = local_grows name scope.current.parameters scope ds k less (omega (arith, k.parameters))
 
-parameter_grows : (name : List ℕ) (scope : Scope) (ds : List Definition) → Known scope ds → length scope.current.variables < 64 → Grows scope (with_parameter name scope) ds
+parameter_grows : (name : List ℕ) (scope : Scope) (ds : List Definition) → Known scope ds → length scope.current.variables < 64
+    → (IsAmong name scope.current.variables → ⊥) → Grows scope (with_parameter name scope) ds
 parameter_grows name scope ds k less = local_grows name (scope.current.parameters + 1) scope ds k less (omega (arith, k.parameters))
 
 function_grows : (name : List ℕ) (line : ℕ) (scope : Scope) (ds : List Definition) → Known scope ds → (is_function_new name scope ≡ true → length scope.functions < 64) →
@@ -257,10 +246,16 @@ function_grows name line scope ds k less = at_test (is_function_new name scope) 
             definitions = all_wider _ _ _ _ (omega arith) (omega arith) ds k.definitions;
             begun = k.begun;
             below = λ j i. let low : j < length scope.functions = k.below j i in omega arith;
+            distinct_externals = k.distinct_externals;
+            distinct_variables = k.distinct_variables;
+            distinct_functions = rw (names_more scope.functions name) (distinct_append (names scope.functions) name k.distinct_functions (function_free name scope is));
+            named = rw (names_more scope.functions name) (names_wider (names scope.functions) (name ∷ []) ds k.named);
           };
           wider = record { externals = omega arith; locals = omega arith; functions = omega arith };
           begun = refl;
           number = refl;
+          current = refl;
+          same = λ n other e. rw (names_more scope.functions name) (get_append (names scope.functions) (name ∷ []) n other e);
         }
 
 -- Names by role.
@@ -314,10 +309,10 @@ pub role_grows : (role : Role) (name : List ℕ) (line : ℕ) (scope : Scope) (d
     Clean (role_faults role name scope rest) → Grows scope (behind_name role name line scope) ds
 role_grows Defined name line scope ds rest other k clean = absurd other
 role_grows External name line scope ds rest other k clean =
-    grows_if (is_external_new name scope) scope (with_external name scope) scope ds (λ is. external_grows name scope ds k (room_if (is_external_new name scope) (length scope.externals) code.TooManyVariables rest clean is)) (same_grows scope ds k)
+    grows_if (is_external_new name scope) scope (with_external name scope) scope ds (λ is. external_grows name scope ds k (room_if (is_external_new name scope) (length scope.externals) code.TooManyVariables rest clean is) is) (same_grows scope ds k)
 role_grows Parameter name line scope ds rest other k clean =
     grows_if (is_local_new name scope) scope (with_parameter name scope) scope ds
-    (λ is. parameter_grows name scope ds k (room (length scope.current.variables) code.TooManyVariables rest (fits (is_local_new name scope) is clean))) (same_grows scope ds k)
+    (λ is. parameter_grows name scope ds k (room (length scope.current.variables) code.TooManyVariables rest (fits (is_local_new name scope) is clean)) (local_free name scope is)) (same_grows scope ds k)
   where
     fits : (b : Bool) → b ≡ true → (if b then no_room true (length scope.current.variables) code.TooManyVariables rest else fault rest code.BadParameterDeclaration ∷ []) ≡ [] →
         no_room true (length scope.current.variables) code.TooManyVariables rest ≡ []
@@ -325,16 +320,29 @@ role_grows Parameter name line scope ds rest other k clean =
     fits false is h = absurd (cc)
 role_grows Typed name line scope ds rest other k clean = same_grows scope ds k
 role_grows Local name line scope ds rest other k clean =
-    grows_if (is_local_new name scope) scope (with_variable name scope) scope ds (λ is. variable_grows name scope ds k (room_if (is_local_new name scope) (length scope.current.variables) code.TooManyVariables rest clean is)) (same_grows scope ds k)
+    grows_if (is_local_new name scope) scope (with_variable name scope) scope ds (λ is. variable_grows name scope ds k (room_if (is_local_new name scope) (length scope.current.variables) code.TooManyVariables rest clean is) (local_free name scope is)) (same_grows scope ds k)
 role_grows Called name line scope ds rest other k clean =
     function_grows name line scope ds k (room_if (is_function_new name scope) (length scope.functions) code.TooManyFunctions rest clean)
 role_grows Mentioned name line scope ds rest other k clean =
-    grows_if (is_variable_new name scope) scope (with_variable name scope) scope ds (λ is. variable_grows name scope ds k (room_if (is_variable_new name scope) (length scope.current.variables) code.TooManyVariables rest clean is)) (same_grows scope ds k)
+    grows_if (is_variable_new name scope) scope (with_variable name scope) scope ds (λ is. variable_grows name scope ds k (room_if (is_variable_new name scope) (length scope.current.variables) code.TooManyVariables rest clean is) (variable_free name scope is)) (same_grows scope ds k)
 
 -- what a definition that begins makes known
 pub record BeginsWell (name : List ℕ) (line : ℕ) (scope : Scope) (ds : List Definition) : Type 0 where
   pub known : Known (begin_definition name line scope) ds
   pub begun : (begin_definition name line scope).begun ≡ scope.begun ++ number_for name scope ∷ []
+  pub named : slice_get (names (begin_definition name line scope).functions) (number_for name scope) ≡ Some name
+
+-- the name for a number stands at it after its mention
+named_at : (name : List ℕ) (line : ℕ) (scope : Scope) → is_intrinsic name ≡ false → slice_get (names (with_function name line scope).functions) (number_for name scope) ≡ Some name
+named_at name line scope own = at_place (function_number name scope) refl
+  where
+    last_there : (all : List (List ℕ)) → slice_get (all ++ name ∷ []) (length all) ≡ Some name
+    last_there [] = refl
+    last_there (x ∷ all) = last_there all
+
+    at_place : (p : Option ℕ) → function_number name scope ≡ p → slice_get (names (with_function name line scope).functions) (number_for name scope) ≡ Some name
+    at_place (Some k) e = rw (own, e) (named_there name (names scope.functions) k e)
+    at_place None e = rw (own, e, names_more scope.functions name, sym (length-map scope.functions (λ (f : FunctionNames). f.name))) (last_there (names scope.functions))
 
 pub definition_begins : (name : List ℕ) (line : ℕ) (scope : Scope) (ds : List Definition) (rest : List LocatedToken) → Known scope ds → Clean (role_faults Defined name scope rest) → BeginsWell name line scope ds
 definition_begins name line scope ds rest k clean = at_tests (is_intrinsic name) (has_begun name scope) refl refl clean
@@ -362,6 +370,11 @@ definition_begins name line scope ds rest k clean = at_tests (is_intrinsic name)
             definitions = g.known.definitions;
             begun = subst (λ (ns : List ℕ). AreDistinct ns) (sym at) (distinct_append scope.begun (number_for name scope) k.begun (not_among (number_for name scope) scope.begun was));
             below = λ j i. all_below j (among_append j (number_for name scope) scope.begun (subst (λ (ns : List ℕ). IsAmong j ns) at i)) g within;
+            distinct_externals = g.known.distinct_externals;
+            distinct_variables = tt;
+            distinct_functions = g.known.distinct_functions;
+            named = g.known.named;
           };
           begun = at;
+          named = named_at name line scope is;
         }

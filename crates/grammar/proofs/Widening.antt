@@ -47,5 +47,6 @@ pub function_wider : (e n e' n' : ℕ) → e ≤ e' → n ≤ n' → (f : Functi
 function_wider e n e' n' p q f h = record {
   parameters = h.parameters;
   variables = h.variables;
+  distinct = h.distinct;
   body = body_wider e (length f.variables) n e' (length f.variables) n' (record { externals = p; locals = omega arith; functions = q }) f.body h.body;
 }

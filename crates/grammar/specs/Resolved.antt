@@ -1,5 +1,6 @@
--- What a file is whose names are resolved: each number is one of a variable or function that there is.
-use Rattle.std.specs.Prelude.{ℕ, ◌≡◌, ◌<◌, ◌≤◌, ◌⊎◌, List, [], ◌∷◌, length, Some, slice_get}
+-- What a file is whose names are resolved: each number is one of a variable or function that there is, and each name
+-- names one thing.
+use Rattle.std.specs.Prelude.{ℕ, ◌≡◌, ◌<◌, ◌≤◌, ◌⊎◌, List, [], ◌∷◌, length, map, Some, slice_get}
 use Rattle.grammar.specs.declared.names.Callee.{Callee}
 use Rattle.grammar.specs.declared.names.Callee.TheVariants as callee
 use Rattle.grammar.specs.declared.names.Var.{Var}
@@ -40,25 +41,28 @@ InBody e l n (IfElseStatement c s t rest) = InExpr e l n c × InBody e l n s × 
 InBody e l n (While c s rest) = InExpr e l n c × InBody e l n s × InBody e l n rest
 InBody e l n (Return a rest) = InExpr e l n a × InBody e l n rest
 
+abbrev pub IsAmong : {A : Type 0} → A → List A → Type 0
+IsAmong x [] = ⊥
+IsAmong x (y ∷ others) = (x ≡ y) ⊎ IsAmong x others
+
+-- nothing is there twice
+abbrev pub AreDistinct : {A : Type 0} → List A → Type 0
+AreDistinct [] = Unit {0}
+AreDistinct (x ∷ others) = (IsAmong x others → ⊥) × AreDistinct others
+
 -- a function among so many externals and functions
 pub record InFile (externals functions : ℕ) (f : Function) : Type 0 where
   pub parameters : f.parameters ≤ length f.variables
   pub variables : length f.variables ≤ most_names
+  pub distinct : AreDistinct f.variables
   pub body : InBody externals (length f.variables) functions f.body
 
-abbrev pub IsAmong : ℕ → List ℕ → Type 0
-IsAmong k [] = ⊥
-IsAmong k (n ∷ numbers) = (k ≡ n) ⊎ IsAmong k numbers
-
--- no number is there twice
-abbrev pub AreDistinct : List ℕ → Type 0
-AreDistinct [] = Unit {0}
-AreDistinct (n ∷ numbers) = (IsAmong n numbers → ⊥) × AreDistinct numbers
-
--- the names are within the pools, and each function is defined once
+-- the names are within the pools, no name names two things of a kind, and each function is defined once
 pub record IsResolved (file : File) : Type 0 where
   pub externals : length file.externals ≤ most_names
   pub functions : length file.functions ≤ most_names
+  pub distinct_externals : AreDistinct file.externals
+  pub distinct_functions : AreDistinct (map (λ (f : Function). f.name) file.functions)
   pub each : (k : ℕ) (f : Function) → slice_get file.functions k ≡ Some f
       → InFile (length file.externals) (length file.functions) f
   pub defined : (k : ℕ) → k < length file.functions → IsAmong k file.order

@@ -15,7 +15,7 @@ use Rattle.parsing.specs.Position.{GoesOn, Place, scope_at, next_at}
 use Rattle.parsing.specs.Growing.{HasGrown}
 use Rattle.parsing.specs.Stopping.{Stop, StopsInside, stop_with}
 use Rattle.grammar.specs.Profile.{Profile}
-use Rattle.parsing.specs.Segment.{Derives, FailsAt, Refused, Takes}
+use Rattle.parsing.specs.Segment.{Derives, FailsAt, Refused, TakesTokens}
 use Rattle.parsing.proofs.Segments.{refused_map, told_goes, Begins, functions_back, near_told, stops_back, stops_here, told_begins}
 use Rattle.lang.specs.Progress.{IsTold, ReadsOn, StopsReading, StopsTelling}
 use Rattle.tokens.specs.Reading.{IsNearTo}
@@ -44,8 +44,8 @@ advances_then before mid after front between pending at now there a b = record {
   consumed = a.consumed ++ b.consumed;
   more = a.more ++ b.more;
   told = λ located_tokens is.
-      let t : Takes a.consumed located_tokens now = a.told located_tokens is in
-      let u : Takes b.consumed t.rest there = b.told t.rest t.shows in
+      let t : TakesTokens a.consumed located_tokens now = a.told located_tokens is in
+      let u : TakesTokens b.consumed t.rest there = b.told t.rest t.shows in
       record { rest = u.rest; is = t.is ∙ ap (λ (ls : List LocatedToken). a.consumed ++ ls) u.is ∙ sym (append_assoc a.consumed b.consumed u.rest); shows = u.shows };
   follows = λ rest g. subst (λ (ls : List LocatedToken). GoesOn at ls) (sym (append_assoc a.consumed b.consumed rest)) (a.follows _ (b.follows rest g));
   added = λ profile acts h.
@@ -84,7 +84,7 @@ told_grown before after profile functions grown h = record { more = grown.more; 
 pub stops_then : (before mid after : Meaning) (front between : List Item) (at now : Place) (d : Stop) →
     ReadsOn before mid front between at now → StopsReading mid after between now d → StopsReading before after front at d
 stops_then before mid after front between at now d a stops located_tokens is profile functions h =
-    let t : Takes a.consumed located_tokens now = a.told located_tokens is in
+    let t : TakesTokens a.consumed located_tokens now = a.told located_tokens is in
     let told : mid profile (definitions_actions (functions ++ a.more)) = subst (λ (xs : List Action). mid profile xs) (sym (definitions_actions-append functions a.more)) (a.added profile _ h) in
     rw t.is (telling_back after profile _ _ d a.consumed refl (a.passes t.rest (told_goes now t.rest t.shows) profile functions h) (stops t.rest t.shows profile (functions ++ a.more) told))
 

@@ -28,7 +28,7 @@ use Rattle.parsing.specs.Growing.{HasGrown}
 use Rattle.parsing.specs.Position.{GoesOn, Place, Standing, next_at, scope_at, scope_of, tokens_at, with_scope}
 use Rattle.parsing.specs.Stopping.{Stop, Stops, stop_with}
 use Rattle.grammar.specs.Compiled.{diagnostic}
-use Rattle.parsing.specs.Segment.{Derives, DerivesItem, FailsAt, FailsItem, Refused, Takes}
+use Rattle.parsing.specs.Segment.{Derives, DerivesItem, FailsAt, FailsItem, Refused, TakesTokens}
 use Rattle.parsing.specs.Declarations.{heading_items}
 use Rattle.parsing.proofs.Growing.{grown_behind}
 use Rattle.parsing.proofs.Segments.{Begins, fails_then, goes_begins, halts, joined, refused_map, stay, told_begins, told_goes, near_told, stops_here}
@@ -146,8 +146,8 @@ function_advances first second third fourth at now brace ended there number para
       consumed = d.consumed ++ (e 1).consumed;
       more = f ∷ [];
       told = λ located_tokens is.
-          let t : Takes d.consumed located_tokens brace = d.told located_tokens is in
-          let u : Takes (e 1).consumed t.rest there = (e 1).told t.rest (tokens_ended brace ended s ∙ t.shows) in
+          let t : TakesTokens d.consumed located_tokens brace = d.told located_tokens is in
+          let u : TakesTokens (e 1).consumed t.rest there = (e 1).told t.rest (tokens_ended brace ended s ∙ t.shows) in
           record { rest = u.rest; is = t.is ∙ ap (λ (ls : List LocatedToken). d.consumed ++ ls) u.is ∙ sym (append_assoc d.consumed (e 1).consumed u.rest); shows = u.shows };
       follows = λ rest g. subst (λ (ls : List LocatedToken). GoesOn at ls) (sym (append_assoc d.consumed (e 1).consumed rest)) (d.follows _ (goes_ended brace ended _ s ((e 1).follows rest g)));
       added = λ profile acts k. subst (λ (xs : List Action). fourth profile (acts ++ xs)) (sym (function_told number parameters variables (scope_at brace) b.tree same))
@@ -200,7 +200,7 @@ too_much_stops : (first second third after : Meaning) (at now brace : Place) (nu
     AppendsAll first second (BeginFunction number parameters ∷ []) → is_fault (next_at brace).token ≡ false → is_punctuator punctuator.CloseCurly (next_at brace).token ≡ true → IsTooMuch third (next_at brace).line d → StopsReading first after at_definition at (stop_with (refusal.Source d) used)
 too_much_stops first second third after at now brace number parameters d used near h b told sound closed much located_tokens is profile functions k =
     let s : Derives 0 definition_items at_brace [] (ABody b.tree ∷ []) at brace = braced second third at now brace h b in
-    let t : Takes s.consumed located_tokens brace = s.told located_tokens is in
+    let t : TakesTokens s.consumed located_tokens brace = s.told located_tokens is in
     let x : Begins brace.position.reading t.rest = told_begins brace t.rest t.shows in
     let long : is_too_long profile (functions ++ definition_of (scope_at brace) b.tree ∷ []) ≡ true = past_limit profile _ _ (code_with profile functions (scope_at brace) b.tree parameters number) (much.over profile _ (b.added profile _ (told profile _ k))) in
     let fails : Fails profile (state (at_brace ++ at_source) t.rest (ABody b.tree ∷ []) (scope_at brace) functions) (diagnostic (next_at brace).line code.TooMuchCode) =
@@ -228,7 +228,7 @@ brace_stops : (first second third fourth : Meaning) (at now brace ended : Place)
     FailsItem (Exactly punctuator.CloseCurly) ended d → StopsReading first fourth at_definition at d
 brace_stops first second third fourth at now brace ended number parameters variables d h b same s told c sound fails located_tokens is profile functions k =
     let x : Derives 0 definition_items at_brace [] (ABody b.tree ∷ []) at brace = braced second third at now brace h b in
-    let t : Takes x.consumed located_tokens brace = x.told located_tokens is in
+    let t : TakesTokens x.consumed located_tokens brace = x.told located_tokens is in
     let y : Begins brace.position.reading t.rest = told_begins brace t.rest t.shows in
     let f : Definition = definition_of (scope_at brace) b.tree in
     let short : is_too_long profile (functions ++ f ∷ []) ≡ false = short_enough profile second third fourth functions (scope_at brace) b.tree number parameters variables b.added c (told profile _ k) in

@@ -4,7 +4,7 @@ use Rattle.std.specs.Option.{option_map}
 use Rattle.std.specs.Prelude.{Option, Some, None, Ok, Err, Result, is_some}
 use Rattle.tokens.specs.Reading.{undecided_reach_of, reach_of, IsNearTo}
 use Rattle.tokens.specs.Tokens.{is_last, tokens}
-use Rattle.tokens.specs.Window.{Takes as TakesBytes}
+use Rattle.tokens.specs.Window.{TakesBytes}
 use Rattle.tokens.proofs.ReadingLemmas.{open-to_last, open-within}
 use Rattle.tokens.specs.declared.located_tokens.LocatedToken.{LocatedToken}
 use Rattle.tokens.specs.declared.located_tokens.Token.{Token}
@@ -35,7 +35,7 @@ use Rattle.grammar.specs.Finished.{IsFinished, PassesAll}
 use Rattle.grammar.proofs.FileLaws.{finished, undefined, without_main}
 use Rattle.parsing.specs.Position.{GoesOn, Place, next_at, scope_at, tokens_at}
 use Rattle.parsing.specs.Stopping.{NoneBefore, Stop, Stops, stop_with}
-use Rattle.parsing.specs.Segment.{Refused, StopsFirst, StopsAtFirst, Takes}
+use Rattle.parsing.specs.Segment.{Refused, StopsFirst, StopsAtFirst, TakesTokens}
 use Rattle.parsing.proofs.Segments.{functions_here, near_told, none_back, none_before, stops_here, told_goes}
 use Rattle.lang.specs.Files.{BuildsAhead, FailsBytes, HasBuilt, LeavesUndecided, IsFile, IsNew, IsRefused, StopsTaking, TakesNoMore, TakesUpTo}
 use Rattle.lang.specs.Progress.{ADefinition, AMain, IsComplete, IsTold, Lacks, ReadsOn, StopsReading, StopsTelling, at_source}
@@ -92,7 +92,7 @@ passes_all before after told at there w profile h =
 -- where the device tells its bytes, their tokens are those
 tokens_all : (before after : Meaning) (told : Option (List ℕ)) (at there : Place) (w : IsWhole before after told at there) (bytes : List ℕ) → told ≡ Some bytes → tokens bytes ≡ all_of before after told at there w
 tokens_all before after told at there w bytes is =
-    let t : Takes w.reads.consumed (tokens bytes) there = w.reads.told (tokens bytes) (w.tells ∙ ap (option_map tokens) is) in
+    let t : TakesTokens w.reads.consumed (tokens bytes) there = w.reads.told (tokens bytes) (w.tells ∙ ap (option_map tokens) is) in
     t.is ∙ ap (λ (ls : List LocatedToken). w.reads.consumed ++ ls) (ends_alone there t.rest w.ends (told_goes there t.rest t.shows))
 
 resolved_all : (before after : Meaning) (told : Option (List ℕ)) (at there : Place) (w : IsWhole before after told at there) (profile : Profile) → before profile [] →
@@ -208,7 +208,7 @@ first_taking before told to_come refusal.Memory stops = absurd stops.refused.0
 pub whole_takes : (used : ℕ) (before after : Meaning) (told to_come : Option (List ℕ)) (at there : Place) → IsWhole before after told at there → IsNearTo there.position.reading used → HasTaken used told to_come →
     TakesNoMore before told to_come 4096
 whole_takes used before after told to_come at there w near taken bytes shows profile h =
-    let t : Takes w.reads.consumed (tokens bytes) there = w.reads.told (tokens bytes) (w.tells ∙ ap (option_map tokens) shows) in
+    let t : TakesTokens w.reads.consumed (tokens bytes) there = w.reads.told (tokens bytes) (w.tells ∙ ap (option_map tokens) shows) in
     let alone : t.rest ≡ next_at there ∷ [] = ends_alone there t.rest w.ends (told_goes there t.rest t.shows) in
     let reached : Passes profile (state at_source (w.reads.consumed ++ t.rest) [] no_names []) (state at_source t.rest [] (scope_at there) w.reads.more) =
     subst (λ (known : Scope). Passes profile (state at_source (w.reads.consumed ++ t.rest) [] known []) (state at_source t.rest [] (scope_at there) w.reads.more)) w.nothing

@@ -26,7 +26,7 @@ use Rattle.grammar.specs.Scope.{Scope, function_number}
 use Rattle.grammar.specs.Tree.{Body}
 use Rattle.parsing.specs.Position.{GoesOn, Place, Position, Standing, scope_at, taken_at, tokens_at}
 use Rattle.parsing.specs.Stopping.{Stop, Stops}
-use Rattle.parsing.specs.Segment.{Derives, FailsAt, Refused, Takes}
+use Rattle.parsing.specs.Segment.{Derives, FailsAt, Refused, TakesTokens}
 
 -- From one place between functions to another the builder was told further functions, and the derivation, which goes
 -- from these items to those, defines them. It takes the same tokens whether the device tells them or not.
@@ -34,7 +34,7 @@ pub record ReadsOn (before after : Meaning) (front pending : List Item) (here th
   pub consumed : List LocatedToken
   pub more : List Definition
   pub told : (located_tokens : List LocatedToken) → tokens_at here ≡ Some located_tokens
-      → Takes consumed located_tokens there
+      → TakesTokens consumed located_tokens there
   pub follows : (rest : List LocatedToken) → GoesOn there rest → GoesOn here (consumed ++ rest)
   pub added : AppendsAll before after (definitions_actions more)
   pub passes : (rest : List LocatedToken) → GoesOn there rest → (profile : Profile) (functions : List Definition) →

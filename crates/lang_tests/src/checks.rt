@@ -14,7 +14,7 @@ pub const SIZES: [usize; 7] = [1, 2, 3, 4_095, 4_096, 4_097, usize::MAX];
 
 /// What a parse gave.
 #[derive(Drop)]
-pub struct Outcome {
+pub struct Observed {
     /// Its answer.
     pub answer: Result<Pools, ParseFault>,
     /// The builder.
@@ -25,7 +25,7 @@ pub struct Outcome {
     pub failures: u64,
 }
 
-impl Outcome {
+impl Observed {
     /// Returns the refusal, if it is one.
     pub fn fault(&self) -> Option<ParseFault> {
         match &self.answer {
@@ -36,13 +36,13 @@ impl Outcome {
 }
 
 /// Parses what a device gives into a new builder of the first profile.
-pub fn parsed(alloc: Global, mut feed: Pieces) -> Outcome
+pub fn parsed(alloc: Global, mut feed: Pieces) -> Observed
     requires count { feed.failures < 2 ^ 64 - 1 }
     requires not_ended { feed.ended ≡ false }
 {
     let mut trees = TreeMaker::new(alloc, Profile::first());
     let answer = parse(&mut feed, &mut trees);
-    Outcome {
+    Observed {
         answer,
         trees,
         taken: feed.taken(),
@@ -71,7 +71,7 @@ pub fn check_fault(
 }
 
 /// Returns what a parse made, in lines: the externals, and for each function its names and its tree.
-pub fn shown(alloc: Global, outcome: &Outcome) -> Result<String, Fail> {
+pub fn shown(alloc: Global, outcome: &Observed) -> Result<String, Fail> {
     let mut text = String::new(alloc);
     if let Ok(names) = &outcome.answer {
         text.push_str("externals")?;

@@ -1,14 +1,14 @@
 -- One call after another: what they keep.
 use Rattle.std.proofs.Common.{ℕ, refl, ◌∙◌, ap, arith, le_refl, List}
 use Rattle.std.specs.Prelude.{Option, Result, Ok, Err}
-use Rattle.tokens.specs.Window.{Takes}
+use Rattle.tokens.specs.Window.{TakesBytes}
 use Rattle.grammar.specs.declared.diagnostics.ParseFault.{ParseFault}
 use Rattle.parsing.specs.Position.{Standing}
 use Rattle.tokens.specs.Feed.{Account}
 use Rattle.parsing.specs.Segment.{counted}
 use Rattle.parsing.specs.Advancing.{Advances, IsReady, StayedOrWentOn, Stopped, WentOn}
 
-takes_then : (a b c : ℕ) (x y z : Option (List ℕ)) → Takes a b x y → Takes b c y z → Takes a c x z
+takes_then : (a b c : ℕ) (x y z : Option (List ℕ)) → TakesBytes a b x y → TakesBytes b c y z → TakesBytes a c x z
 takes_then a b c x y z h i = record { rest = λ total e. i.rest total (h.rest total e) }
 
 -- a parser that does nothing

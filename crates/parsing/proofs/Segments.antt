@@ -22,7 +22,7 @@ use Rattle.tokens.proofs.ReadingLemmas.{open-within}
 use Rattle.parsing.proofs.StrictEnds.{reach_limited}
 use Rattle.parsing.specs.Position.{Position, Place, place, GoesOn, tokens_at, next_at, after_at, scope_at}
 use Rattle.parsing.specs.Stopping.{IfSource, NoneBefore, Stop, Stops, StopsInside, most_taken, stop_with}
-use Rattle.parsing.specs.Segment.{Derives, FailsAt, FailsItem, GoesPast, HasLexicalError, Refused, StopsAt, StopsAtFirst, Takes}
+use Rattle.parsing.specs.Segment.{Derives, FailsAt, FailsItem, GoesPast, HasLexicalError, Refused, StopsAt, StopsAtFirst, TakesTokens}
 
 -- The tokens at a place.
 
@@ -115,7 +115,7 @@ follows_past reading known learnt more there goes rest g =
     }
 
 takes_past : (reading : Reading) (known learnt : Scope) (more : Option (List ℕ)) (there : Place) → GoesPast (place (record { reading = reading; scope = learnt }) more) there →
-    (located_tokens : List LocatedToken) → tokens_at (place (record { reading = reading; scope = known }) more) ≡ Some located_tokens → Takes (reading.next ∷ []) located_tokens there
+    (located_tokens : List LocatedToken) → tokens_at (place (record { reading = reading; scope = known }) more) ≡ Some located_tokens → TakesTokens (reading.next ∷ []) located_tokens there
 takes_past reading known learnt more there goes located_tokens is =
     let b : Begins reading located_tokens = told_begins (place (record { reading = reading; scope = known }) more) located_tokens is in
     record { rest = b.tail; is = b.is; shows = goes.told reading.next b.tail (is ∙ ap Some b.is) }
@@ -256,7 +256,7 @@ stops reading known learnt more d depth front pending taken left leads stop loca
 
 -- Segments one behind another.
 
-takes_join : (first second located_tokens : List LocatedToken) (between there : Place) (t : Takes first located_tokens between) → Takes second t.rest there → Takes (first ++ second) located_tokens there
+takes_join : (first second located_tokens : List LocatedToken) (between there : Place) (t : TakesTokens first located_tokens between) → TakesTokens second t.rest there → TakesTokens (first ++ second) located_tokens there
 takes_join first second located_tokens between there t u = record {
   rest = u.rest;
   is = t.is ∙ ap (λ (ls : List LocatedToken). first ++ ls) u.is ∙ sym (append_assoc first second u.rest);
@@ -271,7 +271,7 @@ pub joined : (depth inner : ℕ) (front mid pending below : List Item) (taken be
 joined depth inner front mid pending below taken between left under at now there a b opens = record {
   consumed = a.consumed ++ b.consumed;
   told = λ located_tokens is.
-      let t : Takes a.consumed located_tokens now = a.told located_tokens is in
+      let t : TakesTokens a.consumed located_tokens now = a.told located_tokens is in
       takes_join a.consumed b.consumed located_tokens now there t (b.told t.rest t.shows);
   follows = λ rest g. subst (λ (ls : List LocatedToken). GoesOn at ls) (sym (append_assoc a.consumed b.consumed rest)) (a.follows _ (b.follows rest g));
   passes = λ rest g profile stack values functions depths.
@@ -286,7 +286,7 @@ joined depth inner front mid pending below taken between left under at now there
 pub fails_then : (depth : ℕ) (front mid : List Item) (taken between : List Value) (at now : Place) (d : Stop) →
     Derives depth front mid taken between at now → FailsAt depth mid between now d → FailsAt depth front taken at d
 fails_then depth front mid taken between at now d a fails located_tokens is profile stack values functions depths =
-    let t : Takes a.consumed located_tokens now = a.told located_tokens is in
+    let t : TakesTokens a.consumed located_tokens now = a.told located_tokens is in
     rw t.is
     (inside_back profile _ _ d a.consumed refl refl (a.passes t.rest (told_goes now t.rest t.shows) profile stack values functions depths)
     (fails t.rest t.shows profile stack values functions depths))

@@ -2,7 +2,7 @@
 use Rattle.std.specs.Prelude.{ℕ, ◌-◌, ◌^◌, ◌≡◌, ◌<◌, ◌≤◌, false, Result, Ok, Err}
 use Rattle.tokens.specs.ReadLimits.{most_bytes}
 use Rattle.tokens.specs.Reading.{IsNear, Reading, taken}
-use Rattle.tokens.specs.Window.{Takes}
+use Rattle.tokens.specs.Window.{TakesBytes}
 use Rattle.grammar.specs.declared.diagnostics.ParseFault.{ParseFault}
 use Rattle.grammar.specs.Grammar.{is_fault}
 use Rattle.parsing.specs.Position.{Standing, taken_at, to_go, token_of}
@@ -31,7 +31,7 @@ pub record IsReady (at : Standing) : Type 0 where
 pub record WentOn (old new : Standing) : Type 0 where
   pub device : new.device ≡ old.device
   pub account : new.account ≡ old.account
-  pub took : Takes (taken_at old.place) (taken_at new.place) old.place.to_come new.place.to_come
+  pub took : TakesBytes (taken_at old.place) (taken_at new.place) old.place.to_come new.place.to_come
   pub falls : to_go new < to_go old
   pub ready : IsReady new
 
@@ -39,7 +39,7 @@ pub record WentOn (old new : Standing) : Type 0 where
 pub record StayedOrWentOn (old new : Standing) : Type 0 where
   pub device : new.device ≡ old.device
   pub account : new.account ≡ old.account
-  pub took : Takes (taken_at old.place) (taken_at new.place) old.place.to_come new.place.to_come
+  pub took : TakesBytes (taken_at old.place) (taken_at new.place) old.place.to_come new.place.to_come
   pub falls : to_go new ≤ to_go old
   pub ready : IsReady new
 
@@ -48,7 +48,7 @@ pub record StayedOrWentOn (old new : Standing) : Type 0 where
 pub record Stopped (fault : ParseFault) (old new : Standing) : Type 0 where
   pub device : new.device ≡ old.device
   pub account : new.account ≡ counted old.account fault
-  pub took : Takes (taken_at old.place) (taken_at new.place) old.place.to_come new.place.to_come
+  pub took : TakesBytes (taken_at old.place) (taken_at new.place) old.place.to_come new.place.to_come
 
 -- a call that consumes at least one token if it succeeds
 abbrev pub Advances : {A : Type 0} → Result A ParseFault → Standing → Standing → Type 0

@@ -21,7 +21,7 @@ use Rattle.parsing.specs.Position.{Place, Position, GoesOn, tokens_at, next_at, 
 use Rattle.parsing.specs.Stopping.{IfSource, Stop, StopsInside, most_taken, stop_with}
 
 -- the tokens told at a place are those that a segment took, and then those told behind it
-pub record Takes (consumed located_tokens : List LocatedToken) (there : Place) : Type 0 where
+pub record TakesTokens (consumed located_tokens : List LocatedToken) (there : Place) : Type 0 where
   pub rest : List LocatedToken
   pub is : located_tokens ≡ consumed ++ rest
   pub shows : tokens_at there ≡ Some rest
@@ -31,7 +31,7 @@ pub record Takes (consumed located_tokens : List LocatedToken) (there : Place) :
 pub record Derives (depth : ℕ) (front pending : List Item) (taken left : List Value) (here there : Place) : Type 0 where
   pub consumed : List LocatedToken
   pub told : (located_tokens : List LocatedToken) → tokens_at here ≡ Some located_tokens
-      → Takes consumed located_tokens there
+      → TakesTokens consumed located_tokens there
   pub follows : (rest : List LocatedToken) → GoesOn there rest → GoesOn here (consumed ++ rest)
   pub passes : (rest : List LocatedToken) → GoesOn there rest →
       (profile : Profile) (stack : List Item) (values : List Value) (functions : List Definition) →

@@ -82,5 +82,5 @@ settled_by files (Some numbers) mode = if nat_lt files_max (length files) then E
     (option_map (λ m. setup_of numbers m files) mode) NoMode
 
 -- the settings that are asked for, or the first fault
-abbrev pub settled : Given → Result Setup UseFault
-settled given = settled_by given.files (numbers_of given) (mode_of given)
+abbrev pub asked_by : Given → Result Setup UseFault
+asked_by given = settled_by given.files (numbers_of given) (mode_of given)

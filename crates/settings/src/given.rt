@@ -1,7 +1,7 @@
 //! What the command line gave, and the settings that follow from it.
 
 ghost use Rattle.std.specs.Prelude.{◌≡◌, ◌<◌, ◌≤◌, length, map, option_map, IfSome};
-ghost use Rattle.settings.specs.Given.{mode_of, numbers_of, profile_by, settled, setup_of, value_of};
+ghost use Rattle.settings.specs.Given.{mode_of, numbers_of, profile_by, asked_by, setup_of, value_of};
 
 use crate::faults::UseFault;
 use crate::limits::{CYCLES_DEFAULT, CYCLES_MAX, FILES_MAX, FIRST_MAX, MATCHES_MAX, SEED_DEFAULT};
@@ -55,7 +55,7 @@ impl<'w, 'a> Model for Given<'w, 'a> {
 /// `NoMode` if neither listings nor matches are asked for.
 pub fn settle<'a>(given: Given<'_, 'a>) -> Result<Settings<'a>, UseFault>
     requires { 0 < length given.files }
-    ensures { result ≡ settled given.entry }
+    ensures { result ≡ asked_by given.entry }
 {
     let Some(numbers) = read_numbers(&given) else {
         return Err(UseFault::Number);

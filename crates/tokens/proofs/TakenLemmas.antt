@@ -9,7 +9,7 @@ use Rattle.tokens.specs.Words.{word_of}
 use Rattle.tokens.specs.Ends.{is_decided_by_last_byte, undecided_until}
 use Rattle.tokens.specs.Front.{Front, Nothing, Space, Unclosed, Sign, front, up_to_close, begins_with, name_or}
 use Rattle.tokens.specs.Tokens.{Ahead, behind_byte, passed, at_end, placed, last_located_token, cut, cut_front, located_tokens}
-use Rattle.tokens.specs.Window.{Asks, Held, Takes, WentOn, ahead}
+use Rattle.tokens.specs.Window.{Asks, Held, TakesBytes, WentOn, ahead}
 use Rattle.tokens.specs.Lexing.{to_read, followed, ending, in_run, name_going_on, constant_going_on, value_token, in_punctuator, grown, in_comment, closed_at, Fails, StopsWithin}
 use Rattle.tokens.specs.declared.devices.DeviceFault.{DeviceFault}
 use Rattle.tokens.specs.declared.located_tokens.Punctuator.{Punctuator}
@@ -23,17 +23,17 @@ use Rattle.tokens.proofs.LocatedTokensLemmas.{IsPiece, front-is_piece}
 use Rattle.tokens.proofs.CommentLemmas.{in_star}
 use Rattle.tokens.proofs.BeginLemmas.{in_slash}
 
-pub Takes-then : {old mid new : ℕ} {told told' told'' : Option (List ℕ)} → Takes old mid told told' → Takes mid new told' told'' → Takes old new told told''
-Takes-then f g = record { rest = λ total e. g.rest total (f.rest total e) }
+pub TakesBytes-then : {old mid new : ℕ} {told told' told'' : Option (List ℕ)} → TakesBytes old mid told told' → TakesBytes mid new told' told'' → TakesBytes old new told told''
+TakesBytes-then f g = record { rest = λ total e. g.rest total (f.rest total e) }
 
 -- nothing is taken where the window goes on
-pub Takes-pass : {old mid new : ℕ} {told told' : Option (List ℕ)} → new ≡ mid → Takes old mid told told' → Takes old new told told'
-Takes-pass {old} {mid} {new} {told} {told'} e f = subst (λ (n : ℕ). Takes old n told told') (sym e) f
+pub TakesBytes-pass : {old mid new : ℕ} {told told' : Option (List ℕ)} → new ≡ mid → TakesBytes old mid told told' → TakesBytes old new told told'
+TakesBytes-pass {old} {mid} {new} {told} {told'} e f = subst (λ (n : ℕ). TakesBytes old n told told') (sym e) f
 
 -- a window that went on goes on
-goes_on : (counted counted' : Account) (old mid new : Held) (told told' told'' : Option (List ℕ)) (after : Account) (ended : Bool) → Takes old.taken mid.taken told told' → old.place ≤ mid.place → counted' ≡ counted → WentOn mid new told' told'' counted' after ended → WentOn old new told told'' counted after ended
+goes_on : (counted counted' : Account) (old mid new : Held) (told told' told'' : Option (List ℕ)) (after : Account) (ended : Bool) → TakesBytes old.taken mid.taken told told' → old.place ≤ mid.place → counted' ≡ counted → WentOn mid new told' told'' counted' after ended → WentOn old new told told'' counted after ended
 goes_on counted counted' old mid new told told' told'' after ended took forward count asks = record {
-  took = Takes-then took asks.took;
+  took = TakesBytes-then took asks.took;
   forward = omega (arith, forward, asks.forward);
   near = asks.near;
   limited = asks.limited;
@@ -42,18 +42,18 @@ goes_on counted counted' old mid new told told' told'' after ended took forward 
   known = asks.known;
 }
 
-pub then-asks : {T : Type 0} (r : Result T DeviceFault) (old mid new : Held) (told told' told'' : Option (List ℕ)) (before between after : Account) (ended : Bool) → Takes old.taken mid.taken told told' → old.place ≤ mid.place → between ≡ before → Asks r mid new told' told'' between after ended → Asks r old new told told'' before after ended
+pub then-asks : {T : Type 0} (r : Result T DeviceFault) (old mid new : Held) (told told' told'' : Option (List ℕ)) (before between after : Account) (ended : Bool) → TakesBytes old.taken mid.taken told told' → old.place ≤ mid.place → between ≡ before → Asks r mid new told' told'' between after ended → Asks r old new told told'' before after ended
 then-asks (Ok x) old mid new told told' told'' before between after ended took forward count asks = goes_on before between old mid new told told' told'' after ended took forward count asks
 then-asks (Err x) old mid new told told' told'' before between after ended took forward count asks = goes_on (failed_again before) (failed_again between) old mid new told told' told'' after ended took forward (ap failed_again count) asks
 
 -- and may fail then
-pub then-fails : {T : Type 0} (r : Result T DeviceFault) (P : DeviceFault → Type 0) → IsErrAnd r P → (old mid new : Held) (told told' told'' : Option (List ℕ)) (before between after : Account) (ended : Bool) → Takes old.taken mid.taken told told' → old.place ≤ mid.place → between ≡ before → WentOn mid new told' told'' (failed_again between) after ended → Asks r old new told told'' before after ended
+pub then-fails : {T : Type 0} (r : Result T DeviceFault) (P : DeviceFault → Type 0) → IsErrAnd r P → (old mid new : Held) (told told' told'' : Option (List ℕ)) (before between after : Account) (ended : Bool) → TakesBytes old.taken mid.taken told told' → old.place ≤ mid.place → between ≡ before → WentOn mid new told' told'' (failed_again between) after ended → Asks r old new told told'' before after ended
 then-fails (Ok x) P h old mid new told told' told'' before between after ended took forward count asks = absurd h
 then-fails (Err x) P h old mid new told told' told'' before between after ended took forward count asks = goes_on (failed_again before) (failed_again between) old mid new told told' told'' after ended took forward (ap failed_again count) asks
 
 -- nothing was taken before the window went on
-pub Takes-from : {old mid new : ℕ} {told told' : Option (List ℕ)} → mid ≡ old → Takes mid new told told' → Takes old new told told'
-Takes-from {old} {mid} {new} {told} {told'} e f = subst (λ (n : ℕ). Takes n new told told') e f
+pub TakesBytes-from : {old mid new : ℕ} {told told' : Option (List ℕ)} → mid ≡ old → TakesBytes mid new told told' → TakesBytes old new told told'
+TakesBytes-from {old} {mid} {new} {told} {told'} e f = subst (λ (n : ℕ). TakesBytes n new told told') e f
 
 -- what a call that failed leaves
 pub on_err-from : {T E P : Type 0} (r : Result T E) → P → OnErr r P

@@ -109,7 +109,7 @@ pub record IsWindow (next filled start taken line : ℕ) (beyond : Beyond) : Typ
   pub near : taken ≤ start + window_bytes
 
 -- what a device has still to give is all but the bytes taken, of which there were so many before and are so many now
-pub record Takes (before now : ℕ) (told told' : Option (List ℕ)) : Type 0 where
+pub record TakesBytes (before now : ℕ) (told told' : Option (List ℕ)) : Type 0 where
   pub rest : (total : Option (List ℕ)) → told ≡ option_map (drop before) total → told' ≡ option_map (drop now) total
 
 -- What each call on a window needs and keeps. Every contract of the lexer cites these facts.
@@ -129,7 +129,7 @@ pub record MayAsk (held : Held) (account : Account) (ended : Bool) : Type 0 wher
 -- as every window is, and knows if the device has ended.
 pub record WentOn (old new : Held) (told told' : Option (List ℕ)) (counted account : Account) (ended : Bool)
     : Type 0 where
-  pub took : Takes old.taken new.taken told told'
+  pub took : TakesBytes old.taken new.taken told told'
   pub forward : old.place ≤ new.place
   pub near : new.taken ≤ new.place + window_bytes
   pub limited : new.taken ≤ most_bytes

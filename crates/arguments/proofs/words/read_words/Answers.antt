@@ -1,5 +1,5 @@
 use Rattle.std.proofs.Common.{◌∙◌, Err, ap, inl, inr}
-use Rattle.settings.specs.Given.{settled}
+use Rattle.settings.specs.Given.{asked_by}
 use Rattle.arguments.proofs.AskedLemmas.{asked-refused, asked-taken}
 use Rattle.arguments.proofs.words.read_words.Goals as goal
 
@@ -11,4 +11,4 @@ returns-in-Err-clause-answer c = elim c.in-Err.ensures.refused [
 
 pub returns-in-Ok-clause-answer : goal.returns-in-Ok-clause-answer
 returns-in-Ok-clause-answer c =
-    inr (c.settle.ensures ∙ (ap settled c.given.ensures ∙ asked-taken _ _ c.in-Ok.ensures.ok c.in-Ok.ensures.rows))
+    inr (c.settle.ensures ∙ (ap asked_by c.given.ensures ∙ asked-taken _ _ c.in-Ok.ensures.ok c.in-Ok.ensures.rows))

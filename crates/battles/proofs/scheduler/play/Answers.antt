@@ -1,7 +1,7 @@
 use Rattle.std.proofs.Common.{◌≡◌, ◌<◌, ◌≤◌, ◌+◌, ◌/◌, ◌*◌, List, length, sym, ap, ◌∙◌, arith}
 use Rattle.std.specs.Prelude.{nat_le}
 use Rattle.arena.specs.Field.{live_count}
-use Rattle.battles.specs.Battle.{Robot, Stage, stage_after}
+use Rattle.battles.specs.Battle.{Behaviour, Stage, stage_after}
 use Rattle.battles.specs.Carrying.{AreRobotsOf, HasReached}
 use Rattle.battles.specs.Pairing.{paired}
 use Rattle.battles.proofs.Cycles.{stage_none, first_begins}
@@ -47,7 +47,7 @@ loop-number-preserved c =
     let n = c.loop-number.number in
     let k = c.skip-number.result in
     let most : n + 1 + k ≤ c.args.limit / 15 = omega (arith, c.skip-number.ensures.most) in
-    let segmented : (robots : List Robot) (s : Stage) → AreRobotsOf codes robots → HasReached c.args.runners.now codes c.args.arena.now s
+    let segmented : (robots : List Behaviour) (s : Stage) → AreRobotsOf codes robots → HasReached c.args.runners.now codes c.args.arena.now s
     → HasReached c.segment.new.runners codes c.segment.new.arena (stage_after robots s (15 * (n + 1))) =
     λ robots s are reached.
     rw (stage_segment robots s n) (c.segment.ensures.stage robots _ are (c.loop-number.invariant.stage robots s are reached)) in

@@ -1,5 +1,5 @@
 use Rattle.std.proofs.Common.{◌≡◌, ◌≤◌, ◌-◌, ◌*◌, List, length}
-use Rattle.battles.specs.Battle.{Robot, Stage, stage_after, is_over, first_above, last_cycle}
+use Rattle.battles.specs.Battle.{Behaviour, Stage, stage_after, is_over, first_above, last_cycle}
 use Rattle.battles.specs.Carrying.{AreRobotsOf, EachFits, HasReached}
 use Rattle.battles.specs.Pairing.{paired}
 use Rattle.battles.proofs.scheduler.play.Given as goal
@@ -10,10 +10,10 @@ invariant-loop-number l = record {
   manned : length l.arena.robots ≡ length (paired l.programs);
   updates : l.arena.updates ≡ l.number;
   fits : EachFits l.runners (paired l.programs);
-  stage : (robots : List Robot) (s : Stage) → AreRobotsOf (paired l.programs) robots
+  stage : (robots : List Behaviour) (s : Stage) → AreRobotsOf (paired l.programs) robots
       → HasReached l.initial.runners (paired l.programs) l.initial.arena s
       → HasReached l.runners (paired l.programs) l.arena (stage_after robots s (15 * l.number));
-  cycles : (robots : List Robot) (s : Stage) → AreRobotsOf (paired l.programs) robots
+  cycles : (robots : List Behaviour) (s : Stage) → AreRobotsOf (paired l.programs) robots
       → HasReached l.initial.runners (paired l.programs) l.initial.arena s
       → first_above (λ n. is_over n (stage_after robots s n)) (15 * l.number) (l.limit - 15 * l.number) ≡ last_cycle robots s l.limit;
 }

@@ -1,5 +1,5 @@
 use Rattle.std.proofs.Common.{◌≤◌, List, length, leb, ap, sym, ◌∙◌, arith}
-use Rattle.battles.specs.Battle.{Robot, Stage}
+use Rattle.battles.specs.Battle.{Behaviour, Stage}
 use Rattle.battles.specs.Carrying.{AreRobotsOf, HasReached}
 use Rattle.battles.specs.Pairing.{paired}
 use Rattle.battles.proofs.Cycles.{updated_reached}
@@ -18,7 +18,7 @@ pass-requires-clause-few c =
     omega (arith, few, fits_length c.args.runners.now (paired c.args.programs.now) c.requires.fits)
 
 -- the cycles up to the update
-turned : (c : goal.After-live_count) (robots : List Robot) (s : Stage) → AreRobotsOf (paired c.args.programs.now) robots
+turned : (c : goal.After-live_count) (robots : List Behaviour) (s : Stage) → AreRobotsOf (paired c.args.programs.now) robots
     → HasReached c.args.runners.now (paired c.args.programs.now) c.args.arena.now s
     → HasReached c.if-not-pass.runners (paired c.args.programs.now) c.if-not-pass.arena (rounds robots 15 s)
 turned c robots s are reached = elim c.if-not-pass.branch [

@@ -4,7 +4,7 @@ use Rattle.tokens.specs.Tokens.{tokens, located_tokens}
 use Rattle.tokens.specs.Lexing.{to_read}
 use Rattle.tokens.specs.Reading.{shown}
 use Rattle.tokens.proofs.ReadingLemmas.{shown-read, shown-last, shown-opened, remaining-bounded, opened-stopped, second-stopped}
-use Rattle.tokens.proofs.TakenLemmas.{on_err-from, Takes-then}
+use Rattle.tokens.proofs.TakenLemmas.{on_err-from, TakesBytes-then}
 use Rattle.tokens.proofs.cursors.Cursor.open.Goals as goal
 use Rattle.tokens.proofs.cursors.Cursor.open.Goals.{then-not-is_last+in_ok-read-2, else-not-is_last}
 
@@ -38,6 +38,6 @@ returns-in_err-read-2-clause-stopped g c = on_err-from c.from_residual-in_err-re
     let first = c.in_ok-read.ensures in
     let read = c.in_err-read-2.ensures in (
       c.read-then-not-is_last.new.self.window.taken,
-      (Takes-then first.kept.took read.kept.took).rest (Some bytes) (e ∙ ap (λ h. option_map (drop h.taken) (Some bytes)) (sym c.new-lexer.ensures)),
+      (TakesBytes-then first.kept.took read.kept.took).rest (Some bytes) (e ∙ ap (λ h. option_map (drop h.taken) (Some bytes)) (sym c.new-lexer.ensures)),
       second-stopped bytes c.read-then-not-is_last.new.self.window.taken c.read.new.here c.new-lexer.result.window c.read.new.self.window _ _ c.new-lexer.ensures e (sym c.if-not-is_last.ensures) first.tokens read.stopped.within,
     ))

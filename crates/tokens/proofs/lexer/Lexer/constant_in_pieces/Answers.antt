@@ -3,7 +3,7 @@ use Rattle.tokens.specs.Characters.{is_digit}
 use Rattle.tokens.specs.Lexing.{to_read, in_constant, constant_going_on}
 use Rattle.tokens.proofs.ToRead.{to_read-pass, to_read-seen}
 use Rattle.tokens.proofs.TokenLemmas.{constant-takes, run-stops, StopsAt}
-use Rattle.tokens.proofs.TakenLemmas.{on_err-from, stops, stops-from, in_run-ends, constant-undecided, Takes-pass, Takes-then, then-fails}
+use Rattle.tokens.proofs.TakenLemmas.{on_err-from, stops, stops-from, in_run-ends, constant-undecided, TakesBytes-pass, TakesBytes-then, then-fails}
 use Rattle.tokens.proofs.lexer.Lexer.constant_in_pieces.Goals as goal
 use Rattle.tokens.proofs.lexer.Lexer.constant_in_pieces.Goals.{in_default-via-in-Some+else-is_digit, in_default-via-in_default}
 
@@ -17,7 +17,7 @@ loop-b-preserved g c =
           ∙ to_read-pass _ now _ _ _ _ c.in-Some.b c.pass.ensures.value seen.next.first c.in-Some.is (constant-takes c.loop-b.value c.in-Some.b (sym c.if-is_digit.ensures))
           ∙ to_read-seen now _ _ _ _ seen.seen ∙ c.loop-b.invariant.tokens;
       bounded = omega (arith, value);
-      took = Takes-pass c.pass.ensures.kept.taken (Takes-then c.loop-b.invariant.took seen.kept.took);
+      took = TakesBytes-pass c.pass.ensures.kept.taken (TakesBytes-then c.loop-b.invariant.took seen.kept.took);
       forward = omega (arith, seen.place.place);
       count = seen.kept.count ∙ c.loop-b.invariant.count;
       here = c.loop-b.invariant.here;

@@ -1,5 +1,5 @@
 use Rattle.std.proofs.Common.{◌≡◌, ◌-◌, ◌≤◌}
-use Rattle.tokens.specs.Window.{KnowsEnd, Takes}
+use Rattle.tokens.specs.Window.{KnowsEnd, TakesBytes}
 use Rattle.tokens.specs.Lexing.{to_read, in_constant}
 use Rattle.tokens.proofs.lexer.Lexer.constant_in_pieces.Given as goal
 
@@ -7,7 +7,7 @@ abbrev pub invariant-loop-b : goal.invariant-loop-b
 invariant-loop-b g l = record {
   tokens : to_read (in_constant l.value) l.self.window (g.F.Feed.to_come l.feed) ≡ to_read (in_constant l.initial.value) l.initial.self.window (g.F.Feed.to_come l.initial.feed);
   bounded : l.value ≤ 2147483648;
-  took : Takes l.initial.self.window.taken l.self.window.taken (g.F.Feed.to_come l.initial.feed) (g.F.Feed.to_come l.feed);
+  took : TakesBytes l.initial.self.window.taken l.self.window.taken (g.F.Feed.to_come l.initial.feed) (g.F.Feed.to_come l.feed);
   forward : l.initial.self.window.place ≤ l.self.window.place;
   count : g.F.Feed.account l.feed ≡ g.F.Feed.account l.initial.feed;
   here : l.here ≡ l.initial.here;

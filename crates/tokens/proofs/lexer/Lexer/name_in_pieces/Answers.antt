@@ -3,7 +3,7 @@ use Rattle.tokens.specs.Characters.{is_name_byte}
 use Rattle.tokens.specs.Lexing.{to_read, in_name, name_going_on}
 use Rattle.tokens.proofs.ToRead.{to_read-pass, to_read-seen}
 use Rattle.tokens.proofs.TokenLemmas.{name-takes, name-overflows, run-stops, StopsAt}
-use Rattle.tokens.proofs.TakenLemmas.{on_err-from, stops, stops-from, in_run-ends, name-undecided, Takes-pass, Takes-then, then-fails}
+use Rattle.tokens.proofs.TakenLemmas.{on_err-from, stops, stops-from, in_run-ends, name-undecided, TakesBytes-pass, TakesBytes-then, then-fails}
 use Rattle.tokens.proofs.lexer.Lexer.name_in_pieces.Goals as goal
 use Rattle.tokens.proofs.lexer.Lexer.name_in_pieces.Goals.{then-is_full, else-is_full, in_default-via-in-Some+else-is_name_byte, in_default-via-in_default}
 
@@ -18,7 +18,7 @@ loop-b-preserved g c =
     ] in
     record {
       tokens = step ∙ to_read-seen now _ _ _ _ seen.seen ∙ c.loop-b.invariant.tokens;
-      took = Takes-pass c.pass.ensures.kept.taken (Takes-then c.loop-b.invariant.took seen.kept.took);
+      took = TakesBytes-pass c.pass.ensures.kept.taken (TakesBytes-then c.loop-b.invariant.took seen.kept.took);
       forward = omega (arith, seen.place.place);
       count = seen.kept.count ∙ c.loop-b.invariant.count;
       here = c.loop-b.invariant.here;

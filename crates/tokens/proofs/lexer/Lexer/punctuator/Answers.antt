@@ -2,7 +2,7 @@ use Rattle.std.proofs.Common.{◌∙◌, sym, arith}
 use Rattle.tokens.specs.Lexing.{in_punctuator}
 use Rattle.tokens.proofs.ToRead.{to_read-seen}
 use Rattle.tokens.proofs.TokenLemmas.{punctuator-passes, punctuator-stops}
-use Rattle.tokens.proofs.TakenLemmas.{on_err-from, stops, stops-from, in_punctuator-ends, Takes-pass, Takes-then, then-fails}
+use Rattle.tokens.proofs.TakenLemmas.{on_err-from, stops, stops-from, in_punctuator-ends, TakesBytes-pass, TakesBytes-then, then-fails}
 use Rattle.tokens.proofs.lexer.Lexer.punctuator.Goals as goal
 
 pub loop-next-preserved : goal.loop-next-preserved
@@ -12,7 +12,7 @@ loop-next-preserved g c =
     record {
       tokens = punctuator-passes c.loop-next.punctuator c.in-Some.longer _ _ _ c.in_ok-next.next c.pass.ensures.value seen.next.first (sym c.in-Some.ensures)
           ∙ to_read-seen now _ _ _ _ seen.seen ∙ c.loop-next.invariant.tokens;
-      took = Takes-pass c.pass.ensures.kept.taken (Takes-then c.loop-next.invariant.took seen.kept.took);
+      took = TakesBytes-pass c.pass.ensures.kept.taken (TakesBytes-then c.loop-next.invariant.took seen.kept.took);
       forward = omega (arith, seen.place.place);
       count = seen.kept.count ∙ c.loop-next.invariant.count;
       here = c.loop-next.invariant.here;

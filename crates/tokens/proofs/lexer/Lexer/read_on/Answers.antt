@@ -8,7 +8,7 @@ use Rattle.tokens.specs.declared.located_tokens.Token.TheVariants as variant
 use Rattle.tokens.proofs.ToRead.{to_read-here, none-ahead}
 use Rattle.tokens.proofs.TokenLemmas.{nothing-left}
 use Rattle.tokens.proofs.BeginLemmas.{last-is_last, last-fits}
-use Rattle.tokens.proofs.TakenLemmas.{Takes-then, fails-from, on_err-from, stops-from, then-fails, then-asks}
+use Rattle.tokens.proofs.TakenLemmas.{TakesBytes-then, fails-from, on_err-from, stops-from, then-fails, then-asks}
 use Rattle.tokens.proofs.lexer.Lexer.read_on.Goals as goal
 
 pub returns-in-None-clause-tokens : goal.returns-in-None-clause-tokens
@@ -40,7 +40,7 @@ loop-self-preserved g c =
       tokens = to_read-here located_tokens (after_slash false c.slash.new.here) c.slash.new.self.window _ (λ to_come. refl)
           ∙ ap (λ found. to_read (after_slash found c.slash.new.here) c.slash.new.self.window (g.F.Feed.to_come c.slash.new.feed)) (sym c.if-branch.false)
           ∙ slash.past.tokens ∙ blanks.tokens ∙ c.loop-self.invariant.tokens;
-      took = Takes-then (Takes-then c.loop-self.invariant.took blanks.kept.took) slash.kept.took;
+      took = TakesBytes-then (TakesBytes-then c.loop-self.invariant.took blanks.kept.took) slash.kept.took;
       forward = omega (arith, blanks.kept.forward, slash.forward);
       count = slash.kept.count ∙ blanks.kept.count ∙ c.loop-self.invariant.count;
       here = slash.past.unread c.if-branch.false ∙ c.loop-self.invariant.here;
@@ -61,13 +61,13 @@ pub returns-in_err-slash-in-Some-eq47-clause-kept : goal.returns-in_err-slash-in
 returns-in_err-slash-in-Some-eq47-clause-kept g c =
     let now = c.loop-self.invariant in
     let blanks = c.in_ok-skip_blanks.ensures.kept in
-    then-fails c.from_residual-in_err-slash-in-Some-eq47.result _ c.from_residual-in_err-slash-in-Some-eq47.ensures.1 _ c.skip_blanks.new.self.window _ _ _ _ _ _ _ _ (Takes-then now.took blanks.took) (omega (arith, now.forward, blanks.forward)) (blanks.count ∙ now.count) c.in_err-slash-in-Some-eq47.ensures.kept
+    then-fails c.from_residual-in_err-slash-in-Some-eq47.result _ c.from_residual-in_err-slash-in-Some-eq47.ensures.1 _ c.skip_blanks.new.self.window _ _ _ _ _ _ _ _ (TakesBytes-then now.took blanks.took) (omega (arith, now.forward, blanks.forward)) (blanks.count ∙ now.count) c.in_err-slash-in-Some-eq47.ensures.kept
 
 pub returns-in-Some-clause-kept : goal.returns-in-Some-clause-kept
 returns-in-Some-clause-kept g c =
     let now = c.loop-self.invariant in
     let blanks = c.in_ok-skip_blanks.ensures.kept in
-    then-asks c.token.result _ c.skip_blanks.new.self.window _ _ _ _ _ _ _ _ (Takes-then now.took blanks.took) (omega (arith, now.forward, blanks.forward)) (blanks.count ∙ now.count) c.token.ensures.kept
+    then-asks c.token.result _ c.skip_blanks.new.self.window _ _ _ _ _ _ _ _ (TakesBytes-then now.took blanks.took) (omega (arith, now.forward, blanks.forward)) (blanks.count ∙ now.count) c.token.ensures.kept
 
 pub returns-in_err-skip_blanks-clause-stopped : goal.returns-in_err-skip_blanks-clause-stopped
 returns-in_err-skip_blanks-clause-stopped g c =

@@ -2,14 +2,14 @@ use Rattle.std.proofs.Common.{◌∙◌, sym, arith}
 use Rattle.tokens.specs.Tokens.{located_tokens}
 use Rattle.tokens.proofs.ToRead.{to_read-pass, to_read-seen}
 use Rattle.tokens.proofs.TokenLemmas.{blank-skipped, blanks-pass}
-use Rattle.tokens.proofs.TakenLemmas.{on_err-from, stops, stops-from, located_tokens-end, Takes-pass, Takes-then, then-fails}
+use Rattle.tokens.proofs.TakenLemmas.{on_err-from, stops, stops-from, located_tokens-end, TakesBytes-pass, TakesBytes-then, then-fails}
 use Rattle.tokens.proofs.lexer.Lexer.skip_blanks.Goals as goal
 
 pub loop-b-preserved : goal.loop-b-preserved
 loop-b-preserved g c = record {
   tokens = to_read-pass located_tokens located_tokens _ _ _ _ c.in-Some.b c.pass.ensures.value c.in_ok-first.ensures.next.first c.in-Some.is (blank-skipped c.in-Some.b (sym c.if-is_blank.ensures))
       ∙ to_read-seen located_tokens _ _ _ _ c.in_ok-first.ensures.seen ∙ blanks-pass _ _ _ c.pass_blanks.ensures.value ∙ c.loop-b.invariant.tokens;
-  took = Takes-pass c.pass.ensures.kept.taken (Takes-then (Takes-pass c.pass_blanks.ensures.kept.taken c.loop-b.invariant.took) c.in_ok-first.ensures.kept.took);
+  took = TakesBytes-pass c.pass.ensures.kept.taken (TakesBytes-then (TakesBytes-pass c.pass_blanks.ensures.kept.taken c.loop-b.invariant.took) c.in_ok-first.ensures.kept.took);
   forward = omega (arith, c.in_ok-first.ensures.place.place);
   count = c.in_ok-first.ensures.kept.count ∙ c.loop-b.invariant.count;
   known = λ e. c.in_ok-first.ensures.kept.known (sym c.pass.ensures.kept.beyond ∙ e);
@@ -31,7 +31,7 @@ pub returns-in_err-first-clause-kept : goal.returns-in_err-first-clause-kept
 returns-in_err-first-clause-kept g c =
     let now = c.loop-b.invariant in
     let passed = c.pass_blanks.ensures.kept in
-    then-fails c.from_residual.result _ c.from_residual.ensures.1 _ c.pass_blanks.new.self _ _ _ _ _ _ _ _ (Takes-pass passed.taken now.took) (omega (arith, now.forward, passed.forward)) now.count c.in_err-first.ensures.kept
+    then-fails c.from_residual.result _ c.from_residual.ensures.1 _ c.pass_blanks.new.self _ _ _ _ _ _ _ _ (TakesBytes-pass passed.taken now.took) (omega (arith, now.forward, passed.forward)) now.count c.in_err-first.ensures.kept
 
 pub returns-in_default-3-clause-tokens : goal.returns-in_default-3-clause-tokens
 returns-in_default-3-clause-tokens g c = to_read-seen located_tokens _ _ _ _ c.in_ok-first.ensures.seen ∙ blanks-pass _ _ _ c.pass_blanks.ensures.value ∙ c.loop-b.invariant.tokens

@@ -4,7 +4,7 @@ use Rattle.tokens.specs.Tokens.{located_tokens}
 use Rattle.tokens.specs.Lexing.{in_comment}
 use Rattle.tokens.proofs.ToRead.{to_read-pass, to_read-seen}
 use Rattle.tokens.proofs.CommentLemmas.{in_star, comment-passes, star-passes, star-open, slash-closes, slash-found, plain-passes, comment-ended, ended-beyond}
-use Rattle.tokens.proofs.TakenLemmas.{on_err-from, stops, stops-from, in_comment-ends, in_star-ends, Takes-pass, Takes-then, then-fails}
+use Rattle.tokens.proofs.TakenLemmas.{on_err-from, stops, stops-from, in_comment-ends, in_star-ends, TakesBytes-pass, TakesBytes-then, then-fails}
 use Rattle.tokens.proofs.lexer.Lexer.skip_comment.Goals as goal
 
 pub returns-in-None-clause-tokens : goal.returns-in-None-clause-tokens
@@ -34,7 +34,7 @@ loop-self-preserved-else-eq g c =
           ∙ to_read-seen (in_star line) _ _ _ _ next.seen
           ∙ to_read-pass (in_star line) (in_comment line) _ _ _ _ 42 c.pass.ensures.value seen.next.first (c.in-Some-eq42.is ∙ ap Some c.in-Some-eq42.field-0-test) (star-passes line)
           ∙ to_read-seen (in_comment line) _ _ _ _ seen.seen ∙ plain-passes line _ _ _ c.pass_plain.ensures.value ∙ c.loop-self.invariant.tokens line;
-      took = Takes-then (Takes-pass c.pass.ensures.kept.taken (Takes-then (Takes-pass c.pass_plain.ensures.kept.taken c.loop-self.invariant.took) seen.kept.took)) next.kept.took;
+      took = TakesBytes-then (TakesBytes-pass c.pass.ensures.kept.taken (TakesBytes-then (TakesBytes-pass c.pass_plain.ensures.kept.taken c.loop-self.invariant.took) seen.kept.took)) next.kept.took;
       forward = omega (arith, seen.place.place, next.place.place);
       count = next.kept.count ∙ seen.kept.count ∙ c.loop-self.invariant.count;
       known = next.kept.known;
@@ -46,7 +46,7 @@ loop-self-preserved g c =
     record {
       tokens = λ line. to_read-pass (in_comment line) (in_comment line) _ _ _ _ c.in-Some.field-0 c.pass-in-Some.ensures.value seen.next.first c.in-Some.is (comment-passes line c.in-Some.field-0 (ne_eqb _ _ c.in-Some.field-0-test.1))
           ∙ to_read-seen (in_comment line) _ _ _ _ seen.seen ∙ plain-passes line _ _ _ c.pass_plain.ensures.value ∙ c.loop-self.invariant.tokens line;
-      took = Takes-pass c.pass-in-Some.ensures.kept.taken (Takes-then (Takes-pass c.pass_plain.ensures.kept.taken c.loop-self.invariant.took) seen.kept.took);
+      took = TakesBytes-pass c.pass-in-Some.ensures.kept.taken (TakesBytes-then (TakesBytes-pass c.pass_plain.ensures.kept.taken c.loop-self.invariant.took) seen.kept.took);
       forward = omega (arith, seen.place.place);
       count = seen.kept.count ∙ c.loop-self.invariant.count;
       known = λ e. seen.kept.known (sym c.pass-in-Some.ensures.kept.beyond ∙ e);
@@ -73,7 +73,7 @@ pub returns-in_err-peek-clause-kept : goal.returns-in_err-peek-clause-kept
 returns-in_err-peek-clause-kept g c =
     let now = c.loop-self.invariant in
     let plain = c.pass_plain.ensures.kept in
-    then-fails c.from_residual.result _ c.from_residual.ensures.1 _ c.pass_plain.new.self _ _ _ _ _ _ _ _ (Takes-pass plain.taken now.took) (omega (arith, now.forward, plain.forward)) now.count c.in_err-peek.ensures.kept
+    then-fails c.from_residual.result _ c.from_residual.ensures.1 _ c.pass_plain.new.self _ _ _ _ _ _ _ _ (TakesBytes-pass plain.taken now.took) (omega (arith, now.forward, plain.forward)) now.count c.in_err-peek.ensures.kept
 
 pub returns-in_err-peek-in-Some-eq42-clause-kept : goal.returns-in_err-peek-in-Some-eq42-clause-kept
 returns-in_err-peek-in-Some-eq42-clause-kept g c =
@@ -81,4 +81,4 @@ returns-in_err-peek-in-Some-eq42-clause-kept g c =
     let plain = c.pass_plain.ensures.kept in
     let seen = c.in_ok-peek.ensures.kept in
     let star = c.pass.ensures.kept in
-    then-fails c.from_residual-in_err-peek-in-Some-eq42.result _ c.from_residual-in_err-peek-in-Some-eq42.ensures.1 _ c.pass.new.self _ _ _ _ _ _ _ _ (Takes-pass star.taken (Takes-then (Takes-pass plain.taken now.took) seen.took)) (omega (arith, now.forward, plain.forward, seen.forward, star.forward)) (seen.count ∙ now.count) c.in_err-peek-in-Some-eq42.ensures.kept
+    then-fails c.from_residual-in_err-peek-in-Some-eq42.result _ c.from_residual-in_err-peek-in-Some-eq42.ensures.1 _ c.pass.new.self _ _ _ _ _ _ _ _ (TakesBytes-pass star.taken (TakesBytes-then (TakesBytes-pass plain.taken now.took) seen.took)) (omega (arith, now.forward, plain.forward, seen.forward, star.forward)) (seen.count ∙ now.count) c.in_err-peek-in-Some-eq42.ensures.kept

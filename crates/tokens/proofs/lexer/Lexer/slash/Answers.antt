@@ -7,7 +7,7 @@ use Rattle.tokens.specs.declared.located_tokens.LexicalError.TheVariants.{Commen
 use Rattle.tokens.specs.declared.located_tokens.Token.TheVariants as variant
 use Rattle.tokens.proofs.ToRead.{to_read-pass, to_read-pass_line, to_read-seen, to_read-here}
 use Rattle.tokens.proofs.BeginLemmas.{in_slash, slash-begins, star-begins, slash-stays, star-found, not_true, not_false, last-followed, last-fits}
-use Rattle.tokens.proofs.TakenLemmas.{on_err-from, stops, stops-from, fails-from, in_slash-ends, then-fails, Takes-pass, Takes-from}
+use Rattle.tokens.proofs.TakenLemmas.{on_err-from, stops, stops-from, fails-from, in_slash-ends, then-fails, TakesBytes-pass, TakesBytes-from}
 use Rattle.tokens.proofs.lexer.Lexer.slash.Goals as goal
 
 pub returns-then-ne-clause-past : goal.returns-then-ne-clause-past
@@ -94,11 +94,11 @@ pub returns-in_err-punctuator-clause-kept : goal.returns-in_err-punctuator-claus
 returns-in_err-punctuator-clause-kept g c =
     let passed = c.pass.ensures in
     let seen = c.in_ok-peek.ensures.kept in
-    then-fails c.from_residual-in_err-punctuator.result _ c.from_residual-in_err-punctuator.ensures.1 _ c.peek.new.self _ _ _ _ _ _ _ _ (Takes-from passed.kept.taken seen.took) (omega (arith, passed.forward, seen.forward)) seen.count c.in_err-punctuator.ensures.kept
+    then-fails c.from_residual-in_err-punctuator.result _ c.from_residual-in_err-punctuator.ensures.1 _ c.peek.new.self _ _ _ _ _ _ _ _ (TakesBytes-from passed.kept.taken seen.took) (omega (arith, passed.forward, seen.forward)) seen.count c.in_err-punctuator.ensures.kept
 
 pub returns-in_err-skip_comment-clause-kept : goal.returns-in_err-skip_comment-clause-kept
 returns-in_err-skip_comment-clause-kept g c =
     let passed = c.pass.ensures in
     let seen = c.in_ok-peek.ensures.kept in
     let again = c.pass-2.ensures in
-    then-fails c.from_residual-in_err-skip_comment.result _ c.from_residual-in_err-skip_comment.ensures.1 _ c.pass-2.new.self _ _ _ _ _ _ _ _ (Takes-pass again.kept.taken (Takes-from passed.kept.taken seen.took)) (omega (arith, passed.forward, seen.forward, again.forward)) seen.count c.in_err-skip_comment.ensures.kept
+    then-fails c.from_residual-in_err-skip_comment.result _ c.from_residual-in_err-skip_comment.ensures.1 _ c.pass-2.new.self _ _ _ _ _ _ _ _ (TakesBytes-pass again.kept.taken (TakesBytes-from passed.kept.taken seen.took)) (omega (arith, passed.forward, seen.forward, again.forward)) seen.count c.in_err-skip_comment.ensures.kept

@@ -1,5 +1,5 @@
 use Rattle.battles.proofs.Turns.{four_slots, four_first, four_past}
-use Rattle.battles.proofs.slots.Slots.new.Goals as goal
+use Rattle.battles.proofs.slots.NextSlots.new.Goals as goal
 
 pub returns-clause-slots : goal.returns-clause-slots
 returns-clause-slots c =
