@@ -1,5 +1,6 @@
 pub mod KnownSources
 pub mod KnownTexts
+pub mod KnownEmissions
 pub mod Runs
 pub mod Rests
 pub mod Steps

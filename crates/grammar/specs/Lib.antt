@@ -27,3 +27,5 @@ pub mod Naming
 pub mod Index
 pub mod KnownTexts
 pub mod Finished
+pub mod Emission
+pub mod KnownEmissions
