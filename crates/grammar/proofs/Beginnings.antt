@@ -172,11 +172,11 @@ record Makes (acts : List Action) (o : Opened) : Type 0 where
   tellable : AreTellable functions
   fits : HeldFits held
 
-definitions_last : (ds : List Definition) (d : Definition) → definitions_actions (ds ++ d ∷ []) ≡ definitions_actions ds ++ function_actions d.number d.function
+pub definitions_last : (ds : List Definition) (d : Definition) → definitions_actions (ds ++ d ∷ []) ≡ definitions_actions ds ++ function_actions d.number d.function
 definitions_last [] d = append-nil (function_actions d.number d.function)
 definitions_last (x ∷ ds) d = ap (λ acts. function_actions x.number x.function ++ acts) (definitions_last ds d) ∙ sym (append_assoc (function_actions x.number x.function) (definitions_actions ds) (function_actions d.number d.function))
 
-tellable_last : (ds : List Definition) (d : Definition) → AreTellable ds → IsTellable d → AreTellable (ds ++ d ∷ [])
+pub tellable_last : (ds : List Definition) (d : Definition) → AreTellable ds → IsTellable d → AreTellable (ds ++ d ∷ [])
 tellable_last [] d h t = (t, tt)
 tellable_last (x ∷ ds) d h t = (h.0, tellable_last ds d h.1 t)
 

@@ -1,0 +1,5 @@
+pub mod Telling
+pub mod Fitting
+pub mod Productions
+pub mod Operands
+pub mod Steps
