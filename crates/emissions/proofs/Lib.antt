@@ -3,3 +3,6 @@ pub mod Fitting
 pub mod Productions
 pub mod Operands
 pub mod Steps
+pub mod Completing
+pub mod Limits
+pub mod Emitted

@@ -11,10 +11,10 @@ use Rattle.grammar.specs.declared.operators.Op.TheVariants as op
 use Rattle.grammar.specs.declared.operators.StoreOp.{StoreOp}
 use Rattle.grammar.specs.declared.operators.StoreOp.TheVariants as store
 use Rattle.grammar.specs.Actions.{Action, PushConstant, StoreVariable, ApplyBinop, BeginCall, EndCall, expr_actions, args_actions, middle}
-use Rattle.grammar.specs.Derivation.{Value, AnExpr, AVariable, ACall, ABody, Definition}
+use Rattle.grammar.specs.Derivation.{Value, AnExpr, ACall, Definition}
 use Rattle.grammar.specs.Emission.{on_choice, on_operator}
 use Rattle.grammar.specs.Faults.{levels}
-use Rattle.grammar.specs.Grammar.{Symbol, Source, Types, Head, More, Parameters, ParameterTypes, FunctionBlock, Block, Declarations, Statements, Statement, ElsePart, Back, Expression, Level, Tail, Unary, Primary, Arguments, MoreArguments, Item, Exactly, Part, Make, Close, Operate, Negate, Not, Complement, Pass, Production, choice, assignment_or, tail_production}
+use Rattle.grammar.specs.Grammar.{Symbol, Source, Types, Head, More, Parameters, ParameterTypes, FunctionBlock, Block, Declarations, Statements, Statement, ElsePart, Back, Expression, Level, Tail, Unary, Primary, Arguments, MoreArguments, Item, Part, Make, Operate, Pass, choice, assignment_or, tail_production}
 use Rattle.grammar.specs.Operators.{operator_at, store_of}
 use Rattle.grammar.specs.Scope.{Scope}
 use Rattle.grammar.specs.Tree as tree
@@ -41,7 +41,7 @@ level_tells A m true stack values n k ds acts h = λ e f. record {
 }
 level_tells A m false stack values n k ds acts h = λ e f. h e (expr_wider A (room_in stack) (room_in stack + (3 - m)) e (λ a. omega arith) f)
 
-no_more_operators : (A : Type 0) (room : ℕ) (next : Fact) (values : List Value) (n k : ℕ) (ds : List Definition) (acts : List Action) → Goes A room next values n k ds acts → next values n k ds acts
+pub no_more_operators : (A : Type 0) (room : ℕ) (next : Fact) (values : List Value) (n k : ℕ) (ds : List Definition) (acts : List Action) → Goes A room next values n k ds acts → next values n k ds acts
 no_more_operators A room next (AnExpr e ∷ below) n k ds acts h = subst (λ (xs : List Action). next (AnExpr e ∷ below) n k ds xs) h.told (h.on e h.fits)
 no_more_operators A room next values n k ds acts h = absurd h
 
@@ -147,7 +147,7 @@ primary_tells A next after stack values n k ds acts level h = tt
 
 -- Arguments.
 
-no_more_arguments : (A : Type 0) (room : ℕ) (next : Fact) (values : List Value) (n k : ℕ) (ds : List Definition) (acts : List Action) → Passed A room next values n k ds acts → next values n k ds acts
+pub no_more_arguments : (A : Type 0) (room : ℕ) (next : Fact) (values : List Value) (n k : ℕ) (ds : List Definition) (acts : List Action) → Passed A room next values n k ds acts → next values n k ds acts
 no_more_arguments A room next (ACall c args ∷ below) n k ds acts h = subst (λ (xs : List Action). next (ACall c args ∷ below) n k ds xs) h.told (h.on args h.fits)
 no_more_arguments A room next values n k ds acts h = absurd h
 

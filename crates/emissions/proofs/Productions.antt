@@ -1,28 +1,22 @@
 -- What held at a symbol holds at each of its productions, with what is emitted as it is chosen.
-use Rattle.std.proofs.Common.{◌≡◌, ℕ, ◌+◌, ◌<◌, ◌≤◌, List, [], ◌∷◌, ◌++◌, refl, sym, ap, ◌∙◌, subst, Bool, true, false, arith, append_assoc, append-nil}
-use Rattle.std.specs.Prelude.{pos, negsuc, ◌-◌, ◌*◌, Option, Some, None, nat_lt, if◌then◌else◌, is_some}
-use Rattle.tokens.specs.declared.located_tokens.Punctuator.{Punctuator}
+use Rattle.std.proofs.Common.{◌≡◌, ℕ, ◌+◌, ◌<◌, ◌≤◌, List, [], ◌∷◌, ◌++◌, refl, sym, ap, ◌∙◌, subst, true, arith, append_assoc, append-nil}
+use Rattle.std.specs.Prelude.{◌-◌, ◌*◌, Some, None}
 use Rattle.tokens.specs.declared.located_tokens.Punctuator.TheVariants as punctuator
 use Rattle.tokens.specs.declared.located_tokens.Token.{Token}
 use Rattle.tokens.specs.declared.located_tokens.Token.TheVariants as token
 use Rattle.tokens.specs.declared.located_tokens.Word.TheVariants as word
-use Rattle.grammar.specs.declared.operators.Op.{Op}
-use Rattle.grammar.specs.declared.operators.Op.TheVariants as op
-use Rattle.grammar.specs.declared.operators.StoreOp.{StoreOp}
-use Rattle.grammar.specs.declared.operators.StoreOp.TheVariants as store
 use Rattle.grammar.specs.Actions as action
 use Rattle.grammar.specs.Actions.{Action, PushConstant, StoreVariable, ApplyBinop, BeginCall, EndCall, IfTest, EndIf, BeginWhile, WhileTest, EndWhile, Chop, BeginFunction, expr_actions, args_actions, body_actions, middle}
-use Rattle.grammar.specs.Derivation.{Value, AnExpr, AVariable, ACall, ABody, Definition}
-use Rattle.grammar.specs.Emission.{on_choice, on_operator}
-use Rattle.grammar.specs.Faults.{definitions_actions, levels}
-use Rattle.grammar.specs.Grammar.{Symbol, Source, Types, Head, More, Parameters, ParameterTypes, FunctionBlock, Block, Declarations, Statements, Statement, ElsePart, Back, Expression, Level, Tail, Unary, Primary, Arguments, MoreArguments, Role, Defined, External, Parameter, Typed, Local, Called, Mentioned, Item, Exactly, AName, AnEnd, Part, Make, Close, Define, Repeat, DecideElse, Evaluate, GiveBack, Empty, Decide, Production, choice, enters, assignment_or, tail_production}
-use Rattle.grammar.specs.Operators.{is_logic, operator_at, store_of}
+use Rattle.grammar.specs.Derivation.{Value, AnExpr, ABody, Definition}
+use Rattle.grammar.specs.Emission.{on_choice}
+use Rattle.grammar.specs.Faults.{levels}
+use Rattle.grammar.specs.Grammar.{Symbol, Source, Head, More, FunctionBlock, Block, Statements, Statement, ElsePart, Back, Expression, Role, Defined, External, Parameter, Typed, Local, Called, Mentioned, Item, Exactly, AName, Part, Make, Close, Repeat, DecideElse, Evaluate, GiveBack, Empty, Decide, Production, choice, enters}
 use Rattle.grammar.specs.Scope.{Scope}
 use Rattle.grammar.specs.Tree as tree
 use Rattle.grammar.specs.Tree.{Expr, Args, Body, add_argument, join}
 use Rattle.grammar.proofs.Unfinished.{body_actions-join}
-use Rattle.emissions.proofs.Fitting.{constant_fits, variable_fits, postfix_fits, expr_wider, assign_fits, binary_fits, call_fits, no_args_fit, argument_fits, argument_actions, done_fits, join_fits, statement_fits, return_fits, if_fits, if_else_fits, while_fits, side_fits}
-use Rattle.emissions.proofs.Telling.{ExprFits, ArgsFit, BodyFits, Fact, Extends, Collects, Adds, Branches, Between, Defines, Gives, Goes, Passed, Stated, Branched, Named, Listed, Parted, room_in, Tells}
+use Rattle.emissions.proofs.Fitting.{done_fits, join_fits, statement_fits, return_fits, if_fits, if_else_fits, while_fits}
+use Rattle.emissions.proofs.Telling.{BodyFits, Fact, Adds, Branches, Between, Defines, Stated, Branched, Listed, room_in, Tells}
 
 -- these actions, and more
 abbrev pub and_then : List Action → List Action → List Action
@@ -73,7 +67,7 @@ one_more_name A Local stack values n k ds acts h = h
 one_more_name A Called stack values n k ds acts h = absurd h
 one_more_name A Mentioned stack values n k ds acts h = absurd h
 
-no_more_names : (A : Type 0) (role : Role) (next : Fact) (values : List Value) (n k : ℕ) (ds : List Definition) (acts : List Action) →
+pub no_more_names : (A : Type 0) (role : Role) (next : Fact) (values : List Value) (n k : ℕ) (ds : List Definition) (acts : List Action) →
     Listed role next values n k ds acts → next values n k ds acts
 no_more_names A Defined next values n k ds acts h = absurd h
 no_more_names A External next values n k ds acts h = h
@@ -123,7 +117,7 @@ added A least next b acts h s f more e =
     (ap (λ xs. h.base ++ xs) (body_actions-join b s) ∙ sym (append_assoc h.base (body_actions b) (body_actions s)) ∙ ap (λ xs. xs ++ body_actions s) h.told ∙ e)
     (h.on (join b s) (join_fits A h.room b s h.fits f))
 
-no_more_statements : (A : Type 0) (least : ℕ) (next : Fact) (values : List Value) (n k : ℕ) (ds : List Definition) (acts : List Action) → Stated A least next values n k ds acts → next values n k ds acts
+pub no_more_statements : (A : Type 0) (least : ℕ) (next : Fact) (values : List Value) (n k : ℕ) (ds : List Definition) (acts : List Action) → Stated A least next values n k ds acts → next values n k ds acts
 no_more_statements A least next (ABody b ∷ below) n k ds acts h = subst (λ (xs : List Action). next (ABody b ∷ below) n k ds xs) h.told (h.on b h.fits)
 no_more_statements A least next values n k ds acts h = absurd h
 
@@ -271,7 +265,7 @@ with_else A stack (ABody s ∷ AnExpr c ∷ ABody b ∷ below) n k ds acts h = r
 }
 with_else A stack values n k ds acts h = absurd h
 
-without_else : (A : Type 0) (stack : List Item) (values : List Value) (n k : ℕ) (ds : List Definition) (acts : List Action) → Branched A (room_in stack + 2) (Tells A stack) values n k ds acts →
+pub without_else : (A : Type 0) (stack : List Item) (values : List Value) (n k : ℕ) (ds : List Definition) (acts : List Action) → Branched A (room_in stack + 2) (Tells A stack) values n k ds acts →
     Tells A (Make Decide ∷ stack) values n k ds acts
 without_else A stack (ABody s ∷ AnExpr c ∷ ABody b ∷ below) n k ds acts h = decided A (room_in stack + 2) (λ x more. Tells A stack (ABody x ∷ below) n k ds more) s c b acts h
 without_else A stack values n k ds acts h = absurd h

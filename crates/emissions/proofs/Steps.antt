@@ -1,6 +1,6 @@
 -- A step keeps what holds of the actions emitted, with those that it emits.
-use Rattle.std.proofs.Common.{◌≡◌, ℕ, zero, suc, ◌+◌, ◌<◌, ◌≤◌, List, [], ◌∷◌, ◌++◌, refl, sym, ap, ◌∙◌, subst, Bool, true, false, arith, append_assoc, append-nil, length}
-use Rattle.std.specs.Prelude.{pos, Option, Some, None, if◌then◌else◌, unwrap_or, drop}
+use Rattle.std.proofs.Common.{◌≡◌, ℕ, ◌+◌, ◌≤◌, List, [], ◌∷◌, ◌++◌, refl, sym, ap, ◌∙◌, subst, Bool, true, false, append_assoc, append-nil, length}
+use Rattle.std.specs.Prelude.{pos, Option, Some, None, if◌then◌else◌, unwrap_or}
 use Rattle.tokens.specs.declared.located_tokens.LocatedToken.{LocatedToken}
 use Rattle.tokens.specs.declared.located_tokens.Punctuator.TheVariants as punctuator
 use Rattle.tokens.specs.declared.located_tokens.Token.{Token}
@@ -8,17 +8,17 @@ use Rattle.tokens.specs.declared.located_tokens.Token.TheVariants as token
 use Rattle.tokens.specs.declared.located_tokens.Word.TheVariants as word
 use Rattle.grammar.specs.Actions as action
 use Rattle.grammar.specs.Actions.{Action, PushConstant, BeginFunction, EndFunction, body_actions, last_return}
-use Rattle.grammar.specs.Derivation.{State, state, Value, AnExpr, AVariable, ACall, Definition, definition_of, last_body, made, of_name, next_of, after_of, line_of, name_of_token, constant_value, is_end, matched, name_matched, constant_matched, replaced, step_of, step, stepped}
+use Rattle.grammar.specs.Derivation.{State, Value, AnExpr, AVariable, ACall, Definition, definition_of, last_body, made, of_name, next_of, after_of, line_of, name_of_token, constant_value, is_end, matched, name_matched, constant_matched, replaced, step_of, stepped}
 use Rattle.grammar.specs.declared.operators.StoreOp.{StoreOp}
 use Rattle.grammar.specs.Emission.{on_choice, on_name, on_constant, on_rule, on_item, emitted}
 use Rattle.grammar.specs.Faults.{definitions_actions}
-use Rattle.grammar.specs.Grammar.{Symbol, Source, Types, Head, More, Parameters, ParameterTypes, FunctionBlock, Block, Declarations, Statements, Statement, ElsePart, Back, Expression, Level, Tail, Unary, Primary, Arguments, MoreArguments, Item, Exactly, AWord, AName, AConstant, AnEnd, Part, Make, Close, SemanticAction, Operate, Negate, Not, Complement, Fetch, Store, StepBefore, StepBehind, Pass, Invoke, Empty, Evaluate, Decide, DecideElse, Repeat, Zero, GiveBack, Define, Role, Defined, External, Parameter, Typed, Local, Called, Mentioned, Production, choice, is_fault, is_punctuator, is_word}
+use Rattle.grammar.specs.Grammar.{Symbol, FunctionBlock, Statement, Tail, Unary, Item, Exactly, AWord, AName, AConstant, AnEnd, Part, Make, Close, SemanticAction, Operate, Negate, Not, Complement, Fetch, Store, StepBefore, StepBehind, Pass, Invoke, Empty, Evaluate, Decide, DecideElse, Repeat, Zero, GiveBack, Define, Role, Defined, External, Parameter, Typed, Local, Called, Mentioned, Production, choice, is_fault, is_punctuator, is_word}
 use Rattle.grammar.specs.Resolved.{IsVariable, IsCallable}
 use Rattle.grammar.specs.Scope.{Scope, behind_name, end_definition, variable_of, callee_of, is_external_new, is_local_new, is_variable_new, is_function_new, with_external, with_parameter, with_variable, with_new_function}
 use Rattle.grammar.proofs.Beginnings.{definitions_last, tellable_last}
 use Rattle.emissions.proofs.Operands.{Begins, part_tells}
 use Rattle.emissions.proofs.Productions.{and_then, and_then_is, Produced, Enters}
-use Rattle.emissions.proofs.Telling.{Defines, Named, Parted, room_in, Tells}
+use Rattle.emissions.proofs.Telling.{Defines, Named, Tells}
 
 -- what holds of a state and the actions emitted before it
 abbrev pub StateTells : Type 0 → State → List Action → Type 0
@@ -144,7 +144,7 @@ rule_tells A stack values scope ds acts told more e h =
 abbrev function_end : Scope → List Action
 function_end scope = PushConstant (pos 0) ∷ action.GiveBack ∷ EndFunction (length scope.current.variables) ∷ []
 
-defined_told : (values : List Value) (scope : Scope) (ds : List Definition) (acts : List Action) → definitions_actions ds ++ (BeginFunction scope.number scope.current.parameters ∷ body_actions (last_body values)) ≡ acts →
+pub defined_told : (values : List Value) (scope : Scope) (ds : List Definition) (acts : List Action) → definitions_actions ds ++ (BeginFunction scope.number scope.current.parameters ∷ body_actions (last_body values)) ≡ acts →
     definitions_actions (ds ++ definition_of scope (last_body values) ∷ []) ≡ acts ++ function_end scope
 defined_told values scope ds acts e =
     definitions_last ds (definition_of scope (last_body values))

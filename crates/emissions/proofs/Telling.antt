@@ -9,7 +9,7 @@ use Rattle.grammar.specs.Beginning.{AreTellable}
 use Rattle.grammar.specs.Derivation.{Value, AnExpr, AVariable, ACall, ABody, Definition, last_body, made}
 use Rattle.grammar.specs.Emission.{on_rule}
 use Rattle.grammar.specs.Faults.{definitions_actions, levels}
-use Rattle.grammar.specs.Grammar.{Symbol, Source, Types, Head, More, Parameters, ParameterTypes, FunctionBlock, Block, Declarations, Statements, Statement, ElsePart, Back, Expression, Level, Tail, Unary, Primary, Arguments, MoreArguments, Role, Defined, External, Parameter, Typed, Local, Called, Mentioned, Item, Exactly, AWord, AName, AConstant, AnEnd, Part, Make, Close, SemanticAction, Define}
+use Rattle.grammar.specs.Grammar.{Symbol, Source, Types, Head, More, Parameters, ParameterTypes, FunctionBlock, Block, Declarations, Statements, Statement, ElsePart, Back, Expression, Level, Tail, Unary, Primary, Arguments, MoreArguments, Role, Defined, Parameter, Called, Mentioned, Item, Exactly, AWord, AName, AConstant, AnEnd, Part, Make, Close, SemanticAction, Define}
 use Rattle.grammar.specs.Nesting.{nesting, args_nesting, body_nesting}
 use Rattle.grammar.specs.Resolved.{IsVariable, IsCallable, InExpr, InArgs, InBody}
 use Rattle.grammar.specs.Tree as tree

@@ -1,9 +1,9 @@
 -- What a derivation emits: the actions of the functions that it defines.
-use Rattle.std.specs.Prelude.{◌≡◌, ℕ, suc, List, [], ◌∷◌, ◌++◌}
+use Rattle.std.specs.Prelude.{◌≡◌, ℕ, List, [], ◌++◌}
 use Rattle.tokens.specs.declared.located_tokens.LocatedToken.{LocatedToken}
 use Rattle.grammar.specs.Actions.{Action}
 use Rattle.grammar.specs.Beginning.{IsBeginning}
-use Rattle.grammar.specs.Derivation.{State, Definition, start, run}
+use Rattle.grammar.specs.Derivation.{Definition, start, run}
 use Rattle.grammar.specs.Emission.{emissions}
 use Rattle.grammar.specs.Faults.{definitions_actions, faults_in}
 use Rattle.grammar.specs.Profile.{Profile}

@@ -1,12 +1,11 @@
-use Rattle.emissions.proofs.Telling.{Tells}
-use Rattle.emissions.proofs.Steps.{step_tells}
+use Rattle.emissions.proofs.Emitted.{emits_its_functions, emits_a_part, emits_a_beginning}
 use Rattle.emissions.proofs.laws.emissions.Goals as goal
 
 pub returns-clause-whole : goal.returns-clause-whole
-returns-clause-whole c = ?
+returns-clause-whole c = emits_its_functions
 
 pub returns-clause-part : goal.returns-clause-part
-returns-clause-part c = ?
+returns-clause-part c = emits_a_part
 
 pub returns-clause-beginning : goal.returns-clause-beginning
-returns-clause-beginning c = ?
+returns-clause-beginning c = emits_a_beginning
