@@ -197,7 +197,7 @@ made_begins acts o m = by m.held m.actions m.fits
 
 -- A function begins and is finished.
 
-begin_makes : (n k : ℕ) (q : Opened) → follow (BeginFunction n k) [] ≡ Some q → ((n < 64) × (k ≤ 64)) × (InFunction k false ∷ [] ≡ q)
+pub begin_makes : (n k : ℕ) (q : Opened) → follow (BeginFunction n k) [] ≡ Some q → ((n < 64) × (k ≤ 64)) × (InFunction k false ∷ [] ≡ q)
 unfolding most_numbers
 begin_makes n k q e = by (nat_lt n 64) (nat_le k 64) refl refl e
   where
@@ -206,13 +206,13 @@ begin_makes n k q e = by (nat_lt n 64) (nat_le k 64) refl refl e
     by true false f g h = absurd (cc)
     by false b f g h = absurd (cc)
 
-record FinishesBy (v k : ℕ) (o q : Opened) (last : Bool) : Type 0 where
-  returned : last ≡ true
-  parameters : k ≤ v
-  variables : v ≤ 64
-  nothing : [] ≡ q
+pub record FinishesBy (v k : ℕ) (o q : Opened) (last : Bool) : Type 0 where
+  pub returned : last ≡ true
+  pub parameters : k ≤ v
+  pub variables : v ≤ 64
+  pub nothing : [] ≡ q
 
-finish_makes : (v k : ℕ) (last : Bool) (q : Opened) → follow (EndFunction v) (InFunction k last ∷ []) ≡ Some q → FinishesBy v k (InFunction k last ∷ []) q last
+pub finish_makes : (v k : ℕ) (last : Bool) (q : Opened) → follow (EndFunction v) (InFunction k last ∷ []) ≡ Some q → FinishesBy v k (InFunction k last ∷ []) q last
 unfolding most_numbers
 finish_makes v k false q e = absurd (cc)
 finish_makes v k true q e = by (nat_le k v) (nat_le v 64) refl refl e

@@ -31,3 +31,12 @@ pub mod Places
 pub mod NamedFunctions
 pub mod FileLaws
 pub mod Joins
+pub mod Telling
+pub mod Fitting
+pub mod TellingProductions
+pub mod TellingOperands
+pub mod TellingSteps
+pub mod TellingLimits
+pub mod Completing
+pub mod NumberedActions
+pub mod Emitted

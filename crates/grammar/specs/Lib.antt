@@ -28,4 +28,5 @@ pub mod Index
 pub mod KnownTexts
 pub mod Finished
 pub mod Emission
+pub mod Emitted
 pub mod KnownEmissions

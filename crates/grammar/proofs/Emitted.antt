@@ -1,8 +1,9 @@
 -- What a derivation has emitted after some steps.
 use Rattle.std.proofs.Common.{◌≡◌, ℕ, zero, suc, List, [], ◌∷◌, ◌++◌, refl, sym, ap, ◌∙◌, subst, Bool, true, false, append_assoc, append-nil}
+use Rattle.std.proofs.lemmas.List.{append_cancel_left}
 use Rattle.std.specs.Prelude.{Option, Some, None, if◌then◌else◌, unwrap_or}
 use Rattle.tokens.specs.declared.located_tokens.LocatedToken.{LocatedToken}
-use Rattle.grammar.specs.Actions.{Action}
+use Rattle.grammar.specs.Actions.{Action, function_actions}
 use Rattle.grammar.specs.Beginning.{IsBeginning}
 use Rattle.grammar.specs.Derivation.{State, start, Value, Definition, last_body, definition_of, next_of, after_of, name_of_token, constant_value, is_end, matched, name_matched, constant_matched, replaced, step_of, stepped, run}
 use Rattle.grammar.specs.Emission.{on_item, emitted, emissions}
@@ -10,13 +11,15 @@ use Rattle.grammar.specs.Faults.{definitions_actions, faults_at, faults_in}
 use Rattle.grammar.specs.Grammar.{Item, Exactly, AWord, AName, AConstant, AnEnd, Part, Make, Close, Operate, Negate, Not, Complement, Fetch, Store, StepBefore, StepBehind, Pass, Invoke, Empty, Evaluate, Decide, DecideElse, Repeat, Zero, GiveBack, Define, Role, Production, choice, is_fault, is_punctuator, is_word}
 use Rattle.grammar.specs.Profile.{Profile}
 use Rattle.grammar.specs.Scope.{Scope}
+use Rattle.grammar.proofs.Beginnings.{beginning_follows}
+use Rattle.grammar.proofs.NumberedActions.{numbered}
 use Rattle.grammar.proofs.ResolvedLaws.{Sound, start_sound, stepped_sound}
 use Rattle.grammar.proofs.Runs.{append_empty}
-use Rattle.emissions.specs.Laws.{EmitsABeginning, EmitsAPart, EmitsItsFunctions, IsPart}
-use Rattle.emissions.proofs.Completing.{Completes, completes}
-use Rattle.emissions.proofs.Limits.{allowed, unlimited}
-use Rattle.emissions.proofs.Steps.{StateTells, defined_told, stepped_tells}
-use Rattle.emissions.proofs.Telling.{Ends, Tells}
+use Rattle.grammar.specs.Emitted.{EmitsABeginning, EmitsAPart, EmitsItsFunctions, EmitsNumbersBelow, IsPart}
+use Rattle.grammar.proofs.Completing.{Completes, completes}
+use Rattle.grammar.proofs.TellingLimits.{allowed, unlimited}
+use Rattle.grammar.proofs.TellingSteps.{StateTells, defined_told, stepped_tells}
+use Rattle.grammar.proofs.Telling.{Ends, Tells}
 
 pub start_tells : (A : Type 0) (located_tokens : List LocatedToken) → StateTells A (start located_tokens) []
 start_tells A located_tokens = record { told = refl; fit = λ a. tt; on = λ values n k more f. record { told = refl; fit = f } }
@@ -126,13 +129,28 @@ emits_its_functions n located_tokens done = sym (ends (run n (start located_toke
     ends : (s : State) (acts : List Action) → s.stack ≡ [] → StateTells ⊥ s acts → Ends ⊥ s.functions acts
     ends s acts e h = subst (λ (stack : List Item). Tells ⊥ stack s.values s.scope.number s.scope.current.parameters s.functions acts) e h
 
+definitions_append : (ds more : List Definition) → definitions_actions (ds ++ more) ≡ definitions_actions ds ++ definitions_actions more
+definitions_append [] more = refl
+definitions_append (d ∷ ds) more =
+    ap (λ xs. function_actions d.number d.function ++ xs) (definitions_append ds more)
+    ∙ sym (append_assoc (function_actions d.number d.function) (definitions_actions ds) (definitions_actions more))
+
+part_of_one : (acts : List Action) (ds : List Definition) → HasPart acts ds → Completes ⊥ ds acts → IsPart acts ds
+part_of_one acts ds h c = record {
+  part = h.part;
+  is = h.is;
+  further = c.further;
+  one = c.one;
+  rest = c.rest;
+  begins = append_cancel_left (definitions_actions ds) (h.part ++ c.rest) (definitions_actions c.further)
+      (sym (append_assoc (definitions_actions ds) h.part c.rest) ∙ ap (λ xs. xs ++ c.rest) (sym h.is) ∙ c.begins ∙ definitions_append ds c.further);
+}
+
 pub emits_a_part : EmitsAPart
 emits_a_part n located_tokens = whole (run n (start located_tokens)) (emissions n (start located_tokens)) (emits_from_start n located_tokens)
   where
     whole : (s : State) (acts : List Action) → Emitted s acts → IsPart acts s.functions
-    whole s acts e =
-        let c : Completes ⊥ s.functions acts = completes ⊥ s.stack s.values s.scope.number s.scope.current.parameters s.functions acts e.tells in
-        record { part = e.part.part; is = e.part.is; further = c.further; rest = c.rest; begins = c.begins }
+    whole s acts e = part_of_one acts s.functions e.part (completes ⊥ s.stack s.values s.scope.number s.scope.current.parameters s.functions acts e.tells)
 
 pub emits_a_beginning : EmitsABeginning
 emits_a_beginning profile n located_tokens clean =
@@ -142,3 +160,7 @@ emits_a_beginning profile n located_tokens clean =
     begins s acts h =
         let c : Completes (Unit {0}) s.functions acts = completes (Unit {0}) s.stack s.values s.scope.number s.scope.current.parameters s.functions acts h in
         record { functions = s.functions ++ c.further; tellable = c.fit tt; rest = c.rest; begins = c.begins }
+
+pub emits_numbers_below : EmitsNumbersBelow
+emits_numbers_below profile n located_tokens clean =
+    numbered (emissions n (start located_tokens)) [] (beginning_follows (emissions n (start located_tokens)) (emits_a_beginning profile n located_tokens clean))

@@ -19,9 +19,9 @@ use Rattle.grammar.specs.Operators.{operator_at, store_of}
 use Rattle.grammar.specs.Scope.{Scope}
 use Rattle.grammar.specs.Tree as tree
 use Rattle.grammar.specs.Tree.{Expr, add_argument}
-use Rattle.emissions.proofs.Fitting.{constant_fits, variable_fits, postfix_fits, expr_wider, assign_fits, binary_fits, call_fits, no_args_fit, argument_fits, argument_actions, side_fits}
-use Rattle.emissions.proofs.Productions.{and_then, and_then_is, Produced, Enters, source_tells, head_tells, more_tells, function_tells, block_tells, statements_tell, statement_tells, else_tells}
-use Rattle.emissions.proofs.Telling.{ExprFits, Fact, Gives, Goes, Passed, Parted, room_in, Tells}
+use Rattle.grammar.proofs.Fitting.{constant_fits, variable_fits, postfix_fits, expr_wider, assign_fits, binary_fits, call_fits, no_args_fit, argument_fits, argument_actions, side_fits}
+use Rattle.grammar.proofs.TellingProductions.{and_then, and_then_is, Produced, Enters, source_tells, head_tells, more_tells, function_tells, block_tells, statements_tell, statement_tells, else_tells}
+use Rattle.grammar.proofs.Telling.{ExprFits, Fact, Gives, Goes, Passed, Parted, room_in, Tells}
 
 -- an expression more, with its actions as they come
 given : (A : Type 0) (room : ℕ) (next : Fact) (values : List Value) (n k : ℕ) (ds : List Definition) (acts : List Action) → Gives A room next values n k ds acts →

@@ -1,5 +1,5 @@
 -- A derivation may go on to its end, with the shortest trees: what was emitted begins the actions of some functions.
-use Rattle.std.proofs.Common.{◌≡◌, ℕ, ◌+◌, List, [], ◌∷◌, ◌++◌, sym, ap, ◌∙◌, subst, arith, append_assoc, append-nil, length}
+use Rattle.std.proofs.Common.{◌≡◌, ◌≤◌, ℕ, ◌+◌, List, [], ◌∷◌, ◌++◌, sym, ap, ◌∙◌, subst, arith, append_assoc, append-nil, length}
 use Rattle.std.proofs.lemmas.List.{length-replicate}
 use Rattle.std.specs.Prelude.{pos, replicate}
 use Rattle.grammar.specs.declared.names.Callee.TheVariants as callee
@@ -13,24 +13,26 @@ use Rattle.grammar.specs.Grammar.{Symbol, Source, Types, Head, More, Parameters,
 use Rattle.grammar.specs.Tree as tree
 use Rattle.grammar.specs.Tree.{Body}
 use Rattle.grammar.proofs.Beginnings.{definitions_last, tellable_last}
-use Rattle.emissions.proofs.Fitting.{constant_fits}
-use Rattle.emissions.proofs.Operands.{no_more_operators, no_more_arguments}
-use Rattle.emissions.proofs.Productions.{no_more_statements, no_more_names, without_else}
-use Rattle.emissions.proofs.Telling.{Fact, Between, Defines, Gives, Named, Parted, Ruled, room_in, Tells}
+use Rattle.grammar.proofs.Fitting.{constant_fits}
+use Rattle.grammar.proofs.TellingOperands.{no_more_operators, no_more_arguments}
+use Rattle.grammar.proofs.TellingProductions.{no_more_statements, no_more_names, without_else}
+use Rattle.grammar.proofs.Telling.{Fact, Between, Defines, Gives, Named, Parted, Ruled, room_in, Tells}
 
 -- the actions begin those of the functions defined so far, and of further ones
 pub record Completes (A : Type 0) (ds : List Definition) (acts : List Action) : Type 0 where
   pub further : List Definition
+  pub one : length further ≤ 1
   pub rest : List Action
   pub begins : acts ++ rest ≡ definitions_actions (ds ++ further)
   pub fit : A → AreTellable (ds ++ further)
 
 front : (A : Type 0) (ds : List Definition) (acts more : List Action) → Completes A ds (acts ++ more) → Completes A ds acts
-front A ds acts more c = record { further = c.further; rest = more ++ c.rest; begins = sym (append_assoc acts more c.rest) ∙ c.begins; fit = c.fit }
+front A ds acts more c = record { further = c.further; one = c.one; rest = more ++ c.rest; begins = sym (append_assoc acts more c.rest) ∙ c.begins; fit = c.fit }
 
 ended : (A : Type 0) (ds : List Definition) (acts : List Action) → definitions_actions ds ≡ acts → (A → AreTellable ds) → Completes A ds acts
 ended A ds acts e f = record {
   further = [];
+  one = omega arith;
   rest = [];
   begins = append-nil acts ∙ sym e ∙ ap definitions_actions (sym (append-nil ds));
   fit = λ a. subst (λ (xs : List Definition). AreTellable xs) (sym (append-nil ds)) (f a);
@@ -43,6 +45,7 @@ shortest n k b = record { number = n; function = record { name = []; parameters 
 defined : (A : Type 0) (next : Fact) (values : List Value) (n k : ℕ) (ds : List Definition) (acts : List Action) → Defines A next values n k ds acts → Completes A ds acts
 defined A next values n k ds acts h = record {
   further = shortest n k (last_body values) ∷ [];
+  one = omega arith;
   rest = rest;
   begins = sym
       (definitions_last ds (shortest n k (last_body values))

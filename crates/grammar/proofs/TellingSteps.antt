@@ -16,9 +16,9 @@ use Rattle.grammar.specs.Grammar.{Symbol, FunctionBlock, Statement, Tail, Unary,
 use Rattle.grammar.specs.Resolved.{IsVariable, IsCallable}
 use Rattle.grammar.specs.Scope.{Scope, behind_name, end_definition, variable_of, callee_of, is_external_new, is_local_new, is_variable_new, is_function_new, with_external, with_parameter, with_variable, with_new_function}
 use Rattle.grammar.proofs.Beginnings.{definitions_last, tellable_last}
-use Rattle.emissions.proofs.Operands.{Begins, part_tells}
-use Rattle.emissions.proofs.Productions.{and_then, and_then_is, Produced, Enters}
-use Rattle.emissions.proofs.Telling.{Defines, Named, Tells}
+use Rattle.grammar.proofs.TellingOperands.{Begins, part_tells}
+use Rattle.grammar.proofs.TellingProductions.{and_then, and_then_is, Produced, Enters}
+use Rattle.grammar.proofs.Telling.{Defines, Named, Tells}
 
 -- what holds of a state and the actions emitted before it
 abbrev pub StateTells : Type 0 → State → List Action → Type 0

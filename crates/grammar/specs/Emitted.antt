@@ -1,25 +1,27 @@
 -- What a derivation emits: the actions of the functions that it defines.
-use Rattle.std.specs.Prelude.{◌≡◌, ℕ, List, [], ◌++◌}
+use Rattle.std.specs.Prelude.{◌≡◌, ◌<◌, ◌≤◌, ℕ, List, [], ◌∷◌, ◌++◌, length}
 use Rattle.tokens.specs.declared.located_tokens.LocatedToken.{LocatedToken}
-use Rattle.grammar.specs.Actions.{Action}
+use Rattle.grammar.specs.Actions.{Action, FetchVariable, StoreVariable, EndCall, BeginFunction, EndFunction}
 use Rattle.grammar.specs.Beginning.{IsBeginning}
 use Rattle.grammar.specs.Derivation.{Definition, start, run}
 use Rattle.grammar.specs.Emission.{emissions}
-use Rattle.grammar.specs.Faults.{definitions_actions, faults_in}
+use Rattle.grammar.specs.Faults.{definitions_actions, faults_in, most_names}
 use Rattle.grammar.specs.Profile.{Profile}
+use Rattle.grammar.specs.Resolved.{IsVariable, IsCallable}
 
 -- a derivation that is done has emitted the actions of the functions that it defined, whatever faults it has
 abbrev pub EmitsItsFunctions : Type 0
 EmitsItsFunctions = (n : ℕ) (located_tokens : List LocatedToken) → (run n (start located_tokens)).stack ≡ []
     → emissions n (start located_tokens) ≡ definitions_actions (run n (start located_tokens)).functions
 
--- these are the actions of the functions defined so far, and a part of those of further functions
+-- these are the actions of the functions defined so far, and a part of those of one more at most
 pub record IsPart (acts : List Action) (functions : List Definition) : Type 0 where
   pub part : List Action
   pub is : acts ≡ definitions_actions functions ++ part
   pub further : List Definition
+  pub one : length further ≤ 1
   pub rest : List Action
-  pub begins : acts ++ rest ≡ definitions_actions (functions ++ further)
+  pub begins : part ++ rest ≡ definitions_actions further
 
 -- so it is at each state
 abbrev pub EmitsAPart : Type 0
@@ -30,3 +32,21 @@ EmitsAPart = (n : ℕ) (located_tokens : List LocatedToken)
 abbrev pub EmitsABeginning : Type 0
 EmitsABeginning = (profile : Profile) (n : ℕ) (located_tokens : List LocatedToken)
     → faults_in profile n (start located_tokens) ≡ [] → IsBeginning (emissions n (start located_tokens))
+
+-- the numbers of the variables and functions in an action are below the limit
+abbrev pub IsNumbered : Action → Type 0
+IsNumbered (FetchVariable v) = IsVariable most_names most_names v
+IsNumbered (StoreVariable v op) = IsVariable most_names most_names v
+IsNumbered (EndCall f) = IsCallable most_names f
+IsNumbered (BeginFunction number parameters) = (number < most_names) × (parameters ≤ most_names)
+IsNumbered (EndFunction variables) = variables ≤ most_names
+IsNumbered action = Unit {0}
+
+abbrev pub AreNumbered : List Action → Type 0
+AreNumbered [] = Unit {0}
+AreNumbered (action ∷ acts) = IsNumbered action × AreNumbered acts
+
+-- so it is in what they emit
+abbrev pub EmitsNumbersBelow : Type 0
+EmitsNumbersBelow = (profile : Profile) (n : ℕ) (located_tokens : List LocatedToken)
+    → faults_in profile n (start located_tokens) ≡ [] → AreNumbered (emissions n (start located_tokens))

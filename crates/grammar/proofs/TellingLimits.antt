@@ -16,8 +16,8 @@ use Rattle.grammar.proofs.ResolvedLaws.{Busy, Sound, among_last, ended}
 use Rattle.grammar.proofs.Runs.{append_empty}
 use Rattle.grammar.proofs.Soundness.{Clean, Grows, Known, callee_in, role_grows, variable_in}
 use Rattle.grammar.proofs.Widening.{IsWider, callable_wider, variable_wider}
-use Rattle.emissions.proofs.Operands.{Begins}
-use Rattle.emissions.proofs.Steps.{Allows, NameAllows}
+use Rattle.grammar.proofs.TellingOperands.{Begins}
+use Rattle.grammar.proofs.TellingSteps.{Allows, NameAllows}
 
 -- Levels.
 

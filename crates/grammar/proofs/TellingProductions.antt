@@ -15,8 +15,8 @@ use Rattle.grammar.specs.Scope.{Scope}
 use Rattle.grammar.specs.Tree as tree
 use Rattle.grammar.specs.Tree.{Expr, Args, Body, add_argument, join}
 use Rattle.grammar.proofs.Unfinished.{body_actions-join}
-use Rattle.emissions.proofs.Fitting.{done_fits, join_fits, statement_fits, return_fits, if_fits, if_else_fits, while_fits}
-use Rattle.emissions.proofs.Telling.{BodyFits, Fact, Adds, Branches, Between, Defines, Stated, Branched, Listed, room_in, Tells}
+use Rattle.grammar.proofs.Fitting.{done_fits, join_fits, statement_fits, return_fits, if_fits, if_else_fits, while_fits}
+use Rattle.grammar.proofs.Telling.{BodyFits, Fact, Adds, Branches, Between, Defines, Stated, Branched, Listed, room_in, Tells}
 
 -- these actions, and more
 abbrev pub and_then : List Action → List Action → List Action

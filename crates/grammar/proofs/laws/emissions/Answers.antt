@@ -1,5 +1,5 @@
-use Rattle.emissions.proofs.Emitted.{emits_its_functions, emits_a_part, emits_a_beginning}
-use Rattle.emissions.proofs.laws.emissions.Goals as goal
+use Rattle.grammar.proofs.Emitted.{emits_its_functions, emits_a_part, emits_a_beginning, emits_numbers_below}
+use Rattle.grammar.proofs.laws.emissions.Goals as goal
 
 pub returns-clause-whole : goal.returns-clause-whole
 returns-clause-whole c = emits_its_functions
@@ -9,3 +9,6 @@ returns-clause-part c = emits_a_part
 
 pub returns-clause-beginning : goal.returns-clause-beginning
 returns-clause-beginning c = emits_a_beginning
+
+pub returns-clause-numbers : goal.returns-clause-numbers
+returns-clause-numbers c = emits_numbers_below
