@@ -13,9 +13,9 @@ use Rattle.grammar.specs.Profile.{Profile}
 use Rattle.grammar.specs.Scope.{Scope}
 use Rattle.grammar.proofs.Beginnings.{beginning_follows}
 use Rattle.grammar.proofs.NumberedActions.{numbered}
-use Rattle.grammar.proofs.ResolvedLaws.{Sound, start_sound, stepped_sound}
+use Rattle.grammar.proofs.ResolvedLaws.{Sound, run_sound, start_sound, stepped_sound}
 use Rattle.grammar.proofs.Runs.{append_empty}
-use Rattle.grammar.specs.Emitted.{EmitsABeginning, EmitsAPart, EmitsItsFunctions, EmitsNumbersBelow, IsPart}
+use Rattle.grammar.specs.Emitted.{EmitsABeginning, EmitsAPart, EmitsItsFunctions, IsPart, BeginningsAreNumbered, NextMayFollow}
 use Rattle.grammar.proofs.Completing.{Completes, completes}
 use Rattle.grammar.proofs.TellingLimits.{allowed, unlimited}
 use Rattle.grammar.proofs.TellingSteps.{StateTells, defined_told, stepped_tells}
@@ -152,15 +152,23 @@ emits_a_part n located_tokens = whole (run n (start located_tokens)) (emissions 
     whole : (s : State) (acts : List Action) → Emitted s acts → IsPart acts s.functions
     whole s acts e = part_of_one acts s.functions e.part (completes ⊥ s.stack s.values s.scope.number s.scope.current.parameters s.functions acts e.tells)
 
-pub emits_a_beginning : EmitsABeginning
-emits_a_beginning profile n located_tokens clean =
-    begins (run n (start located_tokens)) (emissions n (start located_tokens)) (clean_tells profile n (start located_tokens) [] clean (start_sound located_tokens) (start_tells (Unit {0}) located_tokens))
-  where
-    begins : (s : State) (acts : List Action) → StateTells (Unit {0}) s acts → IsBeginning acts
-    begins s acts h =
-        let c : Completes (Unit {0}) s.functions acts = completes (Unit {0}) s.stack s.values s.scope.number s.scope.current.parameters s.functions acts h in
-        record { functions = s.functions ++ c.further; tellable = c.fit tt; rest = c.rest; begins = c.begins }
+begins : (s : State) (acts : List Action) → StateTells (Unit {0}) s acts → IsBeginning acts
+begins s acts h =
+    let c : Completes (Unit {0}) s.functions acts = completes (Unit {0}) s.stack s.values s.scope.number s.scope.current.parameters s.functions acts h in
+    record { functions = s.functions ++ c.further; tellable = c.fit tt; rest = c.rest; begins = c.begins }
 
-pub emits_numbers_below : EmitsNumbersBelow
-emits_numbers_below profile n located_tokens clean =
-    numbered (emissions n (start located_tokens)) [] (beginning_follows (emissions n (start located_tokens)) (emits_a_beginning profile n located_tokens clean))
+clean_from_start : (profile : Profile) (n : ℕ) (located_tokens : List LocatedToken) → faults_in profile n (start located_tokens) ≡ [] → StateTells (Unit {0}) (run n (start located_tokens)) (emissions n (start located_tokens))
+clean_from_start profile n located_tokens clean = clean_tells profile n (start located_tokens) [] clean (start_sound located_tokens) (start_tells (Unit {0}) located_tokens)
+
+pub emits_a_beginning : EmitsABeginning
+emits_a_beginning profile n located_tokens clean = begins (run n (start located_tokens)) (emissions n (start located_tokens)) (clean_from_start profile n located_tokens clean)
+
+pub next_may_follow : NextMayFollow
+next_may_follow profile other n located_tokens clean quiet =
+    begins (stepped (run n (start located_tokens))) (emissions n (start located_tokens) ++ emitted (run n (start located_tokens)))
+    (stepped_tells (Unit {0}) (run n (start located_tokens)) (emissions n (start located_tokens))
+    (allowed other (run n (start located_tokens)) quiet (run_sound profile n (start located_tokens) clean (start_sound located_tokens)))
+    (clean_from_start profile n located_tokens clean))
+
+pub beginnings_are_numbered : BeginningsAreNumbered
+beginnings_are_numbered acts b = numbered acts [] (beginning_follows acts b)

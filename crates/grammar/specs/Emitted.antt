@@ -4,8 +4,8 @@ use Rattle.tokens.specs.declared.located_tokens.LocatedToken.{LocatedToken}
 use Rattle.grammar.specs.Actions.{Action, FetchVariable, StoreVariable, EndCall, BeginFunction, EndFunction}
 use Rattle.grammar.specs.Beginning.{IsBeginning}
 use Rattle.grammar.specs.Derivation.{Definition, start, run}
-use Rattle.grammar.specs.Emission.{emissions}
-use Rattle.grammar.specs.Faults.{definitions_actions, faults_in, most_names}
+use Rattle.grammar.specs.Emission.{emitted, emissions}
+use Rattle.grammar.specs.Faults.{definitions_actions, faults_at, faults_in, most_names}
 use Rattle.grammar.specs.Profile.{Profile}
 use Rattle.grammar.specs.Resolved.{IsVariable, IsCallable}
 
@@ -33,6 +33,13 @@ abbrev pub EmitsABeginning : Type 0
 EmitsABeginning = (profile : Profile) (n : ℕ) (located_tokens : List LocatedToken)
     → faults_in profile n (start located_tokens) ≡ [] → IsBeginning (emissions n (start located_tokens))
 
+-- What a state emits may be reported after that, if it has no fault by another profile: what it emits doesn't depend on
+-- how much code there may be.
+abbrev pub NextMayFollow : Type 0
+NextMayFollow = (profile other : Profile) (n : ℕ) (located_tokens : List LocatedToken)
+    → faults_in profile n (start located_tokens) ≡ [] → faults_at other (run n (start located_tokens)) ≡ []
+    → IsBeginning (emissions n (start located_tokens) ++ emitted (run n (start located_tokens)))
+
 -- the numbers of the variables and functions in an action are below the limit
 abbrev pub IsNumbered : Action → Type 0
 IsNumbered (FetchVariable v) = IsVariable most_names most_names v
@@ -46,7 +53,6 @@ abbrev pub AreNumbered : List Action → Type 0
 AreNumbered [] = Unit {0}
 AreNumbered (action ∷ acts) = IsNumbered action × AreNumbered acts
 
--- so it is in what they emit
-abbrev pub EmitsNumbersBelow : Type 0
-EmitsNumbersBelow = (profile : Profile) (n : ℕ) (located_tokens : List LocatedToken)
-    → faults_in profile n (start located_tokens) ≡ [] → AreNumbered (emissions n (start located_tokens))
+-- so it is in any actions that may be reported
+abbrev pub BeginningsAreNumbered : Type 0
+BeginningsAreNumbered = (acts : List Action) → IsBeginning acts → AreNumbered acts

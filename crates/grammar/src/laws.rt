@@ -1,6 +1,7 @@
 //! Laws on the definitions of the language.
 
-ghost use Rattle.grammar.specs.Emitted.{EmitsABeginning, EmitsAPart, EmitsItsFunctions, EmitsNumbersBelow};
+ghost use Rattle.grammar.specs.Emitted.{BeginningsAreNumbered, EmitsABeginning, EmitsAPart, EmitsItsFunctions};
+ghost use Rattle.grammar.specs.Emitted.{NextMayFollow};
 ghost use Rattle.grammar.specs.Finished.{Finished, Undefined, WithoutMain};
 ghost use Rattle.grammar.specs.Scheme.{ActsByRows, ChoosesRows, HasOneRole};
 ghost use Rattle.grammar.specs.Laws.{BeginningsAreInOrder, BlocksKeepTheFunction, CompiledIsResolved};
@@ -71,10 +72,11 @@ pub fn productions()
 
 /// Proves that a derivation emits the actions of the functions that it defines: when it is done these and no more, and
 /// at each state those of the functions defined so far and a part of the next. No premise is on faults. What is emitted
-/// before the first fault may be reported to a builder, and its numbers of variables and functions are below the limits.
+/// before the first fault may be reported to a builder. Its numbers of variables and functions are below the limits.
 pub fn emissions()
     ensures whole { EmitsItsFunctions }
     ensures part { EmitsAPart }
     ensures beginning { EmitsABeginning }
-    ensures numbers { EmitsNumbersBelow }
+    ensures next { NextMayFollow }
+    ensures numbers { BeginningsAreNumbered }
 {}

@@ -1,4 +1,4 @@
-use Rattle.grammar.proofs.Emitted.{emits_its_functions, emits_a_part, emits_a_beginning, emits_numbers_below}
+use Rattle.grammar.proofs.Emitted.{emits_its_functions, emits_a_part, emits_a_beginning, next_may_follow, beginnings_are_numbered}
 use Rattle.grammar.proofs.laws.emissions.Goals as goal
 
 pub returns-clause-whole : goal.returns-clause-whole
@@ -11,4 +11,7 @@ pub returns-clause-beginning : goal.returns-clause-beginning
 returns-clause-beginning c = emits_a_beginning
 
 pub returns-clause-numbers : goal.returns-clause-numbers
-returns-clause-numbers c = emits_numbers_below
+returns-clause-numbers c = beginnings_are_numbered
+
+pub returns-clause-next : goal.returns-clause-next
+returns-clause-next c = next_may_follow
