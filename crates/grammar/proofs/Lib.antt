@@ -40,3 +40,4 @@ pub mod TellingLimits
 pub mod Completing
 pub mod NumberedActions
 pub mod Emitted
+pub mod EmittedFiles

@@ -1,18 +1,26 @@
 -- What a derivation emits: the actions of the functions that it defines.
-use Rattle.std.specs.Prelude.{◌≡◌, ◌<◌, ◌≤◌, ℕ, List, [], ◌∷◌, ◌++◌, length}
+use Rattle.std.specs.Prelude.{◌≡◌, ◌<◌, ◌≤◌, ℕ, List, [], ◌∷◌, ◌++◌, Ok, length}
 use Rattle.tokens.specs.declared.located_tokens.LocatedToken.{LocatedToken}
-use Rattle.grammar.specs.Actions.{Action, FetchVariable, StoreVariable, EndCall, BeginFunction, EndFunction}
+use Rattle.grammar.specs.Actions.{Action, FetchVariable, StoreVariable, EndCall, BeginFunction, EndFunction, actions}
 use Rattle.grammar.specs.Beginning.{IsBeginning}
+use Rattle.grammar.specs.Compiled.{compiled_tokens, enough}
 use Rattle.grammar.specs.Derivation.{Definition, start, run}
 use Rattle.grammar.specs.Emission.{emitted, emissions}
 use Rattle.grammar.specs.Faults.{definitions_actions, faults_at, faults_in, most_names}
 use Rattle.grammar.specs.Profile.{Profile}
 use Rattle.grammar.specs.Resolved.{IsVariable, IsCallable}
+use Rattle.grammar.specs.Tree.{File}
 
 -- a derivation that is done has emitted the actions of the functions that it defined, whatever faults it has
 abbrev pub EmitsItsFunctions : Type 0
 EmitsItsFunctions = (n : ℕ) (located_tokens : List LocatedToken) → (run n (start located_tokens)).stack ≡ []
     → emissions n (start located_tokens) ≡ definitions_actions (run n (start located_tokens)).functions
+
+-- that of a source that is a file has emitted the file's actions
+abbrev pub EmitsItsFile : Type 0
+EmitsItsFile = (profile : Profile) (located_tokens : List LocatedToken) (file : File)
+    → compiled_tokens profile located_tokens ≡ Ok file
+    → emissions (enough located_tokens) (start located_tokens) ≡ actions file
 
 -- these are the actions of the functions defined so far, and a part of those of one more at most
 pub record IsPart (acts : List Action) (functions : List Definition) : Type 0 where

@@ -1,7 +1,7 @@
 //! Laws on the definitions of the language.
 
 ghost use Rattle.grammar.specs.Emitted.{BeginningsAreNumbered, EmitsABeginning, EmitsAPart, EmitsItsFunctions};
-ghost use Rattle.grammar.specs.Emitted.{NextMayFollow};
+ghost use Rattle.grammar.specs.Emitted.{EmitsItsFile, NextMayFollow};
 ghost use Rattle.grammar.specs.Finished.{Finished, Undefined, WithoutMain};
 ghost use Rattle.grammar.specs.Scheme.{ActsByRows, ChoosesRows, HasOneRole};
 ghost use Rattle.grammar.specs.Laws.{BeginningsAreInOrder, BlocksKeepTheFunction, CompiledIsResolved};
@@ -75,6 +75,7 @@ pub fn productions()
 /// before the first fault may be reported to a builder. Its numbers of variables and functions are below the limits.
 pub fn emissions()
     ensures whole { EmitsItsFunctions }
+    ensures file { EmitsItsFile }
     ensures part { EmitsAPart }
     ensures beginning { EmitsABeginning }
     ensures next { NextMayFollow }

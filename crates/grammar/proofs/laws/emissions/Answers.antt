@@ -1,4 +1,5 @@
 use Rattle.grammar.proofs.Emitted.{emits_its_functions, emits_a_part, emits_a_beginning, next_may_follow, beginnings_are_numbered}
+use Rattle.grammar.proofs.EmittedFiles.{emits_its_file}
 use Rattle.grammar.proofs.laws.emissions.Goals as goal
 
 pub returns-clause-whole : goal.returns-clause-whole
@@ -15,3 +16,6 @@ returns-clause-numbers c = beginnings_are_numbered
 
 pub returns-clause-next : goal.returns-clause-next
 returns-clause-next c = next_may_follow
+
+pub returns-clause-file : goal.returns-clause-file
+returns-clause-file c = emits_its_file
