@@ -172,11 +172,11 @@ record Makes (acts : List Action) (o : Opened) : Type 0 where
   tellable : AreTellable functions
   fits : HeldFits held
 
-definitions_last : (ds : List Definition) (d : Definition) → definitions_actions (ds ++ d ∷ []) ≡ definitions_actions ds ++ function_actions d.number d.function
+pub definitions_last : (ds : List Definition) (d : Definition) → definitions_actions (ds ++ d ∷ []) ≡ definitions_actions ds ++ function_actions d.number d.function
 definitions_last [] d = append-nil (function_actions d.number d.function)
 definitions_last (x ∷ ds) d = ap (λ acts. function_actions x.number x.function ++ acts) (definitions_last ds d) ∙ sym (append_assoc (function_actions x.number x.function) (definitions_actions ds) (function_actions d.number d.function))
 
-tellable_last : (ds : List Definition) (d : Definition) → AreTellable ds → IsTellable d → AreTellable (ds ++ d ∷ [])
+pub tellable_last : (ds : List Definition) (d : Definition) → AreTellable ds → IsTellable d → AreTellable (ds ++ d ∷ [])
 tellable_last [] d h t = (t, tt)
 tellable_last (x ∷ ds) d h t = (h.0, tellable_last ds d h.1 t)
 
@@ -197,7 +197,7 @@ made_begins acts o m = by m.held m.actions m.fits
 
 -- A function begins and is finished.
 
-begin_makes : (n k : ℕ) (q : Opened) → follow (BeginFunction n k) [] ≡ Some q → ((n < 64) × (k ≤ 64)) × (InFunction k false ∷ [] ≡ q)
+pub begin_makes : (n k : ℕ) (q : Opened) → follow (BeginFunction n k) [] ≡ Some q → ((n < 64) × (k ≤ 64)) × (InFunction k false ∷ [] ≡ q)
 unfolding most_numbers
 begin_makes n k q e = by (nat_lt n 64) (nat_le k 64) refl refl e
   where
@@ -206,13 +206,13 @@ begin_makes n k q e = by (nat_lt n 64) (nat_le k 64) refl refl e
     by true false f g h = absurd (cc)
     by false b f g h = absurd (cc)
 
-record FinishesBy (v k : ℕ) (o q : Opened) (last : Bool) : Type 0 where
-  returned : last ≡ true
-  parameters : k ≤ v
-  variables : v ≤ 64
-  nothing : [] ≡ q
+pub record FinishesBy (v k : ℕ) (o q : Opened) (last : Bool) : Type 0 where
+  pub returned : last ≡ true
+  pub parameters : k ≤ v
+  pub variables : v ≤ 64
+  pub nothing : [] ≡ q
 
-finish_makes : (v k : ℕ) (last : Bool) (q : Opened) → follow (EndFunction v) (InFunction k last ∷ []) ≡ Some q → FinishesBy v k (InFunction k last ∷ []) q last
+pub finish_makes : (v k : ℕ) (last : Bool) (q : Opened) → follow (EndFunction v) (InFunction k last ∷ []) ≡ Some q → FinishesBy v k (InFunction k last ∷ []) q last
 unfolding most_numbers
 finish_makes v k false q e = absurd (cc)
 finish_makes v k true q e = by (nat_le k v) (nat_le v 64) refl refl e

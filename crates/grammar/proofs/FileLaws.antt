@@ -83,11 +83,11 @@ one_is_not number (first ∷ lines) ds line e = at_place (λ h. one_is_not (numb
 -- The actions of a file.
 
 -- a function is at the number of its definition
-abbrev AreThere : List Function → List Definition → Type 0
+abbrev pub AreThere : List Function → List Definition → Type 0
 AreThere functions [] = Unit {0}
 AreThere functions (d ∷ ds) = (slice_get functions d.number ≡ Some d.function) × AreThere functions ds
 
-there : (functions : List Function) (ds : List Definition) → AreDistinct (order_of ds) → ((k : ℕ) → IsAmong k (order_of ds) → slice_get functions k ≡ defined_as k ds) → AreThere functions ds
+pub there : (functions : List Function) (ds : List Definition) → AreDistinct (order_of ds) → ((k : ℕ) → IsAmong k (order_of ds) → slice_get functions k ≡ defined_as k ds) → AreThere functions ds
 there functions [] distinct each = tt
 there functions (d ∷ ds) distinct each = (each d.number (inl refl) ∙ at_itself d.number, there functions ds distinct.1 (λ k i. each k (inr i) ∙ at_other k i (d.number == k) refl))
   where
@@ -104,7 +104,7 @@ there functions (d ∷ ds) distinct each = (each d.number (inl refl) ∙ at_itse
     at_other k i true e = absurd (distinct.0 (subst (λ (n : ℕ). IsAmong n (order_of ds)) (sym (equal d.number k e)) i))
     at_other k i false e = rw e refl
 
-actions_there : (functions : List Function) (ds : List Definition) → AreThere functions ds → functions_actions functions (order_of ds) ≡ definitions_actions ds
+pub actions_there : (functions : List Function) (ds : List Definition) → AreThere functions ds → functions_actions functions (order_of ds) ≡ definitions_actions ds
 actions_there functions [] h = refl
 actions_there functions (d ∷ ds) h = ap₂ (λ a b. a ++ b) (ap (numbered_actions d.number) h.0) (actions_there functions ds h.1)
 

@@ -1,5 +1,6 @@
 pub mod KnownSources
 pub mod KnownTexts
+pub mod KnownEmissions
 pub mod Runs
 pub mod Rests
 pub mod Steps
@@ -31,3 +32,13 @@ pub mod Places
 pub mod NamedFunctions
 pub mod FileLaws
 pub mod Joins
+pub mod Telling
+pub mod Fitting
+pub mod TellingProductions
+pub mod TellingOperands
+pub mod TellingSteps
+pub mod TellingLimits
+pub mod Completing
+pub mod NumberedActions
+pub mod Emitted
+pub mod EmittedFiles

@@ -386,7 +386,7 @@ is_made last scope order (Ok fs) (Some place) file e = record { all = fs; place 
     ok_same : (x y : File) → ok_at x ≡ ok_at y → x ≡ y
     ok_same x y h = cc
 
-distinct_of : (phase : Phase) (values : List Value) (scope : Scope) (ds : List Definition) → AreDistinct scope.begun → Tied phase values scope ds → AreDistinct (order_of ds)
+pub distinct_of : (phase : Phase) (values : List Value) (scope : Scope) (ds : List Definition) → AreDistinct scope.begun → Tied phase values scope ds → AreDistinct (order_of ds)
 distinct_of Outside values scope ds h t = subst (λ (ns : List ℕ). AreDistinct ns) t.begun h
 distinct_of Before values scope ds h t = subst (λ (ns : List ℕ). AreDistinct ns) t.begun h
 distinct_of Inside values scope ds h t = distinct_front (order_of ds) scope.number (subst (λ (ns : List ℕ). AreDistinct ns) t.begun h)

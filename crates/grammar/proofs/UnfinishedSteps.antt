@@ -36,11 +36,11 @@ some_same : (p q : Opened) → Some p ≡ Some q → p ≡ q
 some_same p q e = cc
 
 -- if a test passes
-only_true : (b : Bool) (p q : Opened) → only_on b p ≡ Some q → (b ≡ true) × (p ≡ q)
+pub only_true : (b : Bool) (p q : Opened) → only_on b p ≡ Some q → (b ≡ true) × (p ≡ q)
 only_true true p q e = (refl, some_same p q e)
 only_true false p q e = absurd (cc)
 
-if_true : (b : Bool) (o : Option Opened) (q : Opened) → (if b then o else None) ≡ Some q → (b ≡ true) × (o ≡ Some q)
+pub if_true : (b : Bool) (o : Option Opened) (q : Opened) → (if b then o else None) ≡ Some q → (b ≡ true) × (o ≡ Some q)
 if_true true o q e = (refl, e)
 if_true false o q e = absurd (cc)
 
@@ -50,12 +50,12 @@ if_false false p q e = (refl, some_same p q e)
 
 -- Numbers in range, and what is tested of values.
 
-variable_in : (v : Var) → is_var_numbered v ≡ true → IsVariable 64 64 v
+pub variable_in : (v : Var) → is_var_numbered v ≡ true → IsVariable 64 64 v
 unfolding most_numbers
 variable_in (var.Local n) h = grind (arith, nat_tests)
 variable_in (var.External n) h = grind (arith, nat_tests)
 
-callee_in : (f : Callee) → is_callee_numbered f ≡ true → IsCallable 64 f
+pub callee_in : (f : Callee) → is_callee_numbered f ≡ true → IsCallable 64 f
 unfolding most_numbers
 callee_in (callee.Function n) h = grind (arith, nat_tests)
 callee_in (callee.Intrinsic i) h = tt

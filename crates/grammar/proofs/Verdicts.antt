@@ -54,7 +54,7 @@ reached profile n m s t final leads clean ended quiet (inr a) = record {
   there = sym (stays_final a.more (run n s) final) ∙ sym (run-add n a.more s) ∙ subst (λ (k : ℕ). run k s ≡ t) (sym a.sum) leads;
 }
 
-weighs : (located_tokens : List LocatedToken) → weight (start located_tokens) + 1 ≡ enough located_tokens
+pub weighs : (located_tokens : List LocatedToken) → weight (start located_tokens) + 1 ≡ enough located_tokens
 weighs located_tokens = omega arith
 
 pub enough_ends : (located_tokens : List LocatedToken) → IsFinal (run (enough located_tokens) (start located_tokens))

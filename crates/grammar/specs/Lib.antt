@@ -27,3 +27,6 @@ pub mod Naming
 pub mod Index
 pub mod KnownTexts
 pub mod Finished
+pub mod Emission
+pub mod Emitted
+pub mod KnownEmissions

@@ -1,5 +1,6 @@
 //! Sources that show the rules of the language.
 
+ghost use Rattle.grammar.specs.KnownEmissions.{KnownEmissions};
 ghost use Rattle.grammar.specs.KnownSources.{KnownBeginnings, KnownLimits, KnownMisfits, KnownNameFaults, KnownNeeds};
 ghost use Rattle.grammar.specs.KnownSources.{KnownTrees};
 ghost use Rattle.grammar.specs.KnownTexts.{KnownTexts};
@@ -17,4 +18,9 @@ pub fn known_sources()
 /// Proves that they do so of known texts, through their tokens.
 pub fn known_texts()
     ensures { KnownTexts }
+{}
+
+/// Proves that the derivations of known sources emit these actions.
+pub fn known_emissions()
+    ensures { KnownEmissions }
 {}

@@ -1,5 +1,7 @@
 //! Laws on the definitions of the language.
 
+ghost use Rattle.grammar.specs.Emitted.{BeginningsAreNumbered, EmitsABeginning, EmitsAPart, EmitsItsFunctions};
+ghost use Rattle.grammar.specs.Emitted.{EmitsItsFile, NextMayFollow};
 ghost use Rattle.grammar.specs.Finished.{Finished, Undefined, WithoutMain};
 ghost use Rattle.grammar.specs.Scheme.{ActsByRows, ChoosesRows, HasOneRole};
 ghost use Rattle.grammar.specs.Laws.{BeginningsAreInOrder, BlocksKeepTheFunction, CompiledIsResolved};
@@ -66,4 +68,17 @@ pub fn productions()
     ensures rows { ChoosesRows }
     ensures actions { ActsByRows }
     ensures roles { HasOneRole }
+{}
+
+/// Proves that a derivation emits the actions of the functions that it defines: when it is done these and no more, and
+/// at each state those of the functions defined so far and a part of one more. No premise is on faults. The derivation
+/// of a file emits the file's actions. What is emitted before the first fault may be reported to a builder, and its
+/// numbers of variables and functions are below the limits.
+pub fn emissions()
+    ensures whole { EmitsItsFunctions }
+    ensures file { EmitsItsFile }
+    ensures part { EmitsAPart }
+    ensures beginning { EmitsABeginning }
+    ensures next { NextMayFollow }
+    ensures numbers { BeginningsAreNumbered }
 {}

@@ -15,7 +15,7 @@ mod scope;
 
 pub use build::{Build, BuildFault};
 pub use diagnostics::{Code, Diagnostic, ParseFault, code_of};
-pub use known::{known_sources, known_texts};
+pub use known::{known_emissions, known_sources, known_texts};
 pub use names::{Callee, Intrinsic, Var};
 pub use operators::{Binary, Op, StoreOp, operator_from, store_operator};
 pub use pools::{Function, MOST_NAMES, Pools};
