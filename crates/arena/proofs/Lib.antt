@@ -1,6 +1,7 @@
 pub mod KnownFields
 pub mod Tracks
 pub mod Touches
+pub mod Calm
 pub mod Wear
 pub mod Loops
 pub mod Represents

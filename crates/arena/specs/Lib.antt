@@ -12,5 +12,6 @@ pub mod Answer
 pub mod Ground
 pub mod Rest
 pub mod Drive
+pub mod Calm
 pub mod Standing
 pub mod KnownFields

@@ -1,11 +1,12 @@
 //! The robots after an update.
 
-ghost use Rattle.std.specs.Prelude.{◌≡◌, ℕ, ◌+◌, ◌-◌, ◌^◌, ◌≤◌, List, All, map, true, length};
+ghost use Rattle.std.specs.Prelude.{◌≡◌, ℕ, ◌+◌, ◌-◌, ◌^◌, ◌<◌, ◌≤◌, List, All, map, true, false, length};
 ghost use Rattle.arena.specs.Field.{Shot, Robot as FieldRobot, Field};
-ghost use Rattle.arena.specs.Collisions.{mover};
+ghost use Rattle.arena.specs.Collisions.{mover, touches};
 ghost use Rattle.arena.specs.Moved.{moved_robot, moved};
 ghost use Rattle.arena.specs.Ground.{Body, body_of, IsWithin};
 ghost use Rattle.arena.specs.Drive.{ahead};
+ghost use Rattle.arena.specs.Calm.{body_at, IsNearby, AreFar};
 ghost use Rattle.arena.specs.Rest.{Stays, IsStill};
 ghost use Rattle.arena.specs.Standing.{HoldsShots};
 
@@ -84,9 +85,8 @@ fn finish(robots: &mut [Robot], movers: &[Mover], missiles: &Missiles, update: u
     }
 }
 
-/// Moves robots to where they are after an update, of which this is the number. Most updates have no burst, and no two
-/// robots near each other.
-pub fn move_on(robots: &mut [Robot], missiles: &Missiles, update: u32)
+// Moves robots on that may come close to each other.
+fn move_among(robots: &mut [Robot], missiles: &Missiles, update: u32)
     requires most { length robots.old ≤ MOST_ROBOTS }
     requires way { All (λ (b : Body). IsWithin (2 ^ 50 - 1) b.track) robots.old }
     ensures robots { (f : Field) → update ≡ f.updates + 1 → robots.old ≡ map body_of f.robots
@@ -99,4 +99,77 @@ pub fn move_on(robots: &mut [Robot], missiles: &Missiles, update: u32)
         return;
     }
     finish(robots, movers.as_slice(), missiles, update);
+}
+
+// Moves robots on, each as far as walls let it.
+fn drive(robots: &mut [Robot])
+    requires way { All (λ (b : Body). IsWithin (2 ^ 50 - 1) b.track) robots.old }
+    ensures ahead { (rs : List FieldRobot) → robots.old ≡ map body_of rs → robots.new ≡ map ahead rs }
+    ensures nearby { (k : ℕ) → k < length robots.old → IsNearby (body_at robots.old k).track (body_at robots.new k).track }
+    ensures way { (way : ℕ) → All (λ (b : Body). IsWithin way b.track) robots.old
+        → All (λ (b : Body). IsWithin (way + 10000000) b.track) robots.new }
+{
+    for robot in robots {
+        robot.drive();
+    }
+}
+
+// Hurts the robots that are near a burst.
+fn hurt(robots: &mut [Robot], missiles: &Missiles, update: u32)
+    ensures robots { (f : Field) → update ≡ f.updates + 1 → robots.old ≡ map ahead f.robots
+        → HoldsShots f.updates missiles.now f.shots
+        → ((i : ℕ) → i < length f.robots → touches (map mover f.robots) i ≡ 0)
+        → robots.new ≡ map body_of (moved f).robots }
+    ensures way { (way : ℕ) → All (λ (b : Body). IsWithin way b.track) robots.old
+        → All (λ (b : Body). IsWithin way b.track) robots.new }
+{
+    for robot in robots {
+        let bursts = missiles.damage_at(update, robot.x(), robot.y());
+        robot.hurt(bursts);
+    }
+}
+
+// Reports whether a robot may come close to one of the others in an update.
+fn may_reach(robot: &Robot, others: &[Robot]) -> bool
+    ensures { result ≡ false → All (λ other. AreFar robot.now.track other.track) others.now }
+{
+    for other in others {
+        if !robot.is_far(other) {
+            return true;
+        }
+    }
+    false
+}
+
+// Reports whether two robots may come close in an update: if not, none collide in it.
+fn may_meet(robots: &[Robot]) -> bool
+    ensures { result ≡ false → (a b : ℕ) → a < b → b < length robots.now
+        → AreFar (body_at robots.now a).track (body_at robots.now b).track }
+{
+    for (i, robot) in robots.iter().enumerate() {
+        if may_reach(robot, &robots[i + 1..]) {
+            return true;
+        }
+    }
+    false
+}
+
+/// Moves robots to where they are after an update, of which this is the number. In most updates no two robots are near
+/// each other, and no missile bursts.
+pub fn move_on(robots: &mut [Robot], missiles: &Missiles, update: u32)
+    requires most { length robots.old ≤ MOST_ROBOTS }
+    requires way { All (λ (b : Body). IsWithin (2 ^ 50 - 1) b.track) robots.old }
+    ensures robots { (f : Field) → update ≡ f.updates + 1 → robots.old ≡ map body_of f.robots
+        → HoldsShots f.updates missiles.now f.shots → robots.new ≡ map body_of (moved f).robots }
+    ensures way { (way : ℕ) → All (λ (b : Body). IsWithin way b.track) robots.old
+        → All (λ (b : Body). IsWithin (way + 10000000) b.track) robots.new }
+{
+    if may_meet(robots) {
+        move_among(robots, missiles, update);
+        return;
+    }
+    drive(robots);
+    if !missiles.is_quiet(update) {
+        hurt(robots, missiles, update);
+    }
 }

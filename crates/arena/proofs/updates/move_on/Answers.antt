@@ -1,16 +1,25 @@
-use Rattle.std.proofs.Common.{◌≡◌, ℕ, ◌+◌, ◌<◌, List, length, sum, subst, ◌∙◌, arith}
+use Rattle.std.proofs.Common.{◌≡◌, ℕ, ◌+◌, ◌<◌, List, length, sum, subst, ap, ◌∙◌, arith}
 use Rattle.std.proofs.lemmas.List.{length-map}
-use Rattle.arena.specs.Collisions.{Mover, mover, touches}
+use Rattle.arena.specs.Field.{Field}
+use Rattle.arena.specs.Ground.{body_of}
 use Rattle.arena.specs.Shots.{bursts}
 use Rattle.arena.proofs.InPlace.{ahead_of_all}
+use Rattle.arena.proofs.Calm.{calm}
 use Rattle.arena.proofs.updates.move_on.Goals as goal
 
-pub returns-then-not-any_near-clause-robots : goal.returns-then-not-any_near-clause-robots
-returns-then-not-any_near-clause-robots c = λ f u e holds.
-    let movers = c.as_slice.ensures.value ∙ c.drive_on-movers.ensures.movers f.robots e in
-    let touched = subst (λ (ms : List Mover). (i : ℕ) → i < length ms → touches ms i ≡ 0) movers (c.any_near.ensures c.if-not-any_near.true) in
-    let none : (x y : ℕ) → sum (bursts (f.updates + 1) f.shots x y) ≡ 0 = λ x y. subst (λ n. sum (bursts n f.shots x y) ≡ 0) u (c.is_quiet.ensures c.if-is_quiet.true f.updates f.shots x y u holds) in
-    c.drive_on-movers.ensures.ahead f.robots e ∙ ahead_of_all f (λ i l. touched i (omega (arith, l, length-map f.robots mover))) none
+pub returns-then-not-is_quiet-clause-robots : goal.returns-then-not-is_quiet-clause-robots
+returns-then-not-is_quiet-clause-robots c = λ f u e holds.
+    let there = c.drive.ensures.ahead f.robots e in
+    let size = ap length e ∙ length-map f.robots body_of in
+    c.hurt.ensures.robots f u there holds (calm f c.args.robots.now c.drive.new.robots size there c.drive.ensures.nearby (c.may_meet.ensures c.if-may_meet.false))
 
-pub returns-clause-way : goal.returns-clause-way
-returns-clause-way c = λ way h. c.finish.ensures.way (way + 10000000) (c.drive_on-movers.ensures.way way h)
+pub returns-then-not-is_quiet-clause-way : goal.returns-then-not-is_quiet-clause-way
+returns-then-not-is_quiet-clause-way c = λ way h. c.hurt.ensures.way (way + 10000000) (c.drive.ensures.way way h)
+
+pub returns-else-not-is_quiet-clause-robots : goal.returns-else-not-is_quiet-clause-robots
+returns-else-not-is_quiet-clause-robots c = λ f u e holds.
+    let there = c.drive.ensures.ahead f.robots e in
+    let size = ap length e ∙ length-map f.robots body_of in
+    let untouched = calm f c.args.robots.now c.drive.new.robots size there c.drive.ensures.nearby (c.may_meet.ensures c.if-may_meet.false) in
+    let none : (x y : ℕ) → sum (bursts (f.updates + 1) f.shots x y) ≡ 0 = λ x y. subst (λ n. sum (bursts n f.shots x y) ≡ 0) u (c.is_quiet.ensures c.if-not-is_quiet.false f.updates f.shots x y u holds) in
+    there ∙ ahead_of_all f untouched none
