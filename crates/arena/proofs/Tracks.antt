@@ -12,7 +12,6 @@ use Rattle.arena.specs.Start.{standing}
 use Rattle.arena.specs.Moved.{put_back}
 use Rattle.arena.specs.Ground.{Track, track_of}
 use Rattle.arena.specs.Rest.{Rests}
-use Rattle.arena.specs.Calm.{IsNearby}
 
 -- a way of nothing leads nowhere
 pub along-none : (o : ℕ) → along o (pos 0) ≡ pos o

@@ -7,7 +7,7 @@ ghost use Rattle.arena.specs.Moved.{put_back};
 ghost use Rattle.arena.specs.Answer.{wanting};
 ghost use Rattle.arena.specs.Ground.{Track, track_of};
 ghost use Rattle.arena.specs.Rest.{Rests};
-ghost use Rattle.arena.specs.Calm.{IsNearby};
+ghost use Rattle.arena.specs.Calm.{IsNearby, IsAtPlace};
 
 use crate::limits::LAST_PLACE;
 use arith::{cosine_at, sine_at};
@@ -142,6 +142,7 @@ impl Motion {
         requires speed { speed ≤ 100 }
         ensures leg { (leg : Leg) → self ≡ track_of leg → result ≡ track_of (wanting leg degree speed) }
         ensures way { (result.east ≡ self.east) × (result.north ≡ self.north) }
+        ensures place { IsAtPlace self result }
     {
         Motion {
             wanted_heading: degree,

@@ -9,7 +9,7 @@ ghost use Rattle.arena.specs.Answer.{wanting};
 ghost use Rattle.arena.specs.Ground.{track_of, body_of, IsWithin};
 ghost use Rattle.arena.specs.Moved.{settled};
 ghost use Rattle.arena.specs.Drive.{ahead};
-ghost use Rattle.arena.specs.Calm.{IsNearby, AreFar};
+ghost use Rattle.arena.specs.Calm.{IsNearby, IsAtPlace, gap};
 ghost use Rattle.arena.specs.Rest.{Stays};
 
 use crate::collisions::Mover;
@@ -24,10 +24,6 @@ const TENTHS: u16 = 10;
 const WALL: u8 = 2;
 
 const KNOCK: u8 = 2;
-
-// Robots this far from each other on an axis, in tenths of a metre, don't come close in an update: each moves at most
-// ten metres, and close is less than a metre.
-const FAR: u16 = 210;
 
 /// A robot: its motion, and its damage in percent.
 #[derive(Clone, Copy, Drop)]
@@ -126,6 +122,7 @@ impl Robot {
         ensures robot { (robot : FieldRobot) → self.now ≡ body_of robot
             → result ≡ body_of (record robot { leg = wanting robot.leg degree speed }) }
         ensures way { (result.track.east ≡ self.now.track.east) × (result.track.north ≡ self.now.track.north) }
+        ensures place { IsAtPlace self.now.track result.track }
     {
         Robot {
             motion: self.motion.wanting(degree, speed),
@@ -167,11 +164,13 @@ impl Robot {
         Mover::new(live, from_x, from_y, self.x(), self.y())
     }
 
-    /// Reports whether two robots are so far from each other that they don't come close in the next update.
-    pub fn is_far(&self, other: &Robot) -> bool
-        ensures { result ≡ true → AreFar self.now.track other.now.track }
+    /// Returns how far two robots are from each other in tenths of a metre, on the axis on which they are further apart.
+    pub fn gap(&self, other: &Robot) -> u16
+        ensures { result ≡ gap self.now.track other.now.track }
     {
-        self.x().abs_diff(other.x()) >= FAR || self.y().abs_diff(other.y()) >= FAR
+        self.x()
+            .abs_diff(other.x())
+            .max(self.y().abs_diff(other.y()))
     }
 
     /// Takes the damage in percent of bursts.

@@ -6,15 +6,21 @@ ghost use Rattle.arena.specs.Collisions.{mover, touches};
 ghost use Rattle.arena.specs.Moved.{moved_robot, moved};
 ghost use Rattle.arena.specs.Ground.{Body, body_of, IsWithin};
 ghost use Rattle.arena.specs.Drive.{ahead};
-ghost use Rattle.arena.specs.Calm.{body_at, IsNearby, AreFar};
+ghost use Rattle.arena.specs.Calm.{body_at, gap, IsNearby, IsAtPlace, FarFor};
 ghost use Rattle.arena.specs.Rest.{Stays, IsStill};
 ghost use Rattle.arena.specs.Standing.{HoldsShots};
 
 use crate::collisions::{Mover, any_near, touches};
-use crate::limits::MOST_ROBOTS;
+use crate::limits::{LAST_PLACE, MOST_ROBOTS};
 use crate::missiles::Missiles;
 use crate::robots::{Robot, worn};
 use arrayvec::ArrayVec;
+
+// Robots that are less than this from each other on both axes are close, in tenths of a metre.
+const CLOSE: u16 = 10;
+
+// By how much two robots come nearer to each other in an update, at most: each moves ten metres.
+const APPROACH: u16 = 200;
 
 /// Reports whether an update changes nothing but the number of updates: each robot is dead or at rest, and no missile
 /// is in the air.
@@ -120,6 +126,8 @@ fn hurt(robots: &mut [Robot], missiles: &Missiles, update: u32)
         → HoldsShots f.updates missiles.now f.shots
         → ((i : ℕ) → i < length f.robots → touches (map mover f.robots) i ≡ 0)
         → robots.new ≡ map body_of (moved f).robots }
+    ensures places { (k : ℕ) → k < length robots.old
+        → IsAtPlace (body_at robots.old k).track (body_at robots.new k).track }
     ensures way { (way : ℕ) → All (λ (b : Body). IsWithin way b.track) robots.old
         → All (λ (b : Body). IsWithin way b.track) robots.new }
 {
@@ -129,47 +137,74 @@ fn hurt(robots: &mut [Robot], missiles: &Missiles, update: u32)
     }
 }
 
-// Reports whether a robot may come close to one of the others in an update.
-fn may_reach(robot: &Robot, others: &[Robot]) -> bool
-    ensures { result ≡ false → All (λ other. AreFar robot.now.track other.track) others.now }
+// Returns the gap between a robot and the nearest of some others, if it is less than one so far.
+fn least_gap(robot: &Robot, others: &[Robot], so_far: u16) -> u16
+    ensures less { result ≤ so_far }
+    ensures least { All (λ other. result ≤ gap robot.now.track other.track) others.now }
 {
+    let mut least = so_far;
     for other in others {
-        if !robot.is_far(other) {
-            return true;
-        }
+        least = least.min(robot.gap(other));
     }
-    false
+    least
 }
 
-// Reports whether two robots may come close in an update: if not, none collide in it.
-fn may_meet(robots: &[Robot]) -> bool
-    ensures { result ≡ false → (a b : ℕ) → a < b → b < length robots.now
-        → AreFar (body_at robots.now a).track (body_at robots.now b).track }
+// Returns for how many updates no two robots come close to each other: each moves at most ten metres in one.
+fn calm_updates(robots: &[Robot]) -> u32
+    ensures { FarFor result robots.now }
 {
+    let mut least = LAST_PLACE;
     for (i, robot) in robots.iter().enumerate() {
-        if may_reach(robot, &robots[i + 1..]) {
-            return true;
-        }
+        least = least_gap(robot, &robots[i + 1..], least);
     }
-    false
+    u32::from(least.saturating_sub(CLOSE) / APPROACH)
 }
 
-/// Moves robots to where they are after an update, of which this is the number. In most updates no two robots are near
-/// each other, and no missile bursts.
-pub fn move_on(robots: &mut [Robot], missiles: &Missiles, update: u32)
+// Returns for how many updates no two robots come close, if that isn't known yet.
+fn known_calm(robots: &[Robot], calm: u32) -> u32
+    requires { FarFor calm robots.now }
+    ensures { FarFor result robots.now }
+{
+    if calm > 0 {
+        return calm;
+    }
+    calm_updates(robots)
+}
+
+// Moves robots on that don't come close to each other.
+fn move_apart(robots: &mut [Robot], missiles: &Missiles, update: u32)
+    requires way { All (λ (b : Body). IsWithin (2 ^ 50 - 1) b.track) robots.old }
+    requires far { FarFor 1 robots.old }
+    ensures robots { (f : Field) → update ≡ f.updates + 1 → robots.old ≡ map body_of f.robots
+        → HoldsShots f.updates missiles.now f.shots → robots.new ≡ map body_of (moved f).robots }
+    ensures nearby { (k : ℕ) → k < length robots.old → IsNearby (body_at robots.old k).track (body_at robots.new k).track }
+    ensures way { (way : ℕ) → All (λ (b : Body). IsWithin way b.track) robots.old
+        → All (λ (b : Body). IsWithin (way + 10000000) b.track) robots.new }
+{
+    drive(robots);
+    if !missiles.is_quiet(update) {
+        hurt(robots, missiles, update);
+    }
+}
+
+/// Moves robots to where they are after an update, of which this is the number, and returns for how many more updates
+/// no two of them come close to each other, as far as it is known. Whether any may is asked only if it isn't known that
+/// they don't.
+pub fn move_on(robots: &mut [Robot], missiles: &Missiles, update: u32, calm: u32) -> u32
     requires most { length robots.old ≤ MOST_ROBOTS }
     requires way { All (λ (b : Body). IsWithin (2 ^ 50 - 1) b.track) robots.old }
+    requires far { FarFor calm robots.old }
+    ensures far { FarFor result robots.new }
     ensures robots { (f : Field) → update ≡ f.updates + 1 → robots.old ≡ map body_of f.robots
         → HoldsShots f.updates missiles.now f.shots → robots.new ≡ map body_of (moved f).robots }
     ensures way { (way : ℕ) → All (λ (b : Body). IsWithin way b.track) robots.old
         → All (λ (b : Body). IsWithin (way + 10000000) b.track) robots.new }
 {
-    if may_meet(robots) {
+    let calm = known_calm(robots, calm);
+    if calm == 0 {
         move_among(robots, missiles, update);
-        return;
+        return 0;
     }
-    drive(robots);
-    if !missiles.is_quiet(update) {
-        hurt(robots, missiles, update);
-    }
+    move_apart(robots, missiles, update);
+    calm - 1
 }

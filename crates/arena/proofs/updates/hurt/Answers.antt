@@ -1,9 +1,9 @@
-use Rattle.std.proofs.Common.{◌≡◌, ◌+◌, ◌<◌, length, map, sum, get_or, sym, ap, subst, ◌∙◌, arith}
+use Rattle.std.proofs.Common.{◌≡◌, ◌<◌, length, get_or, sym, ap, subst, ◌∙◌, arith}
 use Rattle.std.proofs.lemmas.List.{get_or_read, get_or-map, length-set, length-map}
 use Rattle.arena.specs.Field.{no_robot}
-use Rattle.arena.specs.Shots.{bursts}
 use Rattle.arena.specs.Ground.{Body, IsWithin}
 use Rattle.arena.specs.Drive.{ahead}
+use Rattle.arena.specs.Calm.{IsAtPlace}
 use Rattle.arena.proofs.Loops.{after_at, at_is}
 use Rattle.arena.proofs.Wear.{hurt_at}
 use Rattle.arena.proofs.InPlace.{none, one_more, others_stay, all_after}
@@ -29,6 +29,11 @@ loop-robot-preserved c =
           let burst = rw (c.x.ensures.value, c.y.ensures.value) at (c.damage_at-bursts.ensures.shots f.updates f.shots u holds) in
           one_more (λ k b. b ≡ after_at f k) items i new inside (inv.robots f u e holds untouched)
           (c.hurt.ensures ∙ hurt_at (get_or f.robots i no_robot) _ c.args.update f.shots _ body burst ∙ at_is f i _ 0 u (sym (untouched i first)));
+      places = one_more (λ k (b : Body). IsAtPlace (get_or c.args.robots.now k none).track b.track) items i new inside inv.places
+          (record {
+            on_x = ap (λ (b : Body). b.track.x) c.hurt.ensures ∙ ap (λ (b : Body). b.track.x) there;
+            on_y = ap (λ (b : Body). b.track.y) c.hurt.ensures ∙ ap (λ (b : Body). b.track.y) there;
+          });
       way = λ way h.
           let here : IsWithin way (get_or items i old).track = subst (λ (b : Body). IsWithin way b.track) (sym there) (h i none c.loop-robot-test.true) in
           one_more (λ k (b : Body). IsWithin way b.track) items i new inside (inv.way way h) (subst (λ (b : Body). IsWithin way b.track) (sym c.hurt.ensures) here);
@@ -39,6 +44,9 @@ returns-clause-robots c = λ f u e holds untouched.
     let inv = c.loop-robot.invariant in
     let size : length c.loop-robot.robot-items ≡ length f.robots = inv.size ∙ ap length e ∙ length-map f.robots ahead in
     all_after f c.loop-robot.robot-items size (λ k l. inv.robots f u e holds untouched k (omega (arith, l, size)))
+
+pub returns-clause-places : goal.returns-clause-places
+returns-clause-places c = λ k l. c.loop-robot.invariant.places k (omega arith)
 
 pub returns-clause-way : goal.returns-clause-way
 returns-clause-way c = λ way h k d l.

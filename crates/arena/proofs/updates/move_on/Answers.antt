@@ -1,25 +1,11 @@
-use Rattle.std.proofs.Common.{◌≡◌, ℕ, ◌+◌, ◌<◌, List, length, sum, subst, ap, ◌∙◌, arith}
-use Rattle.std.proofs.lemmas.List.{length-map}
-use Rattle.arena.specs.Field.{Field}
-use Rattle.arena.specs.Ground.{body_of}
-use Rattle.arena.specs.Shots.{bursts}
-use Rattle.arena.proofs.InPlace.{ahead_of_all}
-use Rattle.arena.proofs.Calm.{calm}
+use Rattle.arena.proofs.Calm.{far_none, far_one, far_less}
 use Rattle.arena.proofs.updates.move_on.Goals as goal
 
-pub returns-then-not-is_quiet-clause-robots : goal.returns-then-not-is_quiet-clause-robots
-returns-then-not-is_quiet-clause-robots c = λ f u e holds.
-    let there = c.drive.ensures.ahead f.robots e in
-    let size = ap length e ∙ length-map f.robots body_of in
-    c.hurt.ensures.robots f u there holds (calm f c.args.robots.now c.drive.new.robots size there c.drive.ensures.nearby (c.may_meet.ensures c.if-may_meet.false))
+pub move_apart-requires-clause-far : goal.move_apart-requires-clause-far
+move_apart-requires-clause-far c = far_one c.known_calm-calm.result c.args.robots.now c.if-calm-eq0.false c.known_calm-calm.ensures
 
-pub returns-then-not-is_quiet-clause-way : goal.returns-then-not-is_quiet-clause-way
-returns-then-not-is_quiet-clause-way c = λ way h. c.hurt.ensures.way (way + 10000000) (c.drive.ensures.way way h)
+pub returns-then-calm-eq0-clause-far : goal.returns-then-calm-eq0-clause-far
+returns-then-calm-eq0-clause-far c = far_none _
 
-pub returns-else-not-is_quiet-clause-robots : goal.returns-else-not-is_quiet-clause-robots
-returns-else-not-is_quiet-clause-robots c = λ f u e holds.
-    let there = c.drive.ensures.ahead f.robots e in
-    let size = ap length e ∙ length-map f.robots body_of in
-    let untouched = calm f c.args.robots.now c.drive.new.robots size there c.drive.ensures.nearby (c.may_meet.ensures c.if-may_meet.false) in
-    let none : (x y : ℕ) → sum (bursts (f.updates + 1) f.shots x y) ≡ 0 = λ x y. subst (λ n. sum (bursts n f.shots x y) ≡ 0) u (c.is_quiet.ensures c.if-not-is_quiet.false f.updates f.shots x y u holds) in
-    there ∙ ahead_of_all f untouched none
+pub returns-clause-far : goal.returns-clause-far
+returns-clause-far c = far_less c.known_calm-calm.result c.args.robots.now c.move_apart.new.robots c.move_apart.auto.robots c.move_apart.ensures.nearby c.known_calm-calm.ensures

@@ -1,4 +1,4 @@
-use Rattle.std.proofs.Common.{◌≡◌, ◌∙◌, sym}
+use Rattle.std.proofs.Common.{◌≡◌, ◌∙◌}
 use Rattle.arena.specs.Leg.{steered, sped, driven, tried}
 use Rattle.arena.specs.Ground.{track_of}
 use Rattle.arena.proofs.Tracks.{keeps_course}

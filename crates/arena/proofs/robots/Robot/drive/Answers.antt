@@ -1,6 +1,6 @@
 use Rattle.std.proofs.Common.{◌≡◌, true, false, nat_lt, sym, ap, ◌∙◌, arith}
 use Rattle.arena.specs.Field.{is_alive, damage_of}
-use Rattle.arena.specs.Ground.{Body, body_of, track_of}
+use Rattle.arena.specs.Ground.{Body, body_of}
 use Rattle.arena.proofs.Wear.{dead_stays, drove}
 use Rattle.arena.proofs.robots.Robot.drive.Goals as goal
 
