@@ -11,3 +11,4 @@ pub mod SlotLaws
 pub mod Nearest
 pub mod InPlace
 pub mod Roots
+pub mod Squares

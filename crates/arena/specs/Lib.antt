@@ -13,5 +13,6 @@ pub mod Ground
 pub mod Rest
 pub mod Drive
 pub mod Calm
+pub mod Due
 pub mod Standing
 pub mod KnownFields

@@ -164,7 +164,8 @@ impl Robot {
         Mover::new(live, from_x, from_y, self.x(), self.y())
     }
 
-    /// Returns how far two robots are from each other in tenths of a metre, on the axis on which they are further apart.
+    /// Returns how far two robots are from each other in tenths of a metre, on the axis on which they are further
+    /// apart.
     pub fn gap(&self, other: &Robot) -> u16
         ensures { result ≡ gap self.now.track other.now.track }
     {

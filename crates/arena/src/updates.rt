@@ -14,6 +14,7 @@ use crate::collisions::{Mover, any_near, touches};
 use crate::limits::{LAST_PLACE, MOST_ROBOTS};
 use crate::missiles::Missiles;
 use crate::robots::{Robot, worn};
+use crate::slots::harm_by;
 use arrayvec::ArrayVec;
 
 // Robots that are less than this from each other on both axes are close, in tenths of a metre.
@@ -111,7 +112,8 @@ fn move_among(robots: &mut [Robot], missiles: &Missiles, update: u32)
 fn drive(robots: &mut [Robot])
     requires way { All (λ (b : Body). IsWithin (2 ^ 50 - 1) b.track) robots.old }
     ensures ahead { (rs : List FieldRobot) → robots.old ≡ map body_of rs → robots.new ≡ map ahead rs }
-    ensures nearby { (k : ℕ) → k < length robots.old → IsNearby (body_at robots.old k).track (body_at robots.new k).track }
+    ensures nearby { (k : ℕ) → k < length robots.old
+        → IsNearby (body_at robots.old k).track (body_at robots.new k).track }
     ensures way { (way : ℕ) → All (λ (b : Body). IsWithin way b.track) robots.old
         → All (λ (b : Body). IsWithin (way + 10000000) b.track) robots.new }
 {
@@ -131,8 +133,9 @@ fn hurt(robots: &mut [Robot], missiles: &Missiles, update: u32)
     ensures way { (way : ℕ) → All (λ (b : Body). IsWithin way b.track) robots.old
         → All (λ (b : Body). IsWithin way b.track) robots.new }
 {
+    let due = missiles.due(update);
     for robot in robots {
-        let bursts = missiles.damage_at(update, robot.x(), robot.y());
+        let bursts = harm_by(due.as_slice(), robot.x(), robot.y());
         robot.hurt(bursts);
     }
 }
@@ -177,7 +180,8 @@ fn move_apart(robots: &mut [Robot], missiles: &Missiles, update: u32)
     requires far { FarFor 1 robots.old }
     ensures robots { (f : Field) → update ≡ f.updates + 1 → robots.old ≡ map body_of f.robots
         → HoldsShots f.updates missiles.now f.shots → robots.new ≡ map body_of (moved f).robots }
-    ensures nearby { (k : ℕ) → k < length robots.old → IsNearby (body_at robots.old k).track (body_at robots.new k).track }
+    ensures nearby { (k : ℕ) → k < length robots.old
+        → IsNearby (body_at robots.old k).track (body_at robots.new k).track }
     ensures way { (way : ℕ) → All (λ (b : Body). IsWithin way b.track) robots.old
         → All (λ (b : Body). IsWithin (way + 10000000) b.track) robots.new }
 {

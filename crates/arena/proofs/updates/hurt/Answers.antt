@@ -1,9 +1,10 @@
-use Rattle.std.proofs.Common.{◌≡◌, ◌<◌, length, get_or, sym, ap, subst, ◌∙◌, arith}
+use Rattle.std.proofs.Common.{◌≡◌, ◌<◌, length, map, sum, get_or, sym, ap, subst, ◌∙◌, arith}
 use Rattle.std.proofs.lemmas.List.{get_or_read, get_or-map, length-set, length-map}
 use Rattle.arena.specs.Field.{no_robot}
 use Rattle.arena.specs.Ground.{Body, IsWithin}
 use Rattle.arena.specs.Drive.{ahead}
 use Rattle.arena.specs.Calm.{IsAtPlace}
+use Rattle.arena.specs.Due.{harm}
 use Rattle.arena.proofs.Loops.{after_at, at_is}
 use Rattle.arena.proofs.Wear.{hurt_at}
 use Rattle.arena.proofs.InPlace.{none, one_more, others_stay, all_after}
@@ -26,7 +27,8 @@ loop-robot-preserved c =
       robots = λ f u e holds untouched.
           let first : i < length f.robots = omega (arith, c.loop-robot-test.true, ap length e, length-map f.robots ahead) in
           let body : get_or items i old ≡ ahead (get_or f.robots i no_robot) = there ∙ ap (λ l. get_or l i none) e ∙ get_or-map ahead f.robots i no_robot none first in
-          let burst = rw (c.x.ensures.value, c.y.ensures.value) at (c.damage_at-bursts.ensures.shots f.updates f.shots u holds) in
+          let harms = c.harm_by-bursts.ensures.value ∙ ap (λ ms. sum (map (harm c.x.result c.y.result) ms)) c.as_slice.ensures.value ∙ c.due-due.ensures.shots f.updates f.shots c.x.result c.y.result u holds in
+          let burst = rw (c.x.ensures.value, c.y.ensures.value) at harms in
           one_more (λ k b. b ≡ after_at f k) items i new inside (inv.robots f u e holds untouched)
           (c.hurt.ensures ∙ hurt_at (get_or f.robots i no_robot) _ c.args.update f.shots _ body burst ∙ at_is f i _ 0 u (sym (untouched i first)));
       places = one_more (λ k (b : Body). IsAtPlace (get_or c.args.robots.now k none).track b.track) items i new inside inv.places
