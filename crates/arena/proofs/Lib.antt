@@ -1,6 +1,7 @@
 pub mod KnownFields
 pub mod Tracks
 pub mod Touches
+pub mod Calm
 pub mod Wear
 pub mod Loops
 pub mod Represents
@@ -10,3 +11,4 @@ pub mod SlotLaws
 pub mod Nearest
 pub mod InPlace
 pub mod Roots
+pub mod Squares

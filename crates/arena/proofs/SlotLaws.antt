@@ -12,6 +12,7 @@ use Rattle.arena.specs.Shots.{ring, in_air, due_at, bursts}
 use Rattle.arena.specs.Ground.{Missile, shot_of}
 use Rattle.arena.specs.Rest.{NoneBefore}
 use Rattle.arena.specs.Standing.{HoldsShots}
+use Rattle.arena.specs.Due.{harm}
 
 sum-cons : (n : ℕ) (ns : List ℕ) → sum (n ∷ ns) ≡ n + sum ns
 sum-cons n ns = let e = sum_by-append (λ x. x) (n ∷ []) ns in omega arith
@@ -329,3 +330,29 @@ before_none n update slots e = subst (λ (slots : List (List Missile)). NoneBefo
     at_none zero k d l = absurd (omega (arith, l))
     at_none (suc n) zero d l = refl
     at_none (suc n) (suc k) d l = at_none n k d (omega (arith, l))
+
+-- what the missiles of one robot that burst do
+due_own : (update x y : ℕ) (ms : List Missile) → map (λ s. ring (square x y s.x s.y)) (filter (λ s. s.burst == update) (map (shot_of 0) ms)) ≡ map (harm x y) (filter (λ m. m.burst == update) ms)
+unfolding harm shot_of
+due_own update x y [] = refl
+due_own update x y (m ∷ ms) = by_burst (m.burst == update) (due_own update x y ms)
+  where
+    by_burst : (b : Bool) → map (λ s. ring (square x y s.x s.y)) (filter (λ s. s.burst == update) (map (shot_of 0) ms)) ≡ map (harm x y) (filter (λ m. m.burst == update) ms) →
+        map (λ (s : Shot). ring (square x y s.x s.y)) (cond b (shot_of 0 m ∷ filter (λ s. s.burst == update) (map (shot_of 0) ms)) (filter (λ s. s.burst == update) (map (shot_of 0) ms))) ≡ map (harm x y) (cond b (m ∷ filter (λ m. m.burst == update) ms) (filter (λ m. m.burst == update) ms))
+    by_burst true e = ap (λ l. ring (square x y m.x m.y) ∷ l) e
+    by_burst false e = e
+
+own_hurts : (update x y : ℕ) (ms : List Missile) → sum (map (harm x y) (filter (λ m. m.burst == update) ms)) ≡ hurt_by update x y ms
+unfolding bursts due_at
+own_hurts update x y ms = ap sum (sym (due_own update x y ms))
+
+-- one robot's missiles more
+pub due_more : (update x y : ℕ) (slots : List (List Missile)) (i : ℕ) (ms due more : List Missile) → i < length slots → ms ≡ get_or slots i ms → sum (map (harm x y) due) ≡ sum (map (hurt_by update x y) (take i slots)) →
+    more ≡ due ++ filter (λ m. m.burst == update) ms → sum (map (harm x y) more) ≡ sum (map (hurt_by update x y) (take (i + 1) slots))
+due_more update x y slots i ms due more inside at before m =
+    let own = filter (λ m. m.burst == update) ms in
+    let parts : sum (map (harm x y) (due ++ own)) ≡ sum (map (harm x y) due) + sum (map (harm x y) own) = ap sum (map-append (harm x y) due own) ∙ sum_by-append (λ x. x) (map (harm x y) due) (map (harm x y) own) in
+    let one = robot_more (hurt_by update x y) slots i ms inside at in
+    let mine = own_hurts update x y ms in
+    let whole = ap (λ l. sum (map (harm x y) l)) m in
+    omega arith

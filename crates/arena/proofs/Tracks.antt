@@ -1,6 +1,8 @@
 -- What is kept of a leg, after each step of an update.
-use Rattle.std.proofs.Common.{◌≡◌, ℕ, ◌+◌, ◌≤◌, ◌<◌, ℤ, pos, negsuc, unsigned_abs, ◌+ℤ◌, ◌*ℤ◌, Bool, true, false, ◌||◌, FitsSigned, to_z, of_z, w32, w64, add-zero, subst, refl, sym, ap, ◌∙◌, arith}
-use Rattle.std.proofs.lemmas.Int.{ints, to_z-of_z}
+use Rattle.std.proofs.Common.{◌≡◌, ℕ, ◌+◌, ◌≤◌, ◌<◌, min, ℤ, pos, negsuc, unsigned_abs, ◌+ℤ◌, ◌*ℤ◌, ◌≤ℤ◌, Bool, true, false, ◌||◌, FitsSigned, to_z, of_z, w32, w64, add-zero, subst, refl, sym, ap, ◌∙◌, arith}
+use Rattle.std.specs.Int.{abs_diff}
+use Rattle.std.proofs.lemmas.Int.{ints, to_z-of_z, unsigned_abs-mul}
+use Rattle.std.proofs.lemmas.Nat.{mul-le}
 use Rattle.std.proofs.lemmas.Bool.Decides.{nat_tests}
 use Rattle.std.proofs.lemmas.Bool.{eq-eqb, ne_eqb, le-leb, lt-leb, or_parts}
 use Rattle.arena.specs.Answer.{wanting}
@@ -217,6 +219,48 @@ free_is t leg east north x y px py out e f h =
     rw (sym g.is_out ∙ h, g.goes_east, g.goes_north, places.0, places.1)
     (ap (λ (t : Track). record t { east = way_east (grown leg); north = way_north (grown leg); x = place_x (grown leg); y = place_y (grown leg) }) e)
 
+-- a place that no wall clamps
+pub clamped_inside : (n : ℕ) (z : ℤ) → pos n ≡ z → n ≤ last_place → n ≡ clamped last_place z
+unfolding clamped
+clamped_inside n z e most = let least : n ≡ min n last_place = omega arith in least ∙ ap (clamped last_place) e
+
+-- an update leads at most ten metres further on an axis
+step_most : (speed : ℕ) (part : ℤ) → speed ≤ 100 → unsigned_abs part ≤ 100000 → unsigned_abs (pos speed *ℤ part) ≤ 10000000
+step_most speed part s p = omega (arith, unsigned_abs-mul (pos speed) part, mul-le speed (unsigned_abs part) 100 100000 s p)
+
+leads_up : (o x : ℕ) (from to : ℤ) → pos x ≡ along o from → to ≤ℤ (from +ℤ pos 10000000) → along o to ≤ℤ (pos x +ℤ pos 100)
+unfolding along
+leads_up o x (pos a) (pos b) at up = omega (arith, ints)
+leads_up o x (pos a) (negsuc b) at up = omega (arith, ints)
+leads_up o x (negsuc a) (pos b) at up = omega (arith, ints)
+leads_up o x (negsuc a) (negsuc b) at up = omega (arith, ints)
+
+leads_down : (o x : ℕ) (from to : ℤ) → pos x ≡ along o from → from ≤ℤ (to +ℤ pos 10000000) → pos x ≤ℤ (along o to +ℤ pos 100)
+unfolding along
+leads_down o x (pos a) (pos b) at down = omega (arith, ints)
+leads_down o x (pos a) (negsuc b) at down = omega (arith, ints)
+leads_down o x (negsuc a) (pos b) at down = omega (arith, ints)
+leads_down o x (negsuc a) (negsuc b) at down = omega (arith, ints)
+
+clamped_near : (x : ℕ) (z : ℤ) → x ≤ last_place → z ≤ℤ (pos x +ℤ pos 100) → pos x ≤ℤ (z +ℤ pos 100) → abs_diff x (clamped last_place z) ≤ 100
+unfolding clamped
+clamped_near x (pos n) most up down = omega (arith, ints)
+clamped_near x (negsuc n) most up down = omega (arith, ints)
+
+axis_near : (o x p speed : ℕ) (from part to z : ℤ) → x ≤ last_place → pos x ≡ along o from → speed ≤ 100 → unsigned_abs part ≤ 100000 → to ≡ from +ℤ pos speed *ℤ part → z ≡ along o to → p ≡ clamped last_place z → abs_diff x p ≤ 100
+axis_near o x p speed from part to z most at s b goes leads is =
+    let step = step_most speed part s b in
+    let up : to ≤ℤ (from +ℤ pos 10000000) = omega (arith, ints, goes, step) in
+    let down : from ≤ℤ (to +ℤ pos 10000000) = omega (arith, ints, goes, step) in
+    rw (is, leads) (clamped_near x (along o to) most (leads_up o x from to at up) (leads_down o x from to at down))
+
+pub forward_near : (t : Track) (cosine sine east north x y : ℤ) (px py : ℕ) (out : Bool) → Forward t east north x y px py out → t.x ≤ last_place → t.y ≤ last_place → pos t.x ≡ along t.origin_x t.east → pos t.y ≡ along t.origin_y t.north →
+    t.speed ≤ 100 → cosine ≡ cosine_at t.heading → sine ≡ sine_at t.heading → unsigned_abs cosine ≤ 100000 → unsigned_abs sine ≤ 100000 → (abs_diff t.x px ≤ 100) × (abs_diff t.y py ≤ 100)
+forward_near t cosine sine east north x y px py out f x_most y_most at_x at_y speed c s c_most s_most = (
+  axis_near t.origin_x t.x px t.speed t.east cosine east x x_most at_x speed c_most (f.goes_east ∙ ap (λ z. t.east +ℤ pos t.speed *ℤ z) (sym c)) f.leads_x f.is_x,
+  axis_near t.origin_y t.y py t.speed t.north sine north y y_most at_y speed s_most (f.goes_north ∙ ap (λ z. t.north +ℤ pos t.speed *ℤ z) (sym s)) f.leads_y f.is_y,
+)
+
 leg_is_free : (leg : Leg) (x y : ℕ) → pos x ≡ end_x leg → pos y ≡ end_y leg → x ≤ last_place → y ≤ last_place → hits_wall leg ≡ false
 unfolding hits_wall
 leg_is_free leg x y p q x_most y_most =
@@ -258,3 +302,21 @@ at_rest leg s w h free = record {
 pub rests_is : (leg : Leg) → Rests (track_of leg) → StandsFree leg
 unfolding track_of end_x end_y
 rests_is leg r = at_rest leg r.stands r.wants_none r.heads (leg_is_free leg (place_x leg) (place_y leg) r.leads_x r.leads_y r.inside.0 r.inside.1)
+
+-- a robot that wants neither another heading nor another speed drives on as it does
+approached-same : (n : ℕ) → approached n n ≡ n
+unfolding approached
+approached-same n = grind (arith, nat_tests)
+
+keeps_pace : (leg : Leg) → leg.speed ≡ leg.wanted_speed → sped leg ≡ leg
+unfolding sped
+keeps_pace leg e =
+    let same : approached leg.speed leg.wanted_speed ≡ leg.speed = ap (approached leg.speed) (sym e) ∙ approached-same leg.speed in
+    ap (λ n. record leg { speed = n }) same
+
+pub keeps_course : (t : Track) (leg : Leg) → t ≡ track_of leg → t.wanted_heading ≡ t.heading → t.speed ≡ t.wanted_speed → t ≡ track_of (sped (steered leg))
+unfolding track_of
+keeps_course t leg e heads pace =
+    let same_heading : leg.wanted_heading ≡ leg.heading = cc in
+    let same_speed : leg.speed ≡ leg.wanted_speed = cc in
+    e ∙ ap track_of (sym (ap sped (keeps_way leg same_heading) ∙ keeps_pace leg same_speed))

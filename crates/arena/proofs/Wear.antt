@@ -1,6 +1,7 @@
 -- What an update makes of one robot.
-use Rattle.std.proofs.Common.{◌≡◌, ℕ, ◌+◌, ◌*◌, ◌++◌, [], ◌∷◌, List, replicate, min, Bool, true, false, cond, ◌&&◌, refl, sym, ap, ◌∙◌, arith}
+use Rattle.std.proofs.Common.{◌≡◌, ℕ, ◌+◌, ◌*◌, ◌≤◌, ◌++◌, [], ◌∷◌, List, replicate, min, Bool, true, false, cond, ◌&&◌, refl, sym, ap, ◌∙◌, arith}
 use Rattle.std.specs.List.{sum}
+use Rattle.std.proofs.lemmas.Bool.Decides.{nat_tests}
 use Rattle.std.proofs.lemmas.List.Sums.{sum_by-append}
 use Rattle.std.proofs.lemmas.List.Folds.{sum_by-replicate}
 use Rattle.arena.specs.Leg.{Leg, place_x, place_y, tried, driven, hits_wall}
@@ -8,7 +9,7 @@ use Rattle.arena.specs.Field.{Shot, Robot, damage_of, is_alive}
 use Rattle.arena.specs.Collisions.{candidate}
 use Rattle.arena.specs.Shots.{bursts}
 use Rattle.arena.specs.Moved.{settled, knocks, moved_robot}
-use Rattle.arena.specs.Ground.{Track, track_of, body_of}
+use Rattle.arena.specs.Ground.{Track, track_of, Body, body_of}
 use Rattle.arena.specs.Drive.{ahead}
 
 -- a dead robot stays as it is
@@ -66,3 +67,41 @@ ahead_is robot update shots none = by_life (is_alive robot) refl
     by_life : (live : Bool) → is_alive robot ≡ live → ahead robot ≡ body_of (moved_robot update shots 0 robot)
     by_life true e = live_is robot update shots none e
     by_life false e = dead_stays robot e ∙ ap body_of (dead_is robot update shots 0 e)
+
+-- a live robot that has moved on, and was perhaps stopped by a wall
+pub drove : (robot : Robot) (track : Track) (walled : Bool) (damage : ℕ) → is_alive robot ≡ true → track ≡ track_of (driven robot.leg) → walled ≡ hits_wall (tried robot.leg) → damage ≡ min (damage_of robot + cond walled 2 0) 100 →
+    record { track = track; damage = damage } ≡ ahead robot
+unfolding ahead candidate
+drove robot track walled damage live t w d = rw (live, sym w, t, d) refl
+
+-- a robot that has moved on, touches none, and is hurt by bursts
+live_hurt : (robot : Robot) (update : ℕ) (shots : List Shot) (burst : ℕ) → is_alive robot ≡ true → burst ≡ sum (bursts update shots (ahead robot).track.x (ahead robot).track.y) →
+    record (ahead robot) { damage = min ((ahead robot).damage + burst) 100 } ≡ body_of (moved_robot update shots 0 robot)
+unfolding ahead candidate settled
+live_hurt robot update shots burst live b =
+    let t = track_of (driven robot.leg) in
+    let d = min (damage_of robot + cond (is_alive robot && hits_wall (tried robot.leg)) 2 0) 100 in
+    let drives : candidate robot ≡ driven robot.leg = rw live refl in
+    let here : burst ≡ sum (bursts update shots t.x t.y) = b ∙ ap (λ (l : Leg). sum (bursts update shots (track_of l).x (track_of l).y)) drives in
+    rw drives (alive_is robot t update shots 0 d burst (min (d + burst) 100) live refl refl here (omega arith))
+
+dead_hurt : (robot : Robot) (burst : ℕ) → is_alive robot ≡ false → record (ahead robot) { damage = min ((ahead robot).damage + burst) 100 } ≡ body_of robot
+unfolding ahead candidate body_of damage_of is_alive
+dead_hurt robot burst dead =
+    let whole : 100 ≤ min (sum robot.hurts) 100 = grind (arith, nat_tests, dead) in
+    let same : min (min (min (sum robot.hurts) 100 + 0) 100 + burst) 100 ≡ min (sum robot.hurts) 100 = omega arith in
+    rw (dead, same) refl
+
+pub hurt_is : (robot : Robot) (update : ℕ) (shots : List Shot) (burst : ℕ) → burst ≡ sum (bursts update shots (ahead robot).track.x (ahead robot).track.y) →
+    record (ahead robot) { damage = min ((ahead robot).damage + burst) 100 } ≡ body_of (moved_robot update shots 0 robot)
+hurt_is robot update shots burst b = by_life (is_alive robot) refl
+  where
+    by_life : (live : Bool) → is_alive robot ≡ live → record (ahead robot) { damage = min ((ahead robot).damage + burst) 100 } ≡ body_of (moved_robot update shots 0 robot)
+    by_life true e = live_hurt robot update shots burst e b
+    by_life false e = dead_hurt robot burst e ∙ ap body_of (dead_is robot update shots 0 e)
+
+pub hurt_at : (robot : Robot) (body : Body) (update : ℕ) (shots : List Shot) (burst : ℕ) → body ≡ ahead robot → burst ≡ sum (bursts update shots body.track.x body.track.y) →
+    record body { damage = min (body.damage + burst) 100 } ≡ body_of (moved_robot update shots 0 robot)
+hurt_at robot body update shots burst e b =
+    let there : burst ≡ sum (bursts update shots (ahead robot).track.x (ahead robot).track.y) = b ∙ ap (λ (x : Body). sum (bursts update shots x.track.x x.track.y)) e in
+    ap (λ (x : Body). record x { damage = min (x.damage + burst) 100 }) e ∙ hurt_is robot update shots burst there

@@ -1,14 +1,9 @@
 -- What the code makes of each robot before it looks for collisions.
 use Rattle.std.specs.Prelude.{◌&&◌, ◌+◌, min, if◌then◌else◌}
-use Rattle.arena.specs.declared.motion.Drive.{Drive}
 use Rattle.arena.specs.Leg.{tried, hits_wall}
 use Rattle.arena.specs.Field.{Robot, damage_of, is_alive}
 use Rattle.arena.specs.Collisions.{candidate}
 use Rattle.arena.specs.Ground.{Body, track_of}
-
--- the motion up to walls, and whether one stopped a live robot
-unfoldable pub drive_of : Robot → Drive
-drive_of robot = record { motion = track_of (candidate robot); walled = is_alive robot && hits_wall (tried robot.leg) }
 
 -- a robot that has moved on and was hurt by a wall, before collisions and bursts
 unfoldable pub ahead : Robot → Body

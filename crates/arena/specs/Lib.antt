@@ -12,5 +12,7 @@ pub mod Answer
 pub mod Ground
 pub mod Rest
 pub mod Drive
+pub mod Calm
+pub mod Due
 pub mod Standing
 pub mod KnownFields

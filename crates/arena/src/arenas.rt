@@ -38,10 +38,12 @@ const MOST_RANGE: u16 = 700;
 const MOST_SPEED: u16 = 100;
 
 /// A field in play: two to four robots, numbered from 0, their missiles in the air, and the
-/// generator of the match. If it is known to be still, the next update only counts.
+/// generator of the match. If it is known to be still, the next update only counts. In the next `calm` updates no two
+/// robots come close to each other.
 #[derive(Drop)]
 pub struct Arena {
     updates: u32,
+    calm: u32,
     is_still: bool,
     robots: ArrayVec<Robot, MOST_ROBOTS>,
     missiles: Missiles,
@@ -52,6 +54,7 @@ impl Model for Arena {
     ghost use Rattle.std.specs.Prelude.{◌≡◌, ◌*◌, ◌≤◌, true, All, length};
     ghost use Rattle.arena.specs.Ground.{most_updates, Body, Ground, IsWithin};
     ghost use Rattle.arena.specs.Rest.{IsStill};
+    ghost use Rattle.arena.specs.Calm.{FarFor};
 
     ghost Value = { Ground };
 
@@ -64,7 +67,8 @@ impl Model for Arena {
 
     ghost invariant = { λ a. (a.updates ≤ most_updates) × (length a.missiles ≡ length a.robots.items)
         × (length a.robots.items ≤ 4) × All (λ (b : Body). IsWithin (10000000 * a.updates) b.track) a.robots.items
-        × All (λ s. length s ≤ 2) a.missiles × (a.is_still ≡ true → IsStill a.robots.items a.missiles) };
+        × All (λ s. length s ≤ 2) a.missiles × (a.is_still ≡ true → IsStill a.robots.items a.missiles)
+        × FarFor a.calm a.robots.items };
 }
 
 impl Arena {
@@ -80,6 +84,7 @@ impl Arena {
         let robots = drawn_robots(&mut random, n);
         Arena {
             updates: 0,
+            calm: 0,
             is_still: false,
             robots,
             missiles: Missiles::none(n),
@@ -97,6 +102,7 @@ impl Arena {
     {
         Arena {
             updates: 0,
+            calm: 0,
             is_still: false,
             robots: placed_robots(places),
             missiles: Missiles::none(places.len()),
@@ -145,7 +151,12 @@ impl Arena {
             self.updates = update;
             return;
         }
-        move_on(self.robots.as_mut_slice(), &self.missiles, update);
+        self.calm = move_on(
+            self.robots.as_mut_slice(),
+            &self.missiles,
+            update,
+            self.calm,
+        );
         self.missiles.land(update);
         self.is_still = is_still(self.robots.as_slice(), &self.missiles);
         self.updates = update;

@@ -1,6 +1,7 @@
 //! Which robots collide in an update.
 
-ghost use Rattle.std.specs.Prelude.{◌≡◌, ℕ, ◌<◌, ◌≤◌, false, All, count_by, length};
+ghost use Rattle.std.specs.Prelude.{◌≡◌, ℕ, ◌*◌, ◌<◌, ◌≤◌, false, All, count_by, length};
+ghost use Rattle.std.specs.Int.{abs_diff};
 ghost use Rattle.arena.specs.Leg.{last_place};
 ghost use Rattle.arena.specs.Collisions.{square, moves, is_close, is_no_further, collides, touches};
 
@@ -123,9 +124,19 @@ pub fn square(x: u16, y: u16, to_x: u16, to_y: u16) -> u32
     requires to_y { to_y ≤ last_place }
     ensures { result ≡ square x y to_x to_y }
 {
-    let dx = u32::from(x.abs_diff(to_x));
-    let dy = u32::from(y.abs_diff(to_y));
-    dx * dx + dy * dy
+    axis_square(x, to_x) + axis_square(y, to_y)
+}
+
+// Returns the square of what lies between two coordinates in tenths of a metre.
+#[tactic(auto, using(crate::proofs::Squares::square_steps))]
+fn axis_square(from: u16, to: u16) -> u32
+    requires from { from ≤ last_place }
+    requires to { to ≤ last_place }
+    ensures value { result ≡ abs_diff from to * abs_diff from to }
+    ensures most { result ≤ 99980001 }
+{
+    let difference = i32::from(from) - i32::from(to);
+    (difference * difference) as u32
 }
 
 // Returns how many of some robots a robot collides with.

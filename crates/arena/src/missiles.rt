@@ -1,15 +1,16 @@
 //! The missiles of all robots that are in the air, and the update before which none of them bursts.
 
-ghost use Rattle.std.specs.Prelude.{◌≡◌, ℕ, ◌+◌, ◌<◌, ◌≤◌, ◌++◌, ◌∷◌, [], List, All, sum, true, nat_lt, length, slice_index_or};
+ghost use Rattle.std.specs.Prelude.{◌≡◌, ℕ, ◌+◌, ◌<◌, ◌≤◌, ◌++◌, ◌∷◌, [], List, All, map, sum, true, nat_lt, length, slice_index_or};
 ghost use Rattle.arena.specs.Leg.{last_place};
 ghost use Rattle.arena.specs.Field.{Shot};
 ghost use Rattle.arena.specs.Shots.{bursts, in_air};
 ghost use Rattle.arena.specs.Ground.{shot_of};
 ghost use Rattle.arena.specs.Standing.{HoldsShots};
+ghost use Rattle.arena.specs.Due.{harm};
 
-use crate::limits::MOST_ROBOTS;
+use crate::limits::{MOST_BURSTS, MOST_ROBOTS};
 use crate::slots::{
-    Missile, Slots, damage_at, fire, land, may_fire, next_burst, no_missiles, none_flies,
+    Missile, Slots, damage_at, due, fire, land, may_fire, next_burst, no_missiles, none_flies,
 };
 use arrayvec::ArrayVec;
 use std::marker::Model;
@@ -97,6 +98,14 @@ impl Missiles {
             return 0;
         }
         damage_at(self.slots.as_slice(), update, x, y)
+    }
+
+    /// Returns the missiles that burst in an update.
+    pub fn due(&self, update: u32) -> ArrayVec<Missile, MOST_BURSTS>
+        ensures shots { (updates : ℕ) (shots : List Shot) (x y : ℕ) → update ≡ updates + 1
+            → HoldsShots updates self.now shots → sum (map (harm x y) result.items) ≡ sum (bursts update shots x y) }
+    {
+        due(self.slots.as_slice(), update)
     }
 
     /// Frees the missiles that burst in an update or before.

@@ -1,12 +1,13 @@
 //! How a robot moves: its leg, with the sums of the way in place of the distance.
 
-ghost use Rattle.std.specs.Prelude.{◌≡◌, true, ◌+◌, ◌^◌, ◌<◌, ◌≤◌, ℤ, pos, ◌+ℤ◌, ◌*ℤ◌, unsigned_abs, ◌||◌};
+ghost use Rattle.std.specs.Prelude.{◌≡◌, true, false, ◌+◌, ◌^◌, ◌<◌, ◌≤◌, ℤ, pos, ◌+ℤ◌, ◌*ℤ◌, unsigned_abs, ◌||◌};
 ghost use Rattle.arena.specs.Leg.{Leg, last_place, clamped, along, place_x, place_y, approached, begun, steered, sped, grown, walled, is_outside, hits_wall, tried, driven};
 ghost use Rattle.arena.specs.Start.{standing};
 ghost use Rattle.arena.specs.Moved.{put_back};
 ghost use Rattle.arena.specs.Answer.{wanting};
 ghost use Rattle.arena.specs.Ground.{Track, track_of};
 ghost use Rattle.arena.specs.Rest.{Rests};
+ghost use Rattle.arena.specs.Calm.{IsNearby, IsAtPlace};
 
 use crate::limits::LAST_PLACE;
 use arith::{cosine_at, sine_at};
@@ -76,13 +77,6 @@ impl Model for Motion {
         × (pos m.x ≡ along m.origin_x m.east) × (pos m.y ≡ along m.origin_y m.north) };
 }
 
-/// A robot's motion after walls, and whether a wall stopped it.
-#[derive(Clone, Copy, Default, Drop)]
-pub struct Drive {
-    pub motion: Motion,
-    pub walled: bool,
-}
-
 impl Default for Motion {
     fn default() -> Motion {
         Motion::standing(0, 0)
@@ -148,6 +142,7 @@ impl Motion {
         requires speed { speed ≤ 100 }
         ensures leg { (leg : Leg) → self ≡ track_of leg → result ≡ track_of (wanting leg degree speed) }
         ensures way { (result.east ≡ self.east) × (result.north ≡ self.north) }
+        ensures place { IsAtPlace self result }
     {
         Motion {
             wanted_heading: degree,
@@ -161,6 +156,7 @@ impl Motion {
         ensures leg { (leg : Leg) → self ≡ track_of leg → result ≡ track_of (begun leg) }
         ensures way { (result.east ≡ pos 0) × (result.north ≡ pos 0) }
         ensures speed { result.speed ≡ self.speed }
+        ensures place { (result.x ≡ self.x) × (result.y ≡ self.y) }
     {
         Motion {
             origin_x: self.x,
@@ -176,6 +172,7 @@ impl Motion {
         ensures leg { (leg : Leg) → self ≡ track_of leg → result ≡ track_of (steered leg) }
         ensures east { unsigned_abs result.east ≤ unsigned_abs self.east }
         ensures north { unsigned_abs result.north ≤ unsigned_abs self.north }
+        ensures place { (result.x ≡ self.x) × (result.y ≡ self.y) }
     {
         if self.wanted_heading == self.heading {
             self
@@ -196,6 +193,7 @@ impl Motion {
     fn sped(self) -> Motion
         ensures leg { (leg : Leg) → self ≡ track_of leg → result ≡ track_of (sped leg) }
         ensures way { (result.east ≡ self.east) × (result.north ≡ self.north) }
+        ensures place { (result.x ≡ self.x) × (result.y ≡ self.y) }
     {
         Motion {
             speed: approached(self.speed, self.wanted_speed),
@@ -231,57 +229,61 @@ impl Motion {
         }
     }
 
-    // Drives on for an update at the present speed, up to a wall.
-    fn forward(self) -> Drive
-        requires east { unsigned_abs self.east < 2 ^ 50 }
-        requires north { unsigned_abs self.north < 2 ^ 50 }
-        ensures motion { (leg : Leg) → self ≡ track_of leg → result.motion ≡ track_of (walled (grown leg)) }
-        ensures walled { (leg : Leg) → self ≡ track_of leg → result.walled ≡ hits_wall (grown leg) }
-        ensures east { unsigned_abs result.motion.east ≤ unsigned_abs self.east + 10000000 }
-        ensures north { unsigned_abs result.motion.north ≤ unsigned_abs self.north + 10000000 }
+    // Reports whether the robot turns, or changes its speed, before it drives on.
+    fn changes(&self) -> bool
+        ensures { result ≡ false
+            → (self.now.wanted_heading ≡ self.now.heading) × (self.now.speed ≡ self.now.wanted_speed) }
+    {
+        self.wanted_heading != self.heading || self.speed != self.wanted_speed
+    }
+
+    // Drives on for an update at the present speed, up to a wall, and reports whether one stopped it.
+    fn advance(&mut self) -> bool
+        requires east { unsigned_abs self.old.east < 2 ^ 50 }
+        requires north { unsigned_abs self.old.north < 2 ^ 50 }
+        ensures motion { (leg : Leg) → self.old ≡ track_of leg → self.new ≡ track_of (walled (grown leg)) }
+        ensures walled { (leg : Leg) → self.old ≡ track_of leg → result ≡ hits_wall (grown leg) }
+        ensures nearby { IsNearby self.old self.new }
+        ensures east { unsigned_abs self.new.east ≤ unsigned_abs self.old.east + 10000000 }
+        ensures north { unsigned_abs self.new.north ≤ unsigned_abs self.old.north + 10000000 }
     {
         if self.speed == 0 {
-            return Drive {
-                motion: self,
-                walled: false,
-            };
+            return false;
         }
         let east = further(self.east, self.speed, cosine_at(self.heading));
         let north = further(self.north, self.speed, sine_at(self.heading));
         let to_x = along(self.origin_x, east);
         let to_y = along(self.origin_y, north);
-        let walled = hits_wall(to_x, to_y);
-        let x = clamped(to_x);
-        let y = clamped(to_y);
-        if walled {
-            return Drive {
-                motion: self.stopped_at(x, y),
-                walled,
-            };
+        if hits_wall(to_x, to_y) {
+            *self = self.stopped_at(clamped(to_x), clamped(to_y));
+            return true;
         }
-        Drive {
-            motion: Motion {
-                east,
-                north,
-                x,
-                y,
-                ..self
-            },
-            walled,
-        }
+        *self = Motion {
+            east,
+            north,
+            x: inside(to_x),
+            y: inside(to_y),
+            ..*self
+        };
+        false
     }
 
-    /// Moves on for an update, as far as walls let it: turns, changes the speed and drives on.
+    /// Moves on for an update, as far as walls let it: turns, changes the speed and drives on. Reports whether a wall
+    /// stopped it.
     #[tactic(auto, unfolding(crate::specs::Leg::driven, crate::specs::Leg::tried))]
-    pub fn driven(self) -> Drive
-        requires east { unsigned_abs self.east < 2 ^ 50 }
-        requires north { unsigned_abs self.north < 2 ^ 50 }
-        ensures motion { (leg : Leg) → self ≡ track_of leg → result.motion ≡ track_of (driven leg) }
-        ensures walled { (leg : Leg) → self ≡ track_of leg → result.walled ≡ hits_wall (tried leg) }
-        ensures east { unsigned_abs result.motion.east ≤ unsigned_abs self.east + 10000000 }
-        ensures north { unsigned_abs result.motion.north ≤ unsigned_abs self.north + 10000000 }
+    pub fn drive_on(&mut self) -> bool
+        requires east { unsigned_abs self.old.east < 2 ^ 50 }
+        requires north { unsigned_abs self.old.north < 2 ^ 50 }
+        ensures motion { (leg : Leg) → self.old ≡ track_of leg → self.new ≡ track_of (driven leg) }
+        ensures walled { (leg : Leg) → self.old ≡ track_of leg → result ≡ hits_wall (tried leg) }
+        ensures nearby { IsNearby self.old self.new }
+        ensures east { unsigned_abs self.new.east ≤ unsigned_abs self.old.east + 10000000 }
+        ensures north { unsigned_abs self.new.north ≤ unsigned_abs self.old.north + 10000000 }
     {
-        self.steered().sped().forward()
+        if self.changes() {
+            *self = self.steered().sped();
+        }
+        self.advance()
     }
 
     /// Stops at the place where it was before the update.
@@ -329,6 +331,16 @@ fn hits_wall(x: i64, y: i64) -> bool
     ensures { result ≡ (is_outside x || is_outside y) }
 {
     is_outside(x) || is_outside(y)
+}
+
+// Returns a coordinate that doesn't lie beyond a wall as a place.
+#[tactic(auto, unfolding(crate::specs::Leg::is_outside))]
+fn inside(z: i64) -> u16
+    requires { is_outside z ≡ false }
+    ensures value { pos result ≡ z }
+    ensures most { result ≤ last_place }
+{
+    z as u16
 }
 
 /// Returns the place of the field that is nearest to a coordinate.

@@ -1,19 +1,20 @@
 //! Robots: how they move and how much they were hurt.
 
-ghost use Rattle.std.specs.Prelude.{◌≡◌, ℕ, ◌+◌, ◌*◌, ◌^◌, ◌<◌, ◌≤◌, true, min, if◌then◌else◌, nat_lt, unsigned_abs};
-ghost use Rattle.arena.specs.Leg.{last_place, hits_wall, tried};
+ghost use Rattle.std.specs.Prelude.{◌≡◌, ℕ, ◌+◌, ◌*◌, ◌^◌, ◌<◌, ◌≤◌, true, min, nat_lt, unsigned_abs};
+ghost use Rattle.arena.specs.Leg.{last_place};
 ghost use Rattle.arena.specs.Field.{Robot as FieldRobot, is_alive, metres_x, metres_y};
-ghost use Rattle.arena.specs.Collisions.{candidate, mover};
+ghost use Rattle.arena.specs.Collisions.{mover};
 ghost use Rattle.arena.specs.Start.{standing};
 ghost use Rattle.arena.specs.Answer.{wanting};
 ghost use Rattle.arena.specs.Ground.{track_of, body_of, IsWithin};
 ghost use Rattle.arena.specs.Moved.{settled};
-ghost use Rattle.arena.specs.Drive.{drive_of, ahead};
+ghost use Rattle.arena.specs.Drive.{ahead};
+ghost use Rattle.arena.specs.Calm.{IsNearby, IsAtPlace, gap};
 ghost use Rattle.arena.specs.Rest.{Stays};
 
 use crate::collisions::Mover;
 use crate::limits::DEADLY;
-use crate::motion::{Drive, Motion};
+use crate::motion::Motion;
 use std::marker::Model;
 
 // How many tenths a metre has.
@@ -121,6 +122,7 @@ impl Robot {
         ensures robot { (robot : FieldRobot) → self.now ≡ body_of robot
             → result ≡ body_of (record robot { leg = wanting robot.leg degree speed }) }
         ensures way { (result.track.east ≡ self.now.track.east) × (result.track.north ≡ self.now.track.north) }
+        ensures place { IsAtPlace self.now.track result.track }
     {
         Robot {
             motion: self.motion.wanting(degree, speed),
@@ -129,38 +131,24 @@ impl Robot {
     }
 
     /// Moves on for an update, as far as walls let it; a dead robot stays.
-    #[tactic(auto, unfolding(crate::specs::Drive::drive_of, crate::specs::Collisions::candidate, crate::specs::Ground::body_of, crate::specs::Field::is_alive))]
-    pub fn driven(&self) -> Drive
-        requires east { unsigned_abs self.now.track.east < 2 ^ 50 }
-        requires north { unsigned_abs self.now.track.north < 2 ^ 50 }
-        ensures drive { (robot : FieldRobot) → self.now ≡ body_of robot → result ≡ drive_of robot }
-        ensures east { unsigned_abs result.motion.east ≤ unsigned_abs self.now.track.east + 10000000 }
-        ensures north { unsigned_abs result.motion.north ≤ unsigned_abs self.now.track.north + 10000000 }
+    pub fn drive(&mut self)
+        requires east { unsigned_abs self.old.track.east < 2 ^ 50 }
+        requires north { unsigned_abs self.old.track.north < 2 ^ 50 }
+        ensures ahead { (robot : FieldRobot) → self.old ≡ body_of robot → self.new ≡ ahead robot }
+        ensures nearby { IsNearby self.old.track self.new.track }
+        ensures east { unsigned_abs self.new.track.east ≤ unsigned_abs self.old.track.east + 10000000 }
+        ensures north { unsigned_abs self.new.track.north ≤ unsigned_abs self.old.track.north + 10000000 }
     {
-        if self.is_alive() {
-            return self.motion.driven();
+        if !self.is_alive() {
+            return;
         }
-        Drive {
-            motion: self.motion,
-            walled: false,
+        if self.motion.drive_on() {
+            self.damage = (self.damage + WALL).min(DEADLY);
         }
-    }
-
-    /// Returns the robot as collisions see it, with what it would drive on its own.
-    #[tactic(auto, unfolding(crate::specs::Drive::drive_of, crate::specs::Collisions::mover, crate::specs::Ground::body_of, crate::specs::Ground::track_of, crate::specs::Field::is_alive))]
-    pub fn mover(&self, drive: &Drive) -> Mover
-        ensures { (robot : FieldRobot) → self.now ≡ body_of robot → drive.now ≡ drive_of robot → result ≡ mover robot }
-    {
-        Mover::new(
-            self.is_alive(),
-            self.x(),
-            self.y(),
-            drive.motion.x(),
-            drive.motion.y(),
-        )
     }
 
     /// Moves on for an update, as far as walls let it, and returns what collisions have to know; a dead robot stays.
+    #[tactic(auto, unfolding(crate::specs::Drive::ahead, crate::specs::Collisions::mover, crate::specs::Ground::body_of, crate::specs::Ground::track_of, crate::specs::Field::is_alive))]
     pub fn drive_on(&mut self) -> Mover
         requires east { unsigned_abs self.old.track.east < 2 ^ 50 }
         requires north { unsigned_abs self.old.track.north < 2 ^ 50 }
@@ -169,11 +157,29 @@ impl Robot {
         ensures east { unsigned_abs self.new.track.east ≤ unsigned_abs self.old.track.east + 10000000 }
         ensures north { unsigned_abs self.new.track.north ≤ unsigned_abs self.old.track.north + 10000000 }
     {
-        let drive = self.driven();
-        let mover = self.mover(&drive);
-        self.motion = drive.motion;
-        self.damage = walled(self.damage, drive.walled);
-        mover
+        let live = self.is_alive();
+        let from_x = self.x();
+        let from_y = self.y();
+        self.drive();
+        Mover::new(live, from_x, from_y, self.x(), self.y())
+    }
+
+    /// Returns how far two robots are from each other in tenths of a metre, on the axis on which they are further
+    /// apart.
+    pub fn gap(&self, other: &Robot) -> u16
+        ensures { result ≡ gap self.now.track other.now.track }
+    {
+        self.x()
+            .abs_diff(other.x())
+            .max(self.y().abs_diff(other.y()))
+    }
+
+    /// Takes the damage in percent of bursts.
+    pub fn hurt(&mut self, bursts: u8)
+        requires { bursts ≤ 80 }
+        ensures { self.new ≡ record self.old { damage = min (self.old.damage + bursts) 100 } }
+    {
+        self.damage = worn(self.damage, 0, bursts);
     }
 
     /// Returns the motion of a live robot that has moved on, given how many others it collides with.
@@ -211,18 +217,6 @@ impl Robot {
     {
         self.motion.y()
     }
-}
-
-// Returns the damage in percent of a robot that perhaps drove against a wall.
-fn walled(damage: u8, walled: bool) -> u8
-    requires { damage ≤ 100 }
-    ensures value { result ≡ min (damage + (if walled then WALL else 0)) 100 }
-    ensures most { result ≤ 100 }
-{
-    if !walled {
-        return damage;
-    }
-    (damage + WALL).min(DEADLY)
 }
 
 /// Returns the damage in percent after so many other robots and so much damage by bursts hurt a robot.

@@ -1,15 +1,16 @@
 //! Missiles: where and when they burst, and which of each robot's are in the air.
 
-ghost use Rattle.std.specs.Prelude.{◌≡◌, ℕ, ◌+◌, ◌*◌, ◌<◌, ◌≤◌, ◌++◌, ◌∷◌, [], ℤ, pos, ◌*ℤ◌, unsigned_abs, List, All, filter, map, sum, true, nat_lt, length, slice_index_or};
+ghost use Rattle.std.specs.Prelude.{◌≡◌, ℕ, ◌+◌, ◌*◌, ◌<◌, ◌≤◌, ◌++◌, ◌∷◌, [], ◌==◌, ℤ, pos, ◌*ℤ◌, unsigned_abs, List, All, filter, map, sum, true, nat_lt, length, slice_index_or};
 ghost use Rattle.arena.specs.Leg.{last_place, clamped, along};
 ghost use Rattle.arena.specs.Field.{Shot};
 ghost use Rattle.arena.specs.Shots.{aimed_x, aimed_y, bursts, flight, in_air, ring};
 ghost use Rattle.arena.specs.Ground.{most_updates, shot_of};
 ghost use Rattle.arena.specs.Rest.{NoneBefore};
+ghost use Rattle.arena.specs.Due.{harm};
 ghost use Rattle.arena.specs.Standing.{HoldsShots};
 
 use crate::collisions::square;
-use crate::limits::{MOST_MISSILES, MOST_ROBOTS};
+use crate::limits::{MOST_BURSTS, MOST_MISSILES, MOST_ROBOTS};
 use crate::motion::{along, clamped};
 use arith::{cosine_at, sine_at};
 use arrayvec::ArrayVec;
@@ -17,6 +18,9 @@ use std::marker::Model;
 
 // How far a missile flies in an update, in metres.
 const FLIGHT: u16 = 50;
+
+// The radius of the widest ring of a burst, in tenths of a metre.
+const LAST_RING: u16 = 400;
 
 /// A missile in the air: the update in which it bursts, and the place of the burst in tenths of a
 /// metre.
@@ -76,6 +80,20 @@ impl Missile {
         ensures { result ≡ nat_lt update self.now.burst }
     {
         update < self.burst
+    }
+
+    // Returns the damage in percent that the missile does at a place when it bursts.
+    #[tactic(auto, using(crate::proofs::Squares::far_harm), unfolding(crate::specs::Due::harm))]
+    fn harm(&self, x: u16, y: u16) -> u8
+        requires x { x ≤ last_place }
+        requires y { y ≤ last_place }
+        ensures value { result ≡ harm x y self.now }
+        ensures most { result ≤ 10 }
+    {
+        if x.abs_diff(self.x) > LAST_RING || y.abs_diff(self.y) > LAST_RING {
+            return 0;
+        }
+        ring(square(x, y, self.x, self.y))
     }
 
     // Returns the damage in percent that the missile does in an update at a place.
@@ -196,6 +214,19 @@ impl Slots {
         damage
     }
 
+    // Adds the missiles that burst in an update.
+    fn add_due(&self, update: u32, due: &mut ArrayVec<Missile, MOST_BURSTS>)
+        requires { length due.old.items + 2 ≤ MOST_BURSTS }
+        ensures due { due.new.items ≡ due.old.items ++ filter (λ m. m.burst == update) self.now }
+        ensures most { length due.new.items ≤ length due.old.items + 2 }
+    {
+        for missile in self.missiles.as_slice() {
+            if missile.burst == update {
+                due.push(*missile);
+            }
+        }
+    }
+
     // Returns an update before which none of the missiles bursts: the next one with a burst.
     fn next_burst(&self) -> u32
         ensures { All (λ m. result ≤ m.burst) self.now }
@@ -308,6 +339,34 @@ pub fn damage_at(slots: &[Slots], update: u32, x: u16, y: u16) -> u8
     let mut damage = 0;
     for own in slots {
         damage += own.damage_at(update, x, y);
+    }
+    damage
+}
+
+/// Returns the missiles that burst in an update.
+pub fn due(slots: &[Slots], update: u32) -> ArrayVec<Missile, MOST_BURSTS>
+    requires { length slots.now ≤ MOST_ROBOTS }
+    ensures shots { (updates : ℕ) (shots : List Shot) (x y : ℕ) → update ≡ updates + 1
+        → HoldsShots updates slots.now shots → sum (map (harm x y) result.items) ≡ sum (bursts update shots x y) }
+{
+    let mut due = ArrayVec::new();
+    for own in slots {
+        own.add_due(update, &mut due);
+    }
+    due
+}
+
+/// Returns the damage in percent that missiles which burst do at a place in tenths of a metre.
+pub fn harm_by(due: &[Missile], x: u16, y: u16) -> u8
+    requires few { length due.now ≤ MOST_BURSTS }
+    requires x { x ≤ last_place }
+    requires y { y ≤ last_place }
+    ensures value { result ≡ sum (map (harm x y) due.now) }
+    ensures most { result ≤ 80 }
+{
+    let mut damage = 0;
+    for missile in due {
+        damage += missile.harm(x, y);
     }
     damage
 }

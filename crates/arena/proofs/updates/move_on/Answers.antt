@@ -1,16 +1,11 @@
-use Rattle.std.proofs.Common.{◌≡◌, ℕ, ◌+◌, ◌<◌, List, length, sum, subst, ◌∙◌, arith}
-use Rattle.std.proofs.lemmas.List.{length-map}
-use Rattle.arena.specs.Collisions.{Mover, mover, touches}
-use Rattle.arena.specs.Shots.{bursts}
-use Rattle.arena.proofs.InPlace.{ahead_of_all}
+use Rattle.arena.proofs.Calm.{far_none, far_one, far_less}
 use Rattle.arena.proofs.updates.move_on.Goals as goal
 
-pub returns-then-not-any_near-clause-robots : goal.returns-then-not-any_near-clause-robots
-returns-then-not-any_near-clause-robots c = λ f u e holds.
-    let movers = c.as_slice.ensures.value ∙ c.drive_on-movers.ensures.movers f.robots e in
-    let touched = subst (λ (ms : List Mover). (i : ℕ) → i < length ms → touches ms i ≡ 0) movers (c.any_near.ensures c.if-not-any_near.true) in
-    let none : (x y : ℕ) → sum (bursts (f.updates + 1) f.shots x y) ≡ 0 = λ x y. subst (λ n. sum (bursts n f.shots x y) ≡ 0) u (c.is_quiet.ensures c.if-is_quiet.true f.updates f.shots x y u holds) in
-    c.drive_on-movers.ensures.ahead f.robots e ∙ ahead_of_all f (λ i l. touched i (omega (arith, l, length-map f.robots mover))) none
+pub move_apart-requires-clause-far : goal.move_apart-requires-clause-far
+move_apart-requires-clause-far c = far_one c.known_calm-calm.result c.args.robots.now c.if-calm-eq0.false c.known_calm-calm.ensures
 
-pub returns-clause-way : goal.returns-clause-way
-returns-clause-way c = λ way h. c.finish.ensures.way (way + 10000000) (c.drive_on-movers.ensures.way way h)
+pub returns-then-calm-eq0-clause-far : goal.returns-then-calm-eq0-clause-far
+returns-then-calm-eq0-clause-far c = far_none _
+
+pub returns-clause-far : goal.returns-clause-far
+returns-clause-far c = far_less c.known_calm-calm.result c.args.robots.now c.move_apart.new.robots c.move_apart.auto.robots c.move_apart.ensures.nearby c.known_calm-calm.ensures

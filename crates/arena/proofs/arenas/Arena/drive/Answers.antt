@@ -6,6 +6,8 @@ use Rattle.arena.specs.Field.{no_robot, robot_at}
 use Rattle.arena.specs.Ground.{Ground, Body, body_of, IsWithin}
 use Rattle.arena.specs.Standing.{StandsFor}
 use Rattle.arena.specs.contracts.arenas.Arena.{the_view}
+use Rattle.arena.specs.Calm.{IsAtPlace}
+use Rattle.arena.proofs.Calm.{far_set}
 use Rattle.arena.proofs.Represents.{put_is, directs}
 use Rattle.arena.proofs.arenas.Arena.drive.Goals as goal
 
@@ -21,8 +23,10 @@ invariant_of-self c =
     let way = c.wanting-wanting.ensures.way in
     let new : P c.wanting-wanting.result = rw (way.0, way.1) old in
     let size = length-set items c.args.robot c.wanting-wanting.result in
+    let place = subst (λ (b : Body). IsAtPlace b.track c.wanting-wanting.result.track) same c.wanting-wanting.ensures.place in
+    let far = far_set c.self.inside.calm items c.args.robot c.wanting-wanting.result inside place i.6 in
     rw (put_is items c.deref_mut.result.now c.args.robot c.wanting-wanting.result c.deref_mut.ensures.value)
-    (i.0, i.1 ∙ sym size, omega (arith, size), All-set P items c.args.robot c.wanting-wanting.result new i.3, i.4, λ e. absurd (cc))
+    (i.0, i.1 ∙ sym size, omega (arith, size), All-set P items c.args.robot c.wanting-wanting.result new i.3, i.4, λ e. absurd (cc), far)
 
 pub returns-clause-stands : goal.returns-clause-stands
 returns-clause-stands c = λ f s.

@@ -18,10 +18,10 @@ returns-then-self-clause-stands c = λ f s.
 pub invariant_of-self-2 : goal.invariant_of-self-2
 invariant_of-self-2 c =
     let i = c.self.invariant in
-    let len = c.move_on.auto.robots ∙ ap length c.as_mut_slice.ensures.value in
-    let way = c.move_on.ensures.way (10000000 * c.self.inside.updates) (rw c.as_mut_slice.ensures.value i.3) in
+    let len = c.move_on-self-inside.auto.robots ∙ ap length c.as_mut_slice.ensures.value in
+    let way = c.move_on-self-inside.ensures.way (10000000 * c.self.inside.updates) (rw c.as_mut_slice.ensures.value i.3) in
     let more : 10000000 * (c.self.inside.updates + 1) ≡ 10000000 * c.self.inside.updates + 10000000 = omega arith in
-    let refilled = refill_is c.self.inside.robots.items c.move_on.new.robots len in
+    let refilled = refill_is c.self.inside.robots.items c.move_on-self-inside.new.robots len in
     rw refilled (
       omega (arith, ap (λ (g : Ground). g.updates) c.self.view_is),
       c.land.ensures.count ∙ i.1 ∙ sym len,
@@ -29,15 +29,16 @@ invariant_of-self-2 c =
       rw more way,
       c.land.ensures.two i.4,
       λ e. still (c.as_slice.ensures.value ∙ refilled) refl (c.is_still-self-inside.ensures e),
+      c.move_on-self-inside.ensures.far,
     )
 
 pub returns-clause-stands : goal.returns-clause-stands
 returns-clause-stands c = λ f s.
     let now : StandsFor (the_view c.self.inside) f = rw c.self.view_is s in
     let next = ap (λ n. n + 1) now.updates in
-    let len = c.move_on.auto.robots ∙ ap length c.as_mut_slice.ensures.value in
-    let robots = c.move_on.ensures.robots f next (c.as_mut_slice.ensures.value ∙ now.robots) now.missiles in
+    let len = c.move_on-self-inside.auto.robots ∙ ap length c.as_mut_slice.ensures.value in
+    let robots = c.move_on-self-inside.ensures.robots f next (c.as_mut_slice.ensures.value ∙ now.robots) now.missiles in
     let missiles = c.land.ensures.shots f.updates f.shots next now.missiles in
     let held : HoldsShots (f.updates + 1) c.land.new.self f.shots = subst (λ n. HoldsShots n c.land.new.self f.shots) next missiles in
-    rw (refill_is c.self.inside.robots.items c.move_on.new.robots len)
-    (updates (the_view c.self.inside) (record { updates = c.self.inside.updates + 1; robots = c.move_on.new.robots; slots = c.land.new.self; random = c.self.inside.random }) f now refl refl robots held)
+    rw (refill_is c.self.inside.robots.items c.move_on-self-inside.new.robots len)
+    (updates (the_view c.self.inside) (record { updates = c.self.inside.updates + 1; robots = c.move_on-self-inside.new.robots; slots = c.land.new.self; random = c.self.inside.random }) f now refl refl robots held)

@@ -1,0 +1,18 @@
+use Rattle.std.proofs.Common.{◌≡◌, ℕ, ◌+◌, ◌<◌, ◌≤◌, List, length, map, get_or}
+use Rattle.std.specs.List.{All}
+use Rattle.arena.specs.Field.{Robot, no_robot}
+use Rattle.arena.specs.Ground.{Body, body_of, IsWithin}
+use Rattle.arena.specs.Drive.{ahead}
+use Rattle.arena.specs.Calm.{IsNearby}
+use Rattle.arena.proofs.InPlace.{none}
+use Rattle.arena.proofs.updates.drive.Given as goal
+
+-- the robots so far have moved on, and the others are as they were
+abbrev pub invariant-loop-robot : goal.invariant-loop-robot
+invariant-loop-robot l = record {
+  size : length l.robot-items ≡ length l.initial.robot-items;
+  rest : (k : ℕ) → l.robot-index ≤ k → get_or l.robot-items k none ≡ get_or l.initial.robot-items k none;
+  ahead : (rs : List Robot) → l.initial.robot-items ≡ map body_of rs → (k : ℕ) → k < l.robot-index → get_or l.robot-items k none ≡ ahead (get_or rs k no_robot);
+  nearby : (k : ℕ) → k < l.robot-index → IsNearby (get_or l.initial.robot-items k none).track (get_or l.robot-items k none).track;
+  way : (way : ℕ) → All (λ (b : Body). IsWithin way b.track) l.initial.robot-items → (k : ℕ) → k < l.robot-index → IsWithin (way + 10000000) (get_or l.robot-items k none).track;
+}

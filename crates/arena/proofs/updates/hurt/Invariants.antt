@@ -1,0 +1,22 @@
+use Rattle.std.proofs.Common.{◌≡◌, ℕ, ◌+◌, ◌<◌, ◌≤◌, length, map, get_or}
+use Rattle.std.specs.List.{All}
+use Rattle.arena.specs.Field.{Field}
+use Rattle.arena.specs.Collisions.{mover, touches}
+use Rattle.arena.specs.Ground.{Body, IsWithin}
+use Rattle.arena.specs.Drive.{ahead}
+use Rattle.arena.specs.Standing.{HoldsShots}
+use Rattle.arena.specs.Calm.{IsAtPlace}
+use Rattle.arena.proofs.InPlace.{none}
+use Rattle.arena.proofs.Loops.{after_at}
+use Rattle.arena.proofs.updates.hurt.Given as goal
+
+-- the robots so far are where they are after the update, and the others are as they were
+abbrev pub invariant-loop-robot : goal.invariant-loop-robot
+invariant-loop-robot l = record {
+  size : length l.robot-items ≡ length l.initial.robot-items;
+  rest : (k : ℕ) → l.robot-index ≤ k → get_or l.robot-items k none ≡ get_or l.initial.robot-items k none;
+  robots : (f : Field) → l.update ≡ f.updates + 1 → l.initial.robot-items ≡ map ahead f.robots → HoldsShots f.updates l.missiles f.shots →
+      ((i : ℕ) → i < length f.robots → touches (map mover f.robots) i ≡ 0) → (k : ℕ) → k < l.robot-index → get_or l.robot-items k none ≡ after_at f k;
+  places : (k : ℕ) → k < l.robot-index → IsAtPlace (get_or l.initial.robot-items k none).track (get_or l.robot-items k none).track;
+  way : (way : ℕ) → All (λ (b : Body). IsWithin way b.track) l.initial.robot-items → (k : ℕ) → k < l.robot-index → IsWithin way (get_or l.robot-items k none).track;
+}

@@ -1,0 +1,28 @@
+-- Robots so far from each other that none of them collide in the next updates.
+use Rattle.std.specs.Prelude.{◌≡◌, ℕ, ◌+◌, ◌*◌, ◌<◌, ◌≤◌, max, List, length, slice_index_or}
+use Rattle.std.specs.Int.{abs_diff}
+use Rattle.arena.specs.Field.{no_robot}
+use Rattle.arena.specs.Ground.{Track, Body, body_of}
+
+-- the body of a number, past the last one that of no robot
+abbrev pub body_at : List Body → ℕ → Body
+body_at bodies k = slice_index_or bodies k (body_of no_robot)
+
+-- in an update a robot moves at most ten metres on each axis
+pub record IsNearby (before after : Track) : Type 0 where
+  pub on_x : abs_diff before.x after.x ≤ 100
+  pub on_y : abs_diff before.y after.y ≤ 100
+
+-- a robot is where it was
+pub record IsAtPlace (before after : Track) : Type 0 where
+  pub on_x : after.x ≡ before.x
+  pub on_y : after.y ≡ before.y
+
+-- how far two are from each other, on the axis on which they are further apart
+abbrev pub gap : Track → Track → ℕ
+gap a b = max (abs_diff a.x b.x) (abs_diff a.y b.y)
+
+-- so far from each other that for so many updates no two robots come close: less than a metre on both axes
+pub record FarFor (updates : ℕ) (bodies : List Body) : Type 0 where
+  pub gaps : (a b : ℕ) → a < b → b < length bodies → 0 < updates
+      → 10 + 200 * updates ≤ gap (body_at bodies a).track (body_at bodies b).track
