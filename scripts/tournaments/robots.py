@@ -56,7 +56,7 @@ def names(paths: list[str]) -> list[str]:
 
 
 def program(given: str | None) -> str:
-    """Finds the program: the one given, the one on the path, or the one that was built or installed with this script."""
+    """Finds the program: the one given, the one on the path, or the one built or installed with this script."""
     here = os.path.dirname(os.path.realpath(__file__))
     built = os.path.normpath(os.path.join(here, "..", "..", "crates", "crobots", "out", "crobots"))
     installed = os.path.normpath(os.path.join(here, "..", "..", "..", "..", "bin", "crobots"))

@@ -53,7 +53,8 @@ def common(name: str, does: str) -> Parser:
     it.add_argument("--points", metavar="WIN,TIE", type=decimals(2), default=[Decimal(3), Decimal(1)], help="what a win and a tie count (default 3,1)")
     it.add_argument("--journal", metavar="FILE", help="keep what was played in this file, and go on from it")
     it.add_argument("--quiet", action="store_true", help="don't say how far it is")
-    it.add_argument("--crobots", metavar="PROGRAM", help="the program (default: crobots on the path, or the one installed or built with this script)")
+    it.add_argument("--crobots", metavar="PROGRAM",
+                    help="the program (default: crobots on the path, or the one installed or built with this script)")
     return it
 
 
@@ -78,7 +79,8 @@ def tournament(name: str) -> Parser:
 
 def challenge(name: str) -> Parser:
     """The words of `challenge`, under the name by which it was called."""
-    it = common(name, "Plays a robot and its older version against the same robots in the same matches, and says what the change is worth.")
+    it = common(name, "Plays a robot and its older version against the same robots in the same matches, "
+                      "and says what the change is worth.")
     it.add_argument("--old", metavar="OLD", required=True, help="the older version")
     it.add_argument("new", metavar="NEW", help="the newer version")
     it.add_argument("field", metavar="ROBOT", nargs="+", help="the robots that they play against")
