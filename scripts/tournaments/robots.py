@@ -60,7 +60,8 @@ def program(given: str | None) -> str:
     here = os.path.dirname(os.path.realpath(__file__))
     built = os.path.normpath(os.path.join(here, "..", "..", "crates", "crobots", "out", "crobots"))
     installed = os.path.normpath(os.path.join(here, "..", "..", "..", "..", "bin", "crobots"))
-    found = next(filter(None, map(shutil.which, [given] if given else ["crobots", built, installed])), None)
+    places = [given] if given else ["crobots", built, installed]
+    found = next((path for place in places if (path := shutil.which(place))), None)
     if not found:
         raise Fault(f"{given or 'crobots'} is not there, or is no program; README.md says how it is built")
     return found
