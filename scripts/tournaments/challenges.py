@@ -112,7 +112,7 @@ class Challenge:
         was = {"w": "won", "t": "tied", "l": "lost"}[self._played[OLD, opponent][number].results[0]]
         given = self._given
         options = [f"-k{number}", f"-l{given.cycles}", f"-s{given.seed}", f"-p{given.profile}"]
-        command = shlex.join(["tracks", *options, *(dashless(self._paths[at]) for at in (NEW, opponent))])
+        command = shlex.join(["crobots-tracks", *options, *(dashless(self._paths[at]) for at in (NEW, opponent))])
         return f"worst lost match: {number} against {self._names[opponent]}, in {cycles} cycles; {self._names[OLD]} {was} it\n{command} > match.svg\n"
 
 
@@ -121,9 +121,9 @@ def dashless(path: str) -> str:
     return f"./{path}" if path.startswith("-") else path
 
 
-def challenge(arguments: list[str]) -> None:
+def challenge(name: str, arguments: list[str]) -> None:
     """Does what the words ask for."""
-    given = words.challenge().parse_intermixed_args(arguments)
+    given = words.challenge(name).parse_intermixed_args(arguments)
     both = [given.new, given.old]
     field = [path for path in given.field if os.path.abspath(path) not in {os.path.abspath(it) for it in both}]
     if not field:

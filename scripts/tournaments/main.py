@@ -101,9 +101,9 @@ def planned(given: argparse.Namespace, program: str) -> plans.Plan:
     return plans.Plan(settings, among, most)
 
 
-def tournament(arguments: list[str]) -> None:
+def tournament(name: str, arguments: list[str]) -> None:
     """Does what the words ask for."""
-    given = words.tournament().parse_intermixed_args(arguments)
+    given = words.tournament(name).parse_intermixed_args(arguments)
     check(given)
     if given.merge:
         sys.stdout.write(merged(given))
@@ -118,14 +118,15 @@ def tournament(arguments: list[str]) -> None:
     sys.stdout.write(results.text(plan.settings, plan.robots))
 
 
-def run(name: str, does: Callable[[list[str]], None], arguments: list[str]) -> int:
-    """Runs a script; answers its status."""
+def run(does: Callable[[str, list[str]], None], command: list[str]) -> int:
+    """Runs a script with its command line, the script's own path first; answers its status."""
+    name = os.path.basename(command[0])
     signal.signal(signal.SIGPIPE, signal.SIG_DFL)
     for stream in (sys.stdout, sys.stderr):
         if isinstance(stream, io.TextIOWrapper):
             stream.reconfigure(errors="surrogateescape")
     try:
-        does(arguments)
+        does(name, command[1:])
         sys.stdout.flush()
     except Fault as why:
         print(f"{name}: {why}", file=sys.stderr)

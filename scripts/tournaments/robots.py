@@ -56,10 +56,12 @@ def names(paths: list[str]) -> list[str]:
 
 
 def program(given: str | None) -> str:
-    """Finds the program: the one given, the one on the path, or the repository's own."""
+    """Finds the program: the one given, the one on the path, or the one built or installed with this script."""
     here = os.path.dirname(os.path.realpath(__file__))
     built = os.path.normpath(os.path.join(here, "..", "..", "crates", "crobots", "out", "crobots"))
-    found = shutil.which(given or "crobots") or (None if given else shutil.which(built))
+    installed = os.path.normpath(os.path.join(here, "..", "..", "..", "..", "bin", "crobots"))
+    places = [given] if given else ["crobots", built, installed]
+    found = next((path for place in places if (path := shutil.which(place))), None)
     if not found:
         raise Fault(f"{given or 'crobots'} is not there, or is no program; README.md says how it is built")
     return found

@@ -53,13 +53,14 @@ def common(name: str, does: str) -> Parser:
     it.add_argument("--points", metavar="WIN,TIE", type=decimals(2), default=[Decimal(3), Decimal(1)], help="what a win and a tie count (default 3,1)")
     it.add_argument("--journal", metavar="FILE", help="keep what was played in this file, and go on from it")
     it.add_argument("--quiet", action="store_true", help="don't say how far it is")
-    it.add_argument("--crobots", metavar="PROGRAM", help="the program (default: crobots on the path, or the repository's)")
+    it.add_argument("--crobots", metavar="PROGRAM",
+                    help="the program (default: crobots on the path, or the one installed or built with this script)")
     return it
 
 
-def tournament() -> Parser:
-    """The words of `tournament`."""
-    it = common("tournament", "Plays every pair of robots (or every three, or four), and prints a table.")
+def tournament(name: str) -> Parser:
+    """The words of `tournament`, under the name by which it was called."""
+    it = common(name, "Plays every pair of robots (or every three, or four), and prints a table.")
     it.add_argument("--size", metavar="2|3|4", type=within(2, 4), help="robots of a match (default 2)")
     it.add_argument("--by-size", metavar="A,B,C", type=decimals(3), help="play pairs, threes and fours, and add up their points a match with these weights")
     it.add_argument("--sample", metavar="N", type=within(1, 10_000_000), default=0, help="play only N groups, in which each robot is equally often")
@@ -76,9 +77,10 @@ def tournament() -> Parser:
     return it
 
 
-def challenge() -> Parser:
-    """The words of `challenge`."""
-    it = common("challenge", "Plays a robot and its older version against the same robots in the same matches, and says what the change is worth.")
+def challenge(name: str) -> Parser:
+    """The words of `challenge`, under the name by which it was called."""
+    it = common(name, "Plays a robot and its older version against the same robots in the same matches, "
+                      "and says what the change is worth.")
     it.add_argument("--old", metavar="OLD", required=True, help="the older version")
     it.add_argument("new", metavar="NEW", help="the newer version")
     it.add_argument("field", metavar="ROBOT", nargs="+", help="the robots that they play against")
