@@ -96,7 +96,7 @@ fn drives_and_turns(rt: HostRuntime) {
     );
 }
 
-// Checks that robot 0 is at these places with these speeds after the next updates.
+/// Checks that robot 0 is at these places with these speeds after the next updates.
 fn stops_at(rt: &impl Abort, arena: &mut Arena, stops: &[(u16, u16, i32)])
     requires two { 0 < length arena.old.robots }
     requires updates { arena.old.updates + length stops.now ≤ most_updates }

@@ -183,7 +183,7 @@ fn bearings_by_lanes_and_by_a_plain_loop(rt: HostRuntime) {
     }
 }
 
-// Returns the bearing by one look at each degree, from the sines and the cosines.
+/// Returns the bearing by one look at each degree, from the sines and the cosines.
 fn plain_bearing(dx: i32, dy: i32) -> u16 {
     let mut best = 0;
     let mut furthest = i32::MIN;
@@ -199,7 +199,7 @@ fn plain_bearing(dx: i32, dy: i32) -> u16 {
     best
 }
 
-// Reports whether a difference is as `bearing` asks of its caller.
+/// Reports whether a difference is as `bearing` asks of its caller.
 fn in_field(difference: i32) -> bool
     ensures { IsTrue result ↔ (unsigned_abs difference ≤ 999) }
 {

@@ -43,7 +43,7 @@ pub fn battle(
     Outcome::new(cycles, damages(&arena, robots))
 }
 
-// Starts each robot's runner at the begin of its program.
+/// Starts each robot's runner at the begin of its program.
 fn begin(runners: &mut [Runner], programs: &Programs)
     requires { length runners.old ≡ length (paired programs.now) }
     ensures fits { EachFits runners.new (paired programs.now) }
@@ -54,7 +54,7 @@ fn begin(runners: &mut [Runner], programs: &Programs)
     }
 }
 
-// Returns the damage of each robot.
+/// Returns the damage of each robot.
 fn damages(arena: &Arena, robots: usize) -> ArrayVec<u8, FILES_MAX>
     requires manned { length arena.now.robots ≡ robots }
     requires most { robots ≤ FILES_MAX }

@@ -60,7 +60,7 @@ pub(crate) fn skip(runners: &mut [Runner], arena: &mut Arena, most: u32) -> u32
     windows
 }
 
-// Returns how many windows each live robot's machine is ahead, or `most` if that is less.
+/// Returns how many windows each live robot's machine is ahead, or `most` if that is less.
 #[inline(always)]
 fn windows_ahead(runners: &[Runner], arena: &Arena, most: u32) -> u32
     requires manned { length arena.now.robots ≡ length runners.now }
@@ -78,7 +78,7 @@ fn windows_ahead(runners: &[Runner], arena: &Arena, most: u32) -> u32
     windows
 }
 
-// Reports whether each live robot's machine is so many cycles ahead.
+/// Reports whether each live robot's machine is so many cycles ahead.
 #[inline(always)]
 fn are_ahead(runners: &[Runner], arena: &Arena, cycles: u32) -> bool
     requires manned { length arena.now.robots ≡ length runners.now }
@@ -93,7 +93,7 @@ fn are_ahead(runners: &[Runner], arena: &Arena, cycles: u32) -> bool
     true
 }
 
-// Lets the robots go on by so many cycles.
+/// Lets the robots go on by so many cycles.
 #[inline(always)]
 fn go_on(runners: &mut [Runner], arena: &Arena, cycles: u32)
     requires manned { length arena.now.robots ≡ length runners.old }
@@ -109,7 +109,7 @@ fn go_on(runners: &mut [Runner], arena: &Arena, cycles: u32)
     }
 }
 
-// Lets a robot go on by so many cycles. A dead one does nothing in any of them.
+/// Lets a robot go on by so many cycles. A dead one does nothing in any of them.
 #[inline(always)]
 fn go_on_alone(runner: &mut Runner, arena: &Arena, robot: usize, cycles: u32)
     requires inside { robot < length arena.now.robots }

@@ -15,10 +15,10 @@ use crate::windows::{UPDATE_CYCLES, window};
 use arena::Arena;
 use settings::{CYCLES_MAX, FILES_MAX};
 
-// How far a machine runs that asks nothing: a robot that dies doesn't use the cycles that its machine is ahead.
+/// How far a machine runs that asks nothing: a robot that dies doesn't use the cycles that its machine is ahead.
 const MOST_AHEAD: u32 = 960;
 
-// Runs the cycles up to the next update, and the update. Reports whether that decided the battle.
+/// Runs the cycles up to the next update, and the update. Reports whether that decided the battle.
 fn segment(runners: &mut [Runner], programs: &Programs, arena: &mut Arena, farthest: u32) -> bool
     requires manned { length arena.old.robots ≡ length (paired programs.now) }
     requires few { length (paired programs.now) ≤ FILES_MAX }
@@ -42,7 +42,7 @@ fn segment(runners: &mut [Runner], programs: &Programs, arena: &mut Arena, farth
     arena.live_count() <= 1
 }
 
-// Runs cycles until the battle is decided, or the limit is reached. Returns how many they were.
+/// Runs cycles until the battle is decided, or the limit is reached. Returns how many they were.
 pub(crate) fn play(
     runners: &mut [Runner],
     programs: &Programs,

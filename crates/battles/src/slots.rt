@@ -81,7 +81,7 @@ impl NextSlots {
     }
 }
 
-// Returns a robot's first slot.
+/// Returns a robot's first slot.
 #[inline(always)]
 fn first_of(robot: u8, robots: usize, cycles: u32) -> u32
     requires small { cycles ≤ 1000 }

@@ -40,7 +40,7 @@ impl Program {
         }
     }
 
-    // Puts a line of the functions or of the code.
+    /// Puts a line of the functions or of the code.
     #[tactic(auto, using(crate::proofs::Lines::line_of_functions, crate::proofs::Lines::line_of_code, crate::proofs::Lines::code_within))]
     fn put_line_behind_externals(&self, line: &mut Line, n: usize)
         requires empty { line.old.items ≡ [] }
@@ -55,7 +55,7 @@ impl Program {
         }
     }
 
-    // Puts a line of the functions.
+    /// Puts a line of the functions.
     fn put_line_of_functions(&self, line: &mut Line, n: usize)
         requires empty { line.old.items ≡ [] }
         requires within { n < length (functions_lines self.now.addresses 0 self.now.names.functions) }
@@ -87,7 +87,7 @@ pub fn function_line_count(functions: &[Function]) -> usize
     count
 }
 
-// Puts a line of the externals: how many there are, or one's name.
+/// Puts a line of the externals: how many there are, or one's name.
 fn put_external_line(line: &mut Line, externals: &[Name], n: usize)
     requires empty { line.old.items ≡ [] }
     requires few { length externals.now ≤ MOST_NAMES }
@@ -102,7 +102,7 @@ fn put_external_line(line: &mut Line, externals: &[Name], n: usize)
     }
 }
 
-// Puts a line of a function: itself, or a variable's name.
+/// Puts a line of a function: itself, or a variable's name.
 fn put_function_line(line: &mut Line, number: u16, function: &Function, at: u16, n: usize)
     requires empty { line.old.items ≡ [] }
     requires within { n ≤ length function.now.variables }
@@ -115,7 +115,7 @@ fn put_function_line(line: &mut Line, number: u16, function: &Function, at: u16,
     }
 }
 
-// Puts the first line of a function.
+/// Puts the first line of a function.
 #[tactic(auto, using(std::proofs::Common::append_assoc), unfolding(crate::specs::Listing::function_line))]
 fn put_function_head(line: &mut Line, number: u16, function: &Function, at: u16)
     requires { line.old.items ≡ [] }
@@ -131,7 +131,7 @@ fn put_function_head(line: &mut Line, number: u16, function: &Function, at: u16)
     put_number(line, at);
 }
 
-// Puts a variable's line: its number and its name.
+/// Puts a variable's line: its number and its name.
 #[tactic(auto, using(std::proofs::Common::append_assoc, crate::proofs::Lines::name_line_at), unfolding(crate::specs::Listing::name_line))]
 fn put_name_line(line: &mut Line, names: &[Name], n: usize)
     requires empty { line.old.items ≡ [] }
@@ -145,7 +145,7 @@ fn put_name_line(line: &mut Line, names: &[Name], n: usize)
     put_name(line, &names[n]);
 }
 
-// Puts a line of the code: how many instructions there are, or one of them.
+/// Puts a line of the code: how many instructions there are, or one of them.
 #[tactic(auto, using(crate::proofs::Lines::instr_line_at))]
 fn put_code_line(line: &mut Line, instrs: &[Coded], n: usize)
     requires empty { line.old.items ≡ [] }
@@ -161,7 +161,7 @@ fn put_code_line(line: &mut Line, instrs: &[Coded], n: usize)
     }
 }
 
-// Puts an instruction with its address.
+/// Puts an instruction with its address.
 #[tactic(auto, using(std::proofs::Common::append_assoc), unfolding(crate::specs::Listing::instr_line))]
 fn put_instr_line(line: &mut Line, at: u16, instr: Instr)
     requires { line.old.items ≡ [] }
@@ -172,7 +172,7 @@ fn put_instr_line(line: &mut Line, at: u16, instr: Instr)
     put_instr(line, instr);
 }
 
-// Puts an instruction: its word, and its operand if it has one.
+/// Puts an instruction: its word, and its operand if it has one.
 #[tactic(auto, using(std::proofs::Common::append_assoc), unfolding(crate::specs::Spelling::instr_text))]
 fn put_instr(line: &mut Line, instr: Instr)
     requires { length line.old.items ≤ 6 }
@@ -213,7 +213,7 @@ fn put_instr(line: &mut Line, instr: Instr)
     }
 }
 
-// Puts a variable: E and its number, or L and its number.
+/// Puts a variable: E and its number, or L and its number.
 #[tactic(auto, using(std::proofs::Common::append_assoc), unfolding(crate::specs::Spelling::variable_text))]
 fn put_variable(line: &mut Line, variable: Var)
     requires { length line.old.items ≤ 20 }
@@ -232,7 +232,7 @@ fn put_variable(line: &mut Line, variable: Var)
     }
 }
 
-// Puts a function's number, or an intrinsic's name.
+/// Puts a function's number, or an intrinsic's name.
 #[tactic(auto, using(crate::proofs::Lines::name_is_short), unfolding(crate::specs::Spelling::callee_text))]
 fn put_callee(line: &mut Line, callee: Callee)
     requires { length line.old.items ≤ 20 }

@@ -62,7 +62,7 @@ impl Program {
         self.profile
     }
 
-    // Returns the words of a machine's stack.
+    /// Returns the words of a machine's stack.
     #[inline(always)]
     pub(crate) fn words(&self) -> usize
         ensures words { result ≡ self.now.profile.words }
@@ -71,7 +71,7 @@ impl Program {
         self.profile.words() as usize
     }
 
-    // Returns the most frames that are open at once.
+    /// Returns the most frames that are open at once.
     #[inline(always)]
     pub(crate) fn frames(&self) -> usize
         ensures frames { result ≡ self.now.profile.frames }
@@ -101,7 +101,7 @@ impl Program {
         self.addresses.as_slice()
     }
 
-    // Returns how many lines the functions have in a listing.
+    /// Returns how many lines the functions have in a listing.
     #[inline(always)]
     pub(crate) fn function_lines(&self) -> u16
         ensures { result ≡ length (functions_lines self.now.addresses 0 self.now.names.functions) }
@@ -126,7 +126,7 @@ impl Program {
         self.main
     }
 
-    // Returns the names of the function of this number.
+    /// Returns the names of the function of this number.
     #[inline(always)]
     #[tactic(auto, using(crate::proofs::ProgramLaws::function_is))]
     pub(crate) fn function(&self, number: u8) -> &Function
@@ -136,7 +136,7 @@ impl Program {
         &self.names.functions()[number as usize]
     }
 
-    // Returns the address of the function of this number.
+    /// Returns the address of the function of this number.
     #[inline(always)]
     pub(crate) fn address(&self, number: u8) -> u16
         requires { number < length self.now.names.functions }

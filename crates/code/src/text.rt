@@ -11,7 +11,7 @@ use tokens::{NAME_BYTES, Name};
 /// A line of a listing, without its LF.
 pub type Line = ArrayVec<u8, LINE_BYTES>;
 
-// What stands in front of a number in five columns, at most.
+/// What stands in front of a number in five columns, at most.
 const BLANKS: [u8; 5] = [b' '; 5];
 
 /// Appends bytes.
@@ -56,7 +56,7 @@ pub fn put_decimal(line: &mut Line, number: u32)
     }
 }
 
-// Appends a digit.
+/// Appends a digit.
 fn put_digit(line: &mut Line, digit: u32)
     requires digit { digit < 10 }
     requires room { length line.old.items < LINE_BYTES }
@@ -101,7 +101,7 @@ pub fn put_in_five_columns(line: &mut Line, number: u16)
     put_decimal(line, u32::from(number));
 }
 
-// Returns how many digits a number has.
+/// Returns how many digits a number has.
 #[tactic(auto, using(crate::proofs::Numbers::length_more, crate::proofs::Numbers::length_one, crate::proofs::Numbers::five_digits))]
 fn digits_of(number: u16) -> usize
     ensures value { result ≡ length (decimal number) }

@@ -9,7 +9,7 @@ ghost use Rattle.code.specs.Values.{combined, stored, number_op};
 use arith::binop;
 use grammar::{Op, StoreOp};
 
-// Returns the operator among those on numbers.
+/// Returns the operator among those on numbers.
 #[inline(always)]
 #[tactic(auto, unfolding(crate::specs::Values::number_op))]
 fn number_op(op: Op) -> arith::Op
@@ -108,7 +108,7 @@ pub fn remainder(a: i32, b: i32) -> i32
     if b == 0 { 0 } else { a.wrapping_rem(b) }
 }
 
-// Returns the operator of an assignment among those on numbers: none for `=`.
+/// Returns the operator of an assignment among those on numbers: none for `=`.
 #[inline(always)]
 #[tactic(auto, unfolding(crate::specs::Values::stored))]
 fn store_number(op: StoreOp) -> Option<arith::Op>

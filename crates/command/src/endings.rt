@@ -43,6 +43,7 @@ impl Ending<'_> {
         self.status()
     }
 
+    /// Returns the exit status.
     fn status(self) -> u8
         ensures { result ≡ status_of self.entry }
     {
@@ -56,6 +57,7 @@ impl Ending<'_> {
         }
     }
 
+    /// Puts the program's own line, if this ending has one.
     #[tactic(auto, unfolding(crate::specs::Endings::usage_line))]
     fn put_line<E: Sink>(self, err: &mut E) -> Result<(), DeviceFault>
         requires { E.failures err.old < 2 ^ 64 - 1 }

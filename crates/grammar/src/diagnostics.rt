@@ -119,7 +119,7 @@ impl From<BuildFault> for ParseFault {
 
     ghost from_gives = { λ _ e. e ≡ Memory };
 
-    // Makes it a refusal of memory: `Full` comes from a function's end alone, and becomes a diagnostic there.
+    /// Makes it a refusal of memory: `Full` comes from a function's end alone, and becomes a diagnostic there.
     fn from(_fault: BuildFault) -> ParseFault {
         ParseFault::Memory
     }

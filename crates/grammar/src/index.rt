@@ -55,7 +55,7 @@ impl Index {
     }
 }
 
-// Returns the bucket of a name. Most names that differ have another.
+/// Returns the bucket of a name. Most names that differ have another.
 #[inline(always)]
 #[tactic(auto, unfolding(crate::specs::Index::bucket_of))]
 fn bucket(name: &Name) -> usize

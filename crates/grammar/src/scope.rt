@@ -46,7 +46,7 @@ pub fn intrinsic(name: &Name) -> Option<Intrinsic>
     }
 }
 
-// Returns this intrinsic function if the name is its.
+/// Returns this intrinsic function if the name is its.
 #[inline(always)]
 fn called(intrinsic: Intrinsic, name: &Name) -> Option<Intrinsic>
     ensures { result ≡ (if bytes_eq name.now (intrinsic_name intrinsic) then Some intrinsic else None) }
@@ -276,7 +276,7 @@ impl Scope {
         self.pools
     }
 
-    // Returns the variable of a name: one of the function's, or else an external.
+    /// Returns the variable of a name: one of the function's, or else an external.
     #[inline(always)]
     fn variable(&self, name: &Name) -> Option<Var>
         ensures value { result ≡ variable_named name.now self.now }
@@ -289,7 +289,7 @@ impl Scope {
         Some(Var::External(number as u8))
     }
 
-    // Returns the number of a function of the file, which is the next one if it is new.
+    /// Returns the number of a function of the file, which is the next one if it is new.
     #[tactic(auto, using(crate::proofs::ScopeLaws::calls))]
     fn number_for(&mut self, known: Option<usize>, name: &Name, line: u32) -> Result<u8, Code>
         requires own { intrinsic_named name.now ≡ None }
@@ -308,7 +308,7 @@ impl Scope {
         Ok(self.add_function(name, line))
     }
 
-    // Returns the number of a function that was mentioned.
+    /// Returns the number of a function that was mentioned.
     fn function_number(&self, name: &Name) -> Option<usize>
         ensures number { result ≡ function_number name.now self.now }
         ensures within { IfSome result (λ n. n < MOST_NAMES) }
@@ -316,13 +316,14 @@ impl Scope {
         function_number(self.pools.functions(), self.index.start(name), name)
     }
 
+    /// Reports whether there is no room for a further function.
     fn has_most_functions(&self) -> bool
         ensures most { result ≡ nat_le MOST_NAMES (length self.now.functions) }
     {
         self.pools.functions().len() >= MOST_NAMES
     }
 
-    // Adds a function that is mentioned on a line, and returns its number.
+    /// Adds a function that is mentioned on a line, and returns its number.
     fn add_function(&mut self, name: &Name, line: u32) -> u8
         requires { length self.old.functions < MOST_NAMES }
         ensures number { result ≡ length self.old.functions }
@@ -335,7 +336,7 @@ impl Scope {
         number
     }
 
-    // Reports whether a definition of the function began before, which is known by this number or new.
+    /// Reports whether a definition of the function began before, which is known by this number or new.
     fn has_begun(&self, known: Option<usize>) -> bool
         ensures { result ≡ list_any (λ k. k == unwrap_or known (length self.now.functions)) self.now.begun }
     {
@@ -345,7 +346,7 @@ impl Scope {
         }
     }
 
-    // Begins the definition of the function of this number and name.
+    /// Begins the definition of the function of this number and name.
     #[tactic(auto, using(crate::proofs::ScopeLaws::beginnings))]
     fn begin(&mut self, number: u8, name: &Name)
         requires within { number < length self.old.functions }
@@ -357,6 +358,7 @@ impl Scope {
         self.current.restart(name);
     }
 
+    /// Reports whether the function has no variable of this name.
     #[inline(always)]
     fn is_local_new(&self, name: &Name) -> bool
         ensures { result ≡ is_local_new name.now self.now }
@@ -364,30 +366,35 @@ impl Scope {
         number_of(self.current.variables(), name).is_none()
     }
 
+    /// Reports whether the file has no external of this name.
     fn is_external_new(&self, name: &Name) -> bool
         ensures { result ≡ is_external_new name.now self.now }
     {
         number_of(self.pools.externals(), name).is_none()
     }
 
+    /// Reports whether there is no room for a further variable of the function.
     fn has_most_variables(&self) -> bool
         ensures most { result ≡ nat_le MOST_NAMES (length self.now.current.variables) }
     {
         self.current.variables().len() >= MOST_NAMES
     }
 
+    /// Reports whether there is no room for a further external.
     fn has_most_externals(&self) -> bool
         ensures most { result ≡ nat_le MOST_NAMES (length self.now.externals) }
     {
         self.pools.externals().len() >= MOST_NAMES
     }
 
+    /// Returns the function's next variable.
     fn next_local(&self) -> Var
         ensures { result ≡ Var.Local (length self.now.current.variables) }
     {
         Var::Local(self.current.variables().len() as u8)
     }
 
+    /// Adds a variable to the function.
     fn add_variable(&mut self, name: &Name)
         requires { length self.old.current.variables < MOST_NAMES }
         ensures { self.new ≡ with_variable name.now self.old }
@@ -395,6 +402,7 @@ impl Scope {
         self.current.add_local(name);
     }
 
+    /// Adds a parameter to the function.
     fn add_parameter(&mut self, name: &Name)
         requires { length self.old.current.variables < MOST_NAMES }
         ensures { self.new ≡ with_parameter name.now self.old }
@@ -402,6 +410,7 @@ impl Scope {
         self.current.add_parameter(name);
     }
 
+    /// Adds an external to the file.
     fn add_external(&mut self, name: &Name)
         requires { length self.old.externals < MOST_NAMES }
         ensures { self.new ≡ with_external name.now self.old }

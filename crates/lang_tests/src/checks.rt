@@ -84,7 +84,7 @@ pub fn shown(alloc: Global, outcome: &Observed) -> Result<String, Fail> {
     Ok(text)
 }
 
-// Adds a function's name, those of its variables, and its tree.
+/// Adds a function's name, those of its variables, and its tree.
 fn add_function(text: &mut String, names: &Pools, tree: &FunctionTree) -> Result<(), Fail> {
     if let Some(function) = names.functions().get(tree.number as usize) {
         text.push_str(str::from_utf8(function.name().as_bytes())?)?;
@@ -94,7 +94,7 @@ fn add_function(text: &mut String, names: &Pools, tree: &FunctionTree) -> Result
     Ok(())
 }
 
-// Adds names, each after a space.
+/// Adds names, each after a space.
 fn add_names(text: &mut String, names: &[Name]) -> Result<(), Fail> {
     for name in names {
         text.push_str(" ")?;

@@ -77,7 +77,7 @@ const LARGE: &[(&[Part], usize)] = &[
     ),
 ];
 
-// Compares what a parse of the source reports with what its trees report then, and how many actions they are.
+/// Compares what a parse of the source reports with what its trees report then, and how many actions they are.
 fn check_actions(rt: &(impl Abort + AllocGlobal), source: &[u8], count: usize) -> Result<(), Fail> {
     let trees = TreeMaker::new(rt.alloc(), Profile::second());
     let mut parsed = Recorder::around(rt.alloc(), trees);
@@ -101,7 +101,7 @@ fn large_files_are_kept_and_replayed(rt: HostRuntime) -> Result<(), Fail> {
     Ok(())
 }
 
-// Makes a source of the most functions, each with so many statements: `main` is the last of 64.
+/// Makes a source of the most functions, each with so many statements: `main` is the last of 64.
 fn functions(alloc: Global, statements: usize) -> Result<Vec<u8>, AllocError> {
     let mut source = Vec::new(alloc);
     for number in 0..63_u8 {

@@ -6,7 +6,7 @@ use tokens::Pieces;
 /// A source with a tree of each kind that asks for memory.
 const SOURCE: &[u8] = b"f(){} main(){ x = -a && f(1); if(x) 2; else while(x) return 3; }";
 
-// Checks that whatever request is refused, the answer is `Memory`; and if none is, all functions are there.
+/// Checks that whatever request is refused, the answer is `Memory`; and if none is, all functions are there.
 #[test]
 fn a_refused_request_is_answered(rt: HostRuntime) {
     let mut trees = TreeMaker::new(rt.alloc(), Profile::first());

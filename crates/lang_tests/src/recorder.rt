@@ -65,7 +65,7 @@ impl<B> Recorder<B> {
         }
     }
 
-    // Adds an action.
+    /// Adds an action.
     fn add(&mut self, action: Reported) -> Result<(), BuildFault>
         ensures inner { self.new.inner ≡ self.old.inner }
         ensures memory { Refuses result ⊤ }

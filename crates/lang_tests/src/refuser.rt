@@ -14,7 +14,7 @@ pub struct Refuser {
 }
 
 impl Refuser {
-    // Takes an action, if one is left.
+    /// Takes an action, if one is left.
     fn take(&mut self) -> Result<(), BuildFault>
         ensures { Refuses result ⊤ }
     {

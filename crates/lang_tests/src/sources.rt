@@ -23,7 +23,7 @@ pub fn source_of(alloc: Global, parts: &[Part]) -> Result<Vec<u8>, AllocError> {
     Ok(source)
 }
 
-// Adds a text so many times.
+/// Adds a text so many times.
 fn add_times(source: &mut Vec<u8>, text: &[u8], times: usize) -> Result<(), AllocError> {
     for _ in 0..times {
         source.extend_from_slice(text)?;

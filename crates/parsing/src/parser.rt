@@ -310,7 +310,7 @@ impl<'a, F: Feed> Parser<'a, F> {
     }
 }
 
-// Returns the name that the next token has to be.
+/// Returns the name that the next token has to be.
 #[inline(always)]
 fn name(cursor: &Cursor) -> Result<&Name, ParseFault>
     requires sound { is_fault cursor.now.next.token ≡ false }
@@ -324,7 +324,7 @@ fn name(cursor: &Cursor) -> Result<&Name, ParseFault>
     }
 }
 
-// Declares a name in a scope.
+/// Declares a name in a scope.
 #[inline(always)]
 fn declare(scope: &mut Scope, name: &Name, declared: Declared) -> Result<(), Code>
     ensures known { OnOk result ((line : ℕ) → Knows (role_of declared) name.now line scope.old scope.new) }
@@ -339,7 +339,7 @@ fn declare(scope: &mut Scope, name: &Name, declared: Declared) -> Result<(), Cod
     Ok(())
 }
 
-// Returns the refusal of a token that doesn't fit.
+/// Returns the refusal of a token that doesn't fit.
 #[cold]
 #[inline(never)]
 fn misfit(located_token: &LocatedToken) -> ParseFault

@@ -70,7 +70,7 @@ fn a_series_stops_at_failed_totals(rt: HostRuntime) -> Result<(), Fail> {
     Ok(())
 }
 
-// The next two tests move programs, for which `rt try` has too little stack.
+/// The next two tests move programs, for which `rt try` has too little stack.
 #[test]
 fn a_series_may_own_its_programs(rt: HostRuntime) -> Result<(), Fail> {
     let settings = game_of_one(TWO_MATCHES, "a.r");

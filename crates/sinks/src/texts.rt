@@ -38,6 +38,7 @@ impl Pen {
         self.add(sink, &[b'0' + (n % 10) as u8]);
     }
 
+    /// Adds so many spaces.
     fn spaces<S: Sink>(&mut self, sink: &mut S, count: usize)
         requires { MayFail self.old (S.failures sink.old) }
         ensures countable { MayFail self.new (S.failures sink.new) }

@@ -128,7 +128,7 @@ impl Name {
         self.begins_as(other) && self.as_bytes() == other.as_bytes()
     }
 
-    // Reports whether the length and the first two bytes are those of a name: a short name has zeros there.
+    /// Reports whether the length and the first two bytes are those of a name: a short name has zeros there.
     #[inline(always)]
     #[tactic(auto, using(crate::proofs::NameLemmas::same_kept))]
     fn begins_as(&self, other: &Name) -> bool

@@ -89,6 +89,7 @@ impl Punctuator {
         self.with_byte(next?)
     }
 
+    /// Returns the punctuator that is spelled as this one and then the byte.
     #[inline(always)]
     #[tactic(auto, unfolding(crate::specs::Punctuators::punctuator_of))]
     fn with_byte(self, b: u8) -> Option<Punctuator>
@@ -106,6 +107,7 @@ impl Punctuator {
         }
     }
 
+    /// Returns the punctuator that is spelled as this one and then `=`.
     #[tactic(auto, unfolding(crate::specs::Punctuators::punctuator_of))]
     fn with_equals(self) -> Option<Punctuator>
         ensures { result ≡ punctuator_of (spelling self ++ 61 ∷ []) }

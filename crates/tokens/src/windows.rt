@@ -182,6 +182,7 @@ impl Window {
         }
     }
 
+    /// Asks the device for the next bytes, if it has not ended.
     #[inline(never)]
     fn refill<F: Feed>(&mut self, feed: &mut F) -> Result<(), DeviceFault>
         requires empty { self.old.at_hand ≡ [] }

@@ -51,7 +51,7 @@ impl Word {
         }
     }
 
-    // Returns this word, if a name is it.
+    /// Returns this word, if a name is it.
     fn when(self, is: bool) -> Option<Word>
         ensures { result ≡ (if is then Some self else None) }
     {
@@ -59,6 +59,7 @@ impl Word {
     }
 }
 
+/// Reports whether a name is a reserved word that begins with `s`.
 fn is_refused_with_s(name: &[u8]) -> bool
     ensures { result ≡ (bytes_eq name.now (codes "switch") || bytes_eq name.now (codes "struct")
         || bytes_eq name.now (codes "sizeof") || bytes_eq name.now (codes "static")
@@ -71,7 +72,7 @@ fn is_refused_with_s(name: &[u8]) -> bool
         || is(name, b"short")
 }
 
-// Reports whether a name is this word. The loop is unrolled for each word.
+/// Reports whether a name is this word. The loop is unrolled for each word.
 #[inline(always)]
 fn is(name: &[u8], word: &[u8]) -> bool
     ensures { result ≡ bytes_eq name.now word.now }

@@ -57,7 +57,7 @@ impl TreeMaker {
         &self.functions
     }
 
-    // Counts more instructions, and whether the code with the final NOP now passes the limit.
+    /// Counts more instructions, and whether the code with the final NOP now passes the limit.
     fn passes(&mut self, instructions: u16) -> bool
         ensures profile { self.new.profile ≡ self.old.profile }
         ensures functions { self.new.functions ≡ self.old.functions }
@@ -70,7 +70,7 @@ impl TreeMaker {
     }
 }
 
-// Returns how many instructions are between the sides of an operator.
+/// Returns how many instructions are between the sides of an operator.
 fn middle_length(profile: Profile, op: Op) -> u16
     ensures { result ≡ instructions profile (LogicMiddle op) }
 {
@@ -84,7 +84,7 @@ fn middle_length(profile: Profile, op: Op) -> u16
     }
 }
 
-// Returns how many instructions are at the end of an operator's right side.
+/// Returns how many instructions are at the end of an operator's right side.
 fn end_length(profile: Profile, op: Op) -> u16
     ensures { result ≡ instructions profile (ApplyBinop op) }
 {

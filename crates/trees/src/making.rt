@@ -224,7 +224,7 @@ impl Stack {
     }
 }
 
-// Drops the last statement.
+/// Drops the last statement.
 fn leave_last(statements: &mut Vec<Statement>)
     ensures { statements.new.items ≡ without_last statements.old.items }
 {

@@ -25,7 +25,7 @@ pub fn boxed(alloc: Global, expr: Expr) -> Result<Box<Expr>, BuildFault>
         .map_err(refused)
 }
 
-// Returns the refusal for want of memory.
+/// Returns the refusal for want of memory.
 fn refused(_error: AllocError) -> BuildFault
     ensures { result ≡ BuildFault.Memory }
 {

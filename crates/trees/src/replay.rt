@@ -33,7 +33,7 @@ impl TreeMaker {
     }
 }
 
-// Reports a function, with the `return 0;` at its end.
+/// Reports a function, with the `return 0;` at its end.
 fn tell_function<B: Build>(function: &Function, build: &mut B) -> Result<(), BuildFault>
     requires { MayFollowAll (B.stands build.old) (function_actions function.now.number (function_tree function.now)) }
     ensures ok { OnOk result (AppendsAll (B.stands build.old) (B.stands build.new)
@@ -49,7 +49,7 @@ fn tell_function<B: Build>(function: &Function, build: &mut B) -> Result<(), Bui
 }
 
 #[tactic(auto, using(crate::proofs::ReplayLaws::may_return))]
-// Reports `return 0;`.
+/// Reports `return 0;`.
 fn tell_last_return<B: Build>(build: &mut B) -> Result<(), BuildFault>
     requires { MayFollowAll (B.stands build.old) last_return }
     ensures ok { OnOk result (AppendsAll (B.stands build.old) (B.stands build.new) last_return) }
@@ -59,7 +59,7 @@ fn tell_last_return<B: Build>(build: &mut B) -> Result<(), BuildFault>
     build.give_back()
 }
 
-// Reports statements in their order.
+/// Reports statements in their order.
 #[cycle(statements)]
 fn tell_statements<B: Build>(statements: &[Statement], build: &mut B) -> Result<(), BuildFault>
     requires { MayFollowAll (B.stands build.old) (body_actions (body_tree statements.now)) }
@@ -73,7 +73,7 @@ fn tell_statements<B: Build>(statements: &[Statement], build: &mut B) -> Result<
     Ok(())
 }
 
-// Reports a statement.
+/// Reports a statement.
 #[cycle(statements)]
 fn tell_statement<B: Build>(statement: &Statement, build: &mut B) -> Result<(), BuildFault>
     requires { MayFollowAll (B.stands build.old) (statement_actions statement.now) }
@@ -103,7 +103,7 @@ fn tell_statement<B: Build>(statement: &Statement, build: &mut B) -> Result<(), 
     }
 }
 
-// Reports an expression whose value is dropped.
+/// Reports an expression whose value is dropped.
 fn tell_alone<B: Build>(expr: &Expr, build: &mut B) -> Result<(), BuildFault>
     requires { MayFollowAll (B.stands build.old) (expr_actions (expr_tree expr.now) ++ Chop ∷ []) }
     ensures ok { OnOk result (AppendsAll (B.stands build.old) (B.stands build.new)
@@ -114,7 +114,7 @@ fn tell_alone<B: Build>(expr: &Expr, build: &mut B) -> Result<(), BuildFault>
     build.chop()
 }
 
-// Reports the condition of an `if`.
+/// Reports the condition of an `if`.
 fn tell_test<B: Build>(condition: &Expr, build: &mut B) -> Result<(), BuildFault>
     requires { MayFollowAll (B.stands build.old) (expr_actions (expr_tree condition.now) ++ IfTest ∷ []) }
     ensures ok { OnOk result (AppendsAll (B.stands build.old) (B.stands build.new)
@@ -125,7 +125,7 @@ fn tell_test<B: Build>(condition: &Expr, build: &mut B) -> Result<(), BuildFault
     build.if_test()
 }
 
-// Reports the condition of a `while`.
+/// Reports the condition of a `while`.
 fn tell_loop_test<B: Build>(condition: &Expr, build: &mut B) -> Result<(), BuildFault>
     requires { MayFollowAll (B.stands build.old)
         (BeginWhile ∷ (expr_actions (expr_tree condition.now) ++ WhileTest ∷ [])) }
@@ -138,7 +138,7 @@ fn tell_loop_test<B: Build>(condition: &Expr, build: &mut B) -> Result<(), Build
     build.while_test()
 }
 
-// Reports a `return` with its value.
+/// Reports a `return` with its value.
 fn tell_return<B: Build>(expr: &Expr, build: &mut B) -> Result<(), BuildFault>
     requires { MayFollowAll (B.stands build.old) (expr_actions (expr_tree expr.now) ++ GiveBack ∷ []) }
     ensures ok { OnOk result (AppendsAll (B.stands build.old) (B.stands build.new)
@@ -149,7 +149,7 @@ fn tell_return<B: Build>(expr: &Expr, build: &mut B) -> Result<(), BuildFault>
     build.give_back()
 }
 
-// Reports an expression.
+/// Reports an expression.
 #[cycle(expressions)]
 fn tell_expr<B: Build>(expr: &Expr, build: &mut B) -> Result<(), BuildFault>
     requires { MayFollowAll (B.stands build.old) (expr_actions (expr_tree expr.now)) }
@@ -179,7 +179,7 @@ fn tell_expr<B: Build>(expr: &Expr, build: &mut B) -> Result<(), BuildFault>
     }
 }
 
-// Reports the arguments of a call.
+/// Reports the arguments of a call.
 #[cycle(expressions)]
 fn tell_arguments<B: Build>(exprs: &[Expr], build: &mut B) -> Result<(), BuildFault>
     requires { MayFollowAll (B.stands build.old) (args_actions (arguments (map expr_tree exprs.now))) }
@@ -193,7 +193,7 @@ fn tell_arguments<B: Build>(exprs: &[Expr], build: &mut B) -> Result<(), BuildFa
     Ok(())
 }
 
-// Reports what is between the sides of an operator.
+/// Reports what is between the sides of an operator.
 fn tell_middle<B: Build>(op: Op, build: &mut B) -> Result<(), BuildFault>
     requires { MayFollowAll (B.stands build.old) (middle op) }
     ensures ok { OnOk result (AppendsAll (B.stands build.old) (B.stands build.new) (middle op)) }
@@ -205,7 +205,7 @@ fn tell_middle<B: Build>(op: Op, build: &mut B) -> Result<(), BuildFault>
     build.logic_middle(op)
 }
 
-// Reports `v++` or `v--`, by the operator that steps the variable.
+/// Reports `v++` or `v--`, by the operator that steps the variable.
 fn tell_step<B: Build>(op: StoreOp, var: Var, build: &mut B) -> Result<(), BuildFault>
     requires { MayFollowAll (B.stands build.old)
         (FetchVariable var ∷ PushConstant (pos 1) ∷ StoreVariable var op ∷ Chop ∷ []) }

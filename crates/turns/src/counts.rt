@@ -35,7 +35,7 @@ pub fn counted(program: &Program, cycles: u32) -> Counts
     counts
 }
 
-// Runs the cycle in which the machine asks or restarts, and counts it.
+/// Runs the cycle in which the machine asks or restarts, and counts it.
 fn count(machine: &mut Machine, program: &Program, counts: &mut Counts)
     requires fits { FitsProgram machine.old program.now }
     requires stopped { want_next program.now machine.old ≢ Want.Quiet }

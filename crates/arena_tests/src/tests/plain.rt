@@ -9,7 +9,7 @@ use arrayvec::ArrayVec;
 use grammar::Intrinsic;
 use std::process::Abort;
 
-// A robot: its leg, and the sum of all that hurt it.
+/// A robot: its leg, and the sum of all that hurt it.
 #[derive(Clone, Copy, Default)]
 struct Robot {
     origin_x: i64,
@@ -43,7 +43,7 @@ impl Robot {
         (x.clamp(0, 9999), y.clamp(0, 9999))
     }
 
-    // Begins a new leg at the present place.
+    /// Begins a new leg at the present place.
     fn starting(self) -> Robot {
         let (origin_x, origin_y) = self.place();
         Robot {
@@ -54,7 +54,7 @@ impl Robot {
         }
     }
 
-    // Returns it as it tried to move, or put back where it is if it touched others.
+    /// Returns it as it tried to move, or put back where it is if it touched others.
     fn moved(self, tried: Robot, touched: i64) -> Robot {
         if touched == 0 {
             return tried;
@@ -72,7 +72,7 @@ impl Robot {
         }
     }
 
-    // Stops at the present place, hurt by so much more.
+    /// Stops at the present place, hurt by so much more.
     fn resting(self, hurt: i64) -> Robot {
         Robot {
             speed: 0,
@@ -106,7 +106,7 @@ impl Robot {
         }
     }
 
-    // Moves on by heading, speed, distance and walls, as if there were no other robots.
+    /// Moves on by heading, speed, distance and walls, as if there were no other robots.
     fn tried(self) -> Robot {
         if !self.is_alive() {
             return self;
@@ -124,7 +124,7 @@ impl Robot {
     }
 }
 
-// Returns a coordinate at a distance in tenths from an origin, by the part of the distance that lies on the axis.
+/// Returns a coordinate at a distance in tenths from an origin, by the part of the distance that lies on the axis.
 fn along(origin: i64, distance: i64, part: i32) -> i64 {
     origin.wrapping_add(distance.wrapping_mul(i64::from(part)) / 100_000)
 }
@@ -135,7 +135,7 @@ fn square(a: (i64, i64), b: (i64, i64)) -> i64 {
     x.wrapping_mul(x).wrapping_add(y.wrapping_mul(y))
 }
 
-// A shot: who fired it, the update in which it bursts, and where.
+/// A shot: who fired it, the update in which it bursts, and where.
 #[derive(Clone, Copy, Default)]
 struct Shot {
     owner: usize,
@@ -143,7 +143,7 @@ struct Shot {
     point: (i64, i64),
 }
 
-// Four robots, of which those that don't play are dead.
+/// Four robots, of which those that don't play are dead.
 #[derive(Drop)]
 struct Field {
     robots: [Robot; 4],
@@ -224,7 +224,7 @@ impl Field {
         self.robots.iter().filter(|robot| robot.is_alive()).count()
     }
 
-    // Returns the damage that the bursts of this update do at a place.
+    /// Returns the damage that the bursts of this update do at a place.
     fn burst_at(&self, place: (i64, i64)) -> i64 {
         let mut damage = 0i64;
         for shot in self.shots.as_slice() {
@@ -245,7 +245,7 @@ fn ring(square: i64) -> i64 {
     }
 }
 
-// Returns how many others a robot collides with.
+/// Returns how many others a robot collides with.
 fn touches(before: &[Robot; 4], tries: &[Robot; 4], i: usize) -> i64
     requires { i < 4 }
 {
@@ -258,7 +258,7 @@ fn touches(before: &[Robot; 4], tries: &[Robot; 4], i: usize) -> i64
     touched
 }
 
-// Reports whether two robots collide, each given as it was and as it would be.
+/// Reports whether two robots collide, each given as it was and as it would be.
 fn collide(a: (Robot, Robot), b: (Robot, Robot)) -> bool {
     let old = (a.0.place(), b.0.place());
     let new = (a.1.place(), b.1.place());
@@ -272,12 +272,12 @@ fn collide(a: (Robot, Robot), b: (Robot, Robot)) -> bool {
         && square(new.0, new.1) <= square(old.0, old.1)
 }
 
-// Numbers that have nothing to do with the arena's generator.
+/// Numbers that have nothing to do with the arena's generator.
 #[derive(Drop)]
 struct Dice(u64);
 
 impl Dice {
-    // Returns a number below the limit.
+    /// Returns a number below the limit.
     fn roll(&mut self, limit: u16) -> u16
         requires { 0 < limit }
     {
@@ -297,7 +297,7 @@ impl Dice {
     }
 }
 
-// Plays an arena and its plain model side by side for some updates, robots within so many tenths.
+/// Plays an arena and its plain model side by side for some updates, robots within so many tenths.
 fn play(rt: &impl Abort, places: &[(u16, u16)], updates: u32, dice: &mut Dice)
     requires some { 2 ≤ length places.now }
     requires most { length places.now ≤ 4 }
@@ -318,7 +318,7 @@ fn play(rt: &impl Abort, places: &[(u16, u16)], updates: u32, dice: &mut Dice)
     }
 }
 
-// Lets a live robot drive now and then, and fire.
+/// Lets a live robot drive now and then, and fire.
 fn ask(rt: &impl Abort, arena: &mut Arena, field: &mut Field, robot: usize, dice: &mut Dice)
     requires robot { robot < length arena.old.robots }
     requires four { robot < 4 }
