@@ -159,6 +159,9 @@ fn calm_updates(robots: &[Robot]) -> u32
     let mut least = LAST_PLACE;
     for (i, robot) in robots.iter().enumerate() {
         least = least_gap(robot, &robots[i + 1..], least);
+        if least < CLOSE + APPROACH {
+            return 0;
+        }
     }
     u32::from(least.saturating_sub(CLOSE) / APPROACH)
 }
