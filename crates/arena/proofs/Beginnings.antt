@@ -3,13 +3,13 @@ use Rattle.std.proofs.Common.{◌≡◌, ℕ, ◌+◌, ◌*◌, ◌/◌, ◌%◌
 use Rattle.std.specs.List.{range_with_len}
 use Rattle.std.proofs.lemmas.List.{map_push}
 use Rattle.std.proofs.lemmas.List.FromFn.{map-range_with_len_more}
-use Rattle.arena.specs.Words.{word}
+use Rattle.arena.specs.Words.{random_word}
 use Rattle.arena.specs.Start.{standing, quadrant, drawn_place, drawn_robot}
 use Rattle.arena.specs.Ground.{Body, body_of}
 
 -- the robot of a number, by the words that it draws
-pub robot_is : (seed number i first : ℕ) → first ≡ word seed number 0 →
-    body_of (standing (drawn_place ((i + first % 4) % 4 % 2) (word seed number (1 + 2 * i))) (drawn_place ((i + first % 4) % 4 / 2) (word seed number (1 + 2 * i + 1))))
+pub robot_is : (seed number i first : ℕ) → first ≡ random_word seed number 0 →
+    body_of (standing (drawn_place ((i + first % 4) % 4 % 2) (random_word seed number (1 + 2 * i))) (drawn_place ((i + first % 4) % 4 / 2) (random_word seed number (1 + 2 * i + 1))))
     ≡ body_of (drawn_robot seed number i)
 unfolding drawn_robot quadrant
 robot_is seed number i first e =

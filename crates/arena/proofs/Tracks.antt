@@ -7,7 +7,7 @@ use Rattle.std.proofs.lemmas.Bool.Decides.{nat_tests}
 use Rattle.std.proofs.lemmas.Bool.{eq-eqb, ne_eqb, le-leb, lt-leb, or_parts}
 use Rattle.arena.specs.Answer.{wanting}
 use Rattle.arith.specs.Circle.{sine_at, cosine_at}
-use Rattle.arena.specs.Leg.{Leg, last_place, clamped, along, way_east, way_north, end_x, end_y, place_x, place_y, approached, begun, steered, sped, grown, is_outside, hits_wall, walled, tried}
+use Rattle.arena.specs.Leg.{Leg, last_place, clamped, along, way_east, way_north, end_x, end_y, place_x, place_y, approached, leg_anew, steered, sped, grown, is_outside, hits_wall, walled, tried}
 use Rattle.arena.specs.Start.{standing}
 use Rattle.arena.specs.Moved.{put_back}
 use Rattle.arena.specs.Ground.{Track, track_of}
@@ -35,9 +35,9 @@ unfolding standing
 standing-track x y = from_place x y 0 0 0 0
 
 pub begun-track : (leg : Leg) →
-    track_of (begun leg)
+    track_of (leg_anew leg)
     ≡ record { origin_x = place_x leg; origin_y = place_y leg; east = pos 0; north = pos 0; x = place_x leg; y = place_y leg; heading = leg.heading; speed = leg.speed; wanted_heading = leg.wanted_heading; wanted_speed = leg.wanted_speed }
-unfolding begun
+unfolding leg_anew
 begun-track leg = from_place _ _ _ _ _ _
 
 pub stopped-track : (leg : Leg) (x y : ℕ) →
@@ -56,7 +56,7 @@ pub wanting_is : (t : Track) (leg : Leg) (degree speed : ℕ) → t ≡ track_of
 unfolding track_of wanting place_x place_y end_x end_y way_east way_north
 wanting_is t leg degree speed e = ap (λ (t : Track). record t { wanted_heading = degree; wanted_speed = speed }) e
 
-pub begun_is : (t : Track) (leg : Leg) → t ≡ track_of leg → record t { origin_x = t.x; origin_y = t.y; east = pos 0; north = pos 0 } ≡ track_of (begun leg)
+pub begun_is : (t : Track) (leg : Leg) → t ≡ track_of leg → record t { origin_x = t.x; origin_y = t.y; east = pos 0; north = pos 0 } ≡ track_of (leg_anew leg)
 unfolding track_of
 begun_is t leg e =
     ap (λ (t : Track). record t { origin_x = t.x; origin_y = t.y; east = pos 0; north = pos 0 }) e ∙ sym (begun-track leg)
@@ -79,10 +79,10 @@ keeps_heading t leg e h =
     rw test e
 
 steers : (leg : Leg) → (leg.wanted_heading ≡ leg.heading → ⊥) → leg.speed ≤ 50 → steered leg ≡ record { origin_x = place_x leg; origin_y = place_y leg; heading = leg.wanted_heading; distance = 0; speed = leg.speed; wanted_heading = leg.wanted_heading; wanted_speed = leg.wanted_speed }
-unfolding steered begun
+unfolding steered leg_anew
 steers leg h slow = rw (ne_eqb leg.wanted_heading leg.heading h, le-leb leg.speed 50 slow) refl
 
-pub turns_is : (t b : Track) (leg : Leg) (degree : ℕ) → t ≡ track_of leg → b ≡ track_of (begun leg) → (t.wanted_heading ≡ t.heading → ⊥) → t.speed ≤ 50 → degree ≡ t.wanted_heading → record b { heading = degree } ≡ track_of (steered leg)
+pub turns_is : (t b : Track) (leg : Leg) (degree : ℕ) → t ≡ track_of leg → b ≡ track_of (leg_anew leg) → (t.wanted_heading ≡ t.heading → ⊥) → t.speed ≤ 50 → degree ≡ t.wanted_heading → record b { heading = degree } ≡ track_of (steered leg)
 unfolding track_of
 turns_is t b leg degree e f h slow d =
     let differs : leg.wanted_heading ≡ leg.heading → ⊥ = λ s. h cc in

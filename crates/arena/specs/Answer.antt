@@ -11,7 +11,7 @@ use Rattle.arena.specs.Leg.{Leg, clamped}
 use Rattle.arena.specs.Field.{Field, damage_of, robot_at, metres_x, metres_y}
 use Rattle.arena.specs.Shots.{shot, in_air}
 use Rattle.arena.specs.Scan.{scanned}
-use Rattle.arena.specs.Words.{word}
+use Rattle.arena.specs.Words.{random_word}
 
 -- an argument by its place; a missing one is 0
 unfoldable pub argument : List ℤ → ℕ → ℤ
@@ -38,7 +38,7 @@ unfoldable pub random_limit : ℤ → ℕ
 random_limit n = max 1 (clamped 32767 n)
 
 unfoldable pub random_number : Field → ℤ → ℕ
-random_number field n = word field.seed field.number field.drawn % random_limit n
+random_number field n = random_word field.seed field.number field.drawn % random_limit n
 
 -- the reply, and the field afterwards
 unfoldable pub answer : Field → ℕ → Intrinsic → List ℤ → ℤ × Field

@@ -4,7 +4,7 @@ use Rattle.grammar.specs.declared.names.Intrinsic.{Intrinsic}
 use Rattle.grammar.specs.declared.names.Intrinsic.TheVariants.{Scan, Cannon, Drive, LocX, Rand}
 use Rattle.arena.specs.Leg.{place_x, place_y}
 use Rattle.arena.specs.Field.{Robot, Field, damage_of, robot_at}
-use Rattle.arena.specs.Words.{word}
+use Rattle.arena.specs.Words.{random_word}
 use Rattle.arena.specs.Start.{quadrant, start}
 use Rattle.arena.specs.Placed.{placed}
 use Rattle.arena.specs.Rest.{moved_times}
@@ -47,7 +47,7 @@ abbrev pub match_54 : Field
 match_54 = start 42 54 2
 
 pub record Starts : Type 0 where
-  pub words : map (word 42 54) (0 ∷ 1 ∷ 2 ∷ 3 ∷ 4 ∷ 5 ∷ [])
+  pub words : map (random_word 42 54) (0 ∷ 1 ∷ 2 ∷ 3 ∷ 4 ∷ 5 ∷ [])
       ≡ 0xa15c02b7 ∷ 0x7b47f409 ∷ 0xba1d3330 ∷ 0x83d2f293 ∷ 0xbfa4784b ∷ 0xcbed606e ∷ []
   pub quadrants : map (quadrant 42 54) (0 ∷ 1 ∷ []) ≡ 3 ∷ 0 ∷ []
   pub stand : places match_54 ≡ (8097, 6824) ∷ (1955, 1955) ∷ []

@@ -48,14 +48,14 @@ unfoldable pub place_y : Leg → ℕ
 place_y leg = unsigned_abs (end_y leg)
 
 -- a new leg, which starts at the place
-unfoldable pub begun : Leg → Leg
-begun leg = record leg { origin_x = place_x leg; origin_y = place_y leg; distance = 0 }
+unfoldable pub leg_anew : Leg → Leg
+leg_anew leg = record leg { origin_x = place_x leg; origin_y = place_y leg; distance = 0 }
 
 -- a robot turns at speed 50 or less; when it is faster, it begins to brake
 unfoldable pub steered : Leg → Leg
 steered leg =
     if leg.wanted_heading == leg.heading then leg
-    else if nat_le leg.speed 50 then record (begun leg) { heading = leg.wanted_heading }
+    else if nat_le leg.speed 50 then record (leg_anew leg) { heading = leg.wanted_heading }
     else record leg { wanted_speed = 0 }
 
 -- the speed goes by at most 10 towards the wanted speed

@@ -2,7 +2,7 @@
 use Rattle.std.specs.Prelude.{ℕ, ◌+◌, ◌*◌, ◌/◌, ◌%◌, ◌==◌, if◌then◌else◌, [], map}
 use Rattle.std.specs.List.{range_with_len}
 use Rattle.arena.specs.Field.{Robot, Field}
-use Rattle.arena.specs.Words.{word}
+use Rattle.arena.specs.Words.{random_word}
 
 -- a robot at rest at a place, unhurt
 unfoldable pub standing : ℕ → ℕ → Robot
@@ -21,7 +21,7 @@ standing x y = record {
 
 -- the first word chooses the quadrant of robot 0, and the others follow: bit 0 is the east half, bit 1 the north half
 unfoldable pub quadrant : ℕ → ℕ → ℕ → ℕ
-quadrant seed number i = (i + word seed number 0 % 4) % 4
+quadrant seed number i = (i + random_word seed number 0 % 4) % 4
 
 -- a word's place in the low half or in the high half of an axis
 unfoldable pub drawn_place : ℕ → ℕ → ℕ
@@ -31,7 +31,7 @@ drawn_place half w = (if half == 0 then 1000 else 6000) + w % 3000
 unfoldable pub drawn_robot : ℕ → ℕ → ℕ → Robot
 drawn_robot seed number i =
     let q = quadrant seed number i in
-    standing (drawn_place (q % 2) (word seed number (1 + 2 * i))) (drawn_place (q / 2) (word seed number (2 + 2 * i)))
+    standing (drawn_place (q % 2) (random_word seed number (1 + 2 * i))) (drawn_place (q / 2) (random_word seed number (2 + 2 * i)))
 
 -- so many robots at drawn places
 unfoldable pub start : ℕ → ℕ → ℕ → Field

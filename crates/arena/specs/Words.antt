@@ -9,5 +9,5 @@ generator seed number zero = started 64 multiplier_64 seed (increment_of 64 numb
 generator seed number (suc drawn) = (pcg32 (generator seed number drawn)).1
 
 -- the word that it gives next
-unfoldable pub word : ℕ → ℕ → ℕ → ℕ
-word seed number drawn = (pcg32 (generator seed number drawn)).0
+unfoldable pub random_word : ℕ → ℕ → ℕ → ℕ
+random_word seed number drawn = (pcg32 (generator seed number drawn)).0

@@ -28,13 +28,13 @@ use grammar::Intrinsic;
 use rand_pcg::Pcg32;
 use std::marker::Model;
 
-// The greatest resolution of a scan, in degrees.
+/// The greatest resolution of a scan, in degrees.
 const MOST_RESOLUTION: u16 = 10;
 
-// The greatest range of a cannon, in metres.
+/// The greatest range of a cannon, in metres.
 const MOST_RANGE: u16 = 700;
 
-// The greatest speed.
+/// The greatest speed.
 const MOST_SPEED: u16 = 100;
 
 /// A field in play: two to four robots, numbered from 0, their missiles in the air, and the
@@ -218,14 +218,14 @@ impl Arena {
         living(self.robots.as_slice())
     }
 
-    // Proves that no robot has more than two missiles in the air.
+    /// Proves that no robot has more than two missiles in the air.
     pub(crate) fn keeps_two(&self)
         ensures { All (λ s. length s ≤ 2) self.now.slots }
     {
         let _ = &self.updates;
     }
 
-    // Returns the robot of a number.
+    /// Returns the robot of a number.
     fn robot(&self, robot: usize) -> &Robot
         requires { robot < length self.now.robots }
         ensures value { result.now ≡ slice_index_or self.now.robots robot (body_of no_robot) }
@@ -234,7 +234,7 @@ impl Arena {
         &self.robots[robot]
     }
 
-    // Returns the range in metres of the nearest robot in an arc, or 0.
+    /// Returns the range in metres of the nearest robot in an arc, or 0.
     fn scan(&self, robot: usize, degree: i32, resolution: i32) -> i32
         requires { robot < length self.now.robots }
         ensures { (f : Field) → StandsFor self.now f
@@ -249,7 +249,7 @@ impl Arena {
         ))
     }
 
-    // Fires a missile, and reports by 1 or 0 whether the robot may.
+    /// Fires a missile, and reports by 1 or 0 whether the robot may.
     fn cannon(&mut self, robot: usize, degree: i32, range: i32) -> i32
         requires { robot < length self.old.robots }
         ensures reply { (f : Field) → StandsFor self.old f
@@ -270,7 +270,7 @@ impl Arena {
         1
     }
 
-    // Sets what a robot wants, and replies 1.
+    /// Sets what a robot wants, and replies 1.
     fn drive(&mut self, robot: usize, degree: i32, speed: i32) -> i32
         requires { robot < length self.old.robots }
         ensures reply { result ≡ pos 1 }
@@ -287,14 +287,14 @@ impl Arena {
     }
 }
 
-// Returns how many of some robots live.
+/// Returns how many of some robots live.
 fn living(robots: &[Robot]) -> usize
     ensures { result ≡ count_by (λ (b : Body). nat_lt b.damage 100) robots.now }
 {
     robots.iter().filter(|robot| robot.is_alive()).count()
 }
 
-// Returns a number from 0 to `most` as it is, and the nearer end of that range for any other.
+/// Returns a number from 0 to `most` as it is, and the nearer end of that range for any other.
 #[tactic(auto, unfolding(crate::specs::Leg::clamped))]
 fn clamped(number: i32, most: u16) -> u16
     ensures value { result ≡ clamped most number }

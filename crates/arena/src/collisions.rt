@@ -7,7 +7,7 @@ ghost use Rattle.arena.specs.Collisions.{square, moves, is_close, is_no_further,
 
 use std::marker::Model;
 
-// Robots collide when they are nearer than this on both axes, in tenths of a metre.
+/// Robots collide when they are nearer than this on both axes, in tenths of a metre.
 const NEAR: u16 = 10;
 
 /// A robot's place before an update and its candidate for the place after it, in tenths of a metre.
@@ -77,7 +77,7 @@ impl Mover {
         self.from_y
     }
 
-    // Reports whether the robot would leave its place.
+    /// Reports whether the robot would leave its place.
     #[tactic(auto, unfolding(crate::specs::Collisions::moves))]
     fn moves(&self) -> bool
         ensures { result ≡ moves self.now }
@@ -85,7 +85,7 @@ impl Mover {
         self.x != self.from_x || self.y != self.from_y
     }
 
-    // Reports whether the candidates are less than a metre apart on both axes.
+    /// Reports whether the candidates are less than a metre apart on both axes.
     #[tactic(auto, unfolding(crate::specs::Collisions::is_close))]
     fn is_close(&self, other: &Mover) -> bool
         ensures { result ≡ is_close self.now other.now }
@@ -93,7 +93,7 @@ impl Mover {
         self.x.abs_diff(other.x) < NEAR && self.y.abs_diff(other.y) < NEAR
     }
 
-    // Reports whether two robots don't come further apart.
+    /// Reports whether two robots don't come further apart.
     #[tactic(auto, unfolding(crate::specs::Collisions::is_no_further))]
     fn is_no_further(&self, other: &Mover) -> bool
         ensures { result ≡ is_no_further self.now other.now }
@@ -102,7 +102,7 @@ impl Mover {
             <= square(self.from_x, self.from_y, other.from_x, other.from_y)
     }
 
-    // Reports whether two robots collide.
+    /// Reports whether two robots collide.
     #[tactic(auto, unfolding(crate::specs::Collisions::collides))]
     fn collides(&self, other: &Mover) -> bool
         ensures { result ≡ collides self.now other.now }
@@ -127,7 +127,7 @@ pub fn square(x: u16, y: u16, to_x: u16, to_y: u16) -> u32
     axis_square(x, to_x) + axis_square(y, to_y)
 }
 
-// Returns the square of what lies between two coordinates in tenths of a metre.
+/// Returns the square of what lies between two coordinates in tenths of a metre.
 #[tactic(auto, using(crate::proofs::Squares::square_steps))]
 fn axis_square(from: u16, to: u16) -> u32
     requires from { from ≤ last_place }
@@ -139,7 +139,7 @@ fn axis_square(from: u16, to: u16) -> u32
     (difference * difference) as u32
 }
 
-// Returns how many of some robots a robot collides with.
+/// Returns how many of some robots a robot collides with.
 fn hits(mover: &Mover, others: &[Mover]) -> usize
     ensures { result ≡ count_by (collides mover.now) others.now }
 {
@@ -157,7 +157,7 @@ pub fn touches(movers: &[Mover], robot: usize) -> usize
     hits(mover, &movers[..robot]) + hits(mover, &movers[robot + 1..])
 }
 
-// Reports whether a robot's candidate is close to that of one of the others.
+/// Reports whether a robot's candidate is close to that of one of the others.
 fn is_near(mover: &Mover, others: &[Mover]) -> bool
     ensures { result ≡ false → All (λ other. is_close mover.now other ≡ false) others.now }
 {

@@ -1,7 +1,7 @@
 //! How a robot moves: its leg, with the sums of the way in place of the distance.
 
 ghost use Rattle.std.specs.Prelude.{◌≡◌, true, false, ◌+◌, ◌^◌, ◌<◌, ◌≤◌, ℤ, pos, ◌+ℤ◌, ◌*ℤ◌, unsigned_abs, ◌||◌};
-ghost use Rattle.arena.specs.Leg.{Leg, last_place, clamped, along, place_x, place_y, approached, begun, steered, sped, grown, walled, is_outside, hits_wall, tried, driven};
+ghost use Rattle.arena.specs.Leg.{Leg, last_place, clamped, along, place_x, place_y, approached, leg_anew, steered, sped, grown, walled, is_outside, hits_wall, tried, driven};
 ghost use Rattle.arena.specs.Start.{standing};
 ghost use Rattle.arena.specs.Moved.{put_back};
 ghost use Rattle.arena.specs.Answer.{wanting};
@@ -13,13 +13,13 @@ use crate::limits::LAST_PLACE;
 use arith::{cosine_at, sine_at};
 use std::marker::Model;
 
-// Sums of the way are in hundred-thousandths of a tenth of a metre.
+/// Sums of the way are in hundred-thousandths of a tenth of a metre.
 const SCALE: i64 = 100_000;
 
-// The greatest speed at which a robot turns.
+/// The greatest speed at which a robot turns.
 const TURNING_SPEED: u8 = 50;
 
-// By how much the speed changes in an update.
+/// By how much the speed changes in an update.
 const ACCELERATION: u8 = 10;
 
 /// A robot's motion: the origin of its leg, the way from there on each axis, the place that it leads
@@ -151,9 +151,9 @@ impl Motion {
         }
     }
 
-    // Begins a new leg at the present place.
+    /// Begins a new leg at the present place.
     fn begun(self) -> Motion
-        ensures leg { (leg : Leg) → self ≡ track_of leg → result ≡ track_of (begun leg) }
+        ensures leg { (leg : Leg) → self ≡ track_of leg → result ≡ track_of (leg_anew leg) }
         ensures way { (result.east ≡ pos 0) × (result.north ≡ pos 0) }
         ensures speed { result.speed ≡ self.speed }
         ensures place { (result.x ≡ self.x) × (result.y ≡ self.y) }
@@ -167,7 +167,7 @@ impl Motion {
         }
     }
 
-    // Turns at a low speed, and brakes for the turn at a high one.
+    /// Turns at a low speed, and brakes for the turn at a high one.
     fn steered(self) -> Motion
         ensures leg { (leg : Leg) → self ≡ track_of leg → result ≡ track_of (steered leg) }
         ensures east { unsigned_abs result.east ≤ unsigned_abs self.east }
@@ -189,7 +189,7 @@ impl Motion {
         }
     }
 
-    // Changes the speed towards the wanted one.
+    /// Changes the speed towards the wanted one.
     fn sped(self) -> Motion
         ensures leg { (leg : Leg) → self ≡ track_of leg → result ≡ track_of (sped leg) }
         ensures way { (result.east ≡ self.east) × (result.north ≡ self.north) }
@@ -201,7 +201,7 @@ impl Motion {
         }
     }
 
-    // Stops at a place, which is the origin of a new leg with the same heading.
+    /// Stops at a place, which is the origin of a new leg with the same heading.
     fn stopped_at(self, x: u16, y: u16) -> Motion
         requires x { x ≤ last_place }
         requires y { y ≤ last_place }
@@ -229,7 +229,7 @@ impl Motion {
         }
     }
 
-    // Reports whether the robot turns, or changes its speed, before it drives on.
+    /// Reports whether the robot turns, or changes its speed, before it drives on.
     fn changes(&self) -> bool
         ensures { result ≡ false
             → (self.now.wanted_heading ≡ self.now.heading) × (self.now.speed ≡ self.now.wanted_speed) }
@@ -237,7 +237,7 @@ impl Motion {
         self.wanted_heading != self.heading || self.speed != self.wanted_speed
     }
 
-    // Drives on for an update at the present speed, up to a wall, and reports whether one stopped it.
+    /// Drives on for an update at the present speed, up to a wall, and reports whether one stopped it.
     fn advance(&mut self) -> bool
         requires east { unsigned_abs self.old.east < 2 ^ 50 }
         requires north { unsigned_abs self.old.north < 2 ^ 50 }
@@ -298,7 +298,7 @@ impl Motion {
     }
 }
 
-// Returns the way on an axis after an update at this speed.
+/// Returns the way on an axis after an update at this speed.
 fn further(way: i64, speed: u8, part: i32) -> i64
     requires way { unsigned_abs way < 2 ^ 50 }
     requires speed { speed ≤ 100 }
@@ -318,7 +318,7 @@ pub(crate) fn along(origin: u16, way: i64) -> i64
     i64::from(origin) + way / SCALE
 }
 
-// Reports whether a coordinate lies beyond a wall.
+/// Reports whether a coordinate lies beyond a wall.
 #[tactic(auto, unfolding(crate::specs::Leg::is_outside))]
 fn is_outside(z: i64) -> bool
     ensures { result ≡ is_outside z }
@@ -326,14 +326,14 @@ fn is_outside(z: i64) -> bool
     z < 0 || z > i64::from(LAST_PLACE)
 }
 
-// Reports whether a point lies beyond a wall.
+/// Reports whether a point lies beyond a wall.
 fn hits_wall(x: i64, y: i64) -> bool
     ensures { result ≡ (is_outside x || is_outside y) }
 {
     is_outside(x) || is_outside(y)
 }
 
-// Returns a coordinate that doesn't lie beyond a wall as a place.
+/// Returns a coordinate that doesn't lie beyond a wall as a place.
 #[tactic(auto, unfolding(crate::specs::Leg::is_outside))]
 fn inside(z: i64) -> u16
     requires { is_outside z ≡ false }

@@ -17,10 +17,10 @@ use crate::limits::DEADLY;
 use crate::motion::Motion;
 use std::marker::Model;
 
-// How many tenths a metre has.
+/// How many tenths a metre has.
 const TENTHS: u16 = 10;
 
-// What a wall takes, and each robot that one collides with.
+/// What a wall takes, and each robot that one collides with.
 const WALL: u8 = 2;
 
 const KNOCK: u8 = 2;

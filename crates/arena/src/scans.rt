@@ -28,7 +28,7 @@ pub(crate) fn scan(robots: &[Robot], robot: usize, degree: u16, resolution: u16)
     distance(square)
 }
 
-// Returns the squared distance of the nearest of some robots that are seen, if nearer than one so far; 0 is none.
+/// Returns the squared distance of the nearest of some robots that are seen, if nearer than one so far; 0 is none.
 fn nearest(from: &Robot, others: &[Robot], degree: u16, resolution: u16, so_far: u32) -> u32
     requires degree { degree < 360 }
     requires resolution { resolution ≤ 10 }
@@ -44,8 +44,8 @@ fn nearest(from: &Robot, others: &[Robot], degree: u16, resolution: u16, so_far:
     nearest
 }
 
-// Returns the squared distance of a robot if it is seen and nearer than the one so far, else the one so far, of which 0
-// is none. Whether one is seen that isn't nearer need not be known.
+/// Returns the squared distance of a robot if it is seen and nearer than the one so far, else the one so far, of which 0
+/// is none. Whether one is seen that isn't nearer need not be known.
 fn nearer(from: &Robot, other: &Robot, degree: u16, resolution: u16, so_far: u32) -> u32
     requires degree { degree < 360 }
     requires resolution { resolution ≤ 10 }
@@ -64,7 +64,7 @@ fn nearer(from: &Robot, other: &Robot, degree: u16, resolution: u16, so_far: u32
     square
 }
 
-// Reports whether a squared distance is less than another one, of which 0 is none.
+/// Reports whether a squared distance is less than another one, of which 0 is none.
 #[tactic(auto, using(std::proofs::lemmas::Bool::Decides::nat_tests), unfolding(crate::specs::Nearer::nearer))]
 fn is_nearer(square: u32, so_far: u32) -> bool
     ensures nearer { result ≡ true → nearer so_far square ≡ square }
@@ -73,7 +73,7 @@ fn is_nearer(square: u32, so_far: u32) -> bool
     so_far == 0 || square < so_far
 }
 
-// Reports whether a robot sees another one.
+/// Reports whether a robot sees another one.
 #[tactic(auto, unfolding(crate::specs::Scan::sees, crate::specs::Scan::in_arc, crate::specs::Scan::east_to, crate::specs::Scan::north_to, crate::specs::Ground::body_of, crate::specs::Field::is_alive))]
 fn sees(from: &Robot, to: &Robot, degree: u16, resolution: u16) -> bool
     requires degree { degree < 360 }
@@ -91,7 +91,7 @@ fn sees(from: &Robot, to: &Robot, degree: u16, resolution: u16) -> bool
         )
 }
 
-// Reports whether a point lies in an arc around a degree, or is the point itself, in whole metres.
+/// Reports whether a point lies in an arc around a degree, or is the point itself, in whole metres.
 fn in_arc(x: u16, y: u16, to_x: u16, to_y: u16, degree: u16, resolution: u16) -> bool
     requires x { x ≤ 999 }
     requires y { y ≤ 999 }
@@ -110,7 +110,7 @@ fn in_arc(x: u16, y: u16, to_x: u16, to_y: u16, degree: u16, resolution: u16) ->
     bears_within(east, north, degree, resolution)
 }
 
-// Returns the squared distance of two robots, in metres: at least 1.
+/// Returns the squared distance of two robots, in metres: at least 1.
 #[tactic(auto, unfolding(crate::specs::Nearer::square_to))]
 fn square_to(from: &Robot, to: &Robot) -> u32
     ensures value { (a b : FieldRobot) → from.now ≡ body_of a → to.now ≡ body_of b → result ≡ square_to a b }
@@ -125,7 +125,7 @@ fn square_to(from: &Robot, to: &Robot) -> u32
     square.max(1)
 }
 
-// Returns the whole root of a squared distance.
+/// Returns the whole root of a squared distance.
 fn distance(square: u32) -> u16
     requires { square ≤ 2000000 }
     ensures { result ≡ unsigned_abs (root_of (pos square)) }

@@ -16,10 +16,10 @@ use arith::{cosine_at, sine_at};
 use arrayvec::ArrayVec;
 use std::marker::Model;
 
-// How far a missile flies in an update, in metres.
+/// How far a missile flies in an update, in metres.
 const FLIGHT: u16 = 50;
 
-// The radius of the widest ring of a burst, in tenths of a metre.
+/// The radius of the widest ring of a burst, in tenths of a metre.
 const LAST_RING: u16 = 400;
 
 /// A missile in the air: the update in which it bursts, and the place of the burst in tenths of a
@@ -75,14 +75,14 @@ impl Missile {
         self.burst
     }
 
-    // Reports whether the missile is still in the air after this update.
+    /// Reports whether the missile is still in the air after this update.
     fn flies(&self, update: u32) -> bool
         ensures { result ≡ nat_lt update self.now.burst }
     {
         update < self.burst
     }
 
-    // Returns the damage in percent that the missile does at a place when it bursts.
+    /// Returns the damage in percent that the missile does at a place when it bursts.
     #[tactic(auto, using(crate::proofs::Squares::far_harm), unfolding(crate::specs::Due::harm))]
     fn harm(&self, x: u16, y: u16) -> u8
         requires x { x ≤ last_place }
@@ -96,7 +96,7 @@ impl Missile {
         ring(square(x, y, self.x, self.y))
     }
 
-    // Returns the damage in percent that the missile does in an update at a place.
+    /// Returns the damage in percent that the missile does in an update at a place.
     #[tactic(auto, unfolding(crate::specs::Shots::bursts, crate::specs::Shots::due_at, crate::specs::Ground::shot_of))]
     fn damage_at(&self, update: u32, x: u16, y: u16) -> u8
         requires x { x ≤ last_place }
@@ -112,7 +112,7 @@ impl Missile {
     }
 }
 
-// Returns how many updates a missile flies to this range in metres.
+/// Returns how many updates a missile flies to this range in metres.
 #[tactic(auto, unfolding(crate::specs::Shots::flight))]
 fn flight(range: u16) -> u32
     requires { range ≤ 700 }
@@ -122,8 +122,8 @@ fn flight(range: u16) -> u32
     u32::from(range.div_ceil(FLIGHT).max(1))
 }
 
-// Returns where a missile bursts on an axis, from a place in tenths of a metre and at a range in metres, by the part of
-// the range that lies on the axis.
+/// Returns where a missile bursts on an axis, from a place in tenths of a metre and at a range in metres, by the part of
+/// the range that lies on the axis.
 fn aimed(from: u16, range: u16, part: i32) -> u16
     requires from { from ≤ last_place }
     requires range { range ≤ 700 }
@@ -135,8 +135,8 @@ fn aimed(from: u16, range: u16, part: i32) -> u16
     clamped(along(from, way))
 }
 
-// Returns the damage in percent of a burst at a squared distance in tenths of a metre: by the smallest ring of 5, 20
-// and 40 metres.
+/// Returns the damage in percent of a burst at a squared distance in tenths of a metre: by the smallest ring of 5, 20
+/// and 40 metres.
 #[tactic(auto, unfolding(crate::specs::Shots::ring))]
 fn ring(square: u32) -> u8
     ensures value { result ≡ ring square }
@@ -178,21 +178,21 @@ impl Default for Slots {
 }
 
 impl Slots {
-    // Reports whether one more missile may fly.
+    /// Reports whether one more missile may fly.
     fn has_room(&self) -> bool
         ensures { result ≡ nat_lt (length self.now) 2 }
     {
         self.missiles.len() < MOST_MISSILES
     }
 
-    // Reports whether no missile is in the air.
+    /// Reports whether no missile is in the air.
     fn is_empty(&self) -> bool
         ensures { result ≡ true → self.now ≡ [] }
     {
         self.missiles.is_empty()
     }
 
-    // Adds a missile.
+    /// Adds a missile.
     fn add(&mut self, missile: Missile)
         requires { length self.old < 2 }
         ensures { self.new ≡ self.old ++ missile ∷ [] }
@@ -200,7 +200,7 @@ impl Slots {
         self.missiles.push(missile);
     }
 
-    // Returns the damage in percent that the missiles do in an update at a place.
+    /// Returns the damage in percent that the missiles do in an update at a place.
     fn damage_at(&self, update: u32, x: u16, y: u16) -> u8
         requires x { x ≤ last_place }
         requires y { y ≤ last_place }
@@ -214,7 +214,7 @@ impl Slots {
         damage
     }
 
-    // Adds the missiles that burst in an update.
+    /// Adds the missiles that burst in an update.
     fn add_due(&self, update: u32, due: &mut ArrayVec<Missile, MOST_BURSTS>)
         requires { length due.old.items + 2 ≤ MOST_BURSTS }
         ensures due { due.new.items ≡ due.old.items ++ filter (λ m. m.burst == update) self.now }
@@ -227,7 +227,7 @@ impl Slots {
         }
     }
 
-    // Returns an update before which none of the missiles bursts: the next one with a burst.
+    /// Returns an update before which none of the missiles bursts: the next one with a burst.
     fn next_burst(&self) -> u32
         ensures { All (λ m. result ≤ m.burst) self.now }
     {
@@ -238,7 +238,7 @@ impl Slots {
         next
     }
 
-    // Reports whether all missiles are still in the air after this update.
+    /// Reports whether all missiles are still in the air after this update.
     fn all_fly(&self, update: u32) -> bool
         ensures { result ≡ true → filter (λ m. nat_lt update m.burst) self.now ≡ self.now }
     {
@@ -250,7 +250,7 @@ impl Slots {
         true
     }
 
-    // Keeps the missiles that are still in the air after this update.
+    /// Keeps the missiles that are still in the air after this update.
     fn land(&mut self, update: u32)
         ensures { self.new ≡ filter (λ m. nat_lt update m.burst) self.old }
     {

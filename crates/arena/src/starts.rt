@@ -2,7 +2,7 @@
 
 ghost use Rattle.std.specs.Prelude.{◌≡◌, ℕ, ◌+◌, ◌*◌, ◌/◌, ◌%◌, ◌<◌, ◌≤◌, ℤ, pos, ◌≤ℤ◌, map, All, length};
 ghost use Rattle.arena.specs.Leg.{last_place, clamped};
-ghost use Rattle.arena.specs.Words.{generator, word};
+ghost use Rattle.arena.specs.Words.{generator, random_word};
 ghost use Rattle.arena.specs.Start.{standing, drawn_place, start};
 ghost use Rattle.arena.specs.Placed.{placed, IsPlace};
 ghost use Rattle.arena.specs.Ground.{Body, IsWithin, body_of};
@@ -13,8 +13,8 @@ use crate::words::draw;
 use arrayvec::ArrayVec;
 use rand_pcg::Pcg32;
 
-// The first place of the low and of the high half of an axis in which robots start, and how many
-// places each has, in tenths of a metre.
+/// The first place of the low and of the high half of an axis in which robots start, and how many
+/// places each has, in tenths of a metre.
 const LOW_HALF: u32 = 1000;
 
 const HIGH_HALF: u32 = 6000;
@@ -41,12 +41,12 @@ pub(crate) fn drawn_robots(random: &mut Pcg32, n: usize) -> ArrayVec<Robot, MOST
     robots
 }
 
-// Draws a robot's place in a quadrant, of which bit 0 is the east half and bit 1 the north half.
+/// Draws a robot's place in a quadrant, of which bit 0 is the east half and bit 1 the north half.
 fn drawn_robot(random: &mut Pcg32, quadrant: u32) -> Robot
     requires { quadrant < 4 }
     ensures robot { (seed number drawn : ℕ) → random.old ≡ generator seed number drawn
-        → result ≡ body_of (standing (drawn_place (quadrant % 2) (word seed number drawn))
-        (drawn_place (quadrant / 2) (word seed number (drawn + 1)))) }
+        → result ≡ body_of (standing (drawn_place (quadrant % 2) (random_word seed number drawn))
+        (drawn_place (quadrant / 2) (random_word seed number (drawn + 1)))) }
     ensures words { (seed number drawn : ℕ) → random.old ≡ generator seed number drawn
         → random.new ≡ generator seed number (drawn + 2) }
     ensures still { IsWithin 0 result.track }
@@ -56,7 +56,7 @@ fn drawn_robot(random: &mut Pcg32, quadrant: u32) -> Robot
     Robot::standing(x, y)
 }
 
-// Returns the place of a word in the low half of an axis, or in the high one.
+/// Returns the place of a word in the low half of an axis, or in the high one.
 #[tactic(auto, unfolding(crate::specs::Start::drawn_place))]
 fn drawn_place(half: u32, word: u32) -> u16
     ensures value { result ≡ drawn_place half word }
@@ -82,7 +82,7 @@ pub(crate) fn placed_robots(
     robots
 }
 
-// Returns a given coordinate as a place of the field.
+/// Returns a given coordinate as a place of the field.
 #[tactic(auto, unfolding(crate::specs::Leg::clamped))]
 fn coordinate(z: i32) -> u16
     requires least { pos 0 ≤ℤ z }

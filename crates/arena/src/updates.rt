@@ -17,10 +17,10 @@ use crate::robots::{Robot, worn};
 use crate::slots::harm_by;
 use arrayvec::ArrayVec;
 
-// Robots that are less than this from each other on both axes are close, in tenths of a metre.
+/// Robots that are less than this from each other on both axes are close, in tenths of a metre.
 const CLOSE: u16 = 10;
 
-// By how much two robots come nearer to each other in an update, at most: each moves ten metres.
+/// By how much two robots come nearer to each other in an update, at most: each moves ten metres.
 const APPROACH: u16 = 200;
 
 /// Reports whether an update changes nothing but the number of updates: each robot is dead or at rest, and no missile
@@ -31,7 +31,7 @@ pub fn is_still(robots: &[Robot], missiles: &Missiles) -> bool
     all_stay(robots) && missiles.none_flies()
 }
 
-// Reports whether each robot is dead or at rest.
+/// Reports whether each robot is dead or at rest.
 fn all_stay(robots: &[Robot]) -> bool
     ensures { result ≡ true → All Stays robots.now }
 {
@@ -43,7 +43,7 @@ fn all_stay(robots: &[Robot]) -> bool
     true
 }
 
-// Moves robots on, each as far as walls let it, and returns what collisions have to know.
+/// Moves robots on, each as far as walls let it, and returns what collisions have to know.
 fn drive_on(robots: &mut [Robot]) -> ArrayVec<Mover, MOST_ROBOTS>
     requires most { length robots.old ≤ MOST_ROBOTS }
     requires way { All (λ (b : Body). IsWithin (2 ^ 50 - 1) b.track) robots.old }
@@ -60,7 +60,7 @@ fn drive_on(robots: &mut [Robot]) -> ArrayVec<Mover, MOST_ROBOTS>
     movers
 }
 
-// Returns one robot after the update, from where it has moved on, given how many others it collides with.
+/// Returns one robot after the update, from where it has moved on, given how many others it collides with.
 fn finished(robot: &Robot, seen: &Mover, touched: usize, missiles: &Missiles, update: u32) -> Robot
     requires { touched ≤ 4 }
     ensures robot { (r : FieldRobot) (updates : ℕ) (shots : List Shot) → update ≡ updates + 1
@@ -76,7 +76,7 @@ fn finished(robot: &Robot, seen: &Mover, touched: usize, missiles: &Missiles, up
     Robot::new(motion, worn(robot.damage(), touched, bursts))
 }
 
-// Puts robots back that collide, and hurts those and the ones near a burst.
+/// Puts robots back that collide, and hurts those and the ones near a burst.
 fn finish(robots: &mut [Robot], movers: &[Mover], missiles: &Missiles, update: u32)
     requires most { length robots.old ≤ MOST_ROBOTS }
     requires count { length movers.now ≡ length robots.old }
@@ -92,7 +92,7 @@ fn finish(robots: &mut [Robot], movers: &[Mover], missiles: &Missiles, update: u
     }
 }
 
-// Moves robots on that may come close to each other.
+/// Moves robots on that may come close to each other.
 fn move_among(robots: &mut [Robot], missiles: &Missiles, update: u32)
     requires most { length robots.old ≤ MOST_ROBOTS }
     requires way { All (λ (b : Body). IsWithin (2 ^ 50 - 1) b.track) robots.old }
@@ -108,7 +108,7 @@ fn move_among(robots: &mut [Robot], missiles: &Missiles, update: u32)
     finish(robots, movers.as_slice(), missiles, update);
 }
 
-// Moves robots on, each as far as walls let it.
+/// Moves robots on, each as far as walls let it.
 fn drive(robots: &mut [Robot])
     requires way { All (λ (b : Body). IsWithin (2 ^ 50 - 1) b.track) robots.old }
     ensures ahead { (rs : List FieldRobot) → robots.old ≡ map body_of rs → robots.new ≡ map ahead rs }
@@ -122,7 +122,7 @@ fn drive(robots: &mut [Robot])
     }
 }
 
-// Hurts the robots that are near a burst.
+/// Hurts the robots that are near a burst.
 fn hurt(robots: &mut [Robot], missiles: &Missiles, update: u32)
     ensures robots { (f : Field) → update ≡ f.updates + 1 → robots.old ≡ map ahead f.robots
         → HoldsShots f.updates missiles.now f.shots
@@ -140,7 +140,7 @@ fn hurt(robots: &mut [Robot], missiles: &Missiles, update: u32)
     }
 }
 
-// Returns the gap between a robot and the nearest of some others, if it is less than one so far.
+/// Returns the gap between a robot and the nearest of some others, if it is less than one so far.
 fn least_gap(robot: &Robot, others: &[Robot], so_far: u16) -> u16
     ensures less { result ≤ so_far }
     ensures least { All (λ other. result ≤ gap robot.now.track other.track) others.now }
@@ -152,7 +152,7 @@ fn least_gap(robot: &Robot, others: &[Robot], so_far: u16) -> u16
     least
 }
 
-// Returns for how many updates no two robots come close to each other: each moves at most ten metres in one.
+/// Returns for how many updates no two robots come close to each other: each moves at most ten metres in one.
 fn calm_updates(robots: &[Robot]) -> u32
     ensures { FarFor result robots.now }
 {
@@ -166,7 +166,7 @@ fn calm_updates(robots: &[Robot]) -> u32
     u32::from(least.saturating_sub(CLOSE) / APPROACH)
 }
 
-// Returns for how many updates no two robots come close, if that isn't known yet.
+/// Returns for how many updates no two robots come close, if that isn't known yet.
 fn known_calm(robots: &[Robot], calm: u32) -> u32
     requires { FarFor calm robots.now }
     ensures { FarFor result robots.now }
@@ -177,7 +177,7 @@ fn known_calm(robots: &[Robot], calm: u32) -> u32
     calm_updates(robots)
 }
 
-// Moves robots on that don't come close to each other.
+/// Moves robots on that don't come close to each other.
 fn move_apart(robots: &mut [Robot], missiles: &Missiles, update: u32)
     requires way { All (λ (b : Body). IsWithin (2 ^ 50 - 1) b.track) robots.old }
     requires far { FarFor 1 robots.old }

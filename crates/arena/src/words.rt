@@ -2,13 +2,13 @@
 
 ghost use Rattle.std.specs.Prelude.{◌≡◌, ◌≤◌, ◌+◌, ℕ, pos};
 ghost use Rattle.arena.specs.Field.{Field};
-ghost use Rattle.arena.specs.Words.{generator, word};
+ghost use Rattle.arena.specs.Words.{generator, random_word};
 ghost use Rattle.arena.specs.Answer.{random_limit, random_number};
 
 use rand_core::utils::NextWord;
 use rand_pcg::Pcg32;
 
-// The greatest limit of a random number.
+/// The greatest limit of a random number.
 const GREATEST_LIMIT: i32 = 32767;
 
 /// Begins the generator of a match: the seed and the match's number choose its words.
@@ -22,7 +22,7 @@ pub(crate) fn begun(seed: u64, number: u64) -> Pcg32
 /// Draws the next word.
 pub(crate) fn draw(random: &mut Pcg32) -> u32
     ensures word { (seed number drawn : ℕ) → random.old ≡ generator seed number drawn
-        → result ≡ word seed number drawn }
+        → result ≡ random_word seed number drawn }
     ensures next { (seed number drawn : ℕ) → random.old ≡ generator seed number drawn
         → random.new ≡ generator seed number (drawn + 1) }
 {
@@ -40,7 +40,7 @@ pub(crate) fn random_number(random: &mut Pcg32, limit: i32) -> i32
     (word % random_limit(limit)) as i32
 }
 
-// Brings the limit of a random number into 1 to 32,767.
+/// Brings the limit of a random number into 1 to 32,767.
 #[tactic(auto, unfolding(crate::specs::Answer::random_limit, crate::specs::Leg::clamped))]
 fn random_limit(limit: i32) -> u32
     ensures value { result ≡ random_limit limit }

@@ -1,12 +1,12 @@
 -- The known battles, worked out.
 use Rattle.std.proofs.Common.{refl, arith, [], ◌∷◌}
-use Rattle.arena.specs.Leg.{clamped, along, way_east, way_north, end_x, end_y, place_x, place_y, begun, steered, approached, sped, grown, is_outside, hits_wall, walled, tried, driven}
+use Rattle.arena.specs.Leg.{clamped, along, way_east, way_north, end_x, end_y, place_x, place_y, leg_anew, steered, approached, sped, grown, is_outside, hits_wall, walled, tried, driven}
 use Rattle.arena.specs.Field.{damage_of, is_alive, no_robot, robot_at, is_live, live_count, metres_x, metres_y}
 use Rattle.arena.specs.Collisions.{candidate, mover, moves, square, is_close, is_no_further, collides, others, touches}
 use Rattle.arena.specs.Shots.{aimed_x, aimed_y, flight, shot, in_air, due_at, ring, bursts}
 use Rattle.arena.specs.Moved.{put_back, settled, knocks, moved_robot, moved}
 use Rattle.arena.specs.Scan.{apart, east_to, north_to, in_arc, sees, range_of, nearest, scanned}
-use Rattle.arena.specs.Words.{generator, word}
+use Rattle.arena.specs.Words.{generator, random_word}
 use Rattle.arena.specs.Start.{standing, quadrant, drawn_place, drawn_robot, start}
 use Rattle.arena.specs.Placed.{placed}
 use Rattle.arena.specs.Answer.{argument, fired, wanting, directed, random_limit, random_number, answer}
@@ -30,7 +30,7 @@ use Rattle.code.specs.KnownPrograms.{shooting_file}
 use Rattle.battles.proofs.Limits.{longer}
 
 pub battles : KnownBattles
-unfolding clamped along way_east way_north end_x end_y place_x place_y begun steered approached sped grown is_outside hits_wall walled tried driven damage_of is_alive no_robot robot_at is_live live_count metres_x metres_y candidate mover moves square is_close is_no_further collides others touches aimed_x aimed_y flight shot in_air due_at ring bursts put_back settled knocks moved_robot moved apart east_to north_to in_arc sees range_of nearest scanned generator word standing quadrant drawn_place drawn_robot start placed argument fired wanting directed random_limit random_number answer granted step robot_of turn turns is_due updated cycle is_over stage_after first_above last_cycle opening damages_of battle alive sine_at cosine_at sine_of cosine_of degree_of sines tangents value_of int_wrap number_op stored first_profile second_profile tokens located_tokens punctuator_of word_of most_levels intrinsic_named name_of compiled
+unfolding clamped along way_east way_north end_x end_y place_x place_y leg_anew steered approached sped grown is_outside hits_wall walled tried driven damage_of is_alive no_robot robot_at is_live live_count metres_x metres_y candidate mover moves square is_close is_no_further collides others touches aimed_x aimed_y flight shot in_air due_at ring bursts put_back settled knocks moved_robot moved apart east_to north_to in_arc sees range_of nearest scanned generator random_word standing quadrant drawn_place drawn_robot start placed argument fired wanting directed random_limit random_number answer granted step robot_of turn turns is_due updated cycle is_over stage_after first_above last_cycle opening damages_of battle alive sine_at cosine_at sine_of cosine_of degree_of sines tangents value_of int_wrap number_op stored first_profile second_profile tokens located_tokens punctuator_of word_of most_levels intrinsic_named name_of compiled
 battles = record {
   empty = record { compiles = refl; ends = refl };
   none_survives = record { compiles = refl; ends = longer (robots_of first_profile (shooting_file ∷ [])) 1 1 90 500000 90 (100 ∷ 100 ∷ []) refl refl (omega arith) (omega arith) };
@@ -47,7 +47,7 @@ battles = record {
 }
 
 pub short_battles : KnownShortBattles
-unfolding clamped along way_east way_north end_x end_y place_x place_y begun steered approached sped grown is_outside hits_wall walled tried driven damage_of is_alive no_robot robot_at is_live live_count metres_x metres_y candidate mover moves square is_close is_no_further collides others touches aimed_x aimed_y flight shot in_air due_at ring bursts put_back settled knocks moved_robot moved apart east_to north_to in_arc sees range_of nearest scanned generator word standing quadrant drawn_place drawn_robot start placed argument fired wanting directed random_limit random_number answer granted step robot_of turn turns is_due updated cycle is_over stage_after first_above last_cycle opening damages_of battle alive sine_at cosine_at sine_of cosine_of degree_of sines tangents value_of int_wrap number_op stored first_profile second_profile tokens located_tokens punctuator_of word_of most_levels intrinsic_named name_of compiled
+unfolding clamped along way_east way_north end_x end_y place_x place_y leg_anew steered approached sped grown is_outside hits_wall walled tried driven damage_of is_alive no_robot robot_at is_live live_count metres_x metres_y candidate mover moves square is_close is_no_further collides others touches aimed_x aimed_y flight shot in_air due_at ring bursts put_back settled knocks moved_robot moved apart east_to north_to in_arc sees range_of nearest scanned generator random_word standing quadrant drawn_place drawn_robot start placed argument fired wanting directed random_limit random_number answer granted step robot_of turn turns is_due updated cycle is_over stage_after first_above last_cycle opening damages_of battle alive sine_at cosine_at sine_of cosine_of degree_of sines tangents value_of int_wrap number_op stored first_profile second_profile tokens located_tokens punctuator_of word_of most_levels intrinsic_named name_of compiled
 short_battles = record {
   left_out = record { compiles = refl; ends = refl };
   taken = record { compiles = refl; ends = refl };

@@ -2,11 +2,11 @@
 use Rattle.std.proofs.Common.{ap, ◌∙◌, add-one, ℕ}
 use Rattle.rand_pcg.specs.Lcg.{Lcg}
 use Rattle.rand_pcg.specs.Pcg.{pcg32}
-use Rattle.arena.specs.Words.{generator, word}
+use Rattle.arena.specs.Words.{generator, random_word}
 use Rattle.arena.proofs.words.draw.Goals as goal
 
 pub returns-clause-word : goal.returns-clause-word
-unfolding word
+unfolding random_word
 returns-clause-word c = λ seed number drawn e.
     ap (λ (p : ℕ × Lcg). p.0) c.next_word.ensures ∙ ap (λ g. (pcg32 g).0) e
 
