@@ -135,7 +135,7 @@ fn run(
     for number in 0..limit {
         turns(pilots, arena, shots, number / UPDATE_CYCLES);
         if (number + 1) % UPDATE_CYCLES == 0
-            && updated(arena, tracks, (number + 1) / UPDATE_CYCLES)
+            && updated(arena, tracks, shots, (number + 1) / UPDATE_CYCLES)
         {
             return number + 1;
         }
@@ -156,13 +156,14 @@ fn turns(pilots: &mut [Pilot<'_>], arena: &mut Arena, shots: &mut Shots, updates
 }
 
 /// Does the update of this number, and records it. Reports whether it decided the match.
-fn updated(arena: &mut Arena, tracks: &mut [Track], update: u32) -> bool
+fn updated(arena: &mut Arena, tracks: &mut [Track], shots: &mut Shots, update: u32) -> bool
     requires manned { length arena.old.robots ≡ length tracks.old }
     requires most { arena.old.updates < most_updates }
     ensures manned { length arena.new.robots ≡ length arena.old.robots }
     ensures updates { arena.new.updates ≡ arena.old.updates + 1 }
 {
     arena.update();
+    mark(shots, tracks, arena, update);
     watch(tracks, arena, update);
     arena.live_count() <= 1
 }
@@ -173,5 +174,17 @@ fn watch(tracks: &mut [Track], arena: &Arena, update: u32)
 {
     for robot in 0..tracks.len() {
         tracks[robot].record(Place::of(arena, robot), arena.damage(robot), update);
+    }
+}
+
+/// Marks the shots whose bursts in the update of this number hurt a robot: one that was alive before it, at the place
+/// where it is after it.
+fn mark(shots: &mut Shots, tracks: &[Track], arena: &Arena, update: u32)
+    requires { length arena.now.robots ≡ length tracks.now }
+{
+    for robot in 0..tracks.len() {
+        if tracks[robot].is_alive() {
+            shots.mark(update, Place::of(arena, robot));
+        }
     }
 }

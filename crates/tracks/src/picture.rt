@@ -7,7 +7,7 @@ use crate::sources::name_of;
 use crate::words::Wish;
 use arena::MOST_ROBOTS;
 use std::alloc::{AllocError, Global};
-use trails::{MARGIN, Path, Place, SIDE, Shot, column, opacity, row};
+use trails::{MARGIN, Path, Place, SIDE, Shot, Shots, column, opacity, row};
 
 /// The colours of the robots, in order.
 const COLOURS: [&str; MOST_ROBOTS] = ["#1f6fb4", "#d1495b", "#2e8540", "#8a4fbe"];
@@ -18,21 +18,24 @@ const PIECES: usize = 16;
 /// The distance between two lines of the grid: 100 metres.
 const GRID: u32 = 100;
 
-/// What comes before the field: the picture's size, and a burst, whose three rings are 40, 20 and 5 metres from it.
+/// What comes before the field: the picture's size, the field's border, by which bursts are cut, and a burst, whose three
+/// rings are 40, 20 and 5 metres from it.
 const HEAD: &str =
     "<svg xmlns=\"http://www.w3.org/2000/svg\" viewBox=\"0 0 1500 1100\" font-family=\"sans-serif\" font-size=\"18\">
-<defs><g id=\"burst\" stroke-width=\"1\"><circle r=\"40\" fill=\"#ffe9a8\" fill-opacity=\".35\" stroke=\"#e0b040\"/>\
+<defs><clipPath id=\"field\"><rect x=\"50\" y=\"50\" width=\"1000\" height=\"1000\"/></clipPath>
+<g id=\"burst\" stroke-width=\"1\"><circle r=\"40\" fill=\"#ffe9a8\" fill-opacity=\".35\" stroke=\"#e0b040\"/>\
 <circle r=\"20\" fill=\"#ffc266\" fill-opacity=\".45\" stroke=\"#e08a30\"/><circle r=\"5\" fill=\"#e2471f\" stroke=\"#a02c10\"/></g></defs>
 <rect width=\"1500\" height=\"1100\" fill=\"#ffffff\"/>
 ";
 
 /// What explains the signs of the picture.
 const SIGNS: &str =
-    "<g fill=\"none\" stroke=\"#444444\" stroke-width=\"2\"><circle cx=\"1092\" cy=\"870\" r=\"8\"/><circle cx=\"1092\" cy=\"900\" r=\"8\" fill=\"#444444\"/>\
-<path d=\"M1082 920l20 20m0 -20l-20 20\" stroke-width=\"4\"/><path d=\"M1080 960h24\" stroke-width=\"1\"/></g>
-<use href=\"#burst\" x=\"1110\" y=\"1010\"/>
-<g fill=\"#222222\"><text x=\"1116\" y=\"876\">start</text><text x=\"1116\" y=\"906\">end</text><text x=\"1116\" y=\"936\">death</text>\
-<text x=\"1116\" y=\"966\">shot</text><text x=\"1160\" y=\"1000\">burst: 10, 5 and 3 percent</text><text x=\"1160\" y=\"1024\">up to 5, 20 and 40 metres</text></g>
+    "<g fill=\"none\" stroke=\"#444444\" stroke-width=\"2\"><circle cx=\"1092\" cy=\"830\" r=\"8\"/><circle cx=\"1092\" cy=\"860\" r=\"8\" fill=\"#444444\"/>\
+<path d=\"M1082 880l20 20m0 -20l-20 20\" stroke-width=\"4\"/><path d=\"M1080 920h24\" stroke-width=\"1\"/></g>
+<circle cx=\"1092\" cy=\"950\" r=\"3\" fill=\"#444444\"/><use href=\"#burst\" x=\"1110\" y=\"1010\"/>
+<g fill=\"#222222\"><text x=\"1116\" y=\"836\">start</text><text x=\"1116\" y=\"866\">end</text><text x=\"1116\" y=\"896\">death</text>\
+<text x=\"1116\" y=\"926\">shot</text><text x=\"1116\" y=\"956\">burst that hurt nobody</text>\
+<text x=\"1160\" y=\"1000\">burst that hurt: 10, 5 and 3 percent</text><text x=\"1160\" y=\"1024\">up to 5, 20 and 40 metres</text></g>
 ";
 
 /// Draws the match that was wished for and recorded.
@@ -81,11 +84,7 @@ fn add_field(text: &mut String) -> Result<(), AllocError> {
 /// Adds the shots: first all bursts, then all lines above them.
 fn add_shots(text: &mut String, recording: &Recording) -> Result<(), AllocError> {
     let updates = recording.updates();
-    for shot in recording.shots.as_slice() {
-        if shot.burst <= updates {
-            add_burst(text, shot, updates)?;
-        }
-    }
+    add_bursts(text, recording.shots.as_slice(), updates)?;
     text.push_str("<g fill=\"none\" stroke-width=\"1.5\">\n")?;
     for shot in recording.shots.as_slice() {
         add_line(text, shot, updates)?;
@@ -93,10 +92,29 @@ fn add_shots(text: &mut String, recording: &Recording) -> Result<(), AllocError>
     text.push_str("</g>\n")
 }
 
-/// Adds the rings of a burst.
+/// Adds the bursts of shots up to the end, cut at the border of the field.
+fn add_bursts(text: &mut String, shots: &[Shot], updates: u32) -> Result<(), AllocError> {
+    text.push_str("<g clip-path=\"url(#field)\">\n")?;
+    for shot in shots {
+        if shot.burst <= updates {
+            add_burst(text, shot, updates)?;
+        }
+    }
+    text.push_str("</g>\n")
+}
+
+/// Adds a burst: its rings if it hurt a robot, else a dot.
 fn add_burst(text: &mut String, shot: &Shot, updates: u32) -> Result<(), AllocError> {
     let (x, y) = (column(shot.to), row(shot.to));
-    write!(text, "<use href=\"#burst\" x=\"{x}\" y=\"{y}\"")?;
+    if shot.hit {
+        write!(text, "<use href=\"#burst\" x=\"{x}\" y=\"{y}\"")?;
+    } else {
+        let colour = COLOURS[shot.robot % MOST_ROBOTS];
+        write!(
+            text,
+            "<circle cx=\"{x}\" cy=\"{y}\" r=\"3\" fill=\"{colour}\""
+        )?;
+    }
     add_opacity(text, opacity(shot.burst, updates))?;
     text.push_str("/>\n")
 }
@@ -228,6 +246,7 @@ fn add_legend(text: &mut String, wish: &Wish<'_>, recording: &Recording) -> Resu
         text,
         "<g fill=\"#222222\">\n<text x=\"1080\" y=\"70\" font-size=\"22\">Match {number}: cycles = {cycles}</text>\n"
     )?;
+    add_share(text, &recording.shots)?;
     let words = wish.files();
     for robot in 0..recording.tracks.len() {
         let track = &recording.tracks.as_slice()[robot];
@@ -239,6 +258,18 @@ fn add_legend(text: &mut String, wish: &Wish<'_>, recording: &Recording) -> Resu
         add_entry(text, robot, track, name_of(word.unwrap_or(&"")))?;
     }
     text.push_str("</g>\n")
+}
+
+/// Adds how many of the shots are drawn, if not all.
+fn add_share(text: &mut String, shots: &Shots) -> Result<(), AllocError> {
+    let (drawn, count) = (shots.as_slice().len() as u64, shots.count());
+    if drawn == count {
+        return Ok(());
+    }
+    write!(
+        text,
+        "<text x=\"1080\" y=\"94\" font-size=\"14\">the last {drawn} of {count} shots are drawn</text>\n"
+    )
 }
 
 /// Adds a robot's entry of the legend.

@@ -1,9 +1,10 @@
-//! Shots: from where they were fired to where they burst.
+//! Shots: from where they were fired to where they burst, and whether they hurt a robot.
 
-ghost use Rattle.std.specs.Prelude.{◌≡◌, ◌+◌, ◌*◌, ◌%◌, ◌^◌, ◌≤◌, ◌<◌, ◌++◌, ◌∷◌, [], length, slice_set, ℤ, pos, ◌*ℤ◌, unsigned_abs};
+ghost use Rattle.std.specs.Prelude.{◌≡◌, ◌+◌, ◌-◌, ◌*◌, ◌%◌, ◌^◌, ◌≤◌, ◌<◌, ◌++◌, ◌∷◌, [], false, nat_lt, length, slice_set, ℤ, pos, ◌*ℤ◌, unsigned_abs};
 ghost use Rattle.arith.specs.Degree.{degree_of};
 ghost use Rattle.arena.specs.Leg.{along, clamped, last_place};
-ghost use Rattle.arena.specs.Shots.{aimed_x, aimed_y, flight};
+ghost use Rattle.arena.specs.Collisions.{square};
+ghost use Rattle.arena.specs.Shots.{aimed_x, aimed_y, flight, ring};
 ghost use Rattle.arena.specs.Ground.{most_updates};
 
 use crate::places::Place;
@@ -21,10 +22,17 @@ const FLIGHT: u16 = 50;
 /// The greatest range of a shot, in metres.
 const MOST_RANGE: i32 = 700;
 
+/// The most updates that a missile flies.
+const MOST_FLIGHT: u32 = 14;
+
+/// The greatest distance at which a burst hurts, in tenths of a metre.
+const REACH: u32 = 400;
+
 /// What a coordinate's sine and cosine are scaled by.
 const SCALE: i64 = 100_000;
 
-/// A shot: who fired it, after how many updates and where, and the update and the place of its burst.
+/// A shot: who fired it, after how many updates and where, the update and the place of its burst, and whether that hurt
+/// a robot.
 #[derive(Clone, Copy, Default, Drop)]
 pub struct Shot {
     /// The robot's number, from 0.
@@ -37,10 +45,12 @@ pub struct Shot {
     pub burst: u32,
     /// Where it bursts.
     pub to: Place,
+    /// Whether its burst hurt a robot.
+    pub hit: bool,
 }
 
 impl Shot {
-    /// Makes the shot of a robot that calls `cannon` with these arguments after so many updates.
+    /// Makes the shot of a robot that calls `cannon` with these arguments after so many updates. It has hurt nobody yet.
     #[tactic(auto, unfolding(arena::specs::Shots::aimed_x, arena::specs::Shots::aimed_y))]
     pub fn new(robot: usize, updates: u32, from: Place, arguments: [i32; 2]) -> Shot
         requires { updates ≤ most_updates }
@@ -48,6 +58,7 @@ impl Shot {
         ensures fired { result.fired ≡ updates }
         ensures from { result.from ≡ from }
         ensures burst { (d r : ℤ) → arguments ≡ d ∷ r ∷ [] → result.burst ≡ updates + flight (clamped 700 r) }
+        ensures hit { result.hit ≡ false }
         ensures x { (d r : ℤ) → arguments ≡ d ∷ r ∷ [] → result.to.x ≡ aimed_x from.x (degree_of d) (clamped 700 r) }
         ensures y { (d r : ℤ) → arguments ≡ d ∷ r ∷ [] → result.to.y ≡ aimed_y from.y (degree_of d) (clamped 700 r) }
     {
@@ -61,7 +72,18 @@ impl Shot {
             from,
             burst: updates + flight(range),
             to: Place::new(x, y),
+            hit: false,
         }
+    }
+
+    /// Reports whether the burst hurts a robot that is at this place then.
+    #[tactic(auto, unfolding(arena::specs::Shots::ring, arena::specs::Collisions::square))]
+    pub fn hurts(&self, place: Place) -> bool
+        ensures { result ≡ nat_lt 0 (ring (square place.x place.y self.now.to.x self.now.to.y)) }
+    {
+        let east = u32::from(place.x().abs_diff(self.to.x()));
+        let north = u32::from(place.y().abs_diff(self.to.y()));
+        east * east + north * north <= REACH * REACH
     }
 }
 
@@ -115,11 +137,13 @@ fn clamped(z: i64) -> u16
     z.clamp(0, i64::from(LAST_PLACE)) as u16
 }
 
-/// The last shots of a match, at most 2,000: when they are full, a new one replaces the oldest.
+/// The last shots of a match, at most 2,000, and how many were fired: when they are full, a new one replaces the
+/// oldest.
 #[derive(Drop)]
 pub struct Shots {
     shots: ArrayVec<Shot, MOST_SHOTS>,
     oldest: usize,
+    count: u64,
 }
 
 impl Model for Shots {
@@ -128,7 +152,7 @@ impl Model for Shots {
 
     ghost Value = { Kept };
 
-    ghost view = { λ s. record { shots = s.shots.items; oldest = s.oldest } };
+    ghost view = { λ s. record { shots = s.shots.items; oldest = s.oldest; count = s.count } };
 
     ghost invariant = { λ s. s.oldest < 2000 };
 }
@@ -136,23 +160,25 @@ impl Model for Shots {
 impl Shots {
     /// Makes no shots.
     pub fn new() -> Shots
-        ensures { result ≡ record { shots = []; oldest = 0 } }
+        ensures { result ≡ record { shots = []; oldest = 0; count = 0 } }
     {
         Shots {
             shots: ArrayVec::new(),
             oldest: 0,
+            count: 0,
         }
     }
 
     /// Keeps a shot, in place of the oldest one if they are full.
     pub fn add(&mut self, shot: Shot)
-        ensures room { length self.old.shots < MOST_SHOTS
-            → self.new ≡ record { shots = self.old.shots ++ shot ∷ []; oldest = self.old.oldest } }
-        ensures full { length self.old.shots ≡ MOST_SHOTS → self.new ≡ record {
-          shots = slice_set self.old.shots self.old.oldest shot;
-          oldest = (self.old.oldest + 1) % MOST_SHOTS;
-        } }
+        ensures room { length self.old.shots < MOST_SHOTS → self.new.shots ≡ self.old.shots ++ shot ∷ [] }
+        ensures start { length self.old.shots < MOST_SHOTS → self.new.oldest ≡ self.old.oldest }
+        ensures full { length self.old.shots ≡ MOST_SHOTS
+            → self.new.shots ≡ slice_set self.old.shots self.old.oldest shot }
+        ensures next { length self.old.shots ≡ MOST_SHOTS → self.new.oldest ≡ (self.old.oldest + 1) % MOST_SHOTS }
+        ensures count { self.old.count < 2 ^ 64 - 1 → self.new.count ≡ self.old.count + 1 }
     {
+        self.count = self.count.saturating_add(1);
         if self.shots.is_full() {
             self.shots[self.oldest] = shot;
             self.oldest = (self.oldest + 1) % MOST_SHOTS;
@@ -161,10 +187,46 @@ impl Shots {
         }
     }
 
+    /// Marks the shots whose bursts in this update hurt a robot that is at this place then.
+    pub fn mark(&mut self, update: u32, place: Place)
+        ensures len { length self.new.shots ≡ length self.old.shots }
+        ensures oldest { self.new.oldest ≡ self.old.oldest }
+        ensures count { self.new.count ≡ self.old.count }
+    {
+        mark(self.shots.as_mut_slice(), self.oldest, update, place);
+    }
+
+    /// Returns how many shots were fired, those that are no longer kept too.
+    pub fn count(&self) -> u64
+        ensures { result ≡ self.now.count }
+    {
+        self.count
+    }
+
     /// Returns the shots, in no order.
     pub fn as_slice(&self) -> &[Shot]
         ensures { result.now ≡ self.now.shots }
     {
         self.shots.as_slice()
+    }
+}
+
+/// Marks the shots whose bursts in this update hurt a robot at this place: of the shots in a ring, from the newest on,
+/// which is before the one at `end`, down to the first that is too old to burst now.
+fn mark(shots: &mut [Shot], end: usize, update: u32, place: Place)
+    requires most { length shots.old ≤ MOST_SHOTS }
+    requires end { end < MOST_SHOTS }
+    ensures { length shots.new ≡ length shots.old }
+{
+    let len = shots.len();
+    for back in 1..=len {
+        let n = (end + len - back) % len;
+        let shot = shots[n];
+        if shot.fired < update.saturating_sub(MOST_FLIGHT) {
+            return;
+        }
+        if shot.burst == update && shot.hurts(place) {
+            shots[n].hit = true;
+        }
     }
 }
