@@ -82,9 +82,12 @@ class Player:
             while self._start(left) or self._running:
                 for key, _ in self._selector.select(GLANCE):
                     ended = self._read(key.fd)
-                    if ended:
-                        yield ended
                     watch.check()
+                    if ended:
+                        # the next series plays while this one is looked at
+                        self._start(left)
+                        yield finished(*ended)
+                        watch.check()
                 watch.check()
         finally:
             self._end()
@@ -115,8 +118,8 @@ class Player:
         self._running[output] = Child(record, words, process)
         self._selector.register(output, selectors.EVENT_READ)
 
-    def _read(self, output: int) -> Record | None:
-        """Takes what a child wrote; answers its record if it ended."""
+    def _read(self, output: int) -> tuple[Child, int] | None:
+        """Takes what a child wrote; answers it with its status if it ended."""
         child = self._running[output]
         chunk = os.read(output, CHUNK)
         if chunk:
@@ -126,11 +129,7 @@ class Player:
         status = os.waitstatus_to_exitcode(os.waitpid(child.process, 0)[1])
         if -status in ENDING:
             raise Stopped(-status)
-        series = child.record.series
-        found = None if status else results(bytes(child.output), len(series.group), series.first, series.count)
-        if found is None:
-            raise Fault(failure(child, status), FAULTY if status == 1 else PROGRAM)
-        return Record(child.record.settings, series, child.record.robots, found)
+        return child, status
 
     def _forget(self, output: int) -> None:
         self._selector.unregister(output)
@@ -145,6 +144,15 @@ class Player:
             os.waitpid(child.process, 0)
             self._forget(output)
         self._selector.close()
+
+
+def finished(child: Child, status: int) -> Record:
+    """The record of a series that ended with this status, with its results."""
+    series = child.record.series
+    found = None if status else results(bytes(child.output), len(series.group), series.first, series.count)
+    if found is None:
+        raise Fault(failure(child, status), FAULTY if status == 1 else PROGRAM)
+    return Record(child.record.settings, series, child.record.robots, found)
 
 
 def failure(child: Child, status: int) -> str:
