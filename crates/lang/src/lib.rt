@@ -1,16 +1,12 @@
-//! Parses a robot program in one pass: it reads the bytes of a device, reports to a builder, and returns the names of
-//! the file or the first diagnostic.
-//! It hands on the trees of programs with their builder, and the round-trip law.
+//! The language's public face: the parser, the trees of programs with their builder, the laws on spelling, and what
+//! callers need of the crates below.
 #![tactic(auto)]
 
-mod files;
-mod functions;
-
-pub use files::parse;
 pub use grammar::{
     Build, BuildFault, Callee, Code, Diagnostic, Function, Intrinsic, MOST_NAMES, Op, ParseFault,
     Pools, Profile, StoreOp, Var,
 };
+pub use parser::parse;
 pub use round_trip::laws;
 pub use tokens::{DeviceFault, Feed, Name};
 pub use trees::{Expr, Function as FunctionTree, Statement, TreeMaker};

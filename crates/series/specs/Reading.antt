@@ -2,7 +2,7 @@
 use Rattle.std.specs.Prelude.{◌≡◌, ℕ, ◌+◌, ◌-◌, ◌<◌, List, Option, Some, None, Result, MatchResult, drop, get_or, length, take}
 use Rattle.tokens.specs.ReadLimits.{window_bytes}
 use Rattle.grammar.specs.Profile.{Profile}
-use Rattle.lang.specs.Files.{LeavesUndecided, TakesUpTo}
+use Rattle.parser.specs.Files.{LeavesUndecided, TakesUpTo}
 use Rattle.settings.specs.Setup.{Setup}
 use Rattle.series.specs.Compiling.{Source, compiling}
 use Rattle.series.specs.Pieces.{Begins, Piece, Taken, Writes}

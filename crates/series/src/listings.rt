@@ -16,7 +16,7 @@ use crate::endings::{RunFault, Status};
 use crate::listing::put_listing;
 use code::Maker;
 use grammar::{Diagnostic, ParseFault, Profile};
-use lang::parse;
+use parser::parse;
 use settings::Settings;
 use sinks::{Sink, name_of, put_diagnostic};
 use tokens::{DeviceFault, Feed};

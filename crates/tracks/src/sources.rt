@@ -6,7 +6,7 @@ use crate::feeds::FileFeed;
 use crate::words::Wish;
 use code::{Maker, Profile, Program};
 use grammar::{Diagnostic, ParseFault};
-use lang::parse;
+use parser::parse;
 use std::fs::File;
 use std::io::ErrorKind;
 use tokens::{DeviceFault, Feed};

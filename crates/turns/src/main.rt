@@ -5,7 +5,7 @@ mod counts;
 
 use crate::counts::counted;
 use code::{Maker, Profile, Program};
-use lang::parse;
+use parser::parse;
 use std::io::ErrorKind;
 use std::{env, io};
 use tokens::Pieces;

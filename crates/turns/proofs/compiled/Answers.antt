@@ -1,6 +1,6 @@
 use Rattle.std.proofs.Common.{rules, Some}
 use Rattle.code.specs.Told.{Stands}
-use Rattle.lang.specs.Files.{IsFile}
+use Rattle.parser.specs.Files.{IsFile}
 use Rattle.turns.proofs.compiled.Goals as goal
 
 pub finish-requires : goal.finish-requires

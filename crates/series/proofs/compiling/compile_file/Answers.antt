@@ -1,6 +1,6 @@
 use Rattle.std.proofs.Common.{◌∙◌, refl, sym, ap, rules}
 use Rattle.code.specs.Told.{Stands}
-use Rattle.lang.specs.Files.{IsFile}
+use Rattle.parser.specs.Files.{IsFile}
 use Rattle.code.specs.Listing.{listing_of}
 use Rattle.sinks.specs.Portions.{Takes, TakesFront}
 use Rattle.series.proofs.FileLemmas.{alike, alike_more, diagnostic_cut, diagnostic_put, faulty_kept, good_code, good_kept, listing_cut, listing_put, of_last}

@@ -1,6 +1,6 @@
 use Rattle.std.proofs.Common.{◌∙◌, refl, rules}
 use Rattle.code.specs.Told.{Stands}
-use Rattle.lang.specs.Files.{IsFile}
+use Rattle.parser.specs.Files.{IsFile}
 use Rattle.settings.specs.declared.settings.Mode.TheVariants.{Listing}
 use Rattle.series.proofs.FileLemmas.{diagnostic_cut, diagnostic_put, faulty_status, good_code, good_status, listing_cut, listing_put}
 use Rattle.series.proofs.listings.list_file.Goals as goal

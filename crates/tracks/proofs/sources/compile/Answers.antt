@@ -1,6 +1,6 @@
 use Rattle.std.proofs.Common.{rules}
 use Rattle.code.specs.Told.{Stands}
-use Rattle.lang.specs.Files.{IsFile}
+use Rattle.parser.specs.Files.{IsFile}
 use Rattle.tracks.proofs.sources.compile.Goals as goal
 
 pub finish-requires : goal.finish-requires

@@ -1,0 +1,75 @@
+//! Functions: their headings, blocks and ends.
+
+ghost use Rattle.std.specs.Prelude.{◌≡◌, [], OnOk, IfErr, true};
+ghost use Rattle.tokens.specs.declared.located_tokens.Punctuator.TheVariants as punctuator;
+ghost use Rattle.grammar.specs.Building.{StandsOpen};
+ghost use Rattle.grammar.specs.Grammar.{is_punctuator};
+ghost use Rattle.parsing.specs.Advancing.{Advances, IsReady};
+ghost use Rattle.parsing.specs.Growing.{Grows};
+ghost use Rattle.parsing.specs.Position.{next_at, token_of};
+ghost use Rattle.parsing.specs.Room.{HasPlace, room};
+ghost use Rattle.parser.specs.Progress.{ClosesFunction, MayEnd, ParsesBlock, ReadsParts, RefusesEnd, at_definition};
+
+use grammar::{Build, BuildFault, Code, ParseFault};
+use parsing::{Declared, Parser, declarations, heading, is_punctuator};
+use statements::statements;
+use tokens::{Feed, Punctuator};
+
+/// `name ( params ) pdecls block`
+pub fn function<F: Feed, B: Build>(
+    parser: &mut Parser<'_, F>,
+    build: &mut B,
+) -> Result<(), ParseFault>
+    requires closed { StandsOpen (B.stands build.old) [] }
+    requires ready { IsReady parser.old }
+    ensures reads { ReadsParts result B.denied (B.stands build.old) (B.stands build.new)
+        at_definition parser.old parser.new }
+    ensures closed { OnOk result (StandsOpen (B.stands build.new) []) }
+    ensures kept { Advances result parser.old parser.new }
+{
+    let number = heading(parser)?;
+    build.begin_function(number, parser.parameters())?;
+    block(parser, build)?;
+    close(parser, build, parser.variables())?;
+    parser.end_definition();
+    parser.expect(Punctuator::CloseCurly)?;
+    Ok(())
+}
+
+/// `block → { decls stmts }`, up to the closing brace
+fn block<F: Feed, B: Build>(parser: &mut Parser<'_, F>, build: &mut B) -> Result<(), ParseFault>
+    requires open { HasPlace (B.stands build.old) (room 1 1) }
+    requires ready { IsReady parser.old }
+    ensures parses { ParsesBlock result B.denied (B.stands build.old) (B.stands build.new) parser.old parser.new }
+    ensures grown { Grows result (B.stands build.old) (B.stands build.new) }
+    ensures closed { OnOk result (is_punctuator punctuator.CloseCurly (token_of parser.new) ≡ true) }
+    ensures kept { Advances result parser.old parser.new }
+{
+    if !is_punctuator(&parser.peek().token, Punctuator::OpenCurly) {
+        return Err(parser.misfit());
+    }
+    parser.advance()?;
+    declarations(parser, Declared::Locals)?;
+    statements(parser, build, 1)?;
+    Ok(())
+}
+
+/// Ends a function with so many variables, with a return, and judges its length at the closing brace, the next token.
+fn close<F: Feed, B: Build>(
+    parser: &Parser<'_, F>,
+    build: &mut B,
+    variables: u8,
+) -> Result<(), ParseFault>
+    requires open { MayEnd (B.stands build.old) variables }
+    ensures closed { OnOk result (ClosesFunction (B.stands build.old) (B.stands build.new) variables) }
+    ensures refused { IfErr result (RefusesEnd (B.stands build.old) (next_at parser.now.place).line B.denied) }
+    ensures device { IfErr result (λ fault. ParseFault.Device ≡ fault → ⊥) }
+{
+    build.constant(0)?;
+    build.give_back()?;
+    match build.end_function(variables) {
+        Ok(()) => Ok(()),
+        Err(BuildFault::Full) => Err(parser.refusal(Code::TooMuchCode)),
+        Err(BuildFault::Memory) => Err(ParseFault::Memory),
+    }
+}
