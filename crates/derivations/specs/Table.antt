@@ -1,0 +1,71 @@
+-- The symbols and items of the code, as those of the grammar's table.
+use Rattle.grammar.specs.Grammar as table
+use Rattle.derivations.specs.declared.symbols.Role.{Role}
+use Rattle.derivations.specs.declared.symbols.Role.TheVariants as role
+use Rattle.derivations.specs.declared.symbols.Symbol.{Symbol}
+use Rattle.derivations.specs.declared.symbols.Symbol.TheVariants as symbol
+use Rattle.derivations.specs.declared.symbols.SemanticAction.{SemanticAction}
+use Rattle.derivations.specs.declared.symbols.SemanticAction.TheVariants as making
+use Rattle.derivations.specs.declared.symbols.Item.{Item}
+use Rattle.derivations.specs.declared.symbols.Item.TheVariants as item
+
+abbrev pub role_of : Role → table.Role
+role_of role.Defined = table.Defined
+role_of role.External = table.External
+role_of role.Parameter = table.Parameter
+role_of role.Typed = table.Typed
+role_of role.Local = table.Local
+role_of role.Called = table.Called
+role_of role.Mentioned = table.Mentioned
+
+abbrev pub symbol_of : Symbol → table.Symbol
+symbol_of symbol.Source = table.Source
+symbol_of symbol.Types = table.Types
+symbol_of symbol.Head = table.Head
+symbol_of (symbol.More r) = table.More (role_of r)
+symbol_of symbol.Parameters = table.Parameters
+symbol_of symbol.ParameterTypes = table.ParameterTypes
+symbol_of symbol.FunctionBlock = table.FunctionBlock
+symbol_of symbol.Block = table.Block
+symbol_of symbol.Declarations = table.Declarations
+symbol_of symbol.Statements = table.Statements
+symbol_of symbol.Statement = table.Statement
+symbol_of symbol.ElsePart = table.ElsePart
+symbol_of symbol.Back = table.Back
+symbol_of symbol.Expression = table.Expression
+symbol_of (symbol.Level n) = table.Level n
+symbol_of (symbol.Tail n) = table.Tail n
+symbol_of symbol.Unary = table.Unary
+symbol_of symbol.Primary = table.Primary
+symbol_of symbol.Arguments = table.Arguments
+symbol_of symbol.MoreArguments = table.MoreArguments
+
+abbrev pub action_of : SemanticAction → table.SemanticAction
+action_of (making.Operate o) = table.Operate o
+action_of making.Negate = table.Negate
+action_of making.Not = table.Not
+action_of making.Complement = table.Complement
+action_of making.Fetch = table.Fetch
+action_of (making.Store o) = table.Store o
+action_of (making.StepBefore o) = table.StepBefore o
+action_of (making.StepBehind o) = table.StepBehind o
+action_of making.Pass = table.Pass
+action_of making.Invoke = table.Invoke
+action_of making.Empty = table.Empty
+action_of making.Evaluate = table.Evaluate
+action_of making.Decide = table.Decide
+action_of making.DecideElse = table.DecideElse
+action_of making.Repeat = table.Repeat
+action_of making.Zero = table.Zero
+action_of making.GiveBack = table.GiveBack
+action_of making.Define = table.Define
+
+abbrev pub item_of : Item → table.Item
+item_of (item.Exactly m) = table.Exactly m
+item_of (item.Keyword w) = table.AWord w
+item_of (item.Naming r) = table.AName (role_of r)
+item_of item.Number = table.AConstant
+item_of item.Ending = table.AnEnd
+item_of (item.Part s) = table.Part (symbol_of s)
+item_of (item.Make a) = table.Make (action_of a)
+item_of item.Close = table.Close

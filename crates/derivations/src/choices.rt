@@ -1,0 +1,500 @@
+//! The grammar as a table: the production of each symbol, by the next token and the one after it.
+
+ghost use Rattle.std.specs.Prelude.{◌≡◌, ◌≤◌, ◌∷◌, [], ℕ, List, Some, IfSome};
+ghost use Rattle.tokens.specs.declared.located_tokens.Token.{Token};
+ghost use Rattle.tokens.specs.declared.located_tokens.Token.TheVariants as token;
+ghost use Rattle.grammar.specs.Grammar as table;
+ghost use Rattle.grammar.specs.Operators.{operator_at};
+ghost use Rattle.derivations.specs.Table.{action_of, role_of, symbol_of};
+
+use crate::symbols::{Item, Production, Role, SemanticAction, Symbol};
+use grammar::{Binary, Op, StoreOp, operator_from, store_operator};
+use tokens::{Punctuator, Token, Word};
+
+/// The most level of the binary operators.
+const TIGHTEST: u8 = 10;
+
+/// Returns the production of a symbol, if the next token is no lexical error. If there is none, the token doesn't fit.
+/// Where the table says so, the token after the next one decides too.
+pub fn choice(symbol: Symbol, next: &Token, after: &Token) -> Option<Production>
+    ensures { result ≡ table.choice (symbol_of symbol) next.now after.now }
+{
+    match symbol {
+        Symbol::Source => source(next),
+        Symbol::Types => Some(types(next)),
+        Symbol::Head => head(next, after),
+        Symbol::More(role) => Some(more(role, next)),
+        Symbol::Parameters => Some(parameters(next)),
+        Symbol::ParameterTypes => Some(parameter_types(next)),
+        Symbol::FunctionBlock => function_block(next),
+        Symbol::Block => block(next),
+        Symbol::Declarations => Some(declarations(next)),
+        Symbol::Statements => Some(statements(next)),
+        Symbol::Statement => Some(statement(next)),
+        Symbol::ElsePart => Some(else_part(next)),
+        Symbol::Back => Some(back(next)),
+        Symbol::Expression => Some(expression(next, after)),
+        Symbol::Level(level) => Some(operators(level)),
+        Symbol::Tail(level) => Some(tail(level, next)),
+        Symbol::Unary => Some(unary(next)),
+        Symbol::Primary => primary(next, after),
+        Symbol::Arguments => Some(arguments(next)),
+        Symbol::MoreArguments => Some(more_arguments(next)),
+    }
+}
+
+/// Returns the production of a file, or of the rest of it.
+fn source(next: &Token) -> Option<Production>
+    ensures { (after : Token) → result ≡ table.choice table.Source next.now after }
+{
+    match next {
+        Token::End => Some(Production::of(&[Item::Ending])),
+        Token::Word(Word::Type) => Some(Production::of(&[
+            Item::Keyword(Word::Type),
+            Item::Part(Symbol::Types),
+            Item::Part(Symbol::Head),
+            Item::Part(Symbol::Source),
+        ])),
+        Token::Name(_) => Some(Production::of(&[
+            Item::Naming(Role::Defined),
+            Item::Exactly(Punctuator::OpenRound),
+            Item::Part(Symbol::Parameters),
+            Item::Exactly(Punctuator::CloseRound),
+            Item::Part(Symbol::ParameterTypes),
+            Item::Part(Symbol::FunctionBlock),
+            Item::Part(Symbol::Source),
+        ])),
+        _ => None,
+    }
+}
+
+/// Returns the production of further type words.
+fn types(next: &Token) -> Production
+    ensures { (after : Token) → Some result ≡ table.choice table.Types next.now after }
+{
+    match next {
+        Token::Word(Word::Type) => {
+            Production::of(&[Item::Keyword(Word::Type), Item::Part(Symbol::Types)])
+        }
+        _ => Production::of(&[]),
+    }
+}
+
+/// Returns the production of what follows the type words at a file's level: a definition if a bracket follows the name.
+fn head(next: &Token, after: &Token) -> Option<Production>
+    ensures { result ≡ table.choice table.Head next.now after.now }
+{
+    match (next, after) {
+        (Token::Name(_), Token::Punctuator(Punctuator::OpenRound)) => Some(Production::of(&[
+            Item::Naming(Role::Defined),
+            Item::Exactly(Punctuator::OpenRound),
+            Item::Part(Symbol::Parameters),
+            Item::Exactly(Punctuator::CloseRound),
+            Item::Part(Symbol::ParameterTypes),
+            Item::Part(Symbol::FunctionBlock),
+        ])),
+        (Token::Name(_), _) => Some(Production::of(&[
+            Item::Naming(Role::External),
+            Item::Part(Symbol::More(Role::External)),
+            Item::Exactly(Punctuator::Semicolon),
+        ])),
+        _ => None,
+    }
+}
+
+/// Returns the production of further names of a list.
+fn more(role: Role, next: &Token) -> Production
+    ensures { (after : Token) → Some result ≡ table.choice (table.More (role_of role)) next.now after }
+{
+    match next {
+        Token::Punctuator(Punctuator::Comma) => Production::of(&[
+            Item::Exactly(Punctuator::Comma),
+            Item::Naming(role),
+            Item::Part(Symbol::More(role)),
+        ]),
+        _ => Production::of(&[]),
+    }
+}
+
+/// Returns the production of the names of a parameter list.
+fn parameters(next: &Token) -> Production
+    ensures { (after : Token) → Some result ≡ table.choice table.Parameters next.now after }
+{
+    match next {
+        Token::Name(_) => Production::of(&[
+            Item::Naming(Role::Parameter),
+            Item::Part(Symbol::More(Role::Parameter)),
+        ]),
+        _ => Production::of(&[]),
+    }
+}
+
+/// Returns the production of declarations of parameters.
+fn parameter_types(next: &Token) -> Production
+    ensures { (after : Token) → Some result ≡ table.choice table.ParameterTypes next.now after }
+{
+    match next {
+        Token::Word(Word::Type) => Production::of(&[
+            Item::Keyword(Word::Type),
+            Item::Part(Symbol::Types),
+            Item::Naming(Role::Typed),
+            Item::Part(Symbol::More(Role::Typed)),
+            Item::Exactly(Punctuator::Semicolon),
+            Item::Part(Symbol::ParameterTypes),
+        ]),
+        _ => Production::of(&[]),
+    }
+}
+
+/// Returns the production of a function's block.
+fn function_block(next: &Token) -> Option<Production>
+    ensures { (after : Token) → result ≡ table.choice table.FunctionBlock next.now after }
+{
+    match next {
+        Token::Punctuator(Punctuator::OpenCurly) => Some(Production::of(&[
+            Item::Exactly(Punctuator::OpenCurly),
+            Item::Make(SemanticAction::Empty),
+            Item::Part(Symbol::Declarations),
+            Item::Part(Symbol::Statements),
+            Item::Make(SemanticAction::Define),
+            Item::Exactly(Punctuator::CloseCurly),
+            Item::Close,
+        ])),
+        _ => None,
+    }
+}
+
+/// Returns the production of a block within a function.
+fn block(next: &Token) -> Option<Production>
+    ensures { (after : Token) → result ≡ table.choice table.Block next.now after }
+{
+    match next {
+        Token::Punctuator(Punctuator::OpenCurly) => Some(Production::of(&[
+            Item::Exactly(Punctuator::OpenCurly),
+            Item::Part(Symbol::Declarations),
+            Item::Part(Symbol::Statements),
+            Item::Exactly(Punctuator::CloseCurly),
+            Item::Close,
+        ])),
+        _ => None,
+    }
+}
+
+/// Returns the production of the declarations of a block.
+fn declarations(next: &Token) -> Production
+    ensures { (after : Token) → Some result ≡ table.choice table.Declarations next.now after }
+{
+    match next {
+        Token::Word(Word::Type) => Production::of(&[
+            Item::Keyword(Word::Type),
+            Item::Part(Symbol::Types),
+            Item::Naming(Role::Local),
+            Item::Part(Symbol::More(Role::Local)),
+            Item::Exactly(Punctuator::Semicolon),
+            Item::Part(Symbol::Declarations),
+        ]),
+        _ => Production::of(&[]),
+    }
+}
+
+/// Returns the production of the statements of a block.
+fn statements(next: &Token) -> Production
+    ensures { (after : Token) → Some result ≡ table.choice table.Statements next.now after }
+{
+    match next {
+        Token::Punctuator(Punctuator::CloseCurly) => Production::of(&[]),
+        _ => Production::of(&[
+            Item::Part(Symbol::Statement),
+            Item::Part(Symbol::Statements),
+        ]),
+    }
+}
+
+/// Returns the production of a statement.
+fn statement(next: &Token) -> Production
+    ensures { (after : Token) → Some result ≡ table.choice table.Statement next.now after }
+{
+    match next {
+        Token::Punctuator(Punctuator::Semicolon) => {
+            Production::of(&[Item::Exactly(Punctuator::Semicolon)])
+        }
+        Token::Punctuator(Punctuator::OpenCurly) => Production::of(&[Item::Part(Symbol::Block)]),
+        Token::Word(Word::If) => branch(),
+        Token::Word(Word::While) => repetition(),
+        Token::Word(Word::Return) => Production::of(&[
+            Item::Keyword(Word::Return),
+            Item::Part(Symbol::Back),
+            Item::Exactly(Punctuator::Semicolon),
+            Item::Make(SemanticAction::GiveBack),
+        ]),
+        _ => Production::of(&[
+            Item::Part(Symbol::Expression),
+            Item::Exactly(Punctuator::Semicolon),
+            Item::Make(SemanticAction::Evaluate),
+        ]),
+    }
+}
+
+/// Returns the production of an `if`.
+fn branch() -> Production
+    ensures { Some result ≡ table.choice table.Statement (token.Word Word.If) token.End }
+{
+    Production::of(&[
+        Item::Keyword(Word::If),
+        Item::Exactly(Punctuator::OpenRound),
+        Item::Part(Symbol::Expression),
+        Item::Exactly(Punctuator::CloseRound),
+        Item::Make(SemanticAction::Empty),
+        Item::Part(Symbol::Statement),
+        Item::Part(Symbol::ElsePart),
+        Item::Close,
+    ])
+}
+
+/// Returns the production of a `while`.
+fn repetition() -> Production
+    ensures { Some result ≡ table.choice table.Statement (token.Word Word.While) token.End }
+{
+    Production::of(&[
+        Item::Keyword(Word::While),
+        Item::Exactly(Punctuator::OpenRound),
+        Item::Part(Symbol::Expression),
+        Item::Exactly(Punctuator::CloseRound),
+        Item::Make(SemanticAction::Empty),
+        Item::Part(Symbol::Statement),
+        Item::Make(SemanticAction::Repeat),
+        Item::Close,
+    ])
+}
+
+/// Returns the production of what follows the first branch of an `if`.
+fn else_part(next: &Token) -> Production
+    ensures { (after : Token) → Some result ≡ table.choice table.ElsePart next.now after }
+{
+    match next {
+        Token::Word(Word::Else) => Production::of(&[
+            Item::Keyword(Word::Else),
+            Item::Make(SemanticAction::Empty),
+            Item::Part(Symbol::Statement),
+            Item::Make(SemanticAction::DecideElse),
+        ]),
+        _ => Production::of(&[Item::Make(SemanticAction::Decide)]),
+    }
+}
+
+/// Returns the production of what a `return` returns.
+fn back(next: &Token) -> Production
+    ensures { (after : Token) → Some result ≡ table.choice table.Back next.now after }
+{
+    match next {
+        Token::Punctuator(Punctuator::Semicolon) => {
+            Production::of(&[Item::Make(SemanticAction::Zero)])
+        }
+        _ => Production::of(&[Item::Part(Symbol::Expression)]),
+    }
+}
+
+/// Returns the production of an expression: an assignment if its operator follows a name.
+fn expression(next: &Token, after: &Token) -> Production
+    ensures { Some result ≡ table.choice table.Expression next.now after.now }
+{
+    match (next, after) {
+        (Token::Name(_), Token::Punctuator(punctuator)) => match store_operator(after) {
+            Some(op) => Production::of(&[
+                Item::Naming(Role::Mentioned),
+                Item::Exactly(*punctuator),
+                Item::Part(Symbol::Expression),
+                Item::Make(SemanticAction::Store(op)),
+                Item::Close,
+            ]),
+            None => Production::of(&[Item::Part(Symbol::Level(1))]),
+        },
+        _ => Production::of(&[Item::Part(Symbol::Level(1))]),
+    }
+}
+
+/// Returns the production of operators of a level and of tighter ones.
+fn operators(level: u8) -> Production
+    ensures { (next after : Token) → Some result ≡ table.choice (table.Level level) next after }
+{
+    if level < 11 {
+        Production::of(&[
+            Item::Part(Symbol::Level(level + 1)),
+            Item::Part(Symbol::Tail(level)),
+        ])
+    } else {
+        Production::of(&[Item::Part(Symbol::Unary)])
+    }
+}
+
+/// Returns the production of further operators of a level.
+fn tail(level: u8, next: &Token) -> Production
+    ensures { (after : Token) → Some result ≡ table.choice (table.Tail level) next.now after }
+{
+    let Token::Punctuator(punctuator) = *next else {
+        return Production::of(&[]);
+    };
+    match operator_at(level, next) {
+        Some(op) => Production::of(&[
+            Item::Exactly(punctuator),
+            Item::Part(Symbol::Level(level + 1)),
+            Item::Make(SemanticAction::Operate(op)),
+            Item::Part(Symbol::Tail(level)),
+        ]),
+        None => Production::of(&[]),
+    }
+}
+
+/// Returns the operator of a level that a token spells.
+pub(crate) fn operator_at(level: u8, token: &Token) -> Option<Op>
+    ensures value { result ≡ operator_at level token.now }
+    ensures bounded { IfSome result (λ op. level ≤ TIGHTEST) }
+{
+    match operator_from(token, level) {
+        Some(Binary { level: found, op }) if found == level => Some(op),
+        _ => None,
+    }
+}
+
+/// Returns the production of the operators before an operand.
+fn unary(next: &Token) -> Production
+    ensures { (after : Token) → Some result ≡ table.choice table.Unary next.now after }
+{
+    match next {
+        Token::Punctuator(Punctuator::Minus) => before(Punctuator::Minus, SemanticAction::Negate),
+        Token::Punctuator(Punctuator::Not) => before(Punctuator::Not, SemanticAction::Not),
+        Token::Punctuator(Punctuator::Tilde) => {
+            before(Punctuator::Tilde, SemanticAction::Complement)
+        }
+        Token::Punctuator(Punctuator::PlusPlus) => step_before(Punctuator::PlusPlus, StoreOp::Add),
+        Token::Punctuator(Punctuator::MinusMinus) => {
+            step_before(Punctuator::MinusMinus, StoreOp::Subtract)
+        }
+        _ => Production::of(&[Item::Part(Symbol::Primary)]),
+    }
+}
+
+/// Returns the production of an operator before an operand.
+fn before(punctuator: Punctuator, action: SemanticAction) -> Production
+    ensures { result ≡ table.Exactly punctuator ∷ table.Part table.Unary ∷ table.Make (action_of action) ∷ table.Close ∷ [] }
+{
+    Production::of(&[
+        Item::Exactly(punctuator),
+        Item::Part(Symbol::Unary),
+        Item::Make(action),
+        Item::Close,
+    ])
+}
+
+/// Returns the production of `++v` or `--v`.
+fn step_before(punctuator: Punctuator, op: StoreOp) -> Production
+    ensures { result ≡ table.Exactly punctuator ∷ table.AName table.Mentioned ∷ table.Make (table.StepBefore op) ∷ [] }
+{
+    Production::of(&[
+        Item::Exactly(punctuator),
+        Item::Naming(Role::Mentioned),
+        Item::Make(SemanticAction::StepBefore(op)),
+    ])
+}
+
+/// Returns the production of an operand.
+fn primary(next: &Token, after: &Token) -> Option<Production>
+    ensures { result ≡ table.choice table.Primary next.now after.now }
+{
+    match next {
+        Token::Constant(_) => Some(Production::of(&[Item::Number])),
+        Token::Name(_) => Some(named(after)),
+        Token::Punctuator(Punctuator::OpenRound) => Some(Production::of(&[
+            Item::Exactly(Punctuator::OpenRound),
+            Item::Part(Symbol::Expression),
+            Item::Exactly(Punctuator::CloseRound),
+            Item::Close,
+        ])),
+        _ => None,
+    }
+}
+
+/// Returns the production of an operand that begins with a name: a call, a step, or a variable.
+fn named(after: &Token) -> Production
+    ensures { (name : List ℕ) → Some result ≡ table.choice table.Primary (token.Name name) after.now }
+{
+    match after {
+        Token::Punctuator(Punctuator::OpenRound) => Production::of(&[
+            Item::Naming(Role::Called),
+            Item::Exactly(Punctuator::OpenRound),
+            Item::Part(Symbol::Arguments),
+            Item::Exactly(Punctuator::CloseRound),
+            Item::Make(SemanticAction::Invoke),
+            Item::Close,
+        ]),
+        Token::Punctuator(Punctuator::PlusPlus) => step_behind(Punctuator::PlusPlus, StoreOp::Add),
+        Token::Punctuator(Punctuator::MinusMinus) => {
+            step_behind(Punctuator::MinusMinus, StoreOp::Subtract)
+        }
+        _ => Production::of(&[
+            Item::Naming(Role::Mentioned),
+            Item::Make(SemanticAction::Fetch),
+        ]),
+    }
+}
+
+/// Returns the production of `v++` or `v--`.
+fn step_behind(punctuator: Punctuator, op: StoreOp) -> Production
+    ensures { result ≡ table.AName table.Mentioned ∷ table.Exactly punctuator ∷ table.Make (table.StepBehind op) ∷ [] }
+{
+    Production::of(&[
+        Item::Naming(Role::Mentioned),
+        Item::Exactly(punctuator),
+        Item::Make(SemanticAction::StepBehind(op)),
+    ])
+}
+
+/// Returns the production of the arguments of a call.
+fn arguments(next: &Token) -> Production
+    ensures { (after : Token) → Some result ≡ table.choice table.Arguments next.now after }
+{
+    match next {
+        Token::Punctuator(Punctuator::CloseRound) => Production::of(&[]),
+        _ => Production::of(&[
+            Item::Part(Symbol::Expression),
+            Item::Make(SemanticAction::Pass),
+            Item::Part(Symbol::MoreArguments),
+        ]),
+    }
+}
+
+/// Returns the production of further arguments.
+fn more_arguments(next: &Token) -> Production
+    ensures { (after : Token) → Some result ≡ table.choice table.MoreArguments next.now after }
+{
+    match next {
+        Token::Punctuator(Punctuator::Comma) => Production::of(&[
+            Item::Exactly(Punctuator::Comma),
+            Item::Part(Symbol::Expression),
+            Item::Make(SemanticAction::Pass),
+            Item::Part(Symbol::MoreArguments),
+        ]),
+        _ => Production::of(&[]),
+    }
+}
+
+/// Reports whether the production chosen opens a level: a block, an `if`, a `while`, an assignment, a unary `-`, `!` or
+/// `~`, an expression in brackets, or a call.
+pub fn enters(symbol: Symbol, next: &Token, after: &Token) -> bool
+    ensures { result ≡ table.enters (symbol_of symbol) next.now after.now }
+{
+    match (symbol, next) {
+        (Symbol::FunctionBlock | Symbol::Block, Token::Punctuator(Punctuator::OpenCurly)) => true,
+        (Symbol::Statement, Token::Word(Word::If | Word::While)) => true,
+        (Symbol::Expression, Token::Name(_)) => store_operator(after).is_some(),
+        (
+            Symbol::Unary,
+            Token::Punctuator(Punctuator::Minus | Punctuator::Not | Punctuator::Tilde),
+        ) => true,
+        (Symbol::Primary, Token::Punctuator(Punctuator::OpenRound)) => true,
+        (Symbol::Primary, Token::Name(_)) => {
+            matches!(after, Token::Punctuator(Punctuator::OpenRound))
+        }
+        _ => false,
+    }
+}

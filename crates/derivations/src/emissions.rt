@@ -1,0 +1,116 @@
+//! What a step of a derivation emits: actions, and the token that they come from.
+
+ghost use Rattle.std.specs.Prelude.{◌≤◌};
+
+use arrayvec::ArrayVec;
+use grammar::{Op, Profile};
+
+/// What a derivation emits for a builder, without the names' numbers and the constants' values.
+#[derive(Clone, Copy, Debug, PartialEq, Eq)]
+pub enum Action {
+    /// A constant.
+    Constant,
+    /// A variable's value.
+    Fetch,
+    /// A store, after its value.
+    Store,
+    /// A binary operator, after both sides.
+    Binop(Op),
+    /// Between the sides of `&&` and `||`.
+    LogicMiddle(Op),
+    /// The arguments of a call follow.
+    BeginCall,
+    /// They are done.
+    EndCall,
+    /// After the condition of an `if`.
+    IfTest,
+    /// Between the branches of an `if`.
+    ElsePart,
+    /// After an `if`.
+    EndIf,
+    /// The condition of a `while` follows.
+    BeginWhile,
+    /// After the condition.
+    WhileTest,
+    /// After a `while`.
+    EndWhile,
+    /// A return, after its value.
+    GiveBack,
+    /// A value is dropped: that of a statement, or the new one of `v++` and `v--`.
+    Chop,
+    /// A function begins.
+    BeginFunction,
+    /// It ends.
+    EndFunction,
+}
+
+impl Default for Action {
+    ghost use Rattle.std.specs.Prelude.{◌≡◌};
+    ghost use Rattle.derivations.specs.declared.emissions.Action.TheVariants.{EndFunction};
+
+    ghost is_default = { λ action. action ≡ EndFunction };
+
+    fn default() -> Action {
+        Action::EndFunction
+    }
+}
+
+impl Action {
+    /// Returns how many instructions it makes in a profile.
+    pub fn instructions(self, profile: Profile) -> usize
+        ensures { result ≤ 4 }
+    {
+        match self {
+            Action::EndIf | Action::BeginWhile | Action::BeginFunction | Action::EndFunction => 0,
+            Action::ElsePart | Action::EndWhile => 2,
+            Action::LogicMiddle(op) if profile.short_circuit() => middle_length(op),
+            Action::LogicMiddle(_) => 0,
+            Action::Binop(Op::And) if profile.short_circuit() => 4,
+            _ => 1,
+        }
+    }
+}
+
+/// Returns how many instructions are made between the sides of `&&` or `||`, if the right side may be left out.
+fn middle_length(op: Op) -> usize
+    ensures { result ≤ 4 }
+{
+    match op {
+        Op::And => 1,
+        Op::Or => 4,
+        _ => 0,
+    }
+}
+
+/// The most actions of a step: those of `v++`.
+pub const MOST_ACTIONS: usize = 4;
+
+/// What a step emits. All its actions come from one token.
+#[derive(Drop)]
+pub struct Emission {
+    actions: ArrayVec<Action, MOST_ACTIONS>,
+    token: usize,
+}
+
+impl Emission {
+    /// Makes the emission of these actions, of the token with this index.
+    pub(crate) fn of(actions: &[Action], token: usize) -> Emission {
+        let mut emitted = ArrayVec::new();
+        let _ = emitted.try_extend_from_slice(actions);
+        Emission {
+            actions: emitted,
+            token,
+        }
+    }
+
+    /// Returns the actions, the first to be reported first.
+    pub fn actions(&self) -> &[Action] {
+        self.actions.as_slice()
+    }
+
+    /// Returns the index of the token that they come from: an operator's own, a call's name, the word of a test or of
+    /// a return, a statement's semicolon, a function's closing brace.
+    pub fn token(&self) -> usize {
+        self.token
+    }
+}

@@ -1,0 +1,22 @@
+//! The derivation of a source as a value, step by step, for tools that explain sources: the grammar's table as code,
+//! the tokens with their columns, what each step emits, and the place that each instruction comes from.
+#![tactic(auto)]
+
+mod addresses;
+mod candidates;
+mod choices;
+mod emissions;
+mod locations;
+mod steps;
+mod symbols;
+
+pub use addresses::{Place, Places, PlacesFault, lines};
+pub use candidates::{fitting, spelled};
+pub use choices::{choice, enters};
+pub use emissions::{Action, Emission, MOST_ACTIONS};
+pub use locations::{Located, locate};
+pub use steps::{Derivation, Outcome, Pending};
+pub use symbols::{Item, MOST_ITEMS, Production, Role, SemanticAction, Symbol};
+
+#[cfg(test)]
+mod tests;

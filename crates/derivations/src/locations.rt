@@ -1,0 +1,136 @@
+//! The tokens of a source in memory, each with its line, its column and its bytes.
+
+ghost use Rattle.std.specs.Prelude.{◌≤◌, length};
+
+use std::alloc::{AllocError, Global};
+use tokens::{Cursor, LexicalError, LocatedToken, Pieces, SOURCE_BYTES, Token, WINDOW};
+
+/// A token of a source in memory, with its place.
+#[derive(Clone, Copy, Debug, PartialEq, Eq)]
+pub struct Located {
+    /// What it is.
+    pub token: Token,
+    /// The line that it begins on, from 1.
+    pub line: u32,
+    /// The column of its first byte, in bytes, from 1.
+    pub column: u32,
+    /// How many bytes of the source are before it.
+    pub start: usize,
+    /// How many bytes of the source there are up to its last one.
+    pub end: usize,
+}
+
+/// Finds all tokens of a source, the last one included: the end, or a lexical error. The only error is that memory is
+/// refused.
+pub fn locate(alloc: Global, source: &[u8]) -> Result<Vec<Located>, AllocError> {
+    let mut tokens = Vec::new(alloc);
+    let mut feed = Pieces::new(source, WINDOW);
+    let Ok(mut cursor) = Cursor::open(&mut feed) else {
+        return Ok(tokens);
+    };
+    let mut places = Finder::new(source);
+    for _ in 0..SOURCE_BYTES + 2 {
+        let token = *cursor.peek();
+        tokens.push(places.place(&token))?;
+        if token.token.is_last() || cursor.advance(&mut feed).is_err() {
+            break;
+        }
+    }
+    Ok(tokens)
+}
+
+/// How far the places of a source's tokens are known: to the end of a token.
+#[derive(Drop)]
+struct Finder<'a> {
+    source: &'a [u8],
+    end: usize,
+    line_start: usize,
+}
+
+impl<'a> Finder<'a> {
+    /// Begins at the first byte of a source.
+    fn new(source: &'a [u8]) -> Finder<'a> {
+        Finder {
+            source,
+            end: 0,
+            line_start: 0,
+        }
+    }
+
+    /// Finds the place of the next token.
+    fn place(&mut self, token: &LocatedToken) -> Located {
+        let end = token.end as usize;
+        let start = self.start(token);
+        self.pass_lines(start);
+        self.end = end;
+        let column = start.saturating_sub(self.line_start).saturating_add(1);
+        Located {
+            token: token.token,
+            line: token.line,
+            column: u32::try_from(column).unwrap_or(u32::MAX),
+            start,
+            end,
+        }
+    }
+
+    /// Returns where the next token begins: after the spaces and comments that follow the one before it.
+    fn start(&self, token: &LocatedToken) -> usize {
+        let end = token.end as usize;
+        match token.token {
+            Token::Fault(LexicalError::BadCharacter | LexicalError::SourceTooLong) => {
+                end.saturating_sub(1)
+            }
+            _ => match self.source.get(self.end..end) {
+                Some(gap) => self.end.saturating_add(blanks(gap)),
+                None => end,
+            },
+        }
+    }
+
+    /// Notes the line that begins last up to a place.
+    fn pass_lines(&mut self, to: usize) {
+        if let Some(gap) = self.source.get(self.end..to) {
+            for (i, byte) in gap.iter().enumerate() {
+                if *byte == b'\n' {
+                    self.line_start = self.end.saturating_add(i).saturating_add(1);
+                }
+            }
+        }
+    }
+}
+
+/// Counts the bytes of the spaces and comments that some bytes begin with.
+fn blanks(bytes: &[u8]) -> usize {
+    let mut passed = 0usize;
+    for _ in 0..bytes.len() {
+        match bytes.get(passed..) {
+            Some(rest) => match blank(rest) {
+                0 => return passed,
+                count => passed = passed.saturating_add(count),
+            },
+            None => return passed,
+        }
+    }
+    passed
+}
+
+/// Counts the bytes of the space or the comment that some bytes begin with: 0 if it is neither.
+fn blank(bytes: &[u8]) -> usize {
+    match bytes {
+        [b' ' | 9..=13, ..] => 1,
+        [b'/', b'*', inside @ ..] => comment(inside),
+        _ => 0,
+    }
+}
+
+/// Counts the bytes of a comment, by those after its begin: 0 if it isn't closed.
+fn comment(inside: &[u8]) -> usize {
+    let mut is_star = false;
+    for (i, byte) in inside.iter().enumerate() {
+        if is_star && *byte == b'/' {
+            return i.saturating_add(3);
+        }
+        is_star = *byte == b'*';
+    }
+    0
+}

@@ -1,0 +1,55 @@
+//! The places of instructions of small sources.
+
+use super::*;
+use grammar::Profile;
+use std::alloc::Global;
+use std::process::Abort;
+use std::test::Fail;
+
+/// Compares the places of a source's instructions with rows of a line and a column.
+fn check(
+    rt: &impl Abort,
+    alloc: Global,
+    profile: Profile,
+    source: &[u8],
+    wanted: &[(u32, u32)],
+) -> Result<(), Fail> {
+    let Ok(lines) = lines(alloc, source, profile) else {
+        return Err(Fail::from("no lines"));
+    };
+    for (address, (line, column)) in wanted.iter().enumerate() {
+        let place = Place {
+            line: *line,
+            column: *column,
+        };
+        assert_eq!(rt; lines.place(address), Some(place));
+    }
+    assert_eq!(rt; lines.len(), wanted.len());
+    Ok(())
+}
+
+#[test]
+fn places_of_a_small_robot(rt: HostRuntime) -> Result<(), Fail> {
+    check(
+        &rt,
+        rt.alloc(),
+        Profile::first(),
+        b"main()\n{\n  while (1)\n    cannon(a, 7 + 2);\n}\n",
+        &[
+            (3, 10),
+            (3, 3),
+            (4, 5),
+            (4, 12),
+            (4, 15),
+            (4, 19),
+            (4, 17),
+            (4, 5),
+            (4, 21),
+            (3, 3),
+            (3, 3),
+            (5, 1),
+            (5, 1),
+            (6, 1),
+        ],
+    )
+}
