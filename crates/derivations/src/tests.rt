@@ -5,6 +5,7 @@ use grammar::Profile;
 use std::alloc::Global;
 use std::process::Abort;
 use std::test::Fail;
+use tokens::{Punctuator, Token};
 
 /// Compares the places of a source's instructions with rows of a line and a column.
 fn check(
@@ -52,4 +53,31 @@ fn places_of_a_small_robot(rt: HostRuntime) -> Result<(), Fail> {
             (6, 1),
         ],
     )
+}
+
+#[test]
+fn places_of_a_condition_by_the_second_profile(rt: HostRuntime) -> Result<(), Fail> {
+    check(
+        &rt,
+        rt.alloc(),
+        Profile::second(),
+        b"main(){\n if (a)\n  b;\n}",
+        &[(2, 6), (2, 2), (3, 3), (3, 4), (4, 1), (4, 1), (4, 2)],
+    )
+}
+
+#[test]
+fn what_fits_after_a_whole_expression(rt: HostRuntime) -> Result<(), Fail> {
+    let Ok(tokens) = locate(rt.alloc(), b"main(){ a = 1 }") else {
+        return Err(Fail::from("no tokens"));
+    };
+    let Ok(found) = fitting(rt.alloc(), tokens.as_slice(), 7) else {
+        return Err(Fail::from("nothing found"));
+    };
+    assert_eq!(&rt; found.len(), 19);
+    let has_semicolon = found
+        .iter()
+        .any(|token| *token == Token::Punctuator(Punctuator::Semicolon));
+    assert_eq!(&rt; has_semicolon, true);
+    Ok(())
 }
