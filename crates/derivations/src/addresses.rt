@@ -66,8 +66,9 @@ impl Places {
     }
 }
 
-/// Finds the place of each instruction of a source's program in a profile. The source is one that compiles, so the list
-/// is as long as the program's code. Whether its names and levels have a fault is not looked at.
+/// Finds the place of each instruction of a source's program in a profile, for a source that compiles. Tests of two
+/// sources show that the list is as long as the program's code; no clause does. Faults of names and levels are passed
+/// over.
 pub fn lines(alloc: Global, source: &[u8], profile: Profile) -> Result<Places, PlacesFault> {
     let tokens = locate(alloc, source)?;
     let mut derivation = Derivation::start(alloc, tokens.as_slice())?;
