@@ -8,6 +8,8 @@ pub mod Represents
 pub mod Still
 pub mod Beginnings
 pub mod SlotLaws
+pub mod DueBursts
+pub mod AddsUp
 pub mod Nearest
 pub mod InPlace
 pub mod Roots

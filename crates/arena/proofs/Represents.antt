@@ -44,6 +44,11 @@ inside_if_lives g i h = by_place (cases_lt i (length g.robots))
         let dead : nat_lt 100 100 ≡ true = rw none at h in
         absurd (omega (arith, ltb-true 100 100 dead))
 
+-- who lives is alive in the field
+pub alive_if_lives : (g : Ground) (f : Field) (i : ℕ) → StandsFor g f → lives g i ≡ true → is_alive (robot_at f i) ≡ true
+unfolding lives is_alive body_of
+alive_if_lives g f i s h = sym (ap (λ (b : Body). nat_lt b.damage 100) (body_at g f i s)) ∙ h
+
 -- the living, counted on bodies
 fold_map : {X Y : Type 0} (f : X → Y) (g : Y → ℕ) (a : ℕ) (xs : List X) → fold (λ s y. s + g y) a (map f xs) ≡ fold (λ s x. s + g (f x)) a xs
 fold_map f g a [] = refl

@@ -14,7 +14,7 @@ use Rattle.arena.specs.Rest.{NoneBefore}
 use Rattle.arena.specs.Standing.{HoldsShots}
 use Rattle.arena.specs.Due.{harm}
 
-sum-cons : (n : ℕ) (ns : List ℕ) → sum (n ∷ ns) ≡ n + sum ns
+pub sum-cons : (n : ℕ) (ns : List ℕ) → sum (n ∷ ns) ≡ n + sum ns
 sum-cons n ns = let e = sum_by-append (λ x. x) (n ∷ []) ns in omega arith
 
 -- what the missiles of one robot take from a robot at a place
@@ -112,11 +112,11 @@ holds_none n slots e = record {
     empty (suc n) (suc i) = empty n i
 
 -- a sum over the robots, first to last
-abbrev totals : (ℕ → ℕ) → ℕ → ℕ
+abbrev pub totals : (ℕ → ℕ) → ℕ → ℕ
 totals f zero = 0
 totals f (suc n) = f 0 + totals (λ i. f (suc i)) n
 
-totals_same : (f g : ℕ → ℕ) (n : ℕ) → ((i : ℕ) → i < n → f i ≡ g i) → totals f n ≡ totals g n
+pub totals_same : (f g : ℕ → ℕ) (n : ℕ) → ((i : ℕ) → i < n → f i ≡ g i) → totals f n ≡ totals g n
 totals_same f g zero h = refl
 totals_same f g (suc n) h =
     let here = h 0 (omega arith) in
@@ -135,7 +135,7 @@ totals_of_none (suc n) = let rest = totals_of_none n in omega arith
 not_its : (a b value : ℕ) → a ≢ b → cond (a == b) value 0 ≡ 0
 not_its a b value h = ap (λ t. cond t value 0) (ne_eqb a b h)
 
-both_more : (a b : ℕ) → (suc a == suc b) ≡ (a == b)
+pub both_more : (a b : ℕ) → (suc a == suc b) ≡ (a == b)
 both_more a b = grind (arith, nat_tests)
 
 totals_of_one : (owner value n : ℕ) → owner < n → totals (λ i. cond (owner == i) value 0) n ≡ value
@@ -190,7 +190,7 @@ no_shares : (updates update x y n : ℕ) → totals (λ i. sum (bursts update (i
 unfolding in_air bursts due_at
 no_shares updates update x y n = totals_of_none n
 
-shares : (updates update x y n : ℕ) (shots : List Shot) → update ≡ updates + 1 → All (λ s. s.owner < n) shots → totals (λ i. sum (bursts update (in_air updates i shots) x y)) n ≡ sum (bursts update shots x y)
+pub shares : (updates update x y n : ℕ) (shots : List Shot) → update ≡ updates + 1 → All (λ s. s.owner < n) shots → totals (λ i. sum (bursts update (in_air updates i shots) x y)) n ≡ sum (bursts update shots x y)
 shares updates update x y n [] e owned = no_shares updates update x y n
 shares updates update x y n (s ∷ shots) e owned =
     let share = λ (i : ℕ). sum (bursts update (in_air updates i shots) x y) in

@@ -26,7 +26,7 @@ sum_knocks leg touched = by_wall (hits_wall (tried leg))
     by_wall true = omega (arith, sum_by-append (λ (x : ℕ). x) (2 ∷ []) (replicate touched 2), sum_by-replicate (λ (x : ℕ). x) touched 2)
     by_wall false = omega (arith, sum_by-replicate (λ (x : ℕ). x) touched 2)
 
-worn_is : (hurts : List ℕ) (leg : Leg) (touched : ℕ) (burst : List ℕ) →
+pub worn_is : (hurts : List ℕ) (leg : Leg) (touched : ℕ) (burst : List ℕ) →
     min (sum (hurts ++ knocks leg touched ++ burst)) 100 ≡ min (min (sum hurts) 100 + cond (hits_wall (tried leg)) 2 0 + 2 * touched + sum burst) 100
 worn_is hurts leg touched burst =
     omega (arith, sum_by-append (λ (x : ℕ). x) (hurts ++ knocks leg touched) burst, sum_by-append (λ (x : ℕ). x) hurts (knocks leg touched), sum_knocks leg touched)

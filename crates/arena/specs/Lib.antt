@@ -15,4 +15,5 @@ pub mod Drive
 pub mod Calm
 pub mod Due
 pub mod Standing
+pub mod Outlook
 pub mod KnownFields

@@ -1,6 +1,6 @@
 //! The arena: a field in play, what it answers to robots, and its updates.
 
-ghost use Rattle.std.specs.Prelude.{◌≡◌, ℕ, ◌+◌, ◌*◌, ◌<◌, ◌≤◌, true, nat_lt, ℤ, pos, All, count_by, length, slice_index_or};
+ghost use Rattle.std.specs.Prelude.{◌≡◌, ℕ, ◌+◌, ◌*◌, ◌-◌, ◌^◌, ◌<◌, ◌≤◌, true, nat_lt, ℤ, pos, All, count_by, length, slice_index_or};
 ghost use Rattle.grammar.specs.declared.names.Intrinsic.TheVariants.{Scan, Cannon, Drive, Damage, Speed, LocX, LocY, Rand, Sqrt, Sin, Cos, Tan, Atan};
 ghost use Rattle.arith.specs.Degree.{degree_of};
 ghost use Rattle.arena.specs.Leg.{last_place, clamped, place_x, place_y};
@@ -11,7 +11,7 @@ ghost use Rattle.arena.specs.Scan.{scanned};
 ghost use Rattle.arena.specs.Start.{start};
 ghost use Rattle.arena.specs.Placed.{placed, IsPlace};
 ghost use Rattle.arena.specs.Answer.{answer, fired, directed, random_number};
-ghost use Rattle.arena.specs.Ground.{most_updates, Body, body_of, lives};
+ghost use Rattle.arena.specs.Ground.{most_updates, Body, body_of, lives, IsWithin};
 ghost use Rattle.arena.specs.Standing.{StandsFor};
 
 use crate::limits::MOST_ROBOTS;
@@ -225,10 +225,42 @@ impl Arena {
         let _ = &self.updates;
     }
 
+    /// Proves that each robot has its missiles.
+    pub(crate) fn keeps_slots(&self)
+        ensures { length self.now.slots ≡ length self.now.robots }
+    {
+        let _ = &self.updates;
+    }
+
+    /// Returns the number of the next update.
+    pub(crate) fn next_update(&self) -> u32
+        ensures { result ≡ self.now.updates + 1 }
+    {
+        self.updates + 1
+    }
+
+    /// Returns the robots.
+    pub(crate) fn robots(&self) -> &[Robot]
+        ensures value { result.now ≡ self.now.robots }
+        ensures most { length result.now ≤ MOST_ROBOTS }
+        ensures way { All (λ (b : Body). IsWithin (2 ^ 50 - 1) b.track) result.now }
+    {
+        self.robots.as_slice()
+    }
+
+    /// Returns the missiles in the air.
+    pub(crate) fn missiles(&self) -> &Missiles
+        ensures value { result.now ≡ self.now.slots }
+        ensures count { length result.now ≡ length self.now.robots }
+    {
+        &self.missiles
+    }
+
     /// Returns the robot of a number.
-    fn robot(&self, robot: usize) -> &Robot
+    pub(crate) fn robot(&self, robot: usize) -> &Robot
         requires { robot < length self.now.robots }
         ensures value { result.now ≡ slice_index_or self.now.robots robot (body_of no_robot) }
+        ensures way { IsWithin (2 ^ 50 - 1) result.now.track }
         ensures stands { (f : Field) → StandsFor self.now f → result.now ≡ body_of (robot_at f robot) }
     {
         &self.robots[robot]

@@ -104,7 +104,7 @@ impl Mover {
 
     /// Reports whether two robots collide.
     #[tactic(auto, unfolding(crate::specs::Collisions::collides))]
-    fn collides(&self, other: &Mover) -> bool
+    pub fn collides(&self, other: &Mover) -> bool
         ensures { result ≡ collides self.now other.now }
     {
         self.live

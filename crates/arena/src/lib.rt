@@ -3,12 +3,14 @@
 #![tactic(auto)]
 
 mod arenas;
+mod bursts;
 mod collisions;
 mod known;
 pub mod laws;
 mod limits;
 mod missiles;
 mod motion;
+mod outlook;
 mod robots;
 mod scans;
 mod slots;
@@ -17,5 +19,6 @@ mod updates;
 mod words;
 
 pub use arenas::Arena;
+pub use bursts::Burst;
 pub use known::known_fields;
-pub use limits::{LAST_PLACE, MOST_ROBOTS};
+pub use limits::{LAST_PLACE, MOST_BURSTS, MOST_ROBOTS};

@@ -1,16 +1,20 @@
 //! The missiles of all robots that are in the air, and the update before which none of them bursts.
 
-ghost use Rattle.std.specs.Prelude.{◌≡◌, ℕ, ◌+◌, ◌<◌, ◌≤◌, ◌++◌, ◌∷◌, [], List, All, map, sum, true, nat_lt, length, slice_index_or};
+ghost use Rattle.std.specs.Prelude.{◌≡◌, ℕ, ◌+◌, ◌<◌, ◌≤◌, ◌++◌, ◌∷◌, [], List, All, map, flat_map, sum, true, nat_lt, length, slice_index_or};
+ghost use Rattle.std.specs.List.{range_with_len};
 ghost use Rattle.arena.specs.Leg.{last_place};
 ghost use Rattle.arena.specs.Field.{Shot};
 ghost use Rattle.arena.specs.Shots.{bursts, in_air};
 ghost use Rattle.arena.specs.Ground.{shot_of};
 ghost use Rattle.arena.specs.Standing.{HoldsShots};
 ghost use Rattle.arena.specs.Due.{harm};
+ghost use Rattle.arena.specs.Outlook.{own_bursts};
 
+use crate::bursts::Burst;
 use crate::limits::{MOST_BURSTS, MOST_ROBOTS};
 use crate::slots::{
-    Missile, Slots, damage_at, due, fire, land, may_fire, next_burst, no_missiles, none_flies,
+    Missile, Slots, bursts, damage_at, due, fire, land, may_fire, next_burst, no_missiles,
+    none_flies,
 };
 use arrayvec::ArrayVec;
 use std::marker::Model;
@@ -106,6 +110,14 @@ impl Missiles {
             → HoldsShots updates self.now shots → sum (map (harm x y) result.items) ≡ sum (bursts update shots x y) }
     {
         due(self.slots.as_slice(), update)
+    }
+
+    /// Returns the bursts of an update, robot by robot.
+    pub fn bursts(&self, update: u32) -> ArrayVec<Burst, MOST_BURSTS>
+        ensures { (updates : ℕ) (shots : List Shot) → HoldsShots updates self.now shots
+            → result.items ≡ flat_map (own_bursts update updates shots) (range_with_len 0 (length self.now)) }
+    {
+        bursts(self.slots.as_slice(), update)
     }
 
     /// Frees the missiles that burst in an update or before.

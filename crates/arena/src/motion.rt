@@ -121,6 +121,14 @@ impl Motion {
         self.y
     }
 
+    /// Returns the present heading, in degrees.
+    pub fn heading(&self) -> u16
+        ensures value { result ≡ self.now.heading }
+        ensures most { result < 360 }
+    {
+        self.heading
+    }
+
     /// Returns the present speed, in percent.
     pub fn speed(&self) -> u8
         ensures value { result ≡ self.now.speed }

@@ -1,7 +1,7 @@
 //! Robots: how they move and how much they were hurt.
 
-ghost use Rattle.std.specs.Prelude.{◌≡◌, ℕ, ◌+◌, ◌*◌, ◌^◌, ◌<◌, ◌≤◌, true, min, nat_lt, unsigned_abs};
-ghost use Rattle.arena.specs.Leg.{last_place};
+ghost use Rattle.std.specs.Prelude.{◌≡◌, ℕ, ◌+◌, ◌*◌, ◌^◌, ◌-◌, ◌<◌, ◌≤◌, ◌&&◌, true, min, nat_lt, unsigned_abs};
+ghost use Rattle.arena.specs.Leg.{last_place, tried, hits_wall};
 ghost use Rattle.arena.specs.Field.{Robot as FieldRobot, is_alive, metres_x, metres_y};
 ghost use Rattle.arena.specs.Collisions.{mover};
 ghost use Rattle.arena.specs.Start.{standing};
@@ -106,6 +106,14 @@ impl Robot {
         self.y() / TENTHS
     }
 
+    /// Returns the present heading, in degrees.
+    pub fn heading(&self) -> u16
+        ensures value { result ≡ self.now.track.heading }
+        ensures most { result < 360 }
+    {
+        self.motion.heading()
+    }
+
     /// Returns the present speed, in percent.
     pub fn speed(&self) -> u8
         ensures value { result ≡ self.now.track.speed }
@@ -162,6 +170,25 @@ impl Robot {
         let from_y = self.y();
         self.drive();
         Mover::new(live, from_x, from_y, self.x(), self.y())
+    }
+
+    /// Returns what collisions of the next update have to know.
+    pub fn mover(&self) -> Mover
+        requires { IsWithin (2 ^ 50 - 1) self.now.track }
+        ensures { (robot : FieldRobot) → self.now ≡ body_of robot → result ≡ mover robot }
+    {
+        let mut ahead = *self;
+        ahead.drive_on()
+    }
+
+    /// Reports whether the robot lives, and a wall stops it in the next update.
+    pub fn meets_wall(&self) -> bool
+        requires { IsWithin (2 ^ 50 - 1) self.now.track }
+        ensures { (robot : FieldRobot) → self.now ≡ body_of robot
+            → result ≡ (is_alive robot && hits_wall (tried robot.leg)) }
+    {
+        let mut motion = self.motion;
+        self.is_alive() && motion.drive_on()
     }
 
     /// Returns how far two robots are from each other in tenths of a metre, on the axis on which they are further

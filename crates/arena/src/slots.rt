@@ -1,14 +1,17 @@
 //! Missiles: where and when they burst, and which of each robot's are in the air.
 
-ghost use Rattle.std.specs.Prelude.{◌≡◌, ℕ, ◌+◌, ◌*◌, ◌<◌, ◌≤◌, ◌++◌, ◌∷◌, [], ◌==◌, ℤ, pos, ◌*ℤ◌, unsigned_abs, List, All, filter, map, sum, true, nat_lt, length, slice_index_or};
+ghost use Rattle.std.specs.Prelude.{◌≡◌, ℕ, ◌+◌, ◌*◌, ◌<◌, ◌≤◌, ◌++◌, ◌∷◌, [], ◌==◌, ℤ, pos, ◌*ℤ◌, unsigned_abs, List, All, filter, map, flat_map, sum, true, nat_lt, length, slice_index_or};
+ghost use Rattle.std.specs.List.{range_with_len};
 ghost use Rattle.arena.specs.Leg.{last_place, clamped, along};
 ghost use Rattle.arena.specs.Field.{Shot};
 ghost use Rattle.arena.specs.Shots.{aimed_x, aimed_y, bursts, flight, in_air, ring};
 ghost use Rattle.arena.specs.Ground.{most_updates, shot_of};
 ghost use Rattle.arena.specs.Rest.{NoneBefore};
 ghost use Rattle.arena.specs.Due.{harm};
+ghost use Rattle.arena.specs.Outlook.{burst_by, own_bursts};
 ghost use Rattle.arena.specs.Standing.{HoldsShots};
 
+use crate::bursts::Burst;
 use crate::collisions::square;
 use crate::limits::{MOST_BURSTS, MOST_MISSILES, MOST_ROBOTS};
 use crate::motion::{along, clamped};
@@ -20,7 +23,7 @@ use std::marker::Model;
 const FLIGHT: u16 = 50;
 
 /// The radius of the widest ring of a burst, in tenths of a metre.
-const LAST_RING: u16 = 400;
+pub const LAST_RING: u16 = 400;
 
 /// A missile in the air: the update in which it bursts, and the place of the burst in tenths of a
 /// metre.
@@ -138,7 +141,7 @@ fn aimed(from: u16, range: u16, part: i32) -> u16
 /// Returns the damage in percent of a burst at a squared distance in tenths of a metre: by the smallest ring of 5, 20
 /// and 40 metres.
 #[tactic(auto, unfolding(crate::specs::Shots::ring))]
-fn ring(square: u32) -> u8
+pub fn ring(square: u32) -> u8
     ensures value { result ≡ ring square }
     ensures most { result ≤ 10 }
 {
@@ -223,6 +226,21 @@ impl Slots {
         for missile in self.missiles.as_slice() {
             if missile.burst == update {
                 due.push(*missile);
+            }
+        }
+    }
+
+    /// Adds the bursts of an update, of missiles that this robot fired.
+    #[tactic(auto, using(crate::proofs::DueBursts::missile_more), unfolding(crate::specs::Outlook::burst_by, crate::specs::Outlook::burst_of, crate::specs::Ground::shot_of))]
+    fn add_bursts(&self, robot: usize, update: u32, bursts: &mut ArrayVec<Burst, MOST_BURSTS>)
+        requires { length bursts.old.items + 2 ≤ MOST_BURSTS }
+        ensures bursts { bursts.new.items
+            ≡ bursts.old.items ++ map (burst_by robot) (filter (λ m. m.burst == update) self.now) }
+        ensures most { length bursts.new.items ≤ length bursts.old.items + 2 }
+    {
+        for missile in self.missiles.as_slice() {
+            if missile.burst == update {
+                bursts.push(Burst::new(robot, missile.x, missile.y));
             }
         }
     }
@@ -354,6 +372,19 @@ pub fn due(slots: &[Slots], update: u32) -> ArrayVec<Missile, MOST_BURSTS>
         own.add_due(update, &mut due);
     }
     due
+}
+
+/// Returns the bursts of an update, robot by robot.
+pub fn bursts(slots: &[Slots], update: u32) -> ArrayVec<Burst, MOST_BURSTS>
+    requires { length slots.now ≤ MOST_ROBOTS }
+    ensures { (updates : ℕ) (shots : List Shot) → HoldsShots updates slots.now shots
+        → result.items ≡ flat_map (own_bursts update updates shots) (range_with_len 0 (length slots.now)) }
+{
+    let mut bursts = ArrayVec::new();
+    for (robot, own) in slots.iter().enumerate() {
+        own.add_bursts(robot, update, &mut bursts);
+    }
+    bursts
 }
 
 /// Returns the damage in percent that missiles which burst do at a place in tenths of a metre.

@@ -216,3 +216,37 @@ fn hurts_itself_and_outlives_its_owner(rt: HostRuntime) {
     arena.update();
     assert_eq!(rt; (arena.damage(0), arena.damage(1)), (100, 10));
 }
+
+#[test]
+fn foretells_walls_and_collisions(rt: HostRuntime) {
+    let mut arena = arena_of(&[(9995, 5000), (1000, 1000), (1015, 1000), (1018, 1000)]);
+    assert_eq!(rt; reply(&rt, &mut arena, 0, Intrinsic::Drive, [0, 100]), 1);
+    assert_eq!(rt; reply(&rt, &mut arena, 1, Intrinsic::Drive, [0, 100]), 1);
+    assert_eq!(rt; arena.robot_count(), 4);
+    assert!(rt; arena.meets_wall(0) && !arena.meets_wall(1));
+    assert!(rt; arena.meets(1, 2) && arena.meets(2, 1) && arena.meets(1, 3));
+    assert!(rt; !arena.meets(2, 3) && !arena.meets(1, 1) && !arena.meets(0, 1));
+    arena.update();
+    assert_eq!(rt; (arena.damage(0), arena.damage(1)), (2, 4));
+    assert_eq!(rt; (arena.damage(2), arena.damage(3)), (2, 2));
+    assert!(rt; !arena.meets_wall(0) && !arena.meets(1, 2));
+}
+
+#[test]
+fn foretells_bursts(rt: HostRuntime) {
+    let mut arena = arena_of(&[(1000, 1000), (2045, 1000)]);
+    assert_eq!(rt; reply(&rt, &mut arena, 0, Intrinsic::Cannon, [0, 100]), 1);
+    assert_eq!(rt; reply(&rt, &mut arena, 1, Intrinsic::Drive, [90, 100]), 1);
+    assert!(rt; arena.due().is_empty());
+    arena.update();
+    assert_eq!(rt; (arena.heading(1), arena.speed(1)), (90, 10));
+    assert_eq!(rt; arena.due().len(), 1);
+    for burst in arena.due().as_slice() {
+        assert_eq!(rt; (burst.robot(), burst.x(), burst.y()), (0, 2000, 1000));
+        assert_eq!(rt; arena.taken_by(0, burst), 0);
+        assert_eq!(rt; arena.taken_by(1, burst), 5, "at (2045, 1030)");
+    }
+    arena.update();
+    assert_eq!(rt; (arena.damage(0), arena.damage(1)), (0, 5));
+    assert!(rt; arena.due().is_empty());
+}

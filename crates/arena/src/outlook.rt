@@ -1,0 +1,114 @@
+//! What the next update will do, asked before it is done: it changes nothing.
+
+ghost use Rattle.std.specs.Prelude.{◌≡◌, ℕ, ◌^◌, ◌-◌, ◌<◌, ◌≤◌, true, List, All, map, length};
+ghost use Rattle.arena.specs.Leg.{last_place, place_x, place_y};
+ghost use Rattle.arena.specs.Field.{Robot as FieldRobot, Field, robot_at, is_live};
+ghost use Rattle.arena.specs.Collisions.{mover, touches};
+ghost use Rattle.arena.specs.Ground.{Body, body_of, lives, IsWithin};
+ghost use Rattle.arena.specs.Standing.{StandsFor};
+ghost use Rattle.arena.specs.Outlook.{due, meets_wall, meets, next_leg, taken_by};
+
+use crate::arenas::Arena;
+use crate::bursts::Burst;
+use crate::collisions::{Mover, touches};
+use crate::limits::{MOST_BURSTS, MOST_ROBOTS};
+use crate::robots::Robot;
+use arrayvec::ArrayVec;
+
+impl Arena {
+    /// Returns how many robots there are, the dead ones included: 2 to 4.
+    pub fn robot_count(&self) -> usize
+        ensures value { result ≡ length self.now.robots }
+        ensures stands { (f : Field) → StandsFor self.now f → result ≡ length f.robots }
+    {
+        self.robots().len()
+    }
+
+    /// Returns the heading in which a robot moves, in degrees from 0 to 359: not the one that it wants.
+    pub fn heading(&self, robot: usize) -> u16
+        requires { robot < length self.now.robots }
+        ensures most { result < 360 }
+        ensures stands { (f : Field) → StandsFor self.now f → result ≡ (robot_at f robot).leg.heading }
+    {
+        self.robot(robot).heading()
+    }
+
+    /// Returns the speed at which a robot moves, in percent: not the one that it wants.
+    pub fn speed(&self, robot: usize) -> u8
+        requires { robot < length self.now.robots }
+        ensures most { result ≤ 100 }
+        ensures stands { (f : Field) → StandsFor self.now f → result ≡ (robot_at f robot).leg.speed }
+    {
+        self.robot(robot).speed()
+    }
+
+    /// Returns the missiles that burst in the next update, robot by robot, each robot's in the order in which it fired
+    /// them.
+    pub fn due(&self) -> ArrayVec<Burst, MOST_BURSTS>
+        ensures { (f : Field) → StandsFor self.now f → result.items ≡ due f }
+    {
+        self.missiles().bursts(self.next_update())
+    }
+
+    /// Reports whether a wall stops a robot in the next update, which takes 2 percent. None stops a dead robot.
+    pub fn meets_wall(&self, robot: usize) -> bool
+        requires { robot < length self.now.robots }
+        ensures { (f : Field) → StandsFor self.now f → result ≡ meets_wall f robot }
+    {
+        self.robot(robot).meets_wall()
+    }
+
+    /// Reports whether two robots collide in the next update, which takes 2 percent from each. No robot meets itself,
+    /// and none meets a dead one.
+    pub fn meets(&self, a: usize, b: usize) -> bool
+        requires a { a < length self.now.robots }
+        requires b { b < length self.now.robots }
+        ensures { (f : Field) → StandsFor self.now f → result ≡ meets f a b }
+    {
+        a != b && self.robot(a).mover().collides(&self.robot(b).mover())
+    }
+
+    /// Returns what a burst takes from a robot in the next update, in percent, at the place where the robot then is: 0,
+    /// 3, 5 or 10. It takes nothing from a dead robot.
+    pub fn taken_by(&self, robot: usize, burst: &Burst) -> u8
+        requires { robot < length self.now.robots }
+        ensures most { result ≤ 10 }
+        ensures stands { (f : Field) → StandsFor self.now f → result ≡ taken_by f robot burst.now }
+    {
+        if !self.alive(robot) {
+            return 0;
+        }
+        let (x, y) = self.next_place(robot);
+        burst.harm(x, y)
+    }
+
+    /// Returns where a live robot is after the next update, east and north, in tenths of a metre.
+    fn next_place(&self, robot: usize) -> (u16, u16)
+        requires inside { robot < length self.now.robots }
+        requires live { lives self.now robot ≡ true }
+        ensures x { (f : Field) → StandsFor self.now f → result.0 ≡ place_x (next_leg f robot) }
+        ensures y { (f : Field) → StandsFor self.now f → result.1 ≡ place_y (next_leg f robot) }
+        ensures most_x { result.0 ≤ last_place }
+        ensures most_y { result.1 ≤ last_place }
+    {
+        let movers = movers(self.robots());
+        let mut ahead = *self.robot(robot);
+        let seen = ahead.drive_on();
+        let motion = ahead.settled(&seen, touches(movers.as_slice(), robot));
+        (motion.x(), motion.y())
+    }
+}
+
+/// Returns what collisions of the next update have to know of some robots.
+fn movers(robots: &[Robot]) -> ArrayVec<Mover, MOST_ROBOTS>
+    requires most { length robots.now ≤ MOST_ROBOTS }
+    requires way { All (λ (b : Body). IsWithin (2 ^ 50 - 1) b.track) robots.now }
+    ensures movers { (rs : List FieldRobot) → robots.now ≡ map body_of rs → result.items ≡ map mover rs }
+    ensures count { length result.items ≡ length robots.now }
+{
+    let mut movers = ArrayVec::new();
+    for robot in robots {
+        movers.push(robot.mover());
+    }
+    movers
+}
