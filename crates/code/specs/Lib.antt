@@ -2,6 +2,7 @@ pub mod Functions
 pub mod Values
 pub mod Generation
 pub mod Machine
+pub mod Causes
 pub mod Meaning
 pub mod Making
 pub mod Told

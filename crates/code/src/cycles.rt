@@ -3,10 +3,12 @@
 ghost use Rattle.std.specs.Prelude.{◌≡◌, ◌-◌, ◌<◌, ◌≤◌, ◌≢◌, ℤ, List, [], ◌∷◌, ◌++◌};
 ghost use Rattle.grammar.specs.declared.names.Intrinsic.{Intrinsic};
 ghost use Rattle.code.specs.Machine.{want_next, want_code};
+ghost use Rattle.code.specs.Causes.{cause_next};
 ghost use Rattle.code.specs.Places.{state_at};
 ghost use Rattle.code.specs.Standing.{IsReached, FitsProgram, HasCoasted};
 ghost use Rattle.code.specs.declared.want.Want.TheVariants.{Restart};
 
+use crate::cause::Cause;
 use crate::cells::{Cells, Place};
 use crate::program::Program;
 use crate::want::Want;
@@ -40,6 +42,15 @@ impl Cells {
     {
         let opcode = self.opcode(program, place);
         self.asked_or_restart(program, place, opcode)
+    }
+
+    /// Returns why the machine wants a restart, if it does.
+    pub(crate) fn cause(&self, program: &Program, place: Place) -> Option<Cause>
+        requires { FitsProgram (state_at place self.now) program.now }
+        ensures { result ≡ cause_next program.now (state_at place self.now) }
+    {
+        let opcode = self.opcode(program, place);
+        self.lacking(program, place, opcode)
     }
 
     /// Takes the reply to what the machine wants, which isn't a restart.

@@ -1,6 +1,7 @@
 //! The code of a robot program: instructions, the builder that makes them, the listing, and the machine.
 #![tactic(auto)]
 
+mod cause;
 mod cells;
 mod cycles;
 mod frame;
@@ -20,6 +21,7 @@ mod text;
 mod values;
 mod want;
 
+pub use cause::Cause;
 pub use frame::Frame;
 pub use grammar::{Intrinsic, Profile};
 pub use instr::Instr;
