@@ -1,9 +1,10 @@
 -- What compiling gives and writes, file by file.
 use Rattle.std.proofs.Common.{◌≡◌, ℕ, ◌+◌, ◌<◌, ◌≤◌, List, [], ◌∷◌, ◌++◌, length, take, drop, get_or, map, Option, Some, None, Result, Ok, Err, refl, sym, ap, ◌∙◌, subst, arith}
-use Rattle.std.specs.Prelude.{option_map}
+use Rattle.std.specs.Prelude.{option_map, IfSome}
 use Rattle.std.proofs.lemmas.List.Sums.{fold-append}
 use Rattle.std.proofs.lemmas.List.{take_more, map-append, take-append-drop, append-nil}
 use Rattle.std.proofs.lemmas.Grind.{flat_map-append}
+use Rattle.battles.specs.Programs.{AreOfProfile}
 use Rattle.grammar.specs.Profile.{Profile}
 use Rattle.grammar.specs.declared.diagnostics.Diagnostic.{Diagnostic}
 use Rattle.grammar.specs.Compiled.{compiled}
@@ -12,7 +13,7 @@ use Rattle.code.specs.Generation.{ObjectCode, code_of}
 use Rattle.settings.specs.declared.settings.Mode.{Mode}
 use Rattle.series.specs.Compiling.{Source, and_file, files_of, codes_of, code_or_fault, compiled_code, pieces_of, source_pieces, status_of, compiling}
 use Rattle.series.specs.Pieces.{Taken, Writes, Begins}
-use Rattle.series.specs.Runs.{and_code, both, count_of, kept_by, status_by}
+use Rattle.series.specs.Keeping.{and_code, and_compiled, both, count_of, kept_by, KeepsMore, status_by}
 use Rattle.series.specs.declared.endings.Status.{Status}
 use Rattle.series.specs.declared.endings.Status.TheVariants.{Done, Faulty}
 use Rattle.sinks.specs.Texts.{file_name}
@@ -58,12 +59,27 @@ kept_more profile sources file kept code within so_far is = rw (so_far, is)
     (sym (ap (λ files. option_map (λ files. map (code_of profile) files) files) (files_more profile sources file within)
     ∙ codes_and_file profile (files_of profile (take file sources)) (compiled profile (get_or sources file no_source).bytes)))
 
--- the programs kept so far and of one more file
-pub kept_both : (so_far one : Status) (kept after : List ObjectCode) (code : Result ObjectCode Diagnostic) → kept_by one after ≡ and_code (Some kept) code
-    → kept_by (both so_far one) after ≡ and_code (kept_by so_far kept) code
-kept_both Done one kept after code is = is
-kept_both Faulty one kept after (Ok code) is = refl
-kept_both Faulty one kept after (Err d) is = refl
+-- the programs kept of the files so far, with what is kept of one more
+kept_of : (so_far : Status) (kept codes : Option (List ObjectCode)) (code : Result ObjectCode Diagnostic) → IfSome kept (λ k. kept_by so_far k ≡ codes)
+    → IfSome (and_compiled kept code) (λ k. kept_by (both so_far (status_by code)) k ≡ and_code codes code)
+kept_of so_far None codes (Ok code) are = tt
+kept_of so_far None codes (Err d) are = tt
+kept_of Done (Some kept) codes (Ok code) are = ap (λ c. and_code c (Ok code)) are
+kept_of Done (Some kept) codes (Err d) are = ap (λ c. and_code c (Err d)) are
+kept_of Faulty (Some kept) codes (Ok code) are = ap (λ c. and_code c (Ok code)) are
+kept_of Faulty (Some kept) codes (Err d) are = ap (λ c. and_code c (Err d)) are
+
+-- those with one source more
+pub kept_with : (profile : Profile) (sources : List Source) (file : ℕ) (so_far one : Status) (kept after : Option (List ObjectCode)) → file < length sources
+    → IfSome kept (λ k. kept_by so_far k ≡ codes_of profile (take file sources))
+    → one ≡ status_by (compiled_code profile (get_or sources file no_source).bytes)
+    → after ≡ and_compiled kept (compiled_code profile (get_or sources file no_source).bytes)
+    → IfSome after (λ k. kept_by (both so_far one) k ≡ codes_of profile (take (file + 1) sources))
+kept_with profile sources file so_far one kept after within are is adds =
+    let code : Result ObjectCode Diagnostic = compiled_code profile (get_or sources file no_source).bytes in
+    let P : Option (List ObjectCode) → Type 0 = λ codes. IfSome after (λ k. kept_by (both so_far one) k ≡ codes) in
+    subst P (kept_more profile sources file (codes_of profile (take file sources)) code within refl refl)
+    (rw (is, adds) (kept_of so_far kept (codes_of profile (take file sources)) code are))
 
 -- how many they are
 pub manned_more : (so_far one : Status) (file kept after : ℕ) → after ≡ kept + count_of one → kept ≤ file → (so_far ≡ Done → kept ≡ file)
@@ -72,6 +88,46 @@ manned_more Done Done file kept after is most all = (omega (arith, is, most), λ
 manned_more Done Faulty file kept after is most all = (omega (arith, is, most), λ done. cc)
 manned_more Faulty Done file kept after is most all = (omega (arith, is, most), λ done. cc)
 manned_more Faulty Faulty file kept after is most all = (omega (arith, is, most), λ done. cc)
+
+-- of the files so far one program each is kept, unless one was faulty
+abbrev pub IsManned : Status → ℕ → List ObjectCode → Type 0
+IsManned so_far file kept = (length kept ≤ file) × (so_far ≡ Done → length kept ≡ file)
+
+pub manned_with : (so_far one : Status) (file : ℕ) (kept after : Option (List ObjectCode)) → KeepsMore one kept after
+    → IfSome kept (λ k. IsManned so_far file k) → IfSome after (λ k. IsManned (both so_far one) (file + 1) k)
+manned_with so_far one file kept None more are = tt
+manned_with so_far one file None (Some after) more are = absurd cc
+manned_with so_far one file (Some kept) (Some after) more are =
+    let is : length after ≡ length kept + count_of one = cc in
+    manned_more so_far one file (length kept) (length after) is are.0 are.1
+
+-- so there is room for the program of one more file
+pub room_left : (so_far : Status) (file files : ℕ) (kept : Option (List ObjectCode)) → file < files → files ≤ 4 → IfSome kept (λ k. IsManned so_far file k)
+    → IfSome kept (λ k. length k < 4)
+room_left so_far file files None within most are = tt
+room_left so_far file files (Some kept) within most are = omega (arith, are.0)
+
+-- and at the end one program for each
+pub all_manned : (so_far : Status) (file files : ℕ) (kept : Option (List ObjectCode)) → file ≡ files → so_far ≡ Done → IfSome kept (λ k. IsManned so_far file k)
+    → IfSome kept (λ k. length k ≡ files)
+all_manned so_far file files None end done are = tt
+all_manned so_far file files (Some kept) end done are = are.1 done ∙ end
+
+-- at the beginning nothing is kept
+pub none_manned : (kept : Option (List ObjectCode)) → IfSome kept (λ k. k ≡ []) → IfSome kept (λ k. IsManned Done 0 k)
+none_manned None are = tt
+none_manned (Some kept) are = (rw are (omega arith), λ done. rw are refl)
+
+pub none_kept : (kept : Option (List ObjectCode)) → IfSome kept (λ k. k ≡ []) → IfSome kept (λ k. Some k ≡ Some [])
+none_kept None are = tt
+none_kept (Some kept) are = ap (λ (l : List ObjectCode). Some l) are
+
+pub none_other : (profile : Profile) (kept : Option (List ObjectCode)) → IfSome kept (λ k. k ≡ []) → IfSome kept (λ k. AreOfProfile profile k)
+none_other profile None are = tt
+none_other profile (Some kept) are =
+    let P : List ObjectCode → Type 0 = λ l. AreOfProfile profile l in
+    let none : P [] = λ k d below. absurd (omega arith) in
+    subst P (sym are) none
 
 -- the pieces of one source more
 compiling_more : (mode : Mode) (profile : Profile) (sources : List Source) (file : ℕ) → file < length sources

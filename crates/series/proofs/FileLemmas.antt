@@ -1,6 +1,6 @@
 -- What compiling one file writes.
-use Rattle.std.specs.Prelude.{slice_get}
-use Rattle.std.proofs.Common.{length, ◌≡◌, ℕ, List, [], ◌∷◌, ◌++◌, Some, None, Result, Ok, Err, refl, sym, ap, ◌∙◌, subst, inl}
+use Rattle.std.specs.Prelude.{slice_get, IfSome}
+use Rattle.std.proofs.Common.{length, ◌≡◌, ℕ, List, [], ◌∷◌, ◌++◌, Option, Some, None, Result, Ok, Err, refl, sym, ap, ◌∙◌, subst, inl, add-zero, length-append}
 use Rattle.std.proofs.lemmas.List.Elements.{All-push}
 use Rattle.battles.specs.Programs.{AreOfProfile}
 use Rattle.grammar.specs.Profile.{Profile}
@@ -10,13 +10,15 @@ use Rattle.grammar.specs.Texts.{text_of}
 use Rattle.grammar.specs.Tree.{File}
 use Rattle.code.specs.Generation.{ObjectCode, code_of}
 use Rattle.code.specs.Listing.{listing_of}
+use Rattle.series.specs.Failures.{CountsSink}
 use Rattle.settings.specs.declared.settings.Mode.{Mode}
-use Rattle.settings.specs.declared.settings.Mode.TheVariants.{Listing, Matches}
-use Rattle.series.specs.Compiling.{code_or_fault, compiled_code, pieces_of}
-use Rattle.series.specs.Pieces.{taken, Writes, Begins}
-use Rattle.series.specs.Runs.{and_code, status_by}
+use Rattle.settings.specs.declared.settings.Mode.TheVariants.{Listing}
+use Rattle.series.specs.Compiling.{code_or_fault, compiled_code, listed, listing_piece, pieces_of}
+use Rattle.series.specs.Pieces.{Taken, taken, Writes, Begins}
+use Rattle.series.specs.Keeping.{and_compiled, and_program, KeepsMore, status_by}
+use Rattle.series.specs.Runs.{PutsPieces}
 use Rattle.series.specs.declared.endings.Status.TheVariants.{Done, Faulty}
-use Rattle.sinks.specs.Portions.{Portions, Takes, TakesFront}
+use Rattle.sinks.specs.Portions.{Portions, Puts, Takes, TakesFront}
 use Rattle.sinks.specs.Texts.{diagnostic_line}
 
 -- a good file's code
@@ -25,26 +27,36 @@ pub good_code : (profile : Profile) (bytes : List ℕ) (file : File) (code : Obj
 good_code profile bytes file code is made = rw made (ap (code_or_fault profile) is)
 
 -- a good file's program is kept
-pub good_kept : (profile : Profile) (bytes : List ℕ) (file : File) (code : ObjectCode) (kept after : List ObjectCode)
-    → compiled profile bytes ≡ Ok file → code ≡ code_of profile file → after ≡ kept ++ code ∷ []
-    → Some after ≡ and_code (Some kept) (compiled_code profile bytes)
-good_kept profile bytes file code kept after is made adds = rw (good_code profile bytes file code is made, adds) refl
+pub good_kept : (profile : Profile) (bytes : List ℕ) (code : ObjectCode) (kept after : Option (List ObjectCode))
+    → compiled_code profile bytes ≡ Ok code → after ≡ and_program kept code → after ≡ and_compiled kept (compiled_code profile bytes)
+good_kept profile bytes code kept after is adds = adds ∙ sym (ap (and_compiled kept) is)
+
+-- one program more
+pub good_more : (code : ObjectCode) (kept after : Option (List ObjectCode)) → after ≡ and_program kept code → KeepsMore Done kept after
+good_more code None after adds = rw adds refl
+good_more code (Some kept) after adds = rw (adds, length-append kept (code ∷ [])) refl
 
 -- the programs kept so far are of a good file's profile
-pub alike : (profile : Profile) (file : File) (code : ObjectCode) (kept : List ObjectCode) → code ≡ code_of profile file
-    → AreOfProfile profile kept → AreOfProfile code.profile kept
-alike profile file code kept made each = rw (ap (λ (c : ObjectCode). c.profile) made) each
+pub alike : (profile : Profile) (file : File) (code : ObjectCode) (kept : Option (List ObjectCode)) → code ≡ code_of profile file
+    → IfSome kept (λ k. AreOfProfile profile k) → IfSome kept (λ k. AreOfProfile code.profile k)
+alike profile file code None made each = tt
+alike profile file code (Some kept) made each = rw (ap (λ (c : ObjectCode). c.profile) made) each
 
 -- and with its program they are
-pub alike_more : (profile : Profile) (file : File) (code : ObjectCode) (kept after : List ObjectCode) → code ≡ code_of profile file
-    → AreOfProfile profile kept → after ≡ kept ++ code ∷ [] → AreOfProfile profile after
-alike_more profile file code kept after made each adds =
+pub alike_more : (profile : Profile) (file : File) (code : ObjectCode) (kept after : Option (List ObjectCode)) → code ≡ code_of profile file
+    → IfSome kept (λ k. AreOfProfile profile k) → after ≡ and_program kept code → IfSome after (λ k. AreOfProfile profile k)
+alike_more profile file code None after made each adds = rw adds tt
+alike_more profile file code (Some kept) after made each adds =
     rw adds (All-push (λ (c : ObjectCode). c.profile ≡ profile) kept code each (ap (λ (c : ObjectCode). c.profile) made))
 
--- of a faulty one none is
-pub faulty_kept : (profile : Profile) (bytes : List ℕ) (d : Diagnostic) (kept : List ObjectCode) → compiled profile bytes ≡ Err d
-    → None ≡ and_code (Some kept) (compiled_code profile bytes)
+-- of a faulty one none is kept
+pub faulty_kept : (profile : Profile) (bytes : List ℕ) (d : Diagnostic) (kept : Option (List ObjectCode)) → compiled profile bytes ≡ Err d
+    → kept ≡ and_compiled kept (compiled_code profile bytes)
 faulty_kept profile bytes d kept bad = rw (ap (code_or_fault profile) bad) refl
+
+pub faulty_more : (kept : Option (List ObjectCode)) → KeepsMore Faulty kept kept
+faulty_more None = refl
+faulty_more (Some kept) = rw add-zero refl
 
 -- whether a file is good
 pub good_status : (profile : Profile) (bytes : List ℕ) (code : ObjectCode) → compiled_code profile bytes ≡ Ok code
@@ -85,22 +97,31 @@ of_last P kept after code found file adds is here holds =
     let same : found ≡ code = cc in
     subst P same holds
 
--- a good file's listing was put, if it was asked for
-pub listing_put : (mode : Mode) (profile : Profile) (name bytes : List ℕ) (code : ObjectCode) (before after faults : Portions)
-    → compiled_code profile bytes ≡ Ok code → (mode ≡ Listing → Takes before after (listing_of name code)) → (mode ≡ Matches → after ≡ before)
-    → Writes (taken before faults) (taken after faults) (pieces_of mode name (compiled_code profile bytes))
-listing_put Listing profile name bytes code before after faults is takes none =
-    let P : Result ObjectCode Diagnostic → Type 0 = λ r. Writes (taken before faults) (taken after faults) (pieces_of Listing name r) in
-    subst P (sym is) (taken after faults, (takes refl, refl), refl)
-listing_put Matches profile name bytes code before after faults is takes none =
-    let P : Result ObjectCode Diagnostic → Type 0 = λ r. Writes (taken before faults) (taken after faults) (pieces_of Matches name r) in
-    subst P (sym is) (ap (λ l. taken l faults) (none refl))
+-- what a good file's program gives was put
+pub good_put : (mode : Mode) (profile : Profile) (name bytes : List ℕ) (code : ObjectCode) (before after : Taken)
+    → compiled_code profile bytes ≡ Ok code → Writes before after (listed mode (listing_piece name code))
+    → Writes before after (pieces_of mode name (compiled_code profile bytes))
+good_put mode profile name bytes code before after is writes =
+    let P : Result ObjectCode Diagnostic → Type 0 = λ r. Writes before after (pieces_of mode name r) in
+    subst P (sym is) writes
 
 -- it was cut
-pub listing_cut : (mode : Mode) (profile : Profile) (name bytes : List ℕ) (code : ObjectCode) (before after faults : Portions)
-    → compiled_code profile bytes ≡ Ok code → (mode ≡ Listing → TakesFront before after (listing_of name code)) → (mode ≡ Matches → ⊥)
-    → Begins (taken before faults) (taken after faults) (pieces_of mode name (compiled_code profile bytes))
-listing_cut Listing profile name bytes code before after faults is front never =
-    let P : Result ObjectCode Diagnostic → Type 0 = λ r. Begins (taken before faults) (taken after faults) (pieces_of Listing name r) in
-    subst P (sym is) (inl (front refl, refl))
-listing_cut Matches profile name bytes code before after faults is front never = absurd (never refl)
+pub good_cut : (mode : Mode) (profile : Profile) (name bytes : List ℕ) (code : ObjectCode) (before after : Taken)
+    → compiled_code profile bytes ≡ Ok code → Begins before after (listed mode (listing_piece name code))
+    → Begins before after (pieces_of mode name (compiled_code profile bytes))
+good_cut mode profile name bytes code before after is begins =
+    let P : Result ObjectCode Diagnostic → Type 0 = λ r. Begins before after (pieces_of mode name r) in
+    subst P (sym is) begins
+
+-- what putting a listing left
+pub puts_listing : {T E : Type 0} (result : Result T E) (name : List ℕ) (code : ObjectCode) (before after faults : Portions) (n m : ℕ)
+    → Puts result before n after m (listing_of name code)
+    → PutsPieces result (taken before faults) (taken after faults) (listed Listing (listing_piece name code))
+puts_listing (Ok done) name code before after faults n m puts = (taken after faults, (puts.0, refl), refl)
+puts_listing (Err fault) name code before after faults n m puts = inl (puts.0, refl)
+
+-- and how often the sink failed
+pub puts_counts : {T E : Type 0} (result : Result T E) (bytes : List ℕ) (before after : Portions) (n m : ℕ) → Puts result before n after m bytes
+    → CountsSink result n m
+puts_counts (Ok done) bytes before after n m puts = puts.1
+puts_counts (Err fault) bytes before after n m puts = puts.1

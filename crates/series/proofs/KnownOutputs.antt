@@ -12,8 +12,8 @@ use Rattle.grammar.specs.Texts.{text_of}
 use Rattle.code.specs.Listing.{in_five_columns, name_line, instr_line, function_line}
 use Rattle.code.specs.Spelling.{operator_text, instr_text}
 use Rattle.battles.specs.Battle.{alive}
-use Rattle.matches.specs.Reports.{report}
-use Rattle.matches.specs.Totals.{totals}
+use Rattle.series.specs.Reports.{report}
+use Rattle.series.specs.Totals.{totals}
 use Rattle.series.specs.KnownOutputs.{KnownOutputs, KnownReports, KnownTexts}
 
 pub texts : KnownTexts

@@ -5,7 +5,7 @@ use Rattle.std.proofs.lemmas.List.FromFn.{map-range_with_len_more, take-map-rang
 use Rattle.grammar.specs.Tree.{File}
 use Rattle.settings.specs.Setup.{Setup}
 use Rattle.series.specs.Pieces.{Piece, Taken, taken, Writes, Begins}
-use Rattle.matches.specs.Outcomes.{report_text, totals_text}
+use Rattle.series.specs.Outcomes.{report_text, totals_text}
 use Rattle.series.specs.Playing.{playing, reports, text_piece}
 use Rattle.sinks.specs.Portions.{Portions, Takes, TakesFront}
 use Rattle.series.proofs.PiecesLemmas.{writes_then, begins_then, begins_more}

@@ -13,7 +13,7 @@ use Rattle.series.specs.declared.endings.Status.TheVariants.{Done}
 use Rattle.series.specs.Compiling.{Source, and_file, code_or_fault, compiling, files_of, pieces_of, status_of}
 use Rattle.series.specs.Output.{output, played}
 use Rattle.series.specs.Pieces.{Piece}
-use Rattle.matches.specs.Outcomes.{outcome_of, report_text, totals_text}
+use Rattle.series.specs.Outcomes.{outcome_of, report_text, totals_text}
 use Rattle.series.specs.Playing.{playing, reports, text_piece}
 use Rattle.series.specs.SameReport.{Contains, report_in, SameReport, with_matches}
 use Rattle.sinks.specs.Texts.{file_name}

@@ -37,6 +37,10 @@ StoppedBy fault.Memory before after = ⊥
 abbrev pub Accounts : {A : Type 0} → Result A RunFault → Failures → Failures → Type 0
 Accounts result before after = MatchResult result (λ _. after ≡ before) (λ fault. StoppedBy fault before after)
 
+-- the sink failed once if the call failed, and else not
+abbrev pub CountsSink : {T E : Type 0} → Result T E → ℕ → ℕ → Type 0
+CountsSink result before after = MatchResult result (λ _. after ≡ before) (λ _. after ≡ before + 1)
+
 -- no sink failed, or one of them once
 abbrev pub CountsSinks : {T E : Type 0} → Result T E → ℕ → ℕ → ℕ → ℕ → Type 0
 CountsSinks result text faults later_text later_faults = MatchResult result

@@ -8,11 +8,11 @@ use Rattle.series.specs.Output.{Output, output}
 use Rattle.settings.specs.Setup.{Setup}
 use Rattle.settings.specs.declared.settings.Mode.{Mode}
 use Rattle.settings.specs.declared.settings.Mode.TheVariants.{Listing}
-use Rattle.matches.specs.Names.{robot_names}
+use Rattle.series.specs.Names.{robot_names}
 use Rattle.series.specs.Pieces.{Text, Faults}
-use Rattle.matches.specs.Reports.{report}
+use Rattle.series.specs.Reports.{report}
 use Rattle.sinks.specs.Texts.{file_name, column, diagnostic_line}
-use Rattle.matches.specs.Totals.{score_of, totals}
+use Rattle.series.specs.Totals.{score_of, totals}
 
 pub record KnownTexts : Type 0 where
   pub name_in_folders : file_name (codes "k/robots/b.r") ≡ codes "b.r"

@@ -1,8 +1,15 @@
+pub mod Lines
+pub mod Names
+pub mod Reports
+pub mod Totals
+pub mod Outcomes
+pub mod Courses
 pub mod Pieces
 pub mod Compiling
 pub mod Playing
 pub mod Output
 pub mod Runs
+pub mod Keeping
 pub mod Reading
 pub mod Failures
 pub mod SameReport

@@ -3,7 +3,7 @@ use Rattle.std.specs.Prelude.{ℕ, List, [], ◌∷◌, ◌++◌, map}
 use Rattle.std.specs.List.{range_with_len}
 use Rattle.grammar.specs.Tree.{File}
 use Rattle.settings.specs.Setup.{Setup}
-use Rattle.matches.specs.Outcomes.{report_text, totals_text}
+use Rattle.series.specs.Outcomes.{report_text, totals_text}
 use Rattle.series.specs.Pieces.{Piece, Text}
 
 abbrev pub text_piece : List ℕ → Piece

@@ -1,46 +1,49 @@
-//! Files are compiled, and the programs of all are kept.
+//! Files are compiled: each good one's program is taken, and each faulty one's diagnostic put.
 
-ghost use Rattle.std.specs.Prelude.{◌≡◌, ℕ, ◌+◌, ◌-◌, ◌^◌, ◌<◌, ◌≤◌, List, [], Some, false, length, map, All, IfOk, OnOk, OnErr};
+ghost use Rattle.std.specs.Prelude.{◌≡◌, ℕ, ◌+◌, ◌-◌, ◌^◌, ◌<◌, ◌≤◌, List, [], Some, false, length, map, All, IfOk, IfSome, OnOk, OnErr};
 ghost use Rattle.battles.specs.Programs.{AreOfProfile};
 ghost use Rattle.tokens.specs.ReadLimits.{window_bytes};
 ghost use Rattle.tokens.specs.Feed.{Counts};
-ghost use Rattle.series.specs.Compiling.{Source, compiled_code, pieces_of};
+ghost use Rattle.series.specs.Compiling.{Source, codes_of, compiled_code, files_of, pieces_of, status_of};
 ghost use Rattle.series.specs.Failures.{Accounts, CountsSinks, failures};
 ghost use Rattle.series.specs.Pieces.{taken};
 ghost use Rattle.series.specs.Reading.{MayLeaveUndecided, Reads, TakesOf};
-ghost use Rattle.series.specs.Runs.{AreSources, Compiles, PutsPieces, and_code, both, count_of, kept_by, programs_by, status_by};
+ghost use Rattle.series.specs.Keeping.{KeepsMore, and_compiled, both, kept_by, status_by};
+ghost use Rattle.series.specs.Runs.{AreSources, CompilesTo, PutsPieces};
 
 use crate::endings::{RunFault, Status};
-use crate::listing::put_listing;
+use crate::keeping::TakesPrograms;
 use code::Maker;
 use grammar::{Diagnostic, ParseFault, Profile};
-use matches::Programs;
 use parser::parse;
-use settings::{FILES_MAX, Mode, Settings};
+use settings::{FILES_MAX, Settings};
 use sinks::{Sink, name_of, put_diagnostic};
 use tokens::{DeviceFault, Feed};
 
-/// Compiles each file and lists it, or puts its diagnostic. If no file has a fault, it keeps the programs of all.
-///
-/// Programs are large: they are kept in place, since moving them takes stack.
-pub(crate) fn compile_into<F: Feed, O: Sink, E: Sink>(
-    programs: &mut Programs,
+/// Compiles each file. The keeper takes the program of a good one; of a faulty one puts the diagnostic.
+pub(crate) fn compile_into<K: TakesPrograms, F: Feed, O: Sink, E: Sink>(
+    keeper: &mut K,
     settings: &Settings,
     feeds: &mut [F],
     out: &mut O,
     err: &mut E,
 ) -> Result<Status, RunFault>
-    requires none { programs.old ≡ [] }
+    requires none { IfSome (K.kept keeper.old) (λ kept. kept ≡ []) }
+    requires mode { K.mode keeper.old ≡ settings.now.mode }
     requires files { length feeds.old ≡ length settings.now.words }
     requires feeds { All (λ feed. (F.account feed).failures < 2 ^ 64 - 1) feeds.old }
     requires not_ended { All (λ feed. F.ended feed ≡ false) feeds.old }
     requires text { O.failures out.old < 2 ^ 64 - 1 }
     requires faults { E.failures err.old < 2 ^ 64 - 1 }
     ensures output { (sources : List Source) → AreSources sources settings.now.words (map F.to_come feeds.old)
-        → Compiles settings.now sources (programs_by result programs.new)
+        → CompilesTo (status_of (files_of settings.now.profile sources)) settings.now sources result
         (taken (O.portions out.old) (E.portions err.old)) (taken (O.portions out.new) (E.portions err.new)) }
-    ensures manned { IfOk result (λ status. status ≡ Status.Done → length programs.new ≡ length settings.now.words) }
-    ensures profile { AreOfProfile settings.now.profile programs.new }
+    ensures kept { IfOk result (λ status. (sources : List Source)
+        → AreSources sources settings.now.words (map F.to_come feeds.old)
+        → IfSome (K.kept keeper.new) (λ kept. kept_by status kept ≡ codes_of settings.now.profile sources)) }
+    ensures manned { IfOk result (λ status. status ≡ Status.Done
+        → IfSome (K.kept keeper.new) (λ kept. length kept ≡ length settings.now.words)) }
+    ensures profile { IfSome (K.kept keeper.new) (λ kept. AreOfProfile settings.now.profile kept) }
     ensures read { Reads settings.now result (map F.to_come feeds.old) (map F.to_come feeds.new)
         (taken (O.portions out.old) (E.portions err.old)) (taken (O.portions out.new) (E.portions err.new)) }
     ensures failures { Accounts result
@@ -49,11 +52,10 @@ pub(crate) fn compile_into<F: Feed, O: Sink, E: Sink>(
 {
     let words = settings.words();
     let profile = settings.profile();
-    let mode = settings.mode();
     let mut status = Status::Done;
     for file in 0..feeds.len() {
         let name = name_of(words[file].as_bytes());
-        let put = match compile_file(programs, mode, profile, name, &mut feeds[file], out, err) {
+        let put = match compile_file(keeper, profile, name, &mut feeds[file], out, err) {
             Ok(put) => put,
             Err(DeviceFault) => return Err(RunFault::Read(file)),
         };
@@ -76,33 +78,35 @@ pub(crate) fn both(first: Status, second: Status) -> Status
     }
 }
 
-/// Compiles the file of a feed. Keeps a good file's program, and puts its listing if listings are asked for; of a
-/// faulty one puts the diagnostic. Answers whether the file was read, and then whether all was put, and then whether
-/// the file is good.
+/// Compiles the file of a feed. The keeper takes a good file's program; of a faulty one puts the diagnostic. Answers
+/// whether the file was read, and then whether all was put, and then whether the file is good.
 #[inline(never)]
-fn compile_file<F: Feed, O: Sink, E: Sink>(
-    programs: &mut Programs,
-    mode: Mode,
+fn compile_file<K: TakesPrograms, F: Feed, O: Sink, E: Sink>(
+    keeper: &mut K,
     profile: Profile,
     name: &[u8],
     feed: &mut F,
     out: &mut O,
     err: &mut E,
 ) -> Result<Result<Status, DeviceFault>, DeviceFault>
-    requires room { length programs.old < FILES_MAX }
-    requires profile { AreOfProfile profile programs.old }
+    requires room { IfSome (K.kept keeper.old) (λ kept. length kept < FILES_MAX) }
+    requires profile { IfSome (K.kept keeper.old) (λ kept. AreOfProfile profile kept) }
     requires count { (F.account feed.old).failures < 2 ^ 64 - 1 }
     requires not_ended { F.ended feed.old ≡ false }
     requires text { O.failures out.old < 2 ^ 64 - 1 }
     requires faults { E.failures err.old < 2 ^ 64 - 1 }
     ensures output { IfOk result (λ put. (bytes : List ℕ) → F.to_come feed.old ≡ Some bytes
         → PutsPieces put (taken (O.portions out.old) (E.portions err.old))
-        (taken (O.portions out.new) (E.portions err.new)) (pieces_of mode name.now (compiled_code profile bytes))) }
+        (taken (O.portions out.new) (E.portions err.new))
+        (pieces_of (K.mode keeper.old) name.now (compiled_code profile bytes))) }
+    ensures status { IfOk result (λ put. (bytes : List ℕ) → F.to_come feed.old ≡ Some bytes
+        → IfOk put (λ status. status ≡ status_by (compiled_code profile bytes))) }
     ensures kept { IfOk result (λ put. (bytes : List ℕ) → F.to_come feed.old ≡ Some bytes → IfOk put (λ status.
-        kept_by status programs.new ≡ and_code (Some programs.old) (compiled_code profile bytes))) }
+        K.kept keeper.new ≡ and_compiled (K.kept keeper.old) (compiled_code profile bytes))) }
     ensures manned { IfOk result (λ put. IfOk put (λ status.
-        length programs.new ≡ length programs.old + count_of status)) }
-    ensures profile { AreOfProfile profile programs.new }
+        KeepsMore status (K.kept keeper.old) (K.kept keeper.new))) }
+    ensures profile { IfSome (K.kept keeper.new) (λ kept. AreOfProfile profile kept) }
+    ensures mode { K.mode keeper.new ≡ K.mode keeper.old }
     ensures quiet { OnErr result ((out.new ≡ out.old) × (err.new ≡ err.old)) }
     ensures failures { IfOk result (λ put. CountsSinks put (O.failures out.old) (E.failures err.old)
         (O.failures out.new) (E.failures err.new)) }
@@ -112,18 +116,10 @@ fn compile_file<F: Feed, O: Sink, E: Sink>(
 {
     let mut maker = Maker::new(profile);
     match parse(feed, &mut maker) {
-        Ok(names) => {
-            let file = programs.len();
-            programs.push(maker.finish(names));
-            let put = match mode {
-                Mode::Listing => put_listing(out, name, programs.program(file)),
-                Mode::Matches => Ok(()),
-            };
-            match put {
-                Ok(()) => Ok(Ok(Status::Done)),
-                Err(DeviceFault) => Ok(Err(DeviceFault)),
-            }
-        }
+        Ok(names) => match keeper.take(name, maker.finish(names), out) {
+            Ok(()) => Ok(Ok(Status::Done)),
+            Err(DeviceFault) => Ok(Err(DeviceFault)),
+        },
         Err(ParseFault::Source(Diagnostic { line, code })) => {
             match put_diagnostic(err, name, line, code.text().as_bytes()) {
                 Ok(()) => Ok(Ok(Status::Faulty)),

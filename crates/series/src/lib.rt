@@ -2,18 +2,24 @@
 #![tactic(auto)]
 
 mod compiling;
+mod courses;
 mod endings;
+mod keeping;
 mod known;
 pub mod laws;
 mod listing;
-mod listings;
+mod names;
+mod reports;
 mod runs;
+mod series;
+mod tallies;
 
-pub use endings::{RunFault, Status};
+pub use battles::Programs;
+pub use endings::{RunFault, SeriesFault, Status, Step};
 pub use known::known_outputs;
 pub use listing::put_listing;
-pub use matches::{HoldsPrograms, Programs, Series, SeriesFault, Step};
 pub use runs::{compile_files, run};
+pub use series::Series;
 pub use settings::{
     CYCLES_DEFAULT, CYCLES_MAX, FILES_MAX, FIRST_MAX, MATCHES_MAX, Mode, SEED_DEFAULT, Settings,
 };

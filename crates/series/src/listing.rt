@@ -4,7 +4,7 @@ ghost use Rattle.std.specs.Prelude.{◌≡◌, ℕ, ◌+◌, ◌-◌, ◌^◌, �
 ghost use Rattle.code.specs.Listing.{lines_of, listing_of};
 ghost use Rattle.sinks.specs.Portions.{Puts};
 ghost use Rattle.sinks.specs.Draft.{MayFail, Adds};
-ghost use Rattle.matches.specs.Lines.{lines_text};
+ghost use Rattle.series.specs.Lines.{lines_text};
 
 use code::{Line, Program};
 use sinks::{Pen, Sink};

@@ -5,8 +5,7 @@ ghost use Rattle.battles.specs.Programs.{AreOfProfile};
 ghost use Rattle.code.specs.Codes.{AreCodesOf};
 ghost use Rattle.grammar.specs.Tree.{File};
 ghost use Rattle.series.specs.Compiling.{Source};
-ghost use Rattle.matches.specs.Counts.{CountsSink};
-ghost use Rattle.series.specs.Failures.{Accounts, failures};
+ghost use Rattle.series.specs.Failures.{Accounts, CountsSink, failures};
 ghost use Rattle.series.specs.Output.{Runs};
 ghost use Rattle.series.specs.Pieces.{taken};
 ghost use Rattle.series.specs.Playing.{playing};
@@ -16,10 +15,11 @@ ghost use Rattle.series.specs.Runs.{AreSources, Compiles, PutsPieces};
 ghost use Rattle.settings.specs.declared.settings.Mode.TheVariants.{Matches};
 
 use crate::compiling::compile_into;
-use crate::endings::{RunFault, Status};
-use crate::listings::list_files;
+use crate::endings::{RunFault, SeriesFault, Status};
+use crate::keeping::{Keeper, Lister};
+use crate::series::Series;
+use battles::Programs;
 use grammar::laws::resolved_files;
-use matches::{Programs, Series, SeriesFault};
 use settings::{Mode, Settings};
 use sinks::Sink;
 use tokens::Feed;
@@ -53,7 +53,7 @@ pub fn run<F: Feed, O: Sink, E: Sink>(
         (failures (map F.account feeds.new) (O.failures out.new) (E.failures err.new)) }
 {
     match settings.mode() {
-        Mode::Listing => list_files(settings, feeds, out, err),
+        Mode::Listing => compile_into(&mut Lister, settings, feeds, out, err),
         Mode::Matches => play_files(settings, feeds, out, err),
     }
 }
@@ -83,11 +83,11 @@ fn play_files<F: Feed, O: Sink, E: Sink>(
         (failures (map F.account feeds.old) (O.failures out.old) (E.failures err.old))
         (failures (map F.account feeds.new) (O.failures out.new) (E.failures err.new)) }
 {
-    let mut programs = Programs::new();
-    match compile_into(&mut programs, settings, feeds, out, err) {
+    let mut keeper = Keeper::new(settings.mode());
+    match compile_into(&mut keeper, settings, feeds, out, err) {
         Ok(Status::Done) => {
             resolved_files();
-            play_all(&programs, settings, out)
+            play_all(&keeper.programs, settings, out)
         }
         Ok(Status::Faulty) => Ok(Status::Faulty),
         Err(fault) => Err(fault),
@@ -146,9 +146,9 @@ pub fn compile_files<F: Feed, O: Sink, E: Sink>(
         (failures (map F.account feeds.old) (O.failures out.old) (E.failures err.old))
         (failures (map F.account feeds.new) (O.failures out.new) (E.failures err.new)) }
 {
-    let mut programs = Programs::new();
-    match compile_into(&mut programs, settings, feeds, out, err) {
-        Ok(Status::Done) => Ok(Some(programs)),
+    let mut keeper = Keeper::new(settings.mode());
+    match compile_into(&mut keeper, settings, feeds, out, err) {
+        Ok(Status::Done) => Ok(Some(keeper.programs)),
         Ok(Status::Faulty) => Ok(None),
         Err(fault) => Err(fault),
     }

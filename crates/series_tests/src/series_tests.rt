@@ -70,19 +70,7 @@ fn a_series_stops_at_failed_totals(rt: HostRuntime) -> Result<(), Fail> {
     Ok(())
 }
 
-/// The next two tests move programs, for which `rt try` has too little stack.
-#[test]
-fn a_series_may_own_its_programs(rt: HostRuntime) -> Result<(), Fail> {
-    let settings = game_of_one(TWO_MATCHES, "a.r");
-    let programs = programs_of(b"main(){}", &settings)?;
-    let mut series = Series::new(programs, &settings);
-    let mut out = Recorder::new(rt.alloc());
-    assert_eq!(rt; series.next(&mut out), Ok(Step::Played(1)));
-    assert_eq!(rt; series.next(&mut out), Ok(Step::Played(2)));
-    assert_eq!(rt; out.portions().len(), 2);
-    Ok(())
-}
-
+/// This test moves programs, for which `rt try` has too little stack.
 #[test]
 fn programs_are_kept_without_a_run(rt: HostRuntime) -> Result<(), Fail> {
     let settings = game_of_one(TWO_MATCHES, "a.r");

@@ -1,11 +1,8 @@
-use Rattle.std.proofs.Common.{◌∙◌, refl, sym, ap, rules}
+use Rattle.std.proofs.Common.{◌∙◌, refl, rules}
 use Rattle.code.specs.Told.{Stands}
 use Rattle.parser.specs.Files.{IsFile}
-use Rattle.code.specs.Listing.{listing_of}
-use Rattle.sinks.specs.Portions.{Takes, TakesFront}
-use Rattle.series.proofs.FileLemmas.{alike, alike_more, diagnostic_cut, diagnostic_put, faulty_kept, good_code, good_kept, listing_cut, listing_put, of_last}
+use Rattle.series.proofs.FileLemmas.{alike, alike_more, diagnostic_cut, diagnostic_put, faulty_kept, faulty_more, faulty_status, good_code, good_cut, good_kept, good_more, good_put, good_status}
 use Rattle.series.proofs.compiling.compile_file.Goals as goal
-use Rattle.series.proofs.compiling.compile_file.Goals.{in-Listing, in-Matches}
 
 pub finish-requires : goal.finish-requires
 finish-requires g c =
@@ -16,53 +13,63 @@ finish-requires g c =
       told = record { resolved = f.resolved; stands = f.built _ c.new-maker.ensures; named = f.named; main = f.main };
     }
 
-pub returns-in-Ok-put-clause-output : goal.returns-in-Ok-put-clause-output
-returns-in-Ok-put-clause-output g c = λ bytes told.
+pub take-requires-clause-alike : goal.take-requires-clause-alike
+take-requires-clause-alike g c =
+    let made = c.in-Ok.ensures.file in
+    let code = c.finish.ensures c.args.profile made.file (record { resolved = made.resolved; stands = made.built _ c.new-maker.ensures; named = made.named; main = made.main }) in
+    alike c.args.profile made.file c.finish.result _ code c.requires.profile
+
+pub returns-in-Ok-take-clause-output : goal.returns-in-Ok-take-clause-output
+returns-in-Ok-take-clause-output g c = λ bytes told.
     let made = c.in-Ok.ensures.file in
     let is = made.is bytes told c.args.profile c.new-maker.ensures in
     let code = c.finish.ensures c.args.profile made.file (record { resolved = made.resolved; stands = made.built _ c.new-maker.ensures; named = made.named; main = made.main }) in
-    listing_put c.args.mode c.args.profile c.args.name.now bytes c.finish.result _ _ _ (good_code c.args.profile bytes made.file c.finish.result is code)
-    (λ listing. elim c.match-mode.branch [
-      | in-Listing w ↦ rw w.out-is (of_last (λ p. Takes (g.O.Sink.portions c.args.out.now) (g.O.Sink.portions w.put_listing-put.new.sink) (listing_of c.args.name.now p))
-          _ _ c.finish.result _ _ c.push.ensures c.len-file.ensures.programs w.program.ensures (rw (sym w.put-is ∙ c.in-Ok-put.is) at w.put_listing-put.ensures).0)
-      | in-Matches w ↦ absurd (cc (listing, w.in-Matches.is))
-    ])
-    (λ matches. elim c.match-mode.branch [
-      | in-Listing w ↦ absurd (cc (matches, w.in-Listing.is))
-      | in-Matches w ↦ ap g.O.Sink.portions w.out-is
-    ])
+    good_put (g.K.TakesPrograms.mode c.args.keeper.now) c.args.profile c.args.name.now bytes c.finish.result _ _ (good_code c.args.profile bytes made.file c.finish.result is code) (c.in-Ok-take.ensures.output (g.E.Sink.portions c.args.err.now))
 
 pub returns-in-Err-clause-output : goal.returns-in-Err-clause-output
 returns-in-Err-clause-output g c = λ bytes told.
     let made = c.in-Ok.ensures.file in
     let is = made.is bytes told c.args.profile c.new-maker.ensures in
     let code = c.finish.ensures c.args.profile made.file (record { resolved = made.resolved; stands = made.built _ c.new-maker.ensures; named = made.named; main = made.main }) in
-    listing_cut c.args.mode c.args.profile c.args.name.now bytes c.finish.result _ _ _ (good_code c.args.profile bytes made.file c.finish.result is code)
-    (λ listing. elim c.match-mode.branch [
-      | in-Listing w ↦ rw w.out-is (of_last (λ p. TakesFront (g.O.Sink.portions c.args.out.now) (g.O.Sink.portions w.put_listing-put.new.sink) (listing_of c.args.name.now p))
-          _ _ c.finish.result _ _ c.push.ensures c.len-file.ensures.programs w.program.ensures (rw (sym w.put-is ∙ c.in-Err.is) at w.put_listing-put.ensures).0)
-      | in-Matches w ↦ absurd (cc (listing, w.in-Matches.is))
-    ])
-    (λ matches. elim c.match-mode.branch [
-      | in-Listing w ↦ cc (matches, w.in-Listing.is)
-      | in-Matches w ↦ cc (w.put-is, c.in-Err.is)
-    ])
+    good_cut (g.K.TakesPrograms.mode c.args.keeper.now) c.args.profile c.args.name.now bytes c.finish.result _ _ (good_code c.args.profile bytes made.file c.finish.result is code) (c.in-Err.ensures.output (g.E.Sink.portions c.args.err.now))
 
-pub returns-in-Ok-put-clause-kept : goal.returns-in-Ok-put-clause-kept
-returns-in-Ok-put-clause-kept g c = λ bytes told.
+pub returns-in-Ok-take-clause-status : goal.returns-in-Ok-take-clause-status
+returns-in-Ok-take-clause-status g c = λ bytes told.
     let made = c.in-Ok.ensures.file in
     let is = made.is bytes told c.args.profile c.new-maker.ensures in
     let code = c.finish.ensures c.args.profile made.file (record { resolved = made.resolved; stands = made.built _ c.new-maker.ensures; named = made.named; main = made.main }) in
-    good_kept c.args.profile bytes made.file c.finish.result _ _ is code c.push.ensures
+    good_status c.args.profile bytes c.finish.result (good_code c.args.profile bytes made.file c.finish.result is code)
 
-pub returns-in-Ok-put-clause-taken : goal.returns-in-Ok-put-clause-taken
-returns-in-Ok-put-clause-taken g c = λ bytes told. c.in-Ok.ensures.taken bytes told c.args.profile c.new-maker.ensures
+pub returns-in-Ok-take-clause-kept : goal.returns-in-Ok-take-clause-kept
+returns-in-Ok-take-clause-kept g c = λ bytes told.
+    let made = c.in-Ok.ensures.file in
+    let is = made.is bytes told c.args.profile c.new-maker.ensures in
+    let code = c.finish.ensures c.args.profile made.file (record { resolved = made.resolved; stands = made.built _ c.new-maker.ensures; named = made.named; main = made.main }) in
+    good_kept c.args.profile bytes c.finish.result _ _ (good_code c.args.profile bytes made.file c.finish.result is code) c.in-Ok-take.ensures.kept
 
-pub returns-in-Ok-put-clause-count : goal.returns-in-Ok-put-clause-count
-returns-in-Ok-put-clause-count g c = c.in-Ok.ensures.counted
+pub returns-in-Ok-take-clause-manned : goal.returns-in-Ok-take-clause-manned
+returns-in-Ok-take-clause-manned g c = good_more c.finish.result _ _ c.in-Ok-take.ensures.kept
+
+pub returns-in-Ok-take-clause-profile : goal.returns-in-Ok-take-clause-profile
+returns-in-Ok-take-clause-profile g c =
+    let made = c.in-Ok.ensures.file in
+    let code = c.finish.ensures c.args.profile made.file (record { resolved = made.resolved; stands = made.built _ c.new-maker.ensures; named = made.named; main = made.main }) in
+    alike_more c.args.profile made.file c.finish.result _ _ code c.requires.profile c.in-Ok-take.ensures.kept
+
+pub returns-in-Err-clause-profile : goal.returns-in-Err-clause-profile
+returns-in-Err-clause-profile g c =
+    let made = c.in-Ok.ensures.file in
+    let code = c.finish.ensures c.args.profile made.file (record { resolved = made.resolved; stands = made.built _ c.new-maker.ensures; named = made.named; main = made.main }) in
+    alike_more c.args.profile made.file c.finish.result _ _ code c.requires.profile c.in-Err.ensures.kept
+
+pub returns-in-Ok-take-clause-taken : goal.returns-in-Ok-take-clause-taken
+returns-in-Ok-take-clause-taken g c = λ bytes told. c.in-Ok.ensures.taken bytes told c.args.profile c.new-maker.ensures
 
 pub returns-in-Err-clause-taken : goal.returns-in-Err-clause-taken
 returns-in-Err-clause-taken g c = λ bytes told. c.in-Ok.ensures.taken bytes told c.args.profile c.new-maker.ensures
+
+pub returns-in-Ok-take-clause-count : goal.returns-in-Ok-take-clause-count
+returns-in-Ok-take-clause-count g c = c.in-Ok.ensures.counted
 
 pub returns-in-Err-clause-count : goal.returns-in-Err-clause-count
 returns-in-Err-clause-count g c = c.in-Ok.ensures.counted
@@ -70,7 +77,7 @@ returns-in-Err-clause-count g c = c.in-Ok.ensures.counted
 pub returns-in-Ok-put_diagnostic-clause-output : goal.returns-in-Ok-put_diagnostic-clause-output
 returns-in-Ok-put_diagnostic-clause-output g c = λ bytes told.
     let fails = (rw c.in-Err-Source.field-0-is at c.in-Err-Source.ensures.refused) bytes told c.args.profile c.new-maker.ensures in
-    diagnostic_put c.args.mode c.args.profile c.args.name.now bytes c.in-Err-Source.field-0-0 c.as_bytes.result.now _ _ _ fails
+    diagnostic_put (g.K.TakesPrograms.mode c.args.keeper.now) c.args.profile c.args.name.now bytes c.in-Err-Source.field-0-0 c.as_bytes.result.now _ _ _ fails
     (c.as_bytes.ensures.value ∙ (rw c.in-Err-Source.field-0-is at c.text.ensures)) (rw c.in-Err-Source.field-0-is at c.in-Ok-put_diagnostic.ensures.0)
 
 pub returns-in-Ok-put_diagnostic-clause-taken : goal.returns-in-Ok-put_diagnostic-clause-taken
@@ -82,7 +89,7 @@ returns-in-Ok-put_diagnostic-clause-count g c = rw c.in-Err-Source.field-0-is at
 pub returns-in-Err-put_diagnostic-clause-output : goal.returns-in-Err-put_diagnostic-clause-output
 returns-in-Err-put_diagnostic-clause-output g c = λ bytes told.
     let fails = (rw c.in-Err-Source.field-0-is at c.in-Err-Source.ensures.refused) bytes told c.args.profile c.new-maker.ensures in
-    diagnostic_cut c.args.mode c.args.profile c.args.name.now bytes c.in-Err-Source.field-0-0 c.as_bytes.result.now _ _ _ fails
+    diagnostic_cut (g.K.TakesPrograms.mode c.args.keeper.now) c.args.profile c.args.name.now bytes c.in-Err-Source.field-0-0 c.as_bytes.result.now _ _ _ fails
     (c.as_bytes.ensures.value ∙ (rw c.in-Err-Source.field-0-is at c.text.ensures)) (rw c.in-Err-Source.field-0-is at c.in-Err-put_diagnostic.ensures.0)
 
 pub returns-in-Err-put_diagnostic-clause-taken : goal.returns-in-Err-put_diagnostic-clause-taken
@@ -103,20 +110,8 @@ returns-in-Err-Device-clause-count g c = rw c.in-Err-Device.field-0-is at c.in-E
 pub returns-in-Err-Device-clause-quiet : goal.returns-in-Err-Device-clause-quiet
 returns-in-Err-Device-clause-quiet g c = (refl, refl)
 
-pub push-requires-clause-alike : goal.push-requires-clause-alike
-push-requires-clause-alike g c =
-    let made = c.in-Ok.ensures.file in
-    let code = c.finish.ensures c.args.profile made.file (record { resolved = made.resolved; stands = made.built _ c.new-maker.ensures; named = made.named; main = made.main }) in
-    alike c.args.profile made.file c.finish.result _ code c.requires.profile
+pub returns-in-Ok-put_diagnostic-clause-status : goal.returns-in-Ok-put_diagnostic-clause-status
+returns-in-Ok-put_diagnostic-clause-status g c = λ bytes told. faulty_status c.args.profile bytes c.in-Err-Source.field-0-0 ((rw c.in-Err-Source.field-0-is at c.in-Err-Source.ensures.refused) bytes told c.args.profile c.new-maker.ensures)
 
-pub returns-in-Ok-put-clause-profile : goal.returns-in-Ok-put-clause-profile
-returns-in-Ok-put-clause-profile g c =
-    let made = c.in-Ok.ensures.file in
-    let code = c.finish.ensures c.args.profile made.file (record { resolved = made.resolved; stands = made.built _ c.new-maker.ensures; named = made.named; main = made.main }) in
-    alike_more c.args.profile made.file c.finish.result _ _ code c.requires.profile c.push.ensures
-
-pub returns-in-Err-clause-profile : goal.returns-in-Err-clause-profile
-returns-in-Err-clause-profile g c =
-    let made = c.in-Ok.ensures.file in
-    let code = c.finish.ensures c.args.profile made.file (record { resolved = made.resolved; stands = made.built _ c.new-maker.ensures; named = made.named; main = made.main }) in
-    alike_more c.args.profile made.file c.finish.result _ _ code c.requires.profile c.push.ensures
+pub returns-in-Ok-put_diagnostic-clause-manned : goal.returns-in-Ok-put_diagnostic-clause-manned
+returns-in-Ok-put_diagnostic-clause-manned g c = faulty_more _

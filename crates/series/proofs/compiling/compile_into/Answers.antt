@@ -1,11 +1,10 @@
-use Rattle.std.proofs.Common.{false, ◌≡◌, ◌+◌, ◌<◌, ◌^◌, ◌-◌, ◌∙◌, sym, subst, ap, List, ℕ, length, map, refl, get_or, arith}
+use Rattle.std.proofs.Common.{false, ◌≡◌, ◌+◌, ◌<◌, ◌^◌, ◌-◌, ◌∙◌, sym, subst, ap, List, ℕ, length, map, refl, arith}
 use Rattle.std.proofs.lemmas.List.{length-map}
 use Rattle.std.proofs.lemmas.List.Elements.{All-get_or}
-use Rattle.series.specs.Compiling.{compiled_code}
 use Rattle.series.specs.Runs.{AreSources}
-use Rattle.series.proofs.CompilingLemmas.{kept_both, kept_more, manned_more, pieces_more, pieces_cut}
+use Rattle.series.proofs.CompilingLemmas.{kept_with, manned_with, pieces_more, pieces_cut, status_more}
 use Rattle.series.proofs.ReadingLemmas.{cut_at, fails_at, reads_first, reads_more, same_length}
-use Rattle.series.proofs.RunsLemmas.{feed_here, no_source, told_here, name_here, length_sources, none_failed, read_failed, rest_more, write_failed}
+use Rattle.series.proofs.RunsLemmas.{feed_here, told_here, name_here, length_sources, none_failed, read_failed, rest_more, write_failed}
 use Rattle.series.proofs.compiling.compile_into.Goals as goal
 
 pub compile_file-requires-clause-count : goal.compile_file-requires-clause-count
@@ -31,9 +30,9 @@ returns-in-Err-put-clause-output g c = λ sources are.
     let told = told_here g.F.Feed.to_come c.args.feeds.now c.loop-file.feeds sources c.args.settings.now.words
     c.loop-file.file c.index-feeds-file.result are c.requires.files within c.loop-file.invariant.0 in
     pieces_cut c.args.settings.now.mode c.args.settings.now.profile sources c.loop-file.file _ _ _ _ in_sources
-    (c.loop-file.invariant.3 sources are).0 refl
+    (c.loop-file.invariant.4 sources are).0 refl
     (rw (
-      c.mode-mode.ensures.value,
+      c.loop-file.invariant.2,
       c.profile-profile.ensures.value,
       name_here (λ word. word.now) c.words-words.result.now sources _ c.loop-file.file _ c.as_bytes.result.now c.name_of-name.result.now
           named in_words c.as_bytes.ensures.value c.name_of-name.ensures,
@@ -45,18 +44,18 @@ returns-in-Err-put-clause-read g c = record {
   reads = reads_first g.F.Feed.to_come c.args.settings.now.profile c.args.feeds.now _ (c.loop-file.file + 1)
       (rest_more c.args.feeds.now c.loop-file.feeds c.loop-file.file c.compile_file.new.feed c.loop-file.invariant.0)
       (reads_more g.F.Feed.to_come c.args.settings.now.profile c.args.feeds.now c.loop-file.feeds c.loop-file.file c.index-feeds-file.result c.compile_file.new.feed
-      (omega arith) c.loop-file.invariant.0 c.loop-file.invariant.4 (rw c.profile-profile.ensures.value at c.in-Ok.ensures.taken));
+      (omega arith) c.loop-file.invariant.0 c.loop-file.invariant.5 (rw c.profile-profile.ensures.value at c.in-Ok.ensures.taken));
   puts = λ sources are.
       let told = told_here g.F.Feed.to_come c.args.feeds.now c.loop-file.feeds sources c.args.settings.now.words
       c.loop-file.file c.index-feeds-file.result are c.requires.files (omega arith) c.loop-file.invariant.0 in
       cut_at c.args.settings.now.mode c.args.settings.now.profile sources c.loop-file.file _ _ _ _
-      (c.loop-file.invariant.3 sources are).0 ((rw c.in-Err-put.is at c.in-Ok.ensures.output) _ told);
+      (c.loop-file.invariant.4 sources are).0 ((rw c.in-Err-put.is at c.in-Ok.ensures.output) _ told);
 }
 
 pub returns-in-Err-clause-read : goal.returns-in-Err-clause-read
 returns-in-Err-clause-read g c =
     fails_at g.F.Feed.to_come c.args.settings.now.profile c.args.feeds.now c.loop-file.feeds c.loop-file.file c.index-feeds-file.result c.compile_file.new.feed
-    (omega arith) c.loop-file.invariant.0 c.loop-file.invariant.4 (rw c.profile-profile.ensures.value at c.in-Err.ensures.stopped)
+    (omega arith) c.loop-file.invariant.0 c.loop-file.invariant.5 (rw c.profile-profile.ensures.value at c.in-Err.ensures.stopped)
 
 pub loop-file-preserved : goal.loop-file-preserved
 loop-file-preserved g c = (
@@ -66,9 +65,9 @@ loop-file-preserved g c = (
     (rw c.in-Ok-put.is at c.in-Ok.ensures.failures).0,
     (rw c.in-Ok-put.is at c.in-Ok.ensures.failures).1,
   ) c.loop-file.invariant.1,
+  c.compile_file.ensures.mode ∙ c.loop-file.invariant.2,
   rw c.both-status.ensures
-      (manned_more c.loop-file.status c.in-Ok-put.compiled c.loop-file.file (length c.loop-file.programs) (length c.compile_file.new.programs)
-      (rw c.in-Ok-put.is at c.in-Ok.ensures.manned) c.loop-file.invariant.2.0 c.loop-file.invariant.2.1),
+      (manned_with c.loop-file.status c.in-Ok-put.compiled c.loop-file.file _ _ (rw c.in-Ok-put.is at c.in-Ok.ensures.manned) c.loop-file.invariant.3),
   λ sources are.
       let within : c.loop-file.file < length c.args.feeds.now = omega arith in
       let Named : List (List ℕ) → Type 0 = λ words. AreSources sources words (map g.F.Feed.to_come c.args.feeds.now) in
@@ -78,26 +77,28 @@ loop-file-preserved g c = (
       let in_sources : c.loop-file.file < length sources = omega (arith, length_sources sources c.args.settings.now.words _ are) in
       let told = told_here g.F.Feed.to_come c.args.feeds.now c.loop-file.feeds sources c.args.settings.now.words
       c.loop-file.file c.index-feeds-file.result are c.requires.files within c.loop-file.invariant.0 in (
-        pieces_more c.args.settings.now.mode c.args.settings.now.profile sources c.loop-file.file _ _ _ _ in_sources (c.loop-file.invariant.3 sources are).0 refl
+        pieces_more c.args.settings.now.mode c.args.settings.now.profile sources c.loop-file.file _ _ _ _ in_sources (c.loop-file.invariant.4 sources are).0 refl
             (rw (
-              c.mode-mode.ensures.value,
+              c.loop-file.invariant.2,
               c.profile-profile.ensures.value,
               name_here (λ word. word.now) c.words-words.result.now sources _ c.loop-file.file _ c.as_bytes.result.now c.name_of-name.result.now
                   named in_words c.as_bytes.ensures.value c.name_of-name.ensures,
             ) at ((rw c.in-Ok-put.is at c.in-Ok.ensures.output) _ told)),
+        c.both-status.ensures
+            ∙ status_more c.args.settings.now.profile sources c.loop-file.file c.loop-file.status c.in-Ok-put.compiled in_sources (c.loop-file.invariant.4 sources are).1
+            (rw c.profile-profile.ensures.value at ((rw c.in-Ok-put.is at c.in-Ok.ensures.status) _ told)),
         rw c.both-status.ensures
-            (kept_both c.loop-file.status c.in-Ok-put.compiled c.loop-file.programs c.compile_file.new.programs
-            (compiled_code c.args.settings.now.profile (get_or sources c.loop-file.file no_source).bytes)
-            (rw c.profile-profile.ensures.value at ((rw c.in-Ok-put.is at c.in-Ok.ensures.kept) _ told))
-            ∙ kept_more c.args.settings.now.profile sources c.loop-file.file _ _ in_sources (c.loop-file.invariant.3 sources are).1 refl),
+            (kept_with c.args.settings.now.profile sources c.loop-file.file c.loop-file.status c.in-Ok-put.compiled _ _ in_sources (c.loop-file.invariant.4 sources are).2
+            (rw c.profile-profile.ensures.value at ((rw c.in-Ok-put.is at c.in-Ok.ensures.status) _ told))
+            (rw c.profile-profile.ensures.value at ((rw c.in-Ok-put.is at c.in-Ok.ensures.kept) _ told))),
       ),
   reads_more g.F.Feed.to_come c.args.settings.now.profile c.args.feeds.now c.loop-file.feeds c.loop-file.file c.index-feeds-file.result c.compile_file.new.feed
-      (omega arith) c.loop-file.invariant.0 c.loop-file.invariant.4 (rw c.profile-profile.ensures.value at c.in-Ok.ensures.taken),
+      (omega arith) c.loop-file.invariant.0 c.loop-file.invariant.5 (rw c.profile-profile.ensures.value at c.in-Ok.ensures.taken),
   rw c.profile-profile.ensures.value at c.compile_file.ensures.profile,
 )
 
 pub compile_file-requires-clause-profile : goal.compile_file-requires-clause-profile
-compile_file-requires-clause-profile g c = rw c.profile-profile.ensures.value c.loop-file.invariant.5
+compile_file-requires-clause-profile g c = rw c.profile-profile.ensures.value c.loop-file.invariant.6
 
 pub returns-in-Err-clause-failures : goal.returns-in-Err-clause-failures
 returns-in-Err-clause-failures g c =

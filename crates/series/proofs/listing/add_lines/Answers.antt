@@ -2,7 +2,7 @@ use Rattle.std.proofs.Common.{◌≡◌, ◌<◌, ◌≤◌, length, sym, [], ge
 use Rattle.std.proofs.lemmas.List.{take_all}
 use Rattle.std.proofs.lemmas.Option.{get_or_from_slice_get}
 use Rattle.code.specs.Listing.{lines_of}
-use Rattle.matches.proofs.LinesLemmas.{lines_text_more}
+use Rattle.series.proofs.LinesLemmas.{lines_text_more}
 use Rattle.series.proofs.listing.add_lines.Goals as goal
 
 pub loop-n-preserved : goal.loop-n-preserved

@@ -1,7 +1,7 @@
 use Rattle.std.proofs.Common.{take}
 use Rattle.code.specs.Listing.{lines_of}
 use Rattle.sinks.specs.Draft.{MayFail, Adds}
-use Rattle.matches.specs.Lines.{lines_text}
+use Rattle.series.specs.Lines.{lines_text}
 use Rattle.series.proofs.listing.add_lines.Given as goal
 
 -- the lines so far are added

@@ -1,3 +1,0 @@
-pub mod LinesLemmas
-pub mod TextsLemmas
-pub mod CoursesLemmas

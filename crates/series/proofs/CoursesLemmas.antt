@@ -1,0 +1,146 @@
+-- What a series counted and wrote, match by match.
+use Rattle.std.proofs.Common.{Ok, zero, suc, cond, inl, inr, ◌≡◌, ℕ, ◌+◌, ◌<◌, ◌≤◌, Bool, true, false, not, List, [], ◌∷◌, ◌++◌, length, get_or, map, refl, ap, ◌∙◌, arith}
+use Rattle.std.specs.Prelude.{◌&&◌, ◌||◌, ◌==◌, nat_eq, nat_le, nat_lt, count_by, if◌then◌else◌}
+use Rattle.std.specs.List.{range_with_len}
+use Rattle.std.proofs.lemmas.List.FromFn.{map-range_with_len_more}
+use Rattle.std.proofs.lemmas.List.Sums.{fold-append, get_or-le-sum_by}
+use Rattle.std.proofs.lemmas.List.{get_or_past, length-map}
+use Rattle.std.proofs.lemmas.Bool.{cases_lt}
+use Rattle.std.proofs.lemmas.Bool.Decides.{nat_tests}
+use Rattle.grammar.specs.Tree.{File}
+use Rattle.battles.specs.Battle.{Outcome, alive, battle}
+use Rattle.battles.specs.Pairing.{robots_of}
+use Rattle.settings.specs.Setup.{Setup}
+use Rattle.series.specs.declared.tallies.Score.{Score}
+use Rattle.series.specs.Courses.{Tallied, IsTallyOf, next_text, played_after, score_at, step_of, with_match}
+use Rattle.series.specs.Names.{robot_names}
+use Rattle.series.specs.Outcomes.{outcome_of, outcomes, report_text, totals_text}
+use Rattle.series.specs.Reports.{report}
+use Rattle.sinks.specs.Texts.{file_name}
+use Rattle.series.specs.Lines.{lines_text}
+use Rattle.series.specs.Totals.{has_won, has_tied, has_lost, score_line, score_of, survivors, totals, totals_line}
+use Rattle.series.specs.declared.endings.Step.{Step}
+use Rattle.series.specs.declared.endings.Step.TheVariants.{Played}
+use Rattle.series.proofs.TextsLemmas.{robots_there}
+
+-- one match more
+pub outcomes_more : (setup : Setup) (files : List File) (count k : ℕ) → setup.first + count ≡ k
+    → outcomes setup files (count + 1) ≡ outcomes setup files count ++ outcome_of setup files k ∷ []
+outcomes_more setup files count k here = map-range_with_len_more (outcome_of setup files) setup.first count k here
+
+-- there is no robot past the last one
+pub none_alive : (outcome : Outcome) (i : ℕ) → length outcome.damages ≤ i → alive outcome i ≡ false
+unfolding alive
+none_alive outcome i past = rw (get_or_past outcome.damages i 100 past) refl
+
+-- a robot that is alive is a survivor
+some_survivor : (outcome : Outcome) (i : ℕ) → alive outcome i ≡ true → 1 ≤ survivors outcome
+unfolding alive
+some_survivor outcome i lives = elim (cases_lt i (length outcome.damages)) [
+  | inl within ↦
+      let one : cond {A = ℕ} (nat_lt (get_or outcome.damages i 100) 100) 1 0 ≡ 1 = rw lives refl in
+      omega (arith, one, get_or-le-sum_by (λ damage. cond (nat_lt damage 100) 1 0) outcome.damages i 100 within)
+  | inr past ↦ let none : nat_lt (get_or outcome.damages i 100) 100 ≡ false = rw (get_or_past outcome.damages i 100 past) refl in cc
+]
+
+abbrev score : ℕ → ℕ → ℕ → Score
+score won tied lost = record { won = won; tied = tied; lost = lost }
+
+-- what one more match adds to a count
+counted : (p : Outcome → Bool) (ended : List Outcome) (outcome : Outcome)
+    → count_by p (ended ++ outcome ∷ []) ≡ count_by p ended + (if p outcome then 1 else 0)
+counted p ended outcome = fold-append (λ n o. n + (if p o then 1 else 0)) 0 ended (outcome ∷ [])
+
+several : (n : ℕ) → 1 ≤ n → nat_le 2 n ≡ not (n == 1)
+several n some = grind (arith, nat_tests)
+
+same : {won tied lost more_won more_tied more_lost : ℕ} → won ≡ more_won → tied ≡ more_tied → lost ≡ more_lost
+    → score won tied lost ≡ score more_won more_tied more_lost
+same w t l = rw (w, t, l) refl
+
+-- one more match for a robot: it won, tied or lost
+pub score_more : (ended : List Outcome) (outcome : Outcome) (i : ℕ) (is_alive : Bool) (count : ℕ)
+    → is_alive ≡ alive outcome i → count ≡ survivors outcome
+    → score_of (ended ++ outcome ∷ []) i ≡ with_match (score_of ended i) is_alive count
+score_more ended outcome i is_alive count lives survived =
+    rw (lives, survived, counted (has_won i) ended outcome, counted (has_tied i) ended outcome, counted (has_lost i) ended outcome)
+    (by_end (alive outcome i) (survivors outcome) (some_survivor outcome i))
+  where
+    by_test : (b one many : Bool) (won tied lost : ℕ) → (b ≡ true → many ≡ not one)
+        → score (won + (if b && one then 1 else 0)) (tied + (if b && many then 1 else 0)) (lost + (if not (b && one || b && many) then 1 else 0))
+        ≡ (if b then (if one then score (won + 1) tied lost else score won (tied + 1) lost) else score won tied (lost + 1))
+    by_test false one many won tied lost other = same (omega arith) (omega arith) refl
+    by_test true true many won tied lost other = rw (other refl) (same refl (omega arith) (omega arith))
+    by_test true false many won tied lost other = rw (other refl) (same (omega arith) refl (omega arith))
+
+    by_end : (b : Bool) (n : ℕ) → (b ≡ true → 1 ≤ n)
+        → score (count_by (has_won i) ended + (if b && n == 1 then 1 else 0)) (count_by (has_tied i) ended + (if b && nat_le 2 n then 1 else 0))
+        (count_by (has_lost i) ended + (if not (b && n == 1 || b && nat_le 2 n) then 1 else 0))
+        ≡ with_match (score_of ended i) b n
+    by_end b n some = by_test b (n == 1) (nat_le 2 n) _ _ _ (λ lives. several n (some lives))
+
+-- each score adds up to the matches
+pub with_match_adds : (score : Score) (is_alive : Bool) (count matches : ℕ)
+    → score.won + score.tied + score.lost ≡ matches
+    → (with_match score is_alive count).won + (with_match score is_alive count).tied + (with_match score is_alive count).lost ≡ matches + 1
+with_match_adds score is_alive count matches adds = by_end is_alive (count == 1)
+  where
+    by_end : (b one : Bool) → let later : Score = if b then (if one then record score { won = score.won + 1 } else record score { tied = score.tied + 1 }) else record score { lost = score.lost + 1 } in
+        later.won + later.tied + later.lost ≡ matches + 1
+    by_end true true = omega arith
+    by_end true false = omega arith
+    by_end false one = omega arith
+
+-- how the match of this number ended
+pub outcome_is : (setup : Setup) (files : List File) (number : ℕ) (outcome : Outcome)
+    → outcome ≡ battle (robots_of setup.profile files) setup.seed number setup.limit → outcome ≡ outcome_of setup files number
+unfolding outcome_of
+outcome_is setup files number outcome is = is
+
+-- a match is left
+pub is_left : (played matches : ℕ) → played ≤ matches → nat_eq played matches ≡ false → played < matches
+is_left played matches most other = grind (arith, nat_tests)
+
+-- the text of the next step, if a match is left
+pub next_is : (setup : Setup) (files : List File) (played number : ℕ) (outcome : Outcome) (names : List (List ℕ))
+    → played < setup.matches → setup.first + played ≡ number → names ≡ robot_names setup.words
+    → outcome ≡ outcome_of setup files number → report number names outcome ≡ next_text setup files played
+next_is setup files played number outcome names left here named is =
+    let more : nat_lt played setup.matches ≡ true = grind (arith, nat_tests) in
+    rw (more, here, named, is) refl
+
+pub next_report : (setup : Setup) (files : List File) (played : ℕ) → played < setup.matches
+    → next_text setup files played ≡ report_text setup files (setup.first + played)
+next_report setup files played left =
+    let more : nat_lt played setup.matches ≡ true = grind (arith, nat_tests) in
+    rw more refl
+
+-- that step plays a match
+pub plays : (setup : Setup) (played : ℕ) (step : Step) → played < setup.matches → step ≡ step_of setup played
+    → played_after (Ok step) played ≡ played + 1
+plays setup played step left is =
+    let more : nat_lt played setup.matches ≡ true = grind (arith, nat_tests) in
+    let played_one : step ≡ Played (setup.first + played) = is ∙ rw more refl in
+    rw played_one refl
+
+-- the scores' lines, if the scores are the same
+same_lines : (f g : ℕ → List ℕ) (a n : ℕ) → ((i : ℕ) → i < a + n → f i ≡ g i) → map f (range_with_len a n) ≡ map g (range_with_len a n)
+same_lines f g a zero each = refl
+same_lines f g a (suc n) each =
+    rw (each a (omega arith)) (ap (λ l. g a ∷ l) (same_lines f g (a + 1) n (λ i below. each i (omega arith))))
+
+-- the text of the totals
+pub totals_are : (setup : Setup) (files : List File) (tally : Tallied) (names : List (List ℕ)) → 0 < length setup.words → length setup.words ≤ 4
+    → tally.matches ≡ setup.matches → names ≡ robot_names setup.words → IsTallyOf tally (outcomes setup files setup.matches)
+    → totals tally.matches names (score_at tally) ≡ totals_text setup files
+unfolding totals
+totals_are setup files tally names some most all named is =
+    let few : length (robot_names setup.words) ≤ 4 =
+    omega (arith, length-map setup.words file_name, robots_there (map file_name setup.words) (omega (arith, length-map setup.words file_name))) in
+    ap (λ l. totals tally.matches l (score_at tally)) named
+    ∙ ap (λ n. totals n (robot_names setup.words) (score_at tally)) all
+    ∙ (ap (λ lines. lines_text (totals_line setup.matches ∷ lines))
+    (same_lines (λ i. score_line i (score_at tally i) (get_or (robot_names setup.words) i []))
+    (λ i. score_line i (score_of (outcomes setup files setup.matches) i) (get_or (robot_names setup.words) i []))
+    0 (length (robot_names setup.words))
+    (λ i below. ap (λ score. score_line i score (get_or (robot_names setup.words) i [])) (is i (omega arith)))))

@@ -1,0 +1,15 @@
+use Rattle.std.proofs.Common.{take, map}
+use Rattle.series.specs.Courses.{score_at}
+use Rattle.sinks.specs.Draft.{MayFail, Adds}
+use Rattle.series.specs.Names.{robot_names}
+use Rattle.series.specs.Totals.{score_lines}
+use Rattle.series.specs.Lines.{lines_text}
+use Rattle.series.proofs.tallies.add_scores.Given as goal
+
+-- the lines of so many robots are added
+abbrev pub invariant-loop-robot : goal.invariant-loop-robot
+invariant-loop-robot g l =
+    MayFail l.pen (g.S.Sink.failures l.sink)
+    × Adds (g.S.Sink.portions l.fn.sink) (g.S.Sink.failures l.fn.sink) l.fn.pen
+    (g.S.Sink.portions l.sink) (g.S.Sink.failures l.sink) l.pen
+    (lines_text (take l.robot (score_lines (robot_names (map (λ word. word.now) l.words)) (score_at l.tally))))

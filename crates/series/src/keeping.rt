@@ -1,0 +1,106 @@
+//! What becomes of the program of a good file: it is kept with those of the other files, or let go.
+
+ghost use Rattle.std.specs.Prelude.{◌≡◌, ◌-◌, ◌^◌, ◌<◌, List, [], Option, Some, None, length, IfSome};
+ghost use Rattle.battles.specs.Programs.{AreOfProfile};
+ghost use Rattle.code.specs.Generation.{ObjectCode};
+ghost use Rattle.series.specs.Failures.{CountsSink};
+ghost use Rattle.series.specs.Compiling.{listed, listing_piece};
+ghost use Rattle.series.specs.Pieces.{taken};
+ghost use Rattle.series.specs.Keeping.{and_program};
+ghost use Rattle.series.specs.Runs.{PutsPieces};
+ghost use Rattle.settings.specs.declared.settings.Mode.{Mode};
+ghost use Rattle.settings.specs.declared.settings.Mode.TheVariants.{Listing};
+ghost use Rattle.sinks.specs.Portions.{Portions};
+
+use crate::listing::put_listing;
+use battles::Programs;
+use code::Program;
+use settings::{FILES_MAX, Mode};
+use sinks::Sink;
+use tokens::DeviceFault;
+
+/// What takes the programs of good files, in order. It has a mode: in that of listings it puts one of each program.
+pub(crate) trait TakesPrograms {
+    /// The programs that it was given, unless it lets them go.
+    ghost kept: { Self → Option (List ObjectCode) };
+
+    /// Whether it puts listings.
+    ghost mode: { Self → Mode };
+
+    /// Takes the program of the file with this name. Puts its listing, if listings are asked for.
+    fn take<S: Sink>(
+        &mut self,
+        name: &[u8],
+        program: Program,
+        out: &mut S,
+    ) -> Result<(), DeviceFault>
+        requires room { IfSome (kept self.old) (λ kept. length kept < FILES_MAX) }
+        requires alike { IfSome (kept self.old) (λ kept. AreOfProfile program.profile kept) }
+        requires countable { S.failures out.old < 2 ^ 64 - 1 }
+        ensures mode { mode self.new ≡ mode self.old }
+        ensures kept { kept self.new ≡ and_program (kept self.old) program }
+        ensures output { (faults : Portions)
+            → PutsPieces result (taken (S.portions out.old) faults) (taken (S.portions out.new) faults)
+            (listed (mode self.old) (listing_piece name.now program)) }
+        ensures count { CountsSink result (S.failures out.old) (S.failures out.new) };
+}
+
+/// Keeps the programs of all files, in the order of the files.
+///
+/// Programs are large: they are kept in place, since moving them takes stack.
+#[derive(Drop)]
+pub(crate) struct Keeper {
+    pub(crate) programs: Programs,
+    mode: Mode,
+}
+
+impl Keeper {
+    /// Makes a keeper without programs.
+    pub(crate) fn new(mode: Mode) -> Keeper
+        ensures { result ≡ record { programs = []; mode = mode } }
+    {
+        Keeper {
+            programs: Programs::new(),
+            mode,
+        }
+    }
+}
+
+impl TakesPrograms for Keeper {
+    ghost kept = { λ keeper. Some keeper.programs };
+
+    ghost mode = { λ keeper. keeper.mode };
+
+    fn take<S: Sink>(
+        &mut self,
+        name: &[u8],
+        program: Program,
+        out: &mut S,
+    ) -> Result<(), DeviceFault> {
+        let file = self.programs.len();
+        self.programs.push(program);
+        match self.mode {
+            Mode::Listing => put_listing(out, name, self.programs.program(file)),
+            Mode::Matches => Ok(()),
+        }
+    }
+}
+
+/// Lists each program and lets it go, so that only one program takes room at a time.
+#[derive(Drop)]
+pub(crate) struct Lister;
+
+impl TakesPrograms for Lister {
+    ghost kept = { λ lister. None };
+
+    ghost mode = { λ lister. Listing };
+
+    fn take<S: Sink>(
+        &mut self,
+        name: &[u8],
+        program: Program,
+        out: &mut S,
+    ) -> Result<(), DeviceFault> {
+        put_listing(out, name, &program)
+    }
+}

@@ -1,0 +1,186 @@
+//! How often each robot won, tied and lost.
+
+ghost use Rattle.std.specs.Prelude.{◌≡◌, ℕ, ◌+◌, ◌-◌, ◌^◌, ◌<◌, ◌≤◌, List, [], ◌∷◌, ◌++◌, length, map, All};
+ghost use Rattle.battles.specs.Battle.{Outcome as Ended, alive};
+ghost use Rattle.code.specs.Listing.{ended_line};
+ghost use Rattle.series.specs.Courses.{Tallied, IsTallyOf, score_at, with_match};
+ghost use Rattle.sinks.specs.Draft.{MayFail, Adds};
+ghost use Rattle.sinks.specs.Portions.{Puts};
+ghost use Rattle.series.specs.Names.{robot_names};
+ghost use Rattle.series.specs.Lines.{lines_text};
+ghost use Rattle.series.specs.Totals.{totals, score_line, score_lines, survivors};
+
+use crate::names::robot_name;
+use battles::Outcome;
+use settings::FILES_MAX;
+use sinks::{Pen, Sink};
+use std::marker::Model;
+use tokens::DeviceFault;
+
+/// How often a robot won, tied and lost.
+#[derive(Clone, Copy)]
+pub(crate) struct Score {
+    won: u32,
+    tied: u32,
+    lost: u32,
+}
+
+/// The scores of up to four robots.
+#[derive(Drop)]
+pub(crate) struct Tally {
+    matches: u32,
+    scores: [Score; FILES_MAX],
+}
+
+impl Model for Tally {
+    ghost Value = { Tallied };
+
+    ghost view = { λ t. record { matches = t.matches; scores = t.scores } };
+
+    ghost invariant = { λ t. (length t.scores ≡ 4)
+        × All (λ score. score.won + score.tied + score.lost ≡ t.matches) t.scores };
+}
+
+impl Tally {
+    /// Makes the tally of no matches.
+    pub(crate) fn new() -> Tally
+        ensures matches { result.matches ≡ 0 }
+        ensures tally { IsTallyOf result [] }
+    {
+        Tally {
+            matches: 0,
+            scores: [Score {
+                won: 0,
+                tied: 0,
+                lost: 0,
+            }; FILES_MAX],
+        }
+    }
+
+    /// Returns how many matches were counted.
+    pub(crate) fn matches(&self) -> u32
+        ensures { result ≡ self.now.matches }
+    {
+        self.matches
+    }
+
+    /// Counts one more match.
+    pub(crate) fn count(&mut self, outcome: &Outcome)
+        requires { self.old.matches < 2 ^ 32 - 1 }
+        ensures matches { self.new.matches ≡ self.old.matches + 1 }
+        ensures tally { (outcomes : List Ended) → IsTallyOf self.old outcomes
+            → IsTallyOf self.new (outcomes ++ outcome.now ∷ []) }
+    {
+        self.matches += 1;
+        let survivors = survivor_count(outcome);
+        for robot in 0..FILES_MAX {
+            self.scores[robot] = self.scores[robot].with_match(is_alive(outcome, robot), survivors);
+        }
+    }
+}
+
+impl Score {
+    /// Returns the score with one more match, in which so many robots survived.
+    fn with_match(self, alive: bool, survivors: usize) -> Score
+        requires { self.won + self.tied + self.lost < 2 ^ 32 - 1 }
+        ensures { result ≡ with_match self alive survivors }
+    {
+        match (alive, survivors) {
+            (false, _) => Score {
+                lost: self.lost + 1,
+                ..self
+            },
+            (true, 1) => Score {
+                won: self.won + 1,
+                ..self
+            },
+            (true, _) => Score {
+                tied: self.tied + 1,
+                ..self
+            },
+        }
+    }
+}
+
+/// Counts the robots that survived.
+fn survivor_count(outcome: &Outcome) -> usize
+    ensures { result ≡ survivors outcome.now }
+{
+    outcome
+        .damages()
+        .iter()
+        .filter(|damage| **damage < 100)
+        .count()
+}
+
+/// Reports whether a robot is alive. There is none past the last one.
+#[tactic(auto, using(crate::proofs::CoursesLemmas::none_alive))]
+fn is_alive(outcome: &Outcome, robot: usize) -> bool
+    ensures { result ≡ alive outcome.now robot }
+{
+    robot < outcome.damages().len() && outcome.is_alive(robot)
+}
+
+/// Writes the totals of a series, as one piece. The words name the robots' files.
+pub(crate) fn put_totals<S: Sink>(
+    sink: &mut S,
+    tally: &Tally,
+    words: &[&str],
+) -> Result<(), DeviceFault>
+    requires some { 0 < length words.now }
+    requires most { length words.now ≤ FILES_MAX }
+    requires countable { S.failures sink.old < 2 ^ 64 - 1 }
+    ensures { Puts result (S.portions sink.old) (S.failures sink.old) (S.portions sink.new) (S.failures sink.new)
+        (totals tally.now.matches (robot_names (map (λ word. word.now) words.now)) (score_at tally.now)) }
+{
+    let mut pen = Pen::new();
+    pen.add(sink, b"Totals: ");
+    pen.number(sink, tally.matches);
+    pen.add(sink, b" matches");
+    pen.add(sink, b"\n");
+    add_scores(&mut pen, sink, tally, words);
+    pen.done(sink)
+}
+
+/// Adds the line of each robot.
+fn add_scores<S: Sink>(pen: &mut Pen, sink: &mut S, tally: &Tally, words: &[&str])
+    requires some { 0 < length words.now }
+    requires most { length words.now ≤ FILES_MAX }
+    requires countable { MayFail pen.old (S.failures sink.old) }
+    ensures countable { MayFail pen.new (S.failures sink.new) }
+    ensures text { Adds (S.portions sink.old) (S.failures sink.old) pen.old (S.portions sink.new)
+        (S.failures sink.new) pen.new
+        (lines_text (score_lines (robot_names (map (λ word. word.now) words.now)) (score_at tally.now))) }
+{
+    for robot in 0..words.len().max(2) {
+        add_score(
+            pen,
+            sink,
+            robot,
+            tally.scores[robot],
+            robot_name(words, robot),
+        );
+    }
+}
+
+/// Adds the line of one robot, which has this score and this name.
+fn add_score<S: Sink>(pen: &mut Pen, sink: &mut S, robot: usize, score: Score, name: &[u8])
+    requires there { robot < FILES_MAX }
+    requires countable { MayFail pen.old (S.failures sink.old) }
+    ensures countable { MayFail pen.new (S.failures sink.new) }
+    ensures text { Adds (S.portions sink.old) (S.failures sink.old) pen.old (S.portions sink.new)
+        (S.failures sink.new) pen.new
+        (ended_line (score_line robot score name.now)) }
+{
+    pen.add(sink, b"  ");
+    pen.number(sink, robot as u32 + 1);
+    pen.add(sink, b") won ");
+    pen.number(sink, score.won);
+    pen.add(sink, b" tied ");
+    pen.number(sink, score.tied);
+    pen.add(sink, b" lost ");
+    pen.number(sink, score.lost);
+    pen.add(sink, b" ");
+    pen.add(sink, name);
+    pen.add(sink, b"\n");
+}
