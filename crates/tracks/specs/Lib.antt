@@ -1,2 +1,0 @@
-pub mod Pilot
-pub mod Wish

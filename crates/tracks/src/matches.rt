@@ -1,68 +1,99 @@
-//! Matches: how one is played, and what is recorded of it.
+//! What is recorded of a match.
 
-ghost use Rattle.std.specs.Prelude.{◌≡◌, ◌+◌, ◌/◌, ◌≤◌, ◌<◌, length, nat_lt, Some, if◌then◌else◌};
-ghost use Rattle.arena.specs.Ground.{most_updates};
+ghost use Rattle.std.specs.Prelude.{◌≡◌, ◌/◌, ◌≤◌, ◌<◌, length, nat_lt, Some, if◌then◌else◌};
 ghost use Rattle.std.specs.Option.{option_or};
 
-use crate::pilots::Pilot;
+use crate::requests::View;
 use arena::{Arena, MOST_ROBOTS};
 use arrayvec::ArrayVec;
-use settings::CYCLES_MAX;
-use trails::{Path, Place, Shots};
-
-/// An update follows each cycle whose number is a multiple of this.
-const UPDATE_CYCLES: u32 = 15;
+use code::Intrinsic;
+use playing::{Pilot, Question, Turn, UPDATE_CYCLES, Watcher};
+use tools::Wish;
+use trails::{Path, Place, Shot, Shots};
 
 /// The damage in percent at which a robot is dead.
 const DEADLY: u8 = 100;
 
+/// The most times that a robot's damage grows: each time by a percent at least.
+const MOST_GROWTHS: usize = 100;
+
+/// A robot's damage grows.
+#[derive(Clone, Copy, Default, Drop)]
+pub struct Growth {
+    /// The update in which it grows.
+    pub update: u32,
+    /// The damage from then on, in percent.
+    pub damage: u8,
+}
+
 /// What is recorded of a robot.
 #[derive(Drop)]
 pub struct Track {
-    /// Where it was while it lived: the start, and after each update.
+    /// The update after which it was at the first place of its path.
+    pub first: u32,
+    /// Where it was while it lived, in the cycles that are drawn: at the start, and after each update.
     pub path: Path,
-    /// Where it is at the end.
+    /// Where it is at the end of the cycles that are drawn.
     pub end: Place,
     /// The update in which it died, if it did.
     pub death: Option<u32>,
-    /// Its damage at the end, in percent.
+    /// Its damage at the end of the match, in percent.
     pub damage: u8,
+    /// How its damage grew.
+    pub growths: ArrayVec<Growth, MOST_GROWTHS>,
 }
 
 impl Default for Track {
     fn default() -> Track {
         Track {
+            first: 0,
             path: Path::new(),
             end: Place::default(),
             death: None,
             damage: 0,
+            growths: ArrayVec::new(),
         }
     }
 }
 
 impl Track {
-    /// Reports whether the robot is alive at the end.
+    /// Reports whether the robot is alive at the end of the match.
     pub fn is_alive(&self) -> bool
         ensures { result ≡ nat_lt self.now.damage DEADLY }
     {
         self.damage < DEADLY
     }
 
-    /// Records where the robot is after the update of this number, and its damage. Its death is in the first update
-    /// after which it isn't alive.
-    fn record(&mut self, place: Place, damage: u8, update: u32)
-        ensures end { self.new.end ≡ place }
+    /// Reports whether the robot is dead after the update of this number.
+    pub fn is_dead_after(&self, update: u32) -> bool {
+        self.death.is_some_and(|death| death <= update)
+    }
+
+    /// Records the robot's damage after the update of this number. Its death is in the first update after which it isn't
+    /// alive.
+    fn suffer(&mut self, damage: u8, update: u32)
         ensures damage { self.new.damage ≡ damage }
         ensures death { self.new.death ≡ (if nat_lt damage DEADLY then self.old.death
             else option_or self.old.death (Some update)) }
     {
-        self.end = place;
+        if self.damage < damage {
+            let _ = self.growths.try_push(Growth { update, damage });
+        }
         self.damage = damage;
-        if self.is_alive() {
-            self.path.add(place);
-        } else if self.death.is_none() {
+        if !self.is_alive() && self.death.is_none() {
             self.death = Some(update);
         }
+    }
+
+    /// Adds a place to the path, after the update of this number, if the robot is alive.
+    fn pass(&mut self, place: Place, update: u32) {
+        if !self.is_alive() {
+            return;
+        }
+        if self.path.places().is_empty() {
+            self.first = update;
+        }
+        self.path.add(place);
     }
 }
 
@@ -86,105 +117,93 @@ impl Recording {
     }
 }
 
-/// Plays the match of this number and seed, of at most `limit` cycles.
-pub fn play(pilots: &mut [Pilot<'_>], seed: u64, number: u32, limit: u32) -> Recording
+/// Plays the match that is wished for, and records what of it is drawn.
+pub fn record(pilots: &mut [Pilot<'_>], wish: &Wish<'_>, view: View) -> Recording
     requires some { 2 ≤ length pilots.old }
     requires most { length pilots.old ≤ MOST_ROBOTS }
-    requires limit { limit ≤ CYCLES_MAX }
-    ensures manned { length result.tracks.items ≡ length pilots.old }
-    ensures cycles { result.cycles ≤ limit }
+    ensures { result.cycles ≤ wish.now.limit }
 {
-    let mut arena = Arena::new(seed, u64::from(number), pilots.len());
-    let mut tracks = tracks(pilots.len());
-    let mut shots = Shots::new();
-    watch(tracks.as_mut_slice(), &arena, 0);
-    let cycles = run(pilots, &mut arena, tracks.as_mut_slice(), &mut shots, limit);
+    let mut recorder = Recorder {
+        view,
+        tracks: ArrayVec::new(),
+        shots: Shots::new(),
+    };
+    let cycles = playing::play(
+        pilots,
+        &mut recorder,
+        wish.seed(),
+        wish.number(),
+        wish.limit(),
+    );
     Recording {
         cycles,
-        tracks,
-        shots,
+        tracks: recorder.tracks,
+        shots: recorder.shots,
     }
 }
 
-/// Makes the tracks of so many robots, without places.
-fn tracks(robots: usize) -> ArrayVec<Track, MOST_ROBOTS>
-    requires { robots ≤ MOST_ROBOTS }
-    ensures { length result.items ≡ robots }
-{
-    let mut tracks = ArrayVec::new();
-    for _ in 0..robots {
-        tracks.push(Track::default());
-    }
-    tracks
+/// What records a match as it is played.
+#[derive(Drop)]
+struct Recorder {
+    view: View,
+    tracks: ArrayVec<Track, MOST_ROBOTS>,
+    shots: Shots,
 }
 
-/// Runs cycles until at most one robot lives, or the limit is reached. Returns how many they were.
-fn run(
-    pilots: &mut [Pilot<'_>],
-    arena: &mut Arena,
-    tracks: &mut [Track],
-    shots: &mut Shots,
-    limit: u32,
-) -> u32
-    requires manned { length arena.old.robots ≡ length pilots.old }
-    requires watched { length tracks.old ≡ length pilots.old }
-    requires begun { arena.old.updates ≡ 0 }
-    requires limit { limit ≤ CYCLES_MAX }
-    ensures { result ≤ limit }
-{
-    for number in 0..limit {
-        turns(pilots, arena, shots, number / UPDATE_CYCLES);
-        if (number + 1) % UPDATE_CYCLES == 0
-            && updated(arena, tracks, shots, (number + 1) / UPDATE_CYCLES)
-        {
-            return number + 1;
+impl Recorder {
+    /// Records what each robot suffered up to the update of this number, and where it is, if that is drawn.
+    fn watch(&mut self, arena: &Arena, update: u32) {
+        let cycle = update.saturating_mul(UPDATE_CYCLES);
+        for robot in 0..arena.robot_count() {
+            if let Some(track) = self.tracks.as_mut_slice().get_mut(robot) {
+                track.suffer(arena.damage(robot), update);
+                let place = Place::of(arena, robot);
+                if cycle <= self.view.to {
+                    track.end = place;
+                }
+                if self.view.has(cycle) {
+                    track.pass(place, update);
+                }
+            }
         }
     }
-    limit
-}
 
-/// Runs the turns of one cycle after so many updates, in the order of the robots.
-fn turns(pilots: &mut [Pilot<'_>], arena: &mut Arena, shots: &mut Shots, updates: u32)
-    requires manned { length arena.old.robots ≡ length pilots.old }
-    requires most { updates ≤ most_updates }
-    ensures manned { length arena.new.robots ≡ length arena.old.robots }
-    ensures updates { arena.new.updates ≡ arena.old.updates }
-{
-    for robot in 0..pilots.len() {
-        pilots[robot].turn(arena, robot, shots, updates);
-    }
-}
-
-/// Does the update of this number, and records it. Reports whether it decided the match.
-fn updated(arena: &mut Arena, tracks: &mut [Track], shots: &mut Shots, update: u32) -> bool
-    requires manned { length arena.old.robots ≡ length tracks.old }
-    requires most { arena.old.updates < most_updates }
-    ensures manned { length arena.new.robots ≡ length arena.old.robots }
-    ensures updates { arena.new.updates ≡ arena.old.updates + 1 }
-{
-    arena.update();
-    mark(shots, tracks, arena, update);
-    watch(tracks, arena, update);
-    arena.live_count() <= 1
-}
-
-/// Records where each robot is after the update of this number, and what it suffered.
-fn watch(tracks: &mut [Track], arena: &Arena, update: u32)
-    requires { length arena.now.robots ≡ length tracks.old }
-{
-    for robot in 0..tracks.len() {
-        tracks[robot].record(Place::of(arena, robot), arena.damage(robot), update);
-    }
-}
-
-/// Marks the shots whose bursts in the update of this number hurt a robot: one that was alive before it, at the place
-/// where it is after it.
-fn mark(shots: &mut Shots, tracks: &[Track], arena: &Arena, update: u32)
-    requires { length arena.now.robots ≡ length tracks.now }
-{
-    for robot in 0..tracks.len() {
-        if tracks[robot].is_alive() {
-            shots.mark(update, Place::of(arena, robot));
+    /// Marks the shots whose bursts in the update of this number hurt a robot: one that was alive before it, at the
+    /// place where it is after it.
+    fn mark(&mut self, arena: &Arena, update: u32) {
+        for robot in 0..arena.robot_count() {
+            if let Some(track) = self.tracks.as_slice().get(robot)
+                && track.is_alive()
+            {
+                self.shots.mark(update, Place::of(arena, robot));
+            }
         }
+    }
+}
+
+impl Watcher for Recorder {
+    fn begins(&mut self, arena: &Arena) {
+        for _ in 0..arena.robot_count() {
+            let _ = self.tracks.try_push(Track::default());
+        }
+        self.watch(arena, 0);
+    }
+
+    fn asked(&mut self, turn: Turn, _pilot: &Pilot<'_>, question: Question, arena: &Arena) {
+        let is_drawn = self.view.has_shots
+            && self.view.shows(turn.robot)
+            && self.view.has(turn.cycle);
+        if is_drawn && question.intrinsic == Intrinsic::Cannon && question.reply == 1 {
+            let updates = turn.cycle.saturating_sub(1) / UPDATE_CYCLES;
+            let from = Place::of(arena, turn.robot);
+            self.shots
+                .add(Shot::new(turn.robot, updates, from, question.arguments));
+        }
+    }
+
+    fn updated(&mut self, cycle: u32, arena: &Arena) {
+        let update = cycle / UPDATE_CYCLES;
+        self.mark(arena, update);
+        self.watch(arena, update);
     }
 }

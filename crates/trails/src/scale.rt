@@ -1,6 +1,6 @@
 //! What the picture makes of places and times.
 
-ghost use Rattle.std.specs.Prelude.{◌≡◌, ◌+◌, ◌-◌, ◌*◌, ◌/◌, ◌≤◌, min, max};
+ghost use Rattle.std.specs.Prelude.{◌≡◌, ◌+◌, ◌-◌, ◌*◌, ◌/◌, ◌≤◌, IfSome, min, max};
 
 use crate::places::Place;
 
@@ -39,4 +39,68 @@ pub fn opacity(update: u32, updates: u32) -> u32
     let share = u64::from(100 - FAINTEST) * u64::from(update.min(updates))
         / u64::from(updates.max(1));
     FAINTEST + share as u32
+}
+
+/// The left end of the strip of damage, in units of the picture.
+pub const STRIP_LEFT: u32 = 1120;
+
+/// The upper end of the strip of damage, where it has 100 percent.
+pub const STRIP_TOP: u32 = 440;
+
+/// The width of the strip of damage: all cycles of the match.
+pub const STRIP_WIDTH: u32 = 350;
+
+/// The height of a percent in the strip of damage.
+pub const STRIP_PERCENT: u32 = 3;
+
+/// Returns the column in the strip of damage of what happened after so many of the match's cycles.
+pub fn strip_column(cycle: u32, cycles: u32) -> u32
+    ensures value { result ≡ STRIP_LEFT + STRIP_WIDTH * min cycle cycles / max cycles 1 }
+    ensures left { STRIP_LEFT ≤ result }
+    ensures right { result ≤ STRIP_LEFT + STRIP_WIDTH }
+{
+    let way = u64::from(STRIP_WIDTH) * u64::from(cycle.min(cycles)) / u64::from(cycles.max(1));
+    STRIP_LEFT + way as u32
+}
+
+/// Returns the row in the strip of damage of so many percent: more damage is higher up.
+pub fn strip_row(percent: u8) -> u32
+    ensures value { result ≡ STRIP_TOP + STRIP_PERCENT * (100 - min percent 100) }
+    ensures top { STRIP_TOP ≤ result }
+    ensures bottom { result ≤ STRIP_TOP + STRIP_PERCENT * 100 }
+{
+    STRIP_TOP + STRIP_PERCENT * (100 - u32::from(percent.min(100)))
+}
+
+/// Returns a round step of cycles, so that marks at its multiples are few: at most `most` beside the one at 0.
+pub fn step_of(cycles: u32, most: u32) -> u32
+    requires { 1 ≤ most }
+    ensures some { 1 ≤ result }
+    ensures few { cycles / result ≤ most }
+{
+    let mut power = 1u32;
+    for _ in 0..9 {
+        if let Some(step) = round_step(cycles, most, power) {
+            return step;
+        }
+        power = power.saturating_mul(10);
+    }
+    cycles.max(1)
+}
+
+/// Returns the first step that is wide enough of a power of ten, twice and five times as much.
+fn round_step(cycles: u32, most: u32, power: u32) -> Option<u32>
+    requires { 1 ≤ power }
+    ensures { IfSome result (λ step. (1 ≤ step) × (cycles / step ≤ most)) }
+{
+    let (twice, five_times) = (power.saturating_mul(2), power.saturating_mul(5));
+    if cycles / power <= most {
+        Some(power)
+    } else if cycles / twice <= most {
+        Some(twice)
+    } else if cycles / five_times <= most {
+        Some(five_times)
+    } else {
+        None
+    }
 }

@@ -1,0 +1,91 @@
+//! A line of a source with a mark below it.
+
+ghost use Rattle.std.specs.Prelude.{◌≡◌, ◌+◌, ◌<◌, ◌≤◌};
+
+use std::alloc::AllocError;
+
+/// The most bytes of a line that are shown before the marked one.
+const MOST_BEFORE: usize = 70;
+
+/// The most bytes of a line that are shown.
+const MOST_SHOWN: usize = 110;
+
+/// Adds the line of a source that has the byte of an index, and a mark below that byte. A long line is cut. A line of
+/// spaces alone is left out.
+pub fn add_marked(text: &mut String, source: &[u8], at: usize) -> Result<(), AllocError> {
+    let start = line_start(source, at);
+    let line = line_from(source.get(start..).unwrap_or(&[]));
+    if line.iter().all(|byte| is_space(*byte)) {
+        return Ok(());
+    }
+    let marked = at.saturating_sub(start);
+    let shown = line.get(first_shown(marked)..).unwrap_or(&[]);
+    let shown = shown.get(..MOST_SHOWN).unwrap_or(shown);
+    let before = marked.saturating_sub(first_shown(marked));
+    text.push_str("    ")?;
+    for byte in shown {
+        text.push(char::from(printable(*byte)))?;
+    }
+    text.push_str("\n    ")?;
+    for number in 0..before {
+        let above = shown.get(number).copied().unwrap_or(b' ');
+        text.push(char::from(space_below(above)))?;
+    }
+    text.push_str("^\n")
+}
+
+/// Returns where the line begins that has the byte of an index.
+fn line_start(source: &[u8], at: usize) -> usize {
+    let before = source.get(..at).unwrap_or(source);
+    match before.iter().rposition(|byte| *byte == b'\n') {
+        Some(place) => place.saturating_add(1),
+        None => 0,
+    }
+}
+
+/// Returns the line that some bytes begin with: byte 26 ends the source, and so the line.
+fn line_from(bytes: &[u8]) -> &[u8] {
+    match bytes
+        .iter()
+        .position(|byte| matches!(byte, b'\n' | b'\r' | 26))
+    {
+        Some(end) => bytes.get(..end).unwrap_or(bytes),
+        None => bytes,
+    }
+}
+
+/// Returns how many bytes of a line are cut off at its begin, by how many are before the marked one.
+fn first_shown(marked: usize) -> usize
+    ensures within { result ≤ marked }
+    ensures near { marked ≤ result + MOST_BEFORE }
+    ensures whole { marked ≤ MOST_BEFORE → result ≡ 0 }
+{
+    marked.saturating_sub(MOST_BEFORE)
+}
+
+/// Reports whether a byte separates tokens.
+fn is_space(byte: u8) -> bool {
+    matches!(byte, b' ' | 9..=13)
+}
+
+/// Returns a byte as it is shown: one that no terminal shows as one column is a question mark.
+fn printable(byte: u8) -> u8
+    ensures ascii { result < 127 }
+    ensures shown { 32 ≤ byte → byte < 127 → result ≡ byte }
+{
+    match byte {
+        b'\t' | 32..127 => byte,
+        _ => b'?',
+    }
+}
+
+/// Returns the space that is as wide as a byte above it.
+fn space_below(byte: u8) -> u8
+    ensures tabulator { byte ≡ 9 → result ≡ 9 }
+    ensures space { byte ≡ 9 → ⊥ → result ≡ 32 }
+{
+    match byte {
+        b'\t' => b'\t',
+        _ => b' ',
+    }
+}

@@ -1,0 +1,170 @@
+//! What a fault of a source is explained by.
+
+use crate::carets::add_marked;
+use crate::hints::{Hint, hint_on};
+use crate::misnamed::add_misnamed;
+use crate::reserved::{on_character, on_word};
+use crate::scenes::Scene;
+use crate::searches::Search;
+use crate::told::add_token;
+use crate::wanted::add_wanted;
+use derivations::{Located, fitting, locate};
+use grammar::{Code, Diagnostic, Profile};
+use std::alloc::{AllocError, Global};
+use tokens::{CONSTANT_MAX, NAME_BYTES, SOURCE_BYTES};
+
+/// A fault whose token is found.
+#[derive(Clone, Copy)]
+pub struct Found<'a> {
+    /// The source's bytes.
+    pub source: &'a [u8],
+    /// Its tokens.
+    pub tokens: &'a [Located],
+    /// The index of the fault's token.
+    pub index: usize,
+    /// What the fault is.
+    pub code: Code,
+    /// The language profile.
+    pub profile: Profile,
+}
+
+/// Adds what explains the fault of the source of a file, which `compile` found by the same profile: its line with the
+/// column, in bytes from 1, the source's line with a mark, what was met and what fits there, and a hint. The path is
+/// written as it is. The only error is that memory is refused.
+pub fn add_explanation(
+    text: &mut String,
+    alloc: Global,
+    path: &str,
+    source: &[u8],
+    profile: Profile,
+    diagnostic: &Diagnostic,
+) -> Result<(), AllocError> {
+    let tokens = locate(alloc, source)?;
+    let mut search = Search::start(alloc, tokens.as_slice(), profile)?;
+    let found = Found {
+        source,
+        tokens: tokens.as_slice(),
+        index: search.find(diagnostic)?,
+        code: diagnostic.code,
+        profile,
+    };
+    add_head(text, path, diagnostic, &found)?;
+    match found.code {
+        Code::SyntaxError | Code::ReservedWord | Code::BadCharacter => {
+            add_misfit(text, alloc, &found, &search)
+        }
+        Code::FunctionDefinedTwice
+        | Code::IntrinsicRedefined
+        | Code::BadParameterDeclaration
+        | Code::FunctionNotDefined
+        | Code::NoMainFunction => add_misnamed(text, &found, search.defined()),
+        _ => add_limit(text, &found),
+    }
+}
+
+/// Adds the first line, and the source's line with a mark.
+fn add_head(
+    text: &mut String,
+    path: &str,
+    diagnostic: &Diagnostic,
+    found: &Found<'_>,
+) -> Result<(), AllocError> {
+    let (line, words) = (diagnostic.line, diagnostic.code.text());
+    let (column, start) = match found.tokens.get(found.index) {
+        Some(located) => (located.column, located.start),
+        None => (1, 0),
+    };
+    write!(text, "{path}:{line}:{column}: {words}\n")?;
+    add_marked(text, found.source, start)
+}
+
+/// Adds what was met in place of what fits, and the hint on it.
+fn add_misfit(
+    text: &mut String,
+    alloc: Global,
+    found: &Found<'_>,
+    search: &Search<'_>,
+) -> Result<(), AllocError> {
+    let fits = fitting(alloc, found.tokens, found.index)?;
+    add_met(text, found)?;
+    text.push_str("  fits: ")?;
+    add_wanted(text, alloc, fits.as_slice())?;
+    text.push_str("\n")?;
+    let scene = Scene::at(
+        found.source,
+        found.tokens,
+        search.derivation(),
+        fits.as_slice(),
+    );
+    if let Some(hint) = hint_for(found, &scene) {
+        text.push_str("  hint: ")?;
+        hint.add(text)?;
+        text.push_str("\n")?;
+    }
+    Ok(())
+}
+
+/// Returns the hint on what was met: words and characters that aren't known have their own.
+fn hint_for(found: &Found<'_>, scene: &Scene<'_>) -> Option<Hint> {
+    match found.code {
+        Code::ReservedWord => {
+            let words = on_word(found.source, found.tokens.get(found.index)?)?;
+            Some(Hint::Text(words))
+        }
+        Code::BadCharacter => {
+            let words = on_character(found.source, found.tokens, found.index)?;
+            Some(Hint::Text(words))
+        }
+        _ => hint_on(scene),
+    }
+}
+
+/// Adds the token that was met.
+pub fn add_met(text: &mut String, found: &Found<'_>) -> Result<(), AllocError> {
+    if let Some(located) = found.tokens.get(found.index) {
+        text.push_str("  met: ")?;
+        add_token(text, found.source, located)?;
+        text.push_str("\n")?;
+    }
+    Ok(())
+}
+
+/// Adds the limit that a source passes.
+fn add_limit(text: &mut String, found: &Found<'_>) -> Result<(), AllocError> {
+    text.push_str("  hint: ")?;
+    match found.code {
+        Code::CommentNotClosed => text.push_str("the comment that begins here has no `*/`")?,
+        Code::NameTooLong => {
+            let length = length_of(found);
+            write!(
+                text,
+                "a name has at most {NAME_BYTES} letters, and this one has {length}"
+            )?;
+        }
+        Code::ConstantTooLarge => write!(text, "the greatest number is {CONSTANT_MAX}")?,
+        Code::SourceTooLong => write!(text, "a source has at most {SOURCE_BYTES} bytes")?,
+        Code::NestedTooDeeply => text.push_str(
+            "at most 64 blocks, branches, loops, assignments, brackets and calls are open at once",
+        )?,
+        Code::TooManyVariables => text.push_str(
+            "a function has at most 64 variables, and a file at most 64 outside its functions",
+        )?,
+        Code::TooManyFunctions => text.push_str("a file has at most 64 functions")?,
+        _ => {
+            let most = found.profile.instructions();
+            write!(
+                text,
+                "the code has at most {most} instructions in this profile; crobots -c lists it"
+            )?;
+        }
+    }
+    text.push_str("\n")
+}
+
+/// Returns how many bytes the fault's token has.
+fn length_of(found: &Found<'_>) -> usize {
+    match found.tokens.get(found.index) {
+        Some(located) => located.end.saturating_sub(located.start),
+        None => 0,
+    }
+}

@@ -1,0 +1,277 @@
+//! Hints on tokens that don't fit: what beginners mean by them.
+
+use crate::lookalikes::{Lookalike, meant_by};
+use crate::scenes::Scene;
+use crate::told::spelling_of;
+use derivations::{Item, Role};
+use grammar::store_operator;
+use std::alloc::AllocError;
+use tokens::{Punctuator, Token, Word};
+
+/// A hint.
+#[derive(Clone, Copy, Debug, PartialEq, Eq)]
+pub enum Hint {
+    /// This text.
+    Text(&'static str),
+    /// A line lacks this at its end.
+    Lacks(u32, &'static str),
+    /// The block that begins on a line isn't closed.
+    Unclosed(u32),
+    /// A hexadecimal number, with its value if it isn't too large.
+    Hexadecimal(Option<u32>),
+    /// A name is spelled nearly as this word, or this word is written for it here.
+    Meant(&'static str),
+}
+
+impl Hint {
+    /// Adds the hint in words.
+    pub fn add(self, text: &mut String) -> Result<(), AllocError> {
+        match self {
+            Hint::Text(words) => text.push_str(words),
+            Hint::Lacks(line, what) => write!(text, "line {line} may lack {what} at its end"),
+            Hint::Unclosed(line) => write!(
+                text,
+                "the block that begins on line {line} isn't closed: a `}}` is missing"
+            ),
+            Hint::Hexadecimal(Some(value)) => write!(
+                text,
+                "numbers are decimal: hexadecimal ones aren't known; write {value}"
+            ),
+            Hint::Hexadecimal(None) => {
+                text.push_str("numbers are decimal: hexadecimal ones aren't known")
+            }
+            Hint::Meant(word) => write!(text, "perhaps {word} is meant"),
+        }
+    }
+}
+
+/// Returns the hint on a token that doesn't fit, if there is one: the first of these that apply.
+pub fn hint_on(scene: &Scene<'_>) -> Option<Hint> {
+    on_comments(scene)
+        .or(on_numbers(scene))
+        .or(on_declarations(scene))
+        .or(on_operators(scene))
+        .or(on_names(scene))
+        .or(on_heads(scene))
+        .or(on_the_outside(scene))
+        .or(on_conditions(scene))
+        .or(on_brackets(scene))
+        .or(on_ends(scene))
+}
+
+/// Returns the hint on `//`, and on `*/` without its begin.
+fn on_comments(scene: &Scene<'_>) -> Option<Hint> {
+    let is_next_slash = scene.token(scene.index.saturating_add(1))
+        == Token::Punctuator(Punctuator::Slash);
+    if scene.is_mark(Punctuator::Star) && is_next_slash {
+        return Some(Hint::Text("this `*/` closes no comment: comments don't nest"));
+    }
+    let is_next_to_slash = is_next_slash || scene.touches_mark(Punctuator::Slash);
+    if scene.is_mark(Punctuator::Slash) && is_next_to_slash {
+        return Some(Hint::Text("`//` begins no comment here: write `/* .. */` around it"));
+    }
+    None
+}
+
+/// Returns the hint on letters that follow a number.
+fn on_numbers(scene: &Scene<'_>) -> Option<Hint> {
+    let name = scene.name(scene.index)?;
+    let before = scene.before()?;
+    if !matches!(before.token, Token::Constant(_)) || !scene.touches() {
+        return None;
+    }
+    let digits = spelling_of(scene.source, before);
+    match name.as_bytes() {
+        [b'x' | b'X', digits_after @ ..] if digits == "0" => {
+            Some(Hint::Hexadecimal(hexadecimal(digits_after)))
+        }
+        [b'e' | b'E', ..] => Some(Hint::Text("numbers are whole, and written in digits alone")),
+        [b'l' | b'L' | b'u' | b'U'] => Some(Hint::Text("a number has no letter behind it")),
+        _ => Some(Hint::Text("a name begins with a letter or `_`, not with a digit")),
+    }
+}
+
+/// Returns the value of hexadecimal digits, if they are some and it is a constant's.
+fn hexadecimal(digits: &[u8]) -> Option<u32> {
+    let mut value = None;
+    for byte in digits {
+        let digit = char::from(*byte).to_digit(16)?;
+        value = Some(
+            u32::checked_mul(value.unwrap_or(0), 16)?
+                .checked_add(digit)
+                .filter(|sum| *sum <= tokens::CONSTANT_MAX)?,
+        );
+    }
+    value
+}
+
+/// Returns the hint on declarations: with values, of parameters in their list, and behind statements.
+fn on_declarations(scene: &Scene<'_>) -> Option<Hint> {
+    if scene.is_mark(Punctuator::Equals) && declares(scene) {
+        return Some(Hint::Text(
+            "a declaration gives no value: write `int a;` here, and `a = ..;` among the statements",
+        ));
+    }
+    if !scene.is_word(Word::Type) {
+        return None;
+    }
+    if scene.is_outside() && is_in_list(scene) {
+        return Some(Hint::Text(
+            "a list of parameters has names alone: write `f(a, b)`, and `int a, b;` behind it if you like",
+        ));
+    }
+    if scene.kinds.statement {
+        return Some(Hint::Text(
+            "declarations come first in their block: move it up, or leave it out, as a variable needs none",
+        ));
+    }
+    None
+}
+
+/// Reports whether a declaration is just ended by a semicolon.
+fn declares(scene: &Scene<'_>) -> bool {
+    let chosen_at = scene.chosen_at();
+    let is_typed = scene.token(chosen_at) == Token::Word(Word::Type);
+    let before = scene.token(chosen_at.saturating_sub(1));
+    let is_external = scene.is_outside() && before == Token::Word(Word::Type);
+    scene.wants(Punctuator::Semicolon) && (is_typed || is_external)
+}
+
+/// Reports whether the next token stands in a list of parameters.
+fn is_in_list(scene: &Scene<'_>) -> bool {
+    scene.wants(Punctuator::CloseRound)
+        || scene
+            .wanted()
+            .is_some_and(|pending| pending.item == Item::Naming(Role::Parameter))
+}
+
+/// Returns the hint on marks that are no operators here.
+fn on_operators(scene: &Scene<'_>) -> Option<Hint> {
+    if scene.is_mark(Punctuator::Greater) && scene.touches_mark(Punctuator::Less) {
+        return Some(Hint::Meant("`!=`"));
+    }
+    if scene.is_mark(Punctuator::Equals) {
+        match scene.token(scene.index.saturating_add(1)) {
+            Token::Punctuator(Punctuator::Greater) => return Some(Hint::Meant("`>=`")),
+            Token::Punctuator(Punctuator::Less) => return Some(Hint::Meant("`<=`")),
+            _ if scene.touches_mark(Punctuator::EqualsEquals) => return Some(Hint::Meant("`==`")),
+            _ => {}
+        }
+    }
+    if store_operator(&scene.met()).is_some() && scene.kinds.operator {
+        return Some(Hint::Text("only a single name can be assigned to; to compare write `==`"));
+    }
+    None
+}
+
+/// Returns the hint on a name that is written for a word: the one before, the one met, or that of the statement.
+fn on_names(scene: &Scene<'_>) -> Option<Hint> {
+    let names = [
+        scene.index.saturating_sub(1),
+        scene.index,
+        scene.chosen_at(),
+    ];
+    for index in names {
+        if let Some(name) = scene.name(index) {
+            match meant_by(name.as_bytes()) {
+                Some(Lookalike::Word(word)) => return Some(Hint::Meant(word)),
+                Some(Lookalike::Foreign(text)) => return Some(Hint::Text(text)),
+                None => {}
+            }
+        }
+    }
+    None
+}
+
+/// Returns the hint on the heads of functions.
+fn on_heads(scene: &Scene<'_>) -> Option<Hint> {
+    if scene.is_mark(Punctuator::OpenCurly)
+        && scene.is_outside()
+        && scene.wants(Punctuator::OpenRound)
+    {
+        return Some(Hint::Text("a function has brackets behind its name: `main() {`"));
+    }
+    if scene.is_mark(Punctuator::Semicolon) && scene.is_behind_head() {
+        return Some(Hint::Text(
+            "no `;` stands behind the head of a function; one that is defined further down needs no declaration",
+        ));
+    }
+    if scene.is_mark(Punctuator::OpenCurly)
+        && scene.wants(Punctuator::Semicolon)
+        && is_head(scene)
+    {
+        return Some(Hint::Text(
+            "a function can't begin inside another one: a `}` may be missing above",
+        ));
+    }
+    None
+}
+
+/// Reports whether the tokens before look like a function's head: a name, and brackets behind it.
+fn is_head(scene: &Scene<'_>) -> bool {
+    let chosen_at = scene.chosen_at();
+    let next = scene.token(chosen_at.saturating_add(1));
+    scene.follows_mark(Punctuator::CloseRound)
+        && scene.name(chosen_at).is_some()
+        && next == Token::Punctuator(Punctuator::OpenRound)
+}
+
+/// Returns the hint on what stands outside functions.
+fn on_the_outside(scene: &Scene<'_>) -> Option<Hint> {
+    if !scene.is_outside() {
+        return None;
+    }
+    if scene.is_mark(Punctuator::CloseCurly) {
+        return Some(Hint::Text("this `}` closes nothing: there is one too many, here or above"));
+    }
+    if scene.wants(Punctuator::OpenRound) || scene.fits(&Token::End) {
+        return Some(Hint::Text(
+            "outside functions stand declarations and functions alone: a `}` above may be one too many",
+        ));
+    }
+    None
+}
+
+/// Returns the hint on conditions and branches.
+fn on_conditions(scene: &Scene<'_>) -> Option<Hint> {
+    let follows_word = scene.follows(&Token::Word(Word::If))
+        || scene.follows(&Token::Word(Word::While));
+    if follows_word {
+        return Some(Hint::Text("the condition of an `if` or a `while` stands in brackets"));
+    }
+    if scene.is_word(Word::Else) && scene.kinds.statement {
+        return Some(Hint::Text(
+            "an `else` follows the one statement of its `if`: put several into braces, and no `;` behind the condition",
+        ));
+    }
+    None
+}
+
+/// Returns the hint on brackets that aren't closed or not opened.
+fn on_brackets(scene: &Scene<'_>) -> Option<Hint> {
+    if scene.fits_mark(Punctuator::CloseRound) && !scene.kinds.expression {
+        return Some(Hint::Text("a `)` may be missing before it"));
+    }
+    if scene.is_mark(Punctuator::CloseRound) && scene.kinds.operator {
+        return Some(Hint::Text("this `)` has no `(`"));
+    }
+    None
+}
+
+/// Returns the hint on statements and blocks that aren't ended.
+fn on_ends(scene: &Scene<'_>) -> Option<Hint> {
+    let before = scene.before()?;
+    if scene.fits_mark(Punctuator::Semicolon) && !scene.kinds.statement {
+        if before.line < scene.line(scene.index) {
+            return Some(Hint::Lacks(before.line, "a `;`"));
+        }
+        return Some(Hint::Text("a `;` may be missing before it"));
+    }
+    if scene.met() == Token::End {
+        return Some(Hint::Unclosed(scene.line(scene.open_block()?)));
+    }
+    if scene.fits_mark(Punctuator::OpenCurly) && !scene.kinds.statement {
+        return Some(Hint::Text("a `{` may be missing before it"));
+    }
+    None
+}

@@ -1,0 +1,153 @@
+//! Faults of names: which name it is, and which one may be meant.
+
+use crate::explaining::{Found, add_met};
+use crate::lookalikes::{Lookalike, meant_by};
+use crate::spelling::{is_near, is_same_but_for_case};
+use crate::told::text_of;
+use derivations::Located;
+use grammar::{Code, Intrinsic};
+use std::alloc::AllocError;
+use tokens::{Name, Punctuator, Token};
+
+/// All intrinsic functions.
+static INTRINSICS: [Intrinsic; 13] = [
+    Intrinsic::Scan,
+    Intrinsic::Cannon,
+    Intrinsic::Drive,
+    Intrinsic::Damage,
+    Intrinsic::Speed,
+    Intrinsic::LocX,
+    Intrinsic::LocY,
+    Intrinsic::Rand,
+    Intrinsic::Sqrt,
+    Intrinsic::Sin,
+    Intrinsic::Cos,
+    Intrinsic::Tan,
+    Intrinsic::Atan,
+];
+
+/// Names that beginners call, with a hint on each.
+static CALLED: [(&str, &str); 14] = [
+    ("fire", "the call is `cannon(degree, range)`"),
+    ("shoot", "the call is `cannon(degree, range)`"),
+    ("radar", "the call is `scan(degree, resolution)`"),
+    ("move", "the call is `drive(degree, speed)`"),
+    ("go", "the call is `drive(degree, speed)`"),
+    ("stop", "the call is `drive(degree, 0)`"),
+    ("x", "the call is `loc_x()`"),
+    ("y", "the call is `loc_y()`"),
+    ("random", "the call is `rand(limit)`"),
+    ("health", "the call is `damage()`"),
+    ("print", "a robot writes nothing"),
+    ("printf", "a robot writes nothing"),
+    ("abs", "it isn't there: write it as a function of the file"),
+    ("pow", "it isn't there: write it as a function of the file"),
+];
+
+/// Adds the name of a fault, and a hint on it. The functions that are defined are known by the indices of their names.
+pub fn add_misnamed(
+    text: &mut String,
+    found: &Found<'_>,
+    defined: &[usize],
+) -> Result<(), AllocError> {
+    add_met(text, found)?;
+    let name = name_at(found.tokens, found.index).unwrap_or(Name::new());
+    text.push_str("  hint: ")?;
+    match found.code {
+        Code::FunctionDefinedTwice => add_first(text, found.tokens, defined, &name)?,
+        Code::IntrinsicRedefined => {
+            text.push_str("the robot has a function of this name already: give yours another one")?;
+        }
+        Code::BadParameterDeclaration => add_parameter(text, found)?,
+        Code::FunctionNotDefined => add_meant(text, found.tokens, defined, &name)?,
+        _ => add_main(text, found.tokens, defined)?,
+    }
+    text.push_str("\n")
+}
+
+/// Returns the name of the token of an index.
+pub fn name_at(tokens: &[Located], index: usize) -> Option<Name> {
+    match tokens.get(index)?.token {
+        Token::Name(name) => Some(name),
+        _ => None,
+    }
+}
+
+/// Adds where a function is defined first.
+fn add_first(
+    text: &mut String,
+    tokens: &[Located],
+    defined: &[usize],
+    name: &Name,
+) -> Result<(), AllocError> {
+    let mut others = defined.iter().filter_map(|index| tokens.get(*index));
+    match others.find(|located| located.token == Token::Name(*name)) {
+        Some(first) => write!(text, "it is defined on line {} already", first.line),
+        None => text.push_str("it is defined already"),
+    }
+}
+
+/// Adds what is wrong with a parameter: it is twice in the list, or not in it.
+fn add_parameter(text: &mut String, found: &Found<'_>) -> Result<(), AllocError> {
+    let before = found.tokens.get(..found.index).unwrap_or(&[]);
+    let mut brackets = before.iter().rev().filter(|located| {
+        located.token == Token::Punctuator(Punctuator::OpenRound)
+            || located.token == Token::Punctuator(Punctuator::CloseRound)
+    });
+    let is_in_list = brackets.next().is_some_and(|located| located.token
+        == Token::Punctuator(Punctuator::OpenRound));
+    text.push_str(if is_in_list {
+        "the list has this name twice"
+    } else {
+        "the list in the brackets hasn't this name; locals are declared behind the `{`"
+    })
+}
+
+/// Adds which function may be meant by a name that none has.
+fn add_meant(
+    text: &mut String,
+    tokens: &[Located],
+    defined: &[usize],
+    name: &Name,
+) -> Result<(), AllocError> {
+    let called = CALLED.iter().find(|row| name.is(row.0.as_bytes()));
+    if let Some(row) = called {
+        return text.push_str(row.1);
+    }
+    let intrinsic = INTRINSICS.iter().find(|intrinsic| may_mean(
+        name.as_bytes(),
+        intrinsic.name().as_bytes(),
+    ));
+    if let Some(intrinsic) = intrinsic {
+        return write!(text, "perhaps `{}` is meant", intrinsic.name());
+    }
+    if let Some(function) = near_function(tokens, defined, name.as_bytes()) {
+        return write!(text, "perhaps `{}` is meant", text_of(&function));
+    }
+    match meant_by(name.as_bytes()) {
+        Some(Lookalike::Word(word)) => write!(text, "perhaps {word} is meant"),
+        Some(Lookalike::Foreign(words)) => text.push_str(words),
+        None => text.push_str("neither the file nor the robot has a function of this name"),
+    }
+}
+
+/// Adds which function may be meant as `main`.
+fn add_main(text: &mut String, tokens: &[Located], defined: &[usize]) -> Result<(), AllocError> {
+    text.push_str("a robot begins in its function `main`")?;
+    if let Some(function) = near_function(tokens, defined, b"main") {
+        let name = text_of(&function);
+        write!(text, ": perhaps `{name}` is to be it")?;
+    }
+    Ok(())
+}
+
+/// Returns the first function of the file whose name is spelled nearly as another one.
+fn near_function(tokens: &[Located], defined: &[usize], name: &[u8]) -> Option<Name> {
+    let mut functions = defined.iter().filter_map(|index| name_at(tokens, *index));
+    functions.find(|function| may_mean(name, function.as_bytes()))
+}
+
+/// Reports whether a name may be meant by another one, of at least three letters.
+pub fn may_mean(name: &[u8], other: &[u8]) -> bool {
+    is_same_but_for_case(name, other) || name.len() > 2 && other.len() > 2 && is_near(name, other)
+}

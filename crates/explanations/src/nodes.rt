@@ -1,0 +1,432 @@
+//! The nodes of a source's trees in one list: each after those below it, which stand together.
+
+use crate::walks::{Event, Meaning, Walk};
+use derivations::{Located, SemanticAction};
+use grammar::{Callee, Op, Profile, StoreOp, Var};
+use std::alloc::{AllocError, Global};
+
+/// What a node is.
+#[derive(Clone, Copy, Debug, PartialEq, Eq)]
+pub enum Kind {
+    /// A constant.
+    Constant(u32),
+    /// The value of a variable.
+    Fetch(Var),
+    /// An assignment.
+    Store(Var, StoreOp),
+    /// `++` or `--`.
+    Step(Var),
+    /// A sign before an operand.
+    Sign,
+    /// A binary operator.
+    Binary(Op),
+    /// A call with so many arguments.
+    Call(Callee, usize),
+    /// An expression that is a statement.
+    Evaluate,
+    /// An `if`, with or without `else`.
+    If,
+    /// A `while`.
+    While,
+    /// A `return`.
+    Return,
+}
+
+/// A node. Those below it stand before it, from `first` on.
+#[derive(Clone, Copy, Debug, PartialEq, Eq)]
+pub struct Node {
+    /// What it is.
+    pub kind: Kind,
+    /// The index of the token that it is named by.
+    pub token: usize,
+    /// The index of the first node below it, or its own.
+    pub first: usize,
+    /// Where its second part begins: the right side of an operator, or the body of an `if` or a `while`.
+    pub middle: usize,
+    /// Whether its value is used: that of an expression that is a statement isn't.
+    pub is_used: bool,
+    /// Whether what follows it is never reached.
+    pub ends: bool,
+    /// Whether it is never reached itself.
+    pub is_dead: bool,
+}
+
+impl Node {
+    /// Makes a node whose nodes below begin at `first`, and those of its second part at `middle`.
+    fn new(kind: Kind, token: usize, first: usize, middle: usize) -> Node {
+        Node {
+            kind,
+            token,
+            first,
+            middle,
+            is_used: true,
+            ends: kind == Kind::Return,
+            is_dead: false,
+        }
+    }
+}
+
+/// A function of the file, with the nodes of its body.
+#[derive(Clone, Copy, Debug, PartialEq, Eq)]
+pub struct Body {
+    /// Its number.
+    pub number: u8,
+    /// The index of its name's token.
+    pub token: usize,
+    /// The index of its closing brace's token.
+    pub closing: usize,
+    /// How many parameters it has.
+    pub parameters: usize,
+    /// The index of its first node.
+    pub first: usize,
+    /// The index after its last node.
+    pub end: usize,
+    /// Whether its closing brace is reached.
+    pub falls: bool,
+}
+
+/// What still has no node above it: a node, or where a body begins, with the token that its `if`, `while` or function is
+/// named by.
+#[derive(Clone, Copy, Debug, PartialEq, Eq)]
+enum Root {
+    Node(usize),
+    Mark(usize),
+}
+
+/// A call whose arguments aren't all there.
+#[derive(Clone, Copy, Debug, PartialEq, Eq)]
+struct Open {
+    callee: Callee,
+    arguments: usize,
+}
+
+/// A body's statements, taken off.
+#[derive(Clone, Copy, Debug, PartialEq, Eq)]
+struct Taken {
+    mark: usize,
+    first: usize,
+    ends: bool,
+}
+
+/// The nodes of a source, its functions, and the statements that are never reached.
+#[derive(Drop)]
+pub struct Nodes {
+    list: Vec<Node>,
+    bodies: Vec<Body>,
+    unreached: Vec<usize>,
+    roots: Vec<Root>,
+    variables: Vec<Var>,
+    calls: Vec<Open>,
+    begun: Body,
+}
+
+/// Makes the nodes of a source that compiles.
+pub fn nodes_of(alloc: Global, tokens: &[Located], profile: Profile) -> Result<Nodes, AllocError> {
+    let mut nodes = Nodes::new(alloc);
+    let mut walk = Walk::start(alloc, tokens, profile)?;
+    for _ in 0..u64::MAX {
+        match walk.step()? {
+            Event::Passed => {}
+            Event::Named { token, meaning } => nodes.name(token, meaning)?,
+            Event::Number { token, value } => nodes.leaf(Kind::Constant(value), token)?,
+            Event::Made {
+                action,
+                chosen_at,
+                token,
+            } => nodes.make(action, chosen_at, token)?,
+            Event::Refused { .. } | Event::Done => break,
+        }
+    }
+    Ok(nodes)
+}
+
+impl Nodes {
+    /// Makes a list without nodes.
+    fn new(alloc: Global) -> Nodes {
+        Nodes {
+            list: Vec::new(alloc),
+            bodies: Vec::new(alloc),
+            unreached: Vec::new(alloc),
+            roots: Vec::new(alloc),
+            variables: Vec::new(alloc),
+            calls: Vec::new(alloc),
+            begun: Body {
+                number: 0,
+                token: 0,
+                closing: 0,
+                parameters: 0,
+                first: 0,
+                end: 0,
+                falls: false,
+            },
+        }
+    }
+
+    /// Returns all nodes.
+    pub fn all(&self) -> &[Node] {
+        self.list.as_slice()
+    }
+
+    /// Returns the nodes from an index on, up to another one.
+    pub fn within(&self, first: usize, end: usize) -> &[Node] {
+        self.list.as_slice().get(first..end).unwrap_or(&[])
+    }
+
+    /// Returns the node of an index.
+    pub fn get(&self, index: usize) -> Option<&Node> {
+        self.list.get(index)
+    }
+
+    /// Returns the functions, in the order of the file.
+    pub fn bodies(&self) -> &[Body] {
+        self.bodies.as_slice()
+    }
+
+    /// Returns the first statement of each part that is never reached.
+    pub fn unreached(&self) -> &[usize] {
+        self.unreached.as_slice()
+    }
+
+    /// Takes a name.
+    fn name(&mut self, token: usize, meaning: Meaning) -> Result<(), AllocError> {
+        match meaning {
+            Meaning::Mentions(var) => self.variables.push(var)?,
+            Meaning::Calls(callee) => self.calls.push(Open {
+                callee,
+                arguments: 0,
+            })?,
+            Meaning::Begins(number) => self.begin(number, token),
+            Meaning::Parameter => {
+                self.begun.parameters = self.begun.parameters.saturating_add(1);
+            }
+            Meaning::Declares => {}
+        }
+        Ok(())
+    }
+
+    /// Begins a function.
+    fn begin(&mut self, number: u8, token: usize) {
+        self.begun = Body {
+            number,
+            token,
+            closing: token,
+            parameters: 0,
+            first: self.list.len(),
+            end: self.list.len(),
+            falls: true,
+        };
+    }
+
+    /// Does what an action says.
+    fn make(
+        &mut self,
+        action: SemanticAction,
+        chosen_at: usize,
+        token: usize,
+    ) -> Result<(), AllocError> {
+        match action {
+            SemanticAction::Operate(op) => self.binary(op, chosen_at),
+            SemanticAction::Negate | SemanticAction::Not | SemanticAction::Complement => {
+                self.above(Kind::Sign, chosen_at, true)
+            }
+            SemanticAction::Fetch => {
+                let var = self.variable();
+                self.leaf(Kind::Fetch(var), chosen_at)
+            }
+            SemanticAction::Store(op) => {
+                let var = self.variable();
+                self.above(Kind::Store(var, op), chosen_at, true)
+            }
+            SemanticAction::StepBefore(_) => self.step(chosen_at.saturating_add(1)),
+            SemanticAction::StepBehind(_) => self.step(chosen_at),
+            SemanticAction::Pass => {
+                self.pass();
+                Ok(())
+            }
+            SemanticAction::Invoke => self.invoke(chosen_at),
+            SemanticAction::Empty => Ok(self.roots.push(Root::Mark(chosen_at))?),
+            SemanticAction::Evaluate => self.above(Kind::Evaluate, chosen_at, false),
+            SemanticAction::Decide => self.decide(),
+            SemanticAction::DecideElse => self.decide_else(),
+            SemanticAction::Repeat => self.repeat(),
+            SemanticAction::Zero => self.leaf(Kind::Constant(0), token),
+            SemanticAction::GiveBack => self.above(Kind::Return, chosen_at, true),
+            SemanticAction::Define => self.define(token),
+        }
+    }
+
+    /// Adds a node, and makes it a root.
+    fn add(&mut self, node: Node) -> Result<(), AllocError> {
+        let index = self.list.len();
+        self.list.push(node)?;
+        self.roots.push(Root::Node(index))?;
+        Ok(())
+    }
+
+    /// Adds a node without others below it.
+    fn leaf(&mut self, kind: Kind, token: usize) -> Result<(), AllocError> {
+        let here = self.list.len();
+        self.add(Node::new(kind, token, here, here))
+    }
+
+    /// Adds a node above the last root, and notes whether it uses its value.
+    fn above(&mut self, kind: Kind, token: usize, is_used: bool) -> Result<(), AllocError> {
+        let below = self.take_node();
+        if let Some(node) = self.list.get_mut(below) {
+            node.is_used = is_used;
+        }
+        let first = self.first_of(below);
+        self.add(Node::new(kind, token, first, first))
+    }
+
+    /// Adds a node above the last two roots.
+    fn binary(&mut self, op: Op, token: usize) -> Result<(), AllocError> {
+        let right = self.take_node();
+        let left = self.take_node();
+        let (first, middle) = (self.first_of(left), self.first_of(right));
+        self.add(Node::new(Kind::Binary(op), token, first, middle))
+    }
+
+    /// Adds the node of `++` or `--`.
+    fn step(&mut self, token: usize) -> Result<(), AllocError> {
+        let var = self.variable();
+        self.leaf(Kind::Step(var), token)
+    }
+
+    /// Counts an argument of the innermost call.
+    fn pass(&mut self) {
+        if let Some(open) = self.calls.last_mut() {
+            open.arguments = open.arguments.saturating_add(1);
+        }
+    }
+
+    /// Adds the node of the innermost call, above its arguments.
+    fn invoke(&mut self, token: usize) -> Result<(), AllocError> {
+        let Some(Open { callee, arguments }) = self.calls.pop() else {
+            return Ok(());
+        };
+        let mut first = self.list.len();
+        for _ in 0..arguments {
+            let below = self.take_node();
+            first = self.first_of(below);
+        }
+        self.add(Node::new(Kind::Call(callee, arguments), token, first, first))
+    }
+
+    /// Adds the node of an `if` without `else`.
+    fn decide(&mut self) -> Result<(), AllocError> {
+        let end = self.list.len();
+        let body = self.take_body(end)?;
+        self.add_branch(Kind::If, body, false)
+    }
+
+    /// Adds the node of an `if` with `else`.
+    fn decide_else(&mut self) -> Result<(), AllocError> {
+        let end = self.list.len();
+        let otherwise = self.take_body(end)?;
+        let body = self.take_body(otherwise.first)?;
+        self.add_branch(Kind::If, body, body.ends && otherwise.ends)
+    }
+
+    /// Adds the node of a `while`. What follows it isn't reached if its condition is a constant that isn't 0.
+    fn repeat(&mut self) -> Result<(), AllocError> {
+        let end = self.list.len();
+        let body = self.take_body(end)?;
+        let ends = match self.list.get(body.first.saturating_sub(1)) {
+            Some(condition) => matches!(condition.kind, Kind::Constant(1..)),
+            None => false,
+        };
+        self.add_branch(Kind::While, body, ends)
+    }
+
+    /// Adds the node of an `if` or a `while`, above its condition.
+    fn add_branch(&mut self, kind: Kind, body: Taken, ends: bool) -> Result<(), AllocError> {
+        let condition = self.take_node();
+        let first = self.first_of(condition);
+        let middle = condition.saturating_add(1);
+        let mut node = Node::new(kind, body.mark, first, middle);
+        node.ends = ends;
+        self.add(node)
+    }
+
+    /// Ends the function that was begun.
+    fn define(&mut self, closing: usize) -> Result<(), AllocError> {
+        let end = self.list.len();
+        let body = self.take_body(end)?;
+        self.begun.closing = closing;
+        self.begun.end = self.list.len();
+        self.begun.falls = !body.ends;
+        self.bodies.push(self.begun)?;
+        Ok(())
+    }
+
+    /// Takes the statements of the innermost body off the roots, up to its mark. What follows a statement that ends the
+    /// body is never reached, up to the node of this index.
+    fn take_body(&mut self, end: usize) -> Result<Taken, AllocError> {
+        let mut taken = Taken {
+            mark: 0,
+            first: end,
+            ends: false,
+        };
+        let (mut following, mut unreached) = (None, None);
+        for _ in 0..self.roots.len() {
+            match self.roots.pop() {
+                Some(Root::Node(index)) => {
+                    if self.ends(index) {
+                        taken.ends = true;
+                        unreached = following;
+                    }
+                    following = Some(index);
+                    taken.first = self.first_of(index);
+                }
+                Some(Root::Mark(token)) => {
+                    taken.mark = token;
+                    break;
+                }
+                None => break,
+            }
+        }
+        self.bury(unreached, end)?;
+        Ok(taken)
+    }
+
+    /// Reports whether what follows the node of an index is never reached.
+    fn ends(&self, index: usize) -> bool {
+        self.list.get(index).is_some_and(|node| node.ends)
+    }
+
+    /// Notes that a statement is never reached, if there is one, nor are the nodes after it, up to another one.
+    fn bury(&mut self, statement: Option<usize>, end: usize) -> Result<(), AllocError> {
+        let Some(statement) = statement else {
+            return Ok(());
+        };
+        self.unreached.push(statement)?;
+        for index in self.first_of(statement)..end {
+            if let Some(node) = self.list.get_mut(index) {
+                node.is_dead = true;
+            }
+        }
+        Ok(())
+    }
+
+    /// Takes the last root, which is a node, and returns its index.
+    fn take_node(&mut self) -> usize {
+        match self.roots.pop() {
+            Some(Root::Node(index)) => index,
+            _ => 0,
+        }
+    }
+
+    /// Returns where the nodes below one of an index begin.
+    fn first_of(&self, index: usize) -> usize {
+        match self.list.get(index) {
+            Some(node) => node.first,
+            None => index,
+        }
+    }
+
+    /// Takes the variable that was mentioned last.
+    fn variable(&mut self) -> Var {
+        self.variables.pop().unwrap_or(Var::Local(0))
+    }
+}

@@ -1,0 +1,111 @@
+//! Hints on words and characters that this language doesn't have.
+
+use crate::told::{byte_of, spelling_of};
+use derivations::Located;
+use tokens::Token;
+
+/// The refused words, each with a hint.
+static WORDS: [(&str, &str); 20] = [
+    (
+        "for",
+        "there is no `for`: write `i = 0; while (i < 9) { ..; i = i + 1; }`",
+    ),
+    ("do", "there is no `do`: write `while (..) ..`"),
+    (
+        "break",
+        "there is no `break`: end the loop by its condition, or by `return`",
+    ),
+    (
+        "continue",
+        "there is no `continue`: put the rest of the loop into an `if`",
+    ),
+    (
+        "switch",
+        "there is no `switch`: write `if (..) ..; else if (..) ..;`",
+    ),
+    (
+        "case",
+        "there is no `case`: write `if (..) ..; else if (..) ..;`",
+    ),
+    ("default", "there is no `default`: write an `else`"),
+    ("goto", "there is no `goto`: write a `while` or an `if`"),
+    ("struct", "there are no structures: use several variables"),
+    ("union", "there are no unions: use several variables"),
+    (
+        "typedef",
+        "there are no types of your own: all values are whole numbers",
+    ),
+    (
+        "char",
+        "there are no characters: all values are whole numbers; write `int`",
+    ),
+    (
+        "float",
+        "there are no fractions: all values are whole numbers; write `int`",
+    ),
+    (
+        "double",
+        "there are no fractions: all values are whole numbers; write `int`",
+    ),
+    (
+        "static",
+        "leave `static` out; a variable that lasts is declared outside the functions",
+    ),
+    ("extern", "leave `extern` out: a robot is one file"),
+    ("short", "write `int`: it has 32 bits"),
+    ("unsigned", "write `int`: all values have a sign"),
+    (
+        "sizeof",
+        "there is no `sizeof`: all values are whole numbers of 32 bits",
+    ),
+    (
+        "void",
+        "leave `void` out: `main() {`; a function without a `return` gives 0",
+    ),
+];
+
+/// Returns the hint on a refused word.
+pub fn on_word(source: &[u8], located: &Located) -> Option<&'static str> {
+    let spelling = spelling_of(source, located);
+    let row = WORDS.iter().find(|row| row.0 == spelling)?;
+    Some(row.1)
+}
+
+/// Returns the hint on a byte that begins no token, by those around it.
+pub fn on_character(source: &[u8], tokens: &[Located], index: usize) -> Option<&'static str> {
+    let located = tokens.get(index)?;
+    match byte_of(source, located) {
+        b'"' | b'\'' => Some(
+            "there is no text and there are no characters: all values are whole numbers",
+        ),
+        b'#' => Some(
+            "there is no `#define` and no `#include`: write the number, or use a variable",
+        ),
+        b'[' | b']' => Some("there are no arrays: use several variables"),
+        b'?' => Some("there is no `?:`: write `if (..) a = ..; else a = ..;`"),
+        b':' => Some("there are no labels, and no `:` behind a condition"),
+        b'.' => Some(on_point(source, tokens, index)),
+        b'\\' => Some("a line needs no sign to go on in the next one"),
+        128.. => Some(
+            "outside comments only ASCII is read: retype what was copied from a text, as curly quotes or a long dash",
+        ),
+        _ => None,
+    }
+}
+
+/// Returns the hint on a point: in a number, or elsewhere.
+fn on_point(source: &[u8], tokens: &[Located], index: usize) -> &'static str {
+    let before = index.checked_sub(1).and_then(|place| tokens.get(place));
+    let start = match tokens.get(index) {
+        Some(located) => located.start,
+        None => 0,
+    };
+    let is_behind = before.is_some_and(|token| token.end == start
+        && matches!(token.token, Token::Constant(_)));
+    let after = source.get(start.saturating_add(1)).copied().unwrap_or(0);
+    if is_behind || after.is_ascii_digit() {
+        "there are no fractions: all values are whole numbers"
+    } else {
+        "there are no structures and no methods: a name stands alone"
+    }
+}

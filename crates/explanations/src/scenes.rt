@@ -1,0 +1,158 @@
+//! What a hint goes by: a fault's token, those around it, and what the derivation wanted there.
+
+use crate::wanted::Kinds;
+use derivations::{Derivation, Item, Located, Pending, Symbol};
+use tokens::{Name, Punctuator, Token, Word};
+
+/// A place at which a token doesn't fit.
+#[derive(Clone, Copy)]
+pub struct Scene<'a> {
+    /// The source's bytes.
+    pub source: &'a [u8],
+    /// Its tokens.
+    pub tokens: &'a [Located],
+    /// The index of the token that doesn't fit.
+    pub index: usize,
+    /// What the derivation still had to match.
+    pub stack: &'a [Pending],
+    /// How many levels were open.
+    pub levels: usize,
+    /// The tokens that fit there.
+    pub fitting: &'a [Token],
+    /// Their large kinds.
+    pub kinds: Kinds,
+}
+
+impl<'a> Scene<'a> {
+    /// Returns the scene at a token that doesn't fit, where a derivation has stopped.
+    pub fn at(
+        source: &'a [u8],
+        tokens: &'a [Located],
+        derivation: &'a Derivation<'a>,
+        fitting: &'a [Token],
+    ) -> Scene<'a> {
+        Scene {
+            source,
+            tokens,
+            index: derivation.place(),
+            stack: derivation.stack(),
+            levels: derivation.levels(),
+            fitting,
+            kinds: Kinds::of(fitting),
+        }
+    }
+
+    /// Returns the token that doesn't fit.
+    pub fn met(&self) -> Token {
+        self.token(self.index)
+    }
+
+    /// Returns the token of an index: after the last one, the end.
+    pub fn token(&self, index: usize) -> Token {
+        match self.tokens.get(index) {
+            Some(located) => located.token,
+            None => Token::End,
+        }
+    }
+
+    /// Returns the token before the one that doesn't fit, with its place.
+    pub fn before(&self) -> Option<&'a Located> {
+        self.tokens.get(self.index.checked_sub(1)?)
+    }
+
+    /// Reports whether the token before is this one.
+    pub fn follows(&self, token: &Token) -> bool {
+        self.before().is_some_and(|before| before.token == *token)
+    }
+
+    /// Reports whether the token before is this mark.
+    pub fn follows_mark(&self, punctuator: Punctuator) -> bool {
+        self.follows(&Token::Punctuator(punctuator))
+    }
+
+    /// Reports whether the token before is this mark, and nothing stands between.
+    pub fn touches_mark(&self, punctuator: Punctuator) -> bool {
+        self.follows_mark(punctuator) && self.touches()
+    }
+
+    /// Reports whether nothing stands between the token before and the one that doesn't fit.
+    pub fn touches(&self) -> bool {
+        match (self.before(), self.tokens.get(self.index)) {
+            (Some(before), Some(here)) => before.end == here.start,
+            _ => false,
+        }
+    }
+
+    /// Reports whether the token that doesn't fit is this mark.
+    pub fn is_mark(&self, punctuator: Punctuator) -> bool {
+        self.met() == Token::Punctuator(punctuator)
+    }
+
+    /// Reports whether the token that doesn't fit is this word.
+    pub fn is_word(&self, word: Word) -> bool {
+        self.met() == Token::Word(word)
+    }
+
+    /// Reports whether a token fits.
+    pub fn fits(&self, token: &Token) -> bool {
+        self.fitting.contains(token)
+    }
+
+    /// Reports whether this mark fits.
+    pub fn fits_mark(&self, punctuator: Punctuator) -> bool {
+        self.fits(&Token::Punctuator(punctuator))
+    }
+
+    /// Returns what the derivation wanted first.
+    pub fn wanted(&self) -> Option<Pending> {
+        self.stack.last().copied()
+    }
+
+    /// Reports whether the derivation wanted this mark first.
+    pub fn wants(&self, punctuator: Punctuator) -> bool {
+        self.wanted()
+            .is_some_and(|pending| pending.item == Item::Exactly(punctuator))
+    }
+
+    /// Returns the index of the token at which that was chosen.
+    pub fn chosen_at(&self) -> usize {
+        match self.wanted() {
+            Some(pending) => pending.chosen_at,
+            None => self.index,
+        }
+    }
+
+    /// Reports whether no function is open.
+    pub fn is_outside(&self) -> bool {
+        self.levels == 0
+    }
+
+    /// Returns the name of the token of an index, if it is one.
+    pub fn name(&self, index: usize) -> Option<Name> {
+        match self.token(index) {
+            Token::Name(name) => Some(name),
+            _ => None,
+        }
+    }
+
+    /// Returns the line of the token of an index.
+    pub fn line(&self, index: usize) -> u32 {
+        match self.tokens.get(index) {
+            Some(located) => located.line,
+            None => 1,
+        }
+    }
+
+    /// Returns the index of the opening brace of the innermost open block.
+    pub fn open_block(&self) -> Option<usize> {
+        let mut closing = self.stack.iter().rev().filter(|pending| {
+            pending.item == Item::Exactly(Punctuator::CloseCurly)
+        });
+        Some(closing.next()?.chosen_at)
+    }
+
+    /// Reports whether the head of a function was just derived.
+    pub fn is_behind_head(&self) -> bool {
+        self.wanted().is_some_and(|pending| { pending.item == Item::Part(Symbol::FunctionBlock) })
+    }
+}

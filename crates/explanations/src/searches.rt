@@ -1,0 +1,97 @@
+//! The search for the token of a source's fault.
+
+use crate::walks::{Event, Meaning, Walk};
+use derivations::{Derivation, Located};
+use grammar::{Callee, Code, Diagnostic, MOST_NAMES, Profile};
+use std::alloc::{AllocError, Global};
+
+/// A search: how far it has come, which functions are defined up to there, and which ones are mentioned.
+#[derive(Drop)]
+pub struct Search<'a> {
+    tokens: &'a [Located],
+    walk: Walk<'a>,
+    defined: Vec<usize>,
+    mentioned: [Option<usize>; MOST_NAMES],
+    begun: [bool; MOST_NAMES],
+}
+
+impl<'a> Search<'a> {
+    /// Begins before the first of a source's tokens.
+    pub fn start(
+        alloc: Global,
+        tokens: &'a [Located],
+        profile: Profile,
+    ) -> Result<Search<'a>, AllocError> {
+        Ok(Search {
+            tokens,
+            walk: Walk::start(alloc, tokens, profile)?,
+            defined: Vec::new(alloc),
+            mentioned: [None; MOST_NAMES],
+            begun: [false; MOST_NAMES],
+        })
+    }
+
+    /// Returns the index of the token of the source's fault, and stops there: the first that has this fault, or else the
+    /// last token.
+    pub fn find(&mut self, wanted: &Diagnostic) -> Result<usize, AllocError> {
+        for _ in 0..u64::MAX {
+            match self.walk.step()? {
+                Event::Named { token, meaning } => self.note(token, meaning)?,
+                Event::Refused { token, code } if code == wanted.code => return Ok(token),
+                Event::Refused { .. } if self.is_stuck() => break,
+                Event::Done => break,
+                _ => {}
+            }
+        }
+        let last = self.tokens.len().saturating_sub(1);
+        match wanted.code {
+            Code::FunctionNotDefined => Ok(self.undefined().unwrap_or(last)),
+            _ => Ok(last),
+        }
+    }
+
+    /// Returns the derivation where the search has stopped.
+    pub fn derivation(&self) -> &Derivation<'a> {
+        self.walk.derivation()
+    }
+
+    /// Returns the indices of the names of functions whose definition has begun, in order.
+    pub fn defined(&self) -> &[usize] {
+        self.defined.as_slice()
+    }
+
+    /// Reports whether the walk stays where it is: at a token that doesn't fit.
+    fn is_stuck(&self) -> bool {
+        self.walk.is_stuck()
+    }
+
+    /// Notes a function that is mentioned or defined.
+    fn note(&mut self, token: usize, meaning: Meaning) -> Result<(), AllocError> {
+        match meaning {
+            Meaning::Calls(Callee::Function(number)) => self.mention(number, token),
+            Meaning::Begins(number) => {
+                self.mention(number, token);
+                if let Some(begun) = self.begun.get_mut(usize::from(number)) {
+                    *begun = true;
+                }
+                self.defined.push(token)?;
+            }
+            _ => {}
+        }
+        Ok(())
+    }
+
+    /// Notes the first mention of a function.
+    fn mention(&mut self, number: u8, token: usize) {
+        if let Some(mentioned) = self.mentioned.get_mut(usize::from(number)) {
+            *mentioned = mentioned.or(Some(token));
+        }
+    }
+
+    /// Returns the first mention of the earliest mentioned function that isn't defined.
+    fn undefined(&self) -> Option<usize> {
+        let mut functions = self.mentioned.iter().zip(self.begun.iter());
+        let lacking = functions.find(|function| function.0.is_some() && !*function.1)?;
+        *lacking.0
+    }
+}

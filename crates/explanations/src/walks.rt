@@ -1,0 +1,205 @@
+//! A walk along the derivation of a source, with what each name means where it stands.
+
+use derivations::{Derivation, Item, Located, Outcome, Role, SemanticAction};
+use grammar::{Callee, Code, Profile, Scope, Var, code_of};
+use std::alloc::{AllocError, Global};
+use tokens::{Name, Token, Word};
+
+/// The most levels that are open at once.
+const MOST_LEVELS: usize = 64;
+
+/// What a name means where it stands.
+#[derive(Clone, Copy, Debug, PartialEq, Eq)]
+pub enum Meaning {
+    /// A variable is mentioned.
+    Mentions(Var),
+    /// This is called.
+    Calls(Callee),
+    /// The function of this number begins.
+    Begins(u8),
+    /// The next parameter of a list.
+    Parameter,
+    /// A variable is declared.
+    Declares,
+}
+
+/// What a step of a walk came upon.
+#[derive(Clone, Copy, Debug, PartialEq, Eq)]
+pub enum Event {
+    /// Nothing of its own.
+    Passed,
+    /// A name, with what it means.
+    Named {
+        /// The index of the name's token.
+        token: usize,
+        /// What it means.
+        meaning: Meaning,
+    },
+    /// A constant.
+    Number {
+        /// The index of its token.
+        token: usize,
+        /// Its value.
+        value: u32,
+    },
+    /// A tree is made.
+    Made {
+        /// What is made of what was derived.
+        action: SemanticAction,
+        /// The index of the token at which its production was chosen.
+        chosen_at: usize,
+        /// The index of the next token.
+        token: usize,
+    },
+    /// A fault.
+    Refused {
+        /// The index of its token.
+        token: usize,
+        /// What it is.
+        code: Code,
+    },
+    /// The end of the source, which was derived.
+    Done,
+}
+
+/// A walk: how far the derivation has come, and what is known of the names there.
+#[derive(Drop)]
+pub struct Walk<'a> {
+    tokens: &'a [Located],
+    derivation: Derivation<'a>,
+    scope: Scope,
+    profile: Profile,
+    code: usize,
+    is_stuck: bool,
+}
+
+impl<'a> Walk<'a> {
+    /// Begins before the first of a source's tokens.
+    pub fn start(
+        alloc: Global,
+        tokens: &'a [Located],
+        profile: Profile,
+    ) -> Result<Walk<'a>, AllocError> {
+        Ok(Walk {
+            tokens,
+            derivation: Derivation::start(alloc, tokens)?,
+            scope: Scope::new(),
+            profile,
+            code: 1,
+            is_stuck: false,
+        })
+    }
+
+    /// Returns the derivation as far as it has come.
+    pub fn derivation(&self) -> &Derivation<'a> {
+        &self.derivation
+    }
+
+    /// Reports whether the next token doesn't fit, so that the walk stays where it is.
+    pub fn is_stuck(&self) -> bool {
+        self.is_stuck
+    }
+
+    /// Does a step, and returns what it came upon. After a token that doesn't fit it stays there.
+    pub fn step(&mut self) -> Result<Event, AllocError> {
+        let event = self.coming();
+        self.count();
+        let levels = self.derivation.levels();
+        let outcome = self.derivation.step()?;
+        let token = self.derivation.place();
+        Ok(match outcome {
+            Outcome::Misfit => {
+                self.is_stuck = true;
+                Event::Refused {
+                    token,
+                    code: misfit(&self.derivation.next()),
+                }
+            }
+            Outcome::Done => Event::Done,
+            Outcome::Stepped if levels <= MOST_LEVELS && self.derivation.levels() > MOST_LEVELS => {
+                Event::Refused {
+                    token,
+                    code: Code::NestedTooDeeply,
+                }
+            }
+            Outcome::Stepped => event,
+        })
+    }
+
+    /// Returns what the next step comes upon, if it fits.
+    fn coming(&mut self) -> Event {
+        let Some(pending) = self.derivation.front() else {
+            return Event::Done;
+        };
+        let token = self.derivation.place();
+        match (pending.item, self.derivation.next()) {
+            (Item::Naming(role), Token::Name(name)) => match self.meaning(role, &name) {
+                Ok(meaning) => Event::Named { token, meaning },
+                Err(code) => Event::Refused { token, code },
+            },
+            (Item::Number, Token::Constant(value)) => Event::Number { token, value },
+            (Item::Make(SemanticAction::Define), _) => self.define(pending.chosen_at, token),
+            (Item::Make(action), _) => Event::Made {
+                action,
+                chosen_at: pending.chosen_at,
+                token,
+            },
+            _ => Event::Passed,
+        }
+    }
+
+    /// Resolves a name in its role.
+    fn meaning(&mut self, role: Role, name: &Name) -> Result<Meaning, Code> {
+        let line = self.line();
+        match role {
+            Role::Defined => Ok(Meaning::Begins(self.scope.define(name, line)?)),
+            Role::Called => Ok(Meaning::Calls(self.scope.call(name, line)?)),
+            Role::Mentioned => Ok(Meaning::Mentions(self.scope.mention(name)?)),
+            Role::Parameter => self.scope.parameter(name).map(|_| Meaning::Parameter),
+            Role::Typed => self.scope.typed(name).map(|_| Meaning::Declares),
+            Role::Local => self.scope.local(name).map(|_| Meaning::Declares),
+            Role::External => self.scope.external(name).map(|_| Meaning::Declares),
+        }
+    }
+
+    /// Returns the line of the next token.
+    fn line(&self) -> u32 {
+        match self.tokens.get(self.derivation.place()) {
+            Some(located) => located.line,
+            None => 1,
+        }
+    }
+
+    /// Ends a function, whose code may be the one that is too much.
+    fn define(&mut self, chosen_at: usize, token: usize) -> Event {
+        self.scope.end_definition();
+        if self.code.saturating_add(2) > usize::from(self.profile.instructions()) {
+            return Event::Refused {
+                token,
+                code: Code::TooMuchCode,
+            };
+        }
+        Event::Made {
+            action: SemanticAction::Define,
+            chosen_at,
+            token,
+        }
+    }
+
+    /// Counts the instructions that the next step makes.
+    fn count(&mut self) {
+        let emission = self.derivation.emission();
+        for action in emission.actions() {
+            self.code = self.code.saturating_add(action.instructions(self.profile));
+        }
+    }
+}
+
+/// Returns the code of the fault of a token that doesn't fit.
+fn misfit(token: &Token) -> Code {
+    match token {
+        Token::Fault(fault) => code_of(*fault),
+        Token::Word(Word::Refused) => Code::ReservedWord,
+        _ => Code::SyntaxError,
+    }
+}

@@ -1,0 +1,151 @@
+//! What may stand at a place, in few words, by the tokens that fit there.
+
+use derivations::spelled;
+use grammar::{operator_from, store_operator};
+use std::alloc::{AllocError, Global};
+use tokens::{Punctuator, Token, Word};
+
+/// A kind of what may stand at a place.
+#[derive(Clone, Copy, Debug, PartialEq, Eq)]
+enum Wanted {
+    /// This mark.
+    Exactly(Punctuator),
+    /// A name alone.
+    Name,
+    /// A type word.
+    Type,
+    /// The word `else`.
+    Else,
+    /// The end of the file.
+    End,
+    /// A statement.
+    Statement,
+    /// An expression.
+    Expression,
+    /// The operator of an assignment.
+    Assignment,
+    /// A binary operator.
+    Operator,
+}
+
+/// Which large kinds fit at a place: a token of theirs isn't named alone.
+#[derive(Clone, Copy, Debug, PartialEq, Eq)]
+pub struct Kinds {
+    /// A statement may begin there.
+    pub statement: bool,
+    /// An expression may begin there.
+    pub expression: bool,
+    /// A binary operator may stand there.
+    pub operator: bool,
+}
+
+impl Kinds {
+    /// Finds the kinds, by the tokens that fit.
+    pub fn of(fitting: &[Token]) -> Kinds {
+        Kinds {
+            statement: fitting.contains(&Token::Word(Word::While)),
+            expression: fitting.contains(&Token::Constant(0)),
+            operator: fitting.contains(&Token::Punctuator(Punctuator::Star)),
+        }
+    }
+
+    /// Returns the kind of a token that fits.
+    fn kind(self, token: &Token) -> Wanted {
+        match *token {
+            Token::Word(Word::Type) => Wanted::Type,
+            Token::Word(Word::Else) => Wanted::Else,
+            Token::End => Wanted::End,
+            Token::Name(_) => self.operand(Wanted::Name),
+            Token::Punctuator(punctuator) => self.mark(punctuator),
+            Token::Word(_) | Token::Constant(_) | Token::Fault(_) => self.operand(
+                Wanted::Expression,
+            ),
+        }
+    }
+
+    /// Returns the kind of what begins an expression: this one, if none may stand there.
+    fn operand(self, alone: Wanted) -> Wanted {
+        if self.statement {
+            Wanted::Statement
+        } else if self.expression {
+            Wanted::Expression
+        } else {
+            alone
+        }
+    }
+
+    /// Returns the kind of a mark.
+    fn mark(self, punctuator: Punctuator) -> Wanted {
+        let token = Token::Punctuator(punctuator);
+        match punctuator {
+            Punctuator::OpenCurly | Punctuator::Semicolon if self.statement => Wanted::Statement,
+            Punctuator::Minus if self.operator => Wanted::Operator,
+            Punctuator::OpenRound
+            | Punctuator::Minus
+            | Punctuator::Not
+            | Punctuator::Tilde
+            | Punctuator::PlusPlus
+            | Punctuator::MinusMinus => self.operand(Wanted::Exactly(punctuator)),
+            _ if store_operator(&token).is_some() => Wanted::Assignment,
+            _ if operator_from(&token, 1).is_some() => Wanted::Operator,
+            _ => Wanted::Exactly(punctuator),
+        }
+    }
+}
+
+impl Wanted {
+    /// Reports whether it is named before the large kinds.
+    fn is_small(self) -> bool {
+        !matches!(
+            self,
+            Wanted::Statement | Wanted::Expression | Wanted::Assignment | Wanted::Operator
+        )
+    }
+
+    /// Adds it in words.
+    fn add(self, text: &mut String) -> Result<(), AllocError> {
+        match self {
+            Wanted::Exactly(punctuator) => {
+                let spelling = spelled(punctuator);
+                write!(text, "`{spelling}`")
+            }
+            Wanted::Name => text.push_str("a name"),
+            Wanted::Type => text.push_str("a declaration"),
+            Wanted::Else => text.push_str("`else`"),
+            Wanted::End => text.push_str("the end of the file"),
+            Wanted::Statement => text.push_str("a statement"),
+            Wanted::Expression => text.push_str("an expression"),
+            Wanted::Assignment => text.push_str("an assignment such as `=`"),
+            Wanted::Operator => text.push_str("an operator such as `+`"),
+        }
+    }
+}
+
+/// Adds what may stand at a place, by the tokens that fit there: marks and names first.
+pub fn add_wanted(text: &mut String, alloc: Global, fitting: &[Token]) -> Result<(), AllocError> {
+    let kinds = Kinds::of(fitting);
+    let mut wanted = Vec::new(alloc);
+    for is_small in [true, false] {
+        for token in fitting {
+            let kind = kinds.kind(token);
+            if kind.is_small() == is_small && !wanted.as_slice().contains(&kind) {
+                wanted.push(kind)?;
+            }
+        }
+    }
+    add_list(text, wanted.as_slice())
+}
+
+/// Adds a list in words.
+fn add_list(text: &mut String, wanted: &[Wanted]) -> Result<(), AllocError> {
+    let last = wanted.len().saturating_sub(1);
+    for (number, kind) in wanted.iter().enumerate() {
+        match number {
+            0 => {}
+            _ if number == last => text.push_str(" or ")?,
+            _ => text.push_str(", ")?,
+        }
+        kind.add(text)?;
+    }
+    Ok(())
+}

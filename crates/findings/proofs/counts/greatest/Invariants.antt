@@ -1,0 +1,7 @@
+use Rattle.std.proofs.Common.{ℕ, ◌<◌, ◌≤◌, length, slice_index}
+use Rattle.findings.proofs.counts.greatest.Given as goal
+
+-- none of the counts so far is larger
+abbrev pub invariant-loop-n : goal.invariant-loop-n
+invariant-loop-n l =
+    (l.found < length l.counts) × ((k : ℕ) → k < l.n → slice_index l.counts k ≤ slice_index l.counts l.found)

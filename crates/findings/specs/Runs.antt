@@ -1,0 +1,16 @@
+-- Runs: the straight, even pieces of a robot's way.
+use Rattle.std.specs.Prelude.{pos, ◌-ℤ◌, unsigned_abs, Bool, nat_eq, nat_le, ◌&&◌}
+use Rattle.findings.specs.declared.runs.Stance.{Stance}
+use Rattle.findings.specs.declared.runs.Step.{Step}
+
+-- all is the same but the cycle and the place
+abbrev pub is_alike : Stance → Stance → Bool
+is_alike a b = nat_eq a.heading b.heading && nat_eq a.speed b.speed && nat_eq a.damage b.damage
+
+-- the way from one place to another
+abbrev pub step_of : Stance → Stance → Step
+step_of a b = record { east = pos b.x -ℤ pos a.x; north = pos b.y -ℤ pos a.y }
+
+-- two ways differ by no more than what places are rounded by
+abbrev pub is_even : Step → Step → Bool
+is_even a b = nat_le (unsigned_abs (a.east -ℤ b.east)) 1 && nat_le (unsigned_abs (a.north -ℤ b.north)) 1

@@ -1,0 +1,63 @@
+//! The largest of some counts, and the function of an address.
+
+ghost use Rattle.std.specs.Prelude.{◌≡◌, ℕ, ◌<◌, ◌≤◌, ◌⊎◌, ◌↔◌, IfSome, IsTrue, None, length, slice_index};
+
+/// Returns which count is the largest, the first of several: none if all are 0.
+pub fn largest(counts: &[u64]) -> Option<usize>
+    ensures inside { IfSome result (λ n. n < length counts.now) }
+    ensures most { (k : ℕ) → k < length counts.now
+        → IfSome result (λ n. slice_index counts.now k ≤ slice_index counts.now n) }
+    ensures some { IfSome result (λ n. 0 < slice_index counts.now n) }
+    ensures none { (k : ℕ) → k < length counts.now → result ≡ None → slice_index counts.now k ≡ 0 }
+{
+    if counts.is_empty() {
+        return None;
+    }
+    let n = greatest(counts);
+    if counts[n] == 0 { None } else { Some(n) }
+}
+
+/// Returns which count is the largest, the first of several.
+fn greatest(counts: &[u64]) -> usize
+    requires { 0 < length counts.now }
+    ensures inside { result < length counts.now }
+    ensures most { (k : ℕ) → k < length counts.now → slice_index counts.now k ≤ slice_index counts.now result }
+{
+    let mut found = 0;
+    for n in 0..counts.len() {
+        if counts[n] > counts[found] {
+            found = n;
+        }
+    }
+    found
+}
+
+/// Returns the number of the function that holds an address: of those that begin there or before, the last. The
+/// functions begin at these addresses.
+pub fn function_at(addresses: &[u16], address: usize) -> usize
+    ensures inside { 0 < length addresses.now → result < length addresses.now }
+    ensures before { (k : ℕ) → k < length addresses.now → slice_index addresses.now k ≤ address
+        → slice_index addresses.now result ≤ address }
+    ensures last { (k : ℕ) → k < length addresses.now → slice_index addresses.now k ≤ address
+        → slice_index addresses.now k ≤ slice_index addresses.now result }
+{
+    let mut found = 0;
+    for k in 0..addresses.len() {
+        if is_nearer(
+            usize::from(addresses[k]),
+            usize::from(addresses[found]),
+            address,
+        ) {
+            found = k;
+        }
+    }
+    found
+}
+
+/// Reports whether a function that begins at `begin` is nearer to an address than another one: it begins there or
+/// before, and the other one begins earlier, or behind the address.
+fn is_nearer(begin: usize, other: usize, address: usize) -> bool
+    ensures { IsTrue result ↔ ((begin ≤ address) × ((other < begin) ⊎ (address < other))) }
+{
+    begin <= address && (other < begin || address < other)
+}

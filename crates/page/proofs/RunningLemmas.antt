@@ -1,0 +1,161 @@
+-- Sheets of known contents hold the output of a run.
+use Rattle.std.proofs.Common.{◌≡◌, ◌+◌, ◌∙◌, inl, inr, ℕ, zero, suc, List, [], ◌∷◌, ◌++◌, Option, Some, None, Result, Ok, Err, IfErr, IfSome, IsSome, false, get_or, map, rules, refl, sym, ap, subst, append_assoc, arith}
+use Rattle.std.specs.List.{concat}
+use Rattle.std.proofs.lemmas.List.{append-nil, get_or-set_same}
+use Rattle.std.proofs.lemmas.List.Folds.{concat-append}
+use Rattle.std.proofs.lemmas.Simd.{map-map}
+use Rattle.settings.specs.Setup.{Setup}
+use Rattle.series.specs.Compiling.{Source}
+use Rattle.series.specs.Output.{Output, Runs}
+use Rattle.series.specs.Runs.{AreSources}
+use Rattle.series.specs.Failures.{Accounts, Failures, failures, no_device}
+use Rattle.tokens.specs.Feed.{Account, failed_again}
+use Rattle.series.specs.Pieces.{Channel, Piece, Taken, Text, Faults, Writes, TakesOn, taken}
+use Rattle.series.specs.declared.endings.RunFault.{RunFault}
+use Rattle.series.specs.declared.endings.RunFault.TheVariants as fault
+use Rattle.series.specs.declared.endings.Status.{Status}
+use Rattle.series.specs.declared.endings.Status.TheVariants.{Done, Faulty}
+use Rattle.sinks.specs.Portions.{Contents, Portions, Takes}
+use Rattle.page.specs.declared.orders.Order.{Order}
+use Rattle.page.specs.declared.robots.Robot.{Robot}
+use Rattle.page.specs.declared.sheets.Sheet.{Sheet}
+use Rattle.page.specs.Orders.{setup_of}
+use Rattle.page.specs.Robots.{name_bytes, source_bytes, source_of}
+use Rattle.page.specs.Running.{Holds, IsOfRun, IsOutput, RunsRobots, blank, bytes_on, code_of, output_of, part_on, status_code}
+use Rattle.page.specs.Sheets.{contents_of, told}
+
+-- two sinks of known contents
+abbrev both : Contents → Contents → Taken
+both t f = taken (Some t) (Some f)
+
+-- after this two sinks of known contents have these bytes more
+record Grow (t f : Contents) (after : Taken) (text faults : List ℕ) : Type 0 where
+  new_text : Contents
+  new_faults : Contents
+  is : after ≡ both new_text new_faults
+  texts : concat new_text.portions ≡ concat t.portions ++ text
+  lines : concat new_faults.portions ≡ concat f.portions ++ faults
+
+-- the bytes that a sink took
+grown : (t : Contents) (after : Portions) (bytes : List ℕ) (takes : Takes (Some t) after bytes)
+    → concat (t.portions ++ takes.portions) ≡ concat t.portions ++ bytes
+grown t after bytes takes = concat-append t.portions takes.portions ∙ ap (λ (l : List ℕ). concat t.portions ++ l) takes.joined
+
+-- one piece
+one_grows : (channel : Channel) (bytes : List ℕ) (t f : Contents) (after : Taken) → TakesOn channel (both t f) after bytes
+    → Grow t f after (part_on Text channel bytes) (part_on Faults channel bytes)
+one_grows Text bytes t f after (takes, same) = record {
+  new_text = record t { portions = t.portions ++ takes.portions };
+  new_faults = f;
+  is = rw (sym takes.told, sym same) refl;
+  texts = grown t after.text bytes takes;
+  lines = sym (append-nil (concat f.portions));
+}
+one_grows Faults bytes t f after (takes, same) = record {
+  new_text = t;
+  new_faults = record f { portions = f.portions ++ takes.portions };
+  is = rw (sym takes.told, sym same) refl;
+  texts = sym (append-nil (concat t.portions));
+  lines = grown f after.faults bytes takes;
+}
+
+-- bytes behind bytes behind bytes
+behind : (a b c x y : List ℕ) → b ≡ a ++ x → c ≡ b ++ y → c ≡ a ++ (x ++ y)
+behind a b c x y first second = second ∙ ap (λ (l : List ℕ). l ++ y) first ∙ append_assoc a x y
+
+-- all pieces
+all_grow : (t f : Contents) (after : Taken) (pieces : List Piece) → Writes (both t f) after pieces
+    → Grow t f after (bytes_on Text pieces) (bytes_on Faults pieces)
+all_grow t f after [] is = record {
+  new_text = t;
+  new_faults = f;
+  is = is;
+  texts = sym (append-nil (concat t.portions));
+  lines = sym (append-nil (concat f.portions));
+}
+all_grow t f after (piece ∷ pieces) (between, takes, rest) =
+    let here = one_grows piece.channel piece.bytes t f between takes in
+    let P : Taken → Type 0 = λ now. Writes now after pieces in
+    let there = all_grow here.new_text here.new_faults after pieces (subst P here.is rest) in
+    record {
+      new_text = there.new_text;
+      new_faults = there.new_faults;
+      is = there.is;
+      texts = behind (concat t.portions) (concat here.new_text.portions) (concat there.new_text.portions) _ _ here.texts there.texts;
+      lines = behind (concat f.portions) (concat here.new_faults.portions) (concat there.new_faults.portions) _ _ here.lines there.lines;
+    }
+
+-- what a sink took, portion by portion
+abbrev portions_in : Portions → List (List ℕ)
+portions_in None = []
+portions_in (Some contents) = contents.portions
+
+-- two sheets that were blank
+held : (out : Output) (text faults : Sheet)
+    → Writes (both (record { portions = []; whole = false }) (record { portions = []; whole = false })) (taken (contents_of text) (contents_of faults)) out.pieces
+    → Holds out text faults
+held out text faults writes =
+    let grow = all_grow (record { portions = []; whole = false }) (record { portions = []; whole = false }) (taken (contents_of text) (contents_of faults)) out.pieces writes in
+    let texts : told text ≡ grow.new_text.portions = ap (λ (t : Taken). portions_in t.text) grow.is in
+    let lines : told faults ≡ grow.new_faults.portions = ap (λ (t : Taken). portions_in t.faults) grow.is in
+    record { texts = ap concat texts ∙ grow.texts; lines = ap concat lines ∙ grow.lines }
+
+-- a run's code says what the sheets hold
+pub is_output : (order : Order) (robots : List Robot) (ran : Option (Result Status RunFault)) (text faults : Sheet)
+    → IfSome ran (λ ran. RunsRobots order robots ran text faults) → IsOutput order robots (code_of ran) text faults
+is_output order robots None text faults runs = λ small. absurd (omega arith)
+is_output order robots (Some (Ok status)) text faults (writes, is) = λ small.
+    (ap status_code is, held (output_of order robots) text faults writes)
+is_output order robots (Some (Err (fault.Read file))) text faults runs = λ small. absurd (omega arith)
+is_output order robots (Some (Err fault.Write)) text faults runs = λ small. absurd (omega arith)
+is_output order robots (Some (Err fault.Memory)) text faults runs = λ small. absurd (omega arith)
+
+-- a run over the sources of the robots, on blank sheets
+pub by_robots : (order : Order) (robots : List Robot) (setup : Setup) (words : List (List ℕ)) (known : List (Option (List ℕ)))
+    (ran : Result Status RunFault) (text faults new_text new_faults : Sheet) → setup ≡ setup_of order words
+    → words ≡ map name_bytes robots → known ≡ map (λ robot. Some (source_bytes robot)) robots → told text ≡ [] → told faults ≡ []
+    → ((sources : List Source) → AreSources sources setup.words known
+    → Runs setup sources ran (taken (contents_of text) (contents_of faults)) (taken (contents_of new_text) (contents_of new_faults)))
+    → RunsRobots order robots ran new_text new_faults
+by_robots order robots setup words known ran text faults new_text new_faults is names bytes no_text no_faults runs =
+    let whole : setup ≡ setup_of order (map name_bytes robots) = is ∙ ap (setup_of order) names in
+    let named : map (λ (s : Source). s.word) (map source_of robots) ≡ setup.words =
+    map-map (λ (s : Source). s.word) source_of robots ∙ sym (ap (λ (s : Setup). s.words) whole) in
+    let told_bytes : map (λ (s : Source). Some s.bytes) (map source_of robots) ≡ known =
+    map-map (λ (s : Source). Some s.bytes) source_of robots ∙ sym bytes in
+    let after : Taken = taken (contents_of new_text) (contents_of new_faults) in
+    let before : taken (contents_of text) (contents_of faults) ≡ blank = rw (no_text, no_faults) refl in
+    let all = runs (map source_of robots) (record { named = named; bytes = told_bytes }) in
+    let P : Setup → Type 0 = λ s. Runs s (map source_of robots) ran (taken (contents_of text) (contents_of faults)) after in
+    let Q : Taken → Type 0 = λ b. Runs (setup_of order (map name_bytes robots)) (map source_of robots) ran b after in
+    subst Q before (subst P whole all)
+
+-- a device that never failed, at any place
+never_failed : {X : Type 0} → (feeds : List X) (n : ℕ) → get_or (map (λ _. no_device) feeds) n no_device ≡ no_device
+never_failed [] n = refl
+never_failed (feed ∷ feeds) zero = refl
+never_failed (feed ∷ feeds) (suc n) = never_failed feeds n
+
+-- of devices that never fail only a sink stops a run
+pub only_writes : {X : Type 0} → (olds news : List X) (ran : Result Status RunFault) (text faults later_text later_faults : ℕ)
+    → Accounts ran (failures (map (λ _. no_device) olds) text faults) (failures (map (λ _. no_device) news) later_text later_faults)
+    → IfErr ran (λ stopped. stopped ≡ fault.Write)
+only_writes olds news (Ok status) text faults later_text later_faults accounts = tt
+only_writes olds news (Err (fault.Read file)) text faults later_text later_faults (within, is) =
+    let feeds : List Account = map (λ _. no_device) olds in
+    let here = ap (λ (f : Failures). get_or f.feeds file no_device) is in
+    let there = get_or-set_same feeds file (failed_again (get_or feeds file no_device)) no_device within in
+    let counts : 0 ≡ (get_or feeds file no_device).failures + 1 = ap (λ (a : Account). a.failures) (sym (never_failed news file) ∙ here ∙ there) in
+    absurd (omega (arith, counts))
+only_writes olds news (Err fault.Write) text faults later_text later_faults accounts = refl
+only_writes olds news (Err fault.Memory) text faults later_text later_faults accounts = absurd accounts
+
+-- the code of a run that only a sink can have stopped
+pub is_of_run : (ran : Option (Result Status RunFault)) → IsSome ran → IfSome ran (λ ran. IfErr ran (λ stopped. stopped ≡ fault.Write))
+    → IsOfRun (code_of ran)
+is_of_run None some stopped = absurd (cc some)
+is_of_run (Some (Ok Done)) some stopped = inl (search rules)
+is_of_run (Some (Ok Faulty)) some stopped = inl (search rules)
+is_of_run (Some (Err fault.Write)) some stopped = inr refl
+is_of_run (Some (Err (fault.Read file))) some stopped = absurd (cc stopped)
+is_of_run (Some (Err fault.Memory)) some stopped = absurd (cc stopped)

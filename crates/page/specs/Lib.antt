@@ -1,0 +1,4 @@
+pub mod Orders
+pub mod Robots
+pub mod Running
+pub mod Sheets

@@ -1,0 +1,35 @@
+-- What an order asks for.
+use Rattle.std.specs.Prelude.{ℕ, ◌≤◌, ◌==◌, List, if◌then◌else◌}
+use Rattle.settings.specs.declared.settings.Mode.{Mode}
+use Rattle.settings.specs.declared.settings.Mode.TheVariants.{Listing, Matches}
+use Rattle.settings.specs.Given.{profile_by}
+use Rattle.settings.specs.Limits.{matches_max, cycles_max, first_max}
+use Rattle.settings.specs.Setup.{Setup}
+use Rattle.page.specs.declared.orders.Order.{Order}
+
+-- each number is within its limits
+pub record AreWithin (order : Order) : Type 0 where
+  pub mode : order.mode ≤ 1
+  pub some_match : 1 ≤ order.matches
+  pub most_matches : order.matches ≤ matches_max
+  pub some_cycle : 1 ≤ order.limit
+  pub most_cycles : order.limit ≤ cycles_max
+  pub least_profile : 1 ≤ order.profile
+  pub most_profile : order.profile ≤ 2
+  pub least_first : 1 ≤ order.first
+  pub most_first : order.first ≤ first_max
+
+abbrev pub mode_by : ℕ → Mode
+mode_by n = if n == 0 then Listing else Matches
+
+-- what an order asks for of the files that these words name
+abbrev pub setup_of : Order → List (List ℕ) → Setup
+setup_of order words = record {
+  mode = mode_by order.mode;
+  matches = order.matches;
+  limit = order.limit;
+  seed = order.seed;
+  profile = profile_by order.profile;
+  first = order.first;
+  words = words;
+}

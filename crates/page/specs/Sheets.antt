@@ -1,0 +1,17 @@
+-- The text of a sheet.
+use Rattle.std.specs.Prelude.{ℕ, List, Some, false, map, take}
+use Rattle.sinks.specs.Portions.{Portions}
+use Rattle.page.specs.declared.sheets.Frame.{Frame}
+use Rattle.page.specs.declared.sheets.Sheet.{Sheet}
+
+-- the bytes of a frame
+abbrev pub bytes_of : Frame → List ℕ
+bytes_of frame = take frame.size frame.bytes
+
+-- the text, frame by frame
+abbrev pub told : Sheet → List (List ℕ)
+told sheet = map bytes_of (take sheet.used sheet.frames)
+
+-- what a sheet took as a device; it need not take a put whole
+abbrev pub contents_of : Sheet → Portions
+contents_of sheet = Some (record { portions = told sheet; whole = false })

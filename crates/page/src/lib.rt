@@ -1,0 +1,19 @@
+//! The engine for a page in a browser: runs over sources in memory that the caller lends.
+#![tactic(auto)]
+
+mod exports;
+mod filming;
+mod films;
+mod orders;
+mod robots;
+mod rows;
+mod running;
+mod sheets;
+mod sources;
+
+pub use exports::{film, order_bytes, robot_bytes, run, sheet_bytes};
+pub use filming::film_robots;
+pub use orders::Order;
+pub use robots::{NAME_MAX, Robot, SOURCE_MAX};
+pub use running::run_robots;
+pub use sheets::{FRAME_BYTES, FRAMES, Frame, Sheet};

@@ -1,0 +1,85 @@
+//! Orders: what a run is asked to do, as numbers.
+
+ghost use Rattle.std.specs.Prelude.{◌≡◌, ◌<◌, ◌≤◌, true, length, map, IfSome, IsSome};
+ghost use Rattle.settings.specs.Given.{profile_by};
+ghost use Rattle.page.specs.Orders.{AreWithin, mode_by, setup_of};
+
+use arrayvec::ArrayVec;
+use grammar::Profile;
+use series::{CYCLES_MAX, FILES_MAX, FIRST_MAX, MATCHES_MAX, Mode, Settings};
+
+/// What a run is asked to do.
+#[repr(C)]
+#[derive(Clone, Copy)]
+pub struct Order {
+    /// The seed of the random numbers.
+    pub seed: u64,
+    /// What is asked for: 0 for listings, 1 for matches.
+    pub mode: u32,
+    /// How many matches are played, 1 to 1,000,000.
+    pub matches: u32,
+    /// The most cycles of a match, 1 to 1,000,000,000.
+    pub limit: u32,
+    /// The number of the language profile, 1 or 2.
+    pub profile: u32,
+    /// The number of the first match, 1 to 1,000,000.
+    pub first: u32,
+}
+
+impl Order {
+    /// Makes the settings of a run of the files that these words name, one to four. `None` if a number is not within
+    /// its limits.
+    pub fn settings<'a>(&self, words: &[&'a str]) -> Option<Settings<'a>>
+        requires some { 0 < length words.now }
+        ensures value { IfSome result (λ settings. settings ≡ setup_of self.now (map (λ word. word.now) words.now)) }
+        ensures accepted { AreWithin self.now → length words.now ≤ FILES_MAX → IsSome result }
+    {
+        if !self.is_within() {
+            return None;
+        }
+        let words = ArrayVec::try_from(words).ok()?;
+        Some(Settings::new(
+            self.mode(),
+            self.matches,
+            self.limit,
+            self.seed,
+            self.profile(),
+            self.first,
+            words,
+        ))
+    }
+
+    /// Reports whether each number is within its limits.
+    fn is_within(&self) -> bool
+        ensures within { result ≡ true → AreWithin self.now }
+        ensures accepted { AreWithin self.now → result ≡ true }
+    {
+        let matches = 1 <= self.matches && self.matches <= MATCHES_MAX;
+        let cycles = 1 <= self.limit && self.limit <= CYCLES_MAX;
+        let profile = 1 <= self.profile && self.profile <= 2;
+        let first = 1 <= self.first && self.first <= FIRST_MAX;
+        self.mode <= 1 && matches && cycles && profile && first
+    }
+
+    /// Returns the mode.
+    fn mode(&self) -> Mode
+        ensures { result ≡ mode_by self.now.mode }
+    {
+        if self.mode == 0 {
+            Mode::Listing
+        } else {
+            Mode::Matches
+        }
+    }
+
+    /// Returns the language profile.
+    fn profile(&self) -> Profile
+        ensures { result ≡ profile_by self.now.profile }
+    {
+        if self.profile == 1 {
+            Profile::first()
+        } else {
+            Profile::second()
+        }
+    }
+}

@@ -1,0 +1,72 @@
+//! Sheets: what a run writes, kept in memory that the caller lends.
+
+ghost use Rattle.std.specs.Prelude.{◌≡◌, []};
+ghost use Rattle.page.specs.Sheets.{contents_of, told};
+
+use series::Sink;
+use tokens::DeviceFault;
+
+/// The most bytes of a frame.
+pub const FRAME_BYTES: usize = 255;
+
+/// The frames of a sheet.
+pub const FRAMES: usize = 32_768;
+
+/// A piece of text of at most 255 bytes: the first `size` of `bytes`.
+#[repr(C)]
+#[derive(Clone, Copy)]
+pub struct Frame {
+    /// How many bytes it has.
+    pub size: u8,
+    /// The bytes, and what lies behind them.
+    pub bytes: [u8; FRAME_BYTES],
+}
+
+/// A text in memory that the caller lends: its first `used` frames. It has at most 32,768.
+#[repr(C)]
+pub struct Sheet {
+    /// How many frames the text has.
+    pub used: u64,
+    /// How many writes failed since the sheet was blank, for want of room.
+    pub failures: u64,
+    /// The frames of the text, and those that are free.
+    pub frames: [Frame; FRAMES],
+}
+
+impl Sheet {
+    /// Makes the sheet blank.
+    pub fn clear(&mut self)
+        ensures text { told self.new ≡ [] }
+        ensures failures { self.new.failures ≡ 0 }
+    {
+        self.used = 0;
+        self.failures = 0;
+    }
+
+    /// Adds bytes, up to 255. A sheet that was full takes no more, and so do no bytes.
+    pub(crate) fn add(&mut self, bytes: &[u8]) {
+        if !bytes.is_empty() && self.failures == 0 {
+            let _ = self.put(bytes);
+        }
+    }
+}
+
+impl Sink for Sheet {
+    ghost failures = { λ sheet. sheet.failures };
+
+    ghost portions = { contents_of };
+
+    fn put(&mut self, bytes: &[u8]) -> Result<usize, DeviceFault> {
+        let used = self.used as usize;
+        if used >= FRAMES {
+            self.failures += 1;
+            return Err(DeviceFault);
+        }
+        let size = bytes.len().min(FRAME_BYTES);
+        let frame = &mut self.frames[used];
+        frame.size = size as u8;
+        frame.bytes[..size].copy_from_slice(&bytes[..size]);
+        self.used += 1;
+        Ok(size)
+    }
+}

@@ -1,0 +1,111 @@
+//! Pilots: a robot's program with the machine that runs it.
+
+ghost use Rattle.std.specs.Prelude.{◌≡◌, ◌==◌, ◌<◌, ◌≤◌, if◌then◌else◌, IfOk, length};
+ghost use Rattle.code.specs.Standing.{FitsProgram};
+
+use crate::watcher::{Question, Turn, Watcher};
+use arena::Arena;
+use code::{Machine, Program, Want};
+use settings::CYCLES_MAX;
+use std::alloc::{AllocError, Global};
+use std::marker::Model;
+
+/// A robot's program, and a machine that runs it.
+#[derive(Drop)]
+pub struct Pilot<'a> {
+    program: &'a Program,
+    machine: Machine,
+}
+
+impl<'a> Model for Pilot<'a> {
+    ghost use Rattle.code.specs.Standing.{FitsProgram};
+    ghost use Rattle.playing.specs.Pilot.{Seat};
+
+    ghost Value = { Seat };
+
+    ghost view = { λ p. record { code = p.program.now; state = p.machine } };
+
+    ghost invariant = { λ p. FitsProgram p.machine p.program.now };
+}
+
+impl<'a> Pilot<'a> {
+    /// Makes the pilot of a program, at its start.
+    pub fn new(program: &'a Program) -> Pilot<'a>
+        ensures { result.code ≡ program.now }
+    {
+        Pilot {
+            program,
+            machine: Machine::new(program),
+        }
+    }
+
+    /// Returns the program.
+    pub fn program(&self) -> &'a Program
+        ensures { result.now ≡ self.now.code }
+    {
+        self.program
+    }
+
+    /// Returns the machine.
+    pub fn machine(&self) -> &Machine
+        ensures state { result.now ≡ self.now.state }
+        ensures fits { FitsProgram result.now self.now.code }
+    {
+        &self.machine
+    }
+
+    /// Runs one cycle before a watcher. A dead robot does nothing.
+    pub fn turn<W: Watcher>(&mut self, turn: Turn, arena: &mut Arena, watcher: &mut W)
+        requires inside { turn.robot < length arena.old.robots }
+        requires cycle { turn.cycle ≤ CYCLES_MAX }
+        ensures program { self.new.code ≡ self.old.code }
+        ensures manned { length arena.new.robots ≡ length arena.old.robots }
+        ensures updates { arena.new.updates ≡ arena.old.updates }
+    {
+        if !arena.alive(turn.robot) {
+            return;
+        }
+        watcher.turn(turn, self);
+        match self.machine.next(self.program) {
+            Want::Quiet => self.machine.advance(self.program, 0),
+            Want::Restart => self.restart(turn, watcher),
+            Want::Ask(intrinsic, arguments) => {
+                let reply = arena.ask(turn.robot, intrinsic, arguments);
+                let question = Question {
+                    intrinsic,
+                    arguments,
+                    reply,
+                };
+                watcher.asked(turn, self, question, arena);
+                self.machine.advance(self.program, reply);
+            }
+        }
+    }
+
+    /// Restarts the machine, and tells the watcher why.
+    fn restart<W: Watcher>(&mut self, turn: Turn, watcher: &mut W)
+        ensures { self.new.code ≡ self.old.code }
+    {
+        if let Some(cause) = self.machine.cause(self.program) {
+            watcher.restarts(turn, self, cause);
+        }
+        self.machine.restart(self.program);
+    }
+}
+
+/// Makes the pilots of one to four programs: one of each, or two of a single one.
+pub fn pilots(alloc: Global, programs: &[Program]) -> Result<Vec<Pilot<'_>>, AllocError>
+    requires some { 0 < length programs.now }
+    requires most { length programs.now ≤ 4 }
+    ensures { IfOk result (λ pilots. length pilots.items
+        ≡ (if length programs.now == 1 then 2 else length programs.now)) }
+{
+    let mut pilots = Vec::new(alloc);
+    for program in programs {
+        pilots.push(Pilot::new(program))?;
+    }
+    if let [program] = programs {
+        pilots.push(Pilot::new(program))?;
+    }
+    Ok(pilots)
+}

@@ -1,0 +1,57 @@
+//! Watchers: what sees a match as it is played.
+
+ghost use Rattle.std.specs.Prelude.{◌<◌, ◌≤◌, length};
+
+use crate::pilot::Pilot;
+use arena::Arena;
+use code::{Cause, Intrinsic};
+use settings::CYCLES_MAX;
+
+/// A robot's turn in a cycle.
+#[derive(Clone, Copy, Debug, PartialEq, Eq)]
+pub struct Turn {
+    /// The number of the cycle, from 1.
+    pub cycle: u32,
+    /// The number of the robot, from 0.
+    pub robot: usize,
+}
+
+/// A call of an intrinsic function, and its reply.
+#[derive(Clone, Copy, Debug, PartialEq, Eq)]
+pub struct Question {
+    /// The function.
+    pub intrinsic: Intrinsic,
+    /// Its arguments: 0 where one is missing or not used.
+    pub arguments: [i32; 2],
+    /// What the field answered.
+    pub reply: i32,
+}
+
+/// What sees a match as it is played. A call that isn't written does nothing.
+pub trait Watcher {
+    /// The match begins: the robots have their places.
+    fn begins(&mut self, arena: &Arena) {}
+
+    /// A live robot is about to run a cycle.
+    fn turn(&mut self, turn: Turn, pilot: &Pilot<'_>) {}
+
+    /// In its turn a robot has asked the field. Its machine doesn't have the reply yet.
+    fn asked(&mut self, turn: Turn, pilot: &Pilot<'_>, question: Question, arena: &Arena)
+        requires inside { turn.robot < length arena.now.robots }
+        requires cycle { turn.cycle ≤ CYCLES_MAX }
+    {}
+
+    /// In its turn a robot is about to restart.
+    fn restarts(&mut self, turn: Turn, pilot: &Pilot<'_>, cause: Cause) {}
+
+    /// The update after this cycle is about to be done.
+    fn updates(&mut self, cycle: u32, arena: &Arena) {}
+
+    /// The update after this cycle is done.
+    fn updated(&mut self, cycle: u32, arena: &Arena) {}
+
+    /// Reports whether the match is to go on after an update. It is stopped if not.
+    fn wants_more(&self) -> bool {
+        true
+    }
+}

@@ -1,0 +1,57 @@
+//! A source with what the compiler makes of it: its program, and its trees.
+
+use code::{Profile, Program};
+use grammar::{Diagnostic, ParseFault, Pools};
+use parser::parse;
+use std::alloc::{AllocError, Global};
+use tokens::{DeviceFault, Pieces, WINDOW};
+use tools::compile;
+use trees::TreeMaker;
+
+/// Why nothing is made of a source.
+#[derive(Clone, Copy, Debug, PartialEq, Eq)]
+pub enum CompileFault {
+    /// The source has this fault.
+    Source(Diagnostic),
+    /// Memory was refused.
+    Memory,
+}
+
+impl From<AllocError> for CompileFault {
+    ghost use Rattle.std.specs.Prelude.{◌≡◌};
+    ghost use Rattle.stages.specs.declared.compiled.CompileFault.TheVariants.{Memory};
+
+    ghost from_gives = { λ _ e. e ≡ Memory };
+
+    fn from(_fault: AllocError) -> CompileFault {
+        CompileFault::Memory
+    }
+}
+
+/// Compiles a source by a profile. A source in memory never fails to be read.
+pub fn compiled(source: &[u8], profile: Profile) -> Result<Program, CompileFault> {
+    match compile(profile, &mut Pieces::new(source, WINDOW)) {
+        Ok(Ok(program)) => Ok(program),
+        Ok(Err(diagnostic)) => Err(CompileFault::Source(diagnostic)),
+        Err(DeviceFault) => Err(CompileFault::Memory),
+    }
+}
+
+/// The trees of a source, and its names.
+#[derive(Drop)]
+pub struct FileTrees {
+    /// The maker of the trees, which keeps them.
+    pub maker: TreeMaker,
+    /// The names.
+    pub names: Pools,
+}
+
+/// Makes the trees of a source by a profile.
+pub fn grown(alloc: Global, source: &[u8], profile: Profile) -> Result<FileTrees, CompileFault> {
+    let mut maker = TreeMaker::new(alloc, profile);
+    match parse(&mut Pieces::new(source, WINDOW), &mut maker) {
+        Ok(names) => Ok(FileTrees { maker, names }),
+        Err(ParseFault::Source(diagnostic)) => Err(CompileFault::Source(diagnostic)),
+        Err(ParseFault::Device | ParseFault::Memory) => Err(CompileFault::Memory),
+    }
+}

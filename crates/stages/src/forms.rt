@@ -1,0 +1,119 @@
+//! What is asked for by the words of the command line.
+
+use grammar::Profile;
+use settings::number;
+use std::alloc::Global;
+use tools::{Fault, Known, Options, number_of, profile};
+
+/// The most cycles of a run.
+const MOST_CYCLES: u64 = 10_000;
+
+/// The options.
+pub const OPTIONS: [Known; 8] = [
+    Known::Flag("tokens"),
+    Known::Flag("tree"),
+    Known::Flag("dot"),
+    Known::Flag("code"),
+    Known::Flag("html"),
+    Known::Valued("run"),
+    Known::Valued("replies"),
+    Known::Valued("p"),
+];
+
+/// What is shown of a source.
+#[derive(Clone, Copy, Debug, PartialEq, Eq)]
+pub enum Form {
+    /// Its tokens.
+    Tokens,
+    /// Its tree, indented.
+    Tree,
+    /// Its tree as a graph.
+    Dot,
+    /// Its code, below its lines.
+    Code,
+    /// Its code beside its lines, as a page.
+    Html,
+    /// So many cycles of its machine.
+    Run(u32),
+}
+
+/// The forms without a value, with the names of their options.
+const FLAGS: [(&str, Form); 5] = [
+    ("tokens", Form::Tokens),
+    ("tree", Form::Tree),
+    ("dot", Form::Dot),
+    ("code", Form::Code),
+    ("html", Form::Html),
+];
+
+/// What is asked for: a form of one source.
+#[derive(Drop)]
+pub struct Request<'a> {
+    /// What is shown.
+    pub form: Form,
+    /// The language profile.
+    pub profile: Profile,
+    /// The replies of intrinsic functions in a run, the first first.
+    pub replies: Vec<i32>,
+    /// The word of the file.
+    pub file: &'a str,
+}
+
+impl<'a> Request<'a> {
+    /// Reads what options ask for: one form, one file, `-p`, the profile, and only with a run `--replies`. Everything
+    /// else is wrong usage.
+    pub fn read(alloc: Global, options: &Options<'a>) -> Result<Request<'a>, Fault> {
+        let [file] = options.files() else {
+            return Err(Fault::Usage);
+        };
+        let form = form_of(options)?;
+        if options.has("replies") && !matches!(form, Form::Run(_)) {
+            return Err(Fault::Usage);
+        }
+        Ok(Request {
+            form,
+            profile: profile(options)?,
+            replies: replies_of(alloc, options)?,
+            file: *file,
+        })
+    }
+}
+
+/// Returns the form that options ask for, which have to ask for exactly one.
+fn form_of(options: &Options<'_>) -> Result<Form, Fault> {
+    let mut found = None;
+    if options.has("run") {
+        found = Some(Form::Run(number_of(options, "run", 1, MOST_CYCLES, 1)? as u32));
+    }
+    for (name, form) in FLAGS {
+        if options.has(name) {
+            if found.is_some() {
+                return Err(Fault::Usage);
+            }
+            found = Some(form);
+        }
+    }
+    found.ok_or(Fault::Usage)
+}
+
+/// Returns the replies that options list, with commas between them.
+fn replies_of(alloc: Global, options: &Options<'_>) -> Result<Vec<i32>, Fault> {
+    let mut replies = Vec::new(alloc);
+    let Some(list) = options.value("replies") else {
+        return Ok(replies);
+    };
+    for word in list.split(',') {
+        let reply = reply_of(word).ok_or(Fault::Usage)?;
+        replies.push(reply).map_err(|_| Fault::Memory)?;
+    }
+    Ok(replies)
+}
+
+/// Reads a reply: one or more digits, maybe with a `-` before them.
+fn reply_of(word: &str) -> Option<i32> {
+    let value = match word.strip_prefix('-') {
+        Some(digits) => -i64::try_from(number(digits, 0, 2_147_483_648)?).ok()?,
+        None => i64::try_from(number(word, 0, 2_147_483_647)?).ok()?,
+    };
+    i32::try_from(value).ok()
+}

@@ -1,0 +1,71 @@
+//! The fixed texts of a page: what it looks like, in a light and a dark theme and on a narrow screen.
+
+/// The page's begin, before its title.
+pub const BEFORE_TITLE: &str = "<!DOCTYPE html>
+<html lang=\"en\">
+<head>
+<meta charset=\"utf-8\">
+<meta name=\"viewport\" content=\"width=device-width, initial-scale=1\">
+<title>";
+
+/// The look of all pages. On a narrow screen the code is below the source, and each scrolls by itself.
+pub const LOOK: &str = ": source and code</title>
+<style>
+:root { color-scheme: light dark; --ground: #ffffff; --ink: #1b1f24; --faint: #59636e; --edge: #d1d9e0; --light: 92%; --strong: 80%; }
+@media (prefers-color-scheme: dark) {
+  :root { --ground: #14181d; --ink: #e6edf3; --faint: #a5aeb8; --edge: #3d444d; --light: 18%; --strong: 32%; }
+}
+* { box-sizing: border-box; }
+body { margin: 0; padding: 1rem; background: var(--ground); color: var(--ink); font: 1rem/1.4 system-ui, sans-serif; }
+h1 { margin: 0 0 .25rem; font-size: 1.25rem; overflow-wrap: anywhere; }
+p { margin: 0 0 1rem; color: var(--faint); }
+main { display: grid; grid-template-columns: minmax(0, 3fr) minmax(0, 2fr); gap: 1rem; }
+section { border: 1px solid var(--edge); border-radius: .4rem; overflow: auto; max-height: calc(100vh - 7rem); }
+h2 { position: sticky; top: 0; margin: 0; padding: .3rem .6rem; font-size: .9rem; background: var(--ground); border-bottom: 1px solid var(--edge); }
+.rows { width: max-content; min-width: 100%; font: .85rem/1.5 ui-monospace, monospace; tab-size: 8; }
+.rows > div { white-space: pre; min-height: 1.5em; padding-right: .6rem; border-left: .3rem solid transparent; }
+.rows > .k { background: hsl(var(--h) 60% var(--light)); border-left-color: hsl(var(--h) 60% 55%); }
+.rows > :target { outline: 2px solid var(--ink); outline-offset: -2px; }
+.rows > .f { padding: .3rem 0 0 .8rem; font-weight: bold; }
+a, i, b { display: inline-block; font-style: normal; font-weight: normal; }
+a, .n { min-width: 2.8rem; padding-right: .8rem; text-align: right; text-decoration: none; }
+a, i { color: var(--faint); }
+a:hover, a:focus { text-decoration: underline; }
+b { min-width: 9.5rem; }
+@media (max-width: 45rem) {
+  body { padding: .5rem; }
+  main { grid-template-columns: minmax(0, 1fr); gap: .5rem; }
+  section { max-height: 42vh; }
+}
+";
+
+/// What is between the look and the name above both sides.
+pub const BEFORE_NAME: &str = "</style>
+</head>
+<body>
+<h1>";
+
+/// What is between the name and the lines of the source.
+pub const BEFORE_SOURCE: &str = "</h1>
+<p>A line of the source and the instructions that come from it have one colour. The number of a line leads to the other side.</p>
+<main>
+<section aria-label=\"Source\">
+<h2>Source</h2>
+<div class=\"rows\">
+";
+
+/// What is between both sides.
+pub const BEFORE_CODE: &str = "</div>
+</section>
+<section aria-label=\"Code\">
+<h2>Code: line, address, instruction, name</h2>
+<div class=\"rows\">
+";
+
+/// The page's end.
+pub const TAIL: &str = "</div>
+</section>
+</main>
+</body>
+</html>
+";

@@ -1,0 +1,92 @@
+//! Shows what the compiler does with a robot, stage by stage: its tokens, its tree, its code below or beside its lines,
+//! and the cycles of its machine.
+#![tactic(auto)]
+
+mod compiled;
+mod drawings;
+mod execution;
+mod forms;
+mod labels;
+mod listings;
+mod looks;
+mod nodes;
+mod origins;
+mod pages;
+mod spelling;
+#[cfg(test)]
+mod tests;
+mod texts;
+mod token_rows;
+
+use crate::compiled::{CompileFault, compiled, grown};
+use crate::drawings::{graph, indented};
+use crate::execution::execution;
+use crate::forms::{Form, OPTIONS, Request};
+use crate::listings::listing;
+use crate::nodes::Nodes;
+use crate::origins::Origins;
+use crate::pages::page;
+use crate::token_rows::token_rows;
+use code::Program;
+use std::alloc::Global;
+use std::io::Write;
+use std::process::ExitCode;
+use tools::{Fault, ended, name_of, read_options, source_of, tell_diagnostic, words};
+
+/// The program's name, as its lines begin.
+const NAME: &str = "stages";
+
+/// The line of wrong usage.
+const USAGE: &str =
+    "usage: stages (--tokens | --tree | --dot | --code | --html | --run CYCLES [--replies LIST]) [-pPROFILE] FILE";
+
+fn main(rt: HostRuntime) -> ExitCode {
+    ended(&rt, NAME, USAGE, run(&rt))
+}
+
+/// Reads the words and the source, and writes the text that was asked for at once when it is whole.
+fn run(rt: &HostRuntime) -> Result<(), Fault> {
+    let words = words(rt)?;
+    let options = read_options(rt.alloc(), words.as_slice(), &OPTIONS)?;
+    let request = Request::read(rt.alloc(), &options)?;
+    let source = source_of(rt, NAME, request.file)?;
+    let text = match shown(rt.alloc(), &request, source.as_slice()) {
+        Ok(text) => text,
+        Err(CompileFault::Source(diagnostic)) => {
+            tell_diagnostic(rt, request.file, &diagnostic);
+            return Err(Fault::Source);
+        }
+        Err(CompileFault::Memory) => return Err(Fault::Memory),
+    };
+    rt.stdout()
+        .write_all(text.as_bytes())
+        .map_err(|_| Fault::Write)
+}
+
+/// Returns the text of a source that is asked for. A source with a fault has none.
+fn shown(alloc: Global, request: &Request<'_>, source: &[u8]) -> Result<String, CompileFault> {
+    let program = compiled(source, request.profile)?;
+    let text = match request.form {
+        Form::Tokens => token_rows(alloc, source)?,
+        Form::Tree => indented(alloc, &tree(alloc, request, source)?)?,
+        Form::Dot => graph(alloc, &tree(alloc, request, source)?)?,
+        Form::Code => listing(alloc, source, &program, &found(alloc, request, source)?)?,
+        Form::Html => {
+            let origins = found(alloc, request, source)?;
+            page(alloc, name_of(request.file), source, &program, &origins)?
+        }
+        Form::Run(cycles) => execution(alloc, &program, cycles, request.replies.as_slice())?,
+    };
+    Ok(text)
+}
+
+/// Returns the nodes of a source's tree.
+fn tree(alloc: Global, request: &Request<'_>, source: &[u8]) -> Result<Nodes, CompileFault> {
+    let grown = grown(alloc, source, request.profile)?;
+    Ok(Nodes::of(alloc, &grown)?)
+}
+
+/// Returns the lines of a source's instructions.
+fn found(alloc: Global, request: &Request<'_>, source: &[u8]) -> Result<Origins, CompileFault> {
+    Ok(Origins::find(alloc, source, request.profile)?)
+}

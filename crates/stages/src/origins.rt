@@ -1,0 +1,67 @@
+//! The line of a source that each instruction of its program comes from.
+
+use derivations::{Place, PlacesFault, lines};
+use grammar::Profile;
+use std::alloc::{AllocError, Global};
+
+/// The lines of instructions, by address, and the addresses by line.
+#[derive(Drop)]
+pub struct Origins {
+    lines: Vec<u32>,
+    by_line: Vec<(u32, usize)>,
+    distinct: Vec<u32>,
+}
+
+impl Origins {
+    /// Finds the line of each instruction of a source that compiles by this profile.
+    pub fn find(alloc: Global, source: &[u8], profile: Profile) -> Result<Origins, AllocError> {
+        let mut origins = Origins {
+            lines: Vec::new(alloc),
+            by_line: Vec::new(alloc),
+            distinct: Vec::new(alloc),
+        };
+        match lines(alloc, source, profile) {
+            Ok(places) => origins.add(places.places())?,
+            Err(PlacesFault::Misfit) => {}
+            Err(PlacesFault::Memory) => return Err(AllocError),
+        }
+        Ok(origins)
+    }
+
+    /// Adds the lines of these places, of which each is an instruction's.
+    fn add(&mut self, places: &[Place]) -> Result<(), AllocError> {
+        for (address, place) in places.iter().enumerate() {
+            self.lines.push(place.line)?;
+            self.by_line.push((place.line, address))?;
+        }
+        self.by_line.sort()?;
+        for (line, _) in self.by_line.as_slice() {
+            if self.distinct.last() != Some(line) {
+                self.distinct.push(*line)?;
+            }
+        }
+        Ok(())
+    }
+
+    /// Returns the line of the instruction of an address, from 1.
+    pub fn line(&self, address: usize) -> Option<u32> {
+        self.lines.get(address).copied()
+    }
+
+    /// Returns the instructions that come from a line, the first address first: each with the line.
+    pub fn of_line(&self, line: u32) -> &[(u32, usize)] {
+        let begin = self.by_line.partition_point(|made| made.0 < line);
+        let end = self.by_line.partition_point(|made| made.0 <= line);
+        self.by_line.get(begin..end).unwrap_or(&[])
+    }
+
+    /// Returns the lines from which instructions come, each once, the first line first.
+    pub fn distinct(&self) -> &[u32] {
+        self.distinct.as_slice()
+    }
+
+    /// Returns how many lines before this one have instructions.
+    pub fn rank(&self, line: u32) -> usize {
+        self.distinct.partition_point(|other| *other < line)
+    }
+}

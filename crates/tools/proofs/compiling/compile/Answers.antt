@@ -1,0 +1,13 @@
+use Rattle.std.proofs.Common.{rules}
+use Rattle.code.specs.Told.{Stands}
+use Rattle.parser.specs.Files.{IsFile}
+use Rattle.tools.proofs.compiling.compile.Goals as goal
+
+pub finish-requires : goal.finish-requires
+finish-requires g c =
+    let f : IsFile (λ p acts. Stands c.new-maker.result p acts) (λ p acts. Stands c.parse.new.build p acts) (g.F.Feed.to_come c.args.feed.now) c.in-Ok.names = search rules in
+    record {
+      profile = _;
+      file = f.file;
+      told = record { resolved = f.resolved; stands = f.built _ c.new-maker.ensures; named = f.named; main = f.main };
+    }

@@ -1,0 +1,68 @@
+//! The programs of files.
+
+ghost use Rattle.std.specs.Prelude.{◌≡◌, ◌-◌, ◌<◌, ◌≤◌, ◌^◌, IfOk, false, length};
+
+use crate::faults::Fault;
+use crate::feeds::{FileFeed, opened};
+use crate::wishes::Wish;
+use code::{Maker, Profile, Program};
+use grammar::{Diagnostic, ParseFault};
+use parser::parse;
+use tokens::{DeviceFault, Feed};
+
+/// Compiles the files of a wish, and writes the diagnostic of each faulty one, or a line about the first that can't be
+/// opened or read, with the name of the program that asks.
+pub fn programs(rt: &HostRuntime, program: &str, wish: &Wish<'_>) -> Result<Vec<Program>, Fault>
+    ensures each { IfOk result (λ programs. length programs.items ≡ length wish.now.files) }
+    ensures some { IfOk result (λ programs. 0 < length programs.items) }
+    ensures most { IfOk result (λ programs. length programs.items ≤ 4) }
+{
+    let mut programs = Vec::new(rt.alloc());
+    let mut is_faulty = false;
+    for word in wish.files() {
+        let file = opened(rt, program, word)?;
+        match compile(wish.profile(), &mut FileFeed::new(file)) {
+            Ok(Ok(made)) => programs.push(made).map_err(|_| Fault::Memory)?,
+            Ok(Err(diagnostic)) => {
+                tell_diagnostic(rt, word, &diagnostic);
+                is_faulty = true;
+            }
+            Err(DeviceFault) => {
+                let _ = eprintln!(rt; "{program}: cannot read {word}");
+                return Err(Fault::Read);
+            }
+        }
+    }
+    if is_faulty {
+        return Err(Fault::Source);
+    }
+    Ok(programs)
+}
+
+/// Compiles the file of a feed: returns its program, or its first fault.
+pub fn compile<F: Feed>(
+    profile: Profile,
+    feed: &mut F,
+) -> Result<Result<Program, Diagnostic>, DeviceFault>
+    requires count { (F.account feed.old).failures < 2 ^ 64 - 1 }
+    requires not_ended { F.ended feed.old ≡ false }
+{
+    let mut maker = Maker::new(profile);
+    match parse(feed, &mut maker) {
+        Ok(names) => Ok(Ok(maker.finish(names))),
+        Err(ParseFault::Source(diagnostic)) => Ok(Err(diagnostic)),
+        Err(ParseFault::Device) => Err(DeviceFault),
+        Err(ParseFault::Memory) => unreachable!(),
+    }
+}
+
+/// Writes the diagnostic of the file of a word on standard error, as crobots does: its name, the line, the text.
+pub fn tell_diagnostic(rt: &HostRuntime, word: &str, diagnostic: &Diagnostic) {
+    let Diagnostic { line, code } = diagnostic;
+    let _ = eprintln!(rt; "{}:{line}: {}", name_of(word), code.text());
+}
+
+/// Returns the name that texts give the file of this word: what follows its last `/`.
+pub fn name_of(word: &str) -> &str {
+    word.rsplit('/').next().unwrap_or(word)
+}

@@ -1,0 +1,66 @@
+//! Why a program has no result, and the status that it ends with.
+
+ghost use Rattle.std.specs.Prelude.{◌≡◌};
+
+use std::alloc::AllocError;
+use std::process::ExitCode;
+
+/// Why a program has no result. The statuses are those of crobots.
+#[derive(Clone, Copy, Debug, PartialEq, Eq)]
+pub enum Fault {
+    /// A file has a fault, and the lines about it were written. Status 1.
+    Source,
+    /// The words of the command line are wrong. Status 2.
+    Usage,
+    /// A file can't be opened or read, and the line about it was written. Status 3.
+    Read,
+    /// The output can't be written. Status 4.
+    Write,
+    /// Memory was refused. Status 5.
+    Memory,
+}
+
+impl From<AllocError> for Fault {
+    ghost use Rattle.std.specs.Prelude.{◌≡◌};
+    ghost use Rattle.tools.specs.declared.faults.Fault.TheVariants.{Memory};
+
+    ghost from_gives = { λ _ e. e ≡ Memory };
+
+    fn from(_fault: AllocError) -> Fault {
+        Fault::Memory
+    }
+}
+
+impl Fault {
+    /// Returns the status that the program ends with, 1 to 5.
+    pub fn status(self) -> u8
+        ensures source { self ≡ Fault.Source → result ≡ 1 }
+        ensures usage { self ≡ Fault.Usage → result ≡ 2 }
+        ensures read { self ≡ Fault.Read → result ≡ 3 }
+        ensures write { self ≡ Fault.Write → result ≡ 4 }
+        ensures memory { self ≡ Fault.Memory → result ≡ 5 }
+    {
+        match self {
+            Fault::Source => 1,
+            Fault::Usage => 2,
+            Fault::Read => 3,
+            Fault::Write => 4,
+            Fault::Memory => 5,
+        }
+    }
+}
+
+/// Ends a program of this name and with this line of usage: writes the line on standard error that its fault has, and
+/// returns its status, 0 if there is no fault.
+pub fn ended(rt: &HostRuntime, program: &str, usage: &str, done: Result<(), Fault>) -> ExitCode {
+    let Err(fault) = done else {
+        return ExitCode::SUCCESS;
+    };
+    let _ = match fault {
+        Fault::Source | Fault::Read => Ok(()),
+        Fault::Usage => eprintln!(rt; "{usage}"),
+        Fault::Write => eprintln!(rt; "{program}: cannot write"),
+        Fault::Memory => eprintln!(rt; "{program}: out of memory"),
+    };
+    ExitCode::from(fault.status())
+}

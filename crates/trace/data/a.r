@@ -1,0 +1,1 @@
+main(){while(1)cannon(0,0);}

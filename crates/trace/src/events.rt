@@ -1,0 +1,309 @@
+//! Events of a match, and films of it: events with the robots' ways and scans beside them.
+
+ghost use Rattle.std.specs.Prelude.{◌<◌, ◌≤◌, length};
+
+use crate::notes::{Note, function_name, note_of};
+use crate::requests::Request;
+use crate::rows::{Field, Rows};
+use arena::{Arena, MOST_ROBOTS};
+use code::{Cause, Intrinsic};
+use findings::{Loss, Run, Source, Span, Stance, losses};
+use playing::{Pilot, Question, Turn, UPDATE_CYCLES, Watcher, play};
+use tools::Fault;
+
+/// The names of the columns.
+const COLUMNS: &str = "cycle\trobot\tkind\ta\tb\tc\td\te";
+
+/// Plays a match, and writes its events: for a film with the robots' names, ways and scans.
+pub fn write_events(
+    rt: &HostRuntime,
+    request: &Request<'_>,
+    notes: &[Note],
+    pilots: &mut [Pilot<'_>],
+) -> Result<(), Fault>
+    requires some { 2 ≤ length pilots.old }
+    requires most { length pilots.old ≤ MOST_ROBOTS }
+{
+    let mut events = Events::new(rt, request, notes);
+    let wish = &request.wish;
+    let cycles = play(
+        pilots,
+        &mut events,
+        wish.seed(),
+        wish.number(),
+        wish.limit(),
+    );
+    events.end(cycles);
+    events.rows.finish()
+}
+
+/// What writes events as they happen.
+#[derive(Drop)]
+struct Events<'a> {
+    rows: Rows<'a>,
+    span: Span,
+    notes: &'a [Note],
+    is_film: bool,
+    seen: [Seen; MOST_ROBOTS],
+    robots: usize,
+}
+
+/// What was seen of a robot.
+#[derive(Clone, Copy, Default, Drop)]
+struct Seen {
+    run: Run,
+    has_scanned: bool,
+    is_dead: bool,
+    damage: u8,
+}
+
+impl<'a> Events<'a> {
+    /// Makes the events of a match that was not begun.
+    fn new(rt: &'a HostRuntime, request: &Request<'_>, notes: &'a [Note]) -> Events<'a> {
+        Events {
+            rows: Rows::new(rt, COLUMNS),
+            span: request.span,
+            notes,
+            is_film: request.is_film(),
+            seen: [Seen::default(); MOST_ROBOTS],
+            robots: 0,
+        }
+    }
+
+    /// Writes an event, if its cycle and its robot are looked at.
+    fn tell(&mut self, cycle: u32, robot: usize, kind: &str, fields: &[Field<'_>]) {
+        if self.span.has(cycle, robot) {
+            self.rows.event(cycle, robot, kind, fields);
+        }
+    }
+
+    /// Writes the names of the robots that are looked at.
+    fn name_robots(&mut self) {
+        let notes = self.notes;
+        for robot in 0..self.robots {
+            if let Some(note) = note_of(notes, robot)
+                && self.span.has_robot(robot)
+            {
+                self.rows
+                    .event(0, robot, "name", &[Field::Text(note.name.as_str())]);
+            }
+        }
+    }
+
+    /// Writes what a robot that shoots is told.
+    fn shoot(&mut self, turn: Turn, question: &Question, arena: &Arena)
+        requires { turn.robot < length arena.now.robots }
+    {
+        let [degree, range] = question.arguments;
+        let aim = [
+            Field::Number(i64::from(degree)),
+            Field::Number(i64::from(range)),
+        ];
+        if question.reply == 0 {
+            self.tell(turn.cycle, turn.robot, "refused", &aim);
+            return;
+        }
+        let (x, y) = arena.place(turn.robot);
+        let [a, b] = aim;
+        let fields = [
+            a,
+            b,
+            Field::Number(i64::from(x)),
+            Field::Number(i64::from(y)),
+        ];
+        self.tell(turn.cycle, turn.robot, "shot", &fields);
+    }
+
+    /// Writes the first scan of a robot since the last update.
+    fn scan(&mut self, turn: Turn, question: &Question) {
+        let Some(seen) = self.seen.get_mut(turn.robot) else {
+            return;
+        };
+        if !self.is_film || seen.has_scanned {
+            return;
+        }
+        seen.has_scanned = true;
+        let [degree, resolution] = question.arguments;
+        let fields = [
+            Field::Number(i64::from(degree)),
+            Field::Number(i64::from(resolution)),
+            Field::Number(i64::from(question.reply)),
+        ];
+        self.tell(turn.cycle, turn.robot, "scan", &fields);
+    }
+
+    /// Writes the bursts of an update.
+    fn tell_bursts(&mut self, cycle: u32, arena: &Arena) {
+        for burst in &arena.due() {
+            let place = [
+                Field::Number(i64::from(burst.x())),
+                Field::Number(i64::from(burst.y())),
+            ];
+            self.tell(cycle, burst.robot(), "burst", &place);
+        }
+    }
+
+    /// Writes what an update takes from a robot.
+    fn tell_losses(&mut self, cycle: u32, robot: usize, losses: &[Loss]) {
+        for loss in losses {
+            let percent = Field::Number(i64::from(loss.percent));
+            match loss.source {
+                Source::Wall => self.tell(cycle, robot, "wall", &[percent]),
+                Source::Collision(other) => {
+                    self.tell(cycle, robot, "collision", &[percent, number_of(other)]);
+                }
+                Source::Shot(by, x, y) => {
+                    let place = [
+                        percent,
+                        number_of(by),
+                        Field::Number(i64::from(x)),
+                        Field::Number(i64::from(y)),
+                    ];
+                    self.tell(cycle, robot, "hurt", &place);
+                }
+            }
+        }
+    }
+
+    /// Looks at the robots after an update, or at the begin.
+    fn look(&mut self, cycle: u32, arena: &Arena) {
+        for robot in 0..self.robots.min(arena.robot_count()) {
+            if let Some(seen) = self.seen.get_mut(robot) {
+                seen.has_scanned = false;
+                seen.damage = arena.damage(robot);
+                let died = !seen.is_dead && !arena.alive(robot);
+                seen.is_dead |= died;
+                if died {
+                    self.tell(cycle, robot, "death", &[]);
+                }
+            }
+            if self.is_film && self.span.has(cycle, robot) {
+                self.follow(robot, stance_of(cycle, robot, arena));
+            }
+        }
+        self.rows.pass();
+    }
+
+    /// Writes what has to be told of where a robot is.
+    fn follow(&mut self, robot: usize, stance: Stance) {
+        let Some(seen) = self.seen.get_mut(robot) else {
+            return;
+        };
+        let news = seen.run.go_on(stance);
+        if let Some(end) = news.end {
+            self.rows
+                .event_before(end.cycle, robot, "at", &fields_of(&end));
+        }
+        if let Some(begin) = news.begin {
+            self.rows
+                .event(begin.cycle, robot, "at", &fields_of(&begin));
+        }
+    }
+
+    /// Writes where the robots' ways end, and their damages after the last cycle.
+    fn end(&mut self, cycle: u32) {
+        for robot in 0..self.robots {
+            if let Some(seen) = self.seen.get(robot)
+                && let Some(end) = seen.run.end()
+            {
+                self.rows
+                    .event_before(end.cycle, robot, "at", &fields_of(&end));
+            }
+        }
+        for robot in 0..self.robots {
+            if let Some(seen) = self.seen.get(robot) {
+                let damage = Field::Number(i64::from(seen.damage));
+                self.tell(cycle, robot, "end", &[damage]);
+            }
+        }
+    }
+}
+
+impl Watcher for Events<'_> {
+    fn begins(&mut self, arena: &Arena) {
+        self.robots = arena.robot_count();
+        if self.is_film {
+            self.name_robots();
+        }
+        self.look(0, arena);
+    }
+
+    fn asked(&mut self, turn: Turn, _pilot: &Pilot<'_>, question: Question, arena: &Arena) {
+        match question.intrinsic {
+            Intrinsic::Cannon => self.shoot(turn, &question, arena),
+            Intrinsic::Scan => self.scan(turn, &question),
+            _ => {}
+        }
+    }
+
+    fn restarts(&mut self, turn: Turn, pilot: &Pilot<'_>, cause: Cause) {
+        let address = pilot.machine().address();
+        let function = function_name(pilot.program(), address);
+        let line = match note_of(self.notes, turn.robot) {
+            Some(note) => note.line(address),
+            None => 0,
+        };
+        let fields = [
+            Field::Text(word_of(cause)),
+            Field::Text(function),
+            Field::Number(i64::from(line)),
+        ];
+        self.tell(turn.cycle, turn.robot, "restart", &fields);
+    }
+
+    fn updates(&mut self, cycle: u32, arena: &Arena) {
+        self.tell_bursts(cycle, arena);
+        for robot in 0..arena.robot_count() {
+            let losses = losses(arena, robot);
+            self.tell_losses(cycle, robot, losses.as_slice());
+        }
+    }
+
+    fn updated(&mut self, cycle: u32, arena: &Arena) {
+        self.look(cycle, arena);
+    }
+
+    fn wants_more(&self) -> bool {
+        self.rows.are_fine()
+    }
+}
+
+/// Returns the word of a cause.
+pub fn word_of(cause: Cause) -> &'static str {
+    match cause {
+        Cause::Words => "words",
+        Cause::Frames => "frames",
+        Cause::Returned => "returned",
+    }
+}
+
+/// Returns the field of a robot's number, which counts from 1.
+fn number_of(robot: usize) -> Field<'static> {
+    Field::Number(robot.min(MOST_ROBOTS) as i64 + 1)
+}
+
+/// Returns where a robot is, and how.
+fn stance_of(cycle: u32, robot: usize, arena: &Arena) -> Stance
+    requires { robot < length arena.now.robots }
+{
+    let (x, y) = arena.place(robot);
+    Stance {
+        cycle,
+        x,
+        y,
+        heading: arena.heading(robot),
+        speed: arena.speed(robot),
+        damage: arena.damage(robot),
+    }
+}
+
+/// Returns the fields of where a robot is.
+fn fields_of(stance: &Stance) -> [Field<'static>; 5] {
+    [
+        Field::Number(i64::from(stance.x)),
+        Field::Number(i64::from(stance.y)),
+        Field::Number(i64::from(stance.heading)),
+        Field::Number(i64::from(stance.speed)),
+        Field::Number(i64::from(stance.damage)),
+    ]
+}

@@ -1,0 +1,157 @@
+//! Files: their programs, names and texts, and the line that each instruction comes from.
+
+ghost use Rattle.std.specs.Prelude.{◌<◌, ◌≤◌, IfOk, length};
+
+use code::{Profile, Program};
+use derivations::{Places, PlacesFault, lines};
+use findings::function_at;
+use std::alloc::{AllocError, Global};
+use std::str;
+use tokens::{Pieces, WINDOW};
+use tools::{Fault, Wish, compile, name_of, source_of, tell_diagnostic};
+
+/// What is known of a file beside its program.
+#[derive(Drop)]
+pub struct Note {
+    /// Its name.
+    pub name: String,
+    /// Its text.
+    pub text: Vec<u8>,
+    /// Where its instructions come from.
+    pub places: Places,
+}
+
+impl Note {
+    /// Returns the line that the instruction of an address comes from, 0 if there is none.
+    pub fn line(&self, address: usize) -> u32 {
+        match self.places.place(address) {
+            Some(place) => place.line,
+            None => 0,
+        }
+    }
+
+    /// Returns the bytes of the line of this number, from 1.
+    pub fn text_of(&self, line: u32) -> &[u8] {
+        let before = (line as usize).saturating_sub(1);
+        self.text
+            .as_slice()
+            .split(|byte| *byte == b'\n')
+            .nth(before)
+            .unwrap_or(&[])
+    }
+}
+
+/// Returns the note of a robot's file: a single file is both robots'.
+pub fn note_of(notes: &[Note], robot: usize) -> Option<&Note> {
+    match notes {
+        [only] => Some(only),
+        _ => notes.get(robot),
+    }
+}
+
+/// Returns the name of the function that holds an address.
+pub fn function_name(program: &Program, address: usize) -> &str {
+    let number = function_at(program.addresses(), address);
+    match program.names().functions().get(number) {
+        Some(function) => str::from_utf8(function.name().as_bytes()).unwrap_or("?"),
+        None => "?",
+    }
+}
+
+/// The programs of files, and what is known of each beside it.
+#[derive(Drop)]
+pub struct Sources {
+    /// The programs.
+    pub programs: Vec<Program>,
+    /// What is known beside them.
+    pub notes: Vec<Note>,
+}
+
+/// Compiles the files of a wish, and writes the diagnostic of each faulty one, or a line about the first that can't be
+/// opened or read, with the name of the program that asks.
+pub fn compiled(rt: &HostRuntime, program: &str, wish: &Wish<'_>) -> Result<Sources, Fault>
+    ensures some { IfOk result (λ sources. 0 < length sources.programs.items) }
+    ensures most { IfOk result (λ sources. length sources.programs.items ≤ 4) }
+{
+    let mut programs = Vec::new(rt.alloc());
+    let mut notes = Vec::new(rt.alloc());
+    let mut is_faulty = false;
+    for word in wish.files() {
+        match compiled_file(rt, program, wish, word)? {
+            Some((made, note)) => {
+                programs.push(made).map_err(|_| Fault::Memory)?;
+                notes.push(note).map_err(|_| Fault::Memory)?;
+            }
+            None => is_faulty = true,
+        }
+    }
+    if is_faulty {
+        return Err(Fault::Source);
+    }
+    Ok(Sources { programs, notes })
+}
+
+/// Compiles the file of a word. If it has a fault, that is written, and there is no program.
+fn compiled_file(
+    rt: &HostRuntime,
+    program: &str,
+    wish: &Wish<'_>,
+    word: &str,
+) -> Result<Option<(Program, Note)>, Fault> {
+    let text = source_of(rt, program, word)?;
+    match compile(wish.profile(), &mut Pieces::new(text.as_slice(), WINDOW)) {
+        Ok(Ok(made)) => Ok(Some((made, noted(rt.alloc(), wish.profile(), word, text)?))),
+        Ok(Err(diagnostic)) => {
+            tell_diagnostic(rt, word, &diagnostic);
+            Ok(None)
+        }
+        Err(_) => Err(Fault::Read),
+    }
+}
+
+/// Returns the note of the file of a word with this text.
+fn noted(alloc: Global, profile: Profile, word: &str, text: Vec<u8>) -> Result<Note, Fault> {
+    let places = lines(alloc, text.as_slice(), profile).map_err(fault_of)?;
+    let name = plain(alloc, name_of(word).as_bytes())?;
+    Ok(Note { name, text, places })
+}
+
+/// Returns the fault of places that are not found: the source of a program has them all.
+fn fault_of(fault: PlacesFault) -> Fault {
+    match fault {
+        PlacesFault::Misfit => Fault::Source,
+        PlacesFault::Memory => Fault::Memory,
+    }
+}
+
+/// Returns bytes as text on one line: a tab is a blank, and each other control character a question mark, as is each byte
+/// of what is no text.
+pub fn plain(alloc: Global, bytes: &[u8]) -> Result<String, AllocError> {
+    let mut plain = String::new(alloc);
+    match str::from_utf8(bytes) {
+        Ok(text) => {
+            for c in text.chars() {
+                plain.push(shown(c))?;
+            }
+        }
+        Err(_) => {
+            for byte in bytes {
+                plain.push(if byte.is_ascii() {
+                    shown(char::from(*byte))
+                } else {
+                    '?'
+                })?;
+            }
+        }
+    }
+    Ok(plain)
+}
+
+/// Returns how a character is shown.
+fn shown(c: char) -> char {
+    match c {
+        '\t' => ' ',
+        '\0'..='\x1f' | '\x7f' => '?',
+        _ => c,
+    }
+}

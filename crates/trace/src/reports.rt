@@ -1,0 +1,381 @@
+//! The report of a match's sums.
+
+use crate::notes::{Note, function_name, note_of, plain};
+use crate::requests::Request;
+use crate::tallies::{INTRINSICS, Tally};
+use code::{Cause, Intrinsic, Program};
+use findings::{function_at, largest, percent};
+use playing::Pilot;
+use std::alloc::AllocError;
+use std::str;
+
+/// How many lines of a source, and how many places of restarts, are told.
+const MOST_TOLD: usize = 10;
+
+/// How many characters of a line of a source are told.
+const TEXT_CHARACTERS: usize = 60;
+
+/// Adds the report: the match and how each robot ended, as crobots has it, and then each robot that is looked at.
+pub fn add_report(
+    text: &mut String,
+    request: &Request<'_>,
+    cycles: u32,
+    notes: &[Note],
+    pilots: &[Pilot<'_>],
+    tallies: &[Tally],
+) -> Result<(), AllocError> {
+    let number = request.wish.number();
+    write!(text, "Match {number}: cycles = {cycles}\n")?;
+    for (robot, tally) in tallies.iter().enumerate() {
+        add_end(text, robot, tally, name_of(notes, robot))?;
+    }
+    for (robot, tally) in tallies.iter().enumerate() {
+        if request.span.has_robot(robot)
+            && let Some(pilot) = pilots.get(robot)
+            && let Some(note) = note_of(notes, robot)
+        {
+            add_robot(text, robot, tally, note, pilot.program())?;
+        }
+    }
+    Ok(())
+}
+
+/// Returns the name of a robot's file.
+fn name_of(notes: &[Note], robot: usize) -> &str {
+    match note_of(notes, robot) {
+        Some(note) => note.name.as_str(),
+        None => "",
+    }
+}
+
+/// Adds how a robot ended.
+fn add_end(text: &mut String, robot: usize, tally: &Tally, name: &str) -> Result<(), AllocError> {
+    let state = if tally.death.is_some() {
+        "dead "
+    } else {
+        "alive"
+    };
+    let (number, damage) = (robot.saturating_add(1), tally.damage);
+    write!(text, "  {number}) {state} damage {damage:>3}% {name}\n")
+}
+
+/// Adds what is told of a robot.
+fn add_robot(
+    text: &mut String,
+    robot: usize,
+    tally: &Tally,
+    note: &Note,
+    program: &Program,
+) -> Result<(), AllocError> {
+    let number = robot.saturating_add(1);
+    write!(text, "\n{number}) {}", note.name.as_str())?;
+    if let Some(cycle) = tally.death {
+        write!(text, ", dead after cycle {cycle}")?;
+    }
+    text.push('\n')?;
+    add_losses(text, robot, tally)?;
+    add_taken(text, tally)?;
+    add_shots(text, tally)?;
+    add_restarts(text, tally, note, program)?;
+    add_time(text, tally)?;
+    add_calls(text, tally)?;
+    add_functions(text, tally, program)?;
+    add_lines(text, tally, note)
+}
+
+/// Adds what was taken from a robot, and by what.
+fn add_losses(text: &mut String, robot: usize, tally: &Tally) -> Result<(), AllocError> {
+    let mut items = Items::new("lost");
+    for (by, percent) in tally.shots.iter().enumerate() {
+        let number = by.saturating_add(1);
+        if *percent == 0 {
+            continue;
+        }
+        items.begin(text)?;
+        if by == robot {
+            write!(text, "{percent}% by its own shots")?;
+        } else {
+            write!(text, "{percent}% by shots of {number}")?;
+        }
+    }
+    add_share(text, &mut items, tally.walls, "by walls")?;
+    add_share(text, &mut items, tally.collisions, "by collisions")?;
+    items.end(text)
+}
+
+/// Adds a share of damage, if there is any.
+fn add_share(
+    text: &mut String,
+    items: &mut Items,
+    percent: u64,
+    how: &str,
+) -> Result<(), AllocError> {
+    if percent == 0 {
+        return Ok(());
+    }
+    items.begin(text)?;
+    write!(text, "{percent}% {how}")
+}
+
+/// Adds what a robot's shots took from others.
+fn add_taken(text: &mut String, tally: &Tally) -> Result<(), AllocError> {
+    let mut items = Items::new("took");
+    for (from, percent) in tally.taken.iter().enumerate() {
+        let number = from.saturating_add(1);
+        if *percent > 0 {
+            items.begin(text)?;
+            write!(text, "{percent}% from {number}")?;
+        }
+    }
+    items.end(text)
+}
+
+/// Adds a robot's shots.
+fn add_shots(text: &mut String, tally: &Tally) -> Result<(), AllocError> {
+    let mut items = Items::new("shots");
+    let calls = tally.calls_of(Intrinsic::Cannon);
+    if calls.all > 0 {
+        let fired = calls.all.saturating_sub(calls.zero);
+        let (zero, bursts, hits) = (calls.zero, tally.bursts, tally.hits);
+        items.begin(text)?;
+        write!(
+            text,
+            "{fired} fired, {zero} refused, {bursts} burst, {hits} hit another robot"
+        )?;
+    }
+    items.end(text)
+}
+
+/// Adds where and why a robot restarted, the most frequent places first.
+fn add_restarts(
+    text: &mut String,
+    tally: &Tally,
+    note: &Note,
+    program: &Program,
+) -> Result<(), AllocError> {
+    let mut items = Items::new("restarts");
+    let mut counts = Vec::new(*text.allocator());
+    for spot in tally.spots.as_slice() {
+        counts.push(spot.restarts)?;
+    }
+    for _ in 0..MOST_TOLD {
+        let Some(address) = largest(counts.as_slice()) else {
+            break;
+        };
+        items.begin(text)?;
+        add_restart(text, address, tally, note, program)?;
+        clear(counts.as_mut_slice(), address);
+    }
+    items.end(text)
+}
+
+/// Adds the restarts at an address.
+fn add_restart(
+    text: &mut String,
+    address: usize,
+    tally: &Tally,
+    note: &Note,
+    program: &Program,
+) -> Result<(), AllocError> {
+    let Some(spot) = tally.spots.get(address) else {
+        return Ok(());
+    };
+    let (count, why) = (spot.restarts, reason(spot.cause));
+    let (line, function) = (note.line(address), function_name(program, address));
+    write!(text, "{count} in line {line} of {function}: {why}")
+}
+
+/// Returns the words for the cause of a restart.
+fn reason(cause: Option<Cause>) -> &'static str {
+    match cause {
+        Some(Cause::Words) => "the stack was full",
+        Some(Cause::Frames) => "too many calls were open",
+        Some(Cause::Returned) => "main returned",
+        None => "",
+    }
+}
+
+/// Adds what a robot's cycles were for.
+fn add_time(text: &mut String, tally: &Tally) -> Result<(), AllocError> {
+    let shares = &tally.shares;
+    let all = tally.cycles();
+    let mut items = Items::new("time");
+    items.begin(text)?;
+    write!(
+        text,
+        "{all} cycles: {}% to move, {}% to scan, {}% to shoot, {}% else",
+        percent(shares.moving, all),
+        percent(shares.scanning, all),
+        percent(shares.shooting, all),
+        percent(shares.sums.saturating_add(shares.open_cycles), all)
+    )?;
+    items.end(text)
+}
+
+/// Adds a robot's calls of intrinsic functions.
+fn add_calls(text: &mut String, tally: &Tally) -> Result<(), AllocError> {
+    let mut items = Items::new("calls");
+    for intrinsic in INTRINSICS {
+        let calls = tally.calls_of(intrinsic);
+        if calls.all == 0 {
+            continue;
+        }
+        let (all, zero, name) = (calls.all, calls.zero, intrinsic.name());
+        items.begin(text)?;
+        write!(text, "{all} {name}")?;
+        match intrinsic {
+            Intrinsic::Scan => write!(text, " ({zero} saw nobody)")?,
+            Intrinsic::Cannon => write!(text, " ({zero} refused)")?,
+            _ => {}
+        }
+    }
+    items.end(text)
+}
+
+/// Adds the share of each function in a robot's cycles.
+fn add_functions(text: &mut String, tally: &Tally, program: &Program) -> Result<(), AllocError> {
+    let mut items = Items::new("functions");
+    let mut counts = Vec::new(*text.allocator());
+    for _ in program.addresses() {
+        counts.push(0)?;
+    }
+    for (address, spot) in tally.spots.iter().enumerate() {
+        let number = function_at(program.addresses(), address);
+        add(counts.as_mut_slice(), number, spot.cycles);
+    }
+    let all = tally.cycles();
+    for _ in program.addresses() {
+        let Some(number) = largest(counts.as_slice()) else {
+            break;
+        };
+        items.begin(text)?;
+        add_function(text, number, share(counts.as_slice(), number, all), program)?;
+        clear(counts.as_mut_slice(), number);
+    }
+    items.end(text)
+}
+
+/// Returns the count of this number in percent of all.
+fn share(counts: &[u64], number: usize, all: u64) -> u64 {
+    percent(counts.get(number).copied().unwrap_or(0), all)
+}
+
+/// Adds a function and its share.
+fn add_function(
+    text: &mut String,
+    number: usize,
+    share: u64,
+    program: &Program,
+) -> Result<(), AllocError> {
+    let Some(function) = program.names().functions().get(number) else {
+        return Ok(());
+    };
+    let name = str::from_utf8(function.name().as_bytes()).unwrap_or("?");
+    write!(text, "{share}% {name}")
+}
+
+/// Adds to a count.
+fn add(counts: &mut [u64], n: usize, by: u64) {
+    if let Some(count) = counts.get_mut(n) {
+        *count = count.saturating_add(by);
+    }
+}
+
+/// Makes a count 0.
+fn clear(counts: &mut [u64], n: usize) {
+    if let Some(count) = counts.get_mut(n) {
+        *count = 0;
+    }
+}
+
+/// Adds the lines that took most cycles.
+fn add_lines(text: &mut String, tally: &Tally, note: &Note) -> Result<(), AllocError> {
+    let (lines, mut counts) = cycles_by_line(text, tally, note)?;
+    let all = tally.cycles();
+    text.push_str("   line      cycles    %  text\n")?;
+    for _ in 0..MOST_TOLD {
+        let Some(n) = largest(counts.as_slice()) else {
+            break;
+        };
+        let line = lines.get(n).copied().unwrap_or(0);
+        let cycles = counts.get(n).copied().unwrap_or(0);
+        let share = percent(cycles, all);
+        write!(text, "{line:>7}{cycles:>12}{share:>5}  ")?;
+        add_source(text, note.text_of(line))?;
+        clear(counts.as_mut_slice(), n);
+    }
+    Ok(())
+}
+
+/// Returns the lines that instructions come from, and the cycles of each.
+fn cycles_by_line(
+    text: &String,
+    tally: &Tally,
+    note: &Note,
+) -> Result<(Vec<u32>, Vec<u64>), AllocError> {
+    let mut lines = Vec::new(*text.allocator());
+    let mut counts = Vec::new(*text.allocator());
+    for (address, spot) in tally.spots.iter().enumerate() {
+        let line = note.line(address);
+        let n = position(lines.as_slice(), line);
+        if n == lines.len() {
+            lines.push(line)?;
+            counts.push(0)?;
+        }
+        add(counts.as_mut_slice(), n, spot.cycles);
+    }
+    Ok((lines, counts))
+}
+
+/// Returns where a line is among some, or their number if it isn't.
+fn position(lines: &[u32], line: u32) -> usize {
+    for (n, other) in lines.iter().enumerate() {
+        if *other == line {
+            return n;
+        }
+    }
+    lines.len()
+}
+
+/// Adds the begin of a line of a source, without the blanks before it.
+fn add_source(text: &mut String, bytes: &[u8]) -> Result<(), AllocError> {
+    let line = plain(*text.allocator(), bytes)?;
+    for c in line.trim().chars().take(TEXT_CHARACTERS) {
+        text.push(c)?;
+    }
+    text.push('\n')
+}
+
+/// The items of a line, with commas between them.
+#[derive(Drop)]
+struct Items {
+    label: &'static str,
+    count: usize,
+}
+
+impl Items {
+    /// Makes a line with this label.
+    fn new(label: &'static str) -> Items {
+        Items { label, count: 0 }
+    }
+
+    /// Begins an item.
+    fn begin(&mut self, text: &mut String) -> Result<(), AllocError> {
+        if self.count == 0 {
+            let label = self.label;
+            write!(text, "   {label:<11}")?;
+        } else {
+            text.push_str(", ")?;
+        }
+        self.count = self.count.saturating_add(1);
+        Ok(())
+    }
+
+    /// Ends the line. Nothing is added if it has no items.
+    fn end(self, text: &mut String) -> Result<(), AllocError> {
+        if self.count == 0 {
+            return Ok(());
+        }
+        text.push('\n')
+    }
+}

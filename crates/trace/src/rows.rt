@@ -1,0 +1,119 @@
+//! Rows of fields with tabs between them, on standard output.
+
+use std::alloc::AllocError;
+use tools::{Fault, Output};
+
+/// How many fields a row of events has after its kind.
+const FIELDS: usize = 5;
+
+/// A field of a row.
+#[derive(Clone, Copy)]
+pub enum Field<'a> {
+    /// A number.
+    Number(i64),
+    /// A text.
+    Text(&'a str),
+}
+
+/// Rows that are written on standard output. After a fault nothing more is written, and `finish` answers it.
+#[derive(Drop)]
+pub struct Rows<'a> {
+    rt: &'a HostRuntime,
+    output: Output,
+    pending: String,
+    fault: Option<Fault>,
+}
+
+impl<'a> Rows<'a> {
+    /// Makes rows, the first of which has the names of the columns.
+    pub fn new(rt: &'a HostRuntime, columns: &str) -> Rows<'a> {
+        let mut rows = Rows {
+            rt,
+            output: Output::new(rt.alloc()),
+            pending: String::new(rt.alloc()),
+            fault: None,
+        };
+        let added = added_line(rows.output.text(), columns);
+        rows.note(added.map_err(Fault::from));
+        rows
+    }
+
+    /// Reports whether nothing failed so far.
+    pub fn are_fine(&self) -> bool {
+        self.fault.is_none()
+    }
+
+    /// Adds a row of an event: its cycle, its robot, its kind, and up to five fields.
+    pub fn event(&mut self, cycle: u32, robot: usize, kind: &str, fields: &[Field<'_>]) {
+        let added = added_event(&mut self.pending, cycle, robot, kind, fields);
+        self.note(added.map_err(Fault::from));
+    }
+
+    /// Adds a row of an event in front of those that were added since the last `pass`.
+    pub fn event_before(&mut self, cycle: u32, robot: usize, kind: &str, fields: &[Field<'_>]) {
+        let added = added_event(self.output.text(), cycle, robot, kind, fields);
+        self.note(added.map_err(Fault::from));
+    }
+
+    /// Returns the text that further rows are added to.
+    pub fn text(&mut self) -> &mut String {
+        &mut self.pending
+    }
+
+    /// Notes a fault, the first of several.
+    pub fn note(&mut self, done: Result<(), Fault>) {
+        if let Err(fault) = done {
+            self.fault = self.fault.or(Some(fault));
+        }
+    }
+
+    /// Passes the rows on that were added, and writes them if they are many.
+    pub fn pass(&mut self) {
+        if self.fault.is_some() {
+            return;
+        }
+        let moved = self.output.text().push_str(self.pending.as_str());
+        self.pending.clear();
+        self.note(moved.map_err(Fault::from));
+        let rt = self.rt;
+        let passed = self.output.pass(rt);
+        self.note(passed);
+    }
+
+    /// Writes what is left, and returns the first fault if there was one.
+    pub fn finish(mut self) -> Result<(), Fault> {
+        self.pass();
+        let rt = self.rt;
+        match self.fault {
+            Some(fault) => Err(fault),
+            None => self.output.finish(rt),
+        }
+    }
+}
+
+/// Adds a line to a text.
+fn added_line(text: &mut String, line: &str) -> Result<(), AllocError> {
+    text.push_str(line)?;
+    text.push('\n')
+}
+
+/// Adds a row of an event to a text. Fields that it doesn't have are empty.
+fn added_event(
+    text: &mut String,
+    cycle: u32,
+    robot: usize,
+    kind: &str,
+    fields: &[Field<'_>],
+) -> Result<(), AllocError> {
+    let number = robot.saturating_add(1);
+    write!(text, "{cycle}\t{number}\t{kind}")?;
+    for n in 0..FIELDS {
+        text.push('\t')?;
+        match fields.get(n) {
+            Some(Field::Number(number)) => write!(text, "{number}")?,
+            Some(Field::Text(field)) => text.push_str(field)?,
+            None => {}
+        }
+    }
+    text.push('\n')
+}

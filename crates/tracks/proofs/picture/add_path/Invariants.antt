@@ -1,5 +1,0 @@
-use Rattle.std.proofs.Common.{◌≤◌, length}
-use Rattle.tracks.proofs.picture.add_path.Given as goal
-
-abbrev pub invariant-loop : goal.invariant-loop
-invariant-loop l = l.first ≤ length l.track.path.places

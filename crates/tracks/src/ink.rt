@@ -1,0 +1,83 @@
+//! What the parts of the picture share: colours, opacity, titles and names.
+
+use crate::matches::Recording;
+use crate::requests::View;
+use arena::MOST_ROBOTS;
+use playing::UPDATE_CYCLES;
+use std::alloc::AllocError;
+use trails::opacity;
+
+/// The colours of the robots, in order.
+const COLOURS: [&str; MOST_ROBOTS] = ["#1f6fb4", "#d1495b", "#2e8540", "#8a4fbe"];
+
+/// The most characters of a name that are shown.
+const MOST_CHARACTERS: usize = 24;
+
+/// Returns the colour of a robot.
+pub fn colour(robot: usize) -> &'static str {
+    COLOURS[robot % MOST_ROBOTS]
+}
+
+/// The updates that are drawn.
+#[derive(Clone, Copy, Debug)]
+pub struct Period {
+    /// The first update.
+    pub first: u32,
+    /// The last update.
+    pub last: u32,
+}
+
+impl Period {
+    /// Returns the updates of a match that are drawn.
+    pub fn of(view: View, recording: &Recording) -> Period {
+        let last = recording.updates().min(view.to / UPDATE_CYCLES);
+        let first = view.from.div_ceil(UPDATE_CYCLES).min(last);
+        Period { first, last }
+    }
+
+    /// Adds the opacity of what happened in an update as an attribute: the older, the fainter.
+    pub fn add_opacity(self, text: &mut String, update: u32) -> Result<(), AllocError> {
+        let (age, all) = (
+            update.saturating_sub(self.first),
+            self.last.saturating_sub(self.first),
+        );
+        let percent = opacity(age, all);
+        let (whole, part) = (percent / 100, percent % 100);
+        write!(text, " opacity=\"{whole}.{part:02}\"")
+    }
+}
+
+/// Returns the cycle of an update.
+pub fn cycle_of(update: u32) -> u32 {
+    update.saturating_mul(UPDATE_CYCLES)
+}
+
+/// Adds a name, cut after its first characters if it is long.
+pub fn add_short_name(text: &mut String, name: &str) -> Result<(), AllocError> {
+    if name.chars().count() <= MOST_CHARACTERS {
+        return add_name(text, name);
+    }
+    for c in name.chars().take(MOST_CHARACTERS - 1) {
+        add_character(text, c)?;
+    }
+    text.push_str("&#8230;")
+}
+
+/// Adds a name, with the characters that mean something in SVG replaced.
+pub fn add_name(text: &mut String, name: &str) -> Result<(), AllocError> {
+    for c in name.chars() {
+        add_character(text, c)?;
+    }
+    Ok(())
+}
+
+/// Adds a character of a name.
+fn add_character(text: &mut String, c: char) -> Result<(), AllocError> {
+    match c {
+        '&' => text.push_str("&amp;"),
+        '<' => text.push_str("&lt;"),
+        '>' => text.push_str("&gt;"),
+        '\0'..='\x1f' => text.push('?'),
+        _ => text.push(c),
+    }
+}

@@ -1,0 +1,107 @@
+//! The strip of damage over time.
+
+use crate::ink::{Period, add_name, colour, cycle_of};
+use crate::matches::{Recording, Track};
+use std::alloc::AllocError;
+use tools::{Wish, name_of};
+use trails::{STRIP_LEFT, STRIP_PERCENT, STRIP_TOP, STRIP_WIDTH, step_of, strip_column, strip_row};
+
+/// The most marks of the axis of time, beside the one at 0.
+const MOST_MARKS: u32 = 5;
+
+/// The height of the strip.
+const HEIGHT: u32 = 100 * STRIP_PERCENT;
+
+/// Adds the strip: its axes, the cycles that are drawn in the field, and the damage of each robot.
+pub fn add_strip(
+    text: &mut String,
+    wish: &Wish<'_>,
+    recording: &Recording,
+    period: Period,
+) -> Result<(), AllocError> {
+    let cycles = recording.cycles;
+    text.push_str("<g font-size=\"14\" fill=\"#777777\">\n")?;
+    add_period(text, cycles, period)?;
+    add_percents(text)?;
+    add_cycles(text, cycles)?;
+    text.push_str("</g>\n<g fill=\"none\" stroke-width=\"3\">\n")?;
+    for robot in 0..recording.tracks.len() {
+        let track = &recording.tracks.as_slice()[robot];
+        add_damage(text, robot, name_of(wish.file_of(robot)), track, cycles)?;
+    }
+    text.push_str("</g>\n")
+}
+
+/// Adds the shade behind the cycles that are drawn in the field, and the strip's name.
+fn add_period(text: &mut String, cycles: u32, period: Period) -> Result<(), AllocError> {
+    let first = strip_column(cycle_of(period.first), cycles);
+    let last = strip_column(cycle_of(period.last), cycles);
+    let width = last.saturating_sub(first);
+    write!(
+        text,
+        "<rect x=\"{first}\" y=\"{STRIP_TOP}\" width=\"{width}\" height=\"{HEIGHT}\" fill=\"#f3f3f3\"/>\n"
+    )?;
+    write!(
+        text,
+        "<text x=\"{STRIP_LEFT}\" y=\"{}\" fill=\"#222222\">Damage in percent over cycles</text>\n",
+        STRIP_TOP - 14
+    )
+}
+
+/// Adds the lines of 0, 25, 50, 75 and 100 percent.
+fn add_percents(text: &mut String) -> Result<(), AllocError> {
+    for line in 0..=4u8 {
+        let percent = 25 * line;
+        let y = strip_row(percent);
+        write!(
+            text,
+            "<path stroke=\"#dddddd\" d=\"M{STRIP_LEFT} {y}h{STRIP_WIDTH}\"/><text x=\"{}\" y=\"{}\" text-anchor=\"end\">{percent}</text>\n",
+            STRIP_LEFT - 8,
+            y + 5
+        )?;
+    }
+    Ok(())
+}
+
+/// Adds the marks of the axis of time.
+fn add_cycles(text: &mut String, cycles: u32) -> Result<(), AllocError> {
+    let step = step_of(cycles, MOST_MARKS);
+    for mark in 0..=cycles / step {
+        let cycle = mark.saturating_mul(step);
+        let x = strip_column(cycle, cycles);
+        write!(
+            text,
+            "<path stroke=\"#777777\" d=\"M{x} {}v6\"/><text x=\"{x}\" y=\"{}\" font-size=\"12\" text-anchor=\"middle\">{cycle}</text>\n",
+            STRIP_TOP + HEIGHT,
+            STRIP_TOP + HEIGHT + 22
+        )?;
+    }
+    Ok(())
+}
+
+/// Adds the damage of a robot: a line that goes up a step whenever it grows.
+fn add_damage(
+    text: &mut String,
+    robot: usize,
+    name: &str,
+    track: &Track,
+    cycles: u32,
+) -> Result<(), AllocError> {
+    let (colour, number) = (colour(robot), robot.saturating_add(1));
+    write!(
+        text,
+        "<path stroke=\"{colour}\" d=\"M{STRIP_LEFT} {}",
+        strip_row(0)
+    )?;
+    for growth in track.growths.as_slice() {
+        let x = strip_column(cycle_of(growth.update), cycles);
+        write!(text, "H{x}V{}", strip_row(growth.damage))?;
+    }
+    write!(
+        text,
+        "H{}\"><title>{number}) ",
+        strip_column(cycles, cycles)
+    )?;
+    add_name(text, name)?;
+    text.push_str("</title></path>\n")
+}

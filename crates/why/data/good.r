@@ -1,0 +1,4 @@
+main() {
+  while (1)
+    drive(rand(360), 50);
+}

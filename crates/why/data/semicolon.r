@@ -1,0 +1,6 @@
+main()
+{
+  int angle;
+  angle = 0
+  drive(angle, 50);
+}

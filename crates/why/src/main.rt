@@ -1,0 +1,97 @@
+//! Says what is wrong with robots' sources, in words for beginners: where, what fits there, and what may be meant.
+#![tactic(auto)]
+
+use explanations::{add_explanation, add_warnings, compile};
+use grammar::{ParseFault, Profile};
+use std::process::ExitCode;
+use tools::{Fault, Known, Options, Output, ended, profile, read_options, source_of, words};
+
+/// The program's name, as its lines begin.
+const NAME: &str = "why";
+
+/// The line of wrong usage.
+const USAGE: &str = "usage: why [-pPROFILE] [--lint [--strict]] FILE..";
+
+/// The options.
+const OPTIONS: [Known; 3] = [
+    Known::Valued("p"),
+    Known::Flag("lint"),
+    Known::Flag("strict"),
+];
+
+fn main(rt: HostRuntime) -> ExitCode {
+    ended(&rt, NAME, USAGE, run(&rt))
+}
+
+/// Reads the words, and explains the files one after the other. What is known of the files before one that can't be read
+/// is written.
+fn run(rt: &HostRuntime) -> Result<(), Fault> {
+    let words = words(rt)?;
+    let options = read_options(rt.alloc(), words.as_slice(), &OPTIONS)?;
+    let wish = Wish::read(&options)?;
+    let mut output = Output::new(rt.alloc());
+    let explained = explain_all(rt, &mut output, &wish, options.files());
+    output.finish(rt)?;
+    match explained {
+        Ok(false) => Ok(()),
+        Ok(true) => Err(Fault::Source),
+        Err(fault) => Err(fault),
+    }
+}
+
+/// What is asked for beside the files.
+#[derive(Clone, Copy)]
+struct Wish {
+    profile: Profile,
+    lint: bool,
+    strict: bool,
+}
+
+impl Wish {
+    /// Reads what options ask for. No file is wrong usage, and so is `--strict` without `--lint`.
+    fn read(options: &Options<'_>) -> Result<Wish, Fault> {
+        let wish = Wish {
+            profile: profile(options)?,
+            lint: options.has("lint"),
+            strict: options.has("strict"),
+        };
+        if options.files().is_empty() || wish.strict && !wish.lint {
+            return Err(Fault::Usage);
+        }
+        Ok(wish)
+    }
+}
+
+/// Explains files. Reports whether one has a fault, or a warning where warnings count.
+fn explain_all(
+    rt: &HostRuntime,
+    output: &mut Output,
+    wish: &Wish,
+    files: &[&str],
+) -> Result<bool, Fault> {
+    let mut is_faulty = false;
+    for path in files {
+        is_faulty |= explain(rt, output, wish, path)?;
+        output.pass(rt)?;
+    }
+    Ok(is_faulty)
+}
+
+/// Explains a file. Reports whether it has a fault, or a warning where warnings count.
+fn explain(rt: &HostRuntime, output: &mut Output, wish: &Wish, path: &str) -> Result<bool, Fault> {
+    let (bytes, alloc) = (source_of(rt, NAME, path)?, rt.alloc());
+    let (text, source) = (output.text(), bytes.as_slice());
+    match compile(source, wish.profile) {
+        Ok(()) if wish.lint => {
+            let warnings = add_warnings(text, alloc, path, source, wish.profile)?;
+            Ok(wish.strict && warnings > 0)
+        }
+        Ok(()) => Ok(false),
+        Err(ParseFault::Source(diagnostic)) => {
+            add_explanation(text, alloc, path, source, wish.profile, &diagnostic)?;
+            Ok(true)
+        }
+        Err(ParseFault::Device) => Err(Fault::Read),
+        Err(ParseFault::Memory) => Err(Fault::Memory),
+    }
+}
