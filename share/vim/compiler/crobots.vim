@@ -1,9 +1,9 @@
-" :make compiles the robot of this buffer, and :make -p2 by the second profile. A diagnostic names the file without its
-" folder, so the folder is said before.
+" :make explains the first fault of the robot of this buffer. Words behind :make are passed on: :make -p2 goes by the
+" second profile, and :make --lint warns too.
 if exists('current_compiler')
   finish
 endif
 let current_compiler = 'crobots'
 
-CompilerSet makeprg=(echo\ crobots\ in\ %:p:h:S:;\ crobots\ -c\ $*\ --\ %:p:S\ >\ /dev/null)
-CompilerSet errorformat=%Dcrobots\ in\ %f:,%f:%l:\ %m
+CompilerSet makeprg=crobots-why\ $*\ --\ %:p:S
+CompilerSet errorformat=%f:%l:%c:\ %tarning:\ %m,%f:%l:%c:\ %m

@@ -1,0 +1,335 @@
+// Plays a match: the controls of the page, its keys, and what it shows beside the pictures.
+"use strict";
+
+// Cycles a second.
+const SPEEDS = [15, 75, 150, 300, 600, 1200, 2400, 4800, 9600, 19200];
+const LONGEST_SHOW = 90;
+const SHORTEST_SHOW = 6;
+const EVENTS_SHOWN = 6;
+const LEAST_GLOW = 60;
+const MOST_GLOW = 1200;
+const SECONDS_OF_GLOW = 0.35;
+const SECONDS_BETWEEN_WORDS = 2;
+
+const element = (id) => document.getElementById(id);
+const shown = (number) => number.toLocaleString("en");
+
+/** Makes an element with a class and a text. */
+function made(tag, name = "", text = "") {
+  const it = document.createElement(tag);
+  it.className = name;
+  it.textContent = text;
+  return it;
+}
+
+/** The cards of the robots: name, bar of damage, and how it moves. */
+class Cards {
+  constructor(list, match) {
+    this.cards = match.robots.map((robot) => this.#card(list, robot));
+  }
+
+  #card(list, { number, name }) {
+    const card = made("li");
+    card.style.setProperty("--colour", `var(--robot-${number})`);
+    const [bar, fill] = [made("span", "bar"), made("i")];
+    const [percent, state] = [made("span", "percent"), made("span", "state")];
+    const parts = [made("span"), made("span")];
+    bar.append(fill);
+    state.append(...parts);
+    bar.setAttribute("role", "meter");
+    bar.setAttribute("aria-label", `damage of ${number}) ${name}`);
+    bar.setAttribute("aria-valuemin", "0");
+    bar.setAttribute("aria-valuemax", "100");
+    card.append(made("span", "number", `${number}`), made("span", "name", name), percent, bar, state);
+    list.append(card);
+    return { card, bar, fill, percent, parts, damage: -1 };
+  }
+
+  show(moment) {
+    moment.robots.forEach((robot, at) => {
+      const card = this.cards[at];
+      if (card.damage !== robot.damage) this.#damage(card, robot.damage);
+      card.card.classList.toggle("dead", robot.dead);
+      this.#parts(robot).forEach((part, row) => {
+        if (card.parts[row].textContent !== part) card.parts[row].textContent = part;
+      });
+    });
+  }
+
+  #damage(card, damage) {
+    card.damage = damage;
+    card.percent.replaceChildren(made("small", "", "damage "), `${damage}%`);
+    card.fill.style.width = `${damage}%`;
+    card.bar.setAttribute("aria-valuenow", `${damage}`);
+    card.bar.setAttribute("aria-valuetext", `${damage} percent`);
+  }
+
+  /** Where a robot is; how it moves, and how often it restarted. */
+  #parts({ dead, x, y, heading, speed, restarts }) {
+    const way = speed ? [`${heading}°`, `speed ${speed}`] : ["stands"];
+    const often = restarts ? [restarts === 1 ? "1 restart" : `${shown(restarts)} restarts`] : [];
+    const place = dead ? "dead" : `${Math.floor(x / 10)}, ${Math.floor(y / 10)} m`;
+    return [place, [...(dead ? [] : way), ...often].join(" · ")];
+  }
+}
+
+/** The last events before a cycle; each leads to its cycle. */
+class Events {
+  constructor(list, match, seek) {
+    this.match = match;
+    this.last = -1;
+    this.rows = Array.from({ length: EVENTS_SHOWN }, () => {
+      const [row, button] = [made("li"), made("button")];
+      button.type = "button";
+      button.addEventListener("click", () => seek(Number(button.dataset.cycle)));
+      row.append(button);
+      list.append(row);
+      return button;
+    });
+  }
+
+  show(cycle) {
+    const count = this.match.eventsUpTo(cycle);
+    if (count === this.last) return;
+    this.last = count;
+    this.rows.forEach((button, row) => {
+      const index = count - 1 - row;
+      button.hidden = index < 0;
+      if (index >= 0) this.#fill(button, this.match.event(index));
+    });
+    if (!count) {
+      this.rows[0].hidden = false;
+      this.rows[0].dataset.cycle = "0";
+      this.rows[0].replaceChildren(made("span", "cycle", "0"), made("span", "", "the match begins"));
+    }
+  }
+
+  #fill(button, { cycle, robot, text }) {
+    const said = made("span");
+    const name = made("b", "", `${robot}) ${this.match.robots[robot - 1].name}`);
+    said.style.setProperty("--colour", `var(--robot-${robot})`);
+    said.append(name, ` ${text}`);
+    button.dataset.cycle = `${cycle}`;
+    button.replaceChildren(made("span", "cycle", shown(cycle)), said);
+  }
+}
+
+/** Says hits and the end to screen readers, not more often than one can follow. */
+class Speaker {
+  constructor(region, match) {
+    this.region = region;
+    this.match = match;
+    this.cycle = 0;
+    this.saidAt = -Infinity;
+  }
+
+  /** Says what happened since the last words, up to a cycle. */
+  follow(cycle, isStep) {
+    const now = performance.now() / 1000;
+    if (!isStep && cycle < this.match.cycles && now - this.saidAt < SECONDS_BETWEEN_WORDS) return;
+    const from = cycle > this.cycle && !isStep ? this.match.eventsUpTo(this.cycle) : this.match.eventsUpTo(cycle - 1);
+    const to = this.match.eventsUpTo(cycle);
+    this.cycle = cycle;
+    if (from === to) return;
+    this.saidAt = now;
+    const texts = [];
+    for (let index = Math.max(from, to - 4); index < to; index++) texts.push(this.#text(this.match.event(index)));
+    if (cycle >= this.match.cycles) texts.unshift(`The match ends after ${this.match.cycles} cycles.`);
+    this.region.textContent = texts.join(" ");
+  }
+
+  #text({ cycle, robot, text }) {
+    return `Cycle ${cycle}: ${robot}, ${this.match.robots[robot - 1].name}, ${text}.`;
+  }
+}
+
+class Player {
+  constructor(match) {
+    this.match = match;
+    this.cycle = 0;
+    this.isPlaying = false;
+    this.speed = this.#fittingSpeed();
+    const colours = coloursOf(document.documentElement);
+    this.field = new FieldDrawing(element("field"), colours);
+    this.damage = new DamageDrawing(element("damage"), colours);
+    this.cards = new Cards(element("robots"), match);
+    this.events = new Events(element("events"), match, (cycle) => this.seek(cycle));
+    this.speaker = new Speaker(element("said"), match);
+    this.#limits();
+    this.#listen();
+    this.#marks();
+    this.#follow(location.hash);
+    this.show();
+  }
+
+  /** Goes to a cycle, and shows it. */
+  seek(cycle) {
+    this.cycle = Math.max(0, Math.min(this.match.cycles, cycle));
+    this.speaker.follow(this.cycle, true);
+    this.show();
+  }
+
+  /** Plays, or pauses; from the end it plays from the start. */
+  toggle() {
+    this.isPlaying = !this.isPlaying;
+    if (this.isPlaying) {
+      if (this.cycle >= this.match.cycles) this.cycle = 0;
+      this.before = performance.now();
+      requestAnimationFrame((now) => this.#frame(now));
+    }
+    this.show();
+  }
+
+  show() {
+    const { match, cycle } = this;
+    const whole = Math.floor(cycle);
+    const moment = match.moment(cycle, this.#glow());
+    this.field.draw(moment);
+    this.damage.draw(match, cycle);
+    this.cards.show(moment);
+    this.events.show(whole);
+    this.#clock(whole);
+    if (!this.isPlaying) element("field").setAttribute("aria-label", this.#described(moment));
+  }
+
+  /** For how many cycles a burst is seen: while the match plays, long enough for an eye. */
+  #glow() {
+    const seen = this.isPlaying ? SPEEDS[this.speed] * SECONDS_OF_GLOW : 0;
+    return Math.max(LEAST_GLOW, Math.min(MOST_GLOW, seen));
+  }
+
+  #frame(now) {
+    if (!this.isPlaying) return;
+    this.cycle += Math.min(0.25, Math.max(0, now - this.before) / 1000) * SPEEDS[this.speed];
+    this.before = now;
+    if (this.cycle >= this.match.cycles) {
+      this.cycle = this.match.cycles;
+      this.isPlaying = false;
+    }
+    this.speaker.follow(Math.floor(this.cycle), false);
+    this.show();
+    if (this.isPlaying) requestAnimationFrame((next) => this.#frame(next));
+  }
+
+  /** The speed at which the match is neither over at once nor too long; that of 300 cycles a second if it can be. */
+  #fittingSpeed() {
+    const seconds = (at) => this.match.cycles / SPEEDS[at];
+    let at = SPEEDS.indexOf(300);
+    while (at < SPEEDS.length - 1 && seconds(at) > LONGEST_SHOW) at++;
+    while (at > 0 && seconds(at) < SHORTEST_SHOW) at--;
+    return at;
+  }
+
+  /** The limits of the controls. */
+  #limits() {
+    SPEEDS.forEach((speed, at) => element("speed").add(new Option(`${shown(speed)} cycles/s`, `${at}`)));
+    element("slider").max = `${this.match.cycles}`;
+  }
+
+  #clock(cycle) {
+    const { slider, clock } = { slider: element("slider"), clock: element("clock") };
+    slider.value = `${cycle}`;
+    slider.setAttribute("aria-valuetext", `cycle ${cycle} of ${this.match.cycles}`);
+    clock.replaceChildren("cycle ", made("b", "", shown(cycle)), ` of ${shown(this.match.cycles)}`);
+    const button = element("play-pause"), does = this.isPlaying ? "pause" : "play";
+    if (button.getAttribute("aria-label") !== does) {
+      button.setAttribute("aria-label", does);
+      button.querySelector("use").setAttribute("href", `#${does}`);
+    }
+    element("speed").value = `${this.speed}`;
+  }
+
+  #described(moment) {
+    const robots = moment.robots.map((robot) => `robot ${robot.number}, ${robot.name}, ${robot.dead ? "dead"
+      : `at ${Math.floor(robot.x / 10)}, ${Math.floor(robot.y / 10)} metres, heading ${robot.heading} degrees, damage ${robot.damage} percent`}`);
+    return `The field at cycle ${Math.floor(moment.cycle)}: ${robots.join("; ")}`;
+  }
+
+  /** Goes to the cycle of an address that ends with one, such as #4035. */
+  #follow(hash) {
+    if (/^#\d+$/.test(hash)) this.cycle = Math.min(this.match.cycles, Number(hash.slice(1)));
+  }
+
+  #faster(by) {
+    this.speed = Math.max(0, Math.min(SPEEDS.length - 1, this.speed + by));
+    this.show();
+  }
+
+  /** Pauses, and goes to a cycle. */
+  #step(cycle) {
+    this.isPlaying = false;
+    this.seek(cycle);
+  }
+
+  /** What each button does, by its name in the page, and what more keys do. */
+  get #actions() {
+    const { match, cycle } = this, update = Math.floor(cycle / UPDATE) * UPDATE;
+    return {
+      "play-pause": () => this.toggle(),
+      "to-start": () => this.seek(0),
+      "to-end": () => this.#step(match.cycles),
+      "update-after": () => this.#step(update + UPDATE),
+      "update-before": () => this.#step(update < cycle ? update : update - UPDATE),
+      "hit-after": () => this.#step(match.hitAfter(cycle) ?? match.cycles),
+      "hit-before": () => this.#step(match.hitBefore(cycle) ?? 0),
+      "cycle-after": () => this.#step(Math.floor(cycle) + 1),
+      "cycle-before": () => this.#step(Math.ceil(cycle) - 1),
+      "restart-after": () => this.#step(match.restartAfter(cycle) ?? match.cycles),
+      faster: () => this.#faster(1),
+      slower: () => this.#faster(-1),
+    };
+  }
+
+  /** The action of a key, if it has one. */
+  #named(event) {
+    const arrow = event.shiftKey ? "cycle" : "update";
+    const keys = {
+      " ": "play-pause", Home: "to-start", End: "to-end", n: "hit-after", p: "hit-before", r: "restart-after",
+      ArrowRight: `${arrow}-after`, ArrowLeft: `${arrow}-before`, ArrowUp: "faster", ArrowDown: "slower",
+    };
+    return keys[event.key.length === 1 ? event.key.toLowerCase() : event.key];
+  }
+
+  #press(event) {
+    const tag = event.target.tagName, isBlankOnButton = event.key === " " && tag === "BUTTON";
+    if (event.ctrlKey || event.metaKey || event.altKey || tag === "SELECT" || isBlankOnButton) return;
+    const name = this.#named(event);
+    if (!name) return;
+    event.preventDefault();
+    this.#actions[name]();
+  }
+
+  #listen() {
+    document.addEventListener("keydown", (event) => this.#press(event));
+    for (const button of document.querySelectorAll(".controls button")) {
+      button.addEventListener("click", () => this.#actions[button.id]());
+    }
+    element("slider").addEventListener("input", (event) => this.seek(Number(event.target.value)));
+    element("speed").addEventListener("change", (event) => this.#faster(Number(event.target.value) - this.speed));
+    this.#listenToChart(element("damage"));
+    new ResizeObserver(() => this.show()).observe(element("field"));
+    window.addEventListener("hashchange", () => { this.#follow(location.hash); this.show(); });
+    matchMedia("(prefers-color-scheme: dark)").addEventListener("change", () => this.#recolour());
+  }
+
+  /** The chart leads to the cycle that is pressed. */
+  #listenToChart(chart) {
+    const seek = (event) => this.seek(this.damage.cycleAt(event.clientX - chart.getBoundingClientRect().left));
+    chart.addEventListener("pointerdown", (event) => { chart.setPointerCapture(event.pointerId); seek(event); });
+    chart.addEventListener("pointermove", (event) => { if (event.buttons) seek(event); });
+  }
+
+  #recolour() {
+    this.field.colours = this.damage.colours = coloursOf(document.documentElement);
+    this.#marks();
+    this.show();
+  }
+
+  #marks() {
+    for (const canvas of document.querySelectorAll("[data-mark]")) {
+      new FieldDrawing(canvas, this.field.colours).mark(canvas.dataset.mark);
+    }
+  }
+}
+
+const player = new Player(new Match(JSON.parse(element("match").textContent)));

@@ -1,0 +1,156 @@
+// The proved engine as a WebAssembly module: the only file that knows where the module's memory holds what.
+//
+// The module's calls take the addresses of blocks that this file laid out once, behind the module's own memory, and
+// never anything else. The blocks hold numbers and bytes alone, and every value of them is allowed.
+
+/** How a run ended, as the program's exit status says it; 2 means that the engine refused the order. */
+export const Ending = Object.freeze({DONE: 0, FAULTY: 1, REFUSED: 2, UNREAD: 3, FULL: 4});
+
+/** The limits of a run. */
+export const Limits = Object.freeze({
+    robots: 4,
+    nameBytes: 255,
+    sourceBytes: 1048576,
+    matches: 1000000,
+    cycles: 1000000000,
+    first: 1000000,
+    seed: (1n << 64n) - 1n,
+});
+
+const PAGE_BYTES = 65536;
+const ORDER_BYTES = 32;
+const ROBOT_BYTES = 8 + Limits.nameBytes + Limits.sourceBytes + 1;
+const FRAME_BYTES = 256;
+const FRAMES = 32768;
+const SHEET_BYTES = 16 + FRAMES * FRAME_BYTES;
+
+const encoder = new TextEncoder();
+const decoder = new TextDecoder();
+
+/** A wish that the engine can't be asked. */
+export class WishError extends Error {}
+
+/** Returns whether this browser has 64-bit memories. */
+export function hasWideMemories() {
+    // the smallest module with such a memory: its header, and a memory of no page
+    const bytes = new Uint8Array([0, 97, 115, 109, 1, 0, 0, 0, 5, 3, 1, 4, 0]);
+    return typeof WebAssembly === "object" && WebAssembly.validate(bytes);
+}
+
+/** Grows a memory by so many pages, as this browser or an older one takes the number. */
+function grow(memory, pages) {
+    try {
+        return Number(memory.grow(BigInt(pages)));
+    } catch (fault) {
+        if (!(fault instanceof TypeError)) {
+            throw fault;
+        }
+        return memory.grow(pages);
+    }
+}
+
+/** The module with the blocks that it works on. */
+export class Engine {
+    /** Makes the engine of a module's bytes. */
+    static async load(bytes) {
+        const {instance} = await WebAssembly.instantiate(bytes, {});
+        return new Engine(instance.exports);
+    }
+
+    constructor(exports) {
+        this.exports = exports;
+        this.memory = exports.memory;
+        this.checkSizes();
+        const start = this.memory.buffer.byteLength;
+        this.order = start;
+        this.robots = this.order + ORDER_BYTES;
+        this.text = this.robots + Limits.robots * ROBOT_BYTES;
+        this.faults = this.text + SHEET_BYTES;
+        const end = this.faults + SHEET_BYTES;
+        grow(this.memory, Math.ceil((end - start) / PAGE_BYTES));
+    }
+
+    /** Throws if the module's blocks are not laid out as this file has them. */
+    checkSizes() {
+        const sizes = [this.exports.order_bytes(), this.exports.robot_bytes(), this.exports.sheet_bytes()];
+        if (sizes.map(Number).join() !== [ORDER_BYTES, ROBOT_BYTES, SHEET_BYTES].join()) {
+            throw new Error(`the module and the page differ: ${sizes}`);
+        }
+    }
+
+    /**
+     * Runs robots, each {name, source}, by settings {matches, limit, seed, profile, first}.
+     * Returns {ending, text, faults}: as the program's status, standard output and standard error.
+     */
+    run(settings, robots) {
+        return this.runIn(1, settings, robots);
+    }
+
+    /** Lists the code of robots. Returns {ending, text, faults}. */
+    list(settings, robots) {
+        return this.runIn(0, settings, robots);
+    }
+
+    /** Plays the first match of the settings. Returns {ending, text, faults}, whose text is its film. */
+    film(settings, robots) {
+        return this.runIn(1, settings, robots, this.exports.film);
+    }
+
+    runIn(mode, settings, robots, call = this.exports.run) {
+        this.putOrder(mode, settings);
+        this.putRobots(robots);
+        const ending = call(BigInt(this.order), BigInt(this.robots), BigInt(robots.length), BigInt(this.text), BigInt(this.faults));
+        return {ending, text: this.textOf(this.text), faults: this.textOf(this.faults)};
+    }
+
+    putOrder(mode, {matches = 1, limit = 500000, seed = 1n, profile = 1, first = 1}) {
+        const view = new DataView(this.memory.buffer, this.order, ORDER_BYTES);
+        view.setBigUint64(0, BigInt(seed), true);
+        [mode, matches, limit, profile, first].forEach((n, i) => view.setUint32(8 + 4 * i, n, true));
+    }
+
+    putRobots(robots) {
+        if (robots.length > Limits.robots) {
+            throw new WishError("There are more than four robots.");
+        }
+        robots.forEach((robot, i) => this.putRobot(this.robots + i * ROBOT_BYTES, robot));
+    }
+
+    putRobot(at, {name, source}) {
+        const nameBytes = encoder.encode(name);
+        const sourceBytes = typeof source === "string" ? encoder.encode(source) : source;
+        if (nameBytes.length > Limits.nameBytes) {
+            throw new WishError("A robot's name has more than 255 bytes.");
+        }
+        if (sourceBytes.length > Limits.sourceBytes) {
+            throw new WishError(`${name} has more than 1 MiB.`);
+        }
+        const view = new DataView(this.memory.buffer, at, 8);
+        view.setUint32(0, nameBytes.length, true);
+        view.setUint32(4, sourceBytes.length, true);
+        const bytes = new Uint8Array(this.memory.buffer, at + 8, ROBOT_BYTES - 8);
+        bytes.set(nameBytes);
+        bytes.set(sourceBytes, Limits.nameBytes);
+    }
+
+    /** Returns the bytes of the sheet at this address. */
+    bytesOf(sheet) {
+        const used = Number(new DataView(this.memory.buffer, sheet, 8).getBigUint64(0, true));
+        const frames = new Uint8Array(this.memory.buffer, sheet + 16, used * FRAME_BYTES);
+        let size = 0;
+        for (let at = 0; at < frames.length; at += FRAME_BYTES) {
+            size += frames[at];
+        }
+        const bytes = new Uint8Array(size);
+        let end = 0;
+        for (let at = 0; at < frames.length; at += FRAME_BYTES) {
+            bytes.set(frames.subarray(at + 1, at + 1 + frames[at]), end);
+            end += frames[at];
+        }
+        return bytes;
+    }
+
+    textOf(sheet) {
+        return decoder.decode(this.bytesOf(sheet));
+    }
+}

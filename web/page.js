@@ -1,0 +1,365 @@
+// The page: robots and settings that are edited, runs by the engine, and what they gave.
+import {Ending, Limits, hasWideMemories} from "./engine.js";
+import {makeEditor} from "./editor.js";
+import {battleOf, checked, fragmentOf} from "./links.js";
+import {showFilm} from "./replays.js";
+
+const KEPT = "crobots";
+const COMPILE_AFTER = 250;
+const LACKING = "This browser lacks WebAssembly with 64-bit memories. Chrome and Edge have them from version 133, Firefox from version 134.";
+const FIRST_BATTLE = ["hunter.r", "sniper.r"];
+const NEW_ROBOT = "main() {\n  while (1) {\n    drive(0, 0);\n  }\n}\n";
+
+const byId = id => document.getElementById(id);
+
+/** What calls the engine in its worker; one call after another. */
+class Caller {
+    constructor() {
+        this.number = 0;
+        this.waiting = new Map();
+        this.start();
+    }
+
+    start() {
+        this.worker = new Worker("worker.js", {type: "module"});
+        this.worker.onmessage = ({data}) => {
+            const {done, fail} = this.waiting.get(data.number);
+            this.waiting.delete(data.number);
+            if (data.fault === undefined) {
+                done(data.result);
+            } else {
+                fail(new Error(data.fault));
+            }
+        };
+    }
+
+    /** Asks for a run; answers {ending, text, faults}. */
+    call(call, settings, robots) {
+        this.number += 1;
+        this.worker.postMessage({number: this.number, call, settings, robots});
+        return new Promise((done, fail) => this.waiting.set(this.number, {done, fail}));
+    }
+
+    /** Ends what runs. */
+    stop() {
+        this.worker.terminate();
+        for (const {fail} of this.waiting.values()) {
+            fail(new Error("stopped"));
+        }
+        this.waiting.clear();
+        this.start();
+    }
+}
+
+/** The battle that is edited: its robots and settings, kept in the browser's storage. */
+class Battle {
+    constructor({robots, settings}) {
+        this.robots = robots;
+        this.settings = settings;
+    }
+
+    keep() {
+        try {
+            localStorage.setItem(KEPT, JSON.stringify(this));
+        } catch {
+            // a browser may keep nothing; the battle is then in the page alone
+        }
+    }
+
+    static kept() {
+        try {
+            return checked(JSON.parse(localStorage.getItem(KEPT)));
+        } catch {
+            return null;
+        }
+    }
+}
+
+class Page {
+    constructor(caller, samples, editor, battle) {
+        this.runner = caller;
+        this.compiler = new Caller();
+        this.samples = samples;
+        this.editor = editor;
+        this.battle = battle;
+        this.shown = 0;
+        this.listen();
+        this.showSettings();
+        this.showTabs();
+        this.showRobot(0);
+    }
+
+    listen() {
+        byId("sample").append(new Option("choose one", ""), ...this.samples.map(({name}) => new Option(name)));
+        byId("sample").addEventListener("change", event => this.takeSample(event.target.value));
+        byId("name").addEventListener("input", event => this.rename(event.target.value));
+        byId("remove").addEventListener("click", () => this.remove());
+        this.editor.onChange(() => this.edited());
+        byId("settings").addEventListener("submit", event => {
+            event.preventDefault();
+            this.run();
+        });
+        byId("settings").addEventListener("input", () => this.takeSettings());
+        byId("stop").addEventListener("click", () => this.runner.stop());
+        byId("link").addEventListener("click", () => this.copyLink());
+        byId("watching").addEventListener("submit", event => {
+            event.preventDefault();
+            this.watch();
+        });
+        byId("tabs").addEventListener("keydown", event => this.moveTab(event));
+        document.addEventListener("keydown", event => {
+            if (event.key === "Enter" && (event.ctrlKey || event.metaKey)) {
+                this.run();
+            }
+        });
+    }
+
+    get robot() {
+        return this.battle.robots[this.shown];
+    }
+
+    /** Shows a tab for each robot, and one that adds a robot. */
+    showTabs() {
+        const tabs = this.battle.robots.map((robot, at) => this.tab(robot, at));
+        const add = Object.assign(document.createElement("button"), {type: "button", id: "add", textContent: "Add a robot"});
+        add.disabled = tabs.length === Limits.robots;
+        add.addEventListener("click", () => this.add());
+        byId("tabs").replaceChildren(...tabs);
+        byId("tabs").append(add);
+        byId("remove").disabled = tabs.length === 1;
+    }
+
+    tab(robot, at) {
+        const tab = Object.assign(document.createElement("button"), {type: "button", textContent: robot.name, id: `tab-${at}`});
+        tab.dataset.number = at + 1;
+        tab.role = "tab";
+        tab.ariaSelected = at === this.shown;
+        tab.tabIndex = at === this.shown ? 0 : -1;
+        tab.setAttribute("aria-controls", "panel");
+        tab.addEventListener("click", () => this.showRobot(at));
+        return tab;
+    }
+
+    /** Goes to the tab before or after by the arrow keys. */
+    moveTab(event) {
+        const step = {ArrowLeft: -1, ArrowRight: 1}[event.key];
+        const count = this.battle.robots.length;
+        if (step && event.target.role === "tab") {
+            this.showRobot((this.shown + step + count) % count);
+            byId(`tab-${this.shown}`).focus();
+        }
+    }
+
+    showRobot(at) {
+        this.shown = at;
+        this.showTabs();
+        byId("panel").setAttribute("aria-labelledby", `tab-${at}`);
+        byId("name").value = this.robot.name;
+        byId("sample").value = "";
+        this.isShowing = true;
+        this.editor.text = this.robot.source;
+        this.isShowing = false;
+        this.compile();
+    }
+
+    add() {
+        this.battle.robots.push({name: this.freeName(), source: NEW_ROBOT});
+        this.battle.keep();
+        this.showRobot(this.battle.robots.length - 1);
+        byId("name").focus();
+    }
+
+    freeName() {
+        const names = new Set(this.battle.robots.map(({name}) => name));
+        return [1, 2, 3, 4].map(n => `robot${n}.r`).find(name => !names.has(name));
+    }
+
+    remove() {
+        this.battle.robots.splice(this.shown, 1);
+        this.battle.keep();
+        this.showRobot(Math.max(0, this.shown - 1));
+    }
+
+    rename(name) {
+        this.robot.name = name.replaceAll("/", "");
+        byId(`tab-${this.shown}`).textContent = this.robot.name;
+        this.battle.keep();
+    }
+
+    takeSample(name) {
+        const sample = this.samples.find(it => it.name === name);
+        if (sample) {
+            Object.assign(this.robot, sample);
+            this.battle.keep();
+            this.showRobot(this.shown);
+        }
+    }
+
+    edited() {
+        if (!this.isShowing) {
+            this.robot.source = this.editor.text;
+            this.battle.keep();
+            clearTimeout(this.timer);
+            this.timer = setTimeout(() => this.compile(), COMPILE_AFTER);
+        }
+    }
+
+    showSettings() {
+        for (const [id, value] of Object.entries(this.battle.settings)) {
+            byId(id).value = value;
+        }
+        byId("watched").value = this.battle.settings.first;
+    }
+
+    takeSettings() {
+        const [matches, limit, first, profile] = ["matches", "limit", "first", "profile"].map(id => Number(byId(id).value));
+        const isNewProfile = profile !== this.battle.settings.profile;
+        this.battle.settings = {matches, limit, seed: byId("seed").value, first, profile};
+        this.battle.keep();
+        if (isNewProfile) {
+            this.compile();
+        }
+    }
+
+    /** Compiles the robot that is edited, and shows its diagnostic, or its listing. */
+    async compile() {
+        const at = this.shown;
+        const {source} = this.robot;
+        const {ending, text, faults} = await this.answered(this.compiler.call("list", this.battle.settings, [{name: "robot", source}]));
+        if (at !== this.shown || source !== this.robot.source) {
+            return;
+        }
+        const fault = /^robot:(\d+): (.*)\n$/.exec(faults);
+        const line = ending === Ending.FAULTY && fault ? Number(fault[1]) : null;
+        this.editor.mark(line);
+        byId("listing-text").textContent = text;
+        this.showDiagnostic(line, line === null ? this.told(ending, faults) : fault[2]);
+    }
+
+    /** Waits for an answer; what a call failed by stands in place of the faults. */
+    async answered(call) {
+        try {
+            return await call;
+        } catch (fault) {
+            return {ending: Ending.REFUSED, text: "", faults: fault.message};
+        }
+    }
+
+    told(ending, faults) {
+        return ending === Ending.DONE ? "No fault." : faults || "The source was refused.";
+    }
+
+    showDiagnostic(line, text) {
+        const place = byId("diagnostic");
+        place.classList.toggle("faulty", line !== null);
+        place.textContent = line === null ? text : `Line ${line}: ${text}. `;
+        if (line !== null) {
+            const go = Object.assign(document.createElement("button"), {type: "button", textContent: "Go there"});
+            go.addEventListener("click", () => this.editor.goTo(line));
+            place.append(go);
+        }
+        byId(`tab-${this.shown}`).classList.toggle("faulty", line !== null);
+    }
+
+    say(text, isFault = false) {
+        byId("said").textContent = text;
+        byId("said").classList.toggle("faulty", isFault);
+    }
+
+    /** Runs the battle, and shows its report. */
+    async run() {
+        if (!byId("settings").reportValidity() || this.isRunning) {
+            return;
+        }
+        if (BigInt(byId("seed").value) > Limits.seed) {
+            this.say(`The seed is at most ${Limits.seed}.`, true);
+            return;
+        }
+        this.busy(true);
+        const begun = performance.now();
+        const {ending, text, faults} = await this.answered(this.runner.call("run", this.battle.settings, this.battle.robots));
+        this.busy(false);
+        byId("report").textContent = text + faults;
+        this.say(this.ended(ending, faults, performance.now() - begun), ending !== Ending.DONE);
+    }
+
+    busy(isRunning) {
+        this.isRunning = isRunning;
+        byId("run").disabled = isRunning;
+        byId("watch").disabled = isRunning;
+        byId("stop").disabled = !isRunning;
+        if (isRunning) {
+            this.say("The battle runs.");
+        }
+    }
+
+    ended(ending, faults, milliseconds) {
+        switch (ending) {
+        case Ending.DONE:
+            return `Done in ${(milliseconds / 1000).toFixed(2)} seconds.`;
+        case Ending.FAULTY:
+            return "No match was played: a robot has a fault.";
+        case Ending.FULL:
+            return "This is longer than the page can keep, and was cut off. Ask for fewer matches or cycles.";
+        default:
+            return faults === "stopped" ? "Stopped." : "The settings were refused.";
+        }
+    }
+
+    /** Plays the match that is asked for, and shows it. */
+    async watch() {
+        const number = Number(byId("watched").value);
+        const {settings, robots} = this.battle;
+        if (this.isRunning) {
+            return;
+        }
+        this.busy(true);
+        const {ending, text, faults} = await this.answered(this.runner.call("film", {...settings, first: number}, robots));
+        this.busy(false);
+        if (ending === Ending.DONE) {
+            await showFilm(byId("film"), text, number, robots.map(({name}) => name));
+            this.say(`Match ${number} can be watched below.`);
+        } else {
+            this.say(this.ended(ending, faults, 0), true);
+        }
+    }
+
+    async copyLink() {
+        location.hash = await fragmentOf(this.battle);
+        try {
+            await navigator.clipboard.writeText(location.href);
+            this.say("The link is copied.");
+        } catch {
+            this.say("The link stands in the address bar.");
+        }
+    }
+}
+
+/** Returns the battle to begin with: that of the link, the one that was kept, or two samples. */
+async function firstBattle(samples) {
+    const battle = await battleOf(location.hash) ?? Battle.kept();
+    const robots = samples.filter(({name}) => FIRST_BATTLE.includes(name)).map(it => ({...it}));
+    return new Battle(battle ?? {robots, settings: {matches: 1, limit: 500000, seed: "1", first: 1, profile: 1}});
+}
+
+async function begin() {
+    if (!hasWideMemories()) {
+        byId("lacking").textContent = LACKING;
+        byId("lacking").hidden = false;
+        return;
+    }
+    const {robots, editor, player} = await (await fetch("samples.json")).json();
+    byId("main").hidden = false;
+    byId("replay").hidden = !player;
+    const page = new Page(new Caller(), robots, await makeEditor(byId("source"), editor), await firstBattle(robots));
+    window.addEventListener("hashchange", async () => {
+        const battle = await battleOf(location.hash);
+        if (battle) {
+            Object.assign(page.battle, battle);
+            page.showSettings();
+            page.showRobot(0);
+        }
+    });
+}
+
+begin();
