@@ -1,0 +1,127 @@
+"""A headless Chromium for tests of pages: it is asked over two pipes, in the form of the DevTools protocol."""
+
+from __future__ import annotations
+
+import base64
+import json
+import os
+import shutil
+import subprocess
+import tempfile
+from types import TracebackType
+from typing import Any
+
+
+def chromium() -> str | None:
+    """The browser, if it is installed."""
+    return shutil.which("chromium") or shutil.which("chromium-browser")
+
+
+class Browser:
+    """One window of a browser. What pages say on the console is kept, with all that goes wrong in them."""
+
+    def __init__(self, program: str) -> None:
+        self._profile = tempfile.TemporaryDirectory()
+        ask, self._ask = os.pipe()
+        self._hear, hear = os.pipe()
+        words = [program, "--headless=new", "--no-sandbox", "--disable-gpu", "--hide-scrollbars", "--remote-debugging-pipe",
+                 f"--user-data-dir={self._profile.name}", "about:blank"]
+        # The browser reads what it is asked from its descriptor 3, and answers on 4.
+        self._child = subprocess.Popen(["sh", "-c", f'exec "$@" 3<&{ask} 4>&{hear}', "sh", *words], pass_fds=(ask, hear),
+                                       stdin=subprocess.DEVNULL, stdout=subprocess.DEVNULL, stderr=subprocess.DEVNULL)
+        os.close(ask)
+        os.close(hear)
+        self._rest = b""
+        self._count = 0
+        self._session: str | None = None
+        self._loaded = False
+        self.messages: list[str] = []
+        self._open()
+
+    def __enter__(self) -> Browser:
+        return self
+
+    def __exit__(self, kind: type[BaseException] | None, it: BaseException | None, trace: TracebackType | None) -> None:
+        try:
+            self._session = None
+            self.call("Browser.close")
+            self._child.wait(10)
+        except (RuntimeError, OSError, subprocess.TimeoutExpired):
+            self._child.kill()
+            self._child.wait()
+        os.close(self._ask)
+        os.close(self._hear)
+        self._profile.cleanup()
+
+    def _open(self) -> None:
+        targets = self.call("Target.getTargets")["targetInfos"]
+        window = next(it["targetId"] for it in targets if it["type"] == "page")
+        self._session = self.call("Target.attachToTarget", targetId=window, flatten=True)["sessionId"]
+        for part in ("Page", "Runtime", "Log"):
+            self.call(f"{part}.enable")
+
+    def call(self, method: str, **words: Any) -> dict[str, Any]:
+        """Asks the browser, and waits for its answer."""
+        self._count += 1
+        asked = {"id": self._count, "method": method, "params": words} | ({"sessionId": self._session} if self._session else {})
+        os.write(self._ask, json.dumps(asked).encode() + b"\0")
+        while True:
+            heard = self._next()
+            if heard.get("id") == self._count:
+                if "error" in heard:
+                    raise RuntimeError(f"{method}: {heard['error']}")
+                return heard["result"]
+
+    def _next(self) -> dict[str, Any]:
+        """The next thing that the browser says; of what happened in the page it takes note."""
+        while b"\0" not in self._rest:
+            more = os.read(self._hear, 1 << 16)
+            if not more:
+                raise RuntimeError("the browser ended")
+            self._rest += more
+        line, _, self._rest = self._rest.partition(b"\0")
+        heard = json.loads(line)
+        method, said = heard.get("method"), heard.get("params", {})
+        if method == "Runtime.consoleAPICalled":
+            self.messages.append(" ".join(str(it.get("value", it.get("description"))) for it in said["args"]))
+        elif method == "Runtime.exceptionThrown":
+            details = said["exceptionDetails"]
+            self.messages.append(details.get("exception", {}).get("description", details["text"]))
+        elif method == "Log.entryAdded":
+            self.messages.append(said["entry"]["text"])
+        elif method == "Page.loadEventFired":
+            self._loaded = True
+        return heard
+
+    def load(self, path: str, mark: str = "") -> None:
+        """Loads a page of this machine, and waits until it is there: an empty one before, so that it begins anew."""
+        for address in ("about:blank", f"file://{path}{mark}"):
+            self._loaded = False
+            self.call("Page.navigate", url=address)
+            while not self._loaded:
+                self._next()
+
+    def look(self, width: int, height: int, dark: bool = False, scale: float = 1) -> None:
+        """Chooses the window's size and its theme."""
+        self.call("Emulation.setDeviceMetricsOverride", width=width, height=height, deviceScaleFactor=scale, mobile=width < 600)
+        theme = {"name": "prefers-color-scheme", "value": "dark" if dark else "light"}
+        self.call("Emulation.setEmulatedMedia", features=[theme])
+
+    def value(self, expression: str) -> Any:
+        """What an expression of JavaScript is in the page; a promise is waited for."""
+        answer = self.call("Runtime.evaluate", expression=expression, returnByValue=True, awaitPromise=True)
+        if "exceptionDetails" in answer:
+            raise RuntimeError(json.dumps(answer["exceptionDetails"]))
+        return answer["result"].get("value")
+
+    def press(self, key: str, shift: bool = False) -> None:
+        """Presses a key."""
+        told = {"key": key, "code": key if len(key) > 1 else "Space" if key == " " else f"Key{key.upper()}", "modifiers": 8 if shift else 0}
+        text = {"text": key} if len(key) == 1 else {}
+        self.call("Input.dispatchKeyEvent", type="keyDown", **told, **text)
+        self.call("Input.dispatchKeyEvent", type="keyUp", **told)
+
+    def picture(self, path: str, whole: bool = False) -> None:
+        """Writes a picture of the window, or of the whole page, as PNG."""
+        with open(path, "wb") as file:
+            file.write(base64.b64decode(self.call("Page.captureScreenshot", captureBeyondViewport=whole)["data"]))

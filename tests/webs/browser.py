@@ -1,0 +1,301 @@
+"""Tests of the whole page, by Chromium: what it shows is what crobots writes."""
+
+from __future__ import annotations
+
+import base64
+import contextlib
+import functools
+import http.server
+import importlib.util
+import json
+import os
+import shutil
+import sys
+import tempfile
+import threading
+import time
+import zlib
+from typing import Any, Iterator
+
+from .battles import Battle, Settings, outcome, random_battles, sample_battles, samples, script
+
+SECONDS = 60
+DEBIAN = "/usr/lib/python3/dist-packages"
+WIDTHS = (390, 1280)
+
+
+def lacking() -> str:
+    """What is lacking for these tests. Debian's modules are found by another Python too."""
+    if not importlib.util.find_spec("selenium") and os.path.isdir(DEBIAN):
+        sys.path.append(DEBIAN)
+    programs = [name for name in ("chromium", "chromedriver") if not shutil.which(name)]
+    modules = [] if importlib.util.find_spec("selenium") else ["python3-selenium"]
+    return f"there is no {' and no '.join(programs + modules)}" if programs + modules else ""
+
+
+class Quiet(http.server.SimpleHTTPRequestHandler):
+    """Serves files without a word."""
+
+    def log_message(self, format: str, *args: Any) -> None:  # pylint: disable=redefined-builtin
+        """Says nothing."""
+
+
+@contextlib.contextmanager
+def served(folder: str) -> Iterator[str]:
+    """The address at which a folder is served."""
+    server = http.server.ThreadingHTTPServer(("127.0.0.1", 0), functools.partial(Quiet, directory=folder))
+    thread = threading.Thread(target=server.serve_forever)
+    thread.start()
+    try:
+        yield f"http://127.0.0.1:{server.server_address[1]}/"
+    finally:
+        server.shutdown()
+        server.server_close()
+        thread.join()
+
+
+@contextlib.contextmanager
+def chromium() -> Iterator[Any]:
+    """A browser without a window."""
+    from selenium import webdriver  # pylint: disable=import-outside-toplevel,import-error
+    from selenium.webdriver.chrome.service import Service  # pylint: disable=import-outside-toplevel,import-error
+
+    options = webdriver.ChromeOptions()
+    options.binary_location = shutil.which("chromium")
+    for word in ("--headless=new", "--no-sandbox", "--disable-gpu", "--disable-dev-shm-usage", "--window-size=1280,1000"):
+        options.add_argument(word)
+    options.set_capability("goog:loggingPrefs", {"browser": "ALL"})
+    driver = webdriver.Chrome(service=Service(shutil.which("chromedriver")), options=options)
+    try:
+        yield driver
+    finally:
+        driver.quit()
+
+
+def fragment(battle: Battle) -> str:
+    """The fragment of a link to a battle."""
+    robots = [{"name": name, "source": source.decode()} for name, source in battle.robots]
+    text = json.dumps({"robots": robots, "settings": {**vars(battle.settings), "seed": str(battle.settings.seed)}})
+    packer = zlib.compressobj(wbits=-15)
+    return "#battle=" + base64.urlsafe_b64encode(packer.compress(text.encode()) + packer.flush()).decode().rstrip("=")
+
+
+class Page:
+    """The page in a browser."""
+
+    def __init__(self, driver: Any, address: str) -> None:
+        self.driver = driver
+        self.address = address
+
+    def open(self, tail: str = "") -> None:
+        """Opens the page anew."""
+        self.driver.get("about:blank")
+        self.driver.get(self.address + tail)
+        self.wait("return document.getElementById('diagnostic')?.textContent")
+
+    def show(self, battle: Battle) -> None:
+        """Follows a link to a battle in the open page, until the first robot is compiled."""
+        self.js("document.getElementById('seed').value = ''; document.getElementById('diagnostic').textContent = '';"
+                "location.hash = arguments[0]", fragment(battle))
+        self.wait("return document.getElementById('seed').value && document.getElementById('diagnostic').textContent")
+
+    def js(self, code: str, *words: Any) -> Any:
+        """Runs code in the page."""
+        return self.driver.execute_script(code, *words)
+
+    def wait(self, code: str, *words: Any) -> Any:
+        """Waits until code answers something."""
+        end = time.monotonic() + SECONDS
+        while time.monotonic() < end:
+            found = self.js(code, *words)
+            if found:
+                return found
+            time.sleep(0.01)
+        raise TimeoutError(code)
+
+    def text(self, name: str) -> str:
+        """The text of an element."""
+        return self.js("return document.getElementById(arguments[0]).textContent", name)
+
+    def run(self) -> str:
+        """Runs the battle; returns the report."""
+        self.js("document.getElementById('said').textContent = ''; document.getElementById('run').click()")
+        self.wait("const it = document.getElementById('said').textContent; return it && it !== 'The battle runs.'")
+        return self.text("report")
+
+    def marked(self) -> tuple[str, list[str]]:
+        """The diagnostic, and the numbers of the marked lines in sight."""
+        self.js("document.querySelector('#diagnostic button').click()")
+        lines = self.js("return [...document.querySelectorAll('.CodeMirror .faulty')].map(it =>"
+                        " it.parentElement.querySelector('.CodeMirror-linenumber').textContent)")
+        return self.text("diagnostic"), lines
+
+
+def reports(page: Page, crobots: str, battles: list[Battle]) -> list[str]:
+    """Where the page's reports and crobots differ."""
+    wrong = []
+    for battle in battles:
+        page.show(battle)
+        got, wanted = page.run(), battle.told(crobots)[1].decode()
+        if got != wanted:
+            wrong.append(f"{[name for name, _ in battle.robots]}: {got[:200]!r}, and crobots {wanted[:200]!r}")
+    return wrong
+
+
+def diagnostics() -> dict[str, tuple[bytes, int]]:
+    """For each diagnostic a source that has it, as short as can be, and its line."""
+    found: dict[str, tuple[bytes, int]] = {}
+    for case in script("hostile_sources").CASES:
+        if case.is_faulty and case.profile == 1 and (case.source.isascii() or b"\xc3" in case.source) and len(case.source) < 20_000:
+            _, line, text = case.lines[0].split(":")
+            known = found.get(text.strip())
+            if not known or (int(line) > 1, -len(case.source)) > (known[1] > 1, -len(known[0])):
+                found[text.strip()] = (case.source, int(line))
+    return found
+
+
+def marks(page: Page) -> list[str]:
+    """Each diagnostic is shown and marked at its line."""
+    wrong = []
+    found = diagnostics()
+    for text, (source, line) in found.items():
+        page.show(Battle([("a.r", source)]))
+        wanted = (f"Line {line}: {text}. Go there", [str(line)])
+        got = page.marked()
+        if got != wanted and line <= source.count(b"\n") + 1:
+            wrong.append(f"{source[:60]!r}: {got}, not {wanted}")
+    return wrong + ([] if len(found) >= 15 else [f"only {sorted(found)}"])
+
+
+def alive(page: Page, crobots: str) -> list[str]:
+    """After hostile sources the page runs a battle as ever."""
+    battle = Battle(samples()[:2], Settings(limit=5_000))
+    wrong = []
+    for source in (b"main(){" + b"(" * (1_048_576 - 7), b"main(){}\x1a(((", b"", b"/*" * 10_000, b"main(){" + b"1;" * 100_000, b"(" * 1_048_577):
+        page.show(Battle([("a.r", source)]))
+        report = page.run()
+        if source == b"main(){}\x1a(((" and not report.startswith("Match 1: cycles = 500000\n"):
+            wrong.append(f"byte 26: {report}")
+        wrong += [f"after {source[:20]!r}: {line}" for line in reports(page, crobots, [battle])]
+    return wrong
+
+
+def links(page: Page, crobots: str) -> list[str]:
+    """A link that the page makes shows the same battle, and what is edited stays in the browser."""
+    battle = Battle(samples()[:3] + [("ärger & co.r", b"main(){ /* \xc3\xa4 */ while(1) drive(90, 50); }")], Settings(2, 3_000, 2**64 - 1, 2, 77))
+    page.show(battle)
+    page.js("document.getElementById('link').click()")
+    page.wait("return document.getElementById('said').textContent.startsWith('The link')")
+    link = page.js("return location.hash")
+    page.js("localStorage.clear()")
+    page.open(link)
+    wanted = battle.told(crobots)[1].decode()
+    wrong = [] if page.run() == wanted else ["the link shows another battle"]
+    page.js("const it = document.getElementById('limit'); it.value = 4000; it.dispatchEvent(new Event('input', {bubbles: true}))")
+    page.open()
+    battle.settings.limit = 4_000
+    return wrong + ([] if page.run() == battle.told(crobots)[1].decode() else ["the battle was not kept"])
+
+
+def watched(page: Page, crobots: str) -> list[str]:
+    """A match that is watched ends as its report says."""
+    page.open()
+    if page.js("return document.getElementById('replay').hidden"):
+        print("no match is watched: the page has no player")
+        return []
+    wrong = []
+    for battle in sample_battles()[10:13]:
+        page.show(battle)
+        page.js("document.getElementById('film').srcdoc = ''; document.getElementById('watched').value = 2; document.getElementById('watch').click()")
+        inside = "document.getElementById('film').contentDocument"
+        page.wait(f"return {inside}.getElementById('clock')?.textContent")
+        page.js(f"{inside}.getElementById('to-end').click()")
+        battle.settings.first = 2
+        cycles, damages = outcome(battle.told(crobots)[1])
+        clock = page.js(f"return {inside}.getElementById('clock').textContent")
+        shown = page.js(f"return [...{inside}.querySelectorAll('[role=meter]')].map(it => Number(it.getAttribute('aria-valuenow')))")
+        if clock != f"cycle {cycles:,} of {cycles:,}" or shown != damages:
+            wrong.append(f"{clock} {shown}, and crobots {cycles} {damages}")
+    return wrong
+
+
+def stopped(page: Page, crobots: str) -> list[str]:
+    """A long series is stopped, and the next battle runs as ever."""
+    page.show(Battle(samples()[:2], Settings(1_000_000, 1_000_000)))
+    page.js("document.getElementById('run').click(); document.getElementById('stop').click()")
+    page.wait("return document.getElementById('said').textContent === 'Stopped.'")
+    return reports(page, crobots, sample_battles()[20:21])
+
+
+def older(page: Page) -> list[str]:
+    """A browser without 64-bit memories gets one sentence."""
+    hide = page.driver.execute_cdp_cmd("Page.addScriptToEvaluateOnNewDocument", {"source": "WebAssembly.validate = () => false"})
+    page.driver.get("about:blank")
+    page.driver.get(page.address)
+    page.wait("return document.getElementById('lacking').textContent")
+    seen = page.js("return [document.getElementById('lacking').innerText, document.getElementById('main').hidden]")
+    page.driver.execute_cdp_cmd("Page.removeScriptToEvaluateOnNewDocument", hide)
+    return [] if seen[0].startswith("This browser lacks WebAssembly with 64-bit memories.") and seen[1] else [f"{seen}"]
+
+
+def plain(page: Page, folder: str) -> list[str]:
+    """Without CodeMirror there is a plain text field, and all else is as ever."""
+    with open(os.path.join(folder, "samples.json"), encoding="utf-8") as file:
+        kept = file.read()
+    with tempfile.TemporaryDirectory() as place:
+        shutil.copytree(folder, place, dirs_exist_ok=True)
+        shutil.rmtree(os.path.join(place, "codemirror"), ignore_errors=True)
+        with open(os.path.join(place, "samples.json"), "w", encoding="utf-8") as file:
+            file.write(kept.replace('"editor": true', '"editor": false'))
+        with served(place) as address:
+            other = Page(page.driver, address)
+            other.open()
+            other.js("const it = document.getElementById('source'); it.value = 'main(){\\nbreak; }'; it.dispatchEvent(new Event('input'))")
+            other.wait("return document.getElementById('diagnostic').textContent.startsWith('Line 2: reserved word.')")
+            return [] if other.js("return document.getElementById('source').dataset.line") == "2" else ["no line is marked"]
+
+
+def widths(page: Page) -> list[str]:
+    """No width needs scrolling sideways."""
+    wrong = []
+    for width in WIDTHS:
+        page.driver.set_window_size(width, 900)
+        page.open()
+        page.run()
+        wide = page.js("return document.documentElement.scrollWidth - document.documentElement.clientWidth")
+        wrong += [f"{width} pixels: {wide} too wide"] if wide > 0 else []
+    return wrong
+
+
+def speed(page: Page) -> list[str]:
+    """The first draw comes within half a second, and a match of 100,000 cycles within one."""
+    page.open()
+    drawn = page.js("return performance.getEntriesByName('first-contentful-paint')[0].startTime")
+    page.show(Battle([("a.r", b"main(){while(1)drive(9,9);}"), ("b.r", b"main(){int d;while(1){scan(d,10);d+=10;}}")], Settings(limit=100_000)))
+    page.run()
+    took = float(page.text("said").split()[2])
+    print(f"the page is drawn after {drawn:.0f} ms; 100,000 cycles take {took} s")
+    return ([f"first draw after {drawn} ms"] if drawn > 500 else []) + ([f"100,000 cycles in {took} s"] if took > 1 else [])
+
+
+def console(page: Page) -> list[str]:
+    """No message on the console."""
+    return [entry["message"] for entry in page.driver.get_log("browser")]
+
+
+def results(crobots: str, folder: str) -> Iterator[tuple[str, list[str]]]:
+    """The tests' names, and what is wrong."""
+    with served(folder) as address, chromium() as driver:
+        page = Page(driver, address)
+        yield "speed", speed(page)
+        yield "samples", reports(page, crobots, sample_battles())
+        yield "random robots", reports(page, crobots, random_battles(30, 6))
+        yield "diagnostics", marks(page)
+        yield "hostile sources", alive(page, crobots)
+        yield "links", links(page, crobots)
+        yield "watched matches", watched(page, crobots)
+        yield "a stopped series", stopped(page, crobots)
+        yield "widths", widths(page)
+        yield "a plain text field", plain(page, folder)
+        yield "an older browser", older(page)
+        yield "console", console(page)

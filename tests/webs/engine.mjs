@@ -1,0 +1,18 @@
+// engine.mjs MODULE < JOBS > ANSWERS: runs jobs by the module alone, without a browser.
+//
+// JOBS is a list in JSON: each has `call` (run, list or film), `settings` and `robots`, whose sources are base64. An answer
+// has `ending`, `text` and `faults`, the last two in base64.
+import fs from "node:fs";
+import {Engine} from "../../web/engine.js";
+
+const engine = await Engine.load(fs.readFileSync(process.argv[2]));
+
+function answer(job) {
+    const robots = job.robots.map(({name, source}) => ({name, source: Buffer.from(source, "base64")}));
+    const {ending} = engine[job.call](job.settings, robots);
+    const [text, faults] = [engine.text, engine.faults].map(sheet => Buffer.from(engine.bytesOf(sheet)).toString("base64"));
+    return {ending, text, faults};
+}
+
+const jobs = JSON.parse(fs.readFileSync(0, "utf8"));
+console.log(JSON.stringify(jobs.map(answer)));
