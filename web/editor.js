@@ -51,9 +51,17 @@ class PlainEditor {
 
     /** Puts the cursor on a line. */
     goTo(line) {
-        const at = this.text.split("\n").slice(0, line - 1).join("\n").length;
+        const at = line > 1 ? this.text.split("\n").slice(0, line - 1).join("\n").length + 1 : 0;
         this.field.focus();
         this.field.setSelectionRange(at, at);
+    }
+
+    /** Calls back with the cursor's line when it moves. */
+    onMove(call) {
+        const tell = () => call(this.text.slice(0, this.field.selectionStart).split("\n").length);
+        for (const event of ["click", "keyup"]) {
+            this.field.addEventListener(event, tell);
+        }
     }
 }
 
@@ -115,5 +123,10 @@ class ColouredEditor {
     goTo(line) {
         this.mirror.focus();
         this.mirror.setCursor(line - 1, 0);
+    }
+
+    /** Calls back with the cursor's line when it moves. */
+    onMove(call) {
+        this.mirror.on("cursorActivity", () => call(this.mirror.getCursor().line + 1));
     }
 }

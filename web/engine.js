@@ -10,7 +10,8 @@ export const Ending = Object.freeze({DONE: 0, FAULTY: 1, REFUSED: 2, UNREAD: 3, 
 export const Limits = Object.freeze({
     robots: 4,
     nameBytes: 255,
-    sourceBytes: 1048576,
+    // one more than a source may have: of a longer one this much is enough to be refused
+    sourceBytes: 1048577,
     matches: 1000000,
     cycles: 1000000000,
     first: 1000000,
@@ -19,10 +20,11 @@ export const Limits = Object.freeze({
 
 const PAGE_BYTES = 65536;
 const ORDER_BYTES = 32;
-const ROBOT_BYTES = 8 + Limits.nameBytes + Limits.sourceBytes + 1;
+const ROBOT_BYTES = 8 + Limits.nameBytes + Limits.sourceBytes;
 const FRAME_BYTES = 256;
 const FRAMES = 32768;
 const SHEET_BYTES = 16 + FRAMES * FRAME_BYTES;
+const MOST_ROWS = 1000000;
 
 const encoder = new TextEncoder();
 const decoder = new TextDecoder();
@@ -47,6 +49,15 @@ function grow(memory, pages) {
         }
         return memory.grow(pages);
     }
+}
+
+/** Counts a letter in a text. */
+function countOf(letter, text) {
+    let count = 0;
+    for (let at = text.indexOf(letter); at >= 0; at = text.indexOf(letter, at + 1)) {
+        count += 1;
+    }
+    return count;
 }
 
 /** The module with the blocks that it works on. */
@@ -91,9 +102,26 @@ export class Engine {
         return this.runIn(0, settings, robots);
     }
 
-    /** Plays the first match of the settings. Returns {ending, text, faults}, whose text is its film. */
+    /** Lists where the instructions of robots come from. Returns {ending, text, faults}. */
+    places(settings, robots) {
+        return this.runIn(0, settings, robots, this.exports.film);
+    }
+
+    /**
+     * Plays the first match of the settings. Returns {ending, text, faults}, whose text is its film. A film that is longer
+     * than a sheet comes in parts: the match is played anew for each. After a million rows it is cut off.
+     */
     film(settings, robots) {
-        return this.runIn(1, settings, robots, this.exports.film);
+        let film = "";
+        for (let skipped = 0; ; ) {
+            const {ending, text, faults} = this.runIn(1, {...settings, skipped}, robots, this.exports.film);
+            const rows = text.slice(text.indexOf("\n") + 1);
+            film += film ? rows : text;
+            skipped += countOf("\n", rows);
+            if (ending !== Ending.FULL || skipped >= MOST_ROWS) {
+                return {ending, text: film, faults};
+            }
+        }
     }
 
     runIn(mode, settings, robots, call = this.exports.run) {
@@ -103,10 +131,10 @@ export class Engine {
         return {ending, text: this.textOf(this.text), faults: this.textOf(this.faults)};
     }
 
-    putOrder(mode, {matches = 1, limit = 500000, seed = 1n, profile = 1, first = 1}) {
+    putOrder(mode, {matches = 1, limit = 500000, seed = 1n, profile = 1, first = 1, skipped = 0}) {
         const view = new DataView(this.memory.buffer, this.order, ORDER_BYTES);
         view.setBigUint64(0, BigInt(seed), true);
-        [mode, matches, limit, profile, first].forEach((n, i) => view.setUint32(8 + 4 * i, n, true));
+        [mode, matches, limit, profile, first, skipped].forEach((n, i) => view.setUint32(8 + 4 * i, n, true));
     }
 
     putRobots(robots) {
@@ -118,12 +146,9 @@ export class Engine {
 
     putRobot(at, {name, source}) {
         const nameBytes = encoder.encode(name);
-        const sourceBytes = typeof source === "string" ? encoder.encode(source) : source;
+        const sourceBytes = (typeof source === "string" ? encoder.encode(source) : source).subarray(0, Limits.sourceBytes);
         if (nameBytes.length > Limits.nameBytes) {
             throw new WishError("A robot's name has more than 255 bytes.");
-        }
-        if (sourceBytes.length > Limits.sourceBytes) {
-            throw new WishError(`${name} has more than 1 MiB.`);
         }
         const view = new DataView(this.memory.buffer, at, 8);
         view.setUint32(0, nameBytes.length, true);

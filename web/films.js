@@ -29,6 +29,7 @@ class Film {
         this.shots = [];
         this.hurts = [];
         this.restarts = [];
+        this.whys = new Map();
         this.cycles = 0;
         this.flying = [];
         this.harms = new Map();
@@ -44,11 +45,20 @@ class Film {
 
     take(line) {
         const [cycle, robot, kind, ...values] = line.split("\t");
+        this.cycles = Math.max(this.cycles, Number(cycle));
         if (kind === "restart") {
-            this.restarts.push([Number(cycle), Number(robot), values[0], values[1], Number(values[2])]);
+            this.restarts.push([Number(cycle), Number(robot), this.whyOf(values.join("\t"))]);
         } else {
             this[kind]?.(Number(cycle), Number(robot), values.map(Number));
         }
+    }
+
+    /** The number of a cause, with its function and line: each is kept once. */
+    whyOf(text) {
+        if (!this.whys.has(text)) {
+            this.whys.set(text, this.whys.size);
+        }
+        return this.whys.get(text);
     }
 
     place(...numbers) {
@@ -105,7 +115,6 @@ class Film {
 
     end(cycle, robot, [damage]) {
         this.damaged(cycle, robot, damage);
-        this.cycles = Math.max(this.cycles, cycle);
     }
 }
 
@@ -130,13 +139,11 @@ function robotOf({name, places, damages, scans, death}) {
 export function keptOf(text, names) {
     const film = new Film(text, names.length === 1 ? [names[0], names[0]] : names);
     const shots = film.shots.map(it => [it.cycle, it.robot, it.x, it.y, it.burst - it.cycle, it.toX - it.x, it.toY - it.y, it.harm]);
-    const whys = [...new Map(film.restarts.map(([, , ...why]) => [why.join("\t"), why])).values()];
-    const places = new Map(whys.map((why, at) => [why.join("\t"), at]));
-    const restarts = film.restarts.map(([cycle, robot, ...why]) => [cycle, robot, places.get(why.join("\t"))]);
+    const whys = [...film.whys.keys()].map(text => text.split("\t")).map(([cause, name, line]) => [cause, name, Number(line)]);
     return {
         cycles: film.cycles, robots: film.robots.map(robotOf), whys,
         shots: columns(["cycle", "robot", "x", "y", "flight", "dx", "dy", "harm"], shots),
         hurts: columns(["cycle", "robot", "kind", "damage", "by"], film.hurts),
-        restarts: columns(["cycle", "robot", "why"], restarts),
+        restarts: columns(["cycle", "robot", "why"], film.restarts),
     };
 }

@@ -15,7 +15,8 @@ function toText(bytes) {
     return btoa(binary).replaceAll("+", "-").replaceAll("/", "_").replaceAll("=", "");
 }
 
-function toBytes(text) {
+/** Returns the bytes of a text in base 64, of either alphabet. */
+export function toBytes(text) {
     const binary = atob(text.replaceAll("-", "+").replaceAll("_", "/"));
     return Uint8Array.from(binary, letter => letter.charCodeAt(0));
 }

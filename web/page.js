@@ -1,8 +1,9 @@
 // The page: robots and settings that are edited, runs by the engine, and what they gave.
 import {Ending, Limits, hasWideMemories} from "./engine.js";
 import {makeEditor} from "./editor.js";
-import {battleOf, checked, fragmentOf} from "./links.js";
-import {showFilm} from "./replays.js";
+import {battleOf, checked, fragmentOf, toBytes} from "./links.js";
+import {Listing, linesOf} from "./listings.js";
+import {jumpTo, showFilm} from "./replays.js";
 
 const KEPT = "crobots";
 const COMPILE_AFTER = 250;
@@ -12,16 +13,19 @@ const NEW_ROBOT = "main() {\n  while (1) {\n    drive(0, 0);\n  }\n}\n";
 
 const byId = id => document.getElementById(id);
 
-/** What calls the engine in its worker; one call after another. */
+/** What calls the engine in its worker, which has this address and takes this module; one call after another. */
 class Caller {
-    constructor() {
+    constructor(address, module) {
+        this.address = address;
+        this.module = module;
         this.number = 0;
         this.waiting = new Map();
         this.start();
     }
 
     start() {
-        this.worker = new Worker("worker.js", {type: "module"});
+        this.worker = new Worker(this.address);
+        this.worker.postMessage({module: this.module});
         this.worker.onmessage = ({data}) => {
             const {done, fail} = this.waiting.get(data.number);
             this.waiting.delete(data.number);
@@ -76,13 +80,14 @@ class Battle {
 }
 
 class Page {
-    constructor(caller, samples, editor, battle) {
-        this.runner = caller;
-        this.compiler = new Caller();
+    constructor(newCaller, samples, editor, battle) {
+        this.runner = newCaller();
+        this.compiler = newCaller();
         this.samples = samples;
         this.editor = editor;
         this.battle = battle;
         this.shown = 0;
+        this.listing = new Listing(byId("code"), line => editor.goTo(line));
         this.listen();
         this.showSettings();
         this.showTabs();
@@ -95,6 +100,7 @@ class Page {
         byId("name").addEventListener("input", event => this.rename(event.target.value));
         byId("remove").addEventListener("click", () => this.remove());
         this.editor.onChange(() => this.edited());
+        this.editor.onMove(line => this.listing.mark(line));
         byId("settings").addEventListener("submit", event => {
             event.preventDefault();
             this.run();
@@ -106,6 +112,7 @@ class Page {
             event.preventDefault();
             this.watch();
         });
+        byId("from").addEventListener("change", event => jumpTo(byId("film"), event.target.value));
         byId("tabs").addEventListener("keydown", event => this.moveTab(event));
         document.addEventListener("keydown", event => {
             if (event.key === "Enter" && (event.ctrlKey || event.metaKey)) {
@@ -225,14 +232,15 @@ class Page {
     async compile() {
         const at = this.shown;
         const {source} = this.robot;
-        const {ending, text, faults} = await this.answered(this.compiler.call("list", this.battle.settings, [{name: "robot", source}]));
+        const ask = call => this.answered(this.compiler.call(call, this.battle.settings, [{name: "robot", source}]));
+        const [{ending, text, faults}, places] = await Promise.all([ask("list"), ask("places")]);
         if (at !== this.shown || source !== this.robot.source) {
             return;
         }
         const fault = /^robot:(\d+): (.*)\n$/.exec(faults);
         const line = ending === Ending.FAULTY && fault ? Number(fault[1]) : null;
         this.editor.mark(line);
-        byId("listing-text").textContent = text;
+        this.listing.show(text, linesOf(places.text));
         this.showDiagnostic(line, line === null ? this.told(ending, faults) : fault[2]);
     }
 
@@ -285,11 +293,16 @@ class Page {
 
     busy(isRunning) {
         this.isRunning = isRunning;
+        if (isRunning) {
+            this.focused = document.activeElement;
+            this.say("The battle runs.");
+        }
         byId("run").disabled = isRunning;
         byId("watch").disabled = isRunning;
         byId("stop").disabled = !isRunning;
-        if (isRunning) {
-            this.say("The battle runs.");
+        if (!isRunning && document.activeElement === document.body) {
+            // a button that is disabled loses the focus
+            this.focused.focus();
         }
     }
 
@@ -316,9 +329,10 @@ class Page {
         this.busy(true);
         const {ending, text, faults} = await this.answered(this.runner.call("film", {...settings, first: number}, robots));
         this.busy(false);
-        if (ending === Ending.DONE) {
-            await showFilm(byId("film"), text, number, robots.map(({name}) => name));
-            this.say(`Match ${number} can be watched below.`);
+        if (ending === Ending.DONE || ending === Ending.FULL) {
+            const cycles = await showFilm(byId("film"), text, number, robots.map(({name}) => name));
+            jumpTo(byId("film"), byId("from").value);
+            this.say(`Match ${number} can be watched below${ending === Ending.FULL ? `, up to cycle ${cycles}` : ""}.`);
         } else {
             this.say(this.ended(ending, faults, 0), true);
         }
@@ -348,10 +362,14 @@ async function begin() {
         byId("lacking").hidden = false;
         return;
     }
-    const {robots, editor, player} = await (await fetch("samples.json")).json();
+    // what the page is built with; from a file nothing can be fetched, so all of it is a script
+    const {robots, editor, player, worker, module} = globalThis.CROBOTS;
+    const address = URL.createObjectURL(new Blob([worker], {type: "text/javascript"}));
+    const newCaller = () => new Caller(address, toBytes(module));
+    byId("listing").open = matchMedia("(min-width: 40rem)").matches;
     byId("main").hidden = false;
     byId("replay").hidden = !player;
-    const page = new Page(new Caller(), robots, await makeEditor(byId("source"), editor), await firstBattle(robots));
+    const page = new Page(newCaller, robots, await makeEditor(byId("source"), editor), await firstBattle(robots));
     window.addEventListener("hashchange", async () => {
         const battle = await battleOf(location.hash);
         if (battle) {

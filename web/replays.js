@@ -1,16 +1,7 @@
 // Shows a film by the page that plays matches, as the script replay makes it.
 import {keptOf} from "./films.js";
 
-const FOLDER = "replay/";
 const SCRIPTS = ["matches.js", "drawing.js", "player.js"];
-
-const parts = {};
-
-/** Reads a file of the folder, once. */
-function part(name) {
-    parts[name] ??= fetch(FOLDER + name).then(it => it.text());
-    return parts[name];
-}
 
 const escaped = text => text.replaceAll("&", "&amp;").replaceAll("<", "&lt;").replaceAll('"', "&quot;");
 
@@ -19,16 +10,16 @@ function listed(names) {
     return [names.slice(0, -1).join(", "), names.at(-1)].filter(it => it).join(" and ");
 }
 
-/** Returns the page of a film of the match with this number, of robots with these names. */
-async function pageOf(film, number, names) {
-    const kept = keptOf(film, names);
+/** Returns the page of what is kept of a film of the match with this number. */
+function pageOf(kept, number) {
+    const files = globalThis.CROBOTS.player;
     const values = {
         title: escaped(`Match ${number}: ${listed(kept.robots.map(({name}) => name))}`),
-        style: await part("page.css"),
+        style: files["page.css"],
         match: JSON.stringify(kept).replaceAll("<", "\\u003c"),
-        script: (await Promise.all(SCRIPTS.map(part))).join(""),
+        script: SCRIPTS.map(name => files[name]).join(""),
     };
-    return (await part("page.html")).replace(/\$(\w+)/g, (whole, name) => values[name] ?? whole);
+    return files["page.html"].replace(/\$(\w+)/g, (whole, name) => values[name] ?? whole);
 }
 
 /** Fits a frame to the height of what it shows. */
@@ -41,13 +32,24 @@ function fit(frame) {
     resize();
 }
 
-/** Shows a film in a frame. */
+/** Shows a film in a frame. Returns how many cycles it has. */
 export async function showFilm(frame, film, number, names) {
-    const page = await pageOf(film, number, names);
+    const kept = keptOf(film, names);
+    const page = pageOf(kept, number);
     await new Promise(done => {
         frame.onload = done;
         frame.srcdoc = page;
         frame.hidden = false;
     });
     fit(frame);
+    return kept.cycles;
+}
+
+/** Goes to a cycle of the match that a frame shows, if it shows one. */
+export function jumpTo(frame, cycle) {
+    const slider = frame.contentDocument?.getElementById("slider");
+    if (slider) {
+        slider.value = cycle;
+        slider.dispatchEvent(new Event("input"));
+    }
 }

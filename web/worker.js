@@ -1,8 +1,14 @@
 // Runs the engine beside the page, so that the page stays alive while matches are played.
 import {Engine} from "./engine.js";
 
-const bytes = fetch("crobots.wasm").then(it => it.arrayBuffer());
-let engine = bytes.then(Engine.load);
+let bytes;
+let engine;
+
+/** Makes the engine of the module's bytes. */
+function start(module) {
+    bytes = module;
+    engine = Engine.load(bytes);
+}
 
 /** Does what a message asks for, and answers by its number. */
 async function answer({number, call, settings, robots}) {
@@ -12,10 +18,10 @@ async function answer({number, call, settings, robots}) {
     } catch (fault) {
         if (fault instanceof WebAssembly.RuntimeError) {
             // a call that was cut off leaves its stack; the next one gets a module of its own
-            engine = bytes.then(Engine.load);
+            start(bytes);
         }
         postMessage({number, fault: fault.message});
     }
 }
 
-onmessage = event => answer(event.data);
+onmessage = ({data}) => data.module ? start(data.module) : answer(data);

@@ -308,6 +308,16 @@ function roundStep(span, most) {
   return [1, 2, 5, 10].map((factor) => factor * power).find((step) => step >= least);
 }
 
+/** Where the first number after a limit stands in a sorted list. */
+function indexAfter(sorted, limit) {
+  let low = 0, high = sorted.length;
+  while (low < high) {
+    const middle = (low + high) >> 1;
+    if (sorted[middle] <= limit) low = middle + 1; else high = middle;
+  }
+  return low;
+}
+
 class DamageDrawing {
   constructor(canvas, colours) {
     this.canvas = canvas;
@@ -371,15 +381,12 @@ class DamageDrawing {
 
   /** A tick for each restart, above the line of no damage; at most one a column. */
   #restarts() {
-    const { context, match } = this;
-    let last = -1;
-    match.restarts.cycle.forEach((cycle, at) => {
-      const column = Math.round(this.#x(cycle));
-      if (column === last) return;
-      last = column;
-      context.fillStyle = this.colours.robots[match.restarts.robot[at] - 1];
-      context.fillRect(column, this.bottom - 6, 1.5, 6);
-    });
+    const { context, match } = this, { cycle: cycles, robot: robots } = match.restarts;
+    const column = match.cycles / (this.right - this.left);
+    for (let at = 0; at < cycles.length; at = indexAfter(cycles, cycles[at] + column)) {
+      context.fillStyle = this.colours.robots[robots[at] - 1];
+      context.fillRect(Math.round(this.#x(cycles[at])), this.bottom - 6, 1.5, 6);
+    }
   }
 
   /** The damage of a robot, faint after the present cycle. */

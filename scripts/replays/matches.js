@@ -6,7 +6,7 @@
 
 const UPDATE = 15;
 const TRAIL = 40 * UPDATE;
-const CAUSES = { words: "its stack is full", frames: "too many calls in calls", returned: "main returned" };
+const CAUSES = { words: "its stack is full", frames: "too many calls are open", returned: "main returned" };
 
 /** The sums of a list's beginnings: columns are kept as differences. */
 function running(differences) {

@@ -2,6 +2,7 @@
 
 from __future__ import annotations
 
+import getopt
 import importlib.machinery
 import importlib.util
 import itertools
@@ -17,6 +18,7 @@ from types import ModuleType
 HERE = os.path.dirname(os.path.abspath(__file__))
 ROBOTS = os.path.join(HERE, "..", "..", "robots")
 SECONDS = 120
+VECTORS = "CROBOTS_VECTORS"
 
 
 @dataclass
@@ -36,12 +38,11 @@ class Settings:
 
 @dataclass
 class Battle:
-    """Robots, by name and source, and settings."""
+    """Robots, by name and source, settings, and what is asked of the engine: run, list, places or film."""
 
     robots: list[tuple[str, bytes]]
     settings: Settings = field(default_factory=Settings)
-    is_listing: bool = False
-    is_film: bool = False
+    call: str = "run"
 
     def told(self, crobots: str) -> tuple[int, bytes, bytes]:
         """The status, text and faults of crobots."""
@@ -53,9 +54,41 @@ class Battle:
                 with open(path, "wb") as file:
                     file.write(source)
                 paths.append(path)
-            mode = "-c" if self.is_listing else f"-m{self.settings.matches}"
+            mode = "-c" if self.call == "list" else f"-m{self.settings.matches}"
             ran = subprocess.run([crobots, mode, *self.settings.words(), *paths], capture_output=True, check=False, timeout=SECONDS)
             return ran.returncode, ran.stdout, ran.stderr
+
+
+@dataclass
+class Vector(Battle):
+    """A battle beside which the answer is kept."""
+
+    answer: tuple[int, bytes, bytes] = (0, b"", b"")
+
+    @staticmethod
+    def read(folder: str) -> Vector:
+        """The vector of a folder: its words, its files, and what crobots has to write."""
+        def kept(*name: str) -> bytes:
+            with open(os.path.join(folder, *name), "rb") as file:
+                return file.read()
+
+        options, names = getopt.gnu_getopt(kept("args").decode().split("\n")[:-1], "cm:l:s:p:f:")
+        values = {"matches": "-m", "limit": "-l", "seed": "-s", "profile": "-p", "first": "-f"}
+        given = {name: int(value) for option, value in options for name, letter in values.items() if letter == option}
+        robots = [(name, kept("in", name)) for name in names]
+        return Vector(robots, Settings(**given), "list" if ("-c", "") in options else "run", (int(kept("status")), kept("stdout"), kept("stderr")))
+
+    def told(self, crobots: str) -> tuple[int, bytes, bytes]:
+        return self.answer
+
+
+def vectors(*kinds: str) -> list[Battle]:
+    """The vectors of these kinds, from the folder that CROBOTS_VECTORS names."""
+    top = os.environ.get(VECTORS, "")
+    if not top or not os.path.isdir(top):
+        print(f"left out: vectors, since {VECTORS} names no folder")
+        return []
+    return [Vector.read(os.path.join(top, kind, name)) for kind in kinds for name in sorted(os.listdir(os.path.join(top, kind)))]
 
 
 def outcome(report: bytes) -> tuple[int, list[int]]:
@@ -104,7 +137,13 @@ def random_battles(count: int, seed: int = 5) -> list[Battle]:
     return battles
 
 
+def deepest() -> bytes:
+    """The source in which most is begun and not ended: calls in the last operand of an operator of each level."""
+    begun = b"sin(1||1&&1|1^1&1==1<1<<1+1*"
+    return b"main(){" + begun * 62 + b"1" + b")" * 62 + b";}"
+
+
 def hostile_battles() -> list[Battle]:
     """The sources with each fault and at each limit, to be listed."""
     cases = script("hostile_sources").CASES
-    return [Battle([("a.r", case.source)], Settings(profile=case.profile), True) for case in cases if len(case.source) <= 1_048_576]
+    return [Battle([("a.r", case.source)], Settings(profile=case.profile), "list") for case in cases]

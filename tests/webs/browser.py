@@ -17,11 +17,11 @@ import time
 import zlib
 from typing import Any, Iterator
 
-from .battles import Battle, Settings, outcome, random_battles, sample_battles, samples, script
+from .battles import Battle, Settings, outcome, random_battles, sample_battles, samples, script, vectors
 
 SECONDS = 60
 DEBIAN = "/usr/lib/python3/dist-packages"
-WIDTHS = (390, 1280)
+WIDTHS = (360, 1200)
 
 
 def lacking() -> str:
@@ -123,6 +123,20 @@ class Page:
         self.wait("const it = document.getElementById('said').textContent; return it && it !== 'The battle runs.'")
         return self.text("report")
 
+    def press(self, *keys: str) -> None:
+        """Presses keys, by their names in selenium."""
+        from selenium.webdriver.common.keys import Keys  # pylint: disable=import-outside-toplevel,import-error
+
+        for key in keys:
+            self.driver.switch_to.active_element.send_keys(getattr(Keys, key))
+
+    def watch(self, number: int, cycle: int = 0) -> None:
+        """Watches a match from a cycle on."""
+        self.js("document.getElementById('film').srcdoc = ''; document.getElementById('said').textContent = '';"
+                "document.getElementById('watched').value = arguments[0]; document.getElementById('from').value = arguments[1];"
+                "document.getElementById('watch').click()", number, cycle)
+        self.wait("return document.getElementById('said').textContent.includes('can be watched')")
+
     def marked(self) -> tuple[str, list[str]]:
         """The diagnostic, and the numbers of the marked lines in sight."""
         self.js("document.querySelector('#diagnostic button').click()")
@@ -146,10 +160,10 @@ def diagnostics() -> dict[str, tuple[bytes, int]]:
     """For each diagnostic a source that has it, as short as can be, and its line."""
     found: dict[str, tuple[bytes, int]] = {}
     for case in script("hostile_sources").CASES:
-        if case.is_faulty and case.profile == 1 and (case.source.isascii() or b"\xc3" in case.source) and len(case.source) < 20_000:
+        if case.is_faulty and case.profile == 1 and case.source.isascii():
             _, line, text = case.lines[0].split(":")
             known = found.get(text.strip())
-            if not known or (int(line) > 1, -len(case.source)) > (known[1] > 1, -len(known[0])):
+            if not known or (1 < int(line) < 1000, -len(case.source)) > (1 < known[1] < 1000, -len(known[0])):
                 found[text.strip()] = (case.source, int(line))
     return found
 
@@ -162,9 +176,9 @@ def marks(page: Page) -> list[str]:
         page.show(Battle([("a.r", source)]))
         wanted = (f"Line {line}: {text}. Go there", [str(line)])
         got = page.marked()
-        if got != wanted and line <= source.count(b"\n") + 1:
+        if got != wanted:
             wrong.append(f"{source[:60]!r}: {got}, not {wanted}")
-    return wrong + ([] if len(found) >= 15 else [f"only {sorted(found)}"])
+    return wrong + ([] if len(found) == 16 else [f"{len(found)} diagnostics: {sorted(found)}"])
 
 
 def alive(page: Page, crobots: str) -> list[str]:
@@ -204,11 +218,12 @@ def watched(page: Page, crobots: str) -> list[str]:
         print("no match is watched: the page has no player")
         return []
     wrong = []
+    inside = "document.getElementById('film').contentDocument"
     for battle in sample_battles()[10:13]:
         page.show(battle)
-        page.js("document.getElementById('film').srcdoc = ''; document.getElementById('watched').value = 2; document.getElementById('watch').click()")
-        inside = "document.getElementById('film').contentDocument"
-        page.wait(f"return {inside}.getElementById('clock')?.textContent")
+        page.watch(2, 150)
+        begun = page.js(f"return {inside}.getElementById('clock').textContent")
+        wrong += [] if begun.startswith("cycle 150 of") else [f"it begins at {begun}"]
         page.js(f"{inside}.getElementById('to-end').click()")
         battle.settings.first = 2
         cycles, damages = outcome(battle.told(crobots)[1])
@@ -216,7 +231,118 @@ def watched(page: Page, crobots: str) -> list[str]:
         shown = page.js(f"return [...{inside}.querySelectorAll('[role=meter]')].map(it => Number(it.getAttribute('aria-valuenow')))")
         if clock != f"cycle {cycles:,} of {cycles:,}" or shown != damages:
             wrong.append(f"{clock} {shown}, and crobots {cycles} {damages}")
+    return wrong + restarts(page)
+
+
+def restarts(page: Page) -> list[str]:
+    """A long match in which a robot restarts all the time: each restart has its line, up to the last cycle."""
+    page.show(Battle([("idle.r", b"main(){while(1);}"), ("done.r", b"main()\n{\n}\n")], Settings(limit=300_000)))
+    page.watch(1, 300_000)
+    inside = "document.getElementById('film').contentDocument"
+    clock, events = page.js(f"return [{inside}.getElementById('clock').textContent, {inside}.getElementById('events').textContent]")
+    if clock != "cycle 300,000 of 300,000" or "restarts: main returned, in main, line 3" not in events:
+        return [f"{clock}: {events}"]
+    return []
+
+
+LOOKOUT = b"""int hits;
+main()
+{
+  int dx;
+  while (1) {
+    dx = scan(45, 10);
+    if (dx > 0) hits += cannon(45, dx);
+  }
+}
+"""
+# the lines of its instructions, by their addresses: as docs/stages.md has them
+LOOKOUT_LINES = [5, 5, *[6] * 6, *[7] * 10, 5, 5, 9, 9, 10]
+
+
+def listing(page: Page) -> list[str]:
+    """The listing has the line of each instruction, and leads to it; the line of the cursor is marked in it."""
+    page.show(Battle([("lookout.r", LOOKOUT)]))
+    page.wait("return document.querySelector('#code .address')")
+    lines = page.js("return [...document.querySelectorAll('#code > :not(.heading)')].map(it => Number(it.dataset.line))")
+    wrong = [] if lines == LOOKOUT_LINES else [f"lines {lines}"]
+    page.js("document.querySelectorAll('#code > :not(.heading)')[10].click()")
+    at = page.js("return document.querySelector('.CodeMirror').CodeMirror.getCursor().line")
+    marked = page.js("return [...document.querySelectorAll('#code .marked')].map(it => it.textContent)")
+    first = page.text("code")[:40]
+    if at != 6 or len(marked) != 10 or marked[0] != "7    8FETCH L0":
+        wrong.append(f"line {at + 1}, marked {marked}, {first}")
+    page.show(Battle([("a.r", b"main(){\nbreak; }")]))
+    return wrong + ([f"a faulty source has code: {page.text('code')}"] if page.text("code") else [])
+
+
+def keys(page: Page) -> list[str]:
+    """By keys alone: a row of the listing leads to its line and changes nothing, and the focus stays at a button pressed."""
+    source = samples()[2][1].decode()
+    page.show(Battle(samples()[2:4]))
+    page.js("document.getElementById('code').focus()")
+    page.press("ARROW_DOWN", *["ARROW_DOWN"] * 20, "ENTER")
+    chosen = page.js("return document.querySelector('#code [aria-selected=true]').dataset.line")
+    mirror = "document.querySelector('.CodeMirror').CodeMirror"
+    at, text = page.js(f"return [{mirror}.getCursor().line + 1, {mirror}.getValue()]")
+    wrong = [] if chosen == str(at) and text == source else [f"from a row of line {chosen} to line {at}"]
+    for button, said in (("run", "Done"), ("watch", "Match 1 can")):
+        page.js("document.getElementById(arguments[0]).focus()", button)
+        page.press("ENTER")
+        page.wait("return document.getElementById('said').textContent.startsWith(arguments[0])", said)
+        focus = page.js("return document.activeElement.id")
+        wrong += [] if focus == button else [f"after {button} the focus is at {focus!r}"]
     return wrong
+
+
+def named(page: Page) -> list[str]:
+    """Each control has a name that a screen reader says."""
+    page.show(Battle(samples()[:2]))
+    if not page.js("return document.getElementById('replay').hidden"):
+        page.watch(1)
+    tree = page.driver.execute_cdp_cmd("Accessibility.getFullAXTree", {})["nodes"]
+    roles = {"button", "textbox", "combobox", "spinbutton", "slider", "tab", "listbox", "option", "meter", "Iframe"}
+    return [f"{node['role']['value']} without a name: {node.get('nodeId')}" for node in tree
+            if not node["ignored"] and node["role"]["value"] in roles and not node.get("name", {}).get("value", "").strip()]
+
+
+def typed(page: Page, keys: str, diagnostic: str) -> None:
+    """Types at the place of the focus, until the robot is compiled."""
+    page.driver.switch_to.active_element.send_keys(keys)
+    page.wait("return document.getElementById('diagnostic').textContent.startsWith(arguments[0])", diagnostic)
+
+
+def fought(page: Page, crobots: str, robots: list[tuple[str, bytes]], end: str) -> list[str]:
+    """The battle of these robots, of which the first one ends so, is run and watched."""
+    wanted, report = Battle(robots).told(crobots)[1].decode(), page.run()
+    page.watch(1)
+    return [] if report == wanted and f"  1) {end} {robots[0][0]}" in report else [f"{report!r}, not {wanted!r} with {end}"]
+
+
+def story(page: Page, crobots: str, folder: str) -> list[str]:
+    """What someone does who has only a browser, with the page as a file: a robot is changed, its fault seen and mended; it
+    loses, another one wins; and the link is opened by someone else."""
+    other = Page(page.driver, "file://" + os.path.join(os.path.abspath(folder), "index.html"))
+    other.open()
+    other.js("localStorage.clear()")
+    other.open()
+    robots, weak = dict(samples()), "main() { while (1) drive(0, 100); "
+    other.js("const it = document.querySelector('.CodeMirror').CodeMirror; it.setValue(''); it.focus()")
+    # each bracket brings its other one, which the next key goes past
+    typed(other, weak + "for", "Line 1: reserved word.")
+    other.run()
+    wrong = [] if other.text("said") == "No match was played: a robot has a fault." else [other.text("said")]
+    typed(other, "\b\b\b}", "No fault.")
+    wrong += fought(other, crobots, [("hunter.r", f"{weak}}}".encode()), ("sniper.r", robots["sniper.r"])], "won 0 tied 0 lost 1")
+    other.js("const it = document.getElementById('sample'); it.value = 'centre.r'; it.dispatchEvent(new Event('change'))")
+    battle = [(name, robots[name]) for name in ("centre.r", "sniper.r")]
+    wrong += fought(other, crobots, battle, "won 1 tied 0 lost 0")
+    other.js("document.getElementById('link').click()")
+    other.wait("return document.getElementById('said').textContent.startsWith('The link')")
+    link = other.js("return location.hash")
+    with chromium() as fresh:
+        reader = Page(fresh, other.address)
+        reader.open(link)
+        return wrong + fought(reader, crobots, battle, "won 1 tied 0 lost 0") + console(reader)
 
 
 def stopped(page: Page, crobots: str) -> list[str]:
@@ -240,12 +366,12 @@ def older(page: Page) -> list[str]:
 
 def plain(page: Page, folder: str) -> list[str]:
     """Without CodeMirror there is a plain text field, and all else is as ever."""
-    with open(os.path.join(folder, "samples.json"), encoding="utf-8") as file:
+    with open(os.path.join(folder, "data.js"), encoding="utf-8") as file:
         kept = file.read()
     with tempfile.TemporaryDirectory() as place:
         shutil.copytree(folder, place, dirs_exist_ok=True)
-        shutil.rmtree(os.path.join(place, "codemirror"), ignore_errors=True)
-        with open(os.path.join(place, "samples.json"), "w", encoding="utf-8") as file:
+        shutil.rmtree(os.path.join(place, "codemirror"))
+        with open(os.path.join(place, "data.js"), "w", encoding="utf-8") as file:
             file.write(kept.replace('"editor": true', '"editor": false'))
         with served(place) as address:
             other = Page(page.driver, address)
@@ -271,11 +397,13 @@ def speed(page: Page) -> list[str]:
     """The first draw comes within half a second, and a match of 100,000 cycles within one."""
     page.open()
     drawn = page.js("return performance.getEntriesByName('first-contentful-paint')[0].startTime")
-    page.show(Battle([("a.r", b"main(){while(1)drive(9,9);}"), ("b.r", b"main(){int d;while(1){scan(d,10);d+=10;}}")], Settings(limit=100_000)))
-    page.run()
+    scanner = b"main(){int d;while(1){scan(d,10);d+=10;}}"
+    page.show(Battle([("a.r", scanner), ("b.r", scanner)], Settings(limit=100_000)))
+    report = page.run()
     took = float(page.text("said").split()[2])
     print(f"the page is drawn after {drawn:.0f} ms; 100,000 cycles take {took} s")
-    return ([f"first draw after {drawn} ms"] if drawn > 500 else []) + ([f"100,000 cycles in {took} s"] if took > 1 else [])
+    played = report.startswith("Match 1: cycles = 100000\n")
+    return ([f"first draw after {drawn} ms"] if drawn > 500 else []) + ([] if took <= 1 and played else [f"100,000 cycles in {took} s: {report}"])
 
 
 def console(page: Page) -> list[str]:
@@ -283,19 +411,24 @@ def console(page: Page) -> list[str]:
     return [entry["message"] for entry in page.driver.get_log("browser")]
 
 
-def results(crobots: str, folder: str) -> Iterator[tuple[str, list[str]]]:
+def results(crobots: str, _stages: str, folder: str) -> Iterator[tuple[str, list[str]]]:
     """The tests' names, and what is wrong."""
     with served(folder) as address, chromium() as driver:
         page = Page(driver, address)
         yield "speed", speed(page)
         yield "samples", reports(page, crobots, sample_battles())
-        yield "random robots", reports(page, crobots, random_battles(30, 6))
+        yield "vectors", reports(page, crobots, [it for it in vectors("battles", "profiles") if it.call == "run"])
+        yield "random robots", reports(page, crobots, random_battles(100, 6))
         yield "diagnostics", marks(page)
         yield "hostile sources", alive(page, crobots)
+        yield "listing", listing(page)
         yield "links", links(page, crobots)
         yield "watched matches", watched(page, crobots)
         yield "a stopped series", stopped(page, crobots)
         yield "widths", widths(page)
+        yield "keys", keys(page)
+        yield "names of controls", named(page)
+        yield "the page as a file", story(page, crobots, folder)
         yield "a plain text field", plain(page, folder)
         yield "an older browser", older(page)
         yield "console", console(page)

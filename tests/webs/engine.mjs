@@ -1,6 +1,6 @@
 // engine.mjs MODULE < JOBS > ANSWERS: runs jobs by the module alone, without a browser.
 //
-// JOBS is a list in JSON: each has `call` (run, list or film), `settings` and `robots`, whose sources are base64. An answer
+// JOBS is a list in JSON: each has `call` (run, list, places or film), `settings` and `robots`, whose sources are base64. An answer
 // has `ending`, `text` and `faults`, the last two in base64.
 import fs from "node:fs";
 import {Engine} from "../../web/engine.js";
@@ -9,9 +9,11 @@ const engine = await Engine.load(fs.readFileSync(process.argv[2]));
 
 function answer(job) {
     const robots = job.robots.map(({name, source}) => ({name, source: Buffer.from(source, "base64")}));
-    const {ending} = engine[job.call](job.settings, robots);
-    const [text, faults] = [engine.text, engine.faults].map(sheet => Buffer.from(engine.bytesOf(sheet)).toString("base64"));
-    return {ending, text, faults};
+    const {ending, text: film} = engine[job.call](job.settings, robots);
+    const [sheet, faults] = [engine.text, engine.faults].map(it => Buffer.from(engine.bytesOf(it)));
+    // a long film comes in parts, and the sheet has the last of them
+    const text = job.call === "film" ? Buffer.from(film) : sheet;
+    return {ending, text: text.toString("base64"), faults: faults.toString("base64")};
 }
 
 const jobs = JSON.parse(fs.readFileSync(0, "utf8"));

@@ -5,18 +5,25 @@ from __future__ import annotations
 import base64
 import json
 import os
+import re
 import shutil
 import subprocess
+import tempfile
 from dataclasses import replace
 from typing import Any, Iterator
 
-from .battles import Battle, Settings, hostile_battles, outcome, random_battles, sample_battles
+from .battles import Battle, Settings, deepest, hostile_battles, outcome, random_battles, sample_battles, samples, vectors
 
 HERE = os.path.dirname(os.path.abspath(__file__))
 WIDE = "--experimental-wasm-memory64"
 STILL = ("still.r", b"main(){}")
 MOST_SEED = 2**64 - 1
 SECONDS = 120
+MOST_BYTES = 400_000
+TOKEN = re.compile(rb"[A-Za-z_]\w*|\d+|<<=|>>=|\+\+|--|&&|\|\||[-+*/%&|^<>=!]=|<<|>>|[^\s\x1a]")
+# tokens that are no constants, but make some
+MADE_CONSTANTS = ("-", "!", "~", "++", "--", "else", "while", ";", "}", "&&", "||")
+STEPS = {"++": "+=", "--": "-="}
 
 
 def node() -> list[str]:
@@ -38,8 +45,7 @@ def job(battle: Battle) -> dict[str, Any]:
     """A battle as engine.mjs takes it."""
     settings = {**vars(battle.settings), "seed": str(battle.settings.seed)}
     robots = [{"name": name, "source": base64.b64encode(source).decode()} for name, source in battle.robots]
-    call = "film" if battle.is_film else "list" if battle.is_listing else "run"
-    return {"call": call, "settings": settings, "robots": robots}
+    return {"call": battle.call, "settings": settings, "robots": robots}
 
 
 def answers(folder: str, battles: list[Battle]) -> list[tuple[int, bytes, bytes]]:
@@ -101,7 +107,7 @@ def filmed(film: bytes) -> tuple[int, list[int], list[int]]:
 
 def films(crobots: str, folder: str) -> list[str]:
     """A film ends as the match's report says, and its events add up to the damages."""
-    battles = [replace(battle, is_film=True) for battle in sample_battles()[::3] + random_battles(40, 9)]
+    battles = [replace(battle, call="film") for battle in sample_battles()[::3] + random_battles(40, 9)]
     wrong = []
     for battle, (ending, film, faults) in zip(battles, answers(folder, battles), strict=True):
         cycles, damages = outcome(battle.told(crobots)[1])
@@ -110,12 +116,102 @@ def films(crobots: str, folder: str) -> list[str]:
     return wrong
 
 
-def results(crobots: str, folder: str) -> Iterator[tuple[str, list[str]]]:
+def long_films(folder: str) -> list[str]:
+    """A film that is longer than a sheet comes in parts, and has each row once."""
+    restarts = Battle([STILL, ("idle.r", b"main(){while(1);}")], Settings(limit=500_000), "film")
+    film = answers(folder, [restarts])[0]
+    cycles = [int(line.split("\t")[0]) for line in film[1].decode().splitlines() if "restart" in line]
+    # main(){} has a cycle for its CONST, and in place of its RETSUB a restart
+    if film[0] != 0 or cycles != [*range(2, 500_001, 2)] or filmed(film[1])[:2] != (500_000, [0, 0]):
+        return [f"status {film[0]}, {len(cycles)} restarts, {filmed(film[1])}"]
+    return []
+
+
+def placed(answer: tuple[int, bytes, bytes]) -> list[tuple[int, int]]:
+    """The lines and columns of an answer to `places`, by the addresses."""
+    rows = [line.split("\t") for line in answer[1].decode().splitlines()[1:]]
+    assert [int(row[0]) for row in rows] == [*range(len(rows))]
+    return [(int(row[3]), int(row[4])) for row in rows]
+
+
+def token_at(source: bytes, line: int, column: int) -> str:
+    """The token that begins at a place."""
+    found = TOKEN.match(source.split(b"\n")[line - 1], column - 1)
+    return found[0].decode() if found else ""
+
+
+def comes_from(instruction: str, token: str) -> bool:
+    """Whether an instruction of a listing may come from this token."""
+    word, _, operand = instruction.partition(" ")
+    is_name = token[:1].isalpha() or token[:1] == "_"
+    match word:
+        case "CONST":
+            return (token.lstrip("0") or "0") == operand if token.isdigit() else token in MADE_CONSTANTS
+        case "FETCH" | "FRAME":
+            return is_name or word == "FETCH" and token in STEPS
+        case "FCALL":
+            return is_name and (operand.isdigit() or token == operand)
+        case "STORE":
+            return STEPS.get(token, token) == operand.split()[1]
+        case "BINOP":
+            return {"!": ("==", "!"), "~": ("^", "~"), "-": ("-",)}.get(token, (token,)).count(operand) == 1
+        case "BRANCH":
+            return token in ("if", "else", "while", "&&", "||")
+    return token in {"RETSUB": ("return", "}"), "CHOP": (";", *STEPS), "TRUTH": ("&&", "||"), "NOP": ("",)}[word]
+
+
+def lines_of_code(stages: str, name: str, source: bytes, profile: int) -> list[int]:
+    """The line of each instruction as the program stages has it."""
+    with tempfile.TemporaryDirectory() as folder:
+        path = os.path.join(folder, name)
+        with open(path, "wb") as file:
+            file.write(source)
+        code = subprocess.run([stages, "--code", f"-p{profile}", path], capture_output=True, check=True, timeout=SECONDS).stdout
+    line, lines = 0, {}
+    for row in code.decode().splitlines():
+        if begin := re.match(r" *(\d+) \|", row):
+            line = int(begin[1])
+        elif made := re.match(r" {8} *(\d+) [A-Z]", row):
+            lines[int(made[1])] = line
+    return [lines[address] for address in range(len(lines))]
+
+
+def places(crobots: str, stages: str, folder: str) -> list[str]:
+    """Each instruction comes from a token that makes it, and from the line that stages tells."""
+    robots = samples() + [it for battle in random_battles(60, 11) for it in battle.robots]
+    sources = [(robot, profile) for robot in robots for profile in (1, 2)] + [(("deep.r", deepest()), 2)]
+    sources += [(it.robots[0], it.settings.profile) for it in hostile_battles() if it.told(crobots)[0] == 0]
+    asked = [Battle([robot], Settings(profile=profile), call) for robot, profile in sources for call in ("places", "list")]
+    answered, wrong = answers(folder, asked), []
+    for at in range(0, len(asked), 2):
+        (name, source), profile = asked[at].robots[0], asked[at].settings.profile
+        where, code = placed(answered[at]), re.findall(r"^[ \d]{5} (.*)$", answered[at + 1][1].decode(), re.MULTILINE)
+        if len(where) != len(code):
+            wrong.append(f"{name}: {len(where)} places for {len(code)} instructions")
+        for (line, column), instruction in zip(where, code):
+            token = token_at(source, line, column)
+            wrong += [] if comes_from(instruction, token) else [f"{name}:{line}:{column}: {instruction} from {token}"]
+        if [line for line, _ in where] != lines_of_code(stages, name, source, profile):
+            wrong.append(f"{name}, profile {profile}: lines other than those of stages")
+    return wrong
+
+
+def size(folder: str) -> list[str]:
+    """The module is small enough to be loaded at once."""
+    count = os.path.getsize(os.path.join(folder, "crobots.wasm"))
+    return [f"{count} bytes"] if count > MOST_BYTES else []
+
+
+def results(crobots: str, stages: str, folder: str) -> Iterator[tuple[str, list[str]]]:
     """The tests' names, and what is wrong."""
+    yield "size", size(folder)
     yield "samples", compared(crobots, folder, sample_battles())
-    yield "random robots", compared(crobots, folder, random_battles(60))
+    yield "vectors", compared(crobots, folder, vectors("listings", "faults", "battles", "profiles"))
+    yield "random robots", compared(crobots, folder, random_battles(100))
     yield "hostile sources", compared(crobots, folder, hostile_battles())
     yield "refused settings", refused(folder)
     yield "settings at limits", at_limits(crobots, folder)
     yield "a full sheet", full(crobots, folder)
     yield "films", films(crobots, folder)
+    yield "long films", long_films(folder)
+    yield "places", places(crobots, stages, folder)

@@ -10,22 +10,30 @@ use Rattle.arena.specs.Leg.{place_x, place_y, tried, hits_wall}
 use Rattle.arena.specs.Field.{Shot, Robot, Field, damage_of, is_alive, no_robot, robot_at, is_live}
 use Rattle.arena.specs.Collisions.{mover, collides, square, others, touches}
 use Rattle.arena.specs.Shots.{ring, in_air, due_at, bursts}
-use Rattle.arena.specs.Moved.{settled, moved_robot, moved}
+use Rattle.arena.specs.Moved.{leg_after, moved_robot, moved}
 use Rattle.arena.specs.Outlook.{Burst, burst_of, own_bursts, due, meets_wall, meets, next_leg, taken_by, taken, AddsUp}
 use Rattle.arena.proofs.SlotLaws.{sum-cons, totals, totals_same, both_more, shares}
 use Rattle.arena.proofs.Wear.{dead_is, worn_is}
 
 -- a robot after the update
-moved_at : (f : Field) (i : ℕ) → i < length f.robots → robot_at (moved f) i ≡ moved_robot (f.updates + 1) f.shots (touches (map mover f.robots) i) (robot_at f i)
+moved_at : (f : Field) (i : ℕ) → i < length f.robots →
+    robot_at (moved f) i ≡ moved_robot (f.updates + 1) f.shots (touches (map mover f.robots) i) (robot_at f i)
 unfolding robot_at moved
 moved_at f i inside =
-    get_or-map-range_with_len (λ k. moved_robot (f.updates + 1) f.shots (touches (map mover f.robots) k) (get_or f.robots k no_robot)) 0 (length f.robots) i i no_robot inside (omega arith)
+    get_or-map-range_with_len
+    (λ k. moved_robot (f.updates + 1) f.shots (touches (map mover f.robots) k) (get_or f.robots k no_robot)) 0
+    (length f.robots) i i no_robot inside (omega arith)
 
-live_takes : (r : Robot) (update : ℕ) (shots : List Shot) (touched : ℕ) → is_alive r ≡ true → damage_of (moved_robot update shots touched r) ≡
-    min (damage_of r + cond (hits_wall (tried r.leg)) 2 0 + 2 * touched + sum (bursts update shots (place_x (settled r.leg touched)) (place_y (settled r.leg touched)))) 100
+live_takes : (r : Robot) (update : ℕ) (shots : List Shot) (touched : ℕ) → is_alive r ≡ true →
+    damage_of (moved_robot update shots touched r) ≡
+    min
+    (damage_of r + cond (hits_wall (tried r.leg)) 2 0 + 2 * touched +
+    sum (bursts update shots (place_x (leg_after r.leg touched)) (place_y (leg_after r.leg touched)))) 100
 unfolding moved_robot damage_of
 live_takes r update shots touched live =
-    rw live (worn_is r.hurts r.leg touched (bursts update shots (place_x (settled r.leg touched)) (place_y (settled r.leg touched))))
+    rw live
+    (worn_is r.hurts r.leg touched
+    (bursts update shots (place_x (leg_after r.leg touched)) (place_y (leg_after r.leg touched))))
 
 -- counts, number by number
 with_first : {X : Type 0} (b : Bool) (x : X) (xs : List X) → length (cond b (x ∷ xs) xs) ≡ cond b 1 0 + length xs
@@ -35,14 +43,19 @@ with_first false x xs = omega arith
 count_range : (p : ℕ → Bool) (a n : ℕ) → length (filter p (range_with_len a n)) ≡ totals (λ k. cond (p (a + k)) 1 0) n
 count_range p a zero = refl
 count_range p a (suc n) =
-    let first : length (filter p (range_with_len a (suc n))) ≡ cond {A = ℕ} (p a) 1 0 + length (filter p (range_with_len (a + 1) n)) = with_first (p a) a (filter p (range_with_len (a + 1) n)) in
+    let first : length (filter p (range_with_len a (suc n))) ≡
+    cond {A = ℕ} (p a) 1 0 + length (filter p (range_with_len (a + 1) n)) =
+    with_first (p a) a (filter p (range_with_len (a + 1) n)) in
     let same : a ≡ a + 0 = omega arith in
     let here = ap (λ (j : ℕ). cond {A = ℕ} (p j) 1 0) same in
     let rest = count_range p (a + 1) n in
-    let on = totals_same (λ k. cond (p (a + 1 + k)) 1 0) (λ k. cond (p (a + suc k)) 1 0) n (λ k l. let next : a + 1 + k ≡ a + suc k = omega arith in ap (λ (j : ℕ). cond {A = ℕ} (p j) 1 0) next) in
+    let on =
+    totals_same (λ k. cond (p (a + 1 + k)) 1 0) (λ k. cond (p (a + suc k)) 1 0) n
+    (λ k l. let next : a + 1 + k ≡ a + suc k = omega arith in ap (λ (j : ℕ). cond {A = ℕ} (p j) 1 0) next) in
     omega (arith, first, here, rest, on)
 
-count_all : {X : Type 0} (p : X → Bool) (xs : List X) (d : X) → length (filter p xs) ≡ totals (λ k. cond (p (get_or xs k d)) 1 0) (length xs)
+count_all : {X : Type 0} (p : X → Bool) (xs : List X) (d : X) →
+    length (filter p xs) ≡ totals (λ k. cond (p (get_or xs k d)) 1 0) (length xs)
 count_all p [] d = refl
 count_all p (x ∷ xs) d =
     let first = with_first (p x) x (filter p xs) in
@@ -63,80 +76,109 @@ others_none {X = X} (suc i) = let on : suc i + 1 ≡ suc (suc i) = omega arith i
 
 others_rest : {X : Type 0} (x : X) (xs : List X) (i : ℕ) → others (x ∷ xs) (suc i) ≡ x ∷ others xs i
 unfolding others
-others_rest x xs i = let on : suc i + 1 ≡ suc (i + 1) = omega arith in ap (λ (n : ℕ). x ∷ (take i xs ++ drop n (x ∷ xs))) on
+others_rest x xs i =
+    let on : suc i + 1 ≡ suc (i + 1) = omega arith in ap (λ (n : ℕ). x ∷ (take i xs ++ drop n (x ∷ xs))) on
 
 others_first : {X : Type 0} (x : X) (xs : List X) → others (x ∷ xs) 0 ≡ xs
 unfolding others
 others_first x xs = refl
 
-count_others : {X : Type 0} (p : X → Bool) (xs : List X) (d : X) (i : ℕ) → length (filter p (others xs i)) ≡ totals (λ k. cond (not (i == k) && p (get_or xs k d)) 1 0) (length xs)
+count_others : {X : Type 0} (p : X → Bool) (xs : List X) (d : X) (i : ℕ) →
+    length (filter p (others xs i)) ≡ totals (λ k. cond (not (i == k) && p (get_or xs k d)) 1 0) (length xs)
 count_others p [] d i = ap (λ l. length (filter p l)) (others_none i)
 count_others p (x ∷ xs) d zero =
     let first = ap (λ l. length (filter p l)) (others_first x xs) in
     let rest = count_all p xs d in
-    let on = totals_same (λ k. cond (p (get_or xs k d)) 1 0) (λ k. cond (not (0 == suc k) && p (get_or xs k d)) 1 0) (length xs) (λ k l. ap (λ b. cond {A = ℕ} (not b && p (get_or xs k d)) 1 0) (sym (is_other k))) in
-    let whole : length (filter p (others (x ∷ xs) 0)) ≡ 0 + totals (λ k. cond (not (0 == suc k) && p (get_or xs k d)) 1 0) (length xs) = omega (arith, first, rest, on) in
+    let on =
+    totals_same (λ k. cond (p (get_or xs k d)) 1 0) (λ k. cond (not (0 == suc k) && p (get_or xs k d)) 1 0)
+    (length xs) (λ k l. ap (λ b. cond {A = ℕ} (not b && p (get_or xs k d)) 1 0) (sym (is_other k))) in
+    let whole : length (filter p (others (x ∷ xs) 0)) ≡
+    0 + totals (λ k. cond (not (0 == suc k) && p (get_or xs k d)) 1 0) (length xs) =
+    omega (arith, first, rest, on) in
     whole
 count_others p (x ∷ xs) d (suc i) =
     let first = ap (λ l. length (filter p l)) (others_rest x xs i) ∙ with_first (p x) x (filter p (others xs i)) in
     let here = ap (λ b. cond {A = ℕ} (not b && p x) 1 0) (sym (is_first i)) in
     let rest = count_others p xs d i in
-    let on = totals_same (λ k. cond (not (i == k) && p (get_or xs k d)) 1 0) (λ k. cond (not (suc i == suc k) && p (get_or xs k d)) 1 0) (length xs) (λ k l. ap (λ b. cond {A = ℕ} (not b && p (get_or xs k d)) 1 0) (sym (both_more i k))) in
+    let on =
+    totals_same (λ k. cond (not (i == k) && p (get_or xs k d)) 1 0)
+    (λ k. cond (not (suc i == suc k) && p (get_or xs k d)) 1 0) (length xs)
+    (λ k l. ap (λ b. cond {A = ℕ} (not b && p (get_or xs k d)) 1 0) (sym (both_more i k))) in
     omega (arith, first, here, rest, on)
 
 -- the robots that one touches are those that it meets
-mover_at : (f : Field) (k : ℕ) → k < length f.robots → get_or (map mover f.robots) k (mover no_robot) ≡ mover (robot_at f k)
+mover_at : (f : Field) (k : ℕ) → k < length f.robots →
+    get_or (map mover f.robots) k (mover no_robot) ≡ mover (robot_at f k)
 unfolding robot_at
 mover_at f k inside = get_or-map mover f.robots k no_robot (mover no_robot) inside
 
-touches_are_met : (f : Field) (i : ℕ) → i < length f.robots → touches (map mover f.robots) i ≡ count_by (meets f i) (range_with_len 0 (length f.robots))
+touches_are_met : (f : Field) (i : ℕ) → i < length f.robots →
+    touches (map mover f.robots) i ≡ count_by (meets f i) (range_with_len 0 (length f.robots))
 unfolding touches meets
 touches_are_met f i inside =
     let ms = map mover f.robots in
     let d = mover no_robot in
     let p = collides (get_or ms i d) in
     let n = length f.robots in
-    sym (length-filter p (others ms i)) ∙ count_others p ms d i ∙ ap (totals (λ k. cond (not (i == k) && p (get_or ms k d)) 1 0)) (length-map f.robots mover)
+    sym (length-filter p (others ms i)) ∙ count_others p ms d i ∙
+    ap (totals (λ k. cond (not (i == k) && p (get_or ms k d)) 1 0)) (length-map f.robots mover)
     ∙ totals_same (λ k. cond (not (i == k) && p (get_or ms k d)) 1 0) (λ k. cond (meets f i (0 + k)) 1 0) n
-    (λ k l. ap (λ m. cond (not (i == k) && collides (get_or ms i d) m) 1 0) (mover_at f k l) ∙ ap (λ m. cond (not (i == k) && collides m (mover (robot_at f k))) 1 0) (mover_at f i inside) ∙ ap (λ j. cond (meets f i j) 1 0) (omega arith))
+    (λ k l. ap (λ m. cond (not (i == k) && collides (get_or ms i d) m) 1 0) (mover_at f k l) ∙
+    ap (λ m. cond (not (i == k) && collides m (mover (robot_at f k))) 1 0) (mover_at f i inside) ∙
+    ap (λ j. cond (meets f i j) 1 0) (omega arith))
     ∙ sym (count_range (meets f i) 0 n) ∙ length-filter (meets f i) (range_with_len 0 n)
 
 -- the bursts that are due take what all shots take
-flat_sum : (g : Burst → ℕ) (h : ℕ → List Burst) (a n : ℕ) → sum (map g (flat_map h (range_with_len a n))) ≡ totals (λ k. sum (map g (h (a + k)))) n
+flat_sum : (g : Burst → ℕ) (h : ℕ → List Burst) (a n : ℕ) →
+    sum (map g (flat_map h (range_with_len a n))) ≡ totals (λ k. sum (map g (h (a + k)))) n
 flat_sum g h a zero = refl
 flat_sum g h a (suc n) =
-    let parts : sum (map g (flat_map h (range_with_len a (suc n)))) ≡ sum (map g (h a)) + sum (map g (flat_map h (range_with_len (a + 1) n))) =
-    ap sum (map-append g (h a) (flat_map h (range_with_len (a + 1) n))) ∙ sum_by-append (λ (x : ℕ). x) (map g (h a)) (map g (flat_map h (range_with_len (a + 1) n))) in
+    let parts : sum (map g (flat_map h (range_with_len a (suc n)))) ≡
+    sum (map g (h a)) + sum (map g (flat_map h (range_with_len (a + 1) n))) =
+    ap sum (map-append g (h a) (flat_map h (range_with_len (a + 1) n))) ∙
+    sum_by-append (λ (x : ℕ). x) (map g (h a)) (map g (flat_map h (range_with_len (a + 1) n))) in
     let same : a ≡ a + 0 = omega arith in
     let here = ap (λ (j : ℕ). sum (map g (h j))) same in
     let rest = flat_sum g h (a + 1) n in
-    let on = totals_same (λ k. sum (map g (h (a + 1 + k)))) (λ k. sum (map g (h (a + suc k)))) n (λ k l. let next : a + 1 + k ≡ a + suc k = omega arith in ap (λ (j : ℕ). sum (map g (h j))) next) in
+    let on =
+    totals_same (λ k. sum (map g (h (a + 1 + k)))) (λ k. sum (map g (h (a + suc k)))) n
+    (λ k l. let next : a + 1 + k ≡ a + suc k = omega arith in ap (λ (j : ℕ). sum (map g (h j))) next) in
     omega (arith, parts, here, rest, on)
 
-due_takes : (f : Field) (x y : ℕ) → All (λ s. s.owner < length f.robots) f.shots → sum (map (λ b. ring (square x y b.x b.y)) (due f)) ≡ sum (bursts (f.updates + 1) f.shots x y)
+due_takes : (f : Field) (x y : ℕ) → All (λ s. s.owner < length f.robots) f.shots →
+    sum (map (λ b. ring (square x y b.x b.y)) (due f)) ≡ sum (bursts (f.updates + 1) f.shots x y)
 unfolding due own_bursts burst_of bursts
 due_takes f x y owned =
     let update = f.updates + 1 in
     let n = length f.robots in
     let g = λ (b : Burst). ring (square x y b.x b.y) in
     flat_sum g (own_bursts update f.updates f.shots) 0 n
-    ∙ totals_same (λ k. sum (map g (own_bursts update f.updates f.shots (0 + k)))) (λ k. sum (bursts update (in_air f.updates k f.shots) x y)) n
-    (λ k l. let same : 0 + k ≡ k = omega arith in ap (λ (j : ℕ). sum (map g (own_bursts update f.updates f.shots j))) same ∙ ap sum (map-map g burst_of (due_at update (in_air f.updates k f.shots))))
+    ∙
+    totals_same (λ k. sum (map g (own_bursts update f.updates f.shots (0 + k))))
+    (λ k. sum (bursts update (in_air f.updates k f.shots) x y)) n
+    (λ k l.
+    let same : 0 + k ≡ k = omega arith in ap (λ (j : ℕ). sum (map g (own_bursts update f.updates f.shots j))) same ∙
+    ap sum (map-map g burst_of (due_at update (in_air f.updates k f.shots))))
     ∙ shares f.updates update x y n f.shots refl owned
 
-taken_are : (f : Field) (i : ℕ) (bs : List Burst) → is_live f i ≡ true → map (taken_by f i) bs ≡ map (λ b. ring (square (place_x (next_leg f i)) (place_y (next_leg f i)) b.x b.y)) bs
+taken_are : (f : Field) (i : ℕ) (bs : List Burst) → is_live f i ≡ true →
+    map (taken_by f i) bs ≡ map (λ b. ring (square (place_x (next_leg f i)) (place_y (next_leg f i)) b.x b.y)) bs
 unfolding taken_by
 taken_are f i [] live = refl
-taken_are f i (b ∷ bs) live = rw live (ap (λ l. ring (square (place_x (next_leg f i)) (place_y (next_leg f i)) b.x b.y) ∷ l) (taken_are f i bs live))
+taken_are f i (b ∷ bs) live =
+    rw live
+    (ap (λ l. ring (square (place_x (next_leg f i)) (place_y (next_leg f i)) b.x b.y) ∷ l) (taken_are f i bs live))
 
-live_adds_up : (f : Field) (i : ℕ) → i < length f.robots → All (λ s. s.owner < length f.robots) f.shots → is_live f i ≡ true → damage_of (robot_at (moved f) i) ≡ min (damage_of (robot_at f i) + taken f i) 100
+live_adds_up : (f : Field) (i : ℕ) → i < length f.robots → All (λ s. s.owner < length f.robots) f.shots →
+    is_live f i ≡ true → damage_of (robot_at (moved f) i) ≡ min (damage_of (robot_at f i) + taken f i) 100
 unfolding is_live taken meets_wall next_leg
 live_adds_up f i inside owned live =
     let r = robot_at f i in
     let touched = touches (map mover f.robots) i in
-    let leg = settled r.leg touched in
+    let leg = leg_after r.leg touched in
     let after = ap damage_of (moved_at f i inside) ∙ live_takes r (f.updates + 1) f.shots touched live in
-    let wall : cond {A = ℕ} (is_alive r && hits_wall (tried r.leg)) 2 0 ≡ cond {A = ℕ} (hits_wall (tried r.leg)) 2 0 = rw live refl in
+    let wall : cond {A = ℕ} (is_alive r && hits_wall (tried r.leg)) 2 0 ≡ cond {A = ℕ} (hits_wall (tried r.leg)) 2 0 =
+    rw live refl in
     let met = touches_are_met f i inside in
     let burst = ap sum (taken_are f i (due f) live) ∙ due_takes f (place_x leg) (place_y leg) owned in
     omega (arith, after, wall, met, burst)
@@ -162,12 +204,15 @@ none_taken f i (b ∷ bs) dead =
     let both = sum-cons (taken_by f i b) (map (taken_by f i) bs) in
     omega arith
 
-dead_adds_up : (f : Field) (i : ℕ) → i < length f.robots → is_live f i ≡ false → damage_of (robot_at (moved f) i) ≡ min (damage_of (robot_at f i) + taken f i) 100
+dead_adds_up : (f : Field) (i : ℕ) → i < length f.robots → is_live f i ≡ false →
+    damage_of (robot_at (moved f) i) ≡ min (damage_of (robot_at f i) + taken f i) 100
 unfolding is_live taken meets_wall damage_of
 dead_adds_up f i inside dead =
     let r = robot_at f i in
     let ks = range_with_len 0 (length f.robots) in
-    let after = ap damage_of (moved_at f i inside ∙ sym (dead_is r (f.updates + 1) f.shots (touches (map mover f.robots) i) dead)) in
+    let after =
+    ap damage_of (moved_at f i inside ∙ sym (dead_is r (f.updates + 1) f.shots (touches (map mover f.robots) i) dead))
+    in
     let wall : cond {A = ℕ} (is_alive r && hits_wall (tried r.leg)) 2 0 ≡ 0 = rw dead refl in
     let met : count_by (meets f i) ks ≡ 0 = sym (length-filter (meets f i) ks) ∙ none_met f i ks dead in
     let burst = none_taken f i (due f) dead in
@@ -176,6 +221,7 @@ dead_adds_up f i inside dead =
 pub adds_up : (f : Field) → All (λ s. s.owner < length f.robots) f.shots → AddsUp f
 adds_up f owned i inside = by_life (is_live f i) refl
   where
-    by_life : (live : Bool) → is_live f i ≡ live → damage_of (robot_at (moved f) i) ≡ min (damage_of (robot_at f i) + taken f i) 100
+    by_life : (live : Bool) → is_live f i ≡ live →
+        damage_of (robot_at (moved f) i) ≡ min (damage_of (robot_at f i) + taken f i) 100
     by_life true e = live_adds_up f i inside owned e
     by_life false e = dead_adds_up f i inside e

@@ -18,8 +18,10 @@ abbrev pub gap_at : List Body → ℕ → ℕ → ℕ
 gap_at robots a b = gap (get_or robots a none).track (get_or robots b none).track
 
 -- one robot more has such a gap to those after it
-pub gaps_more : (robots : List Body) (i : ℕ) (m : Body) (before after : ℕ) → after ≤ before → i < length robots → m ≡ get_or robots i m → ((a b : ℕ) → a < i → a < b → b < length robots → before ≤ gap_at robots a b) →
-    All (λ (other : Body). after ≤ gap m.track other.track) (drop (i + 1) robots) → (a b : ℕ) → a < i + 1 → a < b → b < length robots → after ≤ gap_at robots a b
+pub gaps_more : (robots : List Body) (i : ℕ) (m : Body) (before after : ℕ) → after ≤ before → i < length robots →
+    m ≡ get_or robots i m → ((a b : ℕ) → a < i → a < b → b < length robots → before ≤ gap_at robots a b) →
+    All (λ (other : Body). after ≤ gap m.track other.track) (drop (i + 1) robots) → (a b : ℕ) → a < i + 1 → a < b →
+    b < length robots → after ≤ gap_at robots a b
 gaps_more robots i m before after less_now inside at earlier later a b l less last = by_place (cases_lt a i)
   where
     by_place : ((a < i) ⊎ (i ≤ a)) → after ≤ gap_at robots a b
@@ -30,8 +32,11 @@ gaps_more robots i m before after less_now inside at earlier later a b l less la
         let b_is : i + 1 + k ≡ b = omega arith in
         let here : m ≡ get_or robots i none = get_or_read robots i m inside at none in
         let apart = later k none (omega (arith, length-drop (i + 1) robots)) in
-        let there : get_or (drop (i + 1) robots) k none ≡ get_or robots b none = get_or-drop (i + 1) robots k none ∙ ap (λ n. get_or robots n none) b_is in
-        let both : after ≤ gap_at robots i b = subst (λ (x : Body). after ≤ gap (get_or robots i none).track x.track) there (subst (λ (x : Body). after ≤ gap x.track (get_or (drop (i + 1) robots) k none).track) here apart) in
+        let there : get_or (drop (i + 1) robots) k none ≡ get_or robots b none =
+        get_or-drop (i + 1) robots k none ∙ ap (λ n. get_or robots n none) b_is in
+        let both : after ≤ gap_at robots i b =
+        subst (λ (x : Body). after ≤ gap (get_or robots i none).track x.track) there
+        (subst (λ (x : Body). after ≤ gap x.track (get_or (drop (i + 1) robots) k none).track) here apart) in
         subst (λ n. after ≤ gap_at robots n b) (sym same) both
 
 -- nothing is said of no updates
@@ -39,10 +44,17 @@ pub far_none : (bodies : List Body) → FarFor 0 bodies
 far_none bodies = record { gaps = λ a b less last some. absurd (omega arith) }
 
 pub far_one : (updates : ℕ) (bodies : List Body) → (updates ≡ 0 → ⊥) → FarFor updates bodies → FarFor 1 bodies
-far_one updates bodies some far = record { gaps = λ a b less last one. let more : 0 < updates = omega (arith, some) in omega (arith, far.gaps a b less last more) }
+far_one updates bodies some far =
+    record {
+      gaps =
+          λ a b less last one. let more : 0 <
+          updates = omega (arith, some) in omega (arith, far.gaps a b less last more);
+    }
 
 -- after an update there is one less to go
-pub far_less : (updates : ℕ) (bodies now : List Body) → length now ≡ length bodies → ((k : ℕ) → k < length bodies → IsNearby (get_or bodies k none).track (get_or now k none).track) → FarFor updates bodies → FarFor (updates - 1) now
+pub far_less : (updates : ℕ) (bodies now : List Body) → length now ≡ length bodies →
+    ((k : ℕ) → k < length bodies → IsNearby (get_or bodies k none).track (get_or now k none).track) →
+    FarFor updates bodies → FarFor (updates - 1) now
 far_less updates bodies now size nearby far = record {
   gaps = λ a b less last some.
       let last_was : b < length bodies = omega (arith, last, size) in
@@ -52,7 +64,9 @@ far_less updates bodies now size nearby far = record {
 }
 
 -- robots that are where they were are as far from each other as they were
-pub far_same : (updates : ℕ) (bodies now : List Body) → length now ≡ length bodies → ((k : ℕ) → k < length bodies → IsAtPlace (get_or bodies k none).track (get_or now k none).track) → FarFor updates bodies → FarFor updates now
+pub far_same : (updates : ℕ) (bodies now : List Body) → length now ≡ length bodies →
+    ((k : ℕ) → k < length bodies → IsAtPlace (get_or bodies k none).track (get_or now k none).track) →
+    FarFor updates bodies → FarFor updates now
 far_same updates bodies now size places far = record {
   gaps = λ a b less last some.
       let last_was : b < length bodies = omega (arith, last, size) in
@@ -65,19 +79,26 @@ same_place : (t : Track) → IsAtPlace t t
 same_place t = record { on_x = refl; on_y = refl }
 
 -- one robot is written, at its place
-pub far_set : (updates : ℕ) (bodies : List Body) (i : ℕ) (b : Body) → i < length bodies → IsAtPlace (get_or bodies i none).track b.track → FarFor updates bodies → FarFor updates (set bodies i b)
-far_set updates bodies i b inside place far = far_same updates bodies (set bodies i b) (length-set bodies i b) (λ k l. by_place k (cases_lt k i) (cases_lt i k)) far
+pub far_set : (updates : ℕ) (bodies : List Body) (i : ℕ) (b : Body) → i < length bodies →
+    IsAtPlace (get_or bodies i none).track b.track → FarFor updates bodies → FarFor updates (set bodies i b)
+far_set updates bodies i b inside place far =
+    far_same updates bodies (set bodies i b) (length-set bodies i b) (λ k l. by_place k (cases_lt k i) (cases_lt i k))
+    far
   where
     other : (k : ℕ) → (k ≡ i → ⊥) → IsAtPlace (get_or bodies k none).track (get_or (set bodies i b) k none).track
-    other k differs = subst (λ (x : Body). IsAtPlace (get_or bodies k none).track x.track) (sym (get_or-set_other bodies i k b none differs)) (same_place (get_or bodies k none).track)
+    other k differs =
+        subst (λ (x : Body). IsAtPlace (get_or bodies k none).track x.track)
+        (sym (get_or-set_other bodies i k b none differs)) (same_place (get_or bodies k none).track)
 
-    by_place : (k : ℕ) → ((k < i) ⊎ (i ≤ k)) → ((i < k) ⊎ (k ≤ i)) → IsAtPlace (get_or bodies k none).track (get_or (set bodies i b) k none).track
+    by_place : (k : ℕ) → ((k < i) ⊎ (i ≤ k)) → ((i < k) ⊎ (k ≤ i)) →
+        IsAtPlace (get_or bodies k none).track (get_or (set bodies i b) k none).track
     by_place k (inl before) _ = other k (λ e. absurd (omega arith))
     by_place k (inr _) (inl after) = other k (λ e. absurd (omega arith))
     by_place k (inr not_before) (inr not_after) =
         let same : i ≡ k = omega arith in
         subst (λ j. IsAtPlace (get_or bodies j none).track (get_or (set bodies i b) j none).track) same
-        (subst (λ (x : Body). IsAtPlace (get_or bodies i none).track x.track) (sym (get_or-set_same bodies i b none inside)) place)
+        (subst (λ (x : Body). IsAtPlace (get_or bodies i none).track x.track)
+        (sym (get_or-set_same bodies i b none inside)) place)
 
 and_false : (a : Bool) → (a && false) ≡ false
 and_false true = refl
@@ -94,7 +115,8 @@ far_on_y a b far =
     let off : nat_lt (abs_diff a.y b.y) 10 ≡ false = grind (arith, nat_tests) in
     rw off (and_false (nat_lt (abs_diff a.x b.x) 10))
 
-not_close : (a b : Mover) (from_a from_b to_a to_b : Track) → a.x ≡ to_a.x → a.y ≡ to_a.y → b.x ≡ to_b.x → b.y ≡ to_b.y → IsNearby from_a to_a → IsNearby from_b to_b → 210 ≤ gap from_a from_b → is_close a b ≡ false
+not_close : (a b : Mover) (from_a from_b to_a to_b : Track) → a.x ≡ to_a.x → a.y ≡ to_a.y → b.x ≡ to_b.x →
+    b.y ≡ to_b.y → IsNearby from_a to_a → IsNearby from_b to_b → 210 ≤ gap from_a from_b → is_close a b ≡ false
 not_close a b from_a from_b to_a to_b ax ay bx by_ near_a near_b far = by_axis (cases_lt (abs_diff a.x b.x) 10)
   where
     by_axis : ((abs_diff a.x b.x < 10) ⊎ (10 ≤ abs_diff a.x b.x)) → is_close a b ≡ false
@@ -104,10 +126,14 @@ not_close a b from_a from_b to_a to_b ax ay bx by_ near_a near_b far = by_axis (
 -- where a robot drives
 goes_to : (r : Robot) (m : Mover) (b : Body) → m ≡ mover r → b ≡ ahead r → (m.x ≡ b.track.x) × (m.y ≡ b.track.y)
 unfolding mover ahead track_of
-goes_to r m b p q = (ap (λ (m : Mover). m.x) p ∙ sym (ap (λ (b : Body). b.track.x) q), ap (λ (m : Mover). m.y) p ∙ sym (ap (λ (b : Body). b.track.y) q))
+goes_to r m b p q = (
+  ap (λ (m : Mover). m.x) p ∙ sym (ap (λ (b : Body). b.track.x) q),
+  ap (λ (m : Mover). m.y) p ∙ sym (ap (λ (b : Body). b.track.y) q),
+)
 
 -- if all are far from each other, none touches another
-pub calm : (f : Field) (robots now : List Body) → length robots ≡ length f.robots → now ≡ map ahead f.robots → ((k : ℕ) → k < length robots → IsNearby (get_or robots k none).track (get_or now k none).track) →
+pub calm : (f : Field) (robots now : List Body) → length robots ≡ length f.robots → now ≡ map ahead f.robots →
+    ((k : ℕ) → k < length robots → IsNearby (get_or robots k none).track (get_or now k none).track) →
     FarFor 1 robots → (i : ℕ) → i < length f.robots → touches (map mover f.robots) i ≡ 0
 calm f robots now size e nearby far i inside =
     let count = length-map f.robots mover in
@@ -115,6 +141,13 @@ calm f robots now size e nearby far i inside =
     (λ a b less last.
     let b_in : b < length f.robots = omega (arith, last, count) in
     let a_in : a < length f.robots = omega (arith, less, b_in) in
-    let a_goes = goes_to (get_or f.robots a no_robot) (get_or (map mover f.robots) a (mover no_robot)) (get_or now a none) (get_or-map mover f.robots a no_robot (mover no_robot) a_in) (ap (λ l. get_or l a none) e ∙ get_or-map ahead f.robots a no_robot none a_in) in
-    let b_goes = goes_to (get_or f.robots b no_robot) (get_or (map mover f.robots) b (mover no_robot)) (get_or now b none) (get_or-map mover f.robots b no_robot (mover no_robot) b_in) (ap (λ l. get_or l b none) e ∙ get_or-map ahead f.robots b no_robot none b_in) in
-    not_close _ _ _ _ _ _ a_goes.0 a_goes.1 b_goes.0 b_goes.1 (nearby a (omega (arith, size, a_in))) (nearby b (omega (arith, size, b_in))) (far.gaps a b less (omega (arith, size, b_in)) (omega arith)))
+    let a_goes =
+    goes_to (get_or f.robots a no_robot) (get_or (map mover f.robots) a (mover no_robot)) (get_or now a none)
+    (get_or-map mover f.robots a no_robot (mover no_robot) a_in)
+    (ap (λ l. get_or l a none) e ∙ get_or-map ahead f.robots a no_robot none a_in) in
+    let b_goes =
+    goes_to (get_or f.robots b no_robot) (get_or (map mover f.robots) b (mover no_robot)) (get_or now b none)
+    (get_or-map mover f.robots b no_robot (mover no_robot) b_in)
+    (ap (λ l. get_or l b none) e ∙ get_or-map ahead f.robots b no_robot none b_in) in
+    not_close _ _ _ _ _ _ a_goes.0 a_goes.1 b_goes.0 b_goes.1 (nearby a (omega (arith, size, a_in)))
+    (nearby b (omega (arith, size, b_in))) (far.gaps a b less (omega (arith, size, b_in)) (omega arith)))

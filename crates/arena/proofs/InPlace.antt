@@ -18,15 +18,18 @@ abbrev pub none : Body
 none = body_of no_robot
 
 -- what holds of those so far holds of one more
-pub one_more : (P : ℕ → Body → Type 0) (now : List Body) (i : ℕ) (b : Body) → i < length now → ((k : ℕ) → k < i → P k (get_or now k none)) → P i b →
+pub one_more : (P : ℕ → Body → Type 0) (now : List Body) (i : ℕ) (b : Body) → i < length now →
+    ((k : ℕ) → k < i → P k (get_or now k none)) → P i b →
     (k : ℕ) → k < i + 1 → P k (get_or (set now i b) k none)
 one_more P now i b inside done here k l = by_place (cases_lt k i)
   where
     by_place : ((k < i) ⊎ (i ≤ k)) → P k (get_or (set now i b) k none)
-    by_place (inl before) = subst (P k) (sym (get_or-set_other now i k b none (λ e. absurd (omega arith)))) (done k before)
+    by_place (inl before) =
+        subst (P k) (sym (get_or-set_other now i k b none (λ e. absurd (omega arith)))) (done k before)
     by_place (inr not) =
         let same : i ≡ k = omega arith in
-        subst (λ j. P j (get_or (set now i b) j none)) same (subst (P i) (sym (get_or-set_same now i b none inside)) here)
+        subst (λ j. P j (get_or (set now i b) j none)) same
+        (subst (P i) (sym (get_or-set_same now i b none inside)) here)
 
 -- and the others stay
 pub others_stay : (now old : List Body) (i : ℕ) (b : Body) → ((k : ℕ) → i ≤ k → get_or now k none ≡ get_or old k none) →
@@ -34,25 +37,33 @@ pub others_stay : (now old : List Body) (i : ℕ) (b : Body) → ((k : ℕ) → 
 others_stay now old i b rest k l = get_or-set_other now i k b none (λ e. absurd (omega arith)) ∙ rest k (omega arith)
 
 -- at the end all are mapped
-pub all_mapped : (f : Robot → Body) (rs : List Robot) (now : List Body) → length now ≡ length rs → ((k : ℕ) → k < length rs → get_or now k none ≡ f (get_or rs k no_robot)) → now ≡ map f rs
+pub all_mapped : (f : Robot → Body) (rs : List Robot) (now : List Body) → length now ≡ length rs →
+    ((k : ℕ) → k < length rs → get_or now k none ≡ f (get_or rs k no_robot)) → now ≡ map f rs
 all_mapped f rs now size each =
-    ext_get_or none now (map f rs) (size ∙ sym (length-map rs f)) (λ k l. let inside : k < length rs = omega (arith, size) in each k inside ∙ sym (get_or-map f rs k no_robot none inside))
+    ext_get_or none now (map f rs) (size ∙ sym (length-map rs f))
+    (λ k l. let inside : k < length rs = omega (arith, size) in each k inside ∙
+    sym (get_or-map f rs k no_robot none inside))
 
 -- each where it is after the update
-pub all_after : (f : Field) (now : List Body) → length now ≡ length f.robots → ((k : ℕ) → k < length f.robots → get_or now k none ≡ after_at f k) → now ≡ map body_of (moved f).robots
+pub all_after : (f : Field) (now : List Body) → length now ≡ length f.robots →
+    ((k : ℕ) → k < length f.robots → get_or now k none ≡ after_at f k) → now ≡ map body_of (moved f).robots
 all_after f now size each =
     let n = length f.robots in
     let count : length (range_with_len 0 n) ≡ n = length-range_with_len 0 n in
-    ext_get_or none now (map (after_at f) (range_with_len 0 n)) (size ∙ sym count ∙ sym (length-map (range_with_len 0 n) (after_at f)))
+    ext_get_or none now (map (after_at f) (range_with_len 0 n))
+    (size ∙ sym count ∙ sym (length-map (range_with_len 0 n) (after_at f)))
     (λ k l.
     let inside : k < n = omega (arith, l, size) in
     let at : get_or (range_with_len 0 n) k 0 ≡ k = omega (arith, get_or-range_with_len 0 n k 0 inside) in
-    each k inside ∙ sym (get_or-map (after_at f) (range_with_len 0 n) k 0 none (omega (arith, inside, count)) ∙ ap (after_at f) at))
+    each k inside ∙
+    sym (get_or-map (after_at f) (range_with_len 0 n) k 0 none (omega (arith, inside, count)) ∙ ap (after_at f) at))
     ∙ after_all f
 
 -- where nothing bursts and none touches another, each is where it drove on its own
-pub ahead_of_all : (f : Field) → ((i : ℕ) → i < length f.robots → touches (map mover f.robots) i ≡ 0) → ((x y : ℕ) → sum (bursts (f.updates + 1) f.shots x y) ≡ 0) → map ahead f.robots ≡ map body_of (moved f).robots
+pub ahead_of_all : (f : Field) → ((i : ℕ) → i < length f.robots → touches (map mover f.robots) i ≡ 0) →
+    ((x y : ℕ) → sum (bursts (f.updates + 1) f.shots x y) ≡ 0) → map ahead f.robots ≡ map body_of (moved f).robots
 unfolding robot_at
 ahead_of_all f untouched quiet =
     all_after f (map ahead f.robots) (length-map f.robots ahead)
-    (λ k l. get_or-map ahead f.robots k no_robot none l ∙ rw (untouched k l) (ahead_is (get_or f.robots k no_robot) (f.updates + 1) f.shots quiet))
+    (λ k l. get_or-map ahead f.robots k no_robot none l ∙
+    rw (untouched k l) (ahead_is (get_or f.robots k no_robot) (f.updates + 1) f.shots quiet))

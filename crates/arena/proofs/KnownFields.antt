@@ -9,17 +9,19 @@ use Rattle.arena.specs.Leg.{clamped, along, way_east, way_north, end_x, end_y, p
 use Rattle.arena.specs.Field.{damage_of, is_alive, no_robot, robot_at, metres_x, metres_y}
 use Rattle.arena.specs.Collisions.{candidate, mover, moves, square, is_close, is_no_further, collides, others, touches}
 use Rattle.arena.specs.Shots.{aimed_x, aimed_y, flight, shot, in_air, due_at, ring, bursts}
-use Rattle.arena.specs.Moved.{put_back, settled, knocks, moved_robot, moved}
-use Rattle.arena.specs.Rest.{moved_times}
+use Rattle.arena.specs.Moved.{put_back, leg_after, knocks, moved_robot, moved}
+use Rattle.arena.specs.Still.{moved_times}
 use Rattle.arena.specs.Scan.{apart, east_to, north_to, in_arc, sees, range_of, nearest, scanned}
-use Rattle.arena.specs.Words.{generator, random_word}
+use Rattle.arena.specs.Random.{generator, random_word}
 use Rattle.arena.specs.Start.{standing, quadrant, drawn_place, drawn_robot, start}
 use Rattle.arena.specs.Placed.{placed}
 use Rattle.arena.specs.Answer.{argument, fired, wanting, directed, random_limit, random_number, answer}
 use Rattle.arena.specs.KnownFields.{Scans, Starts, Drives, Knocks, Rings, Missiles}
 
 pub scans : Scans
-unfolding answer scanned nearest sees in_arc east_to north_to apart range_of argument degree_of clamped robot_at others placed standing is_alive damage_of no_robot metres_x metres_y place_x place_y end_x end_y way_east way_north along square root_of root_by_quarters bearing_of first_greatest reaches reach_of cosine_at sine_at sines
+unfolding answer scanned nearest sees in_arc east_to north_to apart range_of argument degree_of clamped robot_at others
+    placed standing is_alive damage_of no_robot metres_x metres_y place_x place_y end_x end_y way_east way_north along
+    square root_of root_by_quarters bearing_of first_greatest reaches reach_of cosine_at sine_at sines
 scans = record {
   at_the_edge = refl;
   past_the_edge = refl;
@@ -30,7 +32,8 @@ scans = record {
 }
 
 pub starts : Starts
-unfolding start drawn_robot drawn_place quadrant random_word generator standing answer random_number random_limit argument clamped place_x place_y end_x end_y way_east way_north along cosine_at sine_at sines
+unfolding start drawn_robot drawn_place quadrant random_word generator standing answer random_number random_limit
+    argument clamped place_x place_y end_x end_y way_east way_north along cosine_at sine_at sines
 starts = record {
   words = refl;
   quadrants = refl;
@@ -43,7 +46,10 @@ starts = record {
 }
 
 pub drives : Drives
-unfolding answer directed wanting argument degree_of clamped robot_at placed standing is_alive damage_of no_robot place_x place_y end_x end_y way_east way_north along leg_anew steered approached sped grown is_outside hits_wall walled tried driven candidate mover moves square is_close is_no_further collides others touches due_at ring bursts put_back settled knocks moved_robot moved moved_times cosine_at sine_at sines
+unfolding answer directed wanting argument degree_of clamped robot_at placed standing is_alive damage_of no_robot
+    place_x place_y end_x end_y way_east way_north along leg_anew steered approached sped grown is_outside hits_wall
+    walled tried driven candidate mover moves square is_close is_no_further collides others touches due_at ring bursts
+    put_back leg_after knocks moved_robot moved moved_times cosine_at sine_at sines
 drives = record {
   six_updates = (refl, refl, refl);
   brakes = (refl, refl, refl);
@@ -55,7 +61,10 @@ drives = record {
 }
 
 pub knocks_ : Knocks
-unfolding answer directed wanting argument degree_of clamped robot_at placed standing is_alive damage_of no_robot place_x place_y metres_x end_x end_y way_east way_north along leg_anew steered approached sped grown is_outside hits_wall walled tried driven candidate mover moves square is_close is_no_further collides others touches due_at ring bursts put_back settled knocks moved_robot moved moved_times cosine_at sine_at sines
+unfolding answer directed wanting argument degree_of clamped robot_at placed standing is_alive damage_of no_robot
+    place_x place_y metres_x end_x end_y way_east way_north along leg_anew steered approached sped grown is_outside
+    hits_wall walled tried driven candidate mover moves square is_close is_no_further collides others touches due_at
+    ring bursts put_back leg_after knocks moved_robot moved moved_times cosine_at sine_at sines
 knocks_ = record {
   both_hurt = refl;
   both_back = refl;
@@ -80,7 +89,10 @@ knocks_ = record {
 }
 
 pub rings : Rings
-unfolding answer fired shot aimed_x aimed_y flight in_air argument degree_of clamped robot_at placed standing is_alive damage_of no_robot place_x place_y end_x end_y way_east way_north along leg_anew steered approached sped grown is_outside hits_wall walled tried driven candidate mover moves square is_close is_no_further collides others touches due_at ring bursts put_back settled knocks moved_robot moved moved_times cosine_at sine_at sines
+unfolding answer fired shot aimed_x aimed_y flight in_air argument degree_of clamped robot_at placed standing is_alive
+    damage_of no_robot place_x place_y end_x end_y way_east way_north along leg_anew steered approached sped grown
+    is_outside hits_wall walled tried driven candidate mover moves square is_close is_no_further collides others touches
+    due_at ring bursts put_back leg_after knocks moved_robot moved moved_times cosine_at sine_at sines
 rings = record {
   at_5_metres = refl;
   at_5_metres_aslant = refl;
@@ -93,7 +105,12 @@ rings = record {
 }
 
 pub missiles : Missiles
-unfolding answer scanned nearest sees in_arc east_to north_to apart range_of metres_x metres_y root_of root_by_quarters bearing_of first_greatest reaches reach_of fired shot aimed_x aimed_y flight in_air argument degree_of clamped robot_at placed standing is_alive damage_of no_robot place_x place_y end_x end_y way_east way_north along leg_anew steered approached sped grown is_outside hits_wall walled tried driven candidate mover moves square is_close is_no_further collides others touches due_at ring bursts put_back settled knocks moved_robot moved moved_times cosine_at sine_at sines
+unfolding answer scanned nearest sees in_arc east_to north_to apart range_of metres_x metres_y root_of root_by_quarters
+    bearing_of first_greatest reaches reach_of fired shot aimed_x aimed_y flight in_air argument degree_of clamped
+    robot_at placed standing is_alive damage_of no_robot place_x place_y end_x end_y way_east way_north along leg_anew
+    steered approached sped grown is_outside hits_wall walled tried driven candidate mover moves square is_close
+    is_no_further collides others touches due_at ring bursts put_back leg_after knocks moved_robot moved moved_times
+    cosine_at sine_at sines
 missiles = record {
   first = refl;
   second = refl;

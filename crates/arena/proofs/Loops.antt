@@ -11,19 +11,23 @@ use Rattle.arena.specs.Moved.{moved_robot, moved}
 use Rattle.arena.specs.Ground.{Body, body_of}
 
 -- an element of a list is what its place says of it
-pub item_is : {X : Type 0} (P : X → Type 0) (xs : List X) (i : ℕ) (x : X) → i < length xs → x ≡ get_or xs i x → All P xs → P x
+pub item_is : {X : Type 0} (P : X → Type 0) (xs : List X) (i : ℕ) (x : X) → i < length xs → x ≡ get_or xs i x →
+    All P xs → P x
 item_is P xs i x inside e h = subst P (sym e) (All-get_or P xs i x inside h)
 
 -- an element of a mapped list
-pub mapped_is : {X Y : Type 0} (f : X → Y) (ys : List Y) (xs : List X) (i : ℕ) (y : Y) (d : X) → ys ≡ map f xs → i < length ys → y ≡ get_or ys i y → y ≡ f (get_or xs i d)
+pub mapped_is : {X Y : Type 0} (f : X → Y) (ys : List Y) (xs : List X) (i : ℕ) (y : Y) (d : X) → ys ≡ map f xs →
+    i < length ys → y ≡ get_or ys i y → y ≡ f (get_or xs i d)
 mapped_is f ys xs i y d e inside at =
     let size : length ys ≡ length xs = ap length e ∙ length-map xs f in
     let within : i < length xs = omega (arith, size) in
     at ∙ ap (λ l. get_or l i y) e ∙ get_or-map f xs i d y within
 
 -- a loop that pushes what it makes of each element
-pub pushed_map : {X Y Z : Type 0} (f : X → Y) (g : X → Z) (ys : List Y) (xs : List X) (out more : List Z) (i : ℕ) (y : Y) (z : Z) (d : X) →
-    ys ≡ map f xs → i < length ys → y ≡ get_or ys i y → (y ≡ f (get_or xs i d) → z ≡ g (get_or xs i d)) → out ≡ map g (take i xs) → more ≡ out ++ z ∷ [] →
+pub pushed_map : {X Y Z : Type 0} (f : X → Y) (g : X → Z) (ys : List Y) (xs : List X) (out more : List Z) (i : ℕ)
+    (y : Y) (z : Z) (d : X) →
+    ys ≡ map f xs → i < length ys → y ≡ get_or ys i y → (y ≡ f (get_or xs i d) → z ≡ g (get_or xs i d)) →
+    out ≡ map g (take i xs) → more ≡ out ++ z ∷ [] →
     more ≡ map g (take (i + 1) xs)
 pushed_map f g ys xs out more i y z d e inside at made so_far m =
     let size : length ys ≡ length xs = ap length e ∙ length-map xs f in
@@ -37,12 +41,18 @@ after_at f i = body_of (moved_robot (f.updates + 1) f.shots (touches (map mover 
 
 pub after_all : (f : Field) → map (after_at f) (range_with_len 0 (length f.robots)) ≡ map body_of (moved f).robots
 unfolding moved
-after_all f = sym (map-map body_of (λ i. moved_robot (f.updates + 1) f.shots (touches (map mover f.robots) i) (robot_at f i)) (range_with_len 0 (length f.robots)))
+after_all f =
+    sym
+    (map-map body_of (λ i. moved_robot (f.updates + 1) f.shots (touches (map mover f.robots) i) (robot_at f i))
+    (range_with_len 0 (length f.robots)))
 
-pub after_more : (f : Field) (out more : List Body) (i : ℕ) (b : Body) → out ≡ map (after_at f) (range_with_len 0 i) → b ≡ after_at f i → more ≡ out ++ b ∷ [] → more ≡ map (after_at f) (range_with_len 0 (i + 1))
+pub after_more : (f : Field) (out more : List Body) (i : ℕ) (b : Body) → out ≡ map (after_at f) (range_with_len 0 i) →
+    b ≡ after_at f i → more ≡ out ++ b ∷ [] → more ≡ map (after_at f) (range_with_len 0 (i + 1))
 after_more f out more i b so_far is m =
-    m ∙ ap (λ l. l ++ b ∷ []) so_far ∙ ap (λ x. map (after_at f) (range_with_len 0 i) ++ x ∷ []) is ∙ sym (map-range_with_len_more (after_at f) 0 i i (omega arith))
+    m ∙ ap (λ l. l ++ b ∷ []) so_far ∙ ap (λ x. map (after_at f) (range_with_len 0 i) ++ x ∷ []) is ∙
+    sym (map-range_with_len_more (after_at f) 0 i i (omega arith))
 
-pub at_is : (f : Field) (i update touched : ℕ) → update ≡ f.updates + 1 → touched ≡ touches (map mover f.robots) i → body_of (moved_robot update f.shots touched (get_or f.robots i no_robot)) ≡ after_at f i
+pub at_is : (f : Field) (i update touched : ℕ) → update ≡ f.updates + 1 → touched ≡ touches (map mover f.robots) i →
+    body_of (moved_robot update f.shots touched (get_or f.robots i no_robot)) ≡ after_at f i
 unfolding robot_at
 at_is f i update touched u t = rw (u, t) refl

@@ -15,13 +15,22 @@ use Rattle.arena.specs.Scan.{sees, range_of, nearest, scanned}
 use Rattle.arena.specs.Nearer.{square_to, nearer}
 
 -- one element more, which is seen or not
-pub one_more : {X : Type 0} (f : X → ℕ) (p : X → Bool) (n : ℕ) (xs : List X) (i : ℕ) (d : X) (so_far : ℕ) → i < length xs → so_far ≡ fold nearer n (map f (filter p (take i xs))) →
-    cond (p (get_or xs i d)) (nearer so_far (f (get_or xs i d))) so_far ≡ fold nearer n (map f (filter p (take (i + 1) xs)))
+pub one_more : {X : Type 0} (f : X → ℕ) (p : X → Bool) (n : ℕ) (xs : List X) (i : ℕ) (d : X) (so_far : ℕ) →
+    i < length xs → so_far ≡ fold nearer n (map f (filter p (take i xs))) →
+    cond (p (get_or xs i d)) (nearer so_far (f (get_or xs i d))) so_far ≡
+    fold nearer n (map f (filter p (take (i + 1) xs)))
 one_more f p n xs i d so_far inside e = by_sight (p (get_or xs i d)) refl
   where
-    by_sight : (b : Bool) → p (get_or xs i d) ≡ b → cond b (nearer so_far (f (get_or xs i d))) so_far ≡ fold nearer n (map f (filter p (take (i + 1) xs)))
+    by_sight : (b : Bool) → p (get_or xs i d) ≡ b →
+        cond b (nearer so_far (f (get_or xs i d))) so_far ≡ fold nearer n (map f (filter p (take (i + 1) xs)))
     by_sight true seen =
-        rw (filter_more p xs i d inside, seen, map-append f (filter p (take i xs)) (get_or xs i d ∷ []), fold-append nearer n (map f (filter p (take i xs))) (f (get_or xs i d) ∷ []), e) refl
+        rw (
+          filter_more p xs i d inside,
+          seen,
+          map-append f (filter p (take i xs)) (get_or xs i d ∷ []),
+          fold-append nearer n (map f (filter p (take i xs))) (f (get_or xs i d) ∷ []),
+          e,
+        ) refl
     by_sight false unseen = e ∙ rw (filter_more p xs i d inside, unseen, append-nil (filter p (take i xs))) refl
 
 -- whether one that isn't nearer is seen doesn't matter
@@ -35,14 +44,16 @@ nearer_is : (n r : ℕ) → 1 ≤ n → nearer n r ≡ min n r
 unfolding nearer
 nearer_is n r h = rw (ne_eqb n 0 (λ e. omega arith)) refl
 
-found_least : {X : Type 0} (f : X → ℕ) → ((x : X) → 1 ≤ f x) → (n : ℕ) → 1 ≤ n → (xs : List X) → fold min n (map f xs) ≡ fold nearer n (map f xs)
+found_least : {X : Type 0} (f : X → ℕ) → ((x : X) → 1 ≤ f x) → (n : ℕ) → 1 ≤ n → (xs : List X) →
+    fold min n (map f xs) ≡ fold nearer n (map f xs)
 found_least f some n h [] = refl
 found_least f some n h (x ∷ xs) =
     let here = some x in
     let low : 1 ≤ min n (f x) = omega arith in
     found_least f some (min n (f x)) low xs ∙ ap (λ m. fold nearer m (map f xs)) (sym (nearer_is n (f x) h))
 
-pub nearest_is : {X : Type 0} (f : X → ℕ) → ((x : X) → 1 ≤ f x) → (xs : List X) → nearest (map f xs) ≡ fold nearer 0 (map f xs)
+pub nearest_is : {X : Type 0} (f : X → ℕ) → ((x : X) → 1 ≤ f x) → (xs : List X) →
+    nearest (map f xs) ≡ fold nearer 0 (map f xs)
 unfolding nearest nearer
 nearest_is f some [] = refl
 nearest_is f some (x ∷ xs) = found_least f some (f x) (some x) xs
@@ -73,11 +84,14 @@ min_whole a b = elim (cases_lt a b) [
   | inr h ↦ let grows = root_grows b a h in let least : min a b ≡ b = omega arith in rw least (omega arith)
 ]
 
-least_whole : {X : Type 0} (f : X → ℕ) (n : ℕ) (xs : List X) → fold min (whole n) (map (λ x. whole (f x)) xs) ≡ whole (fold min n (map f xs))
+least_whole : {X : Type 0} (f : X → ℕ) (n : ℕ) (xs : List X) →
+    fold min (whole n) (map (λ x. whole (f x)) xs) ≡ whole (fold min n (map f xs))
 least_whole f n [] = refl
-least_whole f n (x ∷ xs) = ap (λ m. fold min m (map (λ x. whole (f x)) xs)) (min_whole n (f x)) ∙ least_whole f (min n (f x)) xs
+least_whole f n (x ∷ xs) =
+    ap (λ m. fold min m (map (λ x. whole (f x)) xs)) (min_whole n (f x)) ∙ least_whole f (min n (f x)) xs
 
-nearest_whole : {X : Type 0} (f : X → ℕ) (xs : List X) → nearest (map (λ x. whole (f x)) xs) ≡ whole (nearest (map f xs))
+nearest_whole : {X : Type 0} (f : X → ℕ) (xs : List X) →
+    nearest (map (λ x. whole (f x)) xs) ≡ whole (nearest (map f xs))
 unfolding nearest
 nearest_whole f [] = sym root_of_0
 nearest_whole f (x ∷ xs) = least_whole f (f x) xs
@@ -86,13 +100,22 @@ each_same : {X : Type 0} (f g : X → ℕ) (xs : List X) → ((x : X) → f x �
 each_same f g [] h = refl
 each_same f g (x ∷ xs) h = ap (λ n. n ∷ map f xs) (h x) ∙ ap (λ ns. g x ∷ ns) (each_same f g xs h)
 
-ranges_are : (from : Robot) (xs : List Robot) → whole (nearest (map (square_to from) xs)) ≡ nearest (map (range_of from) xs)
-ranges_are from xs = sym (nearest_whole (square_to from) xs) ∙ ap nearest (sym (each_same (range_of from) (λ x. whole (square_to from x)) xs (range_is from)))
+ranges_are : (from : Robot) (xs : List Robot) →
+    whole (nearest (map (square_to from) xs)) ≡ nearest (map (range_of from) xs)
+ranges_are from xs =
+    sym (nearest_whole (square_to from) xs) ∙
+    ap nearest (sym (each_same (range_of from) (λ x. whole (square_to from x)) xs (range_is from)))
 
 -- a scan looks at the robots before and after the one that scans
 pub scan_is : (field : Field) (i degree resolution before after range : ℕ) →
-    before ≡ fold nearer 0 (map (square_to (robot_at field i)) (filter (sees (robot_at field i) degree resolution) (take i field.robots))) →
-    after ≡ fold nearer before (map (square_to (robot_at field i)) (filter (sees (robot_at field i) degree resolution) (drop (i + 1) field.robots))) →
+    before ≡
+    fold nearer 0
+    (map (square_to (robot_at field i))
+    (filter (sees (robot_at field i) degree resolution) (take i field.robots))) →
+    after ≡
+    fold nearer before
+    (map (square_to (robot_at field i))
+    (filter (sees (robot_at field i) degree resolution) (drop (i + 1) field.robots))) →
     range ≡ unsigned_abs (root_of (pos after)) →
     range ≡ scanned field i degree resolution
 unfolding scanned others
@@ -124,4 +147,8 @@ unfolding square
 square_fits x y to_x to_y a b c d =
     let east : abs_diff x to_x ≤ 999 = omega arith in
     let north : abs_diff y to_y ≤ 999 = omega arith in
-    omega (arith, mul-le (abs_diff x to_x) (abs_diff x to_x) 999 999 east east, mul-le (abs_diff y to_y) (abs_diff y to_y) 999 999 north north)
+    omega (
+      arith,
+      mul-le (abs_diff x to_x) (abs_diff x to_x) 999 999 east east,
+      mul-le (abs_diff y to_y) (abs_diff y to_y) 999 999 north north,
+    )

@@ -16,16 +16,19 @@ pub refill_is : {X : Type 0} (xs ws : List X) → length ws ≡ length xs → re
 refill_is xs ws e = take_at ws (drop (length ws) xs) (length xs) e
 
 -- the body of a number is that of the field's robot, past the last one too
-pub bodies_at : (rs : List Robot) (i : ℕ) → get_or (map body_of rs) i (body_of no_robot) ≡ body_of (get_or rs i no_robot)
+pub bodies_at : (rs : List Robot) (i : ℕ) →
+    get_or (map body_of rs) i (body_of no_robot) ≡ body_of (get_or rs i no_robot)
 bodies_at rs i = by_place (cases_lt i (length rs))
   where
-    by_place : ((i < length rs) ⊎ (length rs ≤ i)) → get_or (map body_of rs) i (body_of no_robot) ≡ body_of (get_or rs i no_robot)
+    by_place : ((i < length rs) ⊎ (length rs ≤ i)) →
+        get_or (map body_of rs) i (body_of no_robot) ≡ body_of (get_or rs i no_robot)
     by_place (inl h) = get_or-map body_of rs i no_robot (body_of no_robot) h
     by_place (inr h) =
         get_or_past (map body_of rs) i (body_of no_robot) (omega (arith, length-map rs body_of)) ∙
         ap body_of (sym (get_or_past rs i no_robot h))
 
-pub body_at : (g : Ground) (f : Field) (i : ℕ) → StandsFor g f → get_or g.robots i (body_of no_robot) ≡ body_of (robot_at f i)
+pub body_at : (g : Ground) (f : Field) (i : ℕ) → StandsFor g f →
+    get_or g.robots i (body_of no_robot) ≡ body_of (robot_at f i)
 unfolding robot_at
 body_at g f i s = ap (λ l. get_or l i (body_of no_robot)) s.robots ∙ bodies_at f.robots i
 
@@ -45,12 +48,14 @@ inside_if_lives g i h = by_place (cases_lt i (length g.robots))
         absurd (omega (arith, ltb-true 100 100 dead))
 
 -- who lives is alive in the field
-pub alive_if_lives : (g : Ground) (f : Field) (i : ℕ) → StandsFor g f → lives g i ≡ true → is_alive (robot_at f i) ≡ true
+pub alive_if_lives : (g : Ground) (f : Field) (i : ℕ) → StandsFor g f → lives g i ≡ true →
+    is_alive (robot_at f i) ≡ true
 unfolding lives is_alive body_of
 alive_if_lives g f i s h = sym (ap (λ (b : Body). nat_lt b.damage 100) (body_at g f i s)) ∙ h
 
 -- the living, counted on bodies
-fold_map : {X Y : Type 0} (f : X → Y) (g : Y → ℕ) (a : ℕ) (xs : List X) → fold (λ s y. s + g y) a (map f xs) ≡ fold (λ s x. s + g (f x)) a xs
+fold_map : {X Y : Type 0} (f : X → Y) (g : Y → ℕ) (a : ℕ) (xs : List X) →
+    fold (λ s y. s + g y) a (map f xs) ≡ fold (λ s x. s + g (f x)) a xs
 fold_map f g a [] = refl
 fold_map f g a (x ∷ xs) = fold_map f g (a + g (f x)) xs
 
@@ -58,49 +63,73 @@ pub living : (rs : List Robot) → count_by (λ (b : Body). nat_lt b.damage 100)
 unfolding body_of is_alive
 living rs = fold_map body_of (λ (b : Body). cond (nat_lt b.damage 100) 1 0) 0 rs
 
-shot_is : (g : Ground) (f : Field) (i degree range : ℕ) (missile : Missile) → g.updates ≡ f.updates → missile ≡ record { burst = g.updates + flight range; x = aimed_x (place_x (robot_at f i).leg) degree range; y = aimed_y (place_y (robot_at f i).leg) degree range } → shot_of i missile ≡ shot f.updates i (robot_at f i).leg degree range
+shot_is : (g : Ground) (f : Field) (i degree range : ℕ) (missile : Missile) → g.updates ≡ f.updates →
+    missile ≡
+    record {
+      burst = g.updates + flight range;
+      x = aimed_x (place_x (robot_at f i).leg) degree range;
+      y = aimed_y (place_y (robot_at f i).leg) degree range;
+    } →
+    shot_of i missile ≡ shot f.updates i (robot_at f i).leg degree range
 unfolding shot shot_of
 shot_is g f i degree range missile u m = rw (m, u) refl
 
-bursts_later : (g : Ground) (f : Field) (range : ℕ) (missile : Missile) → g.updates ≡ f.updates → missile.burst ≡ g.updates + flight range → f.updates < missile.burst
+bursts_later : (g : Ground) (f : Field) (range : ℕ) (missile : Missile) → g.updates ≡ f.updates →
+    missile.burst ≡ g.updates + flight range → f.updates < missile.burst
 unfolding flight
 bursts_later g f range missile u b = omega arith
 
 -- a robot that fires
-pub fires : (g : Ground) (f : Field) (i degree range : ℕ) (slots : List (List Missile)) (missile : Missile) → StandsFor g f → nat_lt (length (in_air f.updates i f.shots)) 2 ≡ true →
-    missile ≡ record { burst = g.updates + flight range; x = aimed_x (place_x (robot_at f i).leg) degree range; y = aimed_y (place_y (robot_at f i).leg) degree range } →
-    ((updates : ℕ) (shots : List Shot) → updates < missile.burst → HoldsShots updates g.slots shots → HoldsShots updates slots (shots ++ shot_of i missile ∷ [])) →
+pub fires : (g : Ground) (f : Field) (i degree range : ℕ) (slots : List (List Missile)) (missile : Missile) →
+    StandsFor g f → nat_lt (length (in_air f.updates i f.shots)) 2 ≡ true →
+    missile ≡
+    record {
+      burst = g.updates + flight range;
+      x = aimed_x (place_x (robot_at f i).leg) degree range;
+      y = aimed_y (place_y (robot_at f i).leg) degree range;
+    } →
+    ((updates : ℕ) (shots : List Shot) → updates < missile.burst → HoldsShots updates g.slots shots →
+    HoldsShots updates slots (shots ++ shot_of i missile ∷ [])) →
     StandsFor (record g { slots = slots }) (fired f i degree range).1
 unfolding fired
 fires g f i degree range slots missile s free m holds =
     rw free (record {
       updates = s.updates;
       robots = s.robots;
-      missiles = subst (λ x. HoldsShots f.updates slots (f.shots ++ x ∷ [])) (shot_is g f i degree range missile s.updates m) (holds f.updates f.shots (bursts_later g f range missile s.updates (ap (λ (x : Missile). x.burst) m)) s.missiles);
+      missiles = subst (λ x. HoldsShots f.updates slots (f.shots ++ x ∷ []))
+          (shot_is g f i degree range missile s.updates m)
+          (holds f.updates f.shots (bursts_later g f range missile s.updates (ap (λ (x : Missile). x.burst) m))
+          s.missiles);
       random = s.random;
     })
 
-pub fires_reply : (f : Field) (i degree range : ℕ) → nat_lt (length (in_air f.updates i f.shots)) 2 ≡ true → pos 1 ≡ (fired f i degree range).0
+pub fires_reply : (f : Field) (i degree range : ℕ) → nat_lt (length (in_air f.updates i f.shots)) 2 ≡ true →
+    pos 1 ≡ (fired f i degree range).0
 unfolding fired
 fires_reply f i degree range free = rw free refl
 
-pub keeps_fire : (f : Field) (i degree range : ℕ) → nat_lt (length (in_air f.updates i f.shots)) 2 ≡ false → (pos 0 ≡ (fired f i degree range).0) × (f ≡ (fired f i degree range).1)
+pub keeps_fire : (f : Field) (i degree range : ℕ) → nat_lt (length (in_air f.updates i f.shots)) 2 ≡ false →
+    (pos 0 ≡ (fired f i degree range).0) × (f ≡ (fired f i degree range).1)
 unfolding fired
 keeps_fire f i degree range full = rw full (refl, refl)
 
 -- a robot that wants another way
-pub directs : (g : Ground) (f : Field) (i degree speed : ℕ) (b : Body) → StandsFor g f → b ≡ body_of (record (robot_at f i) { leg = wanting (robot_at f i).leg degree speed }) →
+pub directs : (g : Ground) (f : Field) (i degree speed : ℕ) (b : Body) → StandsFor g f →
+    b ≡ body_of (record (robot_at f i) { leg = wanting (robot_at f i).leg degree speed }) →
     StandsFor (record g { robots = set g.robots i b }) (directed f i degree speed)
 unfolding directed
 directs g f i degree speed b s e = record {
   updates = s.updates;
-  robots = ap (λ l. set l i b) s.robots ∙ ap (λ x. set (map body_of f.robots) i x) e ∙ sym (map-set body_of f.robots i (record (robot_at f i) { leg = wanting (robot_at f i).leg degree speed }));
+  robots = ap (λ l. set l i b) s.robots ∙ ap (λ x. set (map body_of f.robots) i x) e ∙
+      sym (map-set body_of f.robots i (record (robot_at f i) { leg = wanting (robot_at f i).leg degree speed }));
   missiles = s.missiles;
   random = s.random;
 }
 
 -- an update
-pub updates : (g next : Ground) (f : Field) → StandsFor g f → next.updates ≡ g.updates + 1 → next.random ≡ g.random → next.robots ≡ map body_of (moved f).robots → HoldsShots (f.updates + 1) next.slots f.shots → StandsFor next (moved f)
+pub updates : (g next : Ground) (f : Field) → StandsFor g f → next.updates ≡ g.updates + 1 → next.random ≡ g.random →
+    next.robots ≡ map body_of (moved f).robots → HoldsShots (f.updates + 1) next.slots f.shots →
+    StandsFor next (moved f)
 unfolding moved
 updates g next f s u r robots slots = record {
   updates = u ∙ ap (λ n. n + 1) s.updates;

@@ -6,14 +6,19 @@ use Rattle.std.proofs.lemmas.Bool.Decides.{leb_tells}
 use Rattle.arith.specs.Root.{root_by_quarters, root_of}
 
 -- one more digit
-digit_grows : (r s a b : ℕ) → r ≤ s → a ≤ b → cond (nat_le ((2 * r + 1) * (2 * r + 1)) a) (2 * r + 1) (2 * r) ≤ cond (nat_le ((2 * s + 1) * (2 * s + 1)) b) (2 * s + 1) (2 * s)
+digit_grows : (r s a b : ℕ) → r ≤ s → a ≤ b →
+    cond (nat_le ((2 * r + 1) * (2 * r + 1)) a) (2 * r + 1) (2 * r) ≤
+    cond (nat_le ((2 * s + 1) * (2 * s + 1)) b) (2 * s + 1) (2 * s)
 digit_grows r s a b h l =
     elim (leb_tells ((2 * r + 1) * (2 * r + 1)) a) [
       | inl p ↦ elim (leb_tells ((2 * s + 1) * (2 * s + 1)) b) [
         | inl q ↦ rw (p.0, q.0) (omega arith)
         | inr q ↦ elim (cases_lt r s) [
           | inl less ↦ rw (p.0, q.0) (omega arith)
-          | inr not ↦ let e : s ≡ r = omega arith in absurd (omega (arith, p.1, q.1, mul-le (2 * s + 1) (2 * s + 1) (2 * r + 1) (2 * r + 1) (omega arith) (omega arith)))
+          | inr not ↦ let e : s ≡ r =
+              omega arith in absurd
+              (omega
+              (arith, p.1, q.1, mul-le (2 * s + 1) (2 * s + 1) (2 * r + 1) (2 * r + 1) (omega arith) (omega arith)))
         ]
       ]
       | inr p ↦ elim (leb_tells ((2 * s + 1) * (2 * s + 1)) b) [
@@ -26,7 +31,8 @@ by_quarters_grows : (digits a b : ℕ) → a ≤ b → root_by_quarters digits a
 unfolding root_by_quarters
 by_quarters_grows zero a b h = omega arith
 by_quarters_grows (suc digits) a b h =
-    digit_grows (root_by_quarters digits (a / 4)) (root_by_quarters digits (b / 4)) a b (by_quarters_grows digits (a / 4) (b / 4) (omega arith)) h
+    digit_grows (root_by_quarters digits (a / 4)) (root_by_quarters digits (b / 4)) a b
+    (by_quarters_grows digits (a / 4) (b / 4) (omega arith)) h
 
 pub root_grows : (a b : ℕ) → a ≤ b → unsigned_abs (root_of (pos a)) ≤ unsigned_abs (root_of (pos b))
 unfolding root_of

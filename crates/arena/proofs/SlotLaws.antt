@@ -10,7 +10,7 @@ use Rattle.arena.specs.Field.{Shot}
 use Rattle.arena.specs.Collisions.{square}
 use Rattle.arena.specs.Shots.{ring, in_air, due_at, bursts}
 use Rattle.arena.specs.Ground.{Missile, shot_of}
-use Rattle.arena.specs.Rest.{NoneBefore}
+use Rattle.arena.specs.Still.{NoneBefore}
 use Rattle.arena.specs.Standing.{HoldsShots}
 use Rattle.arena.specs.Due.{harm}
 
@@ -22,31 +22,41 @@ abbrev pub hurt_by : ℕ → ℕ → ℕ → List Missile → ℕ
 hurt_by update x y missiles = sum (bursts update (map (shot_of 0) missiles) x y)
 
 -- one missile more
-pub one_more : (owner update x y : ℕ) (ms : List Missile) (i : ℕ) (m : Missile) → i < length ms → m ≡ get_or ms i m → sum (bursts update (map (shot_of owner) (take (i + 1) ms)) x y) ≡ sum (bursts update (map (shot_of owner) (take i ms)) x y) + sum (bursts update (shot_of owner m ∷ []) x y)
+pub one_more : (owner update x y : ℕ) (ms : List Missile) (i : ℕ) (m : Missile) → i < length ms → m ≡ get_or ms i m →
+    sum (bursts update (map (shot_of owner) (take (i + 1) ms)) x y) ≡
+    sum (bursts update (map (shot_of owner) (take i ms)) x y) + sum (bursts update (shot_of owner m ∷ []) x y)
 unfolding bursts due_at
 one_more owner update x y ms i m h e =
     let front = map (shot_of owner) (take i ms) in
     let due = λ (s : Shot). s.burst == update in
     let hurt = λ (s : Shot). ring (square x y s.x s.y) in
-    rw (take_more ms i m h, ← e, map-append, filter-append, map-append) (sum_by-append (λ x. x) (map hurt (filter due front)) (map hurt (filter due (shot_of owner m ∷ []))))
+    rw (take_more ms i m h, ← e, map-append, filter-append, map-append)
+    (sum_by-append (λ x. x) (map hurt (filter due front)) (map hurt (filter due (shot_of owner m ∷ []))))
 
 -- the shots of one robot, in its slots and among all shots
-ends_with : (updates owner : ℕ) (shots : List Shot) (s : Shot) → s.owner ≡ owner → updates < s.burst → in_air updates owner (shots ++ s ∷ []) ≡ in_air updates owner shots ++ s ∷ []
+ends_with : (updates owner : ℕ) (shots : List Shot) (s : Shot) → s.owner ≡ owner → updates < s.burst →
+    in_air updates owner (shots ++ s ∷ []) ≡ in_air updates owner shots ++ s ∷ []
 unfolding in_air
 ends_with updates owner shots s mine flies =
     let yes : ((s.owner == owner) && nat_lt updates s.burst) ≡ true = grind (arith, nat_tests) in
-    filter-append (λ s. (s.owner == owner) && nat_lt updates s.burst) shots (s ∷ []) ∙ ap (λ b. in_air updates owner shots ++ cond b (s ∷ []) []) yes
+    filter-append (λ s. (s.owner == owner) && nat_lt updates s.burst) shots (s ∷ []) ∙
+    ap (λ b. in_air updates owner shots ++ cond b (s ∷ []) []) yes
 
-other_shot : (updates owner : ℕ) (shots : List Shot) (s : Shot) → s.owner ≢ owner → in_air updates owner (shots ++ s ∷ []) ≡ in_air updates owner shots
+other_shot : (updates owner : ℕ) (shots : List Shot) (s : Shot) → s.owner ≢ owner →
+    in_air updates owner (shots ++ s ∷ []) ≡ in_air updates owner shots
 unfolding in_air
 other_shot updates owner shots s other =
     let no : ((s.owner == owner) && nat_lt updates s.burst) ≡ false = grind (arith, nat_tests) in
-    filter-append (λ s. (s.owner == owner) && nat_lt updates s.burst) shots (s ∷ []) ∙ ap (λ b. in_air updates owner shots ++ cond b (s ∷ []) []) no ∙ append-nil (in_air updates owner shots)
+    filter-append (λ s. (s.owner == owner) && nat_lt updates s.burst) shots (s ∷ []) ∙
+    ap (λ b. in_air updates owner shots ++ cond b (s ∷ []) []) no ∙ append-nil (in_air updates owner shots)
 
-pub holds_fired : (updates : ℕ) (slots : List (List Missile)) (shots : List Shot) (robot : ℕ) (m : Missile) → robot < length slots → updates < m.burst → HoldsShots updates slots shots → HoldsShots updates (set slots robot (get_or slots robot [] ++ m ∷ [])) (shots ++ shot_of robot m ∷ [])
+pub holds_fired : (updates : ℕ) (slots : List (List Missile)) (shots : List Shot) (robot : ℕ) (m : Missile) →
+    robot < length slots → updates < m.burst → HoldsShots updates slots shots →
+    HoldsShots updates (set slots robot (get_or slots robot [] ++ m ∷ [])) (shots ++ shot_of robot m ∷ [])
 unfolding shot_of
 holds_fired updates slots shots robot m inside flies holds = record {
-  owned = rw length-set (All-append (λ s. s.owner < length slots) shots (shot_of robot m ∷ []) holds.owned (λ k d l. only k d l));
+  owned = rw length-set
+      (All-append (λ s. s.owner < length slots) shots (shot_of robot m ∷ []) holds.owned (λ k d l. only k d l));
   in_air = λ i l. own i (rw length-set at l) (eqb_tells robot i);
 }
   where
@@ -54,12 +64,21 @@ holds_fired updates slots shots robot m inside flies holds = record {
     only zero d l = inside
     only (suc k) d l = absurd (omega arith)
 
-    own : (i : ℕ) → i < length slots → (((robot == i) ≡ true) × (robot ≡ i)) ⊎ (((robot == i) ≡ false) × (robot ≢ i)) → map (shot_of i) (get_or (set slots robot (get_or slots robot [] ++ m ∷ [])) i []) ≡ in_air updates i (shots ++ shot_of robot m ∷ [])
+    own : (i : ℕ) → i < length slots → (((robot == i) ≡ true) × (robot ≡ i)) ⊎ (((robot == i) ≡ false) × (robot ≢ i)) →
+        map (shot_of i) (get_or (set slots robot (get_or slots robot [] ++ m ∷ [])) i []) ≡
+        in_air updates i (shots ++ shot_of robot m ∷ [])
     own i l (inl (t, same)) =
-        subst (λ j. map (shot_of j) (get_or (set slots robot (get_or slots robot [] ++ m ∷ [])) j []) ≡ in_air updates j (shots ++ shot_of robot m ∷ [])) same
-        (rw (get_or-set_same slots robot (get_or slots robot [] ++ m ∷ []) [] inside, map-append, holds.in_air robot inside) (sym (ends_with updates robot shots (shot_of robot m) refl flies)))
+        subst
+        (λ j. map (shot_of j) (get_or (set slots robot (get_or slots robot [] ++ m ∷ [])) j []) ≡
+        in_air updates j (shots ++ shot_of robot m ∷ [])) same
+        (rw (
+          get_or-set_same slots robot (get_or slots robot [] ++ m ∷ []) [] inside,
+          map-append,
+          holds.in_air robot inside,
+        ) (sym (ends_with updates robot shots (shot_of robot m) refl flies)))
     own i l (inr (t, other)) =
-        rw (get_or-set_other slots robot i (get_or slots robot [] ++ m ∷ []) [] (λ e. other (sym e))) (holds.in_air i l ∙ sym (other_shot updates i shots (shot_of robot m) other))
+        rw (get_or-set_other slots robot i (get_or slots robot [] ++ m ∷ []) [] (λ e. other (sym e)))
+        (holds.in_air i l ∙ sym (other_shot updates i shots (shot_of robot m) other))
 
 -- what stands inside a list doesn't depend on what is read past it
 pub inside_is : {X : Type 0} (xs : List X) (i : ℕ) (d e : X) → i < length xs → get_or xs i d ≡ get_or xs i e
@@ -68,34 +87,49 @@ inside_is (x ∷ xs) zero d e h = refl
 inside_is (x ∷ xs) (suc i) d e h = inside_is xs i d e (omega arith)
 
 -- the missiles that still fly after an update
-flying : (update i : ℕ) (ms : List Missile) → map (shot_of i) (filter (λ m. nat_lt update m.burst) ms) ≡ filter (λ s. nat_lt update s.burst) (map (shot_of i) ms)
+flying : (update i : ℕ) (ms : List Missile) →
+    map (shot_of i) (filter (λ m. nat_lt update m.burst) ms) ≡ filter (λ s. nat_lt update s.burst) (map (shot_of i) ms)
 unfolding shot_of
 flying update i [] = refl
 flying update i (m ∷ ms) = step (nat_lt update m.burst) (flying update i ms)
   where
-    step : (b : Bool) → map (shot_of i) (filter (λ m. nat_lt update m.burst) ms) ≡ filter (λ s. nat_lt update s.burst) (map (shot_of i) ms) → map (shot_of i) (cond b (m ∷ filter (λ m. nat_lt update m.burst) ms) (filter (λ m. nat_lt update m.burst) ms)) ≡ cond b (shot_of i m ∷ filter (λ s. nat_lt update s.burst) (map (shot_of i) ms)) (filter (λ s. nat_lt update s.burst) (map (shot_of i) ms))
+    step : (b : Bool) →
+        map (shot_of i) (filter (λ m. nat_lt update m.burst) ms) ≡
+        filter (λ s. nat_lt update s.burst) (map (shot_of i) ms) →
+        map (shot_of i) (cond b (m ∷ filter (λ m. nat_lt update m.burst) ms) (filter (λ m. nat_lt update m.burst) ms)) ≡
+        cond b (shot_of i m ∷ filter (λ s. nat_lt update s.burst) (map (shot_of i) ms))
+        (filter (λ s. nat_lt update s.burst) (map (shot_of i) ms))
     step true e = ap (λ ss. shot_of i m ∷ ss) e
     step false e = e
 
-later : (updates update i : ℕ) (shots : List Shot) → updates ≤ update → filter (λ s. nat_lt update s.burst) (in_air updates i shots) ≡ in_air update i shots
+later : (updates update i : ℕ) (shots : List Shot) → updates ≤ update →
+    filter (λ s. nat_lt update s.burst) (in_air updates i shots) ≡ in_air update i shots
 unfolding in_air
 later updates update i [] h = refl
 later updates update i (s ∷ shots) h =
-    step (s.owner == i) (nat_lt updates s.burst) (nat_lt update s.burst) refl (λ e. grind (arith, nat_tests)) (later updates update i shots h)
+    step (s.owner == i) (nat_lt updates s.burst) (nat_lt update s.burst) refl (λ e. grind (arith, nat_tests))
+    (later updates update i shots h)
   where
-    step : (o a b : Bool) → nat_lt update s.burst ≡ b → (b ≡ true → a ≡ true) → filter (λ s. nat_lt update s.burst) (in_air updates i shots) ≡ in_air update i shots → filter (λ s. nat_lt update s.burst) (cond (o && a) (s ∷ in_air updates i shots) (in_air updates i shots)) ≡ cond (o && b) (s ∷ in_air update i shots) (in_air update i shots)
+    step : (o a b : Bool) → nat_lt update s.burst ≡ b → (b ≡ true → a ≡ true) →
+        filter (λ s. nat_lt update s.burst) (in_air updates i shots) ≡ in_air update i shots →
+        filter (λ s. nat_lt update s.burst) (cond (o && a) (s ∷ in_air updates i shots) (in_air updates i shots)) ≡
+        cond (o && b) (s ∷ in_air update i shots) (in_air update i shots)
     step false a b e f rest = rest
     step true true true e f rest = rw e (ap (λ ss. s ∷ ss) rest)
     step true true false e f rest = rw e rest
     step true false false e f rest = rest
     step true false true e f rest = let never = f refl in absurd (cc)
 
-pub holds_landed : (updates update : ℕ) (slots landed : List (List Missile)) (shots : List Shot) → update ≡ updates + 1 → length landed ≡ length slots → ((i : ℕ) → i < length slots → get_or landed i [] ≡ filter (λ m. nat_lt update m.burst) (get_or slots i [])) → HoldsShots updates slots shots → HoldsShots update landed shots
+pub holds_landed : (updates update : ℕ) (slots landed : List (List Missile)) (shots : List Shot) →
+    update ≡ updates + 1 → length landed ≡ length slots →
+    ((i : ℕ) → i < length slots → get_or landed i [] ≡ filter (λ m. nat_lt update m.burst) (get_or slots i [])) →
+    HoldsShots updates slots shots → HoldsShots update landed shots
 holds_landed updates update slots landed shots e size each holds = record {
   owned = rw size holds.owned;
   in_air = λ i l.
       let inside : i < length slots = omega (arith, l, size) in
-      rw (each i inside, flying update i (get_or slots i []), holds.in_air i inside) (later updates update i shots (omega arith));
+      rw (each i inside, flying update i (get_or slots i []), holds.in_air i inside)
+      (later updates update i shots (omega arith));
 }
 
 -- nothing in the air yet
@@ -141,12 +175,19 @@ both_more a b = grind (arith, nat_tests)
 totals_of_one : (owner value n : ℕ) → owner < n → totals (λ i. cond (owner == i) value 0) n ≡ value
 totals_of_one owner value zero h = absurd (omega arith)
 totals_of_one zero value (suc n) h =
-    let rest = totals_same (λ i. cond (0 == suc i) value 0) (λ i. 0) n (λ i l. not_its 0 (suc i) value (λ e. absurd (omega arith))) ∙ totals_of_none n in omega arith
+    let rest =
+    totals_same (λ i. cond (0 == suc i) value 0) (λ i. 0) n
+    (λ i l. not_its 0 (suc i) value (λ e. absurd (omega arith))) ∙ totals_of_none n in
+    omega arith
 totals_of_one (suc owner) value (suc n) h =
     let first = not_its (suc owner) 0 value (λ e. absurd (omega arith)) in
-    let rest = totals_same (λ i. cond (suc owner == suc i) value 0) (λ i. cond (owner == i) value 0) n (λ i l. ap (λ t. cond t value 0) (both_more owner i)) ∙ totals_of_one owner value n (omega arith) in omega arith
+    let rest =
+    totals_same (λ i. cond (suc owner == suc i) value 0) (λ i. cond (owner == i) value 0) n
+    (λ i l. ap (λ t. cond t value 0) (both_more owner i)) ∙ totals_of_one owner value n (omega arith) in
+    omega arith
 
-totals_of_list : {X : Type 0} (f : X → ℕ) (xs : List X) (d : X) → sum (map f xs) ≡ totals (λ i. f (get_or xs i d)) (length xs)
+totals_of_list : {X : Type 0} (f : X → ℕ) (xs : List X) (d : X) →
+    sum (map f xs) ≡ totals (λ i. f (get_or xs i d)) (length xs)
 totals_of_list f [] d = refl
 totals_of_list f (x ∷ xs) d = let e = sum-cons (f x) (map f xs) in let rest = totals_of_list f xs d in omega arith
 
@@ -154,19 +195,23 @@ totals_of_list f (x ∷ xs) d = let e = sum-cons (f x) (map f xs) in let rest = 
 hurt : ℕ → ℕ → ℕ → Shot → ℕ
 hurt update x y s = cond (s.burst == update) (ring (square x y s.x s.y)) 0
 
-sum_of_bursts : (update x y : ℕ) (s : Shot) (shots : List Shot) → sum (bursts update (s ∷ shots) x y) ≡ hurt update x y s + sum (bursts update shots x y)
+sum_of_bursts : (update x y : ℕ) (s : Shot) (shots : List Shot) →
+    sum (bursts update (s ∷ shots) x y) ≡ hurt update x y s + sum (bursts update shots x y)
 unfolding bursts due_at hurt
 sum_of_bursts update x y s shots = step (s.burst == update)
   where
     rest : List ℕ
     rest = bursts update shots x y
 
-    step : (b : Bool) → sum (map (λ s. ring (square x y s.x s.y)) (cond b (s ∷ due_at update shots) (due_at update shots))) ≡ cond b (ring (square x y s.x s.y)) 0 + sum rest
+    step : (b : Bool) →
+        sum (map (λ s. ring (square x y s.x s.y)) (cond b (s ∷ due_at update shots) (due_at update shots))) ≡
+        cond b (ring (square x y s.x s.y)) 0 + sum rest
     step true = sum-cons (ring (square x y s.x s.y)) rest
     step false = omega arith
 
 -- whose missile it is doesn't matter where it bursts
-any_owner : (update x y i j : ℕ) (ms : List Missile) → sum (bursts update (map (shot_of i) ms) x y) ≡ sum (bursts update (map (shot_of j) ms) x y)
+any_owner : (update x y i j : ℕ) (ms : List Missile) →
+    sum (bursts update (map (shot_of i) ms) x y) ≡ sum (bursts update (map (shot_of j) ms) x y)
 unfolding shot_of hurt
 any_owner update x y i j [] = refl
 any_owner update x y i j (m ∷ ms) =
@@ -176,26 +221,38 @@ any_owner update x y i j (m ∷ ms) =
     omega arith
 
 -- a shot that bursts in the next update is in the air, and of one robot
-own_share : (updates update x y i : ℕ) (s : Shot) (shots : List Shot) → update ≡ updates + 1 → sum (bursts update (in_air updates i (s ∷ shots)) x y) ≡ cond (s.owner == i) (hurt update x y s) 0 + sum (bursts update (in_air updates i shots) x y)
+own_share : (updates update x y i : ℕ) (s : Shot) (shots : List Shot) → update ≡ updates + 1 →
+    sum (bursts update (in_air updates i (s ∷ shots)) x y) ≡
+    cond (s.owner == i) (hurt update x y s) 0 + sum (bursts update (in_air updates i shots) x y)
 unfolding in_air hurt
-own_share updates update x y i s shots e = step (s.owner == i) (nat_lt updates s.burst) (s.burst == update) refl (λ t. grind (arith, nat_tests)) (sum_of_bursts update x y s (in_air updates i shots))
+own_share updates update x y i s shots e =
+    step (s.owner == i) (nat_lt updates s.burst) (s.burst == update) refl (λ t. grind (arith, nat_tests))
+    (sum_of_bursts update x y s (in_air updates i shots))
   where
-    step : (o a b : Bool) → (s.burst == update) ≡ b → (b ≡ true → a ≡ true) → sum (bursts update (s ∷ in_air updates i shots) x y) ≡ hurt update x y s + sum (bursts update (in_air updates i shots) x y) → sum (bursts update (cond (o && a) (s ∷ in_air updates i shots) (in_air updates i shots)) x y) ≡ cond o (cond b (ring (square x y s.x s.y)) 0) 0 + sum (bursts update (in_air updates i shots) x y)
+    step : (o a b : Bool) → (s.burst == update) ≡ b → (b ≡ true → a ≡ true) →
+        sum (bursts update (s ∷ in_air updates i shots) x y) ≡
+        hurt update x y s + sum (bursts update (in_air updates i shots) x y) →
+        sum (bursts update (cond (o && a) (s ∷ in_air updates i shots) (in_air updates i shots)) x y) ≡
+        cond o (cond b (ring (square x y s.x s.y)) 0) 0 + sum (bursts update (in_air updates i shots) x y)
     step false a b t f h = omega arith
     step true true b t f h = rw t at h
     step true false true t f h = let never = f refl in absurd (cc)
     step true false false t f h = omega arith
 
-no_shares : (updates update x y n : ℕ) → totals (λ i. sum (bursts update (in_air updates i []) x y)) n ≡ sum (bursts update [] x y)
+no_shares : (updates update x y n : ℕ) →
+    totals (λ i. sum (bursts update (in_air updates i []) x y)) n ≡ sum (bursts update [] x y)
 unfolding in_air bursts due_at
 no_shares updates update x y n = totals_of_none n
 
-pub shares : (updates update x y n : ℕ) (shots : List Shot) → update ≡ updates + 1 → All (λ s. s.owner < n) shots → totals (λ i. sum (bursts update (in_air updates i shots) x y)) n ≡ sum (bursts update shots x y)
+pub shares : (updates update x y n : ℕ) (shots : List Shot) → update ≡ updates + 1 → All (λ s. s.owner < n) shots →
+    totals (λ i. sum (bursts update (in_air updates i shots) x y)) n ≡ sum (bursts update shots x y)
 shares updates update x y n [] e owned = no_shares updates update x y n
 shares updates update x y n (s ∷ shots) e owned =
     let share = λ (i : ℕ). sum (bursts update (in_air updates i shots) x y) in
     let mine = λ (i : ℕ). cond (s.owner == i) (hurt update x y s) 0 in
-    let split = totals_same (λ i. sum (bursts update (in_air updates i (s ∷ shots)) x y)) (λ i. mine i + share i) n (λ i l. own_share updates update x y i s shots e) in
+    let split =
+    totals_same (λ i. sum (bursts update (in_air updates i (s ∷ shots)) x y)) (λ i. mine i + share i) n
+    (λ i l. own_share updates update x y i s shots e) in
     let both = totals_of_sums mine share n in
     let one = totals_of_one s.owner (hurt update x y s) n (owned 0 s (omega arith)) in
     let rest = shares updates update x y n shots e (λ k d l. owned (suc k) d (omega arith)) in
@@ -203,14 +260,18 @@ shares updates update x y n (s ∷ shots) e owned =
     omega arith
 
 -- what the slots take is what all shots take
-pub all_hurts : (updates update x y : ℕ) (slots : List (List Missile)) (shots : List Shot) → update ≡ updates + 1 → HoldsShots updates slots shots → sum (map (hurt_by update x y) slots) ≡ sum (bursts update shots x y)
+pub all_hurts : (updates update x y : ℕ) (slots : List (List Missile)) (shots : List Shot) → update ≡ updates + 1 →
+    HoldsShots updates slots shots → sum (map (hurt_by update x y) slots) ≡ sum (bursts update shots x y)
 all_hurts updates update x y slots shots e holds =
     totals_of_list (hurt_by update x y) slots []
-    ∙ totals_same (λ i. hurt_by update x y (get_or slots i [])) (λ i. sum (bursts update (in_air updates i shots) x y)) (length slots)
+    ∙
+    totals_same (λ i. hurt_by update x y (get_or slots i [])) (λ i. sum (bursts update (in_air updates i shots) x y))
+    (length slots)
     (λ i l. any_owner update x y 0 i (get_or slots i []) ∙ ap (λ ss. sum (bursts update ss x y)) (holds.in_air i l))
     ∙ shares updates update x y (length slots) shots e holds.owned
 
-none_past : (updates i n : ℕ) (shots : List Shot) → n ≤ i → All (λ s. s.owner < n) shots → length (in_air updates i shots) ≡ 0
+none_past : (updates i n : ℕ) (shots : List Shot) → n ≤ i → All (λ s. s.owner < n) shots →
+    length (in_air updates i shots) ≡ 0
 unfolding in_air
 none_past updates i n [] h owned = refl
 none_past updates i n (s ∷ shots) h owned =
@@ -219,38 +280,51 @@ none_past updates i n (s ∷ shots) h owned =
     rw no (none_past updates i n shots h (λ k d l. owned (suc k) d (omega arith)))
 
 -- no robot has more than two in the air
-pub at_most_two : (updates : ℕ) (slots : List (List Missile)) (shots : List Shot) → HoldsShots updates slots shots → All (λ s. length s ≤ 2) slots → (i : ℕ) → length (in_air updates i shots) ≤ 2
+pub at_most_two : (updates : ℕ) (slots : List (List Missile)) (shots : List Shot) → HoldsShots updates slots shots →
+    All (λ s. length s ≤ 2) slots → (i : ℕ) → length (in_air updates i shots) ≤ 2
 at_most_two updates slots shots holds two i =
     by_test (nat_lt i (length slots)) (λ e. grind (arith, nat_tests)) (λ e. grind (arith, nat_tests))
   where
-    by_test : (b : Bool) → (b ≡ true → i < length slots) → (b ≡ false → length slots ≤ i) → length (in_air updates i shots) ≤ 2
+    by_test : (b : Bool) → (b ≡ true → i < length slots) → (b ≡ false → length slots ≤ i) →
+        length (in_air updates i shots) ≤ 2
     by_test true f g = let l = f refl in subst (λ ss. length ss ≤ 2) (holds.in_air i l) (rw length-map (two i [] l))
     by_test false f g = let none = none_past updates i (length slots) shots (g refl) holds.owned in omega arith
 
-pub two_landed : (update : ℕ) (slots landed : List (List Missile)) → length landed ≡ length slots → ((i : ℕ) → i < length slots → get_or landed i [] ≡ filter (λ m. nat_lt update m.burst) (get_or slots i [])) → All (λ s. length s ≤ 2) slots → All (λ s. length s ≤ 2) landed
+pub two_landed : (update : ℕ) (slots landed : List (List Missile)) → length landed ≡ length slots →
+    ((i : ℕ) → i < length slots → get_or landed i [] ≡ filter (λ m. nat_lt update m.burst) (get_or slots i [])) →
+    All (λ s. length s ≤ 2) slots → All (λ s. length s ≤ 2) landed
 two_landed update slots landed size each two k d l =
     let inside : k < length slots = omega (arith, l, size) in
-    let fewer = length-filter_both (λ (m : Missile). nat_lt update m.burst) (λ m. not (nat_lt update m.burst)) (λ m. refl) (get_or slots k []) in
+    let fewer =
+    length-filter_both (λ (m : Missile). nat_lt update m.burst) (λ m. not (nat_lt update m.burst)) (λ m. refl)
+    (get_or slots k []) in
     let most = two k [] inside in
     rw (inside_is landed k d [] l, each k inside) (omega arith)
 
 -- a missile that bursts in another update takes nothing
-pub not_due : (owner update x y : ℕ) (m : Missile) → (m.burst ≡ update → ⊥) → sum (bursts update (shot_of owner m ∷ []) x y) ≡ 0
+pub not_due : (owner update x y : ℕ) (m : Missile) → (m.burst ≡ update → ⊥) →
+    sum (bursts update (shot_of owner m ∷ []) x y) ≡ 0
 unfolding bursts due_at shot_of
 not_due owner update x y m h = rw (ne_eqb m.burst update h) refl
 
 -- one robot more
-pub robot_more : (f : List Missile → ℕ) (slots : List (List Missile)) (i : ℕ) (ms : List Missile) → i < length slots → ms ≡ get_or slots i ms → sum (map f (take (i + 1) slots)) ≡ sum (map f (take i slots)) + f ms
-robot_more f slots i ms h e = rw (take_more slots i ms h, ← e, map-append) (omega (arith, sum_by-append (λ x. x) (map f (take i slots)) (f ms ∷ [])))
+pub robot_more : (f : List Missile → ℕ) (slots : List (List Missile)) (i : ℕ) (ms : List Missile) → i < length slots →
+    ms ≡ get_or slots i ms → sum (map f (take (i + 1) slots)) ≡ sum (map f (take i slots)) + f ms
+robot_more f slots i ms h e =
+    rw (take_more slots i ms h, ← e, map-append)
+    (omega (arith, sum_by-append (λ x. x) (map f (take i slots)) (f ms ∷ [])))
 
 -- one missile more that still flies
-pub flies_more : (update : ℕ) (ms : List Missile) (i : ℕ) (m : Missile) → i < length ms → m ≡ get_or ms i m → nat_lt update m.burst ≡ true → filter (λ m. nat_lt update m.burst) (take i ms) ≡ take i ms → filter (λ m. nat_lt update m.burst) (take (i + 1) ms) ≡ take (i + 1) ms
+pub flies_more : (update : ℕ) (ms : List Missile) (i : ℕ) (m : Missile) → i < length ms → m ≡ get_or ms i m →
+    nat_lt update m.burst ≡ true → filter (λ m. nat_lt update m.burst) (take i ms) ≡ take i ms →
+    filter (λ m. nat_lt update m.burst) (take (i + 1) ms) ≡ take (i + 1) ms
 flies_more update ms i m h e flies before =
     rw (take_more ms i m h, ← e, filter-append (λ m. nat_lt update m.burst) (take i ms) (m ∷ []), before)
     (ap (λ b. take i ms ++ cond b (m ∷ []) []) flies)
 
 -- with nothing in the air nothing is hurt, and nothing is in the air after the update
-sum_none : (f : List Missile → ℕ) (slots : List (List Missile)) → f [] ≡ 0 → All (λ s. s ≡ []) slots → sum (map f slots) ≡ 0
+sum_none : (f : List Missile → ℕ) (slots : List (List Missile)) → f [] ≡ 0 → All (λ s. s ≡ []) slots →
+    sum (map f slots) ≡ 0
 sum_none f [] e none = refl
 sum_none f (s ∷ slots) e none =
     let here : f s ≡ 0 = ap f (none 0 s (omega arith)) ∙ e in
@@ -258,12 +332,14 @@ sum_none f (s ∷ slots) e none =
     let both = sum-cons (f s) (map f slots) in
     omega arith
 
-pub none_hurt : (updates update x y : ℕ) (slots : List (List Missile)) (shots : List Shot) → update ≡ updates + 1 → HoldsShots updates slots shots → All (λ s. s ≡ []) slots → sum (bursts update shots x y) ≡ 0
+pub none_hurt : (updates update x y : ℕ) (slots : List (List Missile)) (shots : List Shot) → update ≡ updates + 1 →
+    HoldsShots updates slots shots → All (λ s. s ≡ []) slots → sum (bursts update shots x y) ≡ 0
 unfolding bursts due_at
 none_hurt updates update x y slots shots e holds none =
     sym (all_hurts updates update x y slots shots e holds) ∙ sum_none (hurt_by update x y) slots refl none
 
-pub holds_still : (updates update : ℕ) (slots : List (List Missile)) (shots : List Shot) → update ≡ updates + 1 → HoldsShots updates slots shots → All (λ s. s ≡ []) slots → HoldsShots update slots shots
+pub holds_still : (updates update : ℕ) (slots : List (List Missile)) (shots : List Shot) → update ≡ updates + 1 →
+    HoldsShots updates slots shots → All (λ s. s ≡ []) slots → HoldsShots update slots shots
 holds_still updates update slots shots e holds none =
     holds_landed updates update slots slots shots e refl (λ i l. rw (none i [] l) refl) holds
 
@@ -272,7 +348,8 @@ hurt_later : (update x y : ℕ) (s : Shot) → update < s.burst → hurt update 
 unfolding hurt
 hurt_later update x y s early = rw (ne_eqb s.burst update (λ e. absurd (omega arith))) refl
 
-quiet_own : (update before x y : ℕ) (ms : List Missile) → update < before → All (λ m. before ≤ m.burst) ms → hurt_by update x y ms ≡ 0
+quiet_own : (update before x y : ℕ) (ms : List Missile) → update < before → All (λ m. before ≤ m.burst) ms →
+    hurt_by update x y ms ≡ 0
 unfolding bursts due_at shot_of
 quiet_own update before x y [] early h = refl
 quiet_own update before x y (m ∷ ms) early h =
@@ -290,33 +367,45 @@ sum_zero f (s ∷ slots) h =
     let both = sum-cons (f s) (map f slots) in
     omega arith
 
-pub quiet_hurts : (updates update before x y : ℕ) (slots : List (List Missile)) (shots : List Shot) → update ≡ updates + 1 → update < before → NoneBefore before slots → HoldsShots updates slots shots → sum (bursts update shots x y) ≡ 0
+pub quiet_hurts : (updates update before x y : ℕ) (slots : List (List Missile)) (shots : List Shot) →
+    update ≡ updates + 1 → update < before → NoneBefore before slots → HoldsShots updates slots shots →
+    sum (bursts update shots x y) ≡ 0
 quiet_hurts updates update before x y slots shots e early later holds =
-    sym (all_hurts updates update x y slots shots e holds) ∙ sum_zero (hurt_by update x y) slots (λ k d l. quiet_own update before x y (get_or slots k d) early (later k d l))
+    sym (all_hurts updates update x y slots shots e holds) ∙
+    sum_zero (hurt_by update x y) slots
+    (λ k d l. quiet_own update before x y (get_or slots k d) early (later k d l))
 
-all_later : (update before : ℕ) (ms : List Missile) → update < before → All (λ m. before ≤ m.burst) ms → filter (λ m. nat_lt update m.burst) ms ≡ ms
+all_later : (update before : ℕ) (ms : List Missile) → update < before → All (λ m. before ≤ m.burst) ms →
+    filter (λ m. nat_lt update m.burst) ms ≡ ms
 all_later update before [] early h = refl
 all_later update before (m ∷ ms) early h =
     let late : before ≤ m.burst = h 0 m (omega arith) in
     let flies : nat_lt update m.burst ≡ true = grind (arith, nat_tests) in
     rw (flies, all_later update before ms early (λ k d l. h (suc k) d (omega arith))) refl
 
-pub holds_quiet : (updates update before : ℕ) (slots : List (List Missile)) (shots : List Shot) → update ≡ updates + 1 → update < before → NoneBefore before slots → HoldsShots updates slots shots → HoldsShots update slots shots
+pub holds_quiet : (updates update before : ℕ) (slots : List (List Missile)) (shots : List Shot) → update ≡ updates + 1 →
+    update < before → NoneBefore before slots → HoldsShots updates slots shots → HoldsShots update slots shots
 holds_quiet updates update before slots shots e early later holds =
-    holds_landed updates update slots slots shots e refl (λ i l. sym (all_later update before (get_or slots i []) early (later i [] l))) holds
+    holds_landed updates update slots slots shots e refl
+    (λ i l. sym (all_later update before (get_or slots i []) early (later i [] l))) holds
 
 -- the least of the bursts so far
-pub least_more : (ms : List Missile) (i : ℕ) (m : Missile) (n next : ℕ) → i < length ms → m ≡ get_or ms i m → next ≤ n → next ≤ m.burst → All (λ m. n ≤ m.burst) (take i ms) → All (λ m. next ≤ m.burst) (take (i + 1) ms)
+pub least_more : (ms : List Missile) (i : ℕ) (m : Missile) (n next : ℕ) → i < length ms → m ≡ get_or ms i m → next ≤ n →
+    next ≤ m.burst → All (λ m. n ≤ m.burst) (take i ms) → All (λ m. next ≤ m.burst) (take (i + 1) ms)
 least_more ms i m n next l e low here h =
-    All-more (λ (m : Missile). next ≤ m.burst) ms i m l (λ k d inside. omega (arith, h k d inside)) (subst (λ (m : Missile). next ≤ m.burst) e here)
+    All-more (λ (m : Missile). next ≤ m.burst) ms i m l (λ k d inside. omega (arith, h k d inside))
+    (subst (λ (m : Missile). next ≤ m.burst) e here)
 
 pub sooner : (n next : ℕ) (ms : List Missile) → next ≤ n → All (λ m. n ≤ m.burst) ms → All (λ m. next ≤ m.burst) ms
 sooner n next ms low h = λ k d inside. omega (arith, h k d inside)
 
-pub least_of_more : (slots : List (List Missile)) (i : ℕ) (ms : List Missile) (n own next : ℕ) → i < length slots → ms ≡ get_or slots i ms → next ≤ n → next ≤ own → All (λ m. own ≤ m.burst) ms → NoneBefore n (take i slots) → NoneBefore next (take (i + 1) slots)
+pub least_of_more : (slots : List (List Missile)) (i : ℕ) (ms : List Missile) (n own next : ℕ) → i < length slots →
+    ms ≡ get_or slots i ms → next ≤ n → next ≤ own → All (λ m. own ≤ m.burst) ms → NoneBefore n (take i slots) →
+    NoneBefore next (take (i + 1) slots)
 least_of_more slots i ms n own next l e low lower here h =
     let Later : List Missile → Type 0 = λ ms. All (λ m. next ≤ m.burst) ms in
-    All-more Later slots i ms l (λ k d inside. sooner n next (get_or (take i slots) k d) low (h k d inside)) (subst Later e (sooner own next ms lower here))
+    All-more Later slots i ms l (λ k d inside. sooner n next (get_or (take i slots) k d) low (h k d inside))
+    (subst Later e (sooner own next ms lower here))
 
 pub sooner_all : (n next : ℕ) (slots : List (List Missile)) → next ≤ n → NoneBefore n slots → NoneBefore next slots
 sooner_all n next slots low h = λ k d l. sooner n next (get_or slots k d) low (h k d l)
@@ -324,34 +413,47 @@ sooner_all n next slots low h = λ k d l. sooner n next (get_or slots k d) low (
 -- with nothing in the air none bursts
 pub before_none : (n update : ℕ) (slots : List (List Missile)) → slots ≡ replicate n [] → NoneBefore update slots
 before_none n update slots e = subst (λ (slots : List (List Missile)). NoneBefore update slots) (sym e)
-    (λ k d l. subst (λ (ms : List Missile). All (λ m. update ≤ m.burst) ms) (sym (at_none n k d l)) (λ k2 d2 l2. absurd (omega (arith, l2))))
+    (λ k d l. subst (λ (ms : List Missile). All (λ m. update ≤ m.burst) ms) (sym (at_none n k d l))
+    (λ k2 d2 l2. absurd (omega (arith, l2))))
   where
-    at_none : (n k : ℕ) (d : List Missile) → k < length {A = List Missile} (replicate n []) → get_or {A = List Missile} (replicate n []) k d ≡ []
+    at_none : (n k : ℕ) (d : List Missile) → k < length {A = List Missile} (replicate n []) →
+        get_or {A = List Missile} (replicate n []) k d ≡ []
     at_none zero k d l = absurd (omega (arith, l))
     at_none (suc n) zero d l = refl
     at_none (suc n) (suc k) d l = at_none n k d (omega (arith, l))
 
 -- what the missiles of one robot that burst do
-due_own : (update x y : ℕ) (ms : List Missile) → map (λ s. ring (square x y s.x s.y)) (filter (λ s. s.burst == update) (map (shot_of 0) ms)) ≡ map (harm x y) (filter (λ m. m.burst == update) ms)
+due_own : (update x y : ℕ) (ms : List Missile) →
+    map (λ s. ring (square x y s.x s.y)) (filter (λ s. s.burst == update) (map (shot_of 0) ms)) ≡
+    map (harm x y) (filter (λ m. m.burst == update) ms)
 unfolding harm shot_of
 due_own update x y [] = refl
 due_own update x y (m ∷ ms) = by_burst (m.burst == update) (due_own update x y ms)
   where
-    by_burst : (b : Bool) → map (λ s. ring (square x y s.x s.y)) (filter (λ s. s.burst == update) (map (shot_of 0) ms)) ≡ map (harm x y) (filter (λ m. m.burst == update) ms) →
-        map (λ (s : Shot). ring (square x y s.x s.y)) (cond b (shot_of 0 m ∷ filter (λ s. s.burst == update) (map (shot_of 0) ms)) (filter (λ s. s.burst == update) (map (shot_of 0) ms))) ≡ map (harm x y) (cond b (m ∷ filter (λ m. m.burst == update) ms) (filter (λ m. m.burst == update) ms))
+    by_burst : (b : Bool) →
+        map (λ s. ring (square x y s.x s.y)) (filter (λ s. s.burst == update) (map (shot_of 0) ms)) ≡
+        map (harm x y) (filter (λ m. m.burst == update) ms) →
+        map (λ (s : Shot). ring (square x y s.x s.y))
+        (cond b (shot_of 0 m ∷ filter (λ s. s.burst == update) (map (shot_of 0) ms))
+        (filter (λ s. s.burst == update) (map (shot_of 0) ms))) ≡
+        map (harm x y) (cond b (m ∷ filter (λ m. m.burst == update) ms) (filter (λ m. m.burst == update) ms))
     by_burst true e = ap (λ l. ring (square x y m.x m.y) ∷ l) e
     by_burst false e = e
 
-own_hurts : (update x y : ℕ) (ms : List Missile) → sum (map (harm x y) (filter (λ m. m.burst == update) ms)) ≡ hurt_by update x y ms
+own_hurts : (update x y : ℕ) (ms : List Missile) →
+    sum (map (harm x y) (filter (λ m. m.burst == update) ms)) ≡ hurt_by update x y ms
 unfolding bursts due_at
 own_hurts update x y ms = ap sum (sym (due_own update x y ms))
 
 -- one robot's missiles more
-pub due_more : (update x y : ℕ) (slots : List (List Missile)) (i : ℕ) (ms due more : List Missile) → i < length slots → ms ≡ get_or slots i ms → sum (map (harm x y) due) ≡ sum (map (hurt_by update x y) (take i slots)) →
-    more ≡ due ++ filter (λ m. m.burst == update) ms → sum (map (harm x y) more) ≡ sum (map (hurt_by update x y) (take (i + 1) slots))
+pub due_more : (update x y : ℕ) (slots : List (List Missile)) (i : ℕ) (ms due more : List Missile) → i < length slots →
+    ms ≡ get_or slots i ms → sum (map (harm x y) due) ≡ sum (map (hurt_by update x y) (take i slots)) →
+    more ≡ due ++ filter (λ m. m.burst == update) ms →
+    sum (map (harm x y) more) ≡ sum (map (hurt_by update x y) (take (i + 1) slots))
 due_more update x y slots i ms due more inside at before m =
     let own = filter (λ m. m.burst == update) ms in
-    let parts : sum (map (harm x y) (due ++ own)) ≡ sum (map (harm x y) due) + sum (map (harm x y) own) = ap sum (map-append (harm x y) due own) ∙ sum_by-append (λ x. x) (map (harm x y) due) (map (harm x y) own) in
+    let parts : sum (map (harm x y) (due ++ own)) ≡ sum (map (harm x y) due) + sum (map (harm x y) own) =
+    ap sum (map-append (harm x y) due own) ∙ sum_by-append (λ x. x) (map (harm x y) due) (map (harm x y) own) in
     let one = robot_more (hurt_by update x y) slots i ms inside at in
     let mine = own_hurts update x y ms in
     let whole = ap (λ l. sum (map (harm x y) l)) m in

@@ -35,5 +35,7 @@ past_rings n h = grind (arith, nat_tests)
 
 pub far_harm : (x y to_x to_y : ℕ) → (400 < abs_diff x to_x) ⊎ (400 < abs_diff y to_y) → ring (square x y to_x to_y) ≡ 0
 unfolding square
-far_harm x y to_x to_y (inl far) = past_rings _ (omega (arith, mul-le 401 401 (abs_diff x to_x) (abs_diff x to_x) (omega arith) (omega arith)))
-far_harm x y to_x to_y (inr far) = past_rings _ (omega (arith, mul-le 401 401 (abs_diff y to_y) (abs_diff y to_y) (omega arith) (omega arith)))
+far_harm x y to_x to_y (inl far) =
+    past_rings _ (omega (arith, mul-le 401 401 (abs_diff x to_x) (abs_diff x to_x) (omega arith) (omega arith)))
+far_harm x y to_x to_y (inr far) =
+    past_rings _ (omega (arith, mul-le 401 401 (abs_diff y to_y) (abs_diff y to_y) (omega arith) (omega arith)))

@@ -13,7 +13,7 @@ use Rattle.arena.specs.Moved.{moved_robot, moved}
 use Rattle.arena.specs.Ground.{Ground, body_of}
 use Rattle.arena.specs.Standing.{StandsFor}
 use Rattle.arena.specs.Drive.{ahead}
-use Rattle.arena.specs.Rest.{Stays, IsStill, moved_times}
+use Rattle.arena.specs.Still.{Stays, IsStill, moved_times}
 use Rattle.arena.proofs.Loops.{after_at, after_all}
 use Rattle.arena.proofs.SlotLaws.{none_hurt, holds_still}
 use Rattle.arena.proofs.Touches.{touches_none}
@@ -49,7 +49,10 @@ moves_not : (robot : Robot) → Stays (body_of robot) → moves (mover robot) �
 unfolding moves mover
 moves_not robot stays =
     let still = candidate_is robot stays in
-    rw (same_is (place_x (candidate robot)) (place_x robot.leg) (ap place_x still), same_is (place_y (candidate robot)) (place_y robot.leg) (ap place_y still)) refl
+    rw (
+      same_is (place_x (candidate robot)) (place_x robot.leg) (ap place_x still),
+      same_is (place_y (candidate robot)) (place_y robot.leg) (ap place_y still),
+    ) refl
 
 -- and it touches none that doesn't move either
 blocked : (a b c d : Bool) → (a && b && c && false && d) ≡ false
@@ -62,7 +65,8 @@ collides_not : (a b : Mover) → moves a ≡ false → moves b ≡ false → col
 unfolding collides
 collides_not a b p q = rw (p, q) (blocked a.live b.live (is_close a b) (is_no_further a b))
 
-touches_still : (movers : List Mover) (i : ℕ) → i < length movers → All (λ m. moves m ≡ false) movers → touches movers i ≡ 0
+touches_still : (movers : List Mover) (i : ℕ) → i < length movers → All (λ m. moves m ≡ false) movers →
+    touches movers i ≡ 0
 touches_still movers i inside still =
     let Still : Mover → Type 0 = λ m. moves m ≡ false in
     let m = get_or movers i (mover no_robot) in
@@ -83,43 +87,58 @@ ahead_stays robot stays =
     by_life true e = let r = live_rests robot stays e in ap hits_wall r.stands ∙ r.free
     by_life false e = refl
 
-stays_as_is : (robot : Robot) (update : ℕ) (shots : List Shot) → Stays (body_of robot) → ((x y : ℕ) → sum (bursts update shots x y) ≡ 0) → body_of robot ≡ body_of (moved_robot update shots 0 robot)
+stays_as_is : (robot : Robot) (update : ℕ) (shots : List Shot) → Stays (body_of robot) →
+    ((x y : ℕ) → sum (bursts update shots x y) ≡ 0) → body_of robot ≡ body_of (moved_robot update shots 0 robot)
 stays_as_is robot update shots stays none = sym (ahead_stays robot stays) ∙ ahead_is robot update shots none
 
 -- all robots
-robot_stays : (robots : List Robot) (i : ℕ) → i < length robots → All Stays (map body_of robots) → Stays (body_of (get_or robots i no_robot))
+robot_stays : (robots : List Robot) (i : ℕ) → i < length robots → All Stays (map body_of robots) →
+    Stays (body_of (get_or robots i no_robot))
 robot_stays robots i inside all =
-    subst Stays (get_or-map body_of robots i no_robot (body_of no_robot) inside) (all i (body_of no_robot) (omega (arith, length-map robots body_of)))
+    subst Stays (get_or-map body_of robots i no_robot (body_of no_robot) inside)
+    (all i (body_of no_robot) (omega (arith, length-map robots body_of)))
 
 movers_still : (robots : List Robot) → All Stays (map body_of robots) → All (λ m. moves m ≡ false) (map mover robots)
 movers_still robots all k d l =
     let inside : k < length robots = omega (arith, length-map robots mover) in
-    rw (get_or-map mover robots k no_robot d inside) (moves_not (get_or robots k no_robot) (robot_stays robots k inside all))
+    rw (get_or-map mover robots k no_robot d inside)
+    (moves_not (get_or robots k no_robot) (robot_stays robots k inside all))
 
-each_stays : (f : Field) (i : ℕ) → i < length f.robots → All Stays (map body_of f.robots) → ((x y : ℕ) → sum (bursts (f.updates + 1) f.shots x y) ≡ 0) → body_of (get_or f.robots i no_robot) ≡ after_at f i
+each_stays : (f : Field) (i : ℕ) → i < length f.robots → All Stays (map body_of f.robots) →
+    ((x y : ℕ) → sum (bursts (f.updates + 1) f.shots x y) ≡ 0) → body_of (get_or f.robots i no_robot) ≡ after_at f i
 unfolding robot_at
 each_stays f i inside all none =
-    let untouched = touches_still (map mover f.robots) i (omega (arith, length-map f.robots mover)) (movers_still f.robots all) in
-    rw untouched (stays_as_is (get_or f.robots i no_robot) (f.updates + 1) f.shots (robot_stays f.robots i inside all) none)
+    let untouched =
+    touches_still (map mover f.robots) i (omega (arith, length-map f.robots mover)) (movers_still f.robots all) in
+    rw untouched
+    (stays_as_is (get_or f.robots i no_robot) (f.updates + 1) f.shots (robot_stays f.robots i inside all) none)
 
-all_stay : (f : Field) → ((i : ℕ) → i < length f.robots → body_of (get_or f.robots i no_robot) ≡ after_at f i) → (n : ℕ) → n ≤ length f.robots → map body_of (take n f.robots) ≡ map (after_at f) (range_with_len 0 n)
+all_stay : (f : Field) → ((i : ℕ) → i < length f.robots → body_of (get_or f.robots i no_robot) ≡ after_at f i) →
+    (n : ℕ) → n ≤ length f.robots → map body_of (take n f.robots) ≡ map (after_at f) (range_with_len 0 n)
 all_stay f each zero h = refl
 all_stay f each (suc n) h =
     let Same : ℕ → Type 0 = λ k. map body_of (take k f.robots) ≡ map (after_at f) (range_with_len 0 k) in
     subst Same (add-one n)
-    (map_more body_of f.robots n no_robot h ∙ ap (λ bs. bs ++ body_of (get_or f.robots n no_robot) ∷ []) (all_stay f each n (omega arith)) ∙
-    ap (λ b. map (after_at f) (range_with_len 0 n) ++ b ∷ []) (each n h) ∙ sym (map-range_with_len_more (after_at f) 0 n n (omega arith)))
+    (map_more body_of f.robots n no_robot h ∙
+    ap (λ bs. bs ++ body_of (get_or f.robots n no_robot) ∷ []) (all_stay f each n (omega arith)) ∙
+    ap (λ b. map (after_at f) (range_with_len 0 n) ++ b ∷ []) (each n h) ∙
+    sym (map-range_with_len_more (after_at f) 0 n n (omega arith)))
 
 -- the arena that only counts represents the field after the update
-pub only_counts : (g : Ground) (f : Field) → StandsFor g f → IsStill g.robots g.slots → StandsFor (record g { updates = g.updates + 1 }) (moved f)
+pub only_counts : (g : Ground) (f : Field) → StandsFor g f → IsStill g.robots g.slots →
+    StandsFor (record g { updates = g.updates + 1 }) (moved f)
 only_counts g f s still =
     let stay = subst (λ bs. All Stays bs) s.robots still.stay in
     let none = λ (x y : ℕ). none_hurt f.updates (f.updates + 1) x y g.slots f.shots refl s.missiles still.none_flies in
-    let robots = ap (map body_of) (sym (take_all (length f.robots) f.robots (omega arith))) ∙ all_stay f (λ i l. each_stays f i l stay none) (length f.robots) (omega arith) ∙ after_all f in
-    updates g (record g { updates = g.updates + 1 }) f s refl refl (s.robots ∙ robots) (holds_still f.updates (f.updates + 1) g.slots f.shots refl s.missiles still.none_flies)
+    let robots =
+    ap (map body_of) (sym (take_all (length f.robots) f.robots (omega arith))) ∙
+    all_stay f (λ i l. each_stays f i l stay none) (length f.robots) (omega arith) ∙ after_all f in
+    updates g (record g { updates = g.updates + 1 }) f s refl refl (s.robots ∙ robots)
+    (holds_still f.updates (f.updates + 1) g.slots f.shots refl s.missiles still.none_flies)
 
 -- and so for some updates
-pub only_rests : (g : Ground) (f : Field) (n : ℕ) → StandsFor g f → IsStill g.robots g.slots → StandsFor (record g { updates = g.updates + n }) (moved_times n f)
+pub only_rests : (g : Ground) (f : Field) (n : ℕ) → StandsFor g f → IsStill g.robots g.slots →
+    StandsFor (record g { updates = g.updates + n }) (moved_times n f)
 unfolding moved_times
 only_rests g f zero s still =
     let none : g.updates + 0 ≡ g.updates = omega arith in

@@ -8,12 +8,13 @@ use Rattle.arena.specs.Leg.{Leg, place_x, place_y, tried, driven, hits_wall}
 use Rattle.arena.specs.Field.{Shot, Robot, damage_of, is_alive}
 use Rattle.arena.specs.Collisions.{candidate}
 use Rattle.arena.specs.Shots.{bursts}
-use Rattle.arena.specs.Moved.{settled, knocks, moved_robot}
+use Rattle.arena.specs.Moved.{leg_after, knocks, moved_robot}
 use Rattle.arena.specs.Ground.{Track, track_of, Body, body_of}
 use Rattle.arena.specs.Drive.{ahead}
 
 -- a dead robot stays as it is
-pub dead_is : (robot : Robot) (update : ℕ) (shots : List Shot) (touched : ℕ) → is_alive robot ≡ false → robot ≡ moved_robot update shots touched robot
+pub dead_is : (robot : Robot) (update : ℕ) (shots : List Shot) (touched : ℕ) → is_alive robot ≡ false →
+    robot ≡ moved_robot update shots touched robot
 unfolding moved_robot
 dead_is robot update shots touched h = rw h refl
 
@@ -23,45 +24,62 @@ unfolding knocks
 sum_knocks leg touched = by_wall (hits_wall (tried leg))
   where
     by_wall : (w : Bool) → sum (cond w (2 ∷ []) [] ++ replicate touched 2) ≡ cond w 2 0 + 2 * touched
-    by_wall true = omega (arith, sum_by-append (λ (x : ℕ). x) (2 ∷ []) (replicate touched 2), sum_by-replicate (λ (x : ℕ). x) touched 2)
+    by_wall true =
+        omega (
+          arith,
+          sum_by-append (λ (x : ℕ). x) (2 ∷ []) (replicate touched 2),
+          sum_by-replicate (λ (x : ℕ). x) touched 2,
+        )
     by_wall false = omega (arith, sum_by-replicate (λ (x : ℕ). x) touched 2)
 
 pub worn_is : (hurts : List ℕ) (leg : Leg) (touched : ℕ) (burst : List ℕ) →
-    min (sum (hurts ++ knocks leg touched ++ burst)) 100 ≡ min (min (sum hurts) 100 + cond (hits_wall (tried leg)) 2 0 + 2 * touched + sum burst) 100
+    min (sum (hurts ++ knocks leg touched ++ burst)) 100 ≡
+    min (min (sum hurts) 100 + cond (hits_wall (tried leg)) 2 0 + 2 * touched + sum burst) 100
 worn_is hurts leg touched burst =
-    omega (arith, sum_by-append (λ (x : ℕ). x) (hurts ++ knocks leg touched) burst, sum_by-append (λ (x : ℕ). x) hurts (knocks leg touched), sum_knocks leg touched)
+    omega (
+      arith,
+      sum_by-append (λ (x : ℕ). x) (hurts ++ knocks leg touched) burst,
+      sum_by-append (λ (x : ℕ). x) hurts (knocks leg touched),
+      sum_knocks leg touched,
+    )
 
 -- a live robot gets its new motion and its new damage, of which walls took theirs first
 pub alive_is : (robot : Robot) (motion : Track) (update : ℕ) (shots : List Shot) (touched walled burst damage : ℕ) →
-    is_alive robot ≡ true → motion ≡ track_of (settled robot.leg touched) → walled ≡ min (damage_of robot + cond (is_alive robot && hits_wall (tried robot.leg)) 2 0) 100 →
+    is_alive robot ≡ true → motion ≡ track_of (leg_after robot.leg touched) →
+    walled ≡ min (damage_of robot + cond (is_alive robot && hits_wall (tried robot.leg)) 2 0) 100 →
     burst ≡ sum (bursts update shots motion.x motion.y) →
     damage ≡ min (walled + 2 * touched + burst) 100 →
     record { track = motion; damage = damage } ≡ body_of (moved_robot update shots touched robot)
 unfolding moved_robot body_of damage_of track_of
 alive_is robot motion update shots touched walled burst damage live m w b d =
-    let leg = settled robot.leg touched in
+    let leg = leg_after robot.leg touched in
     let wall : walled ≡ min (damage_of robot + cond (hits_wall (tried robot.leg)) 2 0) 100 = rw live at w in
-    let burst_is : burst ≡ sum (bursts update shots (place_x leg) (place_y leg)) = b ∙ ap (λ (t : Track). sum (bursts update shots t.x t.y)) m in
+    let burst_is : burst ≡ sum (bursts update shots (place_x leg) (place_y leg)) =
+    b ∙ ap (λ (t : Track). sum (bursts update shots t.x t.y)) m in
     let sum_is = worn_is robot.hurts robot.leg touched (bursts update shots (place_x leg) (place_y leg)) in
-    let damage_is : damage ≡ min (sum (robot.hurts ++ knocks robot.leg touched ++ bursts update shots (place_x leg) (place_y leg))) 100 =
+    let damage_is : damage ≡
+    min (sum (robot.hurts ++ knocks robot.leg touched ++ bursts update shots (place_x leg) (place_y leg))) 100 =
     omega (arith, d, wall, burst_is, sum_is) in
     rw (live, m, damage_is) refl
 
 -- a dead robot stays where it is
 pub dead_stays : (robot : Robot) → is_alive robot ≡ false → ahead robot ≡ body_of robot
 unfolding ahead candidate body_of damage_of
-dead_stays robot dead = let same : min (min (sum robot.hurts) 100 + 0) 100 ≡ min (sum robot.hurts) 100 = omega arith in rw (dead, same) refl
+dead_stays robot dead =
+    let same : min (min (sum robot.hurts) 100 + 0) 100 ≡ min (sum robot.hurts) 100 = omega arith in rw (dead, same) refl
 
 -- one that touches none, with no burst, is where it drove on its own
-live_is : (robot : Robot) (update : ℕ) (shots : List Shot) → ((x y : ℕ) → sum (bursts update shots x y) ≡ 0) → is_alive robot ≡ true → ahead robot ≡ body_of (moved_robot update shots 0 robot)
-unfolding ahead candidate settled
+live_is : (robot : Robot) (update : ℕ) (shots : List Shot) → ((x y : ℕ) → sum (bursts update shots x y) ≡ 0) →
+    is_alive robot ≡ true → ahead robot ≡ body_of (moved_robot update shots 0 robot)
+unfolding ahead candidate leg_after
 live_is robot update shots none live =
     let t = track_of (driven robot.leg) in
     let d = min (damage_of robot + cond (is_alive robot && hits_wall (tried robot.leg)) 2 0) 100 in
     let drove : candidate robot ≡ driven robot.leg = rw live refl in
     rw drove (alive_is robot t update shots 0 d 0 d live refl refl (sym (none t.x t.y)) (omega arith))
 
-pub ahead_is : (robot : Robot) (update : ℕ) (shots : List Shot) → ((x y : ℕ) → sum (bursts update shots x y) ≡ 0) → ahead robot ≡ body_of (moved_robot update shots 0 robot)
+pub ahead_is : (robot : Robot) (update : ℕ) (shots : List Shot) → ((x y : ℕ) → sum (bursts update shots x y) ≡ 0) →
+    ahead robot ≡ body_of (moved_robot update shots 0 robot)
 ahead_is robot update shots none = by_life (is_alive robot) refl
   where
     by_life : (live : Bool) → is_alive robot ≡ live → ahead robot ≡ body_of (moved_robot update shots 0 robot)
@@ -69,39 +87,51 @@ ahead_is robot update shots none = by_life (is_alive robot) refl
     by_life false e = dead_stays robot e ∙ ap body_of (dead_is robot update shots 0 e)
 
 -- a live robot that has moved on, and was perhaps stopped by a wall
-pub drove : (robot : Robot) (track : Track) (walled : Bool) (damage : ℕ) → is_alive robot ≡ true → track ≡ track_of (driven robot.leg) → walled ≡ hits_wall (tried robot.leg) → damage ≡ min (damage_of robot + cond walled 2 0) 100 →
+pub drove : (robot : Robot) (track : Track) (walled : Bool) (damage : ℕ) → is_alive robot ≡ true →
+    track ≡ track_of (driven robot.leg) → walled ≡ hits_wall (tried robot.leg) →
+    damage ≡ min (damage_of robot + cond walled 2 0) 100 →
     record { track = track; damage = damage } ≡ ahead robot
 unfolding ahead candidate
 drove robot track walled damage live t w d = rw (live, sym w, t, d) refl
 
 -- a robot that has moved on, touches none, and is hurt by bursts
-live_hurt : (robot : Robot) (update : ℕ) (shots : List Shot) (burst : ℕ) → is_alive robot ≡ true → burst ≡ sum (bursts update shots (ahead robot).track.x (ahead robot).track.y) →
-    record (ahead robot) { damage = min ((ahead robot).damage + burst) 100 } ≡ body_of (moved_robot update shots 0 robot)
-unfolding ahead candidate settled
+live_hurt : (robot : Robot) (update : ℕ) (shots : List Shot) (burst : ℕ) → is_alive robot ≡ true →
+    burst ≡ sum (bursts update shots (ahead robot).track.x (ahead robot).track.y) →
+    record (ahead robot) { damage = min ((ahead robot).damage + burst) 100 } ≡
+    body_of (moved_robot update shots 0 robot)
+unfolding ahead candidate leg_after
 live_hurt robot update shots burst live b =
     let t = track_of (driven robot.leg) in
     let d = min (damage_of robot + cond (is_alive robot && hits_wall (tried robot.leg)) 2 0) 100 in
     let drives : candidate robot ≡ driven robot.leg = rw live refl in
-    let here : burst ≡ sum (bursts update shots t.x t.y) = b ∙ ap (λ (l : Leg). sum (bursts update shots (track_of l).x (track_of l).y)) drives in
+    let here : burst ≡ sum (bursts update shots t.x t.y) =
+    b ∙ ap (λ (l : Leg). sum (bursts update shots (track_of l).x (track_of l).y)) drives in
     rw drives (alive_is robot t update shots 0 d burst (min (d + burst) 100) live refl refl here (omega arith))
 
-dead_hurt : (robot : Robot) (burst : ℕ) → is_alive robot ≡ false → record (ahead robot) { damage = min ((ahead robot).damage + burst) 100 } ≡ body_of robot
+dead_hurt : (robot : Robot) (burst : ℕ) → is_alive robot ≡ false →
+    record (ahead robot) { damage = min ((ahead robot).damage + burst) 100 } ≡ body_of robot
 unfolding ahead candidate body_of damage_of is_alive
 dead_hurt robot burst dead =
     let whole : 100 ≤ min (sum robot.hurts) 100 = grind (arith, nat_tests, dead) in
     let same : min (min (min (sum robot.hurts) 100 + 0) 100 + burst) 100 ≡ min (sum robot.hurts) 100 = omega arith in
     rw (dead, same) refl
 
-pub hurt_is : (robot : Robot) (update : ℕ) (shots : List Shot) (burst : ℕ) → burst ≡ sum (bursts update shots (ahead robot).track.x (ahead robot).track.y) →
-    record (ahead robot) { damage = min ((ahead robot).damage + burst) 100 } ≡ body_of (moved_robot update shots 0 robot)
+pub hurt_is : (robot : Robot) (update : ℕ) (shots : List Shot) (burst : ℕ) →
+    burst ≡ sum (bursts update shots (ahead robot).track.x (ahead robot).track.y) →
+    record (ahead robot) { damage = min ((ahead robot).damage + burst) 100 } ≡
+    body_of (moved_robot update shots 0 robot)
 hurt_is robot update shots burst b = by_life (is_alive robot) refl
   where
-    by_life : (live : Bool) → is_alive robot ≡ live → record (ahead robot) { damage = min ((ahead robot).damage + burst) 100 } ≡ body_of (moved_robot update shots 0 robot)
+    by_life : (live : Bool) → is_alive robot ≡ live →
+        record (ahead robot) { damage = min ((ahead robot).damage + burst) 100 } ≡
+        body_of (moved_robot update shots 0 robot)
     by_life true e = live_hurt robot update shots burst e b
     by_life false e = dead_hurt robot burst e ∙ ap body_of (dead_is robot update shots 0 e)
 
-pub hurt_at : (robot : Robot) (body : Body) (update : ℕ) (shots : List Shot) (burst : ℕ) → body ≡ ahead robot → burst ≡ sum (bursts update shots body.track.x body.track.y) →
+pub hurt_at : (robot : Robot) (body : Body) (update : ℕ) (shots : List Shot) (burst : ℕ) → body ≡ ahead robot →
+    burst ≡ sum (bursts update shots body.track.x body.track.y) →
     record body { damage = min (body.damage + burst) 100 } ≡ body_of (moved_robot update shots 0 robot)
 hurt_at robot body update shots burst e b =
-    let there : burst ≡ sum (bursts update shots (ahead robot).track.x (ahead robot).track.y) = b ∙ ap (λ (x : Body). sum (bursts update shots x.track.x x.track.y)) e in
+    let there : burst ≡ sum (bursts update shots (ahead robot).track.x (ahead robot).track.y) =
+    b ∙ ap (λ (x : Body). sum (bursts update shots x.track.x x.track.y)) e in
     ap (λ (x : Body). record x { damage = min (x.damage + burst) 100 }) e ∙ hurt_is robot update shots burst there

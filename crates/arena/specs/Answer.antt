@@ -11,7 +11,7 @@ use Rattle.arena.specs.Leg.{Leg, clamped}
 use Rattle.arena.specs.Field.{Field, damage_of, robot_at, metres_x, metres_y}
 use Rattle.arena.specs.Shots.{shot, in_air}
 use Rattle.arena.specs.Scan.{scanned}
-use Rattle.arena.specs.Words.{random_word}
+use Rattle.arena.specs.Random.{random_word}
 
 -- an argument by its place; a missing one is 0
 unfoldable pub argument : List ℤ → ℕ → ℤ

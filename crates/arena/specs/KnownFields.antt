@@ -4,10 +4,10 @@ use Rattle.grammar.specs.declared.names.Intrinsic.{Intrinsic}
 use Rattle.grammar.specs.declared.names.Intrinsic.TheVariants.{Scan, Cannon, Drive, LocX, Rand}
 use Rattle.arena.specs.Leg.{place_x, place_y}
 use Rattle.arena.specs.Field.{Robot, Field, damage_of, robot_at}
-use Rattle.arena.specs.Words.{random_word}
+use Rattle.arena.specs.Random.{random_word}
 use Rattle.arena.specs.Start.{quadrant, start}
 use Rattle.arena.specs.Placed.{placed}
-use Rattle.arena.specs.Rest.{moved_times}
+use Rattle.arena.specs.Still.{moved_times}
 use Rattle.arena.specs.Answer.{answer}
 
 -- a robot's call and its reply, and the field afterwards

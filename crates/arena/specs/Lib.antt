@@ -5,12 +5,12 @@ pub mod Shots
 pub mod Moved
 pub mod Scan
 pub mod Nearer
-pub mod Words
+pub mod Random
 pub mod Start
 pub mod Placed
 pub mod Answer
 pub mod Ground
-pub mod Rest
+pub mod Still
 pub mod Drive
 pub mod Calm
 pub mod Due

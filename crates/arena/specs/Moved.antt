@@ -4,9 +4,9 @@
 --  3. Distance: `grown` (Leg). The three make the leg that a robot tries to drive, `tried`.
 --  4. Walls: `walled` (Leg) stops and clamps it if it `hits_wall`, which makes it `driven`, the candidate; `knocks` has
 --     what the wall takes.
---  5. Collisions: `touches` (Collisions) counts the pairs; `settled` puts those back that are in one, and `knocks` has
+-- 5. Collisions: `touches` (Collisions) counts the pairs; `leg_after` puts those back that are in one, and `knocks` has
 --     what each takes.
---  6. Bursts: `bursts` (Shots), of the shots that are due, at the place of the settled leg.
+--  6. Bursts: `bursts` (Shots), of the shots that are due, at the place of the leg after that.
 --  7. Deaths: `damage_of` and `is_alive` (Field), from the sum of all hurts.
 use Rattle.std.specs.Prelude.{ℕ, ◌+◌, nat_lt, if◌then◌else◌, List, [], ◌∷◌, ◌++◌, length, map, replicate}
 use Rattle.std.specs.List.{range_with_len}
@@ -26,8 +26,8 @@ put_back old leg = record leg {
 }
 
 -- the leg after walls and collisions
-unfoldable pub settled : Leg → ℕ → Leg
-settled leg touched = if nat_lt 0 touched then put_back leg (driven leg) else driven leg
+unfoldable pub leg_after : Leg → ℕ → Leg
+leg_after leg touched = if nat_lt 0 touched then put_back leg (driven leg) else driven leg
 
 -- a wall takes 2, once, and each collision 2
 unfoldable pub knocks : Leg → ℕ → List ℕ
@@ -37,7 +37,7 @@ knocks leg touched = (if hits_wall (tried leg) then 2 ∷ [] else []) ++ replica
 unfoldable pub moved_robot : ℕ → List Shot → ℕ → Robot → Robot
 moved_robot update shots touched robot =
     if is_alive robot then
-    (let leg = settled robot.leg touched in
+    (let leg = leg_after robot.leg touched in
     record {
       leg = leg;
       hurts = robot.hurts ++ knocks robot.leg touched

@@ -5,7 +5,7 @@ use Rattle.arena.specs.Leg.{Leg, place_x, place_y, tried, hits_wall}
 use Rattle.arena.specs.Field.{Shot, Field, damage_of, robot_at, is_live}
 use Rattle.arena.specs.Collisions.{mover, collides, square, touches}
 use Rattle.arena.specs.Shots.{ring, in_air, due_at}
-use Rattle.arena.specs.Moved.{settled, moved}
+use Rattle.arena.specs.Moved.{leg_after, moved}
 use Rattle.arena.specs.Ground.{Missile, shot_of}
 
 -- a burst: the robot that fired it, and its place
@@ -40,7 +40,7 @@ meets field a b = not (a == b) && collides (mover (robot_at field a)) (mover (ro
 
 -- the leg that a live robot is on after the update
 unfoldable pub next_leg : Field → ℕ → Leg
-next_leg field i = settled (robot_at field i).leg (touches (map mover field.robots) i)
+next_leg field i = leg_after (robot_at field i).leg (touches (map mover field.robots) i)
 
 -- what a burst takes from a robot, at the place where it then is
 unfoldable pub taken_by : Field → ℕ → Burst → ℕ

@@ -2,7 +2,7 @@
 use Rattle.std.specs.Prelude.{◌≡◌, ℕ, ◌<◌, List, [], map, length, All, slice_index_or}
 use Rattle.arena.specs.Field.{Shot, Field}
 use Rattle.arena.specs.Shots.{in_air}
-use Rattle.arena.specs.Words.{generator}
+use Rattle.arena.specs.Random.{generator}
 use Rattle.arena.specs.Ground.{Missile, Ground, body_of, shot_of}
 
 -- each robot's missiles are its shots in the air, and every shot is of one of the robots

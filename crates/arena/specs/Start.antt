@@ -2,7 +2,7 @@
 use Rattle.std.specs.Prelude.{ℕ, ◌+◌, ◌*◌, ◌/◌, ◌%◌, ◌==◌, if◌then◌else◌, [], map}
 use Rattle.std.specs.List.{range_with_len}
 use Rattle.arena.specs.Field.{Robot, Field}
-use Rattle.arena.specs.Words.{random_word}
+use Rattle.arena.specs.Random.{random_word}
 
 -- a robot at rest at a place, unhurt
 unfoldable pub standing : ℕ → ℕ → Robot
@@ -31,7 +31,8 @@ drawn_place half w = (if half == 0 then 1000 else 6000) + w % 3000
 unfoldable pub drawn_robot : ℕ → ℕ → ℕ → Robot
 drawn_robot seed number i =
     let q = quadrant seed number i in
-    standing (drawn_place (q % 2) (random_word seed number (1 + 2 * i))) (drawn_place (q / 2) (random_word seed number (2 + 2 * i)))
+    standing (drawn_place (q % 2) (random_word seed number (1 + 2 * i)))
+    (drawn_place (q / 2) (random_word seed number (2 + 2 * i)))
 
 -- so many robots at drawn places
 unfoldable pub start : ℕ → ℕ → ℕ → Field

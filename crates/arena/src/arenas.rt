@@ -6,7 +6,7 @@ ghost use Rattle.arith.specs.Degree.{degree_of};
 ghost use Rattle.arena.specs.Leg.{last_place, clamped, place_x, place_y};
 ghost use Rattle.arena.specs.Field.{Field, no_robot, damage_of, robot_at, is_live, live_count};
 ghost use Rattle.arena.specs.Moved.{moved};
-ghost use Rattle.arena.specs.Rest.{IsStill, moved_times};
+ghost use Rattle.arena.specs.Still.{IsStill, moved_times};
 ghost use Rattle.arena.specs.Scan.{scanned};
 ghost use Rattle.arena.specs.Start.{start};
 ghost use Rattle.arena.specs.Placed.{placed, IsPlace};
@@ -16,12 +16,12 @@ ghost use Rattle.arena.specs.Standing.{StandsFor};
 
 use crate::limits::MOST_ROBOTS;
 use crate::missiles::Missiles;
+use crate::random::{generator, random_number};
 use crate::robots::Robot;
 use crate::scans::scan;
 use crate::slots::Missile;
 use crate::starts::{drawn_robots, placed_robots};
 use crate::updates::{is_still, move_on};
-use crate::words::{begun, random_number};
 use arith::{atan, cos, norm_degree, root, sin, tan};
 use arrayvec::ArrayVec;
 use grammar::Intrinsic;
@@ -53,7 +53,7 @@ pub struct Arena {
 impl Model for Arena {
     ghost use Rattle.std.specs.Prelude.{◌≡◌, ◌*◌, ◌≤◌, true, All, length};
     ghost use Rattle.arena.specs.Ground.{most_updates, Body, Ground, IsWithin};
-    ghost use Rattle.arena.specs.Rest.{IsStill};
+    ghost use Rattle.arena.specs.Still.{IsStill};
     ghost use Rattle.arena.specs.Calm.{FarFor};
 
     ghost Value = { Ground };
@@ -77,10 +77,10 @@ impl Arena {
         requires some { 2 ≤ n }
         requires most { n ≤ MOST_ROBOTS }
         ensures stands { StandsFor result (start seed number n) }
-        ensures begun { result.updates ≡ 0 }
+        ensures updates { result.updates ≡ 0 }
         ensures manned { length result.robots ≡ n }
     {
-        let mut random = begun(seed, number);
+        let mut random = generator(seed, number);
         let robots = drawn_robots(&mut random, n);
         Arena {
             updates: 0,
@@ -97,7 +97,7 @@ impl Arena {
         requires some { 2 ≤ length places.now.items }
         requires inside { All IsPlace places.now.items }
         ensures stands { StandsFor result (placed seed number places.now.items) }
-        ensures begun { result.updates ≡ 0 }
+        ensures updates { result.updates ≡ 0 }
         ensures manned { length result.robots ≡ length places.now.items }
     {
         Arena {
@@ -106,7 +106,7 @@ impl Arena {
             is_still: false,
             robots: placed_robots(places),
             missiles: Missiles::none(places.len()),
-            random: begun(seed, number),
+            random: generator(seed, number),
         }
     }
 
@@ -172,7 +172,7 @@ impl Arena {
 
     /// Does so many updates of a still field at once.
     #[inline(always)]
-    pub fn rest(&mut self, updates: u32)
+    pub fn update_times(&mut self, updates: u32)
         requires still { IsStill self.old.robots self.old.slots }
         requires few { self.old.updates + updates ≤ most_updates }
         ensures stands { (f : Field) → StandsFor self.old f → StandsFor self.new (moved_times updates f) }

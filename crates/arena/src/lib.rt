@@ -11,12 +11,12 @@ mod limits;
 mod missiles;
 mod motion;
 mod outlook;
+mod random;
 mod robots;
 mod scans;
 mod slots;
 mod starts;
 mod updates;
-mod words;
 
 pub use arenas::Arena;
 pub use bursts::Burst;

@@ -29,7 +29,7 @@ pub struct Missiles {
 impl Model for Missiles {
     ghost use Rattle.std.specs.Prelude.{◌≤◌, List, length};
     ghost use Rattle.arena.specs.Ground.{Missile};
-    ghost use Rattle.arena.specs.Rest.{NoneBefore};
+    ghost use Rattle.arena.specs.Still.{NoneBefore};
 
     ghost Value = { List (List Missile) };
 

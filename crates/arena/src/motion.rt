@@ -6,7 +6,7 @@ ghost use Rattle.arena.specs.Start.{standing};
 ghost use Rattle.arena.specs.Moved.{put_back};
 ghost use Rattle.arena.specs.Answer.{wanting};
 ghost use Rattle.arena.specs.Ground.{Track, track_of};
-ghost use Rattle.arena.specs.Rest.{Rests};
+ghost use Rattle.arena.specs.Still.{Rests};
 ghost use Rattle.arena.specs.Calm.{IsNearby, IsAtPlace};
 
 use crate::limits::LAST_PLACE;
@@ -160,7 +160,7 @@ impl Motion {
     }
 
     /// Begins a new leg at the present place.
-    fn begun(self) -> Motion
+    fn leg_anew(self) -> Motion
         ensures leg { (leg : Leg) → self ≡ track_of leg → result ≡ track_of (leg_anew leg) }
         ensures way { (result.east ≡ pos 0) × (result.north ≡ pos 0) }
         ensures speed { result.speed ≡ self.speed }
@@ -187,7 +187,7 @@ impl Motion {
         } else if self.speed <= TURNING_SPEED {
             Motion {
                 heading: self.wanted_heading,
-                ..self.begun()
+                ..self.leg_anew()
             }
         } else {
             Motion {

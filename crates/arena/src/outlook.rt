@@ -94,7 +94,7 @@ impl Arena {
         let movers = movers(self.robots());
         let mut ahead = *self.robot(robot);
         let seen = ahead.drive_on();
-        let motion = ahead.settled(&seen, touches(movers.as_slice(), robot));
+        let motion = ahead.motion_after(&seen, touches(movers.as_slice(), robot));
         (motion.x(), motion.y())
     }
 }

@@ -7,10 +7,10 @@ ghost use Rattle.arena.specs.Collisions.{mover};
 ghost use Rattle.arena.specs.Start.{standing};
 ghost use Rattle.arena.specs.Answer.{wanting};
 ghost use Rattle.arena.specs.Ground.{track_of, body_of, IsWithin};
-ghost use Rattle.arena.specs.Moved.{settled};
+ghost use Rattle.arena.specs.Moved.{leg_after};
 ghost use Rattle.arena.specs.Drive.{ahead};
 ghost use Rattle.arena.specs.Calm.{IsNearby, IsAtPlace, gap};
-ghost use Rattle.arena.specs.Rest.{Stays};
+ghost use Rattle.arena.specs.Still.{Stays};
 
 use crate::collisions::Mover;
 use crate::limits::DEADLY;
@@ -210,9 +210,9 @@ impl Robot {
     }
 
     /// Returns the motion of a live robot that has moved on, given how many others it collides with.
-    pub fn settled(&self, seen: &Mover, touched: usize) -> Motion
+    pub fn motion_after(&self, seen: &Mover, touched: usize) -> Motion
         ensures leg { (robot : FieldRobot) → self.now ≡ ahead robot → seen.now ≡ mover robot
-            → is_alive robot ≡ true → result ≡ track_of (settled robot.leg touched) }
+            → is_alive robot ≡ true → result ≡ track_of (leg_after robot.leg touched) }
         ensures way { (way : ℕ) → IsWithin way self.now.track → IsWithin way result }
     {
         if touched > 0 {

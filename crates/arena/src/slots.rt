@@ -6,7 +6,7 @@ ghost use Rattle.arena.specs.Leg.{last_place, clamped, along};
 ghost use Rattle.arena.specs.Field.{Shot};
 ghost use Rattle.arena.specs.Shots.{aimed_x, aimed_y, bursts, flight, in_air, ring};
 ghost use Rattle.arena.specs.Ground.{most_updates, shot_of};
-ghost use Rattle.arena.specs.Rest.{NoneBefore};
+ghost use Rattle.arena.specs.Still.{NoneBefore};
 ghost use Rattle.arena.specs.Due.{harm};
 ghost use Rattle.arena.specs.Outlook.{burst_by, own_bursts};
 ghost use Rattle.arena.specs.Standing.{HoldsShots};

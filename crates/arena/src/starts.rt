@@ -2,14 +2,14 @@
 
 ghost use Rattle.std.specs.Prelude.{◌≡◌, ℕ, ◌+◌, ◌*◌, ◌/◌, ◌%◌, ◌<◌, ◌≤◌, ℤ, pos, ◌≤ℤ◌, map, All, length};
 ghost use Rattle.arena.specs.Leg.{last_place, clamped};
-ghost use Rattle.arena.specs.Words.{generator, random_word};
+ghost use Rattle.arena.specs.Random.{generator, random_word};
 ghost use Rattle.arena.specs.Start.{standing, drawn_place, start};
 ghost use Rattle.arena.specs.Placed.{placed, IsPlace};
 ghost use Rattle.arena.specs.Ground.{Body, IsWithin, body_of};
 
 use crate::limits::MOST_ROBOTS;
+use crate::random::draw;
 use crate::robots::Robot;
-use crate::words::draw;
 use arrayvec::ArrayVec;
 use rand_pcg::Pcg32;
 

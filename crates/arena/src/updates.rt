@@ -7,7 +7,7 @@ ghost use Rattle.arena.specs.Moved.{moved_robot, moved};
 ghost use Rattle.arena.specs.Ground.{Body, body_of, IsWithin};
 ghost use Rattle.arena.specs.Drive.{ahead};
 ghost use Rattle.arena.specs.Calm.{body_at, gap, IsNearby, IsAtPlace, FarFor};
-ghost use Rattle.arena.specs.Rest.{Stays, IsStill};
+ghost use Rattle.arena.specs.Still.{Stays, IsStill};
 ghost use Rattle.arena.specs.Standing.{HoldsShots};
 
 use crate::collisions::{Mover, any_near, touches};
@@ -71,7 +71,7 @@ fn finished(robot: &Robot, seen: &Mover, touched: usize, missiles: &Missiles, up
     if !seen.is_live() {
         return *robot;
     }
-    let motion = robot.settled(seen, touched);
+    let motion = robot.motion_after(seen, touched);
     let bursts = missiles.damage_at(update, motion.x(), motion.y());
     Robot::new(motion, worn(robot.damage(), touched, bursts))
 }

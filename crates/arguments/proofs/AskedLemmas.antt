@@ -6,7 +6,7 @@ use Rattle.settings.specs.declared.faults.UseFault.TheVariants.{Usage}
 use Rattle.settings.specs.Given.{asked_by}
 use Rattle.settings.specs.Setup.{Setup}
 use Rattle.arguments.specs.CommandLine.{robots}
-use Rattle.arguments.specs.Words.{asked, given_by, unless_refused}
+use Rattle.arguments.specs.Asked.{asked, given_by, unless_refused}
 
 pub asked-taken : (words : List Text) (rows : List Row) → fault_of robots words ≡ [] → rows ≡ matches_of robots words
     → asked_by (given_by rows) ≡ asked words

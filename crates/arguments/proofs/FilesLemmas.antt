@@ -23,7 +23,7 @@ use Rattle.clap.proofs.FaultLemmas.{free_args}
 use Rattle.clap.proofs.SimpleLemmas.{ready_simple, simple_groups}
 use Rattle.clap.proofs.WalkLemmas.{both, raw_values-rows}
 use Rattle.arguments.specs.CommandLine.{files_rule, robots}
-use Rattle.arguments.specs.Words.{files_in}
+use Rattle.arguments.specs.Asked.{files_in}
 
 -- what the command is
 
@@ -91,7 +91,8 @@ takes_one_here a takes same =
     rw is at takes
 
 -- an argument of the command with this id, and such a rule
-at_id : (c : Command) (P : Arg → Type 0) (id : Text) → list_all takes_file (map rule_of (args_of c)) ≡ true → id ≡ codes "FILE"
+at_id : (c : Command) (P : Arg → Type 0) (id : Text) → list_all takes_file (map rule_of (args_of c)) ≡ true →
+    id ≡ codes "FILE"
     → Any (λ a. (bytes_eq a.id.now id ≡ true) × P a) (args_of c) → (a : Arg) × (takes_one (rule_of a) ≡ true) × P a
 at_id c P id rules is any =
     let a = any.1 in
@@ -99,7 +100,8 @@ at_id c P id rules is any =
     subst (λ (x : Arg). takes_file (rule_of x) ≡ true) any.3 (each_rule takes_file (args_of c) rules any.0 a any.2) in
     (a, takes_one_here a takes ((bytes_eq-Decides a.id.now id).0 any.4.0 ∙ is), any.4.1)
 
-no_count : (c : Command) (id : Text) → list_all takes_file (map rule_of (args_of c)) ≡ true → id ≡ codes "FILE" → IsCountArg c id → ⊥
+no_count : (c : Command) (id : Text) → list_all takes_file (map rule_of (args_of c)) ≡ true → id ≡ codes "FILE" →
+    IsCountArg c id → ⊥
 no_count c id rules is any =
     let found = at_id c (λ a. unwrap_or a.action Set ≡ Count) id rules is any in
     let plain : not (is_count (unwrap_or found.0.action Set)) ≡ true = (both _ _ (both _ _ found.1).1).0 in
@@ -113,7 +115,8 @@ never_splits a simple =
     let delimiter = (both (is_empty a.groups.items) _ groups).1 in
     (both (not (is_some a.val_delim)) _ delimiter).0
 
-never_empty : (c : Command) (id : Text) → list_all takes_file (map rule_of (args_of c)) ≡ true → id ≡ codes "FILE" → AllowsNone c id → ⊥
+never_empty : (c : Command) (id : Text) → list_all takes_file (map rule_of (args_of c)) ≡ true → id ≡ codes "FILE" →
+    AllowsNone c id → ⊥
 never_empty c id rules is any =
     let found = at_id c MayBeEmpty id rules is any in
     let least : nat_lt 0 (least_values found.0) ≡ true = (both _ _ found.1).0 in
@@ -130,36 +133,45 @@ never_empty c id rules is any =
 
 simple_command : (c : Command) → app_of c ≡ robots → IsSimple c
 simple_command c is =
-    ready_simple c (ap (λ (a : App). is_ready a.top) is ∙ ready) (ap (λ (a : App). list_all is_ready_leaf a.subs) is ∙ no_subcommands)
+    ready_simple c (ap (λ (a : App). is_ready a.top) is ∙ ready)
+    (ap (λ (a : App). list_all is_ready_leaf a.subs) is ∙ no_subcommands)
 
 -- nothing in the command excludes anything
 plain_command : (c : Command) → app_of c ≡ robots → IsSimple c → IsPlain c
 plain_command c is simple =
     let free = free_args c simple (ap (λ (a : App). has_free_rules a.top) is ∙ free_rules) in
-    let groups = simple_groups c (ap (λ (a : App). list_all (λ (r : Rule). r.is_simple) a.top.rules) is ∙ simple_rules) in
-    ((λ k d lt. ((free k d lt).exclusive, (free k d lt).conflicts, (free k d lt).overrides, groups k d lt)), simple.groups)
+    let groups =
+    simple_groups c (ap (λ (a : App). list_all (λ (r : Rule). r.is_simple) a.top.rules) is ∙ simple_rules) in (
+      (λ k d lt. ((free k d lt).exclusive, (free k d lt).conflicts, (free k d lt).overrides, groups k d lt)),
+      simple.groups,
+    )
 
 an_arg : (xs : List Arg) → 0 < length xs → Arg
 an_arg [] some = absurd (omega arith)
 an_arg (x ∷ xs) some = x
 
 -- the words gave at least one file: the argument is required
-files_present : (old new : Command) (m : ArgMatches) → app_of old ≡ robots → BuildsTo old new → IsParsed new (found_of m) (has_subcommand m)
+files_present : (old new : Command) (m : ArgMatches) → app_of old ≡ robots → BuildsTo old new →
+    IsParsed new (found_of m) (has_subcommand m)
     → is_some (matched_of (found_of m) (codes "FILE")) ≡ true
 files_present old new m is builds parsed =
     let simple = simple_command old is in
     let from : IsParsedFrom old m = record { built = new; from = builds; parsed = λ _. parsed } in
-    let count : length (args_of old) ≡ 7 = sym (length-map (args_of old) rule_of) ∙ (ap (λ (a : App). length a.top.rules) is ∙ seven_rules) in
+    let count : length (args_of old) ≡ 7 =
+    sym (length-map (args_of old) rule_of) ∙ (ap (λ (a : App). length a.top.rules) is ∙ seven_rules) in
     let d = an_arg (args_of old) (omega arith) in
     let rule : rule_of (slice_index_or (args_of old) 6 d) ≡ files_rule (codes "FILE") =
-    sym (get_or-map rule_of (args_of old) 6 d (rule_of d) (omega arith)) ∙ (ap (λ (a : App). slice_index_or a.top.rules 6 (rule_of d)) is ∙ last_rule (rule_of d)) in
+    sym (get_or-map rule_of (args_of old) 6 d (rule_of d) (omega arith)) ∙
+    (ap (λ (a : App). slice_index_or a.top.rules 6 (rule_of d)) is ∙ last_rule (rule_of d)) in
     let present = required_present old m from (plain_command old is simple) simple.globals
-    (ap (λ (a : App). a.top.subcommand_negates_reqs) is ∙ keeps_requirements) 6 d (omega arith) (ap (λ (r : Rule). r.required) rule) in
+    (ap (λ (a : App). a.top.subcommand_negates_reqs) is ∙ keeps_requirements) 6 d (omega arith)
+    (ap (λ (r : Rule). r.required) rule) in
     let id : (slice_index_or (args_of old) 6 d).id.now ≡ codes "FILE" = ap (λ (r : Rule). r.id) rule in
     present_has_entry (found_of m) (codes "FILE") (rw id at present)
 
 -- an entry of the files has a value
-entry_filled : (old new : Command) (e : Entry) → app_of old ≡ robots → BuildsTo old new → list_all takes_file (map rule_of (args_of new)) ≡ true
+entry_filled : (old new : Command) (e : Entry) → app_of old ≡ robots → BuildsTo old new →
+    list_all takes_file (map rule_of (args_of new)) ≡ true
     → bytes_eq e.0.now (codes "FILE") ≡ true → EntryPasses new e → 0 < length e.1.vals.items
 entry_filled old new e is builds rules key passes =
     let simple = simple_command old is in
@@ -184,7 +196,8 @@ rules_of_built : (old new : Command) → app_of old ≡ robots
     → list_all takes_file (map rule_of (args_of new)) ≡ true
 rules_of_built old new is (inl same) = ap (λ (a : App). list_all takes_file a.top.rules) (same ∙ is) ∙ before_building
 rules_of_built old new is (inr after) =
-    ap (λ (a : App). list_all takes_file a.top.rules) (after (ap is_buildable is ∙ buildable) ∙ ap built is) ∙ after_building
+    ap (λ (a : App). list_all takes_file a.top.rules) (after (ap is_buildable is ∙ buildable) ∙ ap built is) ∙
+    after_building
 
 -- so the matches have at least one file
 pub files_given : (old new : Command) (m : ArgMatches) → app_of old ≡ robots → BuildsTo old new
@@ -195,14 +208,16 @@ files_given old new m is builds parses shape =
     let parsed = parses (builds.globals ∙ (simple_command old is).globals) in
     go parsed (matched_of (found_of m) (codes "FILE")) refl (files_present old new m is builds parsed)
   where
-    go : IsParsed new (found_of m) (has_subcommand m) → (o : Option MatchedArg) → matched_of (found_of m) (codes "FILE") ≡ o → is_some (matched_of (found_of m) (codes "FILE")) ≡ true
+    go : IsParsed new (found_of m) (has_subcommand m) → (o : Option MatchedArg) →
+        matched_of (found_of m) (codes "FILE") ≡ o → is_some (matched_of (found_of m) (codes "FILE")) ≡ true
         → 0 < length (files_in (rows_of (found_of m)))
     go parsed None none some =
         let bad : false ≡ true = rw none at some in
         absurd (true≢false (sym bad))
     go parsed (Some a) one some =
         let got = entry_by_id (EntryPasses new) (found_of m).entries.items (codes "FILE") a parsed.values one in
-        let filled : 0 < length got.0.1.vals.items = entry_filled old new got.0 is builds (rules_of_built old new is shape) got.2 got.3 in
+        let filled : 0 < length got.0.1.vals.items =
+        entry_filled old new got.0 is builds (rules_of_built old new is shape) got.2 got.3 in
         let values : 0 < length a.vals.items = rw got.1 at filled in
         let files : Some (raw_values a) ≡ all_of (codes "FILE") (rows_of (found_of m)) =
         sym (ap (option_map raw_values) one) ∙ raw_values-rows (found_of m) (codes "FILE") in

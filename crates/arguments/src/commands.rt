@@ -3,7 +3,7 @@
 ghost use Rattle.std.specs.Prelude.{◌≡◌, ◌≢◌, ◌⊎◌, ◌<◌, [], map, codes, length, true, false, IfOk, IfErr, OnOk, Err};
 ghost use Rattle.clap.specs.Words.{app_of, fault_of, found_of, kind_of, matches_of, rows_of, rule_of, takes};
 ghost use Rattle.arguments.specs.CommandLine.{files_rule, flag_rule, option_rule, robots};
-ghost use Rattle.arguments.specs.Words.{files_in};
+ghost use Rattle.arguments.specs.Asked.{files_in};
 
 use clap::error::ErrorKind;
 use clap::{Arg, ArgAction, ArgMatches, Command, Error};

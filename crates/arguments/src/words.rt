@@ -3,7 +3,7 @@
 ghost use Rattle.std.specs.Prelude.{◌≡◌, ◌≢◌, ◌⊎◌, ◌<◌, length, map, codes, true, Err};
 ghost use Rattle.clap.specs.Words.{found_of, rows_of, takes};
 ghost use Rattle.arguments.specs.CommandLine.{robots};
-ghost use Rattle.arguments.specs.Words.{asked, files_in, given_by, is_set};
+ghost use Rattle.arguments.specs.Asked.{asked, files_in, given_by, is_set};
 
 use crate::commands::parsed;
 use clap::ArgMatches;

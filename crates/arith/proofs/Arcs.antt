@@ -18,11 +18,13 @@ nearer : (t : Bool) (x y : ℤ) → x <ℤ y → cond t (int_le y x) (int_lt y x
 nearer true x y h = grind (arith, ints)
 nearer false x y h = grind (arith, ints)
 
-leads_farther : (dx dy : ℤ) (degree other : ℕ) → reach_of dx dy other <ℤ reach_of dx dy degree → leads dx dy degree other ≡ true
+leads_farther : (dx dy : ℤ) (degree other : ℕ) → reach_of dx dy other <ℤ reach_of dx dy degree →
+    leads dx dy degree other ≡ true
 unfolding leads
 leads_farther dx dy degree other h = farther (nat_lt degree other) (reach_of dx dy degree) (reach_of dx dy other) h
 
-trails_nearer : (dx dy : ℤ) (degree other : ℕ) → reach_of dx dy degree <ℤ reach_of dx dy other → leads dx dy degree other ≡ false
+trails_nearer : (dx dy : ℤ) (degree other : ℕ) → reach_of dx dy degree <ℤ reach_of dx dy other →
+    leads dx dy degree other ≡ false
 unfolding leads
 trails_nearer dx dy degree other h = nearer (nat_lt degree other) (reach_of dx dy degree) (reach_of dx dy other) h
 
@@ -38,18 +40,23 @@ bearing_leads : (dx dy : ℤ) (b other : ℕ) → IsBearing dx dy b → other < 
 unfolding leads
 bearing_leads dx dy b other is round differs = by_order (nat_lt b other) refl
   where
-    by_order : (t : Bool) → nat_lt b other ≡ t → cond t (int_le (reach_of dx dy other) (reach_of dx dy b)) (int_lt (reach_of dx dy other) (reach_of dx dy b)) ≡ true
+    by_order : (t : Bool) → nat_lt b other ≡ t →
+        cond t (int_le (reach_of dx dy other) (reach_of dx dy b)) (int_lt (reach_of dx dy other) (reach_of dx dy b)) ≡
+        true
     by_order true e = let most = is.greatest other round in grind (arith, ints)
     by_order false e =
         let at_most : other ≤ b = grind (arith, nat_tests) in
         let below : other < b = strictly other b at_most differs in
         let less = is.least other below in grind (arith, ints)
 
-bearing_trails_none : (dx dy : ℤ) (b degree : ℕ) → IsBearing dx dy b → degree < 360 → b ≢ degree → leads dx dy degree b ≡ false
+bearing_trails_none : (dx dy : ℤ) (b degree : ℕ) → IsBearing dx dy b → degree < 360 → b ≢ degree →
+    leads dx dy degree b ≡ false
 unfolding leads
 bearing_trails_none dx dy b degree is round differs = by_order (nat_lt degree b) refl
   where
-    by_order : (t : Bool) → nat_lt degree b ≡ t → cond t (int_le (reach_of dx dy b) (reach_of dx dy degree)) (int_lt (reach_of dx dy b) (reach_of dx dy degree)) ≡ false
+    by_order : (t : Bool) → nat_lt degree b ≡ t →
+        cond t (int_le (reach_of dx dy b) (reach_of dx dy degree)) (int_lt (reach_of dx dy b) (reach_of dx dy degree)) ≡
+        false
     by_order true e =
         let below : degree < b = grind (arith, nat_tests) in
         let less = is.least degree below in grind (arith, ints)
@@ -71,17 +78,23 @@ gain_from dx dy b is =
     omega (arith, ints)
 
 -- so many degrees after the bearing, or before it, the next one leads or trails
-after_trails : (dx dy : ℤ) (b s from to : ℕ) → (dx ≡ pos 0 → dy ≡ pos 0 → ⊥) → IsBearing dx dy b → 1 ≤ s → s ≤ 178 → from ≡ (b + s) % 360 → to ≡ (b + s + 1) % 360 → reach_of dx dy to <ℤ reach_of dx dy from
+after_trails : (dx dy : ℤ) (b s from to : ℕ) → (dx ≡ pos 0 → dy ≡ pos 0 → ⊥) → IsBearing dx dy b → 1 ≤ s → s ≤ 178 →
+    from ≡ (b + s) % 360 → to ≡ (b + s + 1) % 360 → reach_of dx dy to <ℤ reach_of dx dy from
 after_trails dx dy b s from to some is low high p q =
     let round = is.on_the_round in
-    let less = falls dx dy (b + 359) (b + 360 + s) some (gain_to dx dy b is) (gain_from dx dy b is) (omega arith) (omega arith) in
+    let less =
+    falls dx dy (b + 359) (b + 360 + s) some (gain_to dx dy b is) (gain_from dx dy b is) (omega arith) (omega arith)
+    in
     let step = gains dx dy (b + 360 + s) from to (omega arith) (omega arith) in
     omega (arith, ints)
 
-before_trails : (dx dy : ℤ) (b s from to : ℕ) → (dx ≡ pos 0 → dy ≡ pos 0 → ⊥) → IsBearing dx dy b → 1 ≤ s → s ≤ 178 → from ≡ (b + 359 - s) % 360 → to ≡ (b + 360 - s) % 360 → reach_of dx dy from <ℤ reach_of dx dy to
+before_trails : (dx dy : ℤ) (b s from to : ℕ) → (dx ≡ pos 0 → dy ≡ pos 0 → ⊥) → IsBearing dx dy b → 1 ≤ s → s ≤ 178 →
+    from ≡ (b + 359 - s) % 360 → to ≡ (b + 360 - s) % 360 → reach_of dx dy from <ℤ reach_of dx dy to
 before_trails dx dy b s from to some is low high p q =
     let round = is.on_the_round in
-    let more = rises dx dy (b + 359) (b + 359 - s) some (gain_to dx dy b is) (gain_from dx dy b is) (omega arith) (omega arith) in
+    let more =
+    rises dx dy (b + 359) (b + 359 - s) some (gain_to dx dy b is) (gain_from dx dy b is) (omega arith) (omega arith)
+    in
     let step = gains dx dy (b + 359 - s) from to p (omega arith) in
     omega (arith, ints)
 
@@ -96,61 +109,77 @@ second_fails true b q = q
 second_fails false b q = refl
 
 -- an arc from a degree on that the bearing is t degrees into, and of this width
-starts : (dx dy : ℤ) (b t first before : ℕ) → (dx ≡ pos 0 → dy ≡ pos 0 → ⊥) → IsBearing dx dy b → t ≤ 178 → first ≡ (b + 360 - t) % 360 → before ≡ (b + 359 - t) % 360 → leads dx dy first before ≡ true
+starts : (dx dy : ℤ) (b t first before : ℕ) → (dx ≡ pos 0 → dy ≡ pos 0 → ⊥) → IsBearing dx dy b → t ≤ 178 →
+    first ≡ (b + 360 - t) % 360 → before ≡ (b + 359 - t) % 360 → leads dx dy first before ≡ true
 starts dx dy b t first before some is near p q = by_place (cases_lt 0 t)
   where
     round : b < 360
     round = is.on_the_round
 
     by_place : ((0 < t) ⊎ (t ≤ 0)) → leads dx dy first before ≡ true
-    by_place (inl some_way) = leads_farther dx dy first before (before_trails dx dy b t before first some is some_way near q p)
+    by_place (inl some_way) =
+        leads_farther dx dy first before (before_trails dx dy b t before first some is some_way near q p)
     by_place (inr none) =
         let here : b ≡ first = omega arith in
         subst (λ d. leads dx dy d before ≡ true) here (bearing_leads dx dy b before is (omega arith) (λ e. omega arith))
 
-ends : (dx dy : ℤ) (b s last after : ℕ) → (dx ≡ pos 0 → dy ≡ pos 0 → ⊥) → IsBearing dx dy b → s ≤ 178 → last ≡ (b + s) % 360 → after ≡ (b + s + 1) % 360 → leads dx dy last after ≡ true
+ends : (dx dy : ℤ) (b s last after : ℕ) → (dx ≡ pos 0 → dy ≡ pos 0 → ⊥) → IsBearing dx dy b → s ≤ 178 →
+    last ≡ (b + s) % 360 → after ≡ (b + s + 1) % 360 → leads dx dy last after ≡ true
 ends dx dy b s last after some is near p q = by_place (cases_lt 0 s)
   where
     round : b < 360
     round = is.on_the_round
 
     by_place : ((0 < s) ⊎ (s ≤ 0)) → leads dx dy last after ≡ true
-    by_place (inl some_way) = leads_farther dx dy last after (after_trails dx dy b s last after some is some_way near p q)
+    by_place (inl some_way) =
+        leads_farther dx dy last after (after_trails dx dy b s last after some is some_way near p q)
     by_place (inr none) =
         let here : b ≡ last = omega arith in
         subst (λ d. leads dx dy d after ≡ true) here (bearing_leads dx dy b after is (omega arith) (λ e. omega arith))
 
 -- an arc that ends u degrees before the bearing, or begins v degrees after it
-ends_early : (dx dy : ℤ) (b u last after : ℕ) → (dx ≡ pos 0 → dy ≡ pos 0 → ⊥) → IsBearing dx dy b → 1 ≤ u → u ≤ 179 → last ≡ (b + 360 - u) % 360 → after ≡ (b + 361 - u) % 360 → leads dx dy last after ≡ false
+ends_early : (dx dy : ℤ) (b u last after : ℕ) → (dx ≡ pos 0 → dy ≡ pos 0 → ⊥) → IsBearing dx dy b → 1 ≤ u → u ≤ 179 →
+    last ≡ (b + 360 - u) % 360 → after ≡ (b + 361 - u) % 360 → leads dx dy last after ≡ false
 ends_early dx dy b u last after some is low high p q = by_place (cases_lt 1 u)
   where
     round : b < 360
     round = is.on_the_round
 
     by_place : ((1 < u) ⊎ (u ≤ 1)) → leads dx dy last after ≡ false
-    by_place (inl far) = trails_nearer dx dy last after (before_trails dx dy b (u - 1) last after some is (omega arith) (omega arith) (omega arith) (omega arith))
+    by_place (inl far) =
+        trails_nearer dx dy last after
+        (before_trails dx dy b (u - 1) last after some is (omega arith) (omega arith) (omega arith) (omega arith))
     by_place (inr near) =
         let here : b ≡ after = omega arith in
-        subst (λ d. leads dx dy last d ≡ false) here (bearing_trails_none dx dy b last is (omega arith) (λ e. omega arith))
+        subst (λ d. leads dx dy last d ≡ false) here
+        (bearing_trails_none dx dy b last is (omega arith) (λ e. omega arith))
 
-starts_late : (dx dy : ℤ) (b v first before : ℕ) → (dx ≡ pos 0 → dy ≡ pos 0 → ⊥) → IsBearing dx dy b → 1 ≤ v → v ≤ 179 → first ≡ (b + v) % 360 → before ≡ (b + v - 1) % 360 → leads dx dy first before ≡ false
+starts_late : (dx dy : ℤ) (b v first before : ℕ) → (dx ≡ pos 0 → dy ≡ pos 0 → ⊥) → IsBearing dx dy b → 1 ≤ v → v ≤ 179 →
+    first ≡ (b + v) % 360 → before ≡ (b + v - 1) % 360 → leads dx dy first before ≡ false
 starts_late dx dy b v first before some is low high p q = by_place (cases_lt 1 v)
   where
     round : b < 360
     round = is.on_the_round
 
     by_place : ((1 < v) ⊎ (v ≤ 1)) → leads dx dy first before ≡ false
-    by_place (inl far) = trails_nearer dx dy first before (after_trails dx dy b (v - 1) before first some is (omega arith) (omega arith) (omega arith) (omega arith))
+    by_place (inl far) =
+        trails_nearer dx dy first before
+        (after_trails dx dy b (v - 1) before first some is (omega arith) (omega arith) (omega arith) (omega arith))
     by_place (inr near) =
         let here : b ≡ before = omega arith in
-        subst (λ d. leads dx dy first d ≡ false) here (bearing_trails_none dx dy b first is (omega arith) (λ e. omega arith))
+        subst (λ d. leads dx dy first d ≡ false) here
+        (bearing_trails_none dx dy b first is (omega arith) (λ e. omega arith))
 
 -- the degree just opposite doesn't lead both of those beside it
-opposite_trails : (dx dy : ℤ) (b there before after : ℕ) → (dx ≡ pos 0 → dy ≡ pos 0 → ⊥) → IsBearing dx dy b → there ≡ (b + 180) % 360 → before ≡ (b + 179) % 360 → after ≡ (b + 181) % 360 → (leads dx dy there before && leads dx dy there after) ≡ false
+opposite_trails : (dx dy : ℤ) (b there before after : ℕ) → (dx ≡ pos 0 → dy ≡ pos 0 → ⊥) → IsBearing dx dy b →
+    there ≡ (b + 180) % 360 → before ≡ (b + 179) % 360 → after ≡ (b + 181) % 360 →
+    (leads dx dy there before && leads dx dy there after) ≡ false
 opposite_trails dx dy b there before after some is p q r =
     by_lt_z (pos 0) (gain dx dy (b + 359))
-    (λ more. first_fails (leads dx dy there before) (leads dx dy there after) (trails_nearer dx dy there before (omega (arith, ints, into))))
-    (λ none. second_fails (leads dx dy there before) (leads dx dy there after) (trails_nearer dx dy there after (out none)))
+    (λ more. first_fails (leads dx dy there before) (leads dx dy there after)
+    (trails_nearer dx dy there before (omega (arith, ints, into))))
+    (λ none. second_fails (leads dx dy there before) (leads dx dy there after)
+    (trails_nearer dx dy there after (out none)))
   where
     round : b < 360
     round = is.on_the_round
@@ -168,7 +197,8 @@ opposite_trails dx dy b there before after some is p q r =
         let to = gain_to dx dy b is in
         let from = gain_from dx dy b is in
         let still : gain dx dy (b + 359) ≡ pos 0 = omega (arith, ints) in
-        by_lt_z (gain dx dy (b + 359 + 1)) (pos 0) (λ less. omega (arith, ints)) (λ more. absurd (some_turn dx dy (b + 359) some still (omega (arith, ints))))
+        by_lt_z (gain dx dy (b + 359 + 1)) (pos 0) (λ less. omega (arith, ints))
+        (λ more. absurd (some_turn dx dy (b + 359) some still (omega (arith, ints))))
 
 -- the test decides whether the bearing lies in the arc
 inside : (a b : ℕ) → a ≤ b → nat_le a b ≡ true
@@ -177,21 +207,33 @@ inside a b h = grind (arith, nat_tests)
 outside : (a b : ℕ) → b < a → nat_le a b ≡ false
 outside a b h = grind (arith, nat_tests)
 
-decides_at : (dx dy : ℤ) (b t degree spread first before last after : ℕ) → (dx ≡ pos 0 → dy ≡ pos 0 → ⊥) → IsBearing dx dy b → b < 360 → t ≡ (b + 360 + spread - degree) % 360 → degree < 360 → spread < 90 →
-    first ≡ (degree + 360 - spread) % 360 → before ≡ (degree + 359 - spread) % 360 → last ≡ (degree + spread) % 360 → after ≡ (degree + spread + 1) % 360 →
+decides_at : (dx dy : ℤ) (b t degree spread first before last after : ℕ) → (dx ≡ pos 0 → dy ≡ pos 0 → ⊥) →
+    IsBearing dx dy b → b < 360 → t ≡ (b + 360 + spread - degree) % 360 → degree < 360 → spread < 90 →
+    first ≡ (degree + 360 - spread) % 360 → before ≡ (degree + 359 - spread) % 360 → last ≡ (degree + spread) % 360 →
+    after ≡ (degree + spread + 1) % 360 →
     (leads dx dy first before && leads dx dy last after) ≡ nat_le (apart b degree) spread
 unfolding apart
-decides_at dx dy b t degree spread first before last after some is on into round small f g l m = by_place (cases_lt (2 * spread) t)
+decides_at dx dy b t degree spread first before last after some is on into round small f g l m =
+    by_place (cases_lt (2 * spread) t)
   where
-    beyond : 2 * spread < t → ((179 < t - 2 * spread) ⊎ (t - 2 * spread ≤ 179)) → ((179 < 360 - t) ⊎ (360 - t ≤ 179)) → (leads dx dy first before && leads dx dy last after) ≡ false
-    beyond h (inr near) v = second_fails (leads dx dy first before) (leads dx dy last after) (ends_early dx dy b (t - 2 * spread) last after some is (omega arith) near (omega arith) (omega arith))
-    beyond h (inl wide) (inr near) = first_fails (leads dx dy first before) (leads dx dy last after) (starts_late dx dy b (360 - t) first before some is (omega arith) near (omega arith) (omega arith))
+    beyond : 2 * spread < t → ((179 < t - 2 * spread) ⊎ (t - 2 * spread ≤ 179)) → ((179 < 360 - t) ⊎ (360 - t ≤ 179)) →
+        (leads dx dy first before && leads dx dy last after) ≡ false
+    beyond h (inr near) v =
+        second_fails (leads dx dy first before) (leads dx dy last after)
+        (ends_early dx dy b (t - 2 * spread) last after some is (omega arith) near (omega arith) (omega arith))
+    beyond h (inl wide) (inr near) =
+        first_fails (leads dx dy first before) (leads dx dy last after)
+        (starts_late dx dy b (360 - t) first before some is (omega arith) near (omega arith) (omega arith))
     beyond h (inl wide) (inl wider) =
         let same : first ≡ last = omega arith in
-        subst (λ d. (leads dx dy first before && leads dx dy d after) ≡ false) same (opposite_trails dx dy b first before after some is (omega arith) (omega arith) (omega arith))
+        subst (λ d. (leads dx dy first before && leads dx dy d after) ≡ false) same
+        (opposite_trails dx dy b first before after some is (omega arith) (omega arith) (omega arith))
 
-    by_place : ((2 * spread < t) ⊎ (t ≤ 2 * spread)) → (leads dx dy first before && leads dx dy last after) ≡ nat_le (apart b degree) spread
-    by_place (inl h) = beyond h (cases_lt 179 (t - 2 * spread)) (cases_lt 179 (360 - t)) ∙ sym (outside (apart b degree) spread (omega arith))
+    by_place : ((2 * spread < t) ⊎ (t ≤ 2 * spread)) →
+        (leads dx dy first before && leads dx dy last after) ≡ nat_le (apart b degree) spread
+    by_place (inl h) =
+        beyond h (cases_lt 179 (t - 2 * spread)) (cases_lt 179 (360 - t)) ∙
+        sym (outside (apart b degree) spread (omega arith))
     by_place (inr h) =
         both (leads dx dy first before) (leads dx dy last after)
         (starts dx dy b t first before some is (omega arith) (omega arith) (omega arith))
@@ -199,11 +241,15 @@ decides_at dx dy b t degree spread first before last after some is on into round
         ∙ sym (inside (apart b degree) spread (omega arith))
 
 -- the two tests together, of which the second isn't made if the first fails
-pub decides_by : (dx dy : ℤ) (degree spread first before last after : ℕ) (starts_there ends_there : Bool) → starts_there ≡ leads dx dy first before → ends_there ≡ leads dx dy last after →
+pub decides_by : (dx dy : ℤ) (degree spread first before last after : ℕ) (starts_there ends_there : Bool) →
+    starts_there ≡ leads dx dy first before → ends_there ≡ leads dx dy last after →
     (dx ≡ pos 0 → dy ≡ pos 0 → ⊥) → degree < 360 → spread < 90 →
-    first ≡ (degree + 360 - spread) % 360 → before ≡ (degree + 359 - spread) % 360 → last ≡ (degree + spread) % 360 → after ≡ (degree + spread + 1) % 360 →
+    first ≡ (degree + 360 - spread) % 360 → before ≡ (degree + 359 - spread) % 360 → last ≡ (degree + spread) % 360 →
+    after ≡ (degree + spread + 1) % 360 →
     (starts_there && ends_there) ≡ nat_le (apart (bearing_of dx dy) degree) spread
 decides_by dx dy degree spread first before last after starts_there ends_there p q some round small f g l m =
     let is = bearing_of-IsBearing dx dy in
     let b = bearing_of dx dy in
-    rw (p, q) (decides_at dx dy b ((b + 360 + spread - degree) % 360) degree spread first before last after some is is.on_the_round refl round small f g l m)
+    rw (p, q)
+    (decides_at dx dy b ((b + 360 + spread - degree) % 360) degree spread first before last after some is
+    is.on_the_round refl round small f g l m)

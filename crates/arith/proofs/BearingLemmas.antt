@@ -28,7 +28,8 @@ part_size d s p q = rw (unsigned_abs-mul d s) (mul-le (unsigned_abs d) (unsigned
 pub part_fits : (d s : ℤ) → unsigned_abs d ≤ 999 → unsigned_abs s ≤ 100000 → FitsSigned w32 (d *ℤ s)
 part_fits d s p q = let size = part_size d s p q in fits_signed_from_abs w32 (d *ℤ s) (omega arith)
 
-pub reach_fits : (dx dy cosine sine : ℤ) → unsigned_abs dx ≤ 999 → unsigned_abs cosine ≤ 100000 → unsigned_abs dy ≤ 999 → unsigned_abs sine ≤ 100000 → FitsSigned w32 (dx *ℤ cosine +ℤ dy *ℤ sine)
+pub reach_fits : (dx dy cosine sine : ℤ) → unsigned_abs dx ≤ 999 → unsigned_abs cosine ≤ 100000 →
+    unsigned_abs dy ≤ 999 → unsigned_abs sine ≤ 100000 → FitsSigned w32 (dx *ℤ cosine +ℤ dy *ℤ sine)
 reach_fits dx dy cosine sine p q r s =
     let east = part_size dx cosine p q in
     let north = part_size dy sine r s in
@@ -84,7 +85,8 @@ default_is_free (x ∷ xs) zero d e h = refl
 default_is_free (x ∷ xs) (suc k) d e h = default_is_free xs k d e (omega arith)
 
 -- the greatest of a list is what stands at the place of its greatest
-greatest_is : (x : ℤ) (xs : List ℤ) (top most : ℤ) → most ≡ fold int_max x xs → Contains (x ∷ xs) top → ((k : ℕ) → k < length (x ∷ xs) → get_or (x ∷ xs) k top ≤ℤ top) → most ≡ top
+greatest_is : (x : ℤ) (xs : List ℤ) (top most : ℤ) → most ≡ fold int_max x xs → Contains (x ∷ xs) top →
+    ((k : ℕ) → k < length (x ∷ xs) → get_or (x ∷ xs) k top ≤ℤ top) → most ≡ top
 greatest_is x xs top most e at bound =
     let low = top_le x xs (fold-int_max_bounds x xs most e) at in
     let high = le_top x xs (fold-int_max_reached x xs most e) bound in
@@ -94,7 +96,8 @@ greatest_is x xs top most e at bound =
     top_le x xs h (zero, l, e) = subst (λ y. y ≤ℤ most) e h.0
     top_le x xs h (suc k, l, e) = subst (λ y. y ≤ℤ most) e (h.1 k top (omega arith))
 
-    le_top : (x : ℤ) (xs : List ℤ) → (most ≡ x) ⊎ Contains xs most → ((k : ℕ) → k < length (x ∷ xs) → get_or (x ∷ xs) k top ≤ℤ top) → most ≤ℤ top
+    le_top : (x : ℤ) (xs : List ℤ) → (most ≡ x) ⊎ Contains xs most →
+        ((k : ℕ) → k < length (x ∷ xs) → get_or (x ∷ xs) k top ≤ℤ top) → most ≤ℤ top
     le_top x xs (inl e) bound = subst (λ y. y ≤ℤ top) (sym e) (bound 0 (omega arith))
     le_top x xs (inr (k, l, e)) bound =
         subst (λ y. y ≤ℤ top) (default_is_free xs k top most l ∙ e) (bound (suc k) (omega arith))
@@ -104,14 +107,17 @@ equal_passes : (a : ℤ) → int_eq a a ≡ true
 equal_passes a = (Decides-int_eq a a).1 refl
 
 lesser_fails : (a b : ℤ) → b <ℤ a → int_eq a b ≡ false
-lesser_fails a b h = is_false (int_eq a b) (λ e. let same : a ≡ b = (Decides-int_eq a b).0 e in absurd (omega (arith, ints)))
+lesser_fails a b h =
+    is_false (int_eq a b) (λ e. let same : a ≡ b = (Decides-int_eq a b).0 e in absurd (omega (arith, ints)))
   where
     is_false : (t : Bool) → (t ≡ true → ⊥) → t ≡ false
     is_false true h = absurd (h refl)
     is_false false h = refl
 
 -- the first place of the greatest is that place
-first_greatest_is : (xs : List ℤ) (best : ℕ) (top : ℤ) → best < length xs → get_or xs best top ≡ top → ((k : ℕ) → k < length xs → get_or xs k top ≤ℤ top) → ((k : ℕ) → k < best → get_or xs k top <ℤ top) → first_greatest xs ≡ best
+first_greatest_is : (xs : List ℤ) (best : ℕ) (top : ℤ) → best < length xs → get_or xs best top ≡ top →
+    ((k : ℕ) → k < length xs → get_or xs k top ≤ℤ top) → ((k : ℕ) → k < best → get_or xs k top <ℤ top) →
+    first_greatest xs ≡ best
 unfolding first_greatest
 first_greatest_is [] best top within at greatest least = absurd (omega arith)
 first_greatest_is (x ∷ xs) best top within at greatest least =
@@ -121,7 +127,8 @@ first_greatest_is (x ∷ xs) best top within at greatest least =
     (λ l. rw (most, at) (equal_passes top))
 
 -- the same of the values at the first n places
-first_greatest-map : (f : ℕ → ℤ) (n best : ℕ) → IsFirstGreatest f n best → first_greatest (map f (range_with_len 0 n)) ≡ best
+first_greatest-map : (f : ℕ → ℤ) (n best : ℕ) → IsFirstGreatest f n best →
+    first_greatest (map f (range_with_len 0 n)) ≡ best
 first_greatest-map f n best is =
     let values = map f (range_with_len 0 n) in
     let size = length-map-range_with_len f 0 n in
@@ -134,7 +141,8 @@ first_greatest-map f n best is =
 pub bearing_is_first : (dx dy : ℤ) (degree : ℕ) → IsFirstGreatest (reach_of dx dy) 360 degree → IsBearing dx dy degree
 bearing_is_first dx dy degree is = record { on_the_round = is.within; greatest = is.greatest; least = is.least }
 
-pub bearing_of_is_first : (dx dy : ℤ) (degree : ℕ) → IsFirstGreatest (reach_of dx dy) 360 degree → degree ≡ bearing_of dx dy
+pub bearing_of_is_first : (dx dy : ℤ) (degree : ℕ) → IsFirstGreatest (reach_of dx dy) 360 degree →
+    degree ≡ bearing_of dx dy
 unfolding bearing_of reaches
 bearing_of_is_first dx dy degree is = sym (first_greatest-map (reach_of dx dy) 360 degree is)
 
@@ -178,22 +186,30 @@ bearing_reach dx dy apart =
 pub record IsMostSoFar (dx dy : ℤ) (lanes : List ℤ) (n : ℕ) : Type 0 where
   pub size : length lanes ≡ 8
   pub bound : (chunk lane : ℕ) → chunk < n → lane < 8 → reach_of dx dy (8 * chunk + lane) ≤ℤ get_or lanes lane (pos 0)
-  pub reached : (lane : ℕ) → lane < 8 → (chunk : ℕ) × (chunk < n) × (reach_of dx dy (8 * chunk + lane) ≡ get_or lanes lane (pos 0))
+  pub reached : (lane : ℕ) → lane < 8 →
+      (chunk : ℕ) × (chunk < n) × (reach_of dx dy (8 * chunk + lane) ≡ get_or lanes lane (pos 0))
 
-lane_at : (dx dy : ℤ) (chunk lane degree : ℕ) (xs : List ℤ) (d : ℤ) → xs ≡ map (reach_of dx dy) (range_with_len (8 * chunk) 8) → lane < 8 → 8 * chunk + lane ≡ degree → get_or xs lane d ≡ reach_of dx dy degree
-lane_at dx dy chunk lane degree xs d e l at = rw e (get_or-map-range_with_len (reach_of dx dy) (8 * chunk) 8 lane degree d l at)
+lane_at : (dx dy : ℤ) (chunk lane degree : ℕ) (xs : List ℤ) (d : ℤ) →
+    xs ≡ map (reach_of dx dy) (range_with_len (8 * chunk) 8) → lane < 8 → 8 * chunk + lane ≡ degree →
+    get_or xs lane d ≡ reach_of dx dy degree
+lane_at dx dy chunk lane degree xs d e l at =
+    rw e (get_or-map-range_with_len (reach_of dx dy) (8 * chunk) 8 lane degree d l at)
 
-chunk_lane : (dx dy : ℤ) (chunk lane : ℕ) (xs : List ℤ) (d : ℤ) → xs ≡ map (reach_of dx dy) (range_with_len (8 * chunk) 8) → lane < 8 → get_or xs lane d ≡ reach_of dx dy (8 * chunk + lane)
+chunk_lane : (dx dy : ℤ) (chunk lane : ℕ) (xs : List ℤ) (d : ℤ) →
+    xs ≡ map (reach_of dx dy) (range_with_len (8 * chunk) 8) → lane < 8 →
+    get_or xs lane d ≡ reach_of dx dy (8 * chunk + lane)
 chunk_lane dx dy chunk lane xs d e l = lane_at dx dy chunk lane (8 * chunk + lane) xs d e l refl
 
-pub most_at_first : (dx dy : ℤ) (xs : List ℤ) → xs ≡ map (reach_of dx dy) (range_with_len (8 * 0) 8) → IsMostSoFar dx dy xs 1
+pub most_at_first : (dx dy : ℤ) (xs : List ℤ) → xs ≡ map (reach_of dx dy) (range_with_len (8 * 0) 8) →
+    IsMostSoFar dx dy xs 1
 most_at_first dx dy xs e = record {
   size = ap length e;
   bound = λ chunk lane h l. at_first lane l chunk (omega arith);
   reached = λ lane l. (0, omega arith, sym (chunk_lane dx dy 0 lane xs (pos 0) e l));
 }
   where
-    at_first : (lane : ℕ) → lane < 8 → (chunk : ℕ) → chunk ≡ 0 → reach_of dx dy (8 * chunk + lane) ≤ℤ get_or xs lane (pos 0)
+    at_first : (lane : ℕ) → lane < 8 → (chunk : ℕ) → chunk ≡ 0 →
+        reach_of dx dy (8 * chunk + lane) ≤ℤ get_or xs lane (pos 0)
     at_first lane l chunk c = rw (c, chunk_lane dx dy 0 lane xs (pos 0) e l) (≤ℤ_refl (reach_of dx dy (8 * 0 + lane)))
 
 through : (a b c : ℤ) → a ≤ℤ b → b ≤ℤ c → a ≤ℤ c
@@ -210,23 +226,37 @@ max_is_either : (a b : ℤ) → (int_max a b ≡ a) ⊎ (int_max a b ≡ b)
 max_is_either a b = by_lt_z b a (λ h. inl (grind (arith, ints))) (λ h. inr (grind (arith, ints)))
 
 -- one chunk more
-pub most_of_more : (dx dy : ℤ) (lanes xs : List ℤ) (n : ℕ) → IsMostSoFar dx dy lanes n → xs ≡ map (reach_of dx dy) (range_with_len (8 * n) 8) → IsMostSoFar dx dy (zip2 int_max lanes xs) (n + 1)
+pub most_of_more : (dx dy : ℤ) (lanes xs : List ℤ) (n : ℕ) → IsMostSoFar dx dy lanes n →
+    xs ≡ map (reach_of dx dy) (range_with_len (8 * n) 8) → IsMostSoFar dx dy (zip2 int_max lanes xs) (n + 1)
 most_of_more dx dy lanes xs n so_far e =
     let eight : length xs ≡ 8 = ap length e in
     let same : length lanes ≡ length xs = so_far.size ∙ sym eight in
-    let at = λ (lane : ℕ) (l : lane < 8). get_or-zip2 int_max lanes xs lane (pos 0) (pos 0) (pos 0) (omega (arith, so_far.size)) (omega (arith, eight)) in
+    let at =
+    λ (lane : ℕ) (l : lane < 8). get_or-zip2 int_max lanes xs lane (pos 0) (pos 0) (pos 0)
+    (omega (arith, so_far.size)) (omega (arith, eight)) in
     let new = λ (lane : ℕ) (l : lane < 8). chunk_lane dx dy n lane xs (pos 0) e l in
     record {
       size = length-zip2 int_max lanes xs same ∙ so_far.size;
       bound = λ chunk lane h l.
           below_more (λ k. reach_of dx dy (8 * k + lane) ≤ℤ get_or (zip2 int_max lanes xs) lane (pos 0)) n
-          (λ k below. rw (at lane l) (through _ _ _ (so_far.bound k lane below l) (max_bounds_left (get_or lanes lane (pos 0)) (get_or xs lane (pos 0)))))
+          (λ k below. rw (at lane l)
+          (through _ _ _ (so_far.bound k lane below l)
+          (max_bounds_left (get_or lanes lane (pos 0)) (get_or xs lane (pos 0)))))
           (rw (at lane l, new lane l) (max_bounds_right (get_or lanes lane (pos 0)) (reach_of dx dy (8 * n + lane))))
           chunk h;
-      reached = λ lane l. either lane (at lane l) (new lane l) (so_far.reached lane l) (max_is_either (get_or lanes lane (pos 0)) (get_or xs lane (pos 0)));
+      reached =
+          λ lane l. either lane (at lane l) (new lane l) (so_far.reached lane l)
+          (max_is_either (get_or lanes lane (pos 0)) (get_or xs lane (pos 0)));
     }
   where
-    either : (lane : ℕ) → get_or (zip2 int_max lanes xs) lane (pos 0) ≡ int_max (get_or lanes lane (pos 0)) (get_or xs lane (pos 0)) → get_or xs lane (pos 0) ≡ reach_of dx dy (8 * n + lane) → ((chunk : ℕ) × (chunk < n) × (reach_of dx dy (8 * chunk + lane) ≡ get_or lanes lane (pos 0))) → (int_max (get_or lanes lane (pos 0)) (get_or xs lane (pos 0)) ≡ get_or lanes lane (pos 0)) ⊎ (int_max (get_or lanes lane (pos 0)) (get_or xs lane (pos 0)) ≡ get_or xs lane (pos 0)) → (chunk : ℕ) × (chunk < n + 1) × (reach_of dx dy (8 * chunk + lane) ≡ get_or (zip2 int_max lanes xs) lane (pos 0))
+    either : (lane : ℕ) →
+        get_or (zip2 int_max lanes xs) lane (pos 0) ≡ int_max (get_or lanes lane (pos 0)) (get_or xs lane (pos 0)) →
+        get_or xs lane (pos 0) ≡ reach_of dx dy (8 * n + lane) →
+        ((chunk : ℕ) × (chunk < n) × (reach_of dx dy (8 * chunk + lane) ≡ get_or lanes lane (pos 0))) →
+        (int_max (get_or lanes lane (pos 0)) (get_or xs lane (pos 0)) ≡ get_or lanes lane (pos 0)) ⊎
+        (int_max (get_or lanes lane (pos 0)) (get_or xs lane (pos 0)) ≡ get_or xs lane (pos 0)) →
+        (chunk : ℕ) × (chunk < n + 1) ×
+        (reach_of dx dy (8 * chunk + lane) ≡ get_or (zip2 int_max lanes xs) lane (pos 0))
     either lane at new (chunk, below, old) (inl m) = (chunk, omega arith, old ∙ sym m ∙ sym at)
     either lane at new (chunk, below, old) (inr m) = (n, omega arith, sym new ∙ sym m ∙ sym at)
 
@@ -236,7 +266,8 @@ unfolding reaches
 reach_at dx dy degree d l = get_or-map-range_with_len (reach_of dx dy) 0 360 degree degree d l (omega arith)
 
 -- after all chunks the greatest lane is the greatest reach
-pub most_of_all : (dx dy : ℤ) (lanes : List ℤ) (n : ℕ) (most : ℤ) → n ≡ 45 → IsMostSoFar dx dy lanes n → IsGreatest lanes most → IsGreatest (reaches dx dy) most
+pub most_of_all : (dx dy : ℤ) (lanes : List ℤ) (n : ℕ) (most : ℤ) → n ≡ 45 → IsMostSoFar dx dy lanes n →
+    IsGreatest lanes most → IsGreatest (reaches dx dy) most
 unfolding reaches
 most_of_all dx dy lanes n most whole so_far is = record {
   reached = found is.reached;
@@ -253,8 +284,11 @@ most_of_all dx dy lanes n most whole so_far is = record {
     found : Contains lanes most → Contains (reaches dx dy) most
     found (lane, l, e) =
         let r = so_far.reached lane (omega (arith, so_far.size)) in
-        let within : 8 * r.0 + lane < 360 = omega (arith, so_far.size, r.1) in
-        (8 * r.0 + lane, within, reach_at dx dy (8 * r.0 + lane) most within ∙ r.2 ∙ default_is_free lanes lane (pos 0) most l ∙ e)
+        let within : 8 * r.0 + lane < 360 = omega (arith, so_far.size, r.1) in (
+          8 * r.0 + lane,
+          within,
+          reach_at dx dy (8 * r.0 + lane) most within ∙ r.2 ∙ default_is_free lanes lane (pos 0) most l ∙ e,
+        )
 
 -- a number below the greatest that differs from it is less
 not_at : (most reach : ℤ) → int_eq most reach ≡ false → reach ≤ℤ most → reach <ℤ most
@@ -272,9 +306,13 @@ by_lt a b f g = by_test (nat_lt a b) f g (grind (arith, nat_tests)) (grind (arit
     by_test false f g p q = g (q refl)
 
 -- where `position` finds none, none passes
-none_passes : {X : Type 0} (p : X → Bool) (xs : List X) → None ≡ position p xs → (k : ℕ) (d : X) → k < length xs → p (get_or xs k d) ≡ false
+none_passes : {X : Type 0} (p : X → Bool) (xs : List X) → None ≡ position p xs → (k : ℕ) (d : X) → k < length xs →
+    p (get_or xs k d) ≡ false
 none_passes p xs e k d l =
-    fails (p (get_or xs k d)) (prefix_len_passes (λ x. not (p x)) xs k d (past (prefix_len (λ x. not (p x)) xs) (nat_lt (prefix_len (λ x. not (p x)) xs) (length xs)) (λ q. grind (arith, nat_tests)) e))
+    fails (p (get_or xs k d))
+    (prefix_len_passes (λ x. not (p x)) xs k d
+    (past (prefix_len (λ x. not (p x)) xs) (nat_lt (prefix_len (λ x. not (p x)) xs) (length xs))
+    (λ q. grind (arith, nat_tests)) e))
   where
     fails : (b : Bool) → not b ≡ true → b ≡ false
     fails true h = absurd (cc)
@@ -285,13 +323,17 @@ none_passes p xs e k d l =
     past n false q h = let all = q refl in omega arith
 
 -- the first lane of the first chunk that reaches furthest
-pub first_of_chunk : (dx dy most : ℤ) (chunk lane : ℕ) → chunk < 45 → IsGreatest (reaches dx dy) most → ((degree : ℕ) → degree < 8 * chunk → reach_of dx dy degree <ℤ most) → Some lane ≡ position (int_eq most) (map (reach_of dx dy) (range_with_len (8 * chunk) 8)) → IsFirstGreatest (reach_of dx dy) 360 (8 * chunk + lane)
+pub first_of_chunk : (dx dy most : ℤ) (chunk lane : ℕ) → chunk < 45 → IsGreatest (reaches dx dy) most →
+    ((degree : ℕ) → degree < 8 * chunk → reach_of dx dy degree <ℤ most) →
+    Some lane ≡ position (int_eq most) (map (reach_of dx dy) (range_with_len (8 * chunk) 8)) →
+    IsFirstGreatest (reach_of dx dy) 360 (8 * chunk + lane)
 unfolding reaches
 first_of_chunk dx dy most chunk lane h is before e =
     let xs = map (reach_of dx dy) (range_with_len (8 * chunk) 8) in
     let found = position-Some (int_eq most) xs lane (pos 0) (sym e) in
     let within : 8 * chunk + lane < 360 = omega (arith, found.0) in
-    let top : most ≡ reach_of dx dy (8 * chunk + lane) = (Decides-int_eq most (get_or xs lane (pos 0))).0 found.1 ∙ chunk_lane dx dy chunk lane xs (pos 0) refl found.0 in
+    let top : most ≡ reach_of dx dy (8 * chunk + lane) =
+    (Decides-int_eq most (get_or xs lane (pos 0))).0 found.1 ∙ chunk_lane dx dy chunk lane xs (pos 0) refl found.0 in
     let bound = λ (k : ℕ) (l : k < 360). rw (reach_at dx dy k (pos 0) l) at (is.bound k (pos 0) l) in
     record {
       within = within;
@@ -299,14 +341,21 @@ first_of_chunk dx dy most chunk lane h is before e =
       least = λ k l. rw (← top) (lower found.0 found.2 bound k (omega (arith, l, found.0)) l);
     }
   where
-    lower : lane < 8 → ((j : ℕ) → j < lane → int_eq most (get_or (map (reach_of dx dy) (range_with_len (8 * chunk) 8)) j (pos 0)) ≡ false) → ((k : ℕ) → k < 360 → reach_of dx dy k ≤ℤ most) → (k : ℕ) → k < 360 → k < 8 * chunk + lane → reach_of dx dy k <ℤ most
+    lower : lane < 8 →
+        ((j : ℕ) → j < lane →
+        int_eq most (get_or (map (reach_of dx dy) (range_with_len (8 * chunk) 8)) j (pos 0)) ≡ false) →
+        ((k : ℕ) → k < 360 → reach_of dx dy k ≤ℤ most) → (k : ℕ) → k < 360 → k < 8 * chunk + lane →
+        reach_of dx dy k <ℤ most
     lower small fails bound k round l =
         by_lt k (8 * chunk) (λ below. before k below) (λ after.
         let xs = map (reach_of dx dy) (range_with_len (8 * chunk) 8) in
         let here = lane_at dx dy chunk (k - 8 * chunk) k xs (pos 0) refl (omega arith) (omega arith) in
         not_at most (reach_of dx dy k) (rw here at (fails (k - 8 * chunk) (omega arith))) (bound k round))
 
-pub none_in_chunk : (dx dy most : ℤ) (chunk : ℕ) → chunk < 45 → IsGreatest (reaches dx dy) most → ((degree : ℕ) → degree < 8 * chunk → reach_of dx dy degree <ℤ most) → None ≡ position (int_eq most) (map (reach_of dx dy) (range_with_len (8 * chunk) 8)) → (degree : ℕ) → degree < 8 * (chunk + 1) → reach_of dx dy degree <ℤ most
+pub none_in_chunk : (dx dy most : ℤ) (chunk : ℕ) → chunk < 45 → IsGreatest (reaches dx dy) most →
+    ((degree : ℕ) → degree < 8 * chunk → reach_of dx dy degree <ℤ most) →
+    None ≡ position (int_eq most) (map (reach_of dx dy) (range_with_len (8 * chunk) 8)) → (degree : ℕ) →
+    degree < 8 * (chunk + 1) → reach_of dx dy degree <ℤ most
 unfolding reaches
 none_in_chunk dx dy most chunk h is before e degree l =
     by_lt degree (8 * chunk) (λ below. before degree below) (λ after.
@@ -317,7 +366,8 @@ none_in_chunk dx dy most chunk h is before e degree l =
     not_at most (reach_of dx dy degree) (rw here at fails) bound)
 
 -- some degree reaches furthest
-pub some_reaches : (dx dy most : ℤ) → IsGreatest (reaches dx dy) most → ((degree : ℕ) → degree < 360 → reach_of dx dy degree <ℤ most) → ⊥
+pub some_reaches : (dx dy most : ℤ) → IsGreatest (reaches dx dy) most →
+    ((degree : ℕ) → degree < 360 → reach_of dx dy degree <ℤ most) → ⊥
 unfolding reaches
 some_reaches dx dy most is below = never is.reached
   where

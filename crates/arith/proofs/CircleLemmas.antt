@@ -41,7 +41,8 @@ pub sine_fits : (i : ℕ) → FitsSigned w32 (round_sine i)
 sine_fits i = let bound = sine_bound (i % 360) (omega arith) in fits_signed_from_abs w32 (round_sine i) (omega arith)
 
 -- numbers that fit are the same after a way through their bits
-pub bits_and_back : (f : ℕ → ℤ) → ((i : ℕ) → FitsSigned w32 (f i)) → (places : List ℕ) → map (to_z w32) (map (of_z w32) (map f places)) ≡ map f places
+pub bits_and_back : (f : ℕ → ℤ) → ((i : ℕ) → FitsSigned w32 (f i)) → (places : List ℕ) →
+    map (to_z w32) (map (of_z w32) (map f places)) ≡ map f places
 bits_and_back f fits [] = refl
 bits_and_back f fits (i ∷ places) = rw (to_z-of_z w32 (f i) (fits i), bits_and_back f fits places)
 
@@ -51,7 +52,8 @@ drop-range (suc i) a b zero n p q = absurd (omega arith)
 drop-range (suc i) a b (suc m) n p q = drop-range i (a + 1) b m n (omega arith) (omega arith)
 
 -- eight entries in their place
-pub eight_are : (i : ℕ) → i + 8 ≤ 450 → map (to_z w32) (map (of_z w32) (take 8 (take (450 - i) (drop i ROUND)))) ≡ map round_sine (range_with_len i 8)
+pub eight_are : (i : ℕ) → i + 8 ≤ 450 →
+    map (to_z w32) (map (of_z w32) (take 8 (take (450 - i) (drop i ROUND)))) ≡ map round_sine (range_with_len i 8)
 eight_are i h =
     let rest = drop-range i 0 i 450 (450 - i) (omega arith) (omega arith) in
     let table = ap (drop i) table_is ∙ drop-map round_sine i (range_with_len 0 450) ∙ ap (map round_sine) rest in

@@ -27,7 +27,8 @@ shift_left_is a k fits h =
     ∙ ap (λ z. int_wrap w32 (a *ℤ z)) (reading_is (pos (2 ^ k)) power)
     ∙ int_wrap-mul_right w32 a (pos (2 ^ k))
 
-pub shift_left_gives : (a b : ℤ) → FitsSigned w32 a → int_shl w32 a (shift_count b) ≡ int_wrap w32 (a *ℤ pos (2 ^ shift_count b))
+pub shift_left_gives : (a b : ℤ) → FitsSigned w32 a →
+    int_shl w32 a (shift_count b) ≡ int_wrap w32 (a *ℤ pos (2 ^ shift_count b))
 shift_left_gives a b fits = shift_left_is a (shift_count b) fits (omega arith)
 
 -- a quotient is no larger than what is divided
@@ -44,7 +45,17 @@ quotient_size (pos a) (negsuc b) = rw (size_of_negative (a / suc b)) (quotient_l
 quotient_size (negsuc a) (pos b) = rw (size_of_negative (suc a / b)) (quotient_le (suc a) b)
 quotient_size (negsuc a) (negsuc b) = quotient_le (suc a) (suc b)
 
-pub quotient_gives : (a b : ℤ) → FitsSigned w32 a → cast_signed w32 (cast_unsigned w32 (int_div a b)) ≡ int_wrap w32 (int_div a b)
+pub quotient_gives : (a b : ℤ) → FitsSigned w32 a →
+    cast_signed w32 (cast_unsigned w32 (int_div a b)) ≡ int_wrap w32 (int_div a b)
 quotient_gives a b fits = let size = quotient_size a b in reading_is (int_div a b) (omega (arith, ints))
 
-pub ruleset op_steps = (to_z-of_z, value_is, int_wrap_fits, shift_left_gives, quotient_gives, wrapping_add_is, wrapping_sub_is, wrapping_mul_is)
+pub ruleset op_steps = (
+  to_z-of_z,
+  value_is,
+  int_wrap_fits,
+  shift_left_gives,
+  quotient_gives,
+  wrapping_add_is,
+  wrapping_sub_is,
+  wrapping_mul_is,
+)

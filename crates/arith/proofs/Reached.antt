@@ -30,7 +30,8 @@ rise i (suc d) some most =
     omega (arith, before, next)
 
 -- the first k of m numbers are counted
-count_front : (p : ℕ → Bool) (a m k : ℕ) → k ≤ m → ((i : ℕ) → a ≤ i → i < a + k → p i ≡ true) → ((i : ℕ) → a + k ≤ i → i < a + m → p i ≡ false)
+count_front : (p : ℕ → Bool) (a m k : ℕ) → k ≤ m → ((i : ℕ) → a ≤ i → i < a + k → p i ≡ true) →
+    ((i : ℕ) → a + k ≤ i → i < a + m → p i ≡ false)
     → count_by p (range_with_len a m) ≡ k
 count_front p a zero k most within beyond = omega (arith, most)
 count_front p a (suc m) zero most within beyond =
@@ -38,14 +39,19 @@ count_front p a (suc m) zero most within beyond =
     sum_by-cons (λ y. cond (p y) 1 0) a (range_with_len (a + 1) m)
     ∙ ap (λ b. cond b 1 0 + count_by p (range_with_len (a + 1) m)) (beyond a (omega arith) (omega arith))
     in
-    let rest = count_front p (a + 1) m zero (omega arith) (λ i low high. absurd (omega (arith, low, high))) (λ i low high. beyond i (omega (arith, low)) (omega (arith, high))) in
+    let rest =
+    count_front p (a + 1) m zero (omega arith) (λ i low high. absurd (omega (arith, low, high)))
+    (λ i low high. beyond i (omega (arith, low)) (omega (arith, high))) in
     omega (arith, first, rest)
 count_front p a (suc m) (suc k) most within beyond =
     let first : count_by p (range_with_len a (suc m)) ≡ 1 + count_by p (range_with_len (a + 1) m) =
     sum_by-cons (λ y. cond (p y) 1 0) a (range_with_len (a + 1) m)
     ∙ ap (λ b. cond b 1 0 + count_by p (range_with_len (a + 1) m)) (within a (omega arith) (omega arith))
     in
-    let rest = count_front p (a + 1) m k (omega (arith, most)) (λ i low high. within i (omega (arith, low)) (omega (arith, high))) (λ i low high. beyond i (omega (arith, low)) (omega (arith, high))) in
+    let rest =
+    count_front p (a + 1) m k (omega (arith, most))
+    (λ i low high. within i (omega (arith, low)) (omega (arith, high)))
+    (λ i low high. beyond i (omega (arith, low)) (omega (arith, high))) in
     omega (arith, first, rest)
 
 pub reached_is : (n k : ℕ) → k ≤ 90 → (0 < k → bound_of k ≤ n) → (k < 90 → n < bound_of (k + 1)) → degrees_reached n ≡ k
@@ -58,5 +64,6 @@ reached_is n k most last next =
     le-leb (bound_of i) n (omega (arith, rw same at up, last (omega (arith, from, below)))))
     (λ i from below.
     let same : k + 1 + (i - (k + 1)) ≡ i = omega (arith, from) in
-    let up : bound_of (k + 1) ≤ bound_of (k + 1 + (i - (k + 1))) = rise (k + 1) (i - (k + 1)) (omega arith) (omega (arith, same, below)) in
+    let up : bound_of (k + 1) ≤ bound_of (k + 1 + (i - (k + 1))) =
+    rise (k + 1) (i - (k + 1)) (omega arith) (omega (arith, same, below)) in
     lt-leb (bound_of i) n (omega (arith, rw same at up, next (omega (arith, from, below)))))

@@ -27,7 +27,8 @@ one_root r s n a b =
     omega arith
 
 -- one step: from the root of a quarter
-doubled : (q n : ℕ) → Straddles q (n / 4) → Straddles (cond (nat_le ((2 * q + 1) * (2 * q + 1)) n) (2 * q + 1) (2 * q)) n
+doubled : (q n : ℕ) → Straddles q (n / 4) →
+    Straddles (cond (nat_le ((2 * q + 1) * (2 * q + 1)) n) (2 * q + 1) (2 * q)) n
 doubled q n s =
     let low : 4 * (q * q) ≤ n = omega (arith, s.square) in
     let high : n < 4 * ((q + 1) * (q + 1)) = omega (arith, s.next_square) in
@@ -43,11 +44,13 @@ root_by_quarters_is (suc digits) n h =
     doubled (root_by_quarters digits (n / 4)) n (root_by_quarters_is digits (n / 4) (omega arith))
 
 -- what the code's root gives
-pub root_gives : (a : ℤ) (r : ℕ) → unsigned_abs a ≤ 2 ^ 31 → r * r ≤ unsigned_abs a → unsigned_abs a < (r + 1) * (r + 1) → pos r ≡ root_of a
+pub root_gives : (a : ℤ) (r : ℕ) → unsigned_abs a ≤ 2 ^ 31 → r * r ≤ unsigned_abs a →
+    unsigned_abs a < (r + 1) * (r + 1) → pos r ≡ root_of a
 unfolding root_of
 root_gives a r small square next_square =
     ap pos
-    (one_root r _ (unsigned_abs a) (record { square = square; next_square = next_square }) (root_by_quarters_is 16 (unsigned_abs a) (omega arith)))
+    (one_root r _ (unsigned_abs a) (record { square = square; next_square = next_square })
+    (root_by_quarters_is 16 (unsigned_abs a) (omega arith)))
 
 pub ruleset root_steps = (to_z-of_z, to_z_pos, root_gives)
 
@@ -88,5 +91,6 @@ power_above n log h =
     let k = log / 2 + 1 in
     let twice : 2 ^ (k + k) ≡ 2 ^ k * 2 ^ k = pow-add 2 k k in
     let more : 2 ^ (log + 1) ≡ 2 ^ log * 2 = pow_more 2 log in
-    let up : 2 ^ (log + 1) ≤ 2 ^ (k + k) = pow-le-pow_right {n = 2} (omega arith) {i = log + 1} {j = k + k} (omega arith) in
+    let up : 2 ^ (log + 1) ≤ 2 ^ (k + k) =
+    pow-le-pow_right {n = 2} (omega arith) {i = log + 1} {j = k + k} (omega arith) in
     omega arith

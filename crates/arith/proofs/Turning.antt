@@ -1,4 +1,5 @@
--- The ways from each degree of the round to the next turn left. So a point's reach rises along the half round before its
+-- The ways from each degree of the round to the next turn left. So a point's reach rises along the half round before
+-- its
 -- bearing, and falls along the half after it.
 use Rattle.std.proofs.Common.{◌≡◌, ℕ, zero, suc, ◌+◌, ◌*◌, ◌-◌, ◌/◌, ◌%◌, ◌<◌, ◌≤◌, ◌⊎◌, inl, inr, ℤ, pos, negsuc, neg_ℤ, ◌+ℤ◌, ◌-ℤ◌, ◌*ℤ◌, ◌≤ℤ◌, ◌<ℤ◌, int_lt, refl, sym, ap, subst, ◌∙◌, Bool, true, arith}
 use Rattle.std.specs.Ordering.{int_eq}
@@ -75,10 +76,12 @@ not_above b y h k = by_lt_z y (pos 0) (λ l. inl (above_below b y h l)) (λ l.
     let none : y ≡ pos 0 = omega (arith, ints) in inr (none, rw none (omega (arith, ints))))
 
 -- a x - b y is above 0
-apart_signs : (a x b y : ℤ) → pos 0 <ℤ a → pos 0 ≤ℤ x → pos 0 <ℤ b → y ≤ℤ pos 0 → (x ≡ pos 0 → y ≡ pos 0 → ⊥) → pos 0 <ℤ (a *ℤ x -ℤ b *ℤ y)
+apart_signs : (a x b y : ℤ) → pos 0 <ℤ a → pos 0 ≤ℤ x → pos 0 <ℤ b → y ≤ℤ pos 0 → (x ≡ pos 0 → y ≡ pos 0 → ⊥) →
+    pos 0 <ℤ (a *ℤ x -ℤ b *ℤ y)
 apart_signs a x b y ha hx hb hy some = by_cases (not_below a x ha hx) (not_above b y hb hy)
   where
-    by_cases : ((pos 0 <ℤ (a *ℤ x)) ⊎ ((x ≡ pos 0) × (a *ℤ x ≡ pos 0))) → (((b *ℤ y) <ℤ pos 0) ⊎ ((y ≡ pos 0) × (b *ℤ y ≡ pos 0))) → pos 0 <ℤ (a *ℤ x -ℤ b *ℤ y)
+    by_cases : ((pos 0 <ℤ (a *ℤ x)) ⊎ ((x ≡ pos 0) × (a *ℤ x ≡ pos 0))) →
+        (((b *ℤ y) <ℤ pos 0) ⊎ ((y ≡ pos 0) × (b *ℤ y ≡ pos 0))) → pos 0 <ℤ (a *ℤ x -ℤ b *ℤ y)
     by_cases (inl p) (inl q) = omega (arith, ints)
     by_cases (inl p) (inr q) = omega (arith, ints, q.1)
     by_cases (inr p) (inl q) = omega (arith, ints, p.1)
@@ -99,41 +102,51 @@ below_from_product k z h p = by_lt_z z (pos 0) (λ l. l) (λ l. absurd (not_so (
     not_so (inr q) = omega (arith, ints, q.1)
 
 none_from_product : (k z : ℤ) → pos 0 <ℤ k → k *ℤ z ≡ pos 0 → z ≡ pos 0
-none_from_product k z h e = by_lt_z (pos 0) z (λ l. absurd (omega (arith, ints, both_above k z h l))) (λ l. by_lt_z z (pos 0) (λ m. absurd (omega (arith, ints, above_below k z h m))) (λ m. omega (arith, ints)))
+none_from_product k z h e =
+    by_lt_z (pos 0) z (λ l. absurd (omega (arith, ints, both_above k z h l)))
+    (λ l. by_lt_z z (pos 0) (λ m. absurd (omega (arith, ints, above_below k z h m))) (λ m. omega (arith, ints)))
 
 -- a scaled sum of two products
 scaled : (k px py x y : ℤ) → k *ℤ (px *ℤ x +ℤ py *ℤ y) ≡ px *ℤ (k *ℤ x) +ℤ py *ℤ (k *ℤ y)
 scaled k px py x y = distributes k (px *ℤ x) (py *ℤ y) ∙ rw (swap k px x, swap k py y) refl
 
 -- a way v by two others, a and c
-combined_x : (ax ay cx cy vx vy : ℤ) → (ax *ℤ cy -ℤ ay *ℤ cx) *ℤ vx ≡ (vx *ℤ cy -ℤ vy *ℤ cx) *ℤ ax +ℤ (ax *ℤ vy -ℤ ay *ℤ vx) *ℤ cx
+combined_x : (ax ay cx cy vx vy : ℤ) →
+    (ax *ℤ cy -ℤ ay *ℤ cx) *ℤ vx ≡ (vx *ℤ cy -ℤ vy *ℤ cx) *ℤ ax +ℤ (ax *ℤ vy -ℤ ay *ℤ vx) *ℤ cx
 combined_x ax ay cx cy vx vy =
     let d = commutes (ax *ℤ cy -ℤ ay *ℤ cx) vx ∙ distributes_less vx (ax *ℤ cy) (ay *ℤ cx) in
     let a = commutes (vx *ℤ cy -ℤ vy *ℤ cx) ax ∙ distributes_less ax (vx *ℤ cy) (vy *ℤ cx) in
     let b = commutes (ax *ℤ vy -ℤ ay *ℤ vx) cx ∙ distributes_less cx (ax *ℤ vy) (ay *ℤ vx) in
     let one = swap vx ax cy in
-    let two : vx *ℤ (ay *ℤ cx) ≡ cx *ℤ (ay *ℤ vx) = swap vx ay cx ∙ ap (λ z. ay *ℤ z) (commutes vx cx) ∙ swap ay cx vx in
+    let two : vx *ℤ (ay *ℤ cx) ≡ cx *ℤ (ay *ℤ vx) =
+    swap vx ay cx ∙ ap (λ z. ay *ℤ z) (commutes vx cx) ∙ swap ay cx vx in
     let three : ax *ℤ (vy *ℤ cx) ≡ cx *ℤ (ax *ℤ vy) = ap (λ z. ax *ℤ z) (commutes vy cx) ∙ swap ax cx vy in
     rw (d, a, b, one, two, three) (omega (arith, ints))
 
-combined_y : (ax ay cx cy vx vy : ℤ) → (ax *ℤ cy -ℤ ay *ℤ cx) *ℤ vy ≡ (vx *ℤ cy -ℤ vy *ℤ cx) *ℤ ay +ℤ (ax *ℤ vy -ℤ ay *ℤ vx) *ℤ cy
+combined_y : (ax ay cx cy vx vy : ℤ) →
+    (ax *ℤ cy -ℤ ay *ℤ cx) *ℤ vy ≡ (vx *ℤ cy -ℤ vy *ℤ cx) *ℤ ay +ℤ (ax *ℤ vy -ℤ ay *ℤ vx) *ℤ cy
 combined_y ax ay cx cy vx vy =
     let d = commutes (ax *ℤ cy -ℤ ay *ℤ cx) vy ∙ distributes_less vy (ax *ℤ cy) (ay *ℤ cx) in
     let a = commutes (vx *ℤ cy -ℤ vy *ℤ cx) ay ∙ distributes_less ay (vx *ℤ cy) (vy *ℤ cx) in
     let b = commutes (ax *ℤ vy -ℤ ay *ℤ vx) cy ∙ distributes_less cy (ax *ℤ vy) (ay *ℤ vx) in
     let one = swap vy ay cx in
-    let two : vy *ℤ (ax *ℤ cy) ≡ cy *ℤ (ax *ℤ vy) = swap vy ax cy ∙ ap (λ z. ax *ℤ z) (commutes vy cy) ∙ swap ax cy vy in
+    let two : vy *ℤ (ax *ℤ cy) ≡ cy *ℤ (ax *ℤ vy) =
+    swap vy ax cy ∙ ap (λ z. ax *ℤ z) (commutes vy cy) ∙ swap ax cy vy in
     let three : ay *ℤ (vx *ℤ cy) ≡ cy *ℤ (ay *ℤ vx) = ap (λ z. ay *ℤ z) (commutes vx cy) ∙ swap ay cy vx in
     rw (d, a, b, one, two, three) (omega (arith, ints))
 
 -- so of the products with a point p too
-combined : (px py ax ay cx cy vx vy : ℤ) → (ax *ℤ cy -ℤ ay *ℤ cx) *ℤ (px *ℤ vx +ℤ py *ℤ vy) ≡ (vx *ℤ cy -ℤ vy *ℤ cx) *ℤ (px *ℤ ax +ℤ py *ℤ ay) +ℤ (ax *ℤ vy -ℤ ay *ℤ vx) *ℤ (px *ℤ cx +ℤ py *ℤ cy)
+combined : (px py ax ay cx cy vx vy : ℤ) →
+    (ax *ℤ cy -ℤ ay *ℤ cx) *ℤ (px *ℤ vx +ℤ py *ℤ vy) ≡
+    (vx *ℤ cy -ℤ vy *ℤ cx) *ℤ (px *ℤ ax +ℤ py *ℤ ay) +ℤ (ax *ℤ vy -ℤ ay *ℤ vx) *ℤ (px *ℤ cx +ℤ py *ℤ cy)
 combined px py ax ay cx cy vx vy =
     let k = ax *ℤ cy -ℤ ay *ℤ cx in
     let m = vx *ℤ cy -ℤ vy *ℤ cx in
     let n = ax *ℤ vy -ℤ ay *ℤ vx in
-    let x : px *ℤ (k *ℤ vx) ≡ px *ℤ (m *ℤ ax) +ℤ px *ℤ (n *ℤ cx) = ap (λ z. px *ℤ z) (combined_x ax ay cx cy vx vy) ∙ distributes px (m *ℤ ax) (n *ℤ cx) in
-    let y : py *ℤ (k *ℤ vy) ≡ py *ℤ (m *ℤ ay) +ℤ py *ℤ (n *ℤ cy) = ap (λ z. py *ℤ z) (combined_y ax ay cx cy vx vy) ∙ distributes py (m *ℤ ay) (n *ℤ cy) in
+    let x : px *ℤ (k *ℤ vx) ≡ px *ℤ (m *ℤ ax) +ℤ px *ℤ (n *ℤ cx) =
+    ap (λ z. px *ℤ z) (combined_x ax ay cx cy vx vy) ∙ distributes px (m *ℤ ax) (n *ℤ cx) in
+    let y : py *ℤ (k *ℤ vy) ≡ py *ℤ (m *ℤ ay) +ℤ py *ℤ (n *ℤ cy) =
+    ap (λ z. py *ℤ z) (combined_y ax ay cx cy vx vy) ∙ distributes py (m *ℤ ay) (n *ℤ cy) in
     rw (scaled k px py vx vy, scaled m px py ax ay, scaled n px py cx cy, x, y) (omega (arith, ints))
 
 -- the way from the end of a degree to that of the next one
@@ -177,8 +190,10 @@ opposite n =
 quarter_x : (n : ℕ) → edge_x (n + 90) ≡ neg_ℤ (edge_y n)
 unfolding edge_x edge_y
 quarter_x n =
-    let p : sine_at ((n + 90 + 91) % 360) ≡ neg_ℤ (sine_at ((n + 1) % 360)) = ap (λ k. sine_at (k % 360)) (omega arith) ∙ opposite (n + 1) in
-    let q : sine_at ((n + 90 + 90) % 360) ≡ neg_ℤ (sine_at (n % 360)) = ap (λ k. sine_at (k % 360)) (omega arith) ∙ opposite n in
+    let p : sine_at ((n + 90 + 91) % 360) ≡ neg_ℤ (sine_at ((n + 1) % 360)) =
+    ap (λ k. sine_at (k % 360)) (omega arith) ∙ opposite (n + 1) in
+    let q : sine_at ((n + 90 + 90) % 360) ≡ neg_ℤ (sine_at (n % 360)) =
+    ap (λ k. sine_at (k % 360)) (omega arith) ∙ opposite n in
     rw (p, q) (omega (arith, ints))
 
 quarter_y : (n : ℕ) → edge_y (n + 90) ≡ edge_x n
@@ -190,7 +205,17 @@ quarter_y n =
 quarter : (n m : ℕ) → cross (n + 90) (m + 90) ≡ cross n m
 unfolding cross
 quarter n m =
-    rw (quarter_x n, quarter_y n, quarter_x m, quarter_y m, negated (edge_y n) (edge_x m), commutes (edge_x n) (neg_ℤ (edge_y m)), negated (edge_y m) (edge_x n), commutes (edge_y m) (edge_x n)) (omega (arith, ints))
+    rw (
+      quarter_x n,
+      quarter_y n,
+      quarter_x m,
+      quarter_y m,
+      negated (edge_y n) (edge_x m),
+      commutes (edge_x n) (neg_ℤ (edge_y m)),
+      negated (edge_y m) (edge_x n),
+      commutes (edge_y m) (edge_x n),
+    )
+    (omega (arith, ints))
 
 is_above : (z : ℤ) → int_lt (pos 0) z ≡ true → pos 0 <ℤ z
 is_above z h = omega (arith, ints)
@@ -210,7 +235,9 @@ turns_left_by (suc q) r m small below near =
     let n_is : 90 * suc q + r ≡ 90 * q + r + 90 = omega arith in
     let m_is : m ≡ m - 90 + 90 = omega arith in
     let Turns : ℤ → Type 0 = λ z. pos 0 <ℤ z in
-    subst Turns (sym (quarter (90 * q + r) (m - 90)) ∙ ap (λ n. cross n (m - 90 + 90)) (sym n_is) ∙ ap (cross (90 * suc q + r)) (sym m_is)) back
+    subst Turns
+    (sym (quarter (90 * q + r) (m - 90)) ∙ ap (λ n. cross n (m - 90 + 90)) (sym n_is) ∙
+    ap (cross (90 * suc q + r)) (sym m_is)) back
 
 turns_left : (n m : ℕ) → n < m → m ≤ n + 179 → pos 0 <ℤ cross n m
 turns_left n m below near =
@@ -226,7 +253,8 @@ turned n m = rw (commutes (edge_x n) (edge_y m), commutes (edge_y n) (edge_x m))
 pub gain : ℤ → ℤ → ℕ → ℤ
 gain dx dy n = dx *ℤ edge_x n +ℤ dy *ℤ edge_y n
 
-pub gains : (dx dy : ℤ) (n from to : ℕ) → from ≡ n % 360 → to ≡ (n + 1) % 360 → reach_of dx dy to ≡ reach_of dx dy from +ℤ gain dx dy n
+pub gains : (dx dy : ℤ) (n from to : ℕ) → from ≡ n % 360 → to ≡ (n + 1) % 360 →
+    reach_of dx dy to ≡ reach_of dx dy from +ℤ gain dx dy n
 unfolding gain edge_x edge_y reach_of cosine_at
 gains dx dy n from to p q =
     let here : sine_at ((from + 90) % 360) ≡ sine_at ((n + 90) % 360) = ap sine_at (omega arith) in
@@ -236,7 +264,8 @@ gains dx dy n from to p q =
     rw (here, next, p, q, east, north) (omega (arith, ints))
 
 -- the gain at one degree by those at another and at the next one
-whole : (dx dy : ℤ) (i j : ℕ) → cross i (i + 1) *ℤ gain dx dy j ≡ cross j (i + 1) *ℤ gain dx dy i +ℤ cross i j *ℤ gain dx dy (i + 1)
+whole : (dx dy : ℤ) (i j : ℕ) →
+    cross i (i + 1) *ℤ gain dx dy j ≡ cross j (i + 1) *ℤ gain dx dy i +ℤ cross i j *ℤ gain dx dy (i + 1)
 unfolding gain cross
 whole dx dy i j = combined dx dy (edge_x i) (edge_y i) (edge_x (i + 1)) (edge_y (i + 1)) (edge_x j) (edge_y j)
 
@@ -245,11 +274,14 @@ none_whole k z a x b y h e p q =
     let none : a *ℤ pos 0 +ℤ b *ℤ pos 0 ≡ pos 0 = omega (arith, ints) in
     none_from_product k z h (e ∙ rw (p, q) none)
 
-pub some_turn : (dx dy : ℤ) (i : ℕ) → (dx ≡ pos 0 → dy ≡ pos 0 → ⊥) → gain dx dy i ≡ pos 0 → gain dx dy (i + 1) ≡ pos 0 → ⊥
+pub some_turn : (dx dy : ℤ) (i : ℕ) → (dx ≡ pos 0 → dy ≡ pos 0 → ⊥) → gain dx dy i ≡ pos 0 →
+    gain dx dy (i + 1) ≡ pos 0 → ⊥
 unfolding gain cross
 some_turn dx dy i some x y =
     let left = turns_left i (i + 1) (omega arith) (omega arith) in
-    let solve = λ (vx vy : ℤ). none_whole (cross i (i + 1)) (dx *ℤ vx +ℤ dy *ℤ vy) _ (gain dx dy i) _ (gain dx dy (i + 1)) left (combined dx dy (edge_x i) (edge_y i) (edge_x (i + 1)) (edge_y (i + 1)) vx vy) x y in
+    let solve =
+    λ (vx vy : ℤ). none_whole (cross i (i + 1)) (dx *ℤ vx +ℤ dy *ℤ vy) _ (gain dx dy i) _ (gain dx dy (i + 1)) left
+    (combined dx dy (edge_x i) (edge_y i) (edge_x (i + 1)) (edge_y (i + 1)) vx vy) x y in
     let east = solve (pos 1) (pos 0) in
     let north = solve (pos 0) (pos 1) in
     some (omega (arith, ints, east)) (omega (arith, ints, north))
@@ -264,21 +296,29 @@ fallen p a b c e f h = omega (arith, ints)
 turned_by : (i j : ℕ) (z : ℤ) → cross i j *ℤ z ≡ neg_ℤ (cross j i *ℤ z)
 turned_by i j z = ap (λ k. k *ℤ z) (turned i j) ∙ negated (cross j i) z
 
-pub rises : (dx dy : ℤ) (i j : ℕ) → (dx ≡ pos 0 → dy ≡ pos 0 → ⊥) → pos 0 ≤ℤ gain dx dy i → gain dx dy (i + 1) ≤ℤ pos 0 → j < i → i + 1 ≤ j + 179 → pos 0 <ℤ gain dx dy j
+pub rises : (dx dy : ℤ) (i j : ℕ) → (dx ≡ pos 0 → dy ≡ pos 0 → ⊥) → pos 0 ≤ℤ gain dx dy i →
+    gain dx dy (i + 1) ≤ℤ pos 0 → j < i → i + 1 ≤ j + 179 → pos 0 <ℤ gain dx dy j
 rises dx dy i j some x y before near =
     let here = gain dx dy i in
     let next = gain dx dy (i + 1) in
-    let sum = apart_signs (cross j (i + 1)) here (cross j i) next (turns_left j (i + 1) (omega arith) near) x (turns_left j i before (omega arith)) y (some_turn dx dy i some) in
+    let sum =
+    apart_signs (cross j (i + 1)) here (cross j i) next (turns_left j (i + 1) (omega arith) near) x
+    (turns_left j i before (omega arith)) y (some_turn dx dy i some) in
     above_from_product (cross i (i + 1)) (gain dx dy j) (turns_left i (i + 1) (omega arith) (omega arith))
-    (risen (cross i (i + 1) *ℤ gain dx dy j) (cross j (i + 1) *ℤ here) (cross i j *ℤ next) (cross j i *ℤ next) (whole dx dy i j) (turned_by i j next) sum)
+    (risen (cross i (i + 1) *ℤ gain dx dy j) (cross j (i + 1) *ℤ here) (cross i j *ℤ next) (cross j i *ℤ next)
+    (whole dx dy i j) (turned_by i j next) sum)
 
-pub falls : (dx dy : ℤ) (i j : ℕ) → (dx ≡ pos 0 → dy ≡ pos 0 → ⊥) → pos 0 ≤ℤ gain dx dy i → gain dx dy (i + 1) ≤ℤ pos 0 → i + 1 < j → j ≤ i + 179 → gain dx dy j <ℤ pos 0
+pub falls : (dx dy : ℤ) (i j : ℕ) → (dx ≡ pos 0 → dy ≡ pos 0 → ⊥) → pos 0 ≤ℤ gain dx dy i →
+    gain dx dy (i + 1) ≤ℤ pos 0 → i + 1 < j → j ≤ i + 179 → gain dx dy j <ℤ pos 0
 falls dx dy i j some x y after near =
     let here = gain dx dy i in
     let next = gain dx dy (i + 1) in
-    let sum = apart_signs (cross (i + 1) j) here (cross i j) next (turns_left (i + 1) j after (omega arith)) x (turns_left i j (omega arith) near) y (some_turn dx dy i some) in
+    let sum =
+    apart_signs (cross (i + 1) j) here (cross i j) next (turns_left (i + 1) j after (omega arith)) x
+    (turns_left i j (omega arith) near) y (some_turn dx dy i some) in
     below_from_product (cross i (i + 1)) (gain dx dy j) (turns_left i (i + 1) (omega arith) (omega arith))
-    (fallen (cross i (i + 1) *ℤ gain dx dy j) (cross j (i + 1) *ℤ here) (cross i j *ℤ next) (cross (i + 1) j *ℤ here) (whole dx dy i j) (turned_by j (i + 1) here) sum)
+    (fallen (cross i (i + 1) *ℤ gain dx dy j) (cross j (i + 1) *ℤ here) (cross i j *ℤ next) (cross (i + 1) j *ℤ here)
+    (whole dx dy i j) (turned_by j (i + 1) here) sum)
 
 -- half a round further the gain is the opposite
 pub gains_back : (dx dy : ℤ) (n : ℕ) → gain dx dy (n + 180) ≡ neg_ℤ (gain dx dy n)
@@ -287,4 +327,13 @@ gains_back dx dy n =
     let m : n + 180 ≡ n + 90 + 90 = omega arith in
     let x : edge_x (n + 180) ≡ neg_ℤ (edge_x n) = ap edge_x m ∙ quarter_x (n + 90) ∙ ap neg_ℤ (quarter_y n) in
     let y : edge_y (n + 180) ≡ neg_ℤ (edge_y n) = ap edge_y m ∙ quarter_y (n + 90) ∙ quarter_x n in
-    rw (x, y, commutes dx (neg_ℤ (edge_x n)), negated (edge_x n) dx, commutes (edge_x n) dx, commutes dy (neg_ℤ (edge_y n)), negated (edge_y n) dy, commutes (edge_y n) dy) (omega (arith, ints))
+    rw (
+      x,
+      y,
+      commutes dx (neg_ℤ (edge_x n)),
+      negated (edge_x n) dx,
+      commutes (edge_x n) dx,
+      commutes dy (neg_ℤ (edge_y n)),
+      negated (edge_y n) dy,
+      commutes (edge_y n) dy,
+    ) (omega (arith, ints))

@@ -1,7 +1,9 @@
 -- Values that the definitions give, worked out from them by the prover. They pin down the roundings, the signs and the
 -- ties.
 use Rattle.std.specs.Prelude.{◌≡◌, ℤ, pos, neg_ℤ, ℕ}
-use Rattle.arith.specs.declared.operators.Op.TheVariants.{ShiftLeft, ShiftRight, Divide, Remainder}
+use Rattle.arith.specs.declared.operators.Op.{Op}
+use Rattle.arith.specs.declared.operators.Op.TheVariants.{Or, And, BitOr, BitXor, BitAnd, Equal, NotEqual, Less, Greater}
+use Rattle.arith.specs.declared.operators.Op.TheVariants.{LessOrEqual, GreaterOrEqual, ShiftLeft, ShiftRight, Add, Subtract, Multiply, Divide, Remainder}
 use Rattle.arith.specs.Op.{value_of}
 use Rattle.arith.specs.Circle.{sine_of}
 use Rattle.arith.specs.Tangent.{tangent_of}
@@ -15,6 +17,33 @@ minus n = neg_ℤ (pos n)
 
 abbrev pub least : ℤ
 least = minus 2147483648
+
+-- the values of an operator at 2 and 21, at 21 and 2, at 2 and 2, at 0 and 2
+abbrev pub Gives : Op → (a b c d : ℤ) → Type 0
+Gives o a b c d =
+    (value_of o (pos 2) (pos 21) ≡ a) × (value_of o (pos 21) (pos 2) ≡ b) × (value_of o (pos 2) (pos 2) ≡ c)
+    × (value_of o (pos 0) (pos 2) ≡ d)
+
+-- No two operators give the same four values.
+pub record KnownOperators : Type 0 where
+  pub or : Gives Or (pos 1) (pos 1) (pos 1) (pos 1)
+  pub and : Gives And (pos 1) (pos 1) (pos 1) (pos 0)
+  pub bit_or : Gives BitOr (pos 23) (pos 23) (pos 2) (pos 2)
+  pub bit_xor : Gives BitXor (pos 23) (pos 23) (pos 0) (pos 2)
+  pub bit_and : Gives BitAnd (pos 0) (pos 0) (pos 2) (pos 0)
+  pub equal : Gives Equal (pos 0) (pos 0) (pos 1) (pos 0)
+  pub not_equal : Gives NotEqual (pos 1) (pos 1) (pos 0) (pos 1)
+  pub less : Gives Less (pos 1) (pos 0) (pos 0) (pos 1)
+  pub greater : Gives Greater (pos 0) (pos 1) (pos 0) (pos 0)
+  pub less_or_equal : Gives LessOrEqual (pos 1) (pos 0) (pos 1) (pos 1)
+  pub greater_or_equal : Gives GreaterOrEqual (pos 0) (pos 1) (pos 1) (pos 0)
+  pub shift_left : Gives ShiftLeft (pos 4194304) (pos 84) (pos 8) (pos 0)
+  pub shift_right : Gives ShiftRight (pos 0) (pos 5) (pos 0) (pos 0)
+  pub add : Gives Add (pos 23) (pos 23) (pos 4) (pos 2)
+  pub subtract : Gives Subtract (minus 19) (pos 19) (pos 0) (minus 2)
+  pub multiply : Gives Multiply (pos 42) (pos 42) (pos 4) (pos 0)
+  pub divide : Gives Divide (pos 0) (pos 10) (pos 1) (pos 0)
+  pub remainder : Gives Remainder (pos 2) (pos 1) (pos 0) (pos 0)
 
 pub record OperatorValues : Type 0 where
   pub quotient_by_zero : value_of Divide (pos 7) (pos 0) ≡ pos 0

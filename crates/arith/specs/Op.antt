@@ -5,6 +5,12 @@ use Rattle.std.specs.Ordering.{int_eq}
 use Rattle.arith.specs.declared.operators.Op.{Op}
 use Rattle.arith.specs.declared.operators.Op.TheVariants.{Or, And, BitOr, BitXor, BitAnd, Equal, NotEqual, Less, Greater, LessOrEqual, GreaterOrEqual, ShiftLeft, ShiftRight, Add, Subtract, Multiply, Divide, Remainder}
 
+-- the two operators on truth values
+abbrev pub is_logic : Op → Bool
+is_logic Or = true
+is_logic And = true
+is_logic _ = false
+
 -- a number holds if it is not 0
 abbrev pub holds : ℤ → Bool
 holds (pos zero) = false

@@ -7,7 +7,7 @@ ghost use Rattle.arith.specs.Table.{tangents};
 ghost use Rattle.arith.specs.Degree.{degree_of, IsDegreeOf};
 ghost use Rattle.arith.specs.Circle.{IsNearlyOnCircle};
 ghost use Rattle.arith.specs.Bearing.{reach_of, bearing_of};
-ghost use Rattle.arith.specs.KnownValues.{OperatorValues, DegreeValues, RootValues, BearingValues};
+ghost use Rattle.arith.specs.KnownValues.{KnownOperators, OperatorValues, DegreeValues, RootValues, BearingValues};
 
 /// Proves that the degree of a number is 0 to 359 and differs from the number by whole rounds.
 pub fn degree_differs_by_rounds(number: i32)
@@ -34,6 +34,7 @@ pub fn bearing_points_forward(dx: i32, dy: i32)
 
 /// Proves that the definitions give these known values.
 pub fn known_values()
+    ensures each { KnownOperators }
     ensures operators { OperatorValues }
     ensures degrees { DegreeValues }
     ensures roots { RootValues }

@@ -2,9 +2,10 @@
 
 ghost use Rattle.std.specs.Prelude.{◌≡◌};
 ghost use Rattle.std.specs.Int.{w32, int_wrap};
-ghost use Rattle.arith.specs.Op.{value_of, quotient, remainder};
+ghost use Rattle.arith.specs.Op.{is_logic, value_of, quotient, remainder};
 
-/// A binary operator on two numbers `a` and `b` (docs/numbers.md, "Operators").
+/// A binary operator on two numbers `a` and `b` (docs/numbers.md, "Operators"). In the language each group binds tighter
+/// than those before it: `||`, `&&`, `|`, `^`, `&`, equality, order, shifts, sums, products.
 #[derive(Clone, Copy, Debug, PartialEq, Eq)]
 pub enum Op {
     /// `||`: 1 if `a` or `b` is not 0, else 0.
@@ -43,6 +44,15 @@ pub enum Op {
     Divide,
     /// `%`: what `/` leaves, with the sign of `a`; by 0 it is 0.
     Remainder,
+}
+
+impl Op {
+    /// Reports whether the operator is `||` or `&&`, which take each side as a truth value.
+    pub fn is_logic(self) -> bool
+        ensures { result ≡ is_logic self }
+    {
+        matches!(self, Op::Or | Op::And)
+    }
 }
 
 /// Returns what an operator makes of any two numbers. Both have been worked out before, also for `&&` and `||`

@@ -10,10 +10,10 @@ use Rattle.code.specs.declared.want.Want.TheVariants.{Quiet}
 use Rattle.code.specs.Generation.{ObjectCode}
 use Rattle.battles.specs.Battle.{Behaviour, Stage, step, turn, robot_of}
 use Rattle.battles.specs.Carrying.{Runner, AreRobotsOf, EachIsAt, HasReached, IsAt, IsRobotOf}
-use Rattle.battles.specs.Windows.{AreSlots, HasCome, HasRun, IsLike, OthersArePast, alone, RunsAlone, turns_left, is_left, rounds}
+use Rattle.battles.specs.Windows.{AreTurnNumbers, HasCome, HasRun, IsLike, OthersArePast, alone, RunsAlone, turns_left, is_left, rounds}
 use Rattle.battles.proofs.Alike.{stands_like, stages_refl, like_same, stages_trans}
 use Rattle.battles.proofs.Commuting.{TurnsAlone}
-use Rattle.battles.proofs.Turns.{rest_all, rest_none, left_not, slots_one, slots_set, next_taken}
+use Rattle.battles.proofs.Turns.{rest_all, rest_none, left_not, turn_numbers_one, turn_numbers_set, next_taken}
 use Rattle.battles.proofs.Stages.{robot_at, robots_length, stands_at, stands_set}
 
 -- a robot has run alone for so many cycles
@@ -46,24 +46,30 @@ pub others_past : (i w : ℕ) (next : List ℕ) → w ≤ 15 → OthersArePast 6
 others_past i w next within past j low other = omega (arith, within, past j low other)
 
 -- If all others are past the end, none is left before its own.
-first_left : (next : List ℕ) (i end n : ℕ) → AreSlots next → i < 4 → get_or next i 0 + 4 * n < end → OthersArePast end i next
-    → (j : ℕ) → j < 4 → get_or (set next i (get_or next i 0 + 4 * n)) i 0 ≤ get_or (set next i (get_or next i 0 + 4 * n)) j 0
+first_left : (next : List ℕ) (i end n : ℕ) → AreTurnNumbers next → i < 4 → get_or next i 0 + 4 * n < end →
+    OthersArePast end i next
+    → (j : ℕ) → j < 4 →
+    get_or (set next i (get_or next i 0 + 4 * n)) i 0 ≤ get_or (set next i (get_or next i 0 + 4 * n)) j 0
 first_left next i end n are small within past j low =
     let four = are.four in
-    let slot = get_or next i 0 + 4 * n in
-    let own : get_or (set next i slot) i 0 ≡ slot = get_or-set_same next i slot 0 (omega arith) in
+    let turn_number = get_or next i 0 + 4 * n in
+    let own : get_or (set next i turn_number) i 0 ≡ turn_number = get_or-set_same next i turn_number 0 (omega arith) in
     elim (cases_eq j i) [
       | inl same ↦ rw same (omega arith)
       | inr other ↦
-          let stays : get_or (set next i slot) j 0 ≡ get_or next j 0 = get_or-set_other next i j slot 0 other in
+          let stays : get_or (set next i turn_number) j 0 ≡ get_or next j 0 =
+          get_or-set_other next i j turn_number 0 other in
           omega (arith, own, stays, within, past j low other)
     ]
 
 -- Its turns are no longer left: each was one that it does alone, or none of the others' was left.
-pub run_taken : (robots : List Behaviour) (next : List ℕ) (i end n : ℕ) (s : Stage) → AreSlots next → i < 4 → i < length s.traces
+pub run_taken : (robots : List Behaviour) (next : List ℕ) (i end n : ℕ) (s : Stage) → AreTurnNumbers next → i < 4 →
+    i < length s.traces
     → get_or next i 0 + 4 * n < end + 4
     → RunsAlone (robot_of robots i) i s.field (get_or s.traces i []) n ⊎ OthersArePast end i next
-    → IsLike (turns_left robots (is_left (set next i (get_or next i 0 + 4 * n))) 0 end (ran robots i s n)) (turns_left robots (is_left next) 0 end s)
+    →
+    IsLike (turns_left robots (is_left (set next i (get_or next i 0 + 4 * n))) 0 end (ran robots i s n))
+    (turns_left robots (is_left next) 0 end s)
 run_taken robots next i end zero s are small inside within ready =
     let same : get_or next i 0 + 4 * 0 ≡ get_or next i 0 = omega arith in
     rw (ran_none robots i s, same, set-get_or next i 0) (stages_refl _)
@@ -71,9 +77,10 @@ run_taken robots next i end (suc n) s are small inside within ready =
     let four = are.four in
     let d = get_or next i 0 in
     let before = set next i (d + 4 * n) in
-    let slot : get_or before i 0 ≡ d + 4 * n = get_or-set_same next i (d + 4 * n) 0 (omega arith) in
+    let turn_number : get_or before i 0 ≡ d + 4 * n = get_or-set_same next i (d + 4 * n) 0 (omega arith) in
     let turns : TurnsAlone robots i (ran robots i s n) ⊎ ((j : ℕ) → j < 4 → get_or before i 0 ≤ get_or before j 0) =
-    elim ready as (λ r. TurnsAlone robots i (ran robots i s n) ⊎ ((j : ℕ) → j < 4 → get_or before i 0 ≤ get_or before j 0)) [
+    elim ready as
+    (λ r. TurnsAlone robots i (ran robots i s n) ⊎ ((j : ℕ) → j < 4 → get_or before i 0 ≤ get_or before j 0)) [
       | inl runs ↦ inl (ran_alone robots i s (suc n) n inside runs (omega arith))
       | inr past ↦ inr (first_left next i end n are small (omega arith) past)
     ] in
@@ -83,60 +90,79 @@ run_taken robots next i end (suc n) s are small inside within ready =
       | inr past ↦ inr past
     ] in
     let later : set before i (get_or before i 0 + 4) ≡ set next i (d + 4 * suc n) =
-    ap (λ k. set before i (k + 4)) slot ∙ set-set next i (d + 4 * n) (d + 4 * n + 4) ∙ ap (set next i) (omega arith) in
-    let last : IsLike (turns_left robots (is_left (set next i (d + 4 * suc n))) 0 end (ran robots i s (suc n))) (turns_left robots (is_left before) 0 end (ran robots i s n)) =
+    ap (λ k. set before i (k + 4)) turn_number ∙ set-set next i (d + 4 * n) (d + 4 * n + 4) ∙
+    ap (set next i) (omega arith) in
+    let last : IsLike (turns_left robots (is_left (set next i (d + 4 * suc n))) 0 end (ran robots i s (suc n)))
+    (turns_left robots (is_left before) 0 end (ran robots i s n)) =
     rw (later, ran_more robots i s n inside) at
-    (next_taken robots before i end (ran robots i s n) (slots_set next i n are small) small (omega (arith, slot)) turns) in
+    (next_taken robots before i end (ran robots i s n) (turn_numbers_set next i n are small) small
+    (omega (arith, turn_number)) turns) in
     stages_trans _ _ _ last (run_taken robots next i end n s are small inside (omega arith) fewer)
 
 -- What a robot that runs alone makes of its machine and of the arena, whatever its trace and the field are.
-pub record Runs (free : Type 0) (i : ℕ) (code : ObjectCode) (n : ℕ) (runner after : Runner) (arena grown : Ground) : Type 0 where
+pub record Runs (free : Type 0) (i : ℕ) (code : ObjectCode) (n : ℕ) (runner after : Runner) (arena grown : Ground) :
+    Type 0 where
   pub on : (r : Behaviour) (f : Field) (trace : List ℤ) → IsRobotOf code r → IsGroundOf arena f → IsAt runner code trace
       → HasRun free r i f trace n code after grown
 
 -- And one that takes the turn that is next before it runs.
-pub record GoesOn (free : Type 0) (i : ℕ) (code : ObjectCode) (n : ℕ) (runner after : Runner) (arena grown : Ground) : Type 0 where
+pub record GoesOn (free : Type 0) (i : ℕ) (code : ObjectCode) (n : ℕ) (runner after : Runner) (arena grown : Ground) :
+    Type 0 where
   pub on : (r : Behaviour) (f : Field) (trace : List ℤ) → IsRobotOf code r → IsGroundOf arena f → IsAt runner code trace
-      → HasRun free r i (step r i f trace).0 (step r i f trace).1 (n - 1) code after grown
+      → HasRun free r i (step r i f trace).0 (step r i f trace).1 n code after grown
 
-traces_length : (runners : List Runner) (codes : List ObjectCode) (traces : List (List ℤ)) → EachIsAt runners codes traces → length traces ≡ length codes
+traces_length : (runners : List Runner) (codes : List ObjectCode) (traces : List (List ℤ)) →
+    EachIsAt runners codes traces → length traces ≡ length codes
 traces_length [] [] [] stands = refl
-traces_length (runner ∷ runners) (code ∷ codes) (trace ∷ traces) stands = ap suc (traces_length runners codes traces stands.1)
+traces_length (runner ∷ runners) (code ∷ codes) (trace ∷ traces) stands =
+    ap suc (traces_length runners codes traces stands.1)
 traces_length _ _ _ stands = absurd stands
 
-pub come_alone : (robots : List Behaviour) (codes : List ObjectCode) (next : List ℕ) (w n i : ℕ) (runners : List Runner) (arena grown : Ground) (opened : Stage)
+pub come_alone : (robots : List Behaviour) (codes : List ObjectCode) (next : List ℕ) (w n i : ℕ) (runners : List Runner)
+    (arena grown : Ground) (opened : Stage)
     (code : ObjectCode) (none after : Runner) (free : Type 0)
-    → AreRobotsOf codes robots → AreSlots next → i < 4 → i < length codes → get_or next i 0 + 4 * n < 4 * w + 4
-    → (free → OthersArePast (4 * w) i next) → HasCome robots codes next w runners arena opened → slice_get codes i ≡ Some code
+    → AreRobotsOf codes robots → AreTurnNumbers next → i < 4 → i < length codes → get_or next i 0 + 4 * n < 4 * w + 4
+    → (free → OthersArePast (4 * w) i next) → HasCome robots codes next w runners arena opened →
+    slice_get codes i ≡ Some code
     → Runs free i code n (get_or runners i none) after arena grown
     → HasCome robots codes (set next i (get_or next i 0 + 4 * n)) w (set runners i after) grown opened
 unfolding robot_of ran
-come_alone robots codes next w n i runners arena grown opened code none after free are slots small inside within past come here gone =
+come_alone robots codes next w n i runners arena grown opened code none after free are turn_numbers small inside within
+    past come here gone =
     let s = come.stage in
     let robot = robot_at codes robots i code (λ trace. Quiet) are here in
     let at = stands_at runners codes s.traces i code none come.reached.traces here in
     let lengths = traces_length runners codes s.traces come.reached.traces in
     let on = gone.on (robot_of robots i) s.field (get_or s.traces i []) robot come.reached.field at in
     let ready : RunsAlone (robot_of robots i) i s.field (get_or s.traces i []) n ⊎ OthersArePast (4 * w) i next =
-    elim on.steps as (λ r. RunsAlone (robot_of robots i) i s.field (get_or s.traces i []) n ⊎ OthersArePast (4 * w) i next) [
+    elim on.steps as
+    (λ r. RunsAlone (robot_of robots i) i s.field (get_or s.traces i []) n ⊎ OthersArePast (4 * w) i next) [
       | inl runs ↦ inl runs
       | inr drawn ↦ inr (past drawn)
     ] in
     record {
       stage = ran robots i s n;
-      reached = record { field = on.stands; traces = stands_set runners codes s.traces i after code _ come.reached.traces here on.at };
-      ends = stages_trans _ _ _ (run_taken robots next i (4 * w) n s slots small (omega (arith, lengths, inside)) within ready) come.ends;
+      reached = record {
+        field = on.stands;
+        traces = stands_set runners codes s.traces i after code _ come.reached.traces here on.at;
+      };
+      ends = stages_trans _ _ _
+          (run_taken robots next i (4 * w) n s turn_numbers small (omega (arith, lengths, inside)) within ready)
+          come.ends;
     }
 
-pub come_on : (robots : List Behaviour) (codes : List ObjectCode) (next : List ℕ) (w n i : ℕ) (runners : List Runner) (arena grown : Ground) (opened : Stage)
+pub come_on : (robots : List Behaviour) (codes : List ObjectCode) (next : List ℕ) (w n i : ℕ) (runners : List Runner)
+    (arena grown : Ground) (opened : Stage)
     (code : ObjectCode) (none after : Runner) (free : Type 0)
-    → AreRobotsOf codes robots → AreSlots next → i < 4 → i < length codes → get_or next i 0 + 4 * n < 4 * w + 4 → 0 < n
+    → AreRobotsOf codes robots → AreTurnNumbers next → i < 4 → i < length codes →
+    get_or next i 0 + 4 * (1 + n) < 4 * w + 4
     → ((j : ℕ) → j < 4 → get_or next i 0 ≤ get_or next j 0) → (free → OthersArePast (4 * w) i next)
     → HasCome robots codes next w runners arena opened → slice_get codes i ≡ Some code
     → GoesOn free i code n (get_or runners i none) after arena grown
-    → HasCome robots codes (set next i (get_or next i 0 + 4 * n)) w (set runners i after) grown opened
+    → HasCome robots codes (set next i (get_or next i 0 + 4 * (1 + n))) w (set runners i after) grown opened
 unfolding turn robot_of ran
-come_on robots codes next w n i runners arena grown opened code none after free are slots small inside within some first past come here gone =
+come_on robots codes next w n i runners arena grown opened code none after free are turn_numbers small inside within
+    first past come here gone =
     let s = come.stage in
     let robot = robot_at codes robots i code (λ trace. Quiet) are here in
     let at = stands_at runners codes s.traces i code none come.reached.traces here in
@@ -144,33 +170,44 @@ come_on robots codes next w n i runners arena grown opened code none after free 
     let trace = get_or s.traces i [] in
     let stepped = step (robot_of robots i) i s.field trace in
     let on = gone.on (robot_of robots i) s.field trace robot come.reached.field at in
-    let four = slots.four in
+    let four = turn_numbers.four in
     let d = get_or next i 0 in
     let later = set next i (d + 4) in
     let own : get_or later i 0 ≡ d + 4 = get_or-set_same next i (d + 4) 0 (omega arith) in
-    let same : get_or (set s.traces i stepped.1) i [] ≡ stepped.1 = get_or-set_same s.traces i stepped.1 [] (omega (arith, lengths, inside)) in
-    let twice : set later i (get_or later i 0 + 4 * (n - 1)) ≡ set next i (d + 4 * n) =
-    ap (λ k. set later i (k + 4 * (n - 1))) own ∙ set-set next i (d + 4) (d + 4 + 4 * (n - 1)) ∙ ap (set next i) (omega (arith, some)) in
+    let same : get_or (set s.traces i stepped.1) i [] ≡ stepped.1 =
+    get_or-set_same s.traces i stepped.1 [] (omega (arith, lengths, inside)) in
+    let twice : set later i (get_or later i 0 + 4 * n) ≡ set next i (d + 4 * (1 + n)) =
+    ap (λ k. set later i (k + 4 * n)) own ∙ set-set next i (d + 4) (d + 4 + 4 * n) ∙ ap (set next i) (omega arith) in
     let long : length (set s.traces i stepped.1) ≡ length s.traces = length-set s.traces i stepped.1 in
-    let ready : RunsAlone (robot_of robots i) i stepped.0 (get_or (set s.traces i stepped.1) i []) (n - 1) ⊎ OthersArePast (4 * w) i later =
-    elim on.steps as (λ r. RunsAlone (robot_of robots i) i stepped.0 (get_or (set s.traces i stepped.1) i []) (n - 1) ⊎ OthersArePast (4 * w) i later) [
+    let ready : RunsAlone (robot_of robots i) i stepped.0 (get_or (set s.traces i stepped.1) i []) n ⊎
+    OthersArePast (4 * w) i later =
+    elim on.steps as
+    (λ r. RunsAlone (robot_of robots i) i stepped.0 (get_or (set s.traces i stepped.1) i []) n ⊎
+    OthersArePast (4 * w) i later) [
       | inl runs ↦ inl (rw same runs)
       | inr drawn ↦ inr (λ j low other. rw (get_or-set_other next i j (d + 4) 0 other) (past drawn j low other))
     ] in
-    let taken = run_taken robots later i (4 * w) (n - 1) (turn robots i s) (slots_one next i slots small) small (omega (arith, lengths, long, inside)) (omega (arith, own, within, some)) ready in
-    let moved : (ran robots i (turn robots i s) (n - 1)).traces ≡ set s.traces i (alone (robot_of robots i) i stepped.0 stepped.1 (n - 1)).1 =
-    ap (λ t. set (set s.traces i stepped.1) i (alone (robot_of robots i) i stepped.0 t (n - 1)).1) same
-    ∙ set-set s.traces i stepped.1 (alone (robot_of robots i) i stepped.0 stepped.1 (n - 1)).1 in
+    let taken =
+    run_taken robots later i (4 * w) n (turn robots i s) (turn_numbers_one next i turn_numbers small) small
+    (omega (arith, lengths, long, inside)) (omega (arith, own, within)) ready in
+    let moved : (ran robots i (turn robots i s) n).traces ≡
+    set s.traces i (alone (robot_of robots i) i stepped.0 stepped.1 n).1 =
+    ap (λ t. set (set s.traces i stepped.1) i (alone (robot_of robots i) i stepped.0 t n).1) same
+    ∙ set-set s.traces i stepped.1 (alone (robot_of robots i) i stepped.0 stepped.1 n).1 in
     record {
-      stage = ran robots i (turn robots i s) (n - 1);
-      reached = record { field = rw same on.stands; traces = rw moved (stands_set runners codes s.traces i after code _ come.reached.traces here on.at) };
+      stage = ran robots i (turn robots i s) n;
+      reached = record {
+        field = rw same on.stands;
+        traces = rw moved (stands_set runners codes s.traces i after code _ come.reached.traces here on.at);
+      };
       ends = stages_trans _ _ _ (stages_trans _ _ _ (rw twice at taken)
-          (next_taken robots next i (4 * w) s slots small (omega (arith, within, some)) (inr first))) come.ends;
+          (next_taken robots next i (4 * w) s turn_numbers small (omega (arith, within)) (inr first))) come.ends;
     }
 
--- how many slots the robots have left
+-- how many turns the robots have left
 pub left_until : ℕ → List ℕ → ℕ
-left_until end next = (end - get_or next 0 0) + (end - get_or next 1 0) + (end - get_or next 2 0) + (end - get_or next 3 0)
+left_until end next =
+    (end - get_or next 0 0) + (end - get_or next 1 0) + (end - get_or next 2 0) + (end - get_or next 3 0)
 
 pub left_less : (end : ℕ) (next : List ℕ) (i n : ℕ) → length next ≡ 4 → i < 4 → get_or next i 0 < end → 0 < n
     → left_until end (set next i (get_or next i 0 + 4 * n)) < left_until end next
@@ -187,33 +224,45 @@ left_less end (a ∷ []) i n four small within some = absurd (omega arith)
 left_less end [] i n four small within some = absurd (omega arith)
 
 -- the window begins
-pub opens : (robots : List Behaviour) (codes : List ObjectCode) (next : List ℕ) (w : ℕ) (runners : List Runner) (arena : Ground) (s : Stage)
-    → AreRobotsOf codes robots → AreSlots next → length codes ≤ 4
-    → ((i : ℕ) → i < length codes → i < 4 → get_or next i 0 ≡ i) → ((i : ℕ) → length codes ≤ i → i < 4 → 4 * w ≤ get_or next i 0)
+pub opens : (robots : List Behaviour) (codes : List ObjectCode) (next : List ℕ) (w : ℕ) (runners : List Runner)
+    (arena : Ground) (s : Stage)
+    → AreRobotsOf codes robots → AreTurnNumbers next → length codes ≤ 4
+    → ((i : ℕ) → i < length codes → i < 4 → get_or next i 0 ≡ i) →
+    ((i : ℕ) → length codes ≤ i → i < 4 → 4 * w ≤ get_or next i 0)
     → HasReached runners codes arena s → HasCome robots codes next w runners arena s
-opens robots codes next w runners arena s are slots most first past reached =
+opens robots codes next w runners arena s are turn_numbers most first past reached =
     let all = robots_length codes robots are in
-    record { stage = s; reached = reached; ends = like_same _ _ (rest_all robots next (length codes) w s slots (sym all) most (λ i low. first i low (omega arith)) past) }
+    record {
+      stage = s;
+      reached = reached;
+      ends =
+          like_same _ _
+          (rest_all robots next (length codes) w s turn_numbers (sym all) most
+          (λ i low. first i low (omega arith)) past);
+    }
 
 -- and ends
-pub closes : (robots : List Behaviour) (codes : List ObjectCode) (next : List ℕ) (w : ℕ) (runners : List Runner) (arena : Ground) (s : Stage)
+pub closes : (robots : List Behaviour) (codes : List ObjectCode) (next : List ℕ) (w : ℕ) (runners : List Runner)
+    (arena : Ground) (s : Stage)
     → ((i : ℕ) → i < 4 → 4 * w ≤ get_or next i 0)
     → HasCome robots codes next w runners arena s → HasReached runners codes arena (rounds robots w s)
 closes robots codes next w runners arena s past come =
     let done : turns_left robots (is_left next) 0 (4 * w) come.stage ≡ come.stage =
-    rest_none robots (is_left next) 0 (4 * w) come.stage (λ t from to. left_not next t (omega (arith, past (t % 4) (omega arith), to))) in
+    rest_none robots (is_left next) 0 (4 * w) come.stage
+    (λ t from to. left_not next t (omega (arith, past (t % 4) (omega arith), to))) in
     let like : IsLike come.stage (rounds robots w s) = rw done at come.ends in
     record {
       field = stands_like arena come.stage.field (rounds robots w s).field like.field come.reached.field;
       traces = rw like.traces come.reached.traces;
     }
 
--- the slot that is next is that of a robot
-pub is_robot : (next : List ℕ) (slot end n : ℕ) → get_or next (slot % 4) 0 ≡ slot → slot < end
-    → ((i : ℕ) → n ≤ i → i < 4 → end ≤ get_or next i 0) → slot % 4 < n
-is_robot next slot end n own within past = elim (cases_lt (slot % 4) n) [
+-- the turn that is next is that of a robot
+pub is_robot : (next : List ℕ) (turn_number end n : ℕ) → get_or next (turn_number % 4) 0 ≡ turn_number →
+    turn_number < end
+    → ((i : ℕ) → n ≤ i → i < 4 → end ≤ get_or next i 0) → turn_number % 4 < n
+is_robot next turn_number end n own within past = elim (cases_lt (turn_number % 4) n) [
   | inl inside ↦ inside
-  | inr outside ↦ absurd (omega (arith, own, within, past (slot % 4) outside (omega arith)))
+  | inr outside ↦ absurd (omega (arith, own, within, past (turn_number % 4) outside (omega arith)))
 ]
 
 pub past_set : (next : List ℕ) (r x end n : ℕ) → r < n → ((i : ℕ) → n ≤ i → i < 4 → end ≤ get_or next i 0)

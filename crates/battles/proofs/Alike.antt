@@ -49,7 +49,8 @@ stands_like arena f g like stands = rw like.is (record {
   random = stands.random;
 })
 
-pub air_append : (updates i : ℕ) (l k : List Shot) → in_air updates i (l ++ k) ≡ in_air updates i l ++ in_air updates i k
+pub air_append : (updates i : ℕ) (l k : List Shot) →
+    in_air updates i (l ++ k) ≡ in_air updates i l ++ in_air updates i k
 unfolding in_air
 air_append updates i l k = filter-append (λ (s : Shot). (s.owner == i) && nat_lt updates s.burst) l k
 
@@ -66,7 +67,9 @@ all_back P l k all = λ i d inside.
 -- the same shots more
 shots_more : (updates : ℕ) (l k more : List Shot) → SameShots updates l k → SameShots updates (l ++ more) (k ++ more)
 shots_more updates l k more same = record {
-  in_air = λ i. air_append updates i k more ∙ ap (λ air. air ++ in_air updates i more) (same.in_air i) ∙ sym (air_append updates i l more);
+  in_air =
+      λ i. air_append updates i k more ∙ ap (λ air. air ++ in_air updates i more) (same.in_air i) ∙
+      sym (air_append updates i l more);
   owned = λ n all.
       let Owned : Shot → Type 0 = λ s. s.owner < n in
       All-append Owned k more (same.owned n (all_front Owned l more all)) (all_back Owned l more all);
@@ -91,7 +94,8 @@ fires f shots i degree range same =
     ]
 
 -- So the answers are the same, and the fields after them are alike again.
-answer_like : (f : Field) (shots : List Shot) (i : ℕ) (intrinsic : Intrinsic) (a : List ℤ) → SameShots f.updates f.shots shots
+answer_like : (f : Field) (shots : List Shot) (i : ℕ) (intrinsic : Intrinsic) (a : List ℤ) →
+    SameShots f.updates f.shots shots
     → ((answer (record f { shots = shots }) i intrinsic a).0 ≡ (answer f i intrinsic a).0)
     × AreAlike (answer f i intrinsic a).1 (answer (record f { shots = shots }) i intrinsic a).1
 unfolding answer directed robot_at scanned random_number
@@ -109,7 +113,8 @@ answer_like f shots i Cannon a same =
     )
 answer_like f shots i _ a same = (refl, record { shots = shots; is = refl; same = same })
 
-granted_like : (want : Want) (f : Field) (shots : List Shot) (i : ℕ) (trace : List ℤ) → SameShots f.updates f.shots shots
+granted_like : (want : Want) (f : Field) (shots : List Shot) (i : ℕ) (trace : List ℤ) →
+    SameShots f.updates f.shots shots
     → ((granted want i (record f { shots = shots }) trace).1 ≡ (granted want i f trace).1)
     × AreAlike (granted want i f trace).0 (granted want i (record f { shots = shots }) trace).0
 unfolding granted
@@ -118,7 +123,8 @@ granted_like (Ask intrinsic a) f shots i trace same =
     (ap (λ reply. trace ++ reply ∷ []) like.0, like.1)
 granted_like _ f shots i trace same = (refl, record { shots = shots; is = refl; same = same })
 
-step_like : (robot : Behaviour) (f : Field) (shots : List Shot) (i : ℕ) (trace : List ℤ) → SameShots f.updates f.shots shots
+step_like : (robot : Behaviour) (f : Field) (shots : List Shot) (i : ℕ) (trace : List ℤ) →
+    SameShots f.updates f.shots shots
     → ((step robot i (record f { shots = shots }) trace).1 ≡ (step robot i f trace).1)
     × AreAlike (step robot i f trace).0 (step robot i (record f { shots = shots }) trace).0
 unfolding step is_live robot_at
@@ -154,6 +160,8 @@ pub rest_like : (robots : List Behaviour) (left : ℕ → Bool) (t n : ℕ) (s u
 unfolding turns_left
 rest_like robots left t zero s u like = like
 rest_like robots left t (suc n) s u like = elim (cases_Bool (left t)) [
-  | inl here ↦ rw here (rest_like robots left (t + 1) n (turn robots (t % 4) s) (turn robots (t % 4) u) (turn_like robots (t % 4) s u like))
+  | inl here ↦ rw here
+      (rest_like robots left (t + 1) n (turn robots (t % 4) s) (turn robots (t % 4) u)
+      (turn_like robots (t % 4) s u like))
   | inr gone ↦ rw gone (rest_like robots left (t + 1) n s u like)
 ]

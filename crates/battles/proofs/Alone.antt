@@ -40,7 +40,8 @@ alone_plus r i f trace n (suc k) =
     rw more (ap (λ (t : Field × List ℤ). step r i t.0 t.1) (alone_plus r i f trace n k))
 
 -- the robot stays as alive as it is
-pub alone_lives : (r : Behaviour) (i : ℕ) (f : Field) (trace : List ℤ) (n : ℕ) → is_live (alone r i f trace n).0 i ≡ is_live f i
+pub alone_lives : (r : Behaviour) (i : ℕ) (f : Field) (trace : List ℤ) (n : ℕ) →
+    is_live (alone r i f trace n).0 i ≡ is_live f i
 unfolding alone
 alone_lives r i f trace zero = refl
 alone_lives r i f trace (suc n) =
@@ -59,7 +60,8 @@ runs_plus r i f trace n zero runs more =
     let same : n + 0 ≡ n = omega arith in rw same runs
 runs_plus r i f trace n (suc k) runs more =
     let next : n + suc k ≡ n + k + 1 = omega arith in
-    let last : StepsAlone r i (alone r i f trace (n + k)).0 (alone r i f trace (n + k)).1 = rw (alone_plus r i f trace n k) (more k (omega arith)) in
+    let last : StepsAlone r i (alone r i f trace (n + k)).0 (alone r i f trace (n + k)).1 =
+    rw (alone_plus r i f trace n k) (more k (omega arith)) in
     rw next (runs_next r i f trace (n + k) (runs_plus r i f trace n k runs (λ j low. more j (omega arith))) last)
 
 -- a live robot has quiet cycles
@@ -69,7 +71,8 @@ unfolding step granted
 quiet_step r i f trace live quiet = rw (live, quiet) refl
 
 pub quiet_alone : (r : Behaviour) (i : ℕ) (f : Field) (trace : List ℤ) (n : ℕ) → is_live f i ≡ true
-    → ((k : ℕ) → k < n → r (trace ++ replicate k (pos 0)) ≡ Quiet) → alone r i f trace n ≡ (f, trace ++ replicate n (pos 0))
+    → ((k : ℕ) → k < n → r (trace ++ replicate k (pos 0)) ≡ Quiet) →
+    alone r i f trace n ≡ (f, trace ++ replicate n (pos 0))
 unfolding alone
 quiet_alone r i f trace zero live quiet = ap (λ t. (f, t)) (sym (append-nil trace))
 quiet_alone r i f trace (suc n) live quiet =
@@ -86,20 +89,23 @@ pub quiet_runs : (r : Behaviour) (i : ℕ) (f : Field) (trace : List ℤ) (n : �
     → ((k : ℕ) → k < n → r (trace ++ replicate k (pos 0)) ≡ Quiet) → RunsAlone r i f trace n
 quiet_runs r i f trace n live quiet k within is =
     quiet_is_alone (r (alone r i f trace k).1)
-    (ap (λ (t : Field × List ℤ). r t.1) (quiet_alone r i f trace k live (λ j low. quiet j (omega arith))) ∙ quiet k within)
+    (ap (λ (t : Field × List ℤ). r t.1) (quiet_alone r i f trace k live (λ j low. quiet j (omega arith))) ∙
+    quiet k within)
 
 -- a dead robot does nothing
 dead_step : (r : Behaviour) (i : ℕ) (f : Field) (trace : List ℤ) → is_live f i ≡ false → step r i f trace ≡ (f, trace)
 unfolding step
 dead_step r i f trace dead = rw dead refl
 
-dead_alone : (r : Behaviour) (i : ℕ) (f : Field) (trace : List ℤ) (n : ℕ) → is_live f i ≡ false → alone r i f trace n ≡ (f, trace)
+dead_alone : (r : Behaviour) (i : ℕ) (f : Field) (trace : List ℤ) (n : ℕ) → is_live f i ≡ false →
+    alone r i f trace n ≡ (f, trace)
 unfolding alone
 dead_alone r i f trace zero dead = refl
 dead_alone r i f trace (suc n) dead =
     ap (λ (t : Field × List ℤ). step r i t.0 t.1) (dead_alone r i f trace n dead) ∙ dead_step r i f trace dead
 
-pub dead_runs : (free : Type 0) (r : Behaviour) (i : ℕ) (f : Field) (trace : List ℤ) (n : ℕ) (code : ObjectCode) (runner : Runner) (arena : Ground)
+pub dead_runs : (free : Type 0) (r : Behaviour) (i : ℕ) (f : Field) (trace : List ℤ) (n : ℕ) (code : ObjectCode)
+    (runner : Runner) (arena : Ground)
     → is_live f i ≡ false → IsGroundOf arena f → IsAt runner code trace → HasRun free r i f trace n code runner arena
 dead_runs free r i f trace n code runner arena dead ground at = record {
   steps = inl (λ k within live. absurd (false≢true (sym dead ∙ sym (alone_lives r i f trace k) ∙ live)));
@@ -108,13 +114,15 @@ dead_runs free r i f trace n code runner arena dead ground at = record {
 }
 
 -- A robot has run, and its machine is at this cycle, which may be a later one: in between nothing is asked.
-pub record RunsTo (free : Type 0) (r : Behaviour) (i : ℕ) (f : Field) (trace : List ℤ) (cycle most : ℕ) (code : ObjectCode) (machine : State) (arena : Ground) : Type 0 where
+pub record RunsTo (free : Type 0) (r : Behaviour) (i : ℕ) (f : Field) (trace : List ℤ) (cycle most : ℕ)
+    (code : ObjectCode) (machine : State) (arena : Ground) : Type 0 where
   pub run : ℕ
   pub within : run ≤ cycle
   pub below : run ≤ most
   pub ran : HasRun free r i f trace run code (record { machine = machine; ahead = cycle - run }) arena
 
-pub to_begin : (free : Type 0) (r : Behaviour) (i : ℕ) (f : Field) (trace : List ℤ) (most : ℕ) (code : ObjectCode) (runner : Runner) (arena : Ground)
+pub to_begin : (free : Type 0) (r : Behaviour) (i : ℕ) (f : Field) (trace : List ℤ) (most : ℕ) (code : ObjectCode)
+    (runner : Runner) (arena : Ground)
     → IsGroundOf arena f → IsAt runner code trace → RunsTo free r i f trace runner.ahead most code runner.machine arena
 to_begin free r i f trace most code runner arena ground at =
     let all : runner.ahead - 0 ≡ runner.ahead = omega arith in
@@ -130,8 +138,10 @@ to_begin free r i f trace most code runner arena ground at =
     }
 
 -- the machine coasts for so many cycles
-pub to_coast : (free : Type 0) (r : Behaviour) (i : ℕ) (f : Field) (trace : List ℤ) (cycle most n : ℕ) (code : ObjectCode) (machine after : State) (arena : Ground)
-    → Coasts code machine n after → RunsTo free r i f trace cycle most code machine arena → RunsTo free r i f trace (cycle + n) most code after arena
+pub to_coast : (free : Type 0) (r : Behaviour) (i : ℕ) (f : Field) (trace : List ℤ) (cycle most n : ℕ)
+    (code : ObjectCode) (machine after : State) (arena : Ground)
+    → Coasts code machine n after → RunsTo free r i f trace cycle most code machine arena →
+    RunsTo free r i f trace (cycle + n) most code after arena
 to_coast free r i f trace cycle most n code machine after arena on to =
     let further : cycle + n - to.run ≡ cycle - to.run + n = omega (arith, to.within) in
     record {
@@ -146,8 +156,10 @@ to_coast free r i f trace cycle most n code machine after arena on to =
     }
 
 -- the robot follows its machine up to a cycle
-pub to_cycle : (free : Type 0) (r : Behaviour) (i : ℕ) (f : Field) (trace : List ℤ) (cycle most end : ℕ) (code : ObjectCode) (machine : State) (arena : Ground)
-    → IsRobotOf code r → is_live f i ≡ true → (to : RunsTo free r i f trace cycle most code machine arena) → to.run ≤ end → end ≤ cycle
+pub to_cycle : (free : Type 0) (r : Behaviour) (i : ℕ) (f : Field) (trace : List ℤ) (cycle most end : ℕ)
+    (code : ObjectCode) (machine : State) (arena : Ground)
+    → IsRobotOf code r → is_live f i ≡ true → (to : RunsTo free r i f trace cycle most code machine arena) →
+    to.run ≤ end → end ≤ cycle
     → HasRun free r i f trace end code (record { machine = machine; ahead = cycle - end }) arena
 to_cycle free r i f trace cycle most end code machine arena is live to from within =
     let n = to.run in
@@ -166,11 +178,13 @@ to_cycle free r i f trace cycle most end code machine arena is live to from with
         | inr drawn ↦ inr drawn
       ];
       stands = rw all to.ran.stands;
-      at = rw (all, sym less) (at_less (record { machine = machine; ahead = cycle - n }) k code replies (omega arith) to.ran.at);
+      at = rw (all, sym less)
+          (at_less (record { machine = machine; ahead = cycle - n }) k code replies (omega arith) to.ran.at);
     }
 
 -- up to where the machine is
-pub to_stop : (free : Type 0) (r : Behaviour) (i : ℕ) (f : Field) (trace : List ℤ) (cycle most : ℕ) (code : ObjectCode) (machine : State) (arena : Ground)
+pub to_stop : (free : Type 0) (r : Behaviour) (i : ℕ) (f : Field) (trace : List ℤ) (cycle most : ℕ) (code : ObjectCode)
+    (machine : State) (arena : Ground)
     → IsRobotOf code r → is_live f i ≡ true → RunsTo free r i f trace cycle most code machine arena
     → HasRun free r i f trace cycle code (record { machine = machine; ahead = 0 }) arena
 to_stop free r i f trace cycle most code machine arena is live to =
@@ -178,7 +192,8 @@ to_stop free r i f trace cycle most code machine arena is live to =
     rw none at (to_cycle free r i f trace cycle most cycle code machine arena is live to to.within (omega arith))
 
 -- and takes a turn
-pub to_next : (free : Type 0) (r : Behaviour) (i : ℕ) (f : Field) (trace : List ℤ) (cycle most : ℕ) (code : ObjectCode) (machine : State) (arena : Ground)
+pub to_next : (free : Type 0) (r : Behaviour) (i : ℕ) (f : Field) (trace : List ℤ) (cycle most : ℕ) (code : ObjectCode)
+    (machine : State) (arena : Ground)
     → cycle < most → RunsAlone r i f trace cycle ⊎ free
     → StepsAlone r i (alone r i f trace cycle).0 (alone r i f trace cycle).1 ⊎ free
     → IsGroundOf arena (step r i (alone r i f trace cycle).0 (alone r i f trace cycle).1).0
@@ -206,6 +221,7 @@ want_alone want other same is = rw same is
 
 -- what a machine wants that is at the end of a robot's trace
 pub wants_next : (r : Behaviour) (code : ObjectCode) (trace : List ℤ) (wanted : Want) → IsRobotOf code r
-    → ((p : Profile) (file : File) → IsResolved file → IsProgramOf code p file → wanted ≡ want p file trace) → r trace ≡ wanted
+    → ((p : Profile) (file : File) → IsResolved file → IsProgramOf code p file → wanted ≡ want p file trace) →
+    r trace ≡ wanted
 wants_next r code trace wanted is source =
     ap (λ (q : Behaviour). q trace) is.wants ∙ sym (source is.profile is.file is.resolved is.program)

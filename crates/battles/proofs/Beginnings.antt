@@ -49,7 +49,8 @@ stands_then (runner' ∷ runners) (code' ∷ codes) (suc i) runner code stands h
 pub stands_more : (runners : List Runner) (codes : List ObjectCode) (i : ℕ) (runner : Runner) (code : ObjectCode)
     → EachIsAt runners (take i codes) (replicate i []) → slice_get codes i ≡ Some code → IsAt runner code []
     → EachIsAt (runners ++ runner ∷ []) (take (i + 1) codes) (replicate (i + 1) [])
-stands_more runners codes i runner code stands here new = rw add-one (stands_then runners codes i runner code stands here new)
+stands_more runners codes i runner code stands here new =
+    rw add-one (stands_then runners codes i runner code stands here new)
 
 -- the codes of the files of robots are those of robots of the files
 pub paired_codes : (p : Profile) (files : List File) → paired (map (code_of p) files) ≡ map (code_of p) (paired files)
@@ -67,7 +68,8 @@ paired_resolved [] all = all
 paired_resolved (file ∷ []) all = both_resolved file (all 0 file (omega arith))
 paired_resolved (file ∷ other ∷ files) all = all
 
-robots_are_each : (p : Profile) (files : List File) → All IsResolved files → AreRobotsOf (map (code_of p) files) (map (want p) files)
+robots_are_each : (p : Profile) (files : List File) → All IsResolved files →
+    AreRobotsOf (map (code_of p) files) (map (want p) files)
 robots_are_each p [] all = tt
 robots_are_each p (file ∷ files) all = (
   record { profile = p; file = file; resolved = all 0 file (omega arith); program = refl; wants = refl },
@@ -89,7 +91,8 @@ unfolding damages_of
 damages_more n f = map-range_with_len_more (λ i. damage_of (robot_at f i)) 0 n n (omega arith)
 
 -- a battle begins with no replies
-pub opening_reached : (runners : List Runner) (codes : List ObjectCode) (arena : Ground) (robots : List Behaviour) (n seed number : ℕ)
+pub opening_reached : (runners : List Runner) (codes : List ObjectCode) (arena : Ground) (robots : List Behaviour)
+    (n seed number : ℕ)
     → AreRobotsOf codes robots → n ≡ length codes → IsGroundOf arena (start seed number n)
     → EachIsAt runners codes (replicate (length codes) [])
     → HasReached runners codes arena (opening (length robots) seed number)
@@ -102,9 +105,18 @@ opening_reached runners codes arena robots n seed number are e begun stands =
 pub battle_is : (robots : List Behaviour) (seed number limit cycles : ℕ) (damages : List ℕ)
     → cycles ≡ last_cycle robots (opening (length robots) seed number) limit
     → damages ≡ damages_of (length robots) (stage_after robots (opening (length robots) seed number) cycles).field
-    → (let outcome : Outcome = record { cycles = cycles; damages = damages } in outcome) ≡ battle robots seed number limit
+    →
+    (let outcome : Outcome = record { cycles = cycles; damages = damages } in outcome) ≡
+    battle robots seed number limit
 unfolding battle
 battle_is robots seed number limit cycles damages last are =
-    let same : damages ≡ damages_of (length robots) (stage_after robots (opening (length robots) seed number) (last_cycle robots (opening (length robots) seed number) limit)).field = rw last at are in
+    let same : damages ≡
+    damages_of (length robots)
+    (stage_after robots (opening (length robots) seed number)
+    (last_cycle robots (opening (length robots) seed number) limit)).field =
+    rw last at are in
     ap (λ n. let outcome : Outcome = record { cycles = n; damages = damages } in outcome) last
-    ∙ ap (λ ds. let outcome : Outcome = record { cycles = last_cycle robots (opening (length robots) seed number) limit; damages = ds } in outcome) same
+    ∙
+    ap
+    (λ ds. let outcome : Outcome = record
+    { cycles = last_cycle robots (opening (length robots) seed number) limit; damages = ds } in outcome) same

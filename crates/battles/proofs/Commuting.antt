@@ -66,16 +66,22 @@ ranges_same : {A : Type 0} (seen : A → Bool) (range : A → ℕ) (l : List A) 
 unfolding looks
 ranges_same seen range l i j x none sight distance =
     let same : looks seen range x ≡ looks seen range (get_or l j none) = rw (sight, distance) refl in
-    let all : map (looks seen range) (set l j x) ≡ map (looks seen range) l = set_same (looks seen range) l j x none same in
+    let all : map (looks seen range) (set l j x) ≡ map (looks seen range) l =
+    set_same (looks seen range) l j x none same in
     ranges_are seen range (others (set l j x) i)
-    ∙ ap (flat_map (λ (look : List ℕ). look)) (others_map (looks seen range) (set l j x) i ∙ ap (λ ls. others ls i) all ∙ sym (others_map (looks seen range) l i))
+    ∙
+    ap (flat_map (λ (look : List ℕ). look))
+    (others_map (looks seen range) (set l j x) i ∙ ap (λ ls. others ls i) all ∙
+    sym (others_map (looks seen range) l i))
     ∙ sym (ranges_are seen range (others l i))
 
 -- so a scan doesn't depend on what was answered to others
 scans_same : (f : Field) (i j : ℕ) (intrinsic : Intrinsic) (a : List ℤ) (degree resolution : ℕ) → i ≢ j
     → scanned (answer f j intrinsic a).1 i degree resolution ≡ scanned f i degree resolution
-unfolding answer robot_at directed wanting scanned sees range_of is_alive damage_of in_arc east_to north_to metres_x metres_y place_x place_y end_x end_y way_east way_north
-scans_same f i j Cannon a degree resolution distinct = rw (robots_of_fired f j (degree_of (argument a 0)) (clamped 700 (argument a 1))) refl
+unfolding answer robot_at directed wanting scanned sees range_of is_alive damage_of in_arc east_to north_to metres_x
+    metres_y place_x place_y end_x end_y way_east way_north
+scans_same f i j Cannon a degree resolution distinct =
+    rw (robots_of_fired f j (degree_of (argument a 0)) (clamped 700 (argument a 1))) refl
 scans_same f i j Drive a degree resolution distinct =
     let from = robot_at f i in
     rw (get_or-set_other f.robots j i _ no_robot distinct)
@@ -124,18 +130,22 @@ shots_swap f i j degree range towards far distinct =
           let Owned : Shot → Type 0 = λ s. s.owner < n in
           let first = all_front Owned (f.shots ++ mine) theirs all in
           All-append Owned (f.shots ++ theirs) mine
-          (All-append Owned f.shots theirs (all_front Owned f.shots mine first) (all_back Owned (f.shots ++ mine) theirs all))
+          (All-append Owned f.shots theirs (all_front Owned f.shots mine first)
+          (all_back Owned (f.shots ++ mine) theirs all))
           (all_back Owned f.shots mine first);
     }
 
-fired_field : (f : Field) (i degree range : ℕ) → fired f i degree range ≡ ((fired f i degree range).0, record f { shots = f.shots ++ pushed f i degree range })
+fired_field : (f : Field) (i degree range : ℕ) →
+    fired f i degree range ≡ ((fired f i degree range).0, record f { shots = f.shots ++ pushed f i degree range })
 fired_field f i degree range = fires f f.shots i degree range refl
 
 pushed_same : (f : Field) (i j degree range towards speed : ℕ) → i ≢ j
     → pushed (directed f j towards speed) i degree range ≡ pushed f i degree range
 unfolding pushed directed robot_at
 pushed_same f i j degree range towards speed distinct =
-    rw (get_or-set_other f.robots j i (record (robot_at f j) { leg = wanting (robot_at f j).leg towards speed }) no_robot distinct) refl
+    rw
+    (get_or-set_other f.robots j i (record (robot_at f j) { leg = wanting (robot_at f j).leg towards speed })
+    no_robot distinct) refl
 
 fired_reply : (f : Field) (i degree range : ℕ)
     → (fired f i degree range).0 ≡ (if nat_lt (length (in_air f.updates i f.shots)) 2 then pos 1 else pos 0)
@@ -146,12 +156,15 @@ fired_reply f i degree range = elim (cases_Bool (nat_lt (length (in_air f.update
 ]
 
 -- What a robot is answered doesn't depend on what others do, unless both draw a random number.
-reply_same : (intrinsic other : Intrinsic) (a b : List ℤ) (i j : ℕ) (f : Field) → (draws intrinsic ≡ true → draws other ≡ false) → i ≢ j
+reply_same : (intrinsic other : Intrinsic) (a b : List ℤ) (i j : ℕ) (f : Field) →
+    (draws intrinsic ≡ true → draws other ≡ false) → i ≢ j
     → (answer (answer f j other b).1 i intrinsic a).0 ≡ (answer f i intrinsic a).0
 unfolding answer draws directed random_number
-reply_same Scan other a b i j f either distinct = ap pos (scans_same f i j other b (degree_of (argument a 0)) (clamped 10 (argument a 1)) distinct)
+reply_same Scan other a b i j f either distinct =
+    ap pos (scans_same f i j other b (degree_of (argument a 0)) (clamped 10 (argument a 1)) distinct)
 reply_same Damage other a b i j f either distinct = ap (λ r. pos (damage_of r)) (others_stay f i j other b distinct)
-reply_same Speed other a b i j f either distinct = ap (λ (r : Body). pos r.leg.speed) (others_stay f i j other b distinct)
+reply_same Speed other a b i j f either distinct =
+    ap (λ (r : Body). pos r.leg.speed) (others_stay f i j other b distinct)
 reply_same LocX other a b i j f either distinct = ap (λ r. pos (metres_x r)) (others_stay f i j other b distinct)
 reply_same LocY other a b i j f either distinct = ap (λ r. pos (metres_y r)) (others_stay f i j other b distinct)
 reply_same Rand Rand a b i j f either distinct = absurd (true≢false (either refl))
@@ -162,7 +175,8 @@ reply_same Cannon Cannon a b i j f either distinct =
     let towards = degree_of (argument b 0) in
     let far = clamped 700 (argument b 1) in
     rw (fired_field f j towards far)
-    (ap (λ (asked : ℤ × Field). asked.0) (fires f (f.shots ++ pushed f j towards far) i (degree_of (argument a 0)) (clamped 700 (argument a 1))
+    (ap (λ (asked : ℤ × Field). asked.0) (fires f (f.shots ++ pushed f j towards far) i (degree_of (argument a 0))
+    (clamped 700 (argument a 1))
     (own_air f f.shots i j towards far distinct)))
 reply_same Cannon Drive a b i j f either distinct =
     fired_reply (directed f j (degree_of (argument b 0)) (clamped 100 (argument b 1))) i _ _ ∙ sym (fired_reply f i _ _)
@@ -176,7 +190,8 @@ set_swap [] i j x y distinct = refl
 set_swap (z ∷ l) zero zero x y distinct = absurd (distinct refl)
 set_swap (z ∷ l) zero (suc j) x y distinct = refl
 set_swap (z ∷ l) (suc i) zero x y distinct = refl
-set_swap (z ∷ l) (suc i) (suc j) x y distinct = ap (λ rest. z ∷ rest) (set_swap l i j x y (λ same. distinct (ap suc same)))
+set_swap (z ∷ l) (suc i) (suc j) x y distinct =
+    ap (λ rest. z ∷ rest) (set_swap l i j x y (λ same. distinct (ap suc same)))
 
 driven_twice : (f : Field) (i j degree speed towards fast : ℕ) → i ≢ j
     → directed (directed f i degree speed) j towards fast ≡ directed (directed f j towards fast) i degree speed
@@ -214,7 +229,11 @@ fields_alike Cannon Drive a b i j f is distinct =
     let range = clamped 700 (argument a 1) in
     let towards = degree_of (argument b 0) in
     let speed = clamped 100 (argument b 1) in
-    rw (fired_field f i degree range, fired_field (directed f j towards speed) i degree range, pushed_same f i j degree range towards speed distinct)
+    rw (
+      fired_field f i degree range,
+      fired_field (directed f j towards speed) i degree range,
+      pushed_same f i j degree range towards speed distinct,
+    )
     (like_refl _)
 fields_alike Cannon Rand a b i j f is distinct =
     let degree = degree_of (argument a 0) in
@@ -227,7 +246,11 @@ fields_alike Drive Cannon a b i j f is distinct =
     let towards = degree_of (argument b 0) in
     let far = clamped 700 (argument b 1) in
     let back : j ≢ i = λ same. distinct (sym same) in
-    rw (fired_field f j towards far, fired_field (directed f i degree speed) j towards far, pushed_same f j i towards far degree speed back)
+    rw (
+      fired_field f j towards far,
+      fired_field (directed f i degree speed) j towards far,
+      pushed_same f j i towards far degree speed back,
+    )
     (like_refl _)
 fields_alike Drive Drive a b i j f is distinct =
     let degree = degree_of (argument a 0) in
@@ -241,9 +264,12 @@ fields_alike _ other a b i j f is distinct = like_refl _
 
 -- The same of what a robot wants.
 wants_alike : (want other : Want) (i j : ℕ) (f : Field) (trace others : List ℤ) → IsAlone want → i ≢ j
-    → AreAlike (granted other j (granted want i f trace).0 others).0 (granted want i (granted other j f others).0 trace).0
+    →
+    AreAlike (granted other j (granted want i f trace).0 others).0
+    (granted want i (granted other j f others).0 trace).0
 unfolding granted
-wants_alike (Ask intrinsic a) (Ask asked b) i j f trace others is distinct = fields_alike intrinsic asked a b i j f is distinct
+wants_alike (Ask intrinsic a) (Ask asked b) i j f trace others is distinct =
+    fields_alike intrinsic asked a b i j f is distinct
 wants_alike (Ask intrinsic a) _ i j f trace others is distinct = like_refl _
 wants_alike _ other i j f trace others is distinct = like_refl _
 
@@ -252,7 +278,8 @@ trace_same : (want other : Want) (i j : ℕ) (f : Field) (trace others : List �
     × ((granted other j (granted want i f trace).0 others).1 ≡ (granted other j f others).1)
 unfolding granted
 trace_same (Ask intrinsic a) (Ask asked b) i j f trace others is distinct = (
-  ap (λ reply. trace ++ reply ∷ []) (reply_same intrinsic asked a b i j f (λ draws. absurd (true≢false (sym draws ∙ is))) distinct),
+  ap (λ reply. trace ++ reply ∷ [])
+      (reply_same intrinsic asked a b i j f (λ draws. absurd (true≢false (sym draws ∙ is))) distinct),
   ap (λ reply. others ++ reply ∷ []) (reply_same asked intrinsic b a j i f (λ draws. is) (λ same. distinct (sym same))),
 )
 trace_same (Ask intrinsic a) _ i j f trace others is distinct = (refl, refl)
@@ -282,7 +309,8 @@ step_live : (robot : Behaviour) (i : ℕ) (f : Field) (trace : List ℤ) → is_
 unfolding step
 step_live robot i f trace live = rw live refl
 
-step_dead : (robot : Behaviour) (i : ℕ) (f : Field) (trace : List ℤ) → is_live f i ≡ false → step robot i f trace ≡ (f, trace)
+step_dead : (robot : Behaviour) (i : ℕ) (f : Field) (trace : List ℤ) → is_live f i ≡ false →
+    step robot i f trace ≡ (f, trace)
 unfolding step
 step_dead robot i f trace dead = rw dead refl
 
@@ -293,12 +321,15 @@ keeps_hurts [] i x none same = refl
 keeps_hurts (y ∷ l) zero x none same = same
 keeps_hurts (y ∷ l) (suc i) x none same = keeps_hurts l i x none same
 
-answer_lives : (intrinsic : Intrinsic) (a : List ℤ) (i : ℕ) (f : Field) → is_live (answer f i intrinsic a).1 i ≡ is_live f i
+answer_lives : (intrinsic : Intrinsic) (a : List ℤ) (i : ℕ) (f : Field) →
+    is_live (answer f i intrinsic a).1 i ≡ is_live f i
 unfolding answer directed is_live is_alive damage_of robot_at
 answer_lives Cannon a i f = ap (λ robots. is_alive (get_or robots i no_robot)) (robots_of_fired f i _ _)
 answer_lives Drive a i f =
     ap (λ hurts. nat_lt (min (sum hurts) 100) 100)
-    (keeps_hurts f.robots i (record (robot_at f i) { leg = wanting (robot_at f i).leg (degree_of (argument a 0)) (clamped 100 (argument a 1)) }) no_robot refl)
+    (keeps_hurts f.robots i
+    (record (robot_at f i)
+    { leg = wanting (robot_at f i).leg (degree_of (argument a 0)) (clamped 100 (argument a 1)) }) no_robot refl)
 answer_lives _ a i f = refl
 
 granted_lives : (want : Want) (i : ℕ) (f : Field) (trace : List ℤ) → is_live (granted want i f trace).0 i ≡ is_live f i
@@ -306,14 +337,17 @@ unfolding granted
 granted_lives (Ask intrinsic a) i f trace = answer_lives intrinsic a i f
 granted_lives _ i f trace = refl
 
-pub step_lives : (robot : Behaviour) (i : ℕ) (f : Field) (trace : List ℤ) → is_live (step robot i f trace).0 i ≡ is_live f i
+pub step_lives : (robot : Behaviour) (i : ℕ) (f : Field) (trace : List ℤ) →
+    is_live (step robot i f trace).0 i ≡ is_live f i
 step_lives robot i f trace = elim (cases_Bool (is_live f i)) [
-  | inl live ↦ ap (λ (stepped : Field × List ℤ). is_live stepped.0 i) (step_live robot i f trace live) ∙ granted_lives (robot trace) i f trace
+  | inl live ↦ ap (λ (stepped : Field × List ℤ). is_live stepped.0 i) (step_live robot i f trace live) ∙
+      granted_lives (robot trace) i f trace
   | inr dead ↦ ap (λ (stepped : Field × List ℤ). is_live stepped.0 i) (step_dead robot i f trace dead)
 ]
 
 -- The same of two robots: the first one's step is one that it does alone.
-steps_alike : (robot other : Behaviour) (i j : ℕ) (f : Field) (trace others : List ℤ) → StepsAlone robot i f trace → i ≢ j
+steps_alike : (robot other : Behaviour) (i j : ℕ) (f : Field) (trace others : List ℤ) → StepsAlone robot i f trace →
+    i ≢ j
     → AreAlike (step other j (step robot i f trace).0 others).0 (step robot i (step other j f others).0 trace).0
     × ((step robot i (step other j f others).0 trace).1 ≡ (step robot i f trace).1)
     × ((step other j (step robot i f trace).0 others).1 ≡ (step other j f others).1)
@@ -328,8 +362,10 @@ steps_alike robot other i j f trace others steps distinct =
             rw (
               step_live robot i f trace live,
               step_live other j f others moves,
-              step_live robot i (granted (other others) j f others).0 trace (rw (step_live other j f others moves) at theirs ∙ live),
-              step_live other j (granted (robot trace) i f trace).0 others (rw (step_live robot i f trace live) at mine ∙ moves),
+              step_live robot i (granted (other others) j f others).0 trace
+                  (rw (step_live other j f others moves) at theirs ∙ live),
+              step_live other j (granted (robot trace) i f trace).0 others
+                  (rw (step_live robot i f trace live) at mine ∙ moves),
             ) (wants_alike (robot trace) (other others) i j f trace others (steps live) distinct, same.0, same.1)
         | inr rests ↦
             rw (
@@ -348,7 +384,8 @@ steps_alike robot other i j f trace others steps distinct =
 unfoldable pub TurnsAlone : List Behaviour → ℕ → Stage → Type 0
 TurnsAlone robots i s = StepsAlone (robot_of robots i) i s.field (get_or s.traces i [])
 
-pub alone_stays : (robots : List Behaviour) (i j : ℕ) (s : Stage) → TurnsAlone robots i s → i ≢ j → TurnsAlone robots i (turn robots j s)
+pub alone_stays : (robots : List Behaviour) (i j : ℕ) (s : Stage) → TurnsAlone robots i s → i ≢ j →
+    TurnsAlone robots i (turn robots j s)
 unfolding turn TurnsAlone
 alone_stays robots i j s alone distinct = λ live.
     let other = robot_of robots j in

@@ -19,7 +19,8 @@ unfolding is_due
 is_due_no number e = grind (arith, nat_tests)
 
 -- no update is due
-pub cycle_alone : (robots : List Behaviour) (number : ℕ) (s : Stage) → number % 15 ≢ 0 → cycle robots number s ≡ turns robots (length robots) s
+pub cycle_alone : (robots : List Behaviour) (number : ℕ) (s : Stage) → number % 15 ≢ 0 →
+    cycle robots number s ≡ turns robots (length robots) s
 unfolding cycle updated
 cycle_alone robots number s e = rw (is_due_no number e) refl
 
@@ -29,7 +30,10 @@ goes_on number s e = rw (is_due_no number e) refl
 
 -- one is due
 pub cycle_updates : (robots : List Behaviour) (number : ℕ) (s : Stage) → number % 15 ≡ 0
-    → cycle robots number s ≡ record { field = moved (turns robots (length robots) s).field; traces = (turns robots (length robots) s).traces }
+    →
+    cycle robots number s ≡
+    record
+    { field = moved (turns robots (length robots) s).field; traces = (turns robots (length robots) s).traces }
 unfolding cycle updated
 cycle_updates robots number s e = rw (is_due_yes number e) refl
 
@@ -47,7 +51,8 @@ pub stage_none : (robots : List Behaviour) (s : Stage) → stage_after robots s 
 unfolding stage_after
 stage_none robots s = refl
 
-pub stage_more : (robots : List Behaviour) (s : Stage) (n : ℕ) → stage_after robots s (n + 1) ≡ cycle robots (n + 1) (stage_after robots s n)
+pub stage_more : (robots : List Behaviour) (s : Stage) (n : ℕ) →
+    stage_after robots s (n + 1) ≡ cycle robots (n + 1) (stage_after robots s n)
 unfolding stage_after
 stage_more robots s n = rw add-one refl
 
@@ -61,7 +66,8 @@ pub first_here : (passes : ℕ → Bool) (n count : ℕ) → passes (n + 1) ≡ 
 unfolding first_above
 first_here passes n count here = rw here refl
 
-pub first_later : (passes : ℕ → Bool) (n count : ℕ) → passes (n + 1) ≡ false → first_above passes n (suc count) ≡ first_above passes (n + 1) count
+pub first_later : (passes : ℕ → Bool) (n count : ℕ) → passes (n + 1) ≡ false →
+    first_above passes n (suc count) ≡ first_above passes (n + 1) count
 unfolding first_above
 first_later passes n count here = rw here refl
 
@@ -81,7 +87,8 @@ first_is passes n limit last within so here =
     let e : limit - n ≡ suc (limit - (n + 1)) = omega arith in
     sym (first_here passes n (limit - (n + 1)) here) ∙ rw e at so
 
-pub first_ends : (passes : ℕ → Bool) (n limit last : ℕ) → n ≡ limit → first_above passes n (limit - n) ≡ last → limit ≡ last
+pub first_ends : (passes : ℕ → Bool) (n limit last : ℕ) → n ≡ limit → first_above passes n (limit - n) ≡ last →
+    limit ≡ last
 first_ends passes n limit last done so =
     let e : limit - n ≡ 0 = omega arith in
     let at_end : first_above passes n 0 ≡ last = rw e at so in

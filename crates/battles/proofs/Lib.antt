@@ -13,3 +13,4 @@ pub mod Running
 pub mod Alone
 pub mod Beginnings
 pub mod KnownBattles
+pub mod Manned

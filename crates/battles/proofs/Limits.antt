@@ -5,7 +5,8 @@ use Rattle.battles.specs.Battle.{Behaviour, Outcome, opening, stage_after, is_ov
 use Rattle.battles.proofs.Cycles.{first_here, first_later, first_none}
 
 -- the first of some numbers that passes is the first of more numbers too
-first_longer : (passes : ℕ → Bool) (n count more first : ℕ) → count ≤ more → first_above passes n count ≡ first → passes first ≡ true → n < first
+first_longer : (passes : ℕ → Bool) (n count more first : ℕ) → count ≤ more → first_above passes n count ≡ first →
+    passes first ≡ true → n < first
     → first_above passes n more ≡ first
 first_longer passes n zero more first within is over some =
     let none = first_none passes n in absurd (omega arith)
@@ -16,19 +17,24 @@ first_longer passes n (suc count) (suc more) first within is over some =
       | inr later ↦
           let above : n + 1 ≢ first = λ same. false≢true (sym later ∙ ap passes same ∙ over) in
           first_later passes n more later
-          ∙ first_longer passes (n + 1) count more first (omega arith) (sym (first_later passes n count later) ∙ is) over (omega arith)
+          ∙
+          first_longer passes (n + 1) count more first (omega arith) (sym (first_later passes n count later) ∙ is)
+          over (omega arith)
     ]
 
 -- the battle doesn't change
 pub longer : (robots : List Behaviour) (seed number limit more cycles : ℕ) (damages : List ℕ)
     → battle robots seed number limit ≡ record { cycles = cycles; damages = damages }
-    → is_over cycles (stage_after robots (opening (length robots) seed number) cycles) ≡ true → 0 < cycles → limit ≤ more
+    → is_over cycles (stage_after robots (opening (length robots) seed number) cycles) ≡ true → 0 < cycles →
+    limit ≤ more
     → battle robots seed number more ≡ record { cycles = cycles; damages = damages }
 unfolding battle last_cycle
 longer robots seed number limit more cycles damages is over some within =
-    let begun = opening (length robots) seed number in
-    let last : first_above (λ n. is_over n (stage_after robots begun n)) 0 limit ≡ cycles = ap (λ (o : Outcome). o.cycles) is in
-    let later : first_above (λ n. is_over n (stage_after robots begun n)) 0 more ≡ cycles =
-    first_longer (λ n. is_over n (stage_after robots begun n)) 0 limit more cycles within last over some in
-    let ended : ℕ → Outcome = λ n. record { cycles = n; damages = damages_of (length robots) (stage_after robots begun n).field } in
+    let opened = opening (length robots) seed number in
+    let last : first_above (λ n. is_over n (stage_after robots opened n)) 0 limit ≡ cycles =
+    ap (λ (o : Outcome). o.cycles) is in
+    let later : first_above (λ n. is_over n (stage_after robots opened n)) 0 more ≡ cycles =
+    first_longer (λ n. is_over n (stage_after robots opened n)) 0 limit more cycles within last over some in
+    let ended : ℕ → Outcome =
+    λ n. record { cycles = n; damages = damages_of (length robots) (stage_after robots opened n).field } in
     ap ended (later ∙ sym last) ∙ is

@@ -11,15 +11,16 @@ use Rattle.code.specs.Generation.{ObjectCode}
 use Rattle.code.specs.Standing.{FitsProgram}
 use Rattle.battles.specs.Battle.{Behaviour, Stage}
 use Rattle.battles.specs.Carrying.{Runner, AreRobotsOf, EachFits, EachIsAt, HasReached, IsAt, IsRobotOf}
-use Rattle.battles.specs.Windows.{AreAhead, AreSlots, HasCome, HasRun, rounds}
+use Rattle.battles.specs.Windows.{AreAhead, AreTurnNumbers, HasCome, HasRun, rounds}
 use Rattle.battles.proofs.Ahead.{Runs, come_alone, opens, closes}
 use Rattle.battles.proofs.Alone.{quiet_alone, quiet_runs}
 use Rattle.battles.proofs.Running.{at_less, quiet_less}
 use Rattle.battles.proofs.Stages.{fits_at, fits_length, fits_set}
-use Rattle.battles.proofs.Turns.{slots_set}
+use Rattle.battles.proofs.Turns.{turn_numbers_set}
 
 -- a live robot goes on
-pub goes_ahead : (runner : Runner) (code : ObjectCode) (r : Behaviour) (i : ℕ) (f : Field) (trace : List ℤ) (n : ℕ) (arena : Ground)
+pub goes_ahead : (runner : Runner) (code : ObjectCode) (r : Behaviour) (i : ℕ) (f : Field) (trace : List ℤ) (n : ℕ)
+    (arena : Ground)
     → n ≤ runner.ahead → is_live f i ≡ true → IsRobotOf code r → IsGroundOf arena f → IsAt runner code trace
     → HasRun ⊥ r i f trace n code (record { machine = runner.machine; ahead = runner.ahead - n }) arena
 goes_ahead runner code r i f trace n arena within live is ground at =
@@ -32,7 +33,8 @@ goes_ahead runner code r i f trace n arena within live is ground at =
 
 -- one robot more is ahead
 pub ahead_more : (n cycles : ℕ) (arena : Ground) (runners : List Runner) → AreAhead n cycles arena runners
-    → ((none : Runner) → lives arena n ≡ true → cycles ≤ (get_or runners n none).ahead) → AreAhead (n + 1) cycles arena runners
+    → ((none : Runner) → lives arena n ≡ true → cycles ≤ (get_or runners n none).ahead) →
+    AreAhead (n + 1) cycles arena runners
 ahead_more n cycles arena runners before here i none within lives = elim (cases_lt i n) [
   | inl less ↦ before i none less lives
   | inr last ↦
@@ -41,79 +43,88 @@ ahead_more n cycles arena runners before here i none within lives = elim (cases_
 ]
 
 -- So many robots have passed the window; the others are at its begin.
-pub record HavePassed (robots : List Behaviour) (codes : List ObjectCode) (k w : ℕ) (runners : List Runner) (arena : Ground) (opened : Stage) : Type 0 where
+pub record HavePassed (robots : List Behaviour) (codes : List ObjectCode) (k w : ℕ) (runners : List Runner)
+    (arena : Ground) (opened : Stage) : Type 0 where
   pub next : List ℕ
-  pub slots : AreSlots next
+  pub turn_numbers : AreTurnNumbers next
   pub done : (i : ℕ) → i < k → 4 * w ≤ get_or next i 0
   pub begin : (i : ℕ) → k ≤ i → i < length codes → get_or next i 0 ≡ i
   pub past : (i : ℕ) → length codes ≤ i → i < 4 → 4 * w ≤ get_or next i 0
   pub come : HasCome robots codes next w runners arena opened
 
-slot_of : ℕ → ℕ → ℕ → ℕ
-slot_of n w i = if nat_lt i n then i else 4 * w + i
+turn_number_of : ℕ → ℕ → ℕ → ℕ
+turn_number_of n w i = if nat_lt i n then i else 4 * w + i
 
-slot_in : (n w i : ℕ) → i < n → slot_of n w i ≡ i
-unfolding slot_of
-slot_in n w i inside = let yes : nat_lt i n ≡ true = grind (arith, nat_tests) in rw yes refl
+turn_number_in : (n w i : ℕ) → i < n → turn_number_of n w i ≡ i
+unfolding turn_number_of
+turn_number_in n w i inside = let yes : nat_lt i n ≡ true = grind (arith, nat_tests) in rw yes refl
 
-slot_past : (n w i : ℕ) → n ≤ i → slot_of n w i ≡ 4 * w + i
-unfolding slot_of
-slot_past n w i outside = let no : nat_lt i n ≡ false = grind (arith, nat_tests) in rw no refl
+turn_number_past : (n w i : ℕ) → n ≤ i → turn_number_of n w i ≡ 4 * w + i
+unfolding turn_number_of
+turn_number_past n w i outside = let no : nat_lt i n ≡ false = grind (arith, nat_tests) in rw no refl
 
-slot_own : (n w i : ℕ) → i < 4 → slot_of n w i % 4 ≡ i
-slot_own n w i small = elim (cases_lt i n) [
-  | inl inside ↦ rw (slot_in n w i inside) (omega arith)
-  | inr outside ↦ rw (slot_past n w i outside) (omega arith)
+turn_number_own : (n w i : ℕ) → i < 4 → turn_number_of n w i % 4 ≡ i
+turn_number_own n w i small = elim (cases_lt i n) [
+  | inl inside ↦ rw (turn_number_in n w i inside) (omega arith)
+  | inr outside ↦ rw (turn_number_past n w i outside) (omega arith)
 ]
 
--- the slots before the window
-slots_of : ℕ → ℕ → List ℕ
-slots_of n w = slot_of n w 0 ∷ slot_of n w 1 ∷ slot_of n w 2 ∷ slot_of n w 3 ∷ []
+-- the numbers of the next turns, before the window
+turn_numbers_of : ℕ → ℕ → List ℕ
+turn_numbers_of n w = turn_number_of n w 0 ∷ turn_number_of n w 1 ∷ turn_number_of n w 2 ∷ turn_number_of n w 3 ∷ []
 
-slots_at : (n w i : ℕ) → i < 4 → get_or (slots_of n w) i 0 ≡ slot_of n w i
-unfolding slots_of
-slots_at n w zero small = refl
-slots_at n w (suc zero) small = refl
-slots_at n w (suc (suc zero)) small = refl
-slots_at n w (suc (suc (suc zero))) small = refl
-slots_at n w (suc (suc (suc (suc i)))) small = absurd (omega arith)
+turn_numbers_at : (n w i : ℕ) → i < 4 → get_or (turn_numbers_of n w) i 0 ≡ turn_number_of n w i
+unfolding turn_numbers_of
+turn_numbers_at n w zero small = refl
+turn_numbers_at n w (suc zero) small = refl
+turn_numbers_at n w (suc (suc zero)) small = refl
+turn_numbers_at n w (suc (suc (suc zero))) small = refl
+turn_numbers_at n w (suc (suc (suc (suc i)))) small = absurd (omega arith)
 
-slots_are : (n w : ℕ) → AreSlots (slots_of n w)
-unfolding slots_of
-slots_are n w = record {
+turn_numbers_are : (n w : ℕ) → AreTurnNumbers (turn_numbers_of n w)
+unfolding turn_numbers_of
+turn_numbers_are n w = record {
   four = refl;
-  own = λ i small. rw (slots_at n w i small) (slot_own n w i small);
+  own = λ i small. rw (turn_numbers_at n w i small) (turn_number_own n w i small);
 }
 
-pub none_passed : (robots : List Behaviour) (codes : List ObjectCode) (w : ℕ) (runners : List Runner) (arena : Ground) (s : Stage)
-    → AreRobotsOf codes robots → length codes ≤ 4 → HasReached runners codes arena s → HavePassed robots codes 0 w runners arena s
+pub none_passed : (robots : List Behaviour) (codes : List ObjectCode) (w : ℕ) (runners : List Runner) (arena : Ground)
+    (s : Stage)
+    → AreRobotsOf codes robots → length codes ≤ 4 → HasReached runners codes arena s →
+    HavePassed robots codes 0 w runners arena s
 none_passed robots codes w runners arena s are few reached =
     let n = length codes in
-    let first : (i : ℕ) → i < n → i < 4 → get_or (slots_of n w) i 0 ≡ i = λ i inside small. slots_at n w i small ∙ slot_in n w i inside in
-    let past : (i : ℕ) → n ≤ i → i < 4 → 4 * w ≤ get_or (slots_of n w) i 0 = λ i outside small. omega (arith, slots_at n w i small, slot_past n w i outside) in
+    let first : (i : ℕ) → i < n → i < 4 → get_or (turn_numbers_of n w) i 0 ≡ i =
+    λ i inside small. turn_numbers_at n w i small ∙ turn_number_in n w i inside in
+    let past : (i : ℕ) → n ≤ i → i < 4 → 4 * w ≤ get_or (turn_numbers_of n w) i 0 =
+    λ i outside small. omega (arith, turn_numbers_at n w i small, turn_number_past n w i outside) in
     record {
-      next = slots_of n w;
-      slots = slots_are n w;
+      next = turn_numbers_of n w;
+      turn_numbers = turn_numbers_are n w;
       done = λ i low. absurd (omega arith);
       begin = λ i from inside. first i inside (omega arith);
       past = past;
-      come = opens robots codes (slots_of n w) w runners arena s are (slots_are n w) few first past reached;
+      come = opens robots codes (turn_numbers_of n w) w runners arena s are (turn_numbers_are n w) few first past
+          reached;
     }
 
-pub one_passes : (robots : List Behaviour) (codes : List ObjectCode) (k w : ℕ) (runners : List Runner) (arena : Ground) (s : Stage)
+pub one_passes : (robots : List Behaviour) (codes : List ObjectCode) (k w : ℕ) (runners : List Runner) (arena : Ground)
+    (s : Stage)
     (code : ObjectCode) (none after : Runner)
     → AreRobotsOf codes robots → length codes ≤ 4 → k < length codes → slice_get codes k ≡ Some code
     → HavePassed robots codes k w runners arena s → Runs ⊥ k code w (get_or runners k none) after arena arena
     → HavePassed robots codes (k + 1) w (set runners k after) arena s
 one_passes robots codes k w runners arena s code none after are few inside here passed gone =
     let here' : get_or passed.next k 0 ≡ k = passed.begin k (omega arith) inside in
-    let four = passed.slots.four in
+    let four = passed.turn_numbers.four in
     let next = set passed.next k (get_or passed.next k 0 + 4 * w) in
-    let own : get_or next k 0 ≡ get_or passed.next k 0 + 4 * w = get_or-set_same passed.next k (get_or passed.next k 0 + 4 * w) 0 (omega arith) in
-    let other = λ (i : ℕ) (distinct : i ≢ k). get_or-set_other passed.next k i (get_or passed.next k 0 + 4 * w) 0 distinct in
+    let own : get_or next k 0 ≡ get_or passed.next k 0 + 4 * w =
+    get_or-set_same passed.next k (get_or passed.next k 0 + 4 * w) 0 (omega arith) in
+    let other =
+    λ (i : ℕ) (distinct : i ≢ k). get_or-set_other passed.next k i (get_or passed.next k 0 + 4 * w) 0 distinct in
     record {
       next = next;
-      slots = slots_set passed.next k w passed.slots (omega arith);
+      turn_numbers = turn_numbers_set passed.next k w passed.turn_numbers (omega arith);
       done = λ i low. elim (cases_eq i k) [
         | inl same ↦ rw (same, own) (omega arith)
         | inr distinct ↦ rw (other i distinct) (passed.done i (omega (arith, low, distinct)))
@@ -124,11 +135,14 @@ one_passes robots codes k w runners arena s code none after are few inside here 
       past = λ i from small.
           let distinct : i ≢ k = omega arith in
           rw (other i distinct) (passed.past i from small);
-      come = come_alone robots codes passed.next w w k runners arena arena s code none after ⊥ are passed.slots (omega arith) inside
+      come =
+          come_alone robots codes passed.next w w k runners arena arena s code none after ⊥ are passed.turn_numbers
+          (omega arith) inside
           (omega (arith, here')) (λ free. absurd free) passed.come here gone;
     }
 
-pub all_passed : (robots : List Behaviour) (codes : List ObjectCode) (w : ℕ) (runners : List Runner) (arena : Ground) (s : Stage)
+pub all_passed : (robots : List Behaviour) (codes : List ObjectCode) (w : ℕ) (runners : List Runner) (arena : Ground)
+    (s : Stage)
     → HavePassed robots codes (length codes) w runners arena s → HasReached runners codes arena (rounds robots w s)
 all_passed robots codes w runners arena s passed =
     closes robots codes passed.next w runners arena s (λ i small. elim (cases_lt i (length codes)) [
@@ -137,7 +151,8 @@ all_passed robots codes w runners arena s passed =
     ]) passed.come
 
 -- a robot's code, and its runner
-pub code_at : (codes : List ObjectCode) (k : ℕ) → k < length codes → (code : ObjectCode) × (slice_get codes k ≡ Some code)
+pub code_at : (codes : List ObjectCode) (k : ℕ) → k < length codes →
+    (code : ObjectCode) × (slice_get codes k ≡ Some code)
 code_at [] k inside = absurd (omega arith)
 code_at (code ∷ codes) zero inside = (code, refl)
 code_at (code ∷ codes) (suc k) inside = code_at codes k (omega arith)
@@ -151,7 +166,8 @@ fits_still runners codes k none after inside same fits =
     fits_set runners codes k after here.0 fits here.1 still
 
 -- there is a runner for each code
-pub runners_length : (runners : List Runner) (codes : List ObjectCode) (traces : List (List ℤ)) → EachIsAt runners codes traces
+pub runners_length : (runners : List Runner) (codes : List ObjectCode) (traces : List (List ℤ)) →
+    EachIsAt runners codes traces
     → length runners ≡ length codes
 runners_length [] [] [] at = refl
 runners_length (runner ∷ runners) (code ∷ codes) (trace ∷ traces) at = ap suc (runners_length runners codes traces at.1)

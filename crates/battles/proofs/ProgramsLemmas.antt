@@ -19,7 +19,8 @@ kept_some (x ∷ items) (suc place) within none = kept_some items place (omega a
 
 -- what is found at a place is the program of that place
 pub kept_at : {A : Type 0} (kept shelf : List (Option A)) (items : List A) (place : ℕ) (found : Option A)
-    → AllSome kept → flat_map option_to_list kept ≡ items → shelf ≡ kept → place < length items → found ≡ get_or shelf place found
+    → AllSome kept → flat_map option_to_list kept ≡ items → shelf ≡ kept → place < length items →
+    found ≡ get_or shelf place found
     → slice_get items place ≡ found
 kept_at {A} kept shelf items place found all are same within here =
     let each : shelf ≡ map (λ (x : A). Some x) items = same ∙ all ∙ ap (λ l. map (λ (x : A). Some x) l) are in

@@ -7,7 +7,7 @@ use Rattle.std.proofs.lemmas.List.{append-nil, get_or-set_same, get_or-set_other
 use Rattle.arena.specs.Field.{Field, is_live, is_alive, live_count}
 use Rattle.arena.specs.Ground.{Body, Ground, body_of, lives}
 use Rattle.arena.specs.Moved.{moved}
-use Rattle.arena.specs.Rest.{IsStill, moved_times}
+use Rattle.arena.specs.Still.{IsStill, moved_times}
 use Rattle.arena.specs.Standing.{StandsFor as IsGroundOf}
 use Rattle.arena.proofs.Represents.{body_at, living}
 use Rattle.arena.proofs.Still.{only_rests}
@@ -25,7 +25,8 @@ live_is : (g : Ground) (f : Field) (i : ℕ) → IsGroundOf g f → is_live f i 
 unfolding is_live is_alive body_of lives
 live_is g f i ground = ap (λ (b : Body). nat_lt b.damage 100) (sym (body_at g f i ground))
 
-count_is : (g : Ground) (f : Field) → IsGroundOf g f → live_count f ≡ count_by (λ (b : Body). nat_lt b.damage 100) g.robots
+count_is : (g : Ground) (f : Field) → IsGroundOf g f →
+    live_count f ≡ count_by (λ (b : Body). nat_lt b.damage 100) g.robots
 unfolding live_count
 count_is g f ground =
     sym (ap (count_by (λ (b : Body). nat_lt b.damage 100)) ground.robots ∙ living f.robots)
@@ -131,14 +132,16 @@ turns_wait g robots (suc n) s ground quiet =
     ∙ turn_waits g robots n (record { field = s.field; traces = waited (lives g) n s.traces }) ground
     (λ live. ap (robot_of robots n) (waited_later (lives g) n s.traces n (omega arith)) ∙ quiet n (omega arith) live)
 
-rounds_wait : (g : Ground) (robots : List Behaviour) (k : ℕ) (s : Stage) → IsGroundOf g s.field → length robots ≤ length s.traces
+rounds_wait : (g : Ground) (robots : List Behaviour) (k : ℕ) (s : Stage) → IsGroundOf g s.field →
+    length robots ≤ length s.traces
     → AreQuiet g robots s.traces k
     → rounds robots k s ≡ record { field = s.field; traces = waits (lives g) (length robots) k s.traces }
 unfolding rounds waits
 rounds_wait g robots zero s ground all quiet = refl
 rounds_wait g robots (suc k) s ground all quiet =
     let traces = waits (lives g) (length robots) k s.traces in
-    ap (turns robots (length robots)) (rounds_wait g robots k s ground all (λ i low live j less. quiet i low live j (omega arith)))
+    ap (turns robots (length robots))
+    (rounds_wait g robots k s ground all (λ i low live j less. quiet i low live j (omega arith)))
     ∙ turns_wait g robots (length robots) (record { field = s.field; traces = traces }) ground
     (λ i low live.
     ap (robot_of robots i) (waits_at (lives g) (length robots) k s.traces i low (omega arith) live)
@@ -158,53 +161,71 @@ quiet_on g robots k j traces all quiet i low live m less =
 updated_stage : Stage → Stage
 updated_stage s = record { field = moved s.field; traces = s.traces }
 
-quiet_within : (g : Ground) (robots : List Behaviour) (traces : List (List ℤ)) (k n : ℕ) → k ≤ n → AreQuiet g robots traces n
+quiet_within : (g : Ground) (robots : List Behaviour) (traces : List (List ℤ)) (k n : ℕ) → k ≤ n →
+    AreQuiet g robots traces n
     → AreQuiet g robots traces k
-quiet_within g robots traces k n less quiet i low live = quiet_less (robot_of robots i) (get_or traces i []) k n less (quiet i low live)
+quiet_within g robots traces k n less quiet i low live =
+    quiet_less (robot_of robots i) (get_or traces i []) k n less (quiet i low live)
 
-segments_wait : (g : Ground) (robots : List Behaviour) (k : ℕ) (s : Stage) → IsGroundOf g s.field → IsStill g.robots g.slots
+segments_wait : (g : Ground) (robots : List Behaviour) (k : ℕ) (s : Stage) → IsGroundOf g s.field →
+    IsStill g.robots g.slots
     → length robots ≤ length s.traces → AreQuiet g robots s.traces (15 * k)
-    → segments robots k s ≡ record { field = moved_times k s.field; traces = waits (lives g) (length robots) (15 * k) s.traces }
+    →
+    segments robots k s ≡
+    record { field = moved_times k s.field; traces = waits (lives g) (length robots) (15 * k) s.traces }
 unfolding segments segment moved_times lives updated_stage waits
 segments_wait g robots zero s ground still all quiet = refl
 segments_wait g robots (suc k) s ground still all quiet =
     let traces = waits (lives g) (length robots) (15 * k) s.traces in
     let grown = record g { updates = g.updates + k } in
-    let before = segments_wait g robots k s ground still all (quiet_within g robots s.traces (15 * k) (15 * suc k) (omega arith) quiet) in
-    let more : AreQuiet g robots s.traces (15 * k + 15) = quiet_within g robots s.traces (15 * k + 15) (15 * suc k) (omega arith) quiet in
+    let before =
+    segments_wait g robots k s ground still all
+    (quiet_within g robots s.traces (15 * k) (15 * suc k) (omega arith) quiet) in
+    let more : AreQuiet g robots s.traces (15 * k + 15) =
+    quiet_within g robots s.traces (15 * k + 15) (15 * suc k) (omega arith) quiet in
     let sum : 15 * k + 15 ≡ 15 * suc k = omega arith in
     ap (segment robots) before
-    ∙ ap updated_stage (rounds_wait grown robots 15 (record { field = moved_times k s.field; traces = traces }) (only_rests g s.field k ground still)
-    (omega (arith, all, waits_length (lives g) (length robots) (15 * k) s.traces)) (quiet_on g robots (15 * k) 15 s.traces all more))
+    ∙
+    ap updated_stage (rounds_wait grown robots 15 (record { field = moved_times k s.field; traces = traces })
+    (only_rests g s.field k ground still)
+    (omega (arith, all, waits_length (lives g) (length robots) (15 * k) s.traces))
+    (quiet_on g robots (15 * k) 15 s.traces all more))
     ∙ ap (λ (ts : List (List ℤ)). updated_stage (record { field = moved_times k s.field; traces = ts }))
-    (waits_plus (lives g) (length robots) (15 * k) 15 s.traces ∙ ap (λ m. waits (lives g) (length robots) m s.traces) sum)
+    (waits_plus (lives g) (length robots) (15 * k) 15 s.traces ∙
+    ap (λ m. waits (lives g) (length robots) m s.traces) sum)
 
 -- The machines are ahead by cycles in which the robots are quiet.
-traces_length : (runners : List Runner) (codes : List ObjectCode) (traces : List (List ℤ)) → EachIsAt runners codes traces
+traces_length : (runners : List Runner) (codes : List ObjectCode) (traces : List (List ℤ)) →
+    EachIsAt runners codes traces
     → length traces ≡ length codes
 traces_length [] [] [] at = refl
 traces_length (runner ∷ runners) (code ∷ codes) (trace ∷ traces) at = ap suc (traces_length runners codes traces at.1)
 traces_length _ _ _ at = absurd at
 
-are_quiet : (codes : List ObjectCode) (robots : List Behaviour) (runners : List Runner) (none : Runner) (g : Ground) (s : Stage) (cycles : ℕ)
+are_quiet : (codes : List ObjectCode) (robots : List Behaviour) (runners : List Runner) (none : Runner) (g : Ground)
+    (s : Stage) (cycles : ℕ)
     → AreRobotsOf codes robots → HasReached runners codes g s → AreAhead (length runners) cycles g runners
     → AreQuiet g robots s.traces cycles
 unfolding robot_of
 are_quiet codes robots runners none g s cycles are reached ahead i low live =
     let here = code_at codes i (omega (arith, low, robots_length codes robots are)) in
-    let inside : i < length runners = omega (arith, low, robots_length codes robots are, runners_length runners codes s.traces reached.traces) in
+    let inside : i < length runners =
+    omega (arith, low, robots_length codes robots are, runners_length runners codes s.traces reached.traces) in
     let is = robot_at codes robots i here.0 (λ trace. Quiet) are here.1 in
     let at = stands_at runners codes s.traces i here.0 none reached.traces here.1 in
-    quiet_less (robot_of robots i) (get_or s.traces i []) cycles (get_or runners i none).ahead (ahead i none inside live) (at.quiet _ is)
+    quiet_less (robot_of robots i) (get_or s.traces i []) cycles (get_or runners i none).ahead
+    (ahead i none inside live) (at.quiet _ is)
 
 -- they are ahead by fewer cycles too
-pub ahead_fewer : (n most cycles : ℕ) (arena : Ground) (runners : List Runner) → cycles ≤ most → AreAhead n most arena runners
+pub ahead_fewer : (n most cycles : ℕ) (arena : Ground) (runners : List Runner) → cycles ≤ most →
+    AreAhead n most arena runners
     → AreAhead n cycles arena runners
 ahead_fewer n most cycles arena runners fewer ahead i none inside live =
     let here : most ≤ (get_or runners i none).ahead = ahead i none inside live in
     omega arith
 
-some_quiet : (codes : List ObjectCode) (robots : List Behaviour) (runners : List Runner) (g : Ground) (s : Stage) (cycles : ℕ)
+some_quiet : (codes : List ObjectCode) (robots : List Behaviour) (runners : List Runner) (g : Ground) (s : Stage)
+    (cycles : ℕ)
     → AreRobotsOf codes robots → HasReached runners codes g s → AreAhead (length runners) cycles g runners
     → AreQuiet g robots s.traces cycles
 some_quiet [] [] [] g s cycles are reached ahead = λ i low live. absurd (omega arith)
@@ -220,7 +241,8 @@ enough codes robots runners g s are reached =
     omega (arith, robots_length codes robots are, traces_length runners codes s.traces reached.traces)
 
 -- Where the cycles of some windows lead, and as many updates: to where the windows lead.
-pub skips : (codes : List ObjectCode) (robots : List Behaviour) (runners after : List Runner) (g : Ground) (s : Stage) (k : ℕ)
+pub skips : (codes : List ObjectCode) (robots : List Behaviour) (runners after : List Runner) (g : Ground) (s : Stage)
+    (k : ℕ)
     → AreRobotsOf codes robots → HasReached runners codes g s → IsStill g.robots g.slots
     → AreAhead (length runners) (15 * k) g runners → HasReached after codes g (rounds robots (15 * k) s)
     → HasReached after codes (record g { updates = g.updates + k }) (segments robots k s)
@@ -235,7 +257,8 @@ skips codes robots runners after g s k are reached still ahead gone =
     })
 
 -- as many robots live
-pub skips_alive : (codes : List ObjectCode) (robots : List Behaviour) (runners : List Runner) (g : Ground) (s : Stage) (k n : ℕ)
+pub skips_alive : (codes : List ObjectCode) (robots : List Behaviour) (runners : List Runner) (g : Ground) (s : Stage)
+    (k n : ℕ)
     → AreRobotsOf codes robots → HasReached runners codes g s → IsStill g.robots g.slots
     → AreAhead (length runners) (15 * k) g runners → n ≤ k → live_count (segments robots n s).field ≡ live_count s.field
 skips_alive codes robots runners g s k n are reached still ahead within =
@@ -243,7 +266,8 @@ skips_alive codes robots runners g s k n are reached still ahead within =
     let quiet = some_quiet codes robots runners g s (15 * n) are reached
     (ahead_fewer (length runners) (15 * k) (15 * n) g runners (omega arith) ahead) in
     ap (λ (t : Stage). live_count t.field) (segments_wait g robots n s reached.field still all quiet)
-    ∙ count_is (record g { updates = g.updates + n }) (moved_times n s.field) (only_rests g s.field n reached.field still)
+    ∙
+    count_is (record g { updates = g.updates + n }) (moved_times n s.field) (only_rests g s.field n reached.field still)
     ∙ sym (count_is g s.field reached.field)
 
 -- no window passes

@@ -31,7 +31,9 @@ stage_updated robots s n begins =
     ap (stage_after robots s) last
     ∙ stage_more robots s (n + 14)
     ∙ cycle_updates robots (n + 14 + 1) (stage_after robots s (n + 14)) (omega arith)
-    ∙ ap (λ before. updated_stage (turns robots (length robots) before)) (stage_within robots s n 14 begins (omega arith))
+    ∙
+    ap (λ before. updated_stage (turns robots (length robots) before))
+    (stage_within robots s n 14 begins (omega arith))
 
 pub stage_segment : (robots : List Behaviour) (s : Stage) (n : ℕ)
     → stage_after robots s (15 * (n + 1)) ≡ segment robots (stage_after robots s (15 * n))
@@ -84,7 +86,9 @@ first_update : (robots : List Behaviour) (s : Stage) (n limit last : ℕ) → n 
 unfolding over
 first_update robots s n limit last begins within so =
     let count : limit - n ≡ 14 + (limit - (n + 14)) = omega arith in
-    sym (first_skips (over robots s) n 14 (limit - (n + 14)) (λ j above most. not_over robots s n j begins above (omega arith)))
+    sym
+    (first_skips (over robots s) n 14 (limit - (n + 14))
+    (λ j above most. not_over robots s n j begins above (omega arith)))
     ∙ rw count at so
 
 few_after : (robots : List Behaviour) (s : Stage) (n : ℕ)
@@ -93,7 +97,9 @@ unfolding over
 few_after robots s n =
     let next : 15 * n + 14 + 1 ≡ 15 * n + 15 = omega arith in
     over_if_few (15 * n + 14 + 1) (stage_after robots s (15 * n + 14 + 1)) (omega arith)
-    ∙ ap (λ (t : Stage). nat_le (live_count t.field) 1) (ap (stage_after robots s) next ∙ stage_updated robots s (15 * n) (omega arith))
+    ∙
+    ap (λ (t : Stage). nat_le (live_count t.field) 1)
+    (ap (stage_after robots s) next ∙ stage_updated robots s (15 * n) (omega arith))
 
 pub first_decided : (robots : List Behaviour) (s : Stage) (n limit last : ℕ) → 15 * n + 15 ≤ limit
     → first_above (λ k. is_over k (stage_after robots s k)) (15 * n) (limit - 15 * n) ≡ last
@@ -127,7 +133,8 @@ first_skipped robots s n (suc k) limit last within so undecided =
     let next : n + suc k ≡ n + k + 1 = omega arith in
     let before = first_skipped robots s n k limit last (omega arith) so (λ j low. undecided j (omega arith)) in
     rw next (first_undecided robots s (n + k) limit last (omega arith) before
-    (ap (λ (t : Stage). nat_le (live_count t.field) 1) (ap (segment robots) (stage_segments robots s n k)) ∙ undecided (suc k) (omega arith)))
+    (ap (λ (t : Stage). nat_le (live_count t.field) 1) (ap (segment robots) (stage_segments robots s n k)) ∙
+    undecided (suc k) (omega arith)))
 
 -- no update comes before the limit
 pub first_limit : (robots : List Behaviour) (s : Stage) (n limit last : ℕ) → n % 15 ≡ 0 → n ≤ limit → limit < n + 15
@@ -137,5 +144,6 @@ first_limit robots s n limit last begins within short so =
     let count : limit - n ≡ limit - n + 0 = omega arith in
     let end : n + (limit - n) ≡ limit = omega arith in
     sym (ap (λ m. first_above (over robots s) m 0) end ∙ first_none (over robots s) limit)
-    ∙ sym (first_skips (over robots s) n (limit - n) 0 (λ j above most. not_over robots s n j begins above (omega arith)))
+    ∙
+    sym (first_skips (over robots s) n (limit - n) 0 (λ j above most. not_over robots s n j begins above (omega arith)))
     ∙ rw count at so

@@ -32,8 +32,10 @@ fits_at (runner ∷ runners) (code' ∷ codes) (suc i) code none fits here =
     fits_at runners codes i code none fits.1 here
 
 -- and is at the end of the trace with that index
-pub stands_at : (runners : List Runner) (codes : List ObjectCode) (traces : List (List ℤ)) (i : ℕ) (code : ObjectCode) (none : Runner)
-    → EachIsAt runners codes traces → slice_get codes i ≡ Some code → IsAt (get_or runners i none) code (get_or traces i [])
+pub stands_at : (runners : List Runner) (codes : List ObjectCode) (traces : List (List ℤ)) (i : ℕ) (code : ObjectCode)
+    (none : Runner)
+    → EachIsAt runners codes traces → slice_get codes i ≡ Some code →
+    IsAt (get_or runners i none) code (get_or traces i [])
 stands_at [] [] [] i code none stands here = cc
 stands_at (runner ∷ runners) (code' ∷ codes) (trace ∷ traces) zero code none stands here =
     let same : code' ≡ code = cc in rw same at stands.0
@@ -42,13 +44,15 @@ stands_at (runner ∷ runners) (code' ∷ codes) (trace ∷ traces) (suc i) code
 stands_at _ _ _ i code none stands here = absurd stands
 
 -- there are as many of each
-pub fits_length : (runners : List Runner) (codes : List ObjectCode) → EachFits runners codes → length runners ≡ length codes
+pub fits_length : (runners : List Runner) (codes : List ObjectCode) → EachFits runners codes →
+    length runners ≡ length codes
 fits_length [] [] fits = refl
 fits_length (runner ∷ runners) (code ∷ codes) fits = ap suc (fits_length runners codes fits.1)
 fits_length [] (code ∷ codes) fits = absurd fits
 fits_length (runner ∷ runners) [] fits = absurd fits
 
-pub robots_length : (codes : List ObjectCode) (robots : List Behaviour) → AreRobotsOf codes robots → length robots ≡ length codes
+pub robots_length : (codes : List ObjectCode) (robots : List Behaviour) → AreRobotsOf codes robots →
+    length robots ≡ length codes
 robots_length [] [] are = refl
 robots_length (code ∷ codes) (robot ∷ robots) are = ap suc (robots_length codes robots are.1)
 robots_length [] (robot ∷ robots) are = absurd are
@@ -56,7 +60,8 @@ robots_length (code ∷ codes) [] are = absurd are
 
 -- one runner is changed
 pub fits_set : (runners : List Runner) (codes : List ObjectCode) (i : ℕ) (runner : Runner) (code : ObjectCode)
-    → EachFits runners codes → slice_get codes i ≡ Some code → FitsProgram runner.machine code → EachFits (set runners i runner) codes
+    → EachFits runners codes → slice_get codes i ≡ Some code → FitsProgram runner.machine code →
+    EachFits (set runners i runner) codes
 fits_set [] [] i runner code fits here new = cc
 fits_set (runner' ∷ runners) (code' ∷ codes) zero runner code fits here new =
     let same : code ≡ code' = cc in (rw same at new, fits.1)
@@ -65,7 +70,8 @@ fits_set (runner' ∷ runners) (code' ∷ codes) (suc i) runner code fits here n
 fits_set [] (code' ∷ codes) i runner code fits here new = absurd fits
 fits_set (runner' ∷ runners) [] i runner code fits here new = absurd fits
 
-pub stands_set : (runners : List Runner) (codes : List ObjectCode) (traces : List (List ℤ)) (i : ℕ) (runner : Runner) (code : ObjectCode) (trace : List ℤ)
+pub stands_set : (runners : List Runner) (codes : List ObjectCode) (traces : List (List ℤ)) (i : ℕ) (runner : Runner)
+    (code : ObjectCode) (trace : List ℤ)
     → EachIsAt runners codes traces → slice_get codes i ≡ Some code → IsAt runner code trace
     → EachIsAt (set runners i runner) codes (set traces i trace)
 stands_set [] [] [] i runner code trace stands here new = cc
@@ -80,19 +86,23 @@ pub turns_none : (robots : List Behaviour) (s : Stage) → turns robots 0 s ≡ 
 unfolding turns
 turns_none robots s = refl
 
-pub turns_more : (robots : List Behaviour) (i : ℕ) (s : Stage) → turns robots (i + 1) s ≡ turn robots i (turns robots i s)
+pub turns_more : (robots : List Behaviour) (i : ℕ) (s : Stage) →
+    turns robots (i + 1) s ≡ turn robots i (turns robots i s)
 unfolding turns
 turns_more robots i s = rw add-one refl
 
 -- What one robot's cycle makes of its runner and of the arena, whatever its trace and the field are.
 pub record HasStepped (i : ℕ) (code : ObjectCode) (runner after : Runner) (arena grown : Ground) : Type 0 where
-  pub field : (r : Behaviour) (f : Field) (trace : List ℤ) → IsRobotOf code r → IsGroundOf arena f → IsAt runner code trace
+  pub field : (r : Behaviour) (f : Field) (trace : List ℤ) → IsRobotOf code r → IsGroundOf arena f →
+      IsAt runner code trace
       → IsGroundOf grown (step r i f trace).0
-  pub trace : (r : Behaviour) (f : Field) (trace : List ℤ) → IsRobotOf code r → IsGroundOf arena f → IsAt runner code trace
+  pub trace : (r : Behaviour) (f : Field) (trace : List ℤ) → IsRobotOf code r → IsGroundOf arena f →
+      IsAt runner code trace
       → IsAt after code (step r i f trace).1
 
 -- So the stage is that after the robot's turn.
-pub turn_reached : (codes : List ObjectCode) (robots : List Behaviour) (runners : List Runner) (arena grown : Ground) (s : Stage) (i : ℕ)
+pub turn_reached : (codes : List ObjectCode) (robots : List Behaviour) (runners : List Runner) (arena grown : Ground)
+    (s : Stage) (i : ℕ)
     (code : ObjectCode) (none after : Runner)
     → AreRobotsOf codes robots → HasReached runners codes arena s → slice_get codes i ≡ Some code
     → HasStepped i code (get_or runners i none) after arena grown
@@ -103,5 +113,6 @@ turn_reached codes robots runners arena grown s i code none after are reached he
     let stands = stands_at runners codes s.traces i code none reached.traces here in
     record {
       field = stepped.field _ _ _ robot reached.field stands;
-      traces = stands_set runners codes s.traces i after code _ reached.traces here (stepped.trace _ _ _ robot reached.field stands);
+      traces = stands_set runners codes s.traces i after code _ reached.traces here
+          (stepped.trace _ _ _ robot reached.field stands);
     }

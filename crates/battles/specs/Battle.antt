@@ -88,9 +88,9 @@ pub record Outcome : Type 0 where
 -- the battle of these robots in the match of this number, with this seed and limit of cycles
 unfoldable pub battle : List Behaviour → (seed number limit : ℕ) → Outcome
 battle robots seed number limit =
-    let begun = opening (length robots) seed number in
-    let cycles = last_cycle robots begun limit in
-    record { cycles = cycles; damages = damages_of (length robots) (stage_after robots begun cycles).field }
+    let opened = opening (length robots) seed number in
+    let cycles = last_cycle robots opened limit in
+    record { cycles = cycles; damages = damages_of (length robots) (stage_after robots opened cycles).field }
 
 -- a robot is alive if its damage is below 100
 unfoldable pub alive : Outcome → ℕ → Bool

@@ -4,3 +4,4 @@ pub mod Windows
 pub mod Pairing
 pub mod Carrying
 pub mod KnownBattles
+pub mod Keeping

@@ -3,12 +3,12 @@
 
 mod battles;
 mod known;
+mod next_turns;
 mod outcome;
 mod passing;
 mod programs;
 mod runners;
 mod scheduler;
-mod slots;
 mod windows;
 
 pub use battles::battle;

@@ -1,25 +1,24 @@
 //! Windows in which every machine is far enough ahead: the robots go on without a look at a machine. On a still field
 //! many of them pass at once.
 
-ghost use Rattle.std.specs.Prelude.{◌≡◌, ◌<◌, ◌≤◌, ◌+◌, ◌*◌, ℕ, true, false, ℤ, List, length, slice_index_or};
-ghost use Rattle.arena.specs.Field.{Field, live_count};
+ghost use Rattle.std.specs.Prelude.{◌≡◌, ◌<◌, ◌≤◌, ◌+◌, ◌*◌, true, false, ℤ, List, length};
+ghost use Rattle.arena.specs.Field.{Field};
 ghost use Rattle.arena.specs.Ground.{lives, most_updates};
 ghost use Rattle.arena.specs.Standing.{StandsFor as IsGroundOf};
 ghost use Rattle.code.specs.Generation.{ObjectCode};
 ghost use Rattle.battles.specs.Battle.{Behaviour, Stage};
 ghost use Rattle.battles.specs.Carrying.{IsRobotOf, IsAt, AreRobotsOf, EachFits, HasReached};
-ghost use Rattle.battles.specs.Windows.{AreAhead, HasRun, rounds, segments};
+ghost use Rattle.battles.specs.Keeping.{AreManned, HasRested, HavePlaces};
+ghost use Rattle.battles.specs.Windows.{AreAhead, HasRun, rounds};
 
 use crate::runners::Runner;
 use crate::windows::UPDATE_CYCLES;
 use arena::Arena;
-use settings::FILES_MAX;
 
 /// Lets the robots go on by so many cycles if each live one's machine is that far ahead. Returns whether they do.
 #[inline(always)]
 pub(crate) fn pass(runners: &mut [Runner], arena: &Arena, cycles: u32) -> bool
-    requires manned { length arena.now.robots ≡ length runners.old }
-    requires few { length runners.old ≤ FILES_MAX }
+    requires { HavePlaces runners.old arena.now }
     ensures stage { result ≡ true → (codes : List ObjectCode) (robots : List Behaviour) (s : Stage)
         → AreRobotsOf codes robots → HasReached runners.old codes arena.now s
         → HasReached runners.new codes arena.now (rounds robots cycles s) }
@@ -37,17 +36,13 @@ pub(crate) fn pass(runners: &mut [Runner], arena: &Arena, cycles: u32) -> bool
 /// machine is ahead. Returns how many.
 #[inline(always)]
 pub(crate) fn skip(runners: &mut [Runner], arena: &mut Arena, most: u32) -> u32
-    requires manned { length arena.old.robots ≡ length runners.old }
-    requires few { length runners.old ≤ FILES_MAX }
+    requires places { HavePlaces runners.old arena.old }
     requires updates { arena.old.updates + most ≤ most_updates }
     ensures stage { (codes : List ObjectCode) (robots : List Behaviour) (s : Stage)
         → AreRobotsOf codes robots → HasReached runners.old codes arena.old s
-        → HasReached runners.new codes arena.new (segments robots result s) }
-    ensures alive { (codes : List ObjectCode) (robots : List Behaviour) (s : Stage)
-        → AreRobotsOf codes robots → HasReached runners.old codes arena.old s
-        → (n : ℕ) → n ≤ result → live_count (segments robots n s).field ≡ live_count s.field }
-    ensures fits { (codes : List ObjectCode) → EachFits runners.old codes → EachFits runners.new codes }
-    ensures manned { length arena.new.robots ≡ length arena.old.robots }
+        → HasRested robots codes result runners.new arena.new s }
+    ensures manned { (codes : List ObjectCode) → AreManned codes runners.old arena.old
+        → AreManned codes runners.new arena.new }
     ensures updates { arena.new.updates ≡ arena.old.updates + result }
     ensures most { result ≤ most }
 {
@@ -56,7 +51,7 @@ pub(crate) fn skip(runners: &mut [Runner], arena: &mut Arena, most: u32) -> u32
     }
     let windows = windows_ahead(runners, arena, most);
     go_on(runners, arena, UPDATE_CYCLES * windows);
-    arena.rest(windows);
+    arena.update_times(windows);
     windows
 }
 
@@ -96,8 +91,7 @@ fn are_ahead(runners: &[Runner], arena: &Arena, cycles: u32) -> bool
 /// Lets the robots go on by so many cycles.
 #[inline(always)]
 fn go_on(runners: &mut [Runner], arena: &Arena, cycles: u32)
-    requires manned { length arena.now.robots ≡ length runners.old }
-    requires few { length runners.old ≤ FILES_MAX }
+    requires places { HavePlaces runners.old arena.now }
     requires ahead { AreAhead (length runners.old) cycles arena.now runners.old }
     ensures stage { (codes : List ObjectCode) (robots : List Behaviour) (s : Stage)
         → AreRobotsOf codes robots → HasReached runners.old codes arena.now s

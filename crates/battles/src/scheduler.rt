@@ -1,10 +1,10 @@
 //! The scheduler: windows of cycles, and the updates between them.
 
-ghost use Rattle.std.specs.Prelude.{◌≡◌, ◌<◌, ◌≤◌, ◌+◌, List, length, nat_le};
+ghost use Rattle.std.specs.Prelude.{◌≡◌, ◌<◌, ◌≤◌, ◌+◌, List, length};
 ghost use Rattle.arena.specs.Ground.{most_updates};
-ghost use Rattle.arena.specs.Field.{live_count};
 ghost use Rattle.battles.specs.Battle.{Behaviour, Stage, stage_after, last_cycle};
-ghost use Rattle.battles.specs.Carrying.{AreRobotsOf, EachFits, HasReached};
+ghost use Rattle.battles.specs.Carrying.{AreRobotsOf, HasReached};
+ghost use Rattle.battles.specs.Keeping.{AreManned, HasUpdated};
 ghost use Rattle.battles.specs.Pairing.{paired};
 ghost use Rattle.battles.specs.Windows.{segment};
 
@@ -13,26 +13,20 @@ use crate::programs::Programs;
 use crate::runners::Runner;
 use crate::windows::{UPDATE_CYCLES, window};
 use arena::Arena;
-use settings::{CYCLES_MAX, FILES_MAX};
+use settings::CYCLES_MAX;
 
 /// How far a machine runs that asks nothing: a robot that dies doesn't use the cycles that its machine is ahead.
 const MOST_AHEAD: u32 = 960;
 
 /// Runs the cycles up to the next update, and the update. Reports whether that decided the battle.
 fn segment(runners: &mut [Runner], programs: &Programs, arena: &mut Arena, farthest: u32) -> bool
-    requires manned { length arena.old.robots ≡ length (paired programs.now) }
-    requires few { length (paired programs.now) ≤ FILES_MAX }
-    requires fits { EachFits runners.old (paired programs.now) }
+    requires manned { AreManned (paired programs.now) runners.old arena.old }
     requires updates { arena.old.updates < most_updates }
     requires far { UPDATE_CYCLES ≤ farthest }
     ensures stage { (robots : List Behaviour) (s : Stage) → AreRobotsOf (paired programs.now) robots
         → HasReached runners.old (paired programs.now) arena.old s
-        → HasReached runners.new (paired programs.now) arena.new (segment robots s) }
-    ensures decided { (robots : List Behaviour) (s : Stage) → AreRobotsOf (paired programs.now) robots
-        → HasReached runners.old (paired programs.now) arena.old s
-        → result ≡ nat_le (live_count (segment robots s).field) 1 }
-    ensures fits { EachFits runners.new (paired programs.now) }
-    ensures manned { length arena.new.robots ≡ length (paired programs.now) }
+        → HasUpdated (paired programs.now) runners.new arena.new (segment robots s) result }
+    ensures manned { AreManned (paired programs.now) runners.new arena.new }
     ensures updates { arena.new.updates ≡ arena.old.updates + 1 }
 {
     if !pass(runners, arena, UPDATE_CYCLES) {
@@ -49,9 +43,7 @@ pub(crate) fn play(
     arena: &mut Arena,
     limit: u32,
 ) -> u32
-    requires manned { length arena.old.robots ≡ length (paired programs.now) }
-    requires few { length (paired programs.now) ≤ FILES_MAX }
-    requires fits { EachFits runners.old (paired programs.now) }
+    requires manned { AreManned (paired programs.now) runners.old arena.old }
     requires updates { arena.old.updates ≡ 0 }
     requires within { limit ≤ CYCLES_MAX }
     ensures stage { (robots : List Behaviour) (s : Stage) → AreRobotsOf (paired programs.now) robots

@@ -23,7 +23,8 @@ split_last xs h =
     sym (take-length xs) ∙ ap (λ (k : ℕ). take k xs) (sym whole) ∙ take-suc xs n 0 inside
 
 turned : (xs : List ℕ) → 0 < length xs → reverse xs ≡ get_or xs (length xs - 1) 0 ∷ reverse (take (length xs - 1) xs)
-turned xs h = ap (λ (l : List ℕ). reverse l) (split_last xs h) ∙ opened_is (take (length xs - 1) xs) (get_or xs (length xs - 1) 0)
+turned xs h =
+    ap (λ (l : List ℕ). reverse l) (split_last xs h) ∙ opened_is (take (length xs - 1) xs) (get_or xs (length xs - 1) 0)
 
 -- the address that was opened last
 pub first_is : (xs : List ℕ) → unwrap_or (slice_get xs (length xs - 1)) 0 ≡ first_of (reverse xs)

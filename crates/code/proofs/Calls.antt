@@ -9,16 +9,17 @@ use Rattle.std.proofs.Math.Seq.{get_or-append_right}
 use Rattle.std.specs.List.{range_with_len}
 use Rattle.grammar.specs.declared.names.Callee.{Callee}
 use Rattle.grammar.specs.declared.names.Callee.TheVariants as callee
-use Rattle.grammar.specs.Pools.{FunctionNames, names_of_function}
+use Rattle.grammar.specs.Pools.{names_of_function}
 use Rattle.grammar.specs.Tree.{Body, Function, File}
 use Rattle.code.specs.Functions.{function_at}
+use Rattle.code.specs.declared.counts.Counts.{Counts}
 use Rattle.code.specs.declared.instr.Instr.TheVariants.{Fcall, Const, Retsub}
 use Rattle.code.specs.declared.instr.Instr.TheVariants as instr
 use Rattle.code.specs.declared.want.Want.{Want}
 use Rattle.code.specs.declared.want.Want.TheVariants.{Quiet}
-use Rattle.code.specs.Generation.{ObjectCode, Piece, ◌⨾◌, only, body_code, function_code, last_return}
+use Rattle.code.specs.Generation.{ObjectCode, Piece, ◌⨾◌, only, body_code, counts_of, function_code, last_return}
 use Rattle.code.specs.declared.frame.Frame.{Frame}
-use Rattle.code.specs.Machine.{instr_at, address_at, names_at, parameters_at, variables_at, variables_of}
+use Rattle.code.specs.Machine.{instr_at, address_at, counts_at, parameters_at, variables_at, variables_of}
 use Rattle.code.specs.Meaning.{Vars, Evaluated, Gives, Flow, Through, Returns, Again, and_then, tick, closed, returned, called, first_locals}
 use Rattle.grammar.specs.Resolved.{IsCallable, InBody, InFile}
 use Rattle.code.proofs.Follows.{HasSizes, Follows, chain, follows_from, wants}
@@ -28,21 +29,28 @@ use Rattle.code.proofs.Pieces.{StandsAt, stands, ends, Tied, Evaluation, gone_on
 
 -- what is known of the functions of a file in its code
 pub record Holds (code : ObjectCode) (file : File) : Type 0 where
-  pub placed : (k : ℕ) → k < length file.functions → StandsAt code (address_at code k) (function_code code.profile (function_at file k) (address_at code k))
-  pub named : (k : ℕ) → k < length file.functions → names_at code k ≡ names_of_function (function_at file k)
-  pub known : (k : ℕ) → k < length file.functions → k < length code.names.functions
-  pub resolved : (k : ℕ) → k < length file.functions → InFile (length file.externals) (length file.functions) (function_at file k)
+  pub placed : (k : ℕ) → k < length file.functions →
+      StandsAt code (address_at code k) (function_code code.profile (function_at file k) (address_at code k))
+  pub counted : (k : ℕ) → k < length file.functions →
+      counts_at code k ≡ counts_of (names_of_function (function_at file k))
+  pub known : (k : ℕ) → k < length file.functions → k < length code.functions
+  pub resolved : (k : ℕ) → k < length file.functions →
+      InFile (length file.externals) (length file.functions) (function_at file k)
 
 -- bodies follow their meaning along fewer than n replies
 abbrev pub Follows_sooner : ObjectCode → File → ℕ → Again → Type 0
 Follows_sooner code file n again =
     (l : ℕ) (b : Body) → InBody (length file.externals) l (length file.functions) b →
     (below : List ℤ) (f : Frame) (fs : List Frame) (at : ℕ) (vars : Vars) (depth frames : ℕ) (trace : List ℤ) →
-    f.base ≡ length below → Tied (length file.externals) l n below (f ∷ fs) vars [] depth frames trace → length trace < n → StandsAt code at (body_code code.profile b at) →
-    Follows (length file.externals) l n (again b vars depth frames trace) (wants code (run at below (f ∷ fs) vars []) trace) (flown code (at + length (body_code code.profile b at)) below f fs)
+    f.base ≡ length below → Tied (length file.externals) l n below (f ∷ fs) vars [] depth frames trace →
+    length trace < n → StandsAt code at (body_code code.profile b at) →
+    Follows (length file.externals) l n (again b vars depth frames trace)
+    (wants code (run at below (f ∷ fs) vars []) trace)
+    (flown code (at + length (body_code code.profile b at)) below f fs)
 
 -- a variable by its place: what stands there of the arguments, or 0
-variable_at : (parameters variables : ℕ) (arguments : List ℤ) (j : ℕ) → parameters ≤ variables → j < variables → (b : Bool) → nat_lt j parameters ≡ b →
+variable_at : (parameters variables : ℕ) (arguments : List ℤ) (j : ℕ) → parameters ≤ variables → j < variables →
+    (b : Bool) → nat_lt j parameters ≡ b →
     get_or (variables_of parameters variables arguments) j (pos 0) ≡ (if b then get_or arguments j (pos 0) else pos 0)
 variable_at parameters variables arguments j h within b is = by (nat_lt j (length given)) refl
   where
@@ -56,20 +64,25 @@ variable_at parameters variables arguments j h within b is = by (nat_lt j (lengt
     rest = replicate (variables - length given) (pos 0)
 
     -- past what was given
-    past : length given ≤ j → (b : Bool) → nat_lt j parameters ≡ b → pos 0 ≡ (if b then get_or arguments j (pos 0) else pos 0)
+    past : length given ≤ j → (b : Bool) → nat_lt j parameters ≡ b →
+        pos 0 ≡ (if b then get_or arguments j (pos 0) else pos 0)
     past out true is =
         let low : j < parameters = grind (arith, nat_tests, is) in
         sym (get_or_past arguments j (pos 0) (omega (arith, out, count, low)))
     past out false is = refl
 
-    here : j < length given → (b : Bool) → nat_lt j parameters ≡ b → get_or arguments j (pos 0) ≡ (if b then get_or arguments j (pos 0) else pos 0)
+    here : j < length given → (b : Bool) → nat_lt j parameters ≡ b →
+        get_or arguments j (pos 0) ≡ (if b then get_or arguments j (pos 0) else pos 0)
     here low true is = refl
-    here low false is = let high : parameters ≤ j = grind (arith, nat_tests, is) in absurd (omega (arith, low, high, count))
+    here low false is =
+        let high : parameters ≤ j = grind (arith, nat_tests, is) in absurd (omega (arith, low, high, count))
 
-    by : (inside : Bool) → nat_lt j (length given) ≡ inside → get_or (given ++ rest) j (pos 0) ≡ (if b then get_or arguments j (pos 0) else pos 0)
+    by : (inside : Bool) → nat_lt j (length given) ≡ inside →
+        get_or (given ++ rest) j (pos 0) ≡ (if b then get_or arguments j (pos 0) else pos 0)
     by true t =
         let low : j < length given = grind (arith, nat_tests, t) in
-        get_or-append given rest (pos 0) j low ∙ get_or-take parameters arguments j (pos 0) (omega (arith, low, count)) ∙ here low b is
+        get_or-append given rest (pos 0) j low ∙
+        get_or-take parameters arguments j (pos 0) (omega (arith, low, count)) ∙ here low b is
     by false t =
         let out : length given ≤ j = grind (arith, nat_tests, t) in
         get_or-append_right given rest j (pos 0) out
@@ -77,13 +90,20 @@ variable_at parameters variables arguments j h within b is = by (nat_lt j (lengt
         ∙ past out b is
 
 -- what a call leaves on the stack are the variables by their places
-first_is : (f : Function) (arguments : List ℤ) → f.parameters ≤ length f.variables → variables_of f.parameters (length f.variables) arguments ≡ first_locals f arguments
+first_is : (f : Function) (arguments : List ℤ) → f.parameters ≤ length f.variables →
+    variables_of f.parameters (length f.variables) arguments ≡ first_locals f arguments
 first_is f arguments h =
     let v = length f.variables in
     let place = λ (j : ℕ). if nat_lt j f.parameters then get_or arguments j (pos 0) else pos 0 in
     let given = take f.parameters arguments in
     let size : length (variables_of f.parameters v arguments) ≡ v =
-    omega (arith, h, length-append given (replicate (v - length given) (pos 0)), length-replicate (v - length given) (pos 0), length-take f.parameters arguments)
+    omega (
+      arith,
+      h,
+      length-append given (replicate (v - length given) (pos 0)),
+      length-replicate (v - length given) (pos 0),
+      length-take f.parameters arguments,
+    )
     in
     ext_get_or (pos 0) (variables_of f.parameters v arguments) (map place (range_with_len 0 v))
     (size ∙ sym (length-map-range_with_len place 0 v))
@@ -95,29 +115,53 @@ first_is f arguments h =
 -- the variables that a function begins with are as many as it has
 first_sizes : (f : Function) (arguments : List ℤ) → length (first_locals f arguments) ≡ length f.variables
 first_sizes f arguments =
-    length-map-range_with_len (λ (j : ℕ). if nat_lt j f.parameters then get_or arguments j (pos 0) else pos 0) 0 (length f.variables)
+    length-map-range_with_len (λ (j : ℕ). if nat_lt j f.parameters then get_or arguments j (pos 0) else pos 0) 0
+    (length f.variables)
 
 module _ (code : ObjectCode) (e l n : ℕ) {A : Type 0} where
   -- the end of a function's run
-  pub closed_law : (v : ℕ) (below : List ℤ) (f g : Frame) (fs : List Frame) (at : ℕ) (depth frames : ℕ) (go : ℤ → Vars → List ℤ → Evaluated A) (k : A → Vars → List ℤ → Option Want) → f.base ≡ length below → IsDepth v below [] depth → frames ≡ length (f ∷ g ∷ fs) → StandsAt code at (Const (pos 0) ∷ Retsub ∷ []) → ((x : ℤ) (vars : Vars) (rest : List ℤ) → HasSizes e v vars → length rest ≤ n → Follows e l n (go x vars rest) (wants code (back_with f below (g ∷ fs) vars.externals x) rest) k) → (flow : Flow) (vars : Vars) (rest : List ℤ) → HasSizes e v vars → length rest ≤ n → Follows e l n (closed code.profile depth frames flow vars rest go) (flown code at below f (g ∷ fs) flow vars rest) k
-  closed_law v below f g fs at depth frames go k base deep count s next (Returns x) vars rest sizes short = next x vars rest sizes short
+  pub closed_law : (v : ℕ) (below : List ℤ) (f g : Frame) (fs : List Frame) (at : ℕ) (depth frames : ℕ)
+      (go : ℤ → Vars → List ℤ → Evaluated A) (k : A → Vars → List ℤ → Option Want) → f.base ≡ length below →
+      IsDepth v below [] depth → frames ≡ length (f ∷ g ∷ fs) → StandsAt code at (Const (pos 0) ∷ Retsub ∷ []) →
+      ((x : ℤ) (vars : Vars) (rest : List ℤ) → HasSizes e v vars → length rest ≤ n →
+      Follows e l n (go x vars rest) (wants code (back_with f below (g ∷ fs) vars.externals x) rest) k) →
+      (flow : Flow) (vars : Vars) (rest : List ℤ) → HasSizes e v vars → length rest ≤ n →
+      Follows e l n (closed code.profile depth frames flow vars rest go) (flown code at below f (g ∷ fs) flow vars rest)
+      k
+  closed_law v below f g fs at depth frames go k base deep count s next (Returns x) vars rest sizes short =
+      next x vars rest sizes short
   closed_law v below f g fs at depth frames go k base deep count s next Through vars rest sizes short =
-      on_const code e l n below (f ∷ g ∷ fs) at k v vars [] depth (pos 0) rest (λ rest. tick (nat_lt 1 frames) Quiet rest (λ reply rest. go (pos 0) vars rest)) s.0 sizes deep
+      on_const code e l n below (f ∷ g ∷ fs) at k v vars [] depth (pos 0) rest
+      (λ rest. tick (nat_lt 1 frames) Quiet rest (λ reply rest. go (pos 0) vars rest)) s.0 sizes deep
       (λ r1 h1.
-      on_retsub code e l n below (g ∷ fs) (at + 1) k f vars [] frames (pos 0) r1 (λ rest. go (pos 0) vars rest) s.1.0 base count
+      on_retsub code e l n below (g ∷ fs) (at + 1) k f vars [] frames (pos 0) r1 (λ rest. go (pos 0) vars rest) s.1.0
+      base count
       (λ r2 h2. next (pos 0) vars r2 sizes (omega (arith, short, h1, h2))))
 
-module _ (code : ObjectCode) (file : File) (l n : ℕ) (again : Again) (holds : Holds code file) (sooner : Follows_sooner code file n again) where
+module _ (code : ObjectCode) (file : File) (l n : ℕ) (again : Again) (holds : Holds code file)
+    (sooner : Follows_sooner code file n again) where
   abbrev e : ℕ
   e = length file.externals
 
   -- a call behind its arguments
-  called_law : (f : Callee) → IsCallable (length file.functions) f → (xs : List ℤ) (below : List ℤ) (fs : List Frame) (at : ℕ) (vars : Vars) (temps : List ℤ) (depth frames : ℕ) (rest : List ℤ) → HasSizes e l vars → IsDepth l below temps depth → frames ≡ length fs → 0 < length fs → length rest ≤ n → instr_at code at ≡ Some (Fcall f) → Follows e l n (called code.profile file again f xs vars depth frames rest) (wants code (run at below (opened below depth ∷ fs) vars (temps ++ xs)) rest) (gone_on code (at + 1) below fs temps)
-  called_law (callee.Intrinsic i) callable xs below fs at vars temps depth frames rest sizes deep count inside short here =
-      on_ask code e l n below fs at (gone_on code (at + 1) below fs temps) vars temps xs depth i rest (λ reply rest. Gives reply vars rest) here sizes deep
-      (λ reply last shorter. arrives code e l n below fs (at + 1) (at + 1) vars (temps ++ reply ∷ []) last sizes (omega (arith, shorter, short)) refl)
-  called_law (callee.Function j) callable xs below [] at vars temps depth frames rest sizes deep count inside short here = absurd (omega (arith, inside))
-  called_law (callee.Function j) callable xs below (g ∷ fs) at vars temps depth frames rest sizes deep count inside short here =
+  called_law : (f : Callee) → IsCallable (length file.functions) f →
+      (xs : List ℤ) (below : List ℤ) (fs : List Frame) (at : ℕ) (vars : Vars) (temps : List ℤ) (depth frames : ℕ)
+      (rest : List ℤ) → HasSizes e l vars → IsDepth l below temps depth → frames ≡ length fs → 0 < length fs →
+      length rest ≤ n → instr_at code at ≡ Some (Fcall f) →
+      Follows e l n (called code.profile file again f xs vars depth frames rest)
+      (wants code (run at below (opened below depth ∷ fs) vars (temps ++ xs)) rest)
+      (gone_on code (at + 1) below fs temps)
+  called_law (callee.Intrinsic i) callable xs below fs at vars temps depth frames rest sizes deep count inside short
+      here =
+      on_ask code e l n below fs at (gone_on code (at + 1) below fs temps) vars temps xs depth i rest
+      (λ reply rest. Gives reply vars rest) here sizes deep
+      (λ reply last shorter. arrives code e l n below fs (at + 1) (at + 1) vars (temps ++ reply ∷ []) last sizes
+      (omega (arith, shorter, short)) refl)
+  called_law (callee.Function j) callable xs below [] at vars temps depth frames rest sizes deep count inside short here
+      =
+      absurd (omega (arith, inside))
+  called_law (callee.Function j) callable xs below (g ∷ fs) at vars temps depth frames rest sizes deep count inside
+      short here =
       let f = function_at file j in
       let v = length f.variables in
       let start = address_at code j in
@@ -135,16 +179,22 @@ module _ (code : ObjectCode) (file : File) (l n : ℕ) (again : Again) (holds : 
       let base_is : depth ≡ length base = sym (length-words e l below vars temps depth sizes deep) in
       let deep_inside : IsDepth v base [] (depth + v) = record { is = omega (arith, base_is) } in
       let count_inside : frames + 1 ≡ length (frame ∷ g ∷ fs) = omega (arith, count) in
-      let next : (x : ℤ) (after : Vars) (last : List ℤ) → HasSizes e v after → length last ≤ n → Follows e l n (returned vars x after last) (wants code (back_with frame base (g ∷ fs) after.externals x) last) k =
+      let next : (x : ℤ) (after : Vars) (last : List ℤ) → HasSizes e v after → length last ≤ n →
+      Follows e l n (returned vars x after last) (wants code (back_with frame base (g ∷ fs) after.externals x) last)
+      k =
       λ x after last sizes_inside short_inside. record {
         sizes = record { externals_are = sizes_inside.externals_are; locals_are = sizes.locals_are };
         short = short_inside;
         same =
-            ap (λ (words : List ℤ). wants code (record { at = at + 1; home = length below; words = words; frames = g ∷ fs; externals = after.externals }) last)
+            ap
+            (λ (words : List ℤ). wants code
+            (record
+            { at = at + 1; home = length below; words = words; frames = g ∷ fs; externals = after.externals }) last)
             (pushed below vars.locals temps (x ∷ []));
       }
       in
-      let body : (r1 : List ℤ) → suc (length r1) ≡ length rest → Follows e l n (go r1) (wants code (run start base (frame ∷ g ∷ fs) first []) r1) k =
+      let body : (r1 : List ℤ) → suc (length r1) ≡ length rest →
+      Follows e l n (go r1) (wants code (run start base (frame ∷ g ∷ fs) first []) r1) k =
       λ r1 h1.
       let tied : Tied e v n base (frame ∷ g ∷ fs) first [] (depth + v) (frames + 1) r1 = record {
         sizes = record { externals_are = sizes.externals_are; locals_are = first_sizes f xs };
@@ -153,24 +203,47 @@ module _ (code : ObjectCode) (file : File) (l n : ℕ) (again : Again) (holds : 
         inside = omega arith;
         short = omega (arith, h1, short);
       } in
-      chain e l e v n (again f.body first (depth + v) (frames + 1) r1) (wants code (run start base (frame ∷ g ∷ fs) first []) r1)
+      chain e l e v n (again f.body first (depth + v) (frames + 1) r1)
+      (wants code (run start base (frame ∷ g ∷ fs) first []) r1)
       (flown code (start + length (body_code code.profile f.body start)) base frame (g ∷ fs))
       (λ flow after rest. closed code.profile (depth + v) (frames + 1) flow after rest (returned vars)) k
-      (sooner v f.body known.body base frame (g ∷ fs) start first (depth + v) (frames + 1) r1 base_is tied (omega (arith, h1, short)) sb.first)
-      (closed_law code e l n v base frame g fs (start + length (body_code code.profile f.body start)) (depth + v) (frames + 1) (returned vars) k base_is deep_inside count_inside sb.second next)
+      (sooner v f.body known.body base frame (g ∷ fs) start first (depth + v) (frames + 1) r1 base_is tied
+      (omega (arith, h1, short)) sb.first)
+      (closed_law code e l n v base frame g fs (start + length (body_code code.profile f.body start)) (depth + v)
+      (frames + 1) (returned vars) k base_is deep_inside count_inside sb.second next)
       in
-      subst (λ (names : FunctionNames). Follows e l n (tick (nat_le (depth + length names.variables) code.profile.words) Quiet rest (λ reply rest. go rest)) whole k) (holds.named j callable)
+      subst
+      (λ (counts : Counts). Follows e l n
+      (tick (nat_le (depth + counts.variables) code.profile.words) Quiet rest (λ reply rest. go rest)) whole k)
+      (holds.counted j callable)
       (on_call code e l n below (g ∷ fs) at k vars temps xs depth j rest go here (holds.known j callable) sizes deep
       (λ r1 h1.
       follows_from e l n (go r1)
-      (wants code (run start base (frame ∷ g ∷ fs) (record { externals = vars.externals; locals = variables_of (parameters_at code j) (variables_at code j) xs }) []) r1)
+      (wants code
+      (run start base (frame ∷ g ∷ fs)
+      (record
+      { externals = vars.externals; locals = variables_of (parameters_at code j) (variables_at code j) xs }) [])
+      r1)
       (wants code (run start base (frame ∷ g ∷ fs) first []) r1) k
-      (ap (λ (names : FunctionNames). wants code (run start base (frame ∷ g ∷ fs) (record { externals = vars.externals; locals = variables_of names.parameters (length names.variables) xs }) []) r1) (holds.named j callable)
-      ∙ ap (λ (locals : List ℤ). wants code (run start base (frame ∷ g ∷ fs) (record { externals = vars.externals; locals = locals }) []) r1) (first_is f xs known.parameters))
+      (ap
+      (λ (counts : Counts). wants code
+      (run start base (frame ∷ g ∷ fs)
+      (record { externals = vars.externals; locals = variables_of counts.parameters counts.variables xs }) []) r1)
+      (holds.counted j callable)
+      ∙
+      ap
+      (λ (locals : List ℤ). wants code
+      (run start base (frame ∷ g ∷ fs) (record { externals = vars.externals; locals = locals }) []) r1)
+      (first_is f xs known.parameters))
       (body r1 h1)))
 
   -- the whole call: a frame, the arguments, and the call
-  pub call_law : (f : Callee) → IsCallable (length file.functions) f → (b : Piece) (ev : Evaluation (List ℤ)) → EvaluatesAll code e l n b ev → Evaluates code e l n (only (instr.Frame ∷ []) ⨾ b ⨾ only (Fcall f ∷ [])) (λ vars depth frames trace. tick (nat_lt frames code.profile.frames) Quiet trace (λ reply rest. and_then (ev vars depth (frames + 1) rest) (λ xs vars rest. called code.profile file again f xs vars depth frames rest)))
+  pub call_law : (f : Callee) → IsCallable (length file.functions) f → (b : Piece) (ev : Evaluation (List ℤ)) →
+      EvaluatesAll code e l n b ev →
+      Evaluates code e l n (only (instr.Frame ∷ []) ⨾ b ⨾ only (Fcall f ∷ []))
+      (λ vars depth frames trace. tick (nat_lt frames code.profile.frames) Quiet trace
+      (λ reply rest. and_then (ev vars depth (frames + 1) rest)
+      (λ xs vars rest. called code.profile file again f xs vars depth frames rest)))
   call_law f callable b ev B below fs at vars temps depth frames trace t s =
       let tail = only (Fcall f ∷ []) in
       let sb = stands code (at + 1) b tail s.1 in
@@ -180,7 +253,8 @@ module _ (code : ObjectCode) (file : File) (l n : ℕ) (again : Again) (holds : 
       let k = gone_on code end below fs temps in
       let frame = opened below depth in
       on_frame code e l n below fs at k vars temps depth frames trace
-      (λ rest. and_then (ev vars depth (frames + 1) rest) (λ xs vars rest. called code.profile file again f xs vars depth frames rest)) s.0 t.sizes t.deep t.count
+      (λ rest. and_then (ev vars depth (frames + 1) rest)
+      (λ xs vars rest. called code.profile file again f xs vars depth frames rest)) s.0 t.sizes t.deep t.count
       (λ r1 h1.
       let tied : Tied e l n below (frame ∷ fs) vars temps depth (frames + 1) r1 = record {
         sizes = t.sizes;
@@ -189,9 +263,13 @@ module _ (code : ObjectCode) (file : File) (l n : ℕ) (again : Again) (holds : 
         inside = omega arith;
         short = omega (arith, h1, t.short);
       } in
-      chain e l e l n (ev vars depth (frames + 1) r1) (wants code (run (at + 1) below (frame ∷ fs) vars temps) r1) (gone_on_with code at1 below (frame ∷ fs) temps)
+      chain e l e l n (ev vars depth (frames + 1) r1) (wants code (run (at + 1) below (frame ∷ fs) vars temps) r1)
+      (gone_on_with code at1 below (frame ∷ fs) temps)
       (λ xs vars rest. called code.profile file again f xs vars depth frames rest) k
       (B below (frame ∷ fs) (at + 1) vars temps depth (frames + 1) r1 tied sb.first)
       (λ xs vars r2 sizes short.
-      subst (λ (a : ℕ). Follows e l n (called code.profile file again f xs vars depth frames r2) (wants code (run at1 below (frame ∷ fs) vars (temps ++ xs)) r2) (gone_on code a below fs temps)) end_is
-      (called_law f callable xs below fs at1 vars temps depth frames r2 sizes t.deep t.count t.inside short sb.second.0)))
+      subst
+      (λ (a : ℕ). Follows e l n (called code.profile file again f xs vars depth frames r2)
+      (wants code (run at1 below (frame ∷ fs) vars (temps ++ xs)) r2) (gone_on code a below fs temps)) end_is
+      (called_law f callable xs below fs at1 vars temps depth frames r2 sizes t.deep t.count t.inside short
+      sb.second.0)))

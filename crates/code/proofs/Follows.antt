@@ -1,4 +1,5 @@
--- The trees' outcome against what the instructions want: where the outcome is a value, the instructions go on behind it;
+-- The trees' outcome against what the instructions want: where the outcome is a value, the instructions go on behind
+-- it;
 -- where it awaits an event, they want that event.
 use Rattle.std.specs.Prelude.{ℕ, ℤ, suc, ◌≡◌, ◌≤◌, List, [], ◌∷◌, Bool, true, false, Option, Some, None, length, if◌then◌else◌}
 use Rattle.std.proofs.Common.{refl, ap, ◌∙◌, arith}
@@ -24,19 +25,25 @@ abbrev pub Follows : {A : Type 0} (e l n : ℕ) → Evaluated A → Option Want 
 Follows e l n (Gives x vars rest) w k = Arrives e l n vars rest w (k x vars rest)
 Follows e l n (Awaits event) w k = w ≡ Some event
 
-pub follows_from : {A : Type 0} (e l n : ℕ) (o : Evaluated A) (v w : Option Want) (k : A → Vars → List ℤ → Option Want) → v ≡ w → Follows e l n o w k → Follows e l n o v k
+pub follows_from : {A : Type 0} (e l n : ℕ) (o : Evaluated A) (v w : Option Want) (k : A → Vars → List ℤ → Option Want)
+    → v ≡ w → Follows e l n o w k → Follows e l n o v k
 follows_from e l n (Gives x vars rest) v w k same f = record { sizes = f.sizes; short = f.short; same = same ∙ f.same }
 follows_from e l n (Awaits event) v w k same f = same ∙ f
 
 -- an evaluation and what comes behind it
-pub chain : {A B : Type 0} (e l e' l' n : ℕ) (o : Evaluated A) (w : Option Want) (k : A → Vars → List ℤ → Option Want) (go : A → Vars → List ℤ → Evaluated B) (k' : B → Vars → List ℤ → Option Want) → Follows e' l' n o w k → ((x : A) (vars : Vars) (rest : List ℤ) → HasSizes e' l' vars → length rest ≤ n → Follows e l n (go x vars rest) (k x vars rest) k') → Follows e l n (and_then o go) w k'
+pub chain : {A B : Type 0} (e l e' l' n : ℕ) (o : Evaluated A) (w : Option Want) (k : A → Vars → List ℤ → Option Want)
+    (go : A → Vars → List ℤ → Evaluated B) (k' : B → Vars → List ℤ → Option Want) → Follows e' l' n o w k →
+    ((x : A) (vars : Vars) (rest : List ℤ) → HasSizes e' l' vars → length rest ≤ n →
+    Follows e l n (go x vars rest) (k x vars rest) k') → Follows e l n (and_then o go) w k'
 chain e l e' l' n (Gives x vars rest) w k go k' f next =
     follows_from e l n (go x vars rest) w (k x vars rest) k' f.same (next x vars rest f.sizes f.short)
 chain e l e' l' n (Awaits event) w k go k' f next = f
 
 -- the replies left may be more
-pub follows_longer : {A : Type 0} (e l n : ℕ) (o : Evaluated A) (w : Option Want) (k : A → Vars → List ℤ → Option Want) → Follows e l n o w k → Follows e l (suc n) o w k
-follows_longer e l n (Gives x vars rest) w k f = record { sizes = f.sizes; short = omega (arith, f.short); same = f.same }
+pub follows_longer : {A : Type 0} (e l n : ℕ) (o : Evaluated A) (w : Option Want) (k : A → Vars → List ℤ → Option Want)
+    → Follows e l n o w k → Follows e l (suc n) o w k
+follows_longer e l n (Gives x vars rest) w k f =
+    record { sizes = f.sizes; short = omega (arith, f.short); same = f.same }
 follows_longer e l n (Awaits event) w k f = f
 
 -- what a state shows: what it wants, or nothing where its instruction lacks what it takes
@@ -47,14 +54,21 @@ shown code s = if is_ready code s (instr_at code s.at) then Some (want_next code
 unfoldable pub wants : ObjectCode → State → List ℤ → Option Want
 wants code s trace = shown code (reached code s trace)
 
-module _ (code : ObjectCode) (s : State) (i : Instr) (here : instr_at code s.at ≡ Some i) (ready : is_ready code s (Some i) ≡ true) where
-  shown_when : (b : Bool) → is_fitting code s (Some i) ≡ b → shown code s ≡ Some (if b then event_of s (Some i) else Restart)
+module _ (code : ObjectCode) (s : State) (i : Instr) (here : instr_at code s.at ≡ Some i)
+    (ready : is_ready code s (Some i) ≡ true) where
+  shown_when : (b : Bool) → is_fitting code s (Some i) ≡ b →
+      shown code s ≡ Some (if b then event_of s (Some i) else Restart)
   shown_when b fits =
-      ap (λ (o : Option Instr). if is_ready code s o then Some (if is_fitting code s o then event_of s o else Restart) else None) here
-      ∙ ap (λ (r : Bool). if r then Some (if is_fitting code s (Some i) then event_of s (Some i) else Restart) else None) ready
+      ap
+      (λ (o : Option Instr). if is_ready code s o then Some (if is_fitting code s o then event_of s o else Restart)
+      else None) here
+      ∙
+      ap (λ (r : Bool). if r then Some (if is_fitting code s (Some i) then event_of s (Some i) else Restart) else None)
+      ready
       ∙ ap (λ (c : Bool). Some (if c then event_of s (Some i) else Restart)) fits
 
-  after_when : (b : Bool) → is_fitting code s (Some i) ≡ b → (reply : ℤ) → after code reply s ≡ (if b then done_with code reply s (Some i) else s)
+  after_when : (b : Bool) → is_fitting code s (Some i) ≡ b → (reply : ℤ) →
+      after code reply s ≡ (if b then done_with code reply s (Some i) else s)
   after_when b fits reply =
       ap (λ (o : Option Instr). if is_fitting code s o then done_with code reply s o else s) here
       ∙ ap (λ (c : Bool). if c then done_with code reply s (Some i) else s) fits
@@ -69,17 +83,25 @@ module _ (code : ObjectCode) (s : State) (i : Instr) (here : instr_at code s.at 
   unfolding wants
   wants_now fits = shown_when true fits
 
-  wants_behind : is_fitting code s (Some i) ≡ true → (reply : ℤ) (rest : List ℤ) → wants code s (reply ∷ rest) ≡ wants code (done_with code reply s (Some i)) rest
+  wants_behind : is_fitting code s (Some i) ≡ true → (reply : ℤ) (rest : List ℤ) →
+      wants code s (reply ∷ rest) ≡ wants code (done_with code reply s (Some i)) rest
   unfolding wants
   wants_behind fits reply rest = ap (λ (t : State). shown code (reached code t rest)) (after_when true fits reply)
 
   -- One instruction is one cycle of the tree.
-  pub ticks : {A : Type 0} (e l n : ℕ) (fit : Bool) (event : Want) (trace : List ℤ) (go : ℤ → List ℤ → Evaluated A) (k : A → Vars → List ℤ → Option Want) → is_fitting code s (Some i) ≡ fit → event_of s (Some i) ≡ event → ((reply : ℤ) (rest : List ℤ) → suc (length rest) ≡ length trace → Follows e l n (go reply rest) (wants code (done_with code reply s (Some i)) rest) k) → Follows e l n (tick fit event trace go) (wants code s trace) k
+  pub ticks : {A : Type 0} (e l n : ℕ) (fit : Bool) (event : Want) (trace : List ℤ) (go : ℤ → List ℤ → Evaluated A)
+      (k : A → Vars → List ℤ → Option Want) → is_fitting code s (Some i) ≡ fit → event_of s (Some i) ≡ event →
+      ((reply : ℤ) (rest : List ℤ) → suc (length rest) ≡ length trace →
+      Follows e l n (go reply rest) (wants code (done_with code reply s (Some i)) rest) k) →
+      Follows e l n (tick fit event trace go) (wants code s trace) k
   ticks e l n false event trace go k fits is next = wants_restart fits trace
   ticks e l n true event [] go k fits is next = wants_now fits ∙ ap (λ (w : Want). Some w) is
   ticks e l n true event (reply ∷ rest) go k fits is next =
-      follows_from e l n (go reply rest) (wants code s (reply ∷ rest)) (wants code (done_with code reply s (Some i)) rest) k (wants_behind fits reply rest) (next reply rest refl)
+      follows_from e l n (go reply rest) (wants code s (reply ∷ rest))
+      (wants code (done_with code reply s (Some i)) rest) k (wants_behind fits reply rest) (next reply rest refl)
 
   -- what doesn't fit wants a restart
-  pub ticks_not : {A : Type 0} (e l n : ℕ) (event : Want) (trace : List ℤ) (go : ℤ → List ℤ → Evaluated A) (k : A → Vars → List ℤ → Option Want) → is_fitting code s (Some i) ≡ false → Follows e l n (tick false event trace go) (wants code s trace) k
+  pub ticks_not : {A : Type 0} (e l n : ℕ) (event : Want) (trace : List ℤ) (go : ℤ → List ℤ → Evaluated A)
+      (k : A → Vars → List ℤ → Option Want) → is_fitting code s (Some i) ≡ false →
+      Follows e l n (tick false event trace go) (wants code s trace) k
   ticks_not e l n event trace go k unfit = wants_restart unfit trace

@@ -1,34 +1,13 @@
 -- The known programs, worked out.
 use Rattle.std.proofs.Common.{refl}
-use Rattle.std.specs.Fmt.{digits}
 use Rattle.std.specs.Int.{int_wrap}
 use Rattle.arith.specs.Op.{value_of}
-use Rattle.grammar.specs.Intrinsics.{name_of}
 use Rattle.grammar.specs.Profile.{first_profile, second_profile}
-use Rattle.code.specs.KnownPrograms.{KnownChoices, KnownListings, KnownOperators, KnownRestarts, KnownValues, KnownWants}
-use Rattle.code.specs.Listing.{function_line, in_five_columns, instr_line, name_line}
-use Rattle.code.specs.Spelling.{callee_text, instr_text, operator_text, store_text, variable_text}
-use Rattle.code.specs.Values.{number_op, stored}
-
-pub listings : KnownListings
-unfolding first_profile second_profile digits name_of operator_text store_text variable_text callee_text instr_text in_five_columns name_line instr_line function_line
-listings = record {
-  nothing = refl;
-  sum = refl;
-  sum_of_postfix = refl;
-  distance = refl;
-  nearest_else = refl;
-  late_read = refl;
-  asking = refl;
-  defined_behind = refl;
-  left_out = refl;
-  decided = refl;
-  truth = refl;
-  both_sides = refl;
-}
+use Rattle.code.specs.KnownPrograms.{KnownChoices, KnownRestarts, KnownValues, KnownWants}
+use Rattle.code.specs.Values.{stored}
 
 pub wants : KnownWants
-unfolding first_profile second_profile value_of int_wrap number_op stored
+unfolding first_profile second_profile value_of int_wrap stored
 wants = record {
   asked = record { source = refl; instructions = refl };
   returned = record { source = refl; instructions = refl };
@@ -42,7 +21,7 @@ wants = record {
 }
 
 pub restarts : KnownRestarts
-unfolding first_profile second_profile value_of int_wrap number_op stored
+unfolding first_profile second_profile value_of int_wrap stored
 restarts = record {
   return_in_main = record { source = refl; instructions = refl };
   return_in_loops = record { source = refl; instructions = refl };
@@ -55,7 +34,7 @@ restarts = record {
 }
 
 pub choices : KnownChoices
-unfolding first_profile second_profile value_of int_wrap number_op stored
+unfolding first_profile second_profile value_of int_wrap stored
 choices = record {
   and_is_decided = record { source = refl; instructions = refl };
   end_after_decided_and = record { source = refl; instructions = refl };
@@ -71,7 +50,7 @@ choices = record {
 }
 
 pub values : KnownValues
-unfolding first_profile second_profile value_of int_wrap number_op stored
+unfolding first_profile second_profile value_of int_wrap stored
 values = record {
   surplus_argument = record { source = refl; instructions = refl };
   missing_argument = record { source = refl; instructions = refl };
@@ -92,27 +71,4 @@ values = record {
   bit_and = record { source = refl; instructions = refl };
   bit_xor = record { source = refl; instructions = refl };
   bit_or = record { source = refl; instructions = refl };
-}
-
-pub operators : KnownOperators
-unfolding value_of int_wrap number_op
-operators = record {
-  or = (refl, refl, refl, refl);
-  and = (refl, refl, refl, refl);
-  bit_or = (refl, refl, refl, refl);
-  bit_xor = (refl, refl, refl, refl);
-  bit_and = (refl, refl, refl, refl);
-  equal = (refl, refl, refl, refl);
-  not_equal = (refl, refl, refl, refl);
-  less = (refl, refl, refl, refl);
-  greater = (refl, refl, refl, refl);
-  less_or_equal = (refl, refl, refl, refl);
-  greater_or_equal = (refl, refl, refl, refl);
-  shift_left = (refl, refl, refl, refl);
-  shift_right = (refl, refl, refl, refl);
-  add = (refl, refl, refl, refl);
-  subtract = (refl, refl, refl, refl);
-  multiply = (refl, refl, refl, refl);
-  divide = (refl, refl, refl, refl);
-  remainder = (refl, refl, refl, refl);
 }

@@ -21,6 +21,4 @@ pub mod Stacks
 pub mod Closing
 pub mod Machines
 pub mod Coasting
-pub mod Numbers
-pub mod Lines
 pub mod KnownPrograms

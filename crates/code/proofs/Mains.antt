@@ -20,11 +20,17 @@ compared xs ys false e = by (bytes_eq ys xs) refl
     by false f = refl
 
 -- the first function of that name
-pub main_here : (fs : List FunctionNames) (n : ℕ) (f : FunctionNames) → n < length fs → ((k : ℕ) → k < n → bytes_eq (slice_index_or fs k (only_named [])).name main_name ≡ false)
-    → f ≡ slice_index_or fs n f → bytes_eq f.name main_name ≡ true → Some n ≡ number_of_name main_name (map (λ f. f.name) fs)
+pub main_here : (fs : List FunctionNames) (n : ℕ) (f : FunctionNames) → n < length fs →
+    ((k : ℕ) → k < n → bytes_eq (slice_index_or fs k (only_named [])).name main_name ≡ false)
+    → f ≡ slice_index_or fs n f → bytes_eq f.name main_name ≡ true →
+    Some n ≡ number_of_name main_name (map (λ f. f.name) fs)
 main_here fs n f h none here is =
-    there main_name fs n f h (λ k l. compared (slice_index_or fs k (only_named [])).name main_name false (none k l)) here (compared f.name main_name true is)
+    there main_name fs n f h (λ k l. compared (slice_index_or fs k (only_named [])).name main_name false (none k l))
+    here (compared f.name main_name true is)
 
 -- none has it
-pub main_nowhere : (fs : List FunctionNames) → ((k : ℕ) → k < length fs → bytes_eq (slice_index_or fs k (only_named [])).name main_name ≡ false) → None ≡ number_of_name main_name (map (λ f. f.name) fs)
-main_nowhere fs none = not_there main_name fs (λ k l. compared (slice_index_or fs k (only_named [])).name main_name false (none k l))
+pub main_nowhere : (fs : List FunctionNames) →
+    ((k : ℕ) → k < length fs → bytes_eq (slice_index_or fs k (only_named [])).name main_name ≡ false) →
+    None ≡ number_of_name main_name (map (λ f. f.name) fs)
+main_nowhere fs none =
+    not_there main_name fs (λ k l. compared (slice_index_or fs k (only_named [])).name main_name false (none k l))

@@ -22,7 +22,8 @@ pub record StandsBoth (code : ObjectCode) (at : ℕ) (xs ys : List Instr) : Type
   pub first : StandsAt code at xs
   pub second : StandsAt code (at + length xs) ys
 
-pub stands_both : (code : ObjectCode) (at : ℕ) (xs ys : List Instr) → StandsAt code at (xs ++ ys) → StandsBoth code at xs ys
+pub stands_both : (code : ObjectCode) (at : ℕ) (xs ys : List Instr) → StandsAt code at (xs ++ ys) →
+    StandsBoth code at xs ys
 stands_both code at [] ys s =
     let e : at ≡ at + 0 = omega arith in
     record { first = tt; second = subst (λ (a : ℕ). StandsAt code a ys) e s }
@@ -31,7 +32,8 @@ stands_both code at (x ∷ xs) ys s =
     let e : at + 1 + length xs ≡ at + suc (length xs) = omega arith in
     record { first = (s.0, rest.first); second = subst (λ (a : ℕ). StandsAt code a ys) e rest.second }
 
-pub stands : (code : ObjectCode) (at : ℕ) (a b : Piece) → StandsAt code at ((a ⨾ b) at) → StandsBoth code at (a at) (b (at + length (a at)))
+pub stands : (code : ObjectCode) (at : ℕ) (a b : Piece) → StandsAt code at ((a ⨾ b) at) →
+    StandsBoth code at (a at) (b (at + length (a at)))
 stands code at a b s = stands_both code at (a at) (b (at + length (a at))) s
 
 -- where a piece and the one behind it end
@@ -52,9 +54,11 @@ other_of at s = at + 1 + length (s (at + 1)) + 1 + 1
 abbrev pub end_of : ℕ → Piece → Piece → ℕ
 end_of at s t = other_of at s + length (t (other_of at s))
 
-pub stands_either : (code : ObjectCode) (at : ℕ) (s t : Piece) → StandsAt code at (either s t at) → StandsEither code at s t (other_of at s) (end_of at s t)
+pub stands_either : (code : ObjectCode) (at : ℕ) (s t : Piece) → StandsAt code at (either s t at) →
+    StandsEither code at s t (other_of at s) (end_of at s t)
 stands_either code at s t h =
-    let both = stands_both code (at + 1) (s (at + 1)) (Const (pos 0) ∷ Branch (end_of at s t) ∷ t (other_of at s)) h.1 in
+    let both =
+    stands_both code (at + 1) (s (at + 1)) (Const (pos 0) ∷ Branch (end_of at s t) ∷ t (other_of at s)) h.1 in
     record { branch = h.0; first = both.first; zero = both.second.0; jump = both.second.1.0; second = both.second.1.1 }
 
 pub ends_either : (at : ℕ) (s t : Piece) → end_of at s t ≡ at + length (either s t at)
@@ -62,7 +66,8 @@ ends_either at s t =
     omega (arith, length-append (s (at + 1)) (Const (pos 0) ∷ Branch (end_of at s t) ∷ t (other_of at s)))
 
 -- the trees' variables, depth, frames and replies belong to a run
-pub record Tied (e l n : ℕ) (below : List ℤ) (fs : List Frame) (vars : Vars) (temps : List ℤ) (depth frames : ℕ) (trace : List ℤ) : Type 0 where
+pub record Tied (e l n : ℕ) (below : List ℤ) (fs : List Frame) (vars : Vars) (temps : List ℤ) (depth frames : ℕ)
+    (trace : List ℤ) : Type 0 where
   pub sizes : HasSizes e l vars
   pub deep : IsDepth l below temps depth
   pub count : frames ≡ length fs
@@ -93,23 +98,29 @@ module _ (code : ObjectCode) (e l n : ℕ) where
   Evaluates piece ev =
       (below : List ℤ) (fs : List Frame) (at : ℕ) (vars : Vars) (temps : List ℤ) (depth frames : ℕ) (trace : List ℤ) →
       Tied e l n below fs vars temps depth frames trace → StandsAt code at (piece at) →
-      Follows e l n (ev vars depth frames trace) (wants code (run at below fs vars temps) trace) (gone_on code (at + length (piece at)) below fs temps)
+      Follows e l n (ev vars depth frames trace) (wants code (run at below fs vars temps) trace)
+      (gone_on code (at + length (piece at)) below fs temps)
 
   abbrev pub EvaluatesAll : Piece → Evaluation (List ℤ) → Type 0
   EvaluatesAll piece ev =
       (below : List ℤ) (fs : List Frame) (at : ℕ) (vars : Vars) (temps : List ℤ) (depth frames : ℕ) (trace : List ℤ) →
       Tied e l n below fs vars temps depth frames trace → StandsAt code at (piece at) →
-      Follows e l n (ev vars depth frames trace) (wants code (run at below fs vars temps) trace) (gone_on_with code (at + length (piece at)) below fs temps)
+      Follows e l n (ev vars depth frames trace) (wants code (run at below fs vars temps) trace)
+      (gone_on_with code (at + length (piece at)) below fs temps)
 
   -- the same of statements, which leave the stack as it was
   abbrev pub Effects : Piece → Evaluation Flow → Type 0
   Effects piece ev =
       (below : List ℤ) (f : Frame) (fs : List Frame) (at : ℕ) (vars : Vars) (depth frames : ℕ) (trace : List ℤ) →
       f.base ≡ length below → Tied e l n below (f ∷ fs) vars [] depth frames trace → StandsAt code at (piece at) →
-      Follows e l n (ev vars depth frames trace) (wants code (run at below (f ∷ fs) vars []) trace) (flown code (at + length (piece at)) below f fs)
+      Follows e l n (ev vars depth frames trace) (wants code (run at below (f ∷ fs) vars []) trace)
+      (flown code (at + length (piece at)) below f fs)
 
   -- an evaluation is done where the run arrives
-  pub arrives : (below : List ℤ) (fs : List Frame) (from to : ℕ) (vars : Vars) (temps : List ℤ) (rest : List ℤ) → HasSizes e l vars → length rest ≤ n → from ≡ to → Arrives e l n vars rest (wants code (run from below fs vars temps) rest) (wants code (run to below fs vars temps) rest)
+  pub arrives : (below : List ℤ) (fs : List Frame) (from to : ℕ) (vars : Vars) (temps : List ℤ) (rest : List ℤ) →
+      HasSizes e l vars → length rest ≤ n → from ≡ to →
+      Arrives e l n vars rest (wants code (run from below fs vars temps) rest)
+      (wants code (run to below fs vars temps) rest)
   arrives below fs from to vars temps rest sizes short same = record {
     sizes = sizes;
     short = short;

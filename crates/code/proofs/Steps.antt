@@ -3,8 +3,8 @@ use Rattle.std.specs.Prelude.{ℕ, ◌+◌, ◌≡◌, ◌<◌, ◌≤◌, List,
 use Rattle.std.proofs.Common.{refl, sym, ap, ◌∙◌, arith, length-append, add-zero, zero-add}
 use Rattle.std.proofs.lemmas.Bool.Decides.{nat_tests}
 use Rattle.std.proofs.lemmas.List.{length-set}
-use Rattle.grammar.specs.declared.operators.Op.{Op}
-use Rattle.grammar.specs.declared.operators.Op.TheVariants as op
+use Rattle.arith.specs.declared.operators.Op.{Op}
+use Rattle.arith.specs.declared.operators.Op.TheVariants as op
 use Rattle.grammar.specs.Actions.{Action, PushConstant, FetchVariable, StoreVariable, ApplyBinop, LogicMiddle, BeginCall, EndCall, IfTest, ElsePart, EndIf, BeginWhile, WhileTest, EndWhile, GiveBack, Chop, BeginFunction, EndFunction, instructions, code_length, middle_length, end_length}
 use Rattle.grammar.specs.Profile.{Profile}
 use Rattle.code.specs.declared.instr.Instr.{Instr}
@@ -32,7 +32,8 @@ pub one_step : (i : Instr) → IsStep (λ m. with_code m (i ∷ [])) 1
 one_step i = record { grows = λ m. length-append m.code (i ∷ []); opens = λ m o e. e; keeps = λ m. refl }
 
 pub branch_step : IsStep with_branch 1
-branch_step = record { grows = λ m. length-append m.code (Branch 0 ∷ []); opens = λ m o e. omega (arith, e); keeps = λ m. refl }
+branch_step =
+    record { grows = λ m. length-append m.code (Branch 0 ∷ []); opens = λ m o e. omega (arith, e); keeps = λ m. refl }
 
 pub other_step : IsStep with_other 2
 other_step = record {
@@ -51,7 +52,8 @@ closing_step = record {
 }
 
 pub opening_step : IsStep opening 0
-opening_step = record { grows = λ m. sym (add-zero (length m.code)); opens = λ m o e. omega (arith, e); keeps = λ m. refl }
+opening_step =
+    record { grows = λ m. sym (add-zero (length m.code)); opens = λ m o e. omega (arith, e); keeps = λ m. refl }
 
 pub function_step : (n : ℕ) → IsStep (λ m. with_function m n) 0
 function_step n = record { grows = λ m. sym (add-zero (length m.code)); opens = λ m o e. e; keeps = λ m. refl }
@@ -78,7 +80,8 @@ begun_step op.Or = both_steps (both_steps branch_step (one_step (Const (pos 1)))
 begun_step o = none_step
 
 pub ended_step : (o : Op) → IsStep (ended_right o) (end_length o)
-ended_step op.And = both_steps (both_steps (both_steps (one_step Truth) other_step) (one_step (Const (pos 0)))) closing_step
+ended_step op.And =
+    both_steps (both_steps (both_steps (one_step Truth) other_step) (one_step (Const (pos 0)))) closing_step
 ended_step op.Or = both_steps (one_step Truth) closing_step
 ended_step o = one_step (Binop o)
 
@@ -170,13 +173,15 @@ counted_by p (EndFunction variables) = refl
 pub length-making : (m : Made) (a : Action) → length (making m a).code ≡ length m.code + instructions m.profile a
 length-making m a =
     let short = m.profile.short_circuit in
-    ap (λ (m : Made). length m.code) (made_by m a) ∙ (step_by short a).grows m ∙ ap (λ (n : ℕ). length m.code + n) (sym (counted_by m.profile a))
+    ap (λ (m : Made). length m.code) (made_by m a) ∙ (step_by short a).grows m ∙
+    ap (λ (n : ℕ). length m.code + n) (sym (counted_by m.profile a))
 
 pub profile_making : (m : Made) (a : Action) → (making m a).profile ≡ m.profile
 profile_making m a = ap (λ (m : Made). m.profile) (made_by m a) ∙ (step_by m.profile.short_circuit a).keeps m
 
 -- how many addresses an action leaves open goes by how many were open
-pub making_opens : (m o : Made) (a : Action) → m.profile ≡ o.profile → length m.opened ≡ length o.opened → length (making m a).opened ≡ length (making o a).opened
+pub making_opens : (m o : Made) (a : Action) → m.profile ≡ o.profile → length m.opened ≡ length o.opened →
+    length (making m a).opened ≡ length (making o a).opened
 making_opens m o a same e =
     let short = m.profile.short_circuit in
     ap (λ (m : Made). length m.opened) (made_by m a)
@@ -184,7 +189,8 @@ making_opens m o a same e =
     ∙ ap (λ (p : Profile). length (making_by p.short_circuit o a).opened) same
     ∙ sym (ap (λ (m : Made). length m.opened) (made_by o a))
 
-pub length-made_from : (m : Made) (acts : List Action) → length (made_from m acts).code ≡ length m.code + code_length m.profile acts
+pub length-made_from : (m : Made) (acts : List Action) →
+    length (made_from m acts).code ≡ length m.code + code_length m.profile acts
 length-made_from m [] = sym (add-zero (length m.code))
 length-made_from m (a ∷ acts) =
     let kept = ap (λ (p : Profile). code_length p acts) (profile_making m a) in
@@ -237,7 +243,8 @@ adds_none {m} {m'} {f} step same = record {
 }
 
 -- one step, and then another
-pub adds_both : {m m1 m2 : Made} {f g : Made → Made} {n k : ℕ} → IsStep f n → IsStep g k → Adds m m1 (f m) n → Adds m1 m2 (g m1) k → Adds m m2 (g (f m)) (n + k)
+pub adds_both : {m m1 m2 : Made} {f g : Made → Made} {n k : ℕ} → IsStep f n → IsStep g k → Adds m m1 (f m) n →
+    Adds m1 m2 (g m1) k → Adds m m2 (g (f m)) (n + k)
 adds_both {m} {m1} {m2} {f} {g} {n} {k} one two first second = record {
   room = λ h.
       let same : m1 ≡ f m = first.room (omega (arith, h)) in
@@ -251,7 +258,8 @@ adds_both {m} {m1} {m2} {f} {g} {n} {k} one two first second = record {
     limit : m1.profile.instructions ≡ m.profile.instructions
     limit = ap (λ (p : Profile). p.instructions) first.profile
 
-    by_room : m.profile.instructions ≤ length m.code + (n + k) → (b : Bool) → nat_lt (length m.code + n) m.profile.instructions ≡ b → m.profile.instructions ≤ length m2.code
+    by_room : m.profile.instructions ≤ length m.code + (n + k) → (b : Bool) →
+        nat_lt (length m.code + n) m.profile.instructions ≡ b → m.profile.instructions ≤ length m2.code
     by_room h true t =
         let same : m1 ≡ f m = first.room (grind (arith, nat_tests, t)) in
         let size = ap (λ (m : Made). length m.code) same in

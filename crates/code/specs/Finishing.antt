@@ -35,4 +35,4 @@ pub record IsOfSomeFile (code : ObjectCode) : Type 0 where
   pub resolved : IsResolved file
   pub is : IsProgramOf code code.profile file
   pub limit : length code.instructions ≤ code.profile.instructions
-  pub main : IsMain code.names code.main
+  pub main : IsMain (names_of file) code.main

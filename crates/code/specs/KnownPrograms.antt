@@ -1,11 +1,11 @@
--- Programs that show the rules: their listings, and what they want in their first cycles.
-use Rattle.std.specs.Prelude.{◌≡◌, ℕ, ℤ, zero, suc, pos, negsuc, ◌+◌, ◌-◌, List, [], ◌∷◌, ◌++◌, Bool, true, false, Option, Some, None, codes, replicate, if◌then◌else◌}
+-- Programs that show the rules, and what they want in their first cycles.
+use Rattle.std.specs.Prelude.{◌≡◌, ℕ, ℤ, zero, suc, pos, ◌+◌, ◌-◌, List, [], ◌∷◌, ◌++◌, Bool, true, false, Option, Some, None, codes, replicate, if◌then◌else◌}
 use Rattle.grammar.specs.declared.names.Callee.TheVariants as callee
 use Rattle.grammar.specs.declared.names.Intrinsic.{Intrinsic}
 use Rattle.grammar.specs.declared.names.Intrinsic.TheVariants as intrinsic
 use Rattle.grammar.specs.declared.names.Var.TheVariants as var
-use Rattle.grammar.specs.declared.operators.Op.{Op}
-use Rattle.grammar.specs.declared.operators.Op.TheVariants as op
+use Rattle.arith.specs.declared.operators.Op.{Op}
+use Rattle.arith.specs.declared.operators.Op.TheVariants as op
 use Rattle.grammar.specs.declared.operators.StoreOp.{StoreOp}
 use Rattle.grammar.specs.declared.operators.StoreOp.TheVariants as store
 use Rattle.grammar.specs.KnownSources.{call_of, constant, distance_file, file_of_main, late_read_file, local, main_of, nearest_else_tree, shot_tree, sum_of_postfix_tree}
@@ -14,10 +14,8 @@ use Rattle.grammar.specs.Tree.{Expr, Args, NoMore, Argument, Assign, Binary, Pos
 use Rattle.code.specs.declared.want.Want.{Want}
 use Rattle.code.specs.declared.want.Want.TheVariants.{Quiet, Ask, Restart}
 use Rattle.code.specs.Generation.{code_of}
-use Rattle.code.specs.Listing.{listing, listing_lines}
 use Rattle.code.specs.Machine.{want_code}
 use Rattle.code.specs.Meaning.{want, zeros}
-use Rattle.code.specs.Values.{combined}
 
 -- a file of a first function, and a main behind it
 abbrev pub file_of_two : Function → Body → File
@@ -86,89 +84,6 @@ abbrev pub truth_file : File
 truth_file =
     file_of_main [] (IfStatement (Binary op.Equal (Binary op.And (constant 2) (constant 3)) (constant 1)) shot_tree
     (While (constant 1) Done Done))
-
--- The listings, worked out by hand.
-pub record KnownListings : Type 0 where
-  pub nothing : listing first_profile (codes "a.r") (file_of_main [] Done)
-      ≡ codes "File a.r\nExternals 0\nFunction 0 main vars 0 at 0\nCode 3\n    0 CONST 0\n    1 RETSUB\n    2 NOP\n"
-  pub sum : listing_lines first_profile sum_file
-      ≡ codes "Externals 0" ∷ codes "Function 0 main vars 0 at 0" ∷ codes "Code 7"
-      ∷ codes "    0 CONST 1" ∷ codes "    1 CONST 2" ∷ codes "    2 BINOP +" ∷ codes "    3 CHOP"
-      ∷ codes "    4 CONST 0" ∷ codes "    5 RETSUB" ∷ codes "    6 NOP" ∷ []
-  pub sum_of_postfix :
-      listing_lines first_profile (file_of_main (codes "x" ∷ codes "a" ∷ codes "b" ∷ []) sum_of_postfix_tree)
-      ≡ codes "Externals 0" ∷ codes "Function 0 main vars 3 at 0" ∷ codes "  0 x" ∷ codes "  1 a" ∷ codes "  2 b"
-      ∷ codes "Code 11"
-      ∷ codes "    0 FETCH L1" ∷ codes "    1 CONST 1" ∷ codes "    2 STORE L1 +=" ∷ codes "    3 CHOP"
-      ∷ codes "    4 FETCH L2" ∷ codes "    5 BINOP +" ∷ codes "    6 STORE L0 =" ∷ codes "    7 CHOP"
-      ∷ codes "    8 CONST 0" ∷ codes "    9 RETSUB" ∷ codes "   10 NOP" ∷ []
-  pub distance : listing_lines first_profile distance_file
-      ≡ codes "Externals 0" ∷ codes "Function 0 d vars 2 at 0" ∷ codes "  0 x" ∷ codes "  1 y"
-      ∷ codes "Function 1 main vars 0 at 10" ∷ codes "Code 17"
-      ∷ codes "    0 FETCH L0" ∷ codes "    1 FETCH L0" ∷ codes "    2 BINOP *" ∷ codes "    3 FETCH L1"
-      ∷ codes "    4 FETCH L1" ∷ codes "    5 BINOP *"
-      ∷ codes "    6 BINOP +" ∷ codes "    7 RETSUB" ∷ codes "    8 CONST 0" ∷ codes "    9 RETSUB"
-      ∷ codes "   10 FRAME" ∷ codes "   11 CONST 3" ∷ codes "   12 FCALL 0" ∷ codes "   13 CHOP" ∷ codes "   14 CONST 0"
-      ∷ codes "   15 RETSUB" ∷ codes "   16 NOP" ∷ []
-  pub nearest_else : listing_lines first_profile
-      (file_of_main (codes "a" ∷ codes "b" ∷ codes "c" ∷ codes "d" ∷ []) nearest_else_tree)
-      ≡ codes "Externals 0" ∷ codes "Function 0 main vars 4 at 0" ∷ codes "  0 a" ∷ codes "  1 b" ∷ codes "  2 c"
-      ∷ codes "  3 d" ∷ codes "Code 13"
-      ∷ codes "    0 FETCH L0" ∷ codes "    1 BRANCH 10" ∷ codes "    2 FETCH L1" ∷ codes "    3 BRANCH 8"
-      ∷ codes "    4 FETCH L2" ∷ codes "    5 CHOP"
-      ∷ codes "    6 CONST 0" ∷ codes "    7 BRANCH 10" ∷ codes "    8 FETCH L3" ∷ codes "    9 CHOP"
-      ∷ codes "   10 CONST 0" ∷ codes "   11 RETSUB" ∷ codes "   12 NOP" ∷ []
-  pub late_read : listing_lines first_profile late_read_file
-      ≡ codes "Externals 1" ∷ codes "  0 x" ∷ codes "Function 0 f vars 0 at 0" ∷ codes "Function 1 main vars 0 at 7"
-      ∷ codes "Code 27"
-      ∷ codes "    0 CONST 1" ∷ codes "    1 STORE E0 =" ∷ codes "    2 CHOP" ∷ codes "    3 CONST 1"
-      ∷ codes "    4 RETSUB" ∷ codes "    5 CONST 0" ∷ codes "    6 RETSUB"
-      ∷ codes "    7 FRAME" ∷ codes "    8 FCALL 0" ∷ codes "    9 STORE E0 +=" ∷ codes "   10 CHOP"
-      ∷ codes "   11 FETCH E0" ∷ codes "   12 CONST 2" ∷ codes "   13 BINOP ==" ∷ codes "   14 BRANCH 20"
-      ∷ codes "   15 FRAME" ∷ codes "   16 CONST 0" ∷ codes "   17 CONST 0" ∷ codes "   18 FCALL cannon"
-      ∷ codes "   19 CHOP"
-      ∷ codes "   20 CONST 1" ∷ codes "   21 BRANCH 24" ∷ codes "   22 CONST 0" ∷ codes "   23 BRANCH 20"
-      ∷ codes "   24 CONST 0" ∷ codes "   25 RETSUB" ∷ codes "   26 NOP" ∷ []
-  pub asking : listing_lines first_profile asking_file
-      ≡ codes "Externals 0" ∷ codes "Function 0 f vars 1 at 0" ∷ codes "  0 a" ∷ codes "Function 1 main vars 0 at 7"
-      ∷ codes "Code 14"
-      ∷ codes "    0 FETCH L0" ∷ codes "    1 FRAME" ∷ codes "    2 FCALL damage" ∷ codes "    3 BINOP +"
-      ∷ codes "    4 RETSUB" ∷ codes "    5 CONST 0" ∷ codes "    6 RETSUB"
-      ∷ codes "    7 FRAME" ∷ codes "    8 CONST 5" ∷ codes "    9 FCALL 0" ∷ codes "   10 CHOP" ∷ codes "   11 CONST 0"
-      ∷ codes "   12 RETSUB" ∷ codes "   13 NOP" ∷ []
-  pub defined_behind : listing_lines first_profile defined_behind_file
-      ≡ codes "Externals 1" ∷ codes "  0 e" ∷ codes "Function 0 main vars 0 at 0" ∷ codes "Function 1 g vars 0 at 7"
-      ∷ codes "Function 2 f vars 0 at 5" ∷ codes "Code 15"
-      ∷ codes "    0 FRAME" ∷ codes "    1 FCALL 1" ∷ codes "    2 CHOP" ∷ codes "    3 CONST 0" ∷ codes "    4 RETSUB"
-      ∷ codes "    5 CONST 0" ∷ codes "    6 RETSUB"
-      ∷ codes "    7 CONST 0" ∷ codes "    8 CONST 1" ∷ codes "    9 BINOP -" ∷ codes "   10 STORE E0 -="
-      ∷ codes "   11 CHOP" ∷ codes "   12 CONST 0" ∷ codes "   13 RETSUB" ∷ codes "   14 NOP" ∷ []
-  pub left_out : listing_lines second_profile (says []
-      (Binary op.And (constant 0) (cannon_of (constant 0) (constant 0))))
-      ≡ codes "Externals 0" ∷ codes "Function 0 main vars 0 at 0" ∷ codes "Code 14"
-      ∷ codes "    0 CONST 0" ∷ codes "    1 BRANCH 9" ∷ codes "    2 FRAME" ∷ codes "    3 CONST 0"
-      ∷ codes "    4 CONST 0" ∷ codes "    5 FCALL cannon"
-      ∷ codes "    6 TRUTH" ∷ codes "    7 CONST 0" ∷ codes "    8 BRANCH 10" ∷ codes "    9 CONST 0"
-      ∷ codes "   10 CHOP"
-      ∷ codes "   11 CONST 0" ∷ codes "   12 RETSUB" ∷ codes "   13 NOP" ∷ []
-  pub decided : listing_lines second_profile (says [] (Binary op.Or (constant 0) (constant 3)))
-      ≡ codes "Externals 0" ∷ codes "Function 0 main vars 0 at 0" ∷ codes "Code 11"
-      ∷ codes "    0 CONST 0" ∷ codes "    1 BRANCH 5" ∷ codes "    2 CONST 1" ∷ codes "    3 CONST 0"
-      ∷ codes "    4 BRANCH 7" ∷ codes "    5 CONST 3"
-      ∷ codes "    6 TRUTH" ∷ codes "    7 CHOP" ∷ codes "    8 CONST 0" ∷ codes "    9 RETSUB" ∷ codes "   10 NOP" ∷ []
-  pub truth : listing_lines second_profile truth_file
-      ≡ codes "Externals 0" ∷ codes "Function 0 main vars 0 at 0" ∷ codes "Code 22"
-      ∷ codes "    0 CONST 2" ∷ codes "    1 BRANCH 6" ∷ codes "    2 CONST 3" ∷ codes "    3 TRUTH"
-      ∷ codes "    4 CONST 0" ∷ codes "    5 BRANCH 7"
-      ∷ codes "    6 CONST 0" ∷ codes "    7 CONST 1" ∷ codes "    8 BINOP ==" ∷ codes "    9 BRANCH 15"
-      ∷ codes "   10 FRAME" ∷ codes "   11 CONST 0" ∷ codes "   12 CONST 0" ∷ codes "   13 FCALL cannon"
-      ∷ codes "   14 CHOP"
-      ∷ codes "   15 CONST 1" ∷ codes "   16 BRANCH 19" ∷ codes "   17 CONST 0" ∷ codes "   18 BRANCH 15"
-      ∷ codes "   19 CONST 0" ∷ codes "   20 RETSUB" ∷ codes "   21 NOP" ∷ []
-  pub both_sides : listing_lines first_profile (says [] (Binary op.And (constant 0) (constant 3)))
-      ≡ codes "Externals 0" ∷ codes "Function 0 main vars 0 at 0" ∷ codes "Code 7"
-      ∷ codes "    0 CONST 0" ∷ codes "    1 CONST 3" ∷ codes "    2 BINOP &&" ∷ codes "    3 CHOP"
-      ∷ codes "    4 CONST 0" ∷ codes "    5 RETSUB" ∷ codes "    6 NOP" ∷ []
 
 -- The trees and the instructions want the same after these replies.
 pub record Wants (p : Profile) (file : File) (trace : List ℤ) (event : Want) : Type 0 where
@@ -284,33 +199,6 @@ pub record KnownValues : Type 0 where
   pub bit_and : Stores store.BitAnd 1
   pub bit_xor : Stores store.BitXor 46
   pub bit_or : Stores store.BitOr 47
-
--- the values of an operator at 2 and 21, at 21 and 2, at 2 and 2, at 0 and 2
-abbrev pub Gives : Op → (a b c d : ℤ) → Type 0
-Gives o a b c d =
-    (combined o (pos 2) (pos 21) ≡ a) × (combined o (pos 21) (pos 2) ≡ b) × (combined o (pos 2) (pos 2) ≡ c)
-    × (combined o (pos 0) (pos 2) ≡ d)
-
--- No two operators give the same four values.
-pub record KnownOperators : Type 0 where
-  pub or : Gives op.Or (pos 1) (pos 1) (pos 1) (pos 1)
-  pub and : Gives op.And (pos 1) (pos 1) (pos 1) (pos 0)
-  pub bit_or : Gives op.BitOr (pos 23) (pos 23) (pos 2) (pos 2)
-  pub bit_xor : Gives op.BitXor (pos 23) (pos 23) (pos 0) (pos 2)
-  pub bit_and : Gives op.BitAnd (pos 0) (pos 0) (pos 2) (pos 0)
-  pub equal : Gives op.Equal (pos 0) (pos 0) (pos 1) (pos 0)
-  pub not_equal : Gives op.NotEqual (pos 1) (pos 1) (pos 0) (pos 1)
-  pub less : Gives op.Less (pos 1) (pos 0) (pos 0) (pos 1)
-  pub greater : Gives op.Greater (pos 0) (pos 1) (pos 0) (pos 0)
-  pub less_or_equal : Gives op.LessOrEqual (pos 1) (pos 0) (pos 1) (pos 1)
-  pub greater_or_equal : Gives op.GreaterOrEqual (pos 0) (pos 1) (pos 1) (pos 0)
-  pub shift_left : Gives op.ShiftLeft (pos 4194304) (pos 84) (pos 8) (pos 0)
-  pub shift_right : Gives op.ShiftRight (pos 0) (pos 5) (pos 0) (pos 0)
-  pub add : Gives op.Add (pos 23) (pos 23) (pos 4) (pos 2)
-  pub subtract : Gives op.Subtract (negsuc 18) (pos 19) (pos 0) (negsuc 1)
-  pub multiply : Gives op.Multiply (pos 42) (pos 42) (pos 4) (pos 0)
-  pub divide : Gives op.Divide (pos 0) (pos 10) (pos 1) (pos 0)
-  pub remainder : Gives op.Remainder (pos 2) (pos 1) (pos 0) (pos 0)
 
 abbrev pub is_restart : Want → Bool
 is_restart Quiet = false

@@ -1,12 +1,18 @@
--- A law of code.
-use Rattle.std.specs.Prelude.{◌≡◌, ◌+◌, length}
+-- Laws of code, and of what trees want.
+use Rattle.std.specs.Prelude.{◌≡◌, ◌<◌, ◌+◌, ℕ, ℤ, List, length}
 use Rattle.grammar.specs.Actions.{actions, code_length}
 use Rattle.grammar.specs.Profile.{Profile}
 use Rattle.grammar.specs.Resolved.{IsResolved}
 use Rattle.grammar.specs.Tree.{File}
 use Rattle.code.specs.Generation.{code_of}
+use Rattle.code.specs.Meaning.{want, want_within}
 
 -- The code of a file has as many instructions as its actions make, and the last NOP.
 abbrev pub HasLengthOfActions : Type 0
 HasLengthOfActions = (p : Profile) (file : File) → IsResolved file
     → length (code_of p file).instructions ≡ code_length p (actions file) + 1
+
+-- What a file wants along some replies is the same with any bound on turns and calls that is greater than their number.
+abbrev pub MoreTurnsChangeNothing : Type 0
+MoreTurnsChangeNothing = (p : Profile) (file : File) → IsResolved file
+    → (trace : List ℤ) (n : ℕ) → length trace < n → want_within p file n trace ≡ want p file trace

@@ -12,6 +12,4 @@ pub mod Opcodes
 pub mod Standing
 pub mod Codes
 pub mod Laws
-pub mod Spelling
-pub mod Listing
 pub mod KnownPrograms

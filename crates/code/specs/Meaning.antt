@@ -7,14 +7,15 @@ use Rattle.grammar.specs.declared.names.Callee.{Callee}
 use Rattle.grammar.specs.declared.names.Callee.TheVariants as callee
 use Rattle.grammar.specs.declared.names.Var.{Var}
 use Rattle.grammar.specs.declared.names.Var.TheVariants.{External, Local}
-use Rattle.grammar.specs.declared.operators.Op.{Op}
-use Rattle.grammar.specs.declared.operators.Op.TheVariants as op
+use Rattle.arith.specs.declared.operators.Op.{Op}
+use Rattle.arith.specs.declared.operators.Op.TheVariants as op
 use Rattle.grammar.specs.Profile.{Profile}
 use Rattle.grammar.specs.Tree.{Expr, Constant, Variable, Binary, Assign, Postfix, Call, Args, NoMore, Argument, Body, Done, ExpressionStatement, IfStatement, IfElseStatement, While, Return, Function, File}
 use Rattle.code.specs.Functions.{function_at}
 use Rattle.code.specs.declared.want.Want.{Want}
 use Rattle.code.specs.declared.want.Want.TheVariants.{Quiet, Ask, Restart}
-use Rattle.code.specs.Values.{combined, stored, asked}
+use Rattle.arith.specs.Op.{value_of}
+use Rattle.code.specs.Values.{stored, asked}
 
 -- the variables that a function can name
 pub record Vars : Type 0 where
@@ -73,7 +74,7 @@ abbrev pub full : Op → ℕ → Evaluated ℤ → (Vars → ℕ → List ℤ �
 full o depth left right =
     and_then left (λ x vars rest.
     and_then (right vars (depth + 1) rest) (λ y vars rest.
-    pass rest (λ rest. Gives (combined o x y) vars rest)))
+    pass rest (λ rest. Gives (value_of o x y) vars rest)))
 
 -- an operator that leaves out its right side where the left decides
 abbrev pub short : Profile → Op → ℕ → Evaluated ℤ → (Vars → ℕ → List ℤ → Evaluated ℤ) → Evaluated ℤ
@@ -109,7 +110,8 @@ abbrev pub over : Profile → ℕ → List ℤ → (List ℤ → Evaluated Flow)
 over p depth trace go = push p depth trace (λ rest. pass rest go)
 
 -- the end of a function's run, with the value that it returned: a body that is passed through returns 0
-abbrev pub closed : {A : Type 0} → Profile → ℕ → ℕ → Flow → Vars → List ℤ → (ℤ → Vars → List ℤ → Evaluated A) → Evaluated A
+abbrev pub closed : {A : Type 0} → Profile → ℕ → ℕ → Flow → Vars → List ℤ → (ℤ → Vars → List ℤ → Evaluated A) →
+    Evaluated A
 closed p depth frames (Returns x) vars rest go = go x vars rest
 closed p depth frames Through vars rest go =
     push p depth rest (λ rest. tick (nat_lt 1 frames) Quiet rest (λ reply rest. go (pos 0) vars rest))
@@ -212,6 +214,8 @@ want_within p file n trace =
     and_then (effect_within p file n main.body vars depth 1 trace) (λ flow vars rest.
     closed p depth 1 flow vars rest (λ x vars rest. Awaits Restart)))
 
--- What a file wants along the replies: each turn and each call uses up a reply.
+-- What a file wants along the replies. Each turn and each call uses up a reply, so a greater bound changes nothing:
+-- that
+-- is the law `MoreTurnsChangeNothing` (`Laws.antt`).
 abbrev pub want : Profile → File → List ℤ → Want
 want p file trace = want_within p file (suc (length trace)) trace

@@ -6,7 +6,6 @@ ghost use Rattle.code.specs.Machine.{want_next, want_code};
 ghost use Rattle.code.specs.Causes.{cause_next};
 ghost use Rattle.code.specs.Places.{state_at};
 ghost use Rattle.code.specs.Standing.{IsReached, FitsProgram, HasCoasted};
-ghost use Rattle.code.specs.declared.want.Want.TheVariants.{Restart};
 
 use crate::cause::Cause;
 use crate::cells::{Cells, Place};
@@ -51,22 +50,6 @@ impl Cells {
     {
         let opcode = self.opcode(program, place);
         self.lacking(program, place, opcode)
-    }
-
-    /// Takes the reply to what the machine wants, which isn't a restart.
-    #[inline(always)]
-    pub(crate) fn advance(&mut self, program: &Program, place: Place, reply: i32) -> Place
-        requires fits { FitsProgram (state_at place self.old) program.now }
-        requires goes_on { want_next program.now (state_at place self.old) ≢ Restart }
-        ensures stands { (trace : List ℤ) → IsReached (state_at place self.old) program.now trace
-            → IsReached (state_at result self.new) program.now (trace ++ reply ∷ []) }
-        ensures fits { FitsProgram (state_at result self.new) program.now }
-    {
-        let coast = self.coast(program, place, 1);
-        if coast.left == 0 {
-            return coast.place;
-        }
-        self.reply(program, coast.place, reply)
     }
 
     /// Takes the reply to what the machine asks.

@@ -1,14 +1,11 @@
 //! Programs that show the rules of the machine.
 
-ghost use Rattle.code.specs.KnownPrograms.{KnownChoices, KnownListings, KnownOperators, KnownRestarts, KnownValues, KnownWants};
+ghost use Rattle.code.specs.KnownPrograms.{KnownChoices, KnownRestarts, KnownValues, KnownWants};
 
-/// Proves that the definitions give these listings of known programs, and that their trees and their instructions want
-/// the same in these cycles.
+/// Proves that the trees and the instructions of known programs want the same in these cycles.
 pub fn known_programs()
-    ensures listings { KnownListings }
     ensures wants { KnownWants }
     ensures choices { KnownChoices }
     ensures values { KnownValues }
-    ensures operators { KnownOperators }
     ensures restarts { KnownRestarts }
 {}

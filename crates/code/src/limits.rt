@@ -1,5 +1,4 @@
-//! The room for a program's code, for the machine and for the lines of a listing. What a program may use of it goes by
-//! its profile.
+//! The room for a program's code and for the machine. What a program may use of it goes by its profile.
 
 /// The most instructions of a program's code in any profile, with the NOP that ends it.
 pub const MOST_INSTRUCTIONS: usize = 4000;
@@ -12,6 +11,3 @@ pub const MOST_WORDS: usize = 1000;
 
 /// The most frames that are open at once, in the profile that has the most.
 pub const MOST_FRAMES: usize = 128;
-
-/// The most bytes of a line of a listing, without its LF.
-pub const LINE_BYTES: usize = 80;

@@ -1,35 +1,34 @@
-//! The program of a file: its code and its names.
+//! The program of a file: its code, without names.
 
 ghost use Rattle.std.specs.Prelude.{◌≡◌, ◌<◌, ◌≤◌, length};
 ghost use Rattle.grammar.specs.Profile.{IsProfile};
-ghost use Rattle.code.specs.Finishing.{IsMain, IsOfSomeFile};
-ghost use Rattle.code.specs.Listing.{functions_lines};
-ghost use Rattle.code.specs.Machine.{names_at, address_at};
+ghost use Rattle.code.specs.Finishing.{IsOfSomeFile};
+ghost use Rattle.code.specs.Machine.{address_at, counts_at};
 
+use crate::counts::Counts;
 use crate::limits::{MOST_FRAMES, MOST_INSTRUCTIONS, MOST_WORDS};
 use crate::opcode::Coded;
 use arrayvec::ArrayVec;
-use grammar::{Function, MOST_NAMES, Pools, Profile};
+use grammar::{MOST_NAMES, Profile};
 use std::marker::Model;
 
-/// The program of a file.
+/// The program of a file. It has no names: those of its file are in the `Pools` that the parse gave.
 #[derive(Drop)]
 pub struct Program {
     pub(crate) profile: Profile,
     pub(crate) code: ArrayVec<Coded, MOST_INSTRUCTIONS>,
     pub(crate) addresses: ArrayVec<u16, MOST_NAMES>,
-    pub(crate) names: Pools,
+    pub(crate) functions: ArrayVec<Counts, MOST_NAMES>,
+    pub(crate) externals: u8,
     pub(crate) main: u8,
-    // the lines that the functions have in a listing
-    pub(crate) function_lines: u16,
 }
 
 impl Model for Program {
-    ghost use Rattle.std.specs.Prelude.{◌≡◌, length};
+    ghost use Rattle.std.specs.Prelude.{◌≤◌};
     ghost use Rattle.code.specs.Generation.{ObjectCode};
-    ghost use Rattle.code.specs.Listing.{functions_lines};
     ghost use Rattle.code.specs.Finishing.{IsOfSomeFile};
     ghost use Rattle.grammar.specs.Profile.{IsProfile};
+    ghost use Rattle.grammar.specs.declared.pools.TheConstants.{MOST_NAMES};
 
     ghost Value = { ObjectCode };
 
@@ -37,7 +36,8 @@ impl Model for Program {
       profile = p.profile;
       instructions = p.code.items;
       addresses = p.addresses.items;
-      names = p.names;
+      functions = p.functions.items;
+      externals = p.externals;
       main = p.main;
     } };
 
@@ -46,10 +46,11 @@ impl Model for Program {
           profile = p.profile;
           instructions = p.code.items;
           addresses = p.addresses.items;
-          names = p.names;
+          functions = p.functions.items;
+          externals = p.externals;
           main = p.main;
         })
-        × (p.function_lines ≡ length (functions_lines p.addresses.items 0 p.names.functions)) };
+        × (p.externals ≤ MOST_NAMES) };
 }
 
 impl Program {
@@ -96,50 +97,51 @@ impl Program {
     #[inline(always)]
     pub fn addresses(&self) -> &[u16]
         ensures addresses { result.now ≡ self.now.addresses }
-        ensures each { length result.now ≡ length self.now.names.functions }
+        ensures each { length result.now ≡ length self.now.functions }
     {
         self.addresses.as_slice()
     }
 
-    /// Returns how many lines the functions have in a listing.
+    /// Returns the counts of each function, by number.
     #[inline(always)]
-    pub(crate) fn function_lines(&self) -> u16
-        ensures { result ≡ length (functions_lines self.now.addresses 0 self.now.names.functions) }
+    pub fn functions(&self) -> &[Counts]
+        ensures { result.now ≡ self.now.functions }
     {
-        self.function_lines
+        self.functions.as_slice()
     }
 
-    /// Returns the names of the externals, the functions and their variables.
+    /// Returns how many externals the file has.
     #[inline(always)]
-    pub fn names(&self) -> &Pools
-        ensures { result.now ≡ self.now.names }
+    pub fn externals(&self) -> usize
+        ensures count { result ≡ self.now.externals }
+        ensures most { result ≤ MOST_NAMES }
     {
-        &self.names
+        self.externals as usize
     }
 
-    /// Returns the number of the function `main`.
+    /// Returns the number of the file's function `main`.
     pub fn main(&self) -> u8
         ensures main { result ≡ self.now.main }
-        ensures known { result < length self.now.names.functions }
-        ensures named { IsMain self.now.names result }
+        ensures known { result < length self.now.functions }
+        ensures file { IsOfSomeFile self.now }
     {
         self.main
     }
 
-    /// Returns the names of the function of this number.
+    /// Returns the counts of the function of this number.
     #[inline(always)]
-    #[tactic(auto, using(crate::proofs::ProgramLaws::function_is))]
-    pub(crate) fn function(&self, number: u8) -> &Function
-        requires { number < length self.now.names.functions }
-        ensures { result.now ≡ names_at self.now number }
+    #[tactic(auto, using(crate::proofs::ProgramLaws::counts_is))]
+    pub(crate) fn counts(&self, number: u8) -> Counts
+        requires { number < length self.now.functions }
+        ensures { result ≡ counts_at self.now number }
     {
-        &self.names.functions()[number as usize]
+        self.functions()[number as usize]
     }
 
     /// Returns the address of the function of this number.
     #[inline(always)]
     pub(crate) fn address(&self, number: u8) -> u16
-        requires { number < length self.now.names.functions }
+        requires { number < length self.now.functions }
         ensures { result ≡ address_at self.now number }
     {
         self.addresses()[number as usize]

@@ -9,17 +9,22 @@ use Rattle.command.specs.Files.{EachShows, HasFailed, ShowsFailure}
 
 module _ {F : Type 0} (account : F → Account) (fails : List ℕ → Type 0) where
   -- one more file was opened
-  pub each_pushed : (words : List (List ℕ)) (files : List F) (word : List ℕ) (file : F) → EachShows account fails words files
+  pub each_pushed : (words : List (List ℕ)) (files : List F) (word : List ℕ) (file : F) →
+      EachShows account fails words files
       → ShowsFailure account file (fails word) → EachShows account fails (words ++ word ∷ []) (files ++ file ∷ [])
   each_pushed [] [] word file each shows = (shows, tt)
   each_pushed [] (other ∷ files) word file each shows = absurd each
   each_pushed (first ∷ words) [] word file each shows = absurd each
-  each_pushed (first ∷ words) (other ∷ files) word file each shows = (each.0, each_pushed words files word file each.1 shows)
+  each_pushed (first ∷ words) (other ∷ files) word file each shows =
+      (each.0, each_pushed words files word file each.1 shows)
 
   -- the file in this place has failed once more
-  shown_at : (words : List (List ℕ)) (olds news : List F) (word : List ℕ) (place : ℕ) → EachShows account fails words olds
+  shown_at : (words : List (List ℕ)) (olds news : List F) (word : List ℕ) (place : ℕ) →
+      EachShows account fails words olds
       → slice_get words place ≡ Some word → place < length (map account olds)
-      → map account news ≡ slice_set (map account olds) place (failed_again (slice_index_or (map account olds) place no_device))
+      →
+      map account news ≡
+      slice_set (map account olds) place (failed_again (slice_index_or (map account olds) place no_device))
       → fails word
   shown_at [] [] news word place each here within is = absurd (omega (arith, within))
   shown_at [] (old ∷ olds) news word place each here within is = absurd each
@@ -34,10 +39,12 @@ module _ {F : Type 0} (account : F → Account) (fails : List ℕ → Type 0) wh
 
   pub shown : (words : List (List ℕ)) (olds news : List F) (word : List ℕ) → EachShows account fails words olds
       → HasFailed words (map account olds) (map account news) word → fails word
-  shown words olds news word each failed = shown_at words olds news word failed.place each failed.here failed.within failed.is
+  shown words olds news word each failed =
+      shown_at words olds news word failed.place each failed.here failed.within failed.is
 
   -- one more word and its file
-  pub each_more : (words : List (Bor (List ℕ))) (files : List F) (i : ℕ) (d : Bor (List ℕ)) (file : F) → i < length words
+  pub each_more : (words : List (Bor (List ℕ))) (files : List F) (i : ℕ) (d : Bor (List ℕ)) (file : F) →
+      i < length words
       → EachShows account fails (map (λ (w : Bor (List ℕ)). w.now) (take i words)) files
       → ShowsFailure account file (fails (get_or words i d).now)
       → EachShows account fails (map (λ (w : Bor (List ℕ)). w.now) (take (i + 1) words)) (files ++ file ∷ [])
@@ -46,8 +53,10 @@ module _ {F : Type 0} (account : F → Account) (fails : List ℕ → Type 0) wh
       (each_pushed (map (λ (w : Bor (List ℕ)). w.now) (take i words)) files (get_or words i d).now file each shows)
 
   -- and its contents
-  pub told_more : (tells : F → Option (List ℕ)) (holds : List ℕ → Option (List ℕ)) (words : List (Bor (List ℕ))) (files : List F) (i : ℕ)
-      (d : Bor (List ℕ)) (file : F) → i < length words → map tells files ≡ map (λ (w : Bor (List ℕ)). holds w.now) (take i words)
+  pub told_more : (tells : F → Option (List ℕ)) (holds : List ℕ → Option (List ℕ)) (words : List (Bor (List ℕ)))
+      (files : List F) (i : ℕ)
+      (d : Bor (List ℕ)) (file : F) → i < length words →
+      map tells files ≡ map (λ (w : Bor (List ℕ)). holds w.now) (take i words)
       → tells file ≡ holds (get_or words i d).now
       → map tells (files ++ file ∷ []) ≡ map (λ (w : Bor (List ℕ)). holds w.now) (take (i + 1) words)
   told_more tells holds words files i d file within same one =

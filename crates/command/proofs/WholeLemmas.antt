@@ -16,19 +16,23 @@ use Rattle.command.specs.Whole.{Ends, IsEndingOf, RunsTo}
 
 -- what a failed read shows, shows more
 ending_of : (fails more : List ℕ → Type 0) (words : List (List ℕ)) (answer : Result Status RunFault) (ending : Ending)
-    → ((word : List ℕ) → fails word → more word) → IsEndingOf fails words answer ending → IsEndingOf more words answer ending
+    → ((word : List ℕ) → fails word → more word) → IsEndingOf fails words answer ending →
+    IsEndingOf more words answer ending
 ending_of fails more words (Ok status.Done) ending so is = is
 ending_of fails more words (Ok status.Faulty) ending so is = is
-ending_of fails more words (Err (fault.Read place)) ending so (word, is, here, failed) = (word, is, here, so word.now failed)
+ending_of fails more words (Err (fault.Read place)) ending so (word, is, here, failed) =
+    (word, is, here, so word.now failed)
 ending_of fails more words (Err fault.Write) ending so is = is
 ending_of fails more words (Err fault.Memory) ending so is = is
 
 pub ends_by_run : (files : Files) (asked : Result Setup UseFault) (setup : Setup) (fails : List ℕ → Type 0)
     (known : List (Option (List ℕ))) (ending : Ending) (before after : Taken) (failed failed_after : Failures)
-    → (◌≡◌ {A = Result Setup UseFault} (Ok setup) (Err Memory)) ⊎ (Ok setup ≡ asked) → known ≡ map files.holds setup.words
+    → (◌≡◌ {A = Result Setup UseFault} (Ok setup) (Err Memory)) ⊎ (Ok setup ≡ asked) →
+    known ≡ map files.holds setup.words
     → ((word : List ℕ) → fails word → files.fails word)
     → RunsTo fails setup known ending before after failed failed_after → Ends files asked ending before after
-ends_by_run files asked setup fails known ending before after failed failed_after (inl memory) same so ran = absurd (cc memory)
+ends_by_run files asked setup fails known ending before after failed failed_after (inl memory) same so ran =
+    absurd (cc memory)
 ends_by_run files asked setup fails known ending before after failed failed_after (inr is) same so ran =
     let over : RunsTo files.fails setup known ending before after failed failed_after = record {
       answer = ran.answer;
@@ -41,6 +45,7 @@ ends_by_run files asked setup fails known ending before after failed failed_afte
     subst (λ answer. Ends files answer ending before after) is (inr (failed, failed_after, told))
 
 -- it may end for want of memory whatever its words ask for
-pub ends_without_memory : (files : Files) (asked : Result Setup UseFault) (before : Taken) → Ends files asked OutOfMemory before before
+pub ends_without_memory : (files : Files) (asked : Result Setup UseFault) (before : Taken) →
+    Ends files asked OutOfMemory before before
 ends_without_memory files (Ok setup) before = inl (tt, refl)
 ends_without_memory files (Err fault) before = (inr refl, refl)

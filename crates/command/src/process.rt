@@ -3,7 +3,7 @@
 ghost use Rattle.std.specs.Prelude.{◌≡◌, ◌≢◌, ◌⊎◌, ◌-◌, ◌^◌, ◌<◌, ◌≤◌, drop, map, string_bytes, IsErr, IfErr, IfOk, OnErr};
 ghost use Rattle.std.specs.IoError.{error_kind};
 ghost use Rattle.series.specs.Pieces.{taken};
-ghost use Rattle.arguments.specs.Words.{asked};
+ghost use Rattle.arguments.specs.Asked.{asked};
 ghost use Rattle.command.specs.Endings.{IsEnded};
 ghost use Rattle.command.specs.Files.{real_files};
 ghost use Rattle.command.specs.Whole.{Concludes};

@@ -3,7 +3,7 @@
 ghost use Rattle.std.specs.Prelude.{◌≡◌, ◌⊎◌, ℕ, ◌+◌, ◌-◌, ◌^◌, ◌<◌, ◌≤◌, List, [], ◌∷◌, map, length, false, IsErr, IfOk, IfErr, All};
 ghost use Rattle.series.specs.Pieces.{taken};
 ghost use Rattle.series.specs.Failures.{failures};
-ghost use Rattle.arguments.specs.Words.{asked};
+ghost use Rattle.arguments.specs.Asked.{asked};
 ghost use Rattle.command.specs.Endings.{Accounts};
 ghost use Rattle.command.specs.Files.{EachShows, HasFailed, files, real_files};
 ghost use Rattle.command.specs.Whole.{Concludes, Ends, IsNotOpened, RunsTo};

@@ -1,13 +1,19 @@
 //! The place in a source that each instruction of its program comes from.
 
-use crate::emissions::Emission;
-use crate::locations::{Located, locate};
-use crate::steps::{Derivation, Outcome};
+ghost use Rattle.std.specs.Prelude.{◌≡◌, ◌≤◌, ◌==◌, length, slice_get};
+
+use crate::locations::Finder;
+use crate::trackers::{Tracker, place_of};
+use arrayvec::ArrayVec;
 use grammar::Profile;
-use std::alloc::{AllocError, Global};
+use std::marker::Model;
+use tokens::{Cursor, Pieces, SOURCE_BYTES, WINDOW};
+
+/// The most instructions of a program in any profile, with the NOP that ends it.
+pub const MOST_PLACES: usize = 4000;
 
 /// A place in a source.
-#[derive(Clone, Copy, Debug, PartialEq, Eq)]
+#[derive(Clone, Copy, Debug, Default, PartialEq, Eq)]
 pub struct Place {
     /// The line, from 1.
     pub line: u32,
@@ -15,40 +21,33 @@ pub struct Place {
     pub column: u32,
 }
 
-/// Why there are no places.
-#[derive(Clone, Copy, Debug, PartialEq, Eq)]
-pub enum PlacesFault {
-    /// A token doesn't fit: the source doesn't compile.
-    Misfit,
-    /// Memory was refused.
-    Memory,
-}
-
-impl From<AllocError> for PlacesFault {
-    ghost use Rattle.std.specs.Prelude.{◌≡◌};
-    ghost use Rattle.derivations.specs.declared.addresses.PlacesFault.TheVariants.{Memory};
-
-    ghost from_gives = { λ _ e. e ≡ Memory };
-
-    fn from(_fault: AllocError) -> PlacesFault {
-        PlacesFault::Memory
-    }
-}
-
-/// The places of a program's instructions, by their addresses.
+/// The places of a program's instructions, by their addresses. Its value is the list of them.
 #[derive(Drop)]
 pub struct Places {
-    places: Vec<Place>,
+    places: ArrayVec<Place, MOST_PLACES>,
+}
+
+impl Model for Places {
+    ghost use Rattle.std.specs.Prelude.{List};
+    ghost use Rattle.derivations.specs.declared.addresses.Place.{Place};
+
+    ghost Value = { List Place };
+
+    ghost view = { λ p. p.places.items };
 }
 
 impl Places {
     /// Returns how many instructions there are, the final NOP among them.
-    pub fn len(&self) -> usize {
+    pub fn len(&self) -> usize
+        ensures { result ≡ length self.now }
+    {
         self.places.len()
     }
 
     /// Reports whether there is none, which a program never has.
-    pub fn is_empty(&self) -> bool {
+    pub fn is_empty(&self) -> bool
+        ensures { result ≡ (length self.now == 0) }
+    {
         self.places.is_empty()
     }
 
@@ -56,64 +55,53 @@ impl Places {
     /// token, a call's name, the word `if`, `else`, `while` or `return`, a statement's semicolon, the closing brace
     /// of a function for its last return, and the end of the source for the final NOP. `None` past the last
     /// instruction.
-    pub fn place(&self, address: usize) -> Option<Place> {
-        self.places.get(address).copied()
+    pub fn place(&self, address: usize) -> Option<Place>
+        ensures { result ≡ slice_get self.now address }
+    {
+        self.places.as_slice().get(address).copied()
     }
 
     /// Returns the places, by the addresses.
-    pub fn places(&self) -> &[Place] {
+    pub fn places(&self) -> &[Place]
+        ensures value { result.now ≡ self.now }
+        ensures most { length result.now ≤ MOST_PLACES }
+    {
         self.places.as_slice()
     }
 }
 
-/// Finds the place of each instruction of a source's program in a profile, for a source that compiles. Tests of two
-/// sources show that the list is as long as the program's code; no clause does. Faults of names and levels are passed
-/// over.
-pub fn lines(alloc: Global, source: &[u8], profile: Profile) -> Result<Places, PlacesFault> {
-    let tokens = locate(alloc, source)?;
-    let mut derivation = Derivation::start(alloc, tokens.as_slice())?;
-    let mut places = Vec::new(alloc);
-    for _ in 0..u64::MAX {
-        add(
-            &mut places,
-            &derivation.emission(),
-            tokens.as_slice(),
-            profile,
-        )?;
-        match derivation.step()? {
-            Outcome::Stepped => {}
-            Outcome::Misfit => return Err(PlacesFault::Misfit),
-            Outcome::Done => break,
+/// Finds the place of each instruction of a source's program in a profile, for a source that compiles. `None` if a token
+/// doesn't fit, or there are more instructions than a program has. No clause says that the list is as long as the
+/// program's code: tests do. Faults of names and levels are passed over. No memory is asked for.
+#[inline(never)]
+pub fn lines(source: &[u8], profile: Profile) -> Option<Places> {
+    let mut feed = Pieces::new(source, WINDOW);
+    let mut cursor = Cursor::open(&mut feed).ok()?;
+    let mut finder = Finder::new(source);
+    let mut tracker = Tracker::start(profile);
+    let mut next = finder.place(cursor.peek());
+    for _ in 0..SOURCE_BYTES + 2 {
+        let is_last = cursor.peek().token.is_last();
+        let after = if is_last {
+            next
+        } else {
+            finder.place(cursor.after())
+        };
+        if !tracker.pass(&next, &after) {
+            return None;
         }
+        if is_last {
+            return ended(tracker, place_of(&next));
+        }
+        cursor.advance(&mut feed).ok()?;
+        next = after;
     }
-    let last = place_of(tokens.as_slice(), tokens.len().saturating_sub(1));
-    places.push(last).map_err(|_| PlacesFault::Memory)?;
-    Ok(Places { places })
+    None
 }
 
-/// Adds the places of the instructions that an emission makes.
-fn add(
-    places: &mut Vec<Place>,
-    emission: &Emission,
-    tokens: &[Located],
-    profile: Profile,
-) -> Result<(), AllocError> {
-    let place = place_of(tokens, emission.token());
-    for action in emission.actions() {
-        for _ in 0..action.instructions(profile) {
-            places.push(place)?;
-        }
-    }
-    Ok(())
-}
-
-/// Returns the place of the token of an index.
-fn place_of(tokens: &[Located], index: usize) -> Place {
-    match tokens.get(index) {
-        Some(located) => Place {
-            line: located.line,
-            column: located.column,
-        },
-        None => Place { line: 1, column: 1 },
-    }
+/// Returns all places: the last instruction's is the end of the source.
+fn ended(tracker: Tracker, end: Place) -> Option<Places> {
+    let mut places = tracker.into_places();
+    places.try_push(end).ok()?;
+    Some(Places { places })
 }

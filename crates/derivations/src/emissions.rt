@@ -85,21 +85,34 @@ fn middle_length(op: Op) -> usize
 /// The most actions of a step: those of `v++`.
 pub const MOST_ACTIONS: usize = 4;
 
+/// The token that a step's actions come from.
+#[derive(Clone, Copy, Debug, PartialEq, Eq)]
+pub enum Origin {
+    /// The one at which the production was chosen.
+    Chosen,
+    /// The one after that.
+    AfterChosen,
+    /// The one that was passed last.
+    Passed,
+    /// The next one.
+    Next,
+}
+
 /// What a step emits. All its actions come from one token.
 #[derive(Drop)]
 pub struct Emission {
     actions: ArrayVec<Action, MOST_ACTIONS>,
-    token: usize,
+    origin: Origin,
 }
 
 impl Emission {
-    /// Makes the emission of these actions, of the token with this index.
-    pub(crate) fn of(actions: &[Action], token: usize) -> Emission {
+    /// Makes the emission of these actions, which come from this token.
+    pub(crate) fn of(actions: &[Action], origin: Origin) -> Emission {
         let mut emitted = ArrayVec::new();
         let _ = emitted.try_extend_from_slice(actions);
         Emission {
             actions: emitted,
-            token,
+            origin,
         }
     }
 
@@ -108,9 +121,9 @@ impl Emission {
         self.actions.as_slice()
     }
 
-    /// Returns the index of the token that they come from: an operator's own, a call's name, the word of a test or of
-    /// a return, a statement's semicolon, a function's closing brace.
-    pub fn token(&self) -> usize {
-        self.token
+    /// Returns the token that they come from: an operator's own, a call's name, the word of a test or of a return, a
+    /// statement's semicolon, a function's closing brace.
+    pub fn origin(&self) -> Origin {
+        self.origin
     }
 }

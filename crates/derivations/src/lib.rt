@@ -7,15 +7,17 @@ mod candidates;
 mod choices;
 mod emissions;
 mod locations;
+mod scheme;
 mod steps;
 mod symbols;
+mod trackers;
 
-pub use addresses::{Place, Places, PlacesFault, lines};
+pub use addresses::{MOST_PLACES, Place, Places, lines};
 pub use candidates::{fitting, spelled};
 pub use choices::{choice, enters};
-pub use emissions::{Action, Emission, MOST_ACTIONS};
+pub use emissions::{Action, Emission, MOST_ACTIONS, Origin};
 pub use locations::{Located, locate};
-pub use steps::{Derivation, Outcome, Pending};
+pub use steps::{Derivation, Pending, StepEnd};
 pub use symbols::{Item, MOST_ITEMS, Production, Role, SemanticAction, Symbol};
 
 #[cfg(test)]

@@ -41,7 +41,7 @@ pub fn locate(alloc: Global, source: &[u8]) -> Result<Vec<Located>, AllocError> 
 
 /// How far the places of a source's tokens are known: to the end of a token.
 #[derive(Drop)]
-struct Finder<'a> {
+pub(crate) struct Finder<'a> {
     source: &'a [u8],
     end: usize,
     line_start: usize,
@@ -49,7 +49,7 @@ struct Finder<'a> {
 
 impl<'a> Finder<'a> {
     /// Begins at the first byte of a source.
-    fn new(source: &'a [u8]) -> Finder<'a> {
+    pub(crate) fn new(source: &'a [u8]) -> Finder<'a> {
         Finder {
             source,
             end: 0,
@@ -58,7 +58,7 @@ impl<'a> Finder<'a> {
     }
 
     /// Finds the place of the next token.
-    fn place(&mut self, token: &LocatedToken) -> Located {
+    pub(crate) fn place(&mut self, token: &LocatedToken) -> Located {
         let end = token.end as usize;
         let start = self.start(token);
         self.pass_lines(start);

@@ -1,18 +1,20 @@
 //! The leftmost derivation of a source, step by step.
 
-ghost use Rattle.std.specs.Prelude.{◌≡◌};
+ghost use Rattle.std.specs.Prelude.{◌≡◌, ◌+◌, IfOk};
+ghost use Rattle.derivations.specs.Steps.{decided_of, end_of, front_of, is_wanted, outcome_of, token_at};
+ghost use Rattle.derivations.specs.Table.{item_of};
 
-use crate::choices::{choice, enters, operator_at};
-use crate::emissions::{Action, Emission};
+use crate::choices::{choice, enters};
+use crate::emissions::{Emission, Origin};
 use crate::locations::Located;
-use crate::symbols::{Item, Production, Role, SemanticAction, Symbol};
-use grammar::Op;
+use crate::scheme::emitted;
+use crate::symbols::{Item, Production, Symbol};
 use std::alloc::{AllocError, Global};
-use tokens::{Punctuator, Token, Word};
+use tokens::Token;
 
 /// How a step ended.
 #[derive(Clone, Copy, Debug, PartialEq, Eq)]
-pub enum Outcome {
+pub enum StepEnd {
     /// The derivation is one step further.
     Stepped,
     /// The next token doesn't fit. The derivation stays.
@@ -70,7 +72,7 @@ impl<'a> Derivation<'a> {
     /// Steps on until the token of an index is next, or one doesn't fit, or the derivation is done.
     fn run_to(&mut self, index: usize) -> Result<(), AllocError> {
         for _ in 0..u64::MAX {
-            if self.place >= index || self.step()? != Outcome::Stepped {
+            if self.place >= index || self.step()? != StepEnd::Stepped {
                 break;
             }
         }
@@ -95,17 +97,23 @@ impl<'a> Derivation<'a> {
     }
 
     /// Returns the next token: after the last one, the end.
-    pub fn next(&self) -> Token {
+    pub fn next(&self) -> Token
+        ensures { result ≡ token_at self.now.tokens.now self.now.place }
+    {
         token_at(self.tokens, self.place)
     }
 
     /// Returns the token after the next one.
-    pub fn after(&self) -> Token {
+    pub fn after(&self) -> Token
+        ensures { result ≡ token_at self.now.tokens.now (self.now.place + 1) }
+    {
         token_at(self.tokens, self.place.saturating_add(1))
     }
 
     /// Returns the item in front, and the token at which its production was chosen.
-    pub fn front(&self) -> Option<Pending> {
+    pub fn front(&self) -> Option<Pending>
+        ensures { result ≡ front_of self.now.stack.items }
+    {
         self.stack.last().copied()
     }
 
@@ -128,105 +136,72 @@ impl<'a> Derivation<'a> {
     }
 
     /// Does one step. The only error is that memory is refused.
-    pub fn step(&mut self) -> Result<Outcome, AllocError> {
+    pub fn step(&mut self) -> Result<StepEnd, AllocError>
+        ensures { IfOk result (λ outcome. outcome ≡ outcome_of (front_of self.old.stack.items)
+            (token_at self.old.tokens.now self.old.place) (token_at self.old.tokens.now (self.old.place + 1))) }
+    {
         let Some(pending) = self.front() else {
-            return Ok(Outcome::Done);
+            return Ok(StepEnd::Done);
         };
-        let next = self.next();
-        if matches!(next, Token::Fault(_)) {
-            return Ok(Outcome::Misfit);
-        }
-        match pending.item {
-            Item::Part(symbol) => self.replace(symbol),
-            Item::Make(_) => Ok(self.pass(0)),
-            Item::Close => {
-                self.levels = self.levels.saturating_sub(1);
-                Ok(self.pass(0))
+        match decided(pending.item, &self.next(), &self.after()) {
+            Move::Misfit => Ok(StepEnd::Misfit),
+            Move::Replace(production) => self.replace(pending.item, &production),
+            Move::Pass(tokens) => {
+                if pending.item == Item::Close {
+                    self.levels = self.levels.saturating_sub(1);
+                }
+                Ok(self.pass(tokens))
             }
-            item if fits(item, &next) => Ok(self.pass(1)),
-            _ => Ok(Outcome::Misfit),
         }
     }
 
     /// Goes past the item in front, and so many tokens.
-    fn pass(&mut self, tokens: usize) -> Outcome {
+    fn pass(&mut self, tokens: usize) -> StepEnd
+        ensures { result ≡ StepEnd.Stepped }
+    {
         let _ = self.stack.pop();
         self.place = self.place.saturating_add(tokens);
-        Outcome::Stepped
+        StepEnd::Stepped
     }
 
-    /// Replaces the symbol in front by its production.
-    fn replace(&mut self, symbol: Symbol) -> Result<Outcome, AllocError> {
-        let (next, after) = (self.next(), self.after());
-        let Some(production) = choice(symbol, &next, &after) else {
-            return Ok(Outcome::Misfit);
-        };
-        let _ = self.stack.pop();
-        if enters(symbol, &next, &after) {
-            self.levels = self.levels.saturating_add(1);
+    /// Replaces the item in front by its production.
+    fn replace(&mut self, item: Item, production: &Production) -> Result<StepEnd, AllocError>
+        ensures { IfOk result (λ outcome. outcome ≡ StepEnd.Stepped) }
+    {
+        if let Item::Part(symbol) = item {
+            let opens = enters(symbol, &self.next(), &self.after());
+            self.levels = self.levels.saturating_add(usize::from(opens));
         }
+        let _ = self.stack.pop();
         for item in production.items().iter().rev() {
             self.stack.push(Pending {
                 item: *item,
                 chosen_at: self.place,
             })?;
         }
-        Ok(Outcome::Stepped)
+        Ok(StepEnd::Stepped)
     }
 
     /// Returns what the next step emits, by the translation scheme.
     pub fn emission(&self) -> Emission {
-        let Some(Pending { item, chosen_at }) = self.front() else {
-            return Emission::of(&[], self.place);
-        };
-        match (item, self.next()) {
-            (_, Token::Fault(_)) => Emission::of(&[], self.place),
-            (Item::Part(symbol), next) => Emission::of(on_choice(symbol, &next), self.place),
-            (Item::Naming(Role::Called), Token::Name(_)) => {
-                Emission::of(&[Action::BeginCall], self.place)
-            }
-            (Item::Number, Token::Constant(_)) => Emission::of(&[Action::Constant], self.place),
-            (Item::Make(action), _) => self.making(action, chosen_at),
-            _ => Emission::of(&[], self.place),
+        match self.front() {
+            Some(pending) => emitted(pending.item, &self.next(), self.behind()),
+            None => Emission::of(&[], Origin::Next),
         }
     }
 
-    /// Returns what is emitted as a tree is made.
-    fn making(&self, action: SemanticAction, chosen_at: usize) -> Emission {
-        let operator = chosen_at.saturating_add(1);
-        let last = self.place.saturating_sub(1);
-        match action {
-            SemanticAction::Empty => Emission::of(self.on_body(), chosen_at),
-            SemanticAction::Store(_) | SemanticAction::StepBehind(_) => {
-                Emission::of(on_rule(action), operator)
-            }
-            SemanticAction::Evaluate => Emission::of(on_rule(action), last),
-            SemanticAction::Define => Emission::of(on_rule(action), self.place),
-            SemanticAction::Operate(op) => Emission::of(&[Action::Binop(op)], chosen_at),
-            _ => Emission::of(on_rule(action), chosen_at),
-        }
-    }
-
-    /// Returns what is emitted as a body begins, by the items after it: that of an `if`, of an `else`, of a `while`, or
-    /// of a function.
-    fn on_body(&self) -> &'static [Action] {
+    /// Returns the two items after the one in front.
+    fn behind(&self) -> [Option<Item>; 2] {
         let mut items = self.stack.iter().rev().skip(1).map(|pending| pending.item);
-        match (items.next(), items.next()) {
-            (Some(Item::Part(Symbol::Statement)), Some(Item::Part(Symbol::ElsePart))) => {
-                &[Action::IfTest]
-            }
-            (Some(Item::Part(Symbol::Statement)), Some(Item::Make(SemanticAction::DecideElse))) =>
-                &[Action::ElsePart],
-            (Some(Item::Part(Symbol::Statement)), Some(Item::Make(SemanticAction::Repeat))) => {
-                &[Action::WhileTest]
-            }
-            _ => &[],
-        }
+        let first = items.next();
+        [first, items.next()]
     }
 }
 
 /// Returns the token of an index: after the last one, the end.
-fn token_at(tokens: &[Located], index: usize) -> Token {
+fn token_at(tokens: &[Located], index: usize) -> Token
+    ensures { result ≡ token_at tokens.now index }
+{
     match tokens.get(index) {
         Some(located) => located.token,
         None => Token::End,
@@ -234,7 +209,9 @@ fn token_at(tokens: &[Located], index: usize) -> Token {
 }
 
 /// Reports whether a token is the one that an item wants.
-pub(crate) fn fits(item: Item, next: &Token) -> bool {
+pub(crate) fn fits(item: Item, next: &Token) -> bool
+    ensures { result ≡ is_wanted (item_of item) next.now }
+{
     match (item, *next) {
         (Item::Exactly(wanted), Token::Punctuator(punctuator)) => punctuator == wanted,
         (Item::Keyword(wanted), Token::Word(word)) => word == wanted,
@@ -245,42 +222,28 @@ pub(crate) fn fits(item: Item, next: &Token) -> bool {
     }
 }
 
-/// Returns what is emitted as a symbol's production is chosen by the next token.
-fn on_choice(symbol: Symbol, next: &Token) -> &'static [Action] {
-    match (symbol, *next) {
-        (Symbol::FunctionBlock, Token::Punctuator(Punctuator::OpenCurly)) => {
-            &[Action::BeginFunction]
-        }
-        (Symbol::Statement, Token::Word(Word::While)) => &[Action::BeginWhile],
-        (Symbol::Unary, Token::Punctuator(Punctuator::Minus)) => &[Action::Constant],
-        (Symbol::Tail(level), _) => match operator_at(level, next) {
-            Some(Op::And) => &[Action::LogicMiddle(Op::And)],
-            Some(Op::Or) => &[Action::LogicMiddle(Op::Or)],
-            _ => &[],
-        },
-        _ => &[],
-    }
+/// What a step does with the item in front.
+pub(crate) enum Move {
+    /// It goes past the item, and so many tokens.
+    Pass(usize),
+    /// It replaces the item by this production.
+    Replace(Production),
+    /// The next token doesn't fit.
+    Misfit,
 }
 
-/// Returns what is emitted as a tree is made, other than that of a binary operator or a body.
-fn on_rule(action: SemanticAction) -> &'static [Action] {
-    match action {
-        SemanticAction::Negate => &[Action::Binop(Op::Subtract)],
-        SemanticAction::Not => &[Action::Constant, Action::Binop(Op::Equal)],
-        SemanticAction::Complement => &[Action::Constant, Action::Binop(Op::BitXor)],
-        SemanticAction::Fetch => &[Action::Fetch],
-        SemanticAction::Store(_) => &[Action::Store],
-        SemanticAction::StepBefore(_) => &[Action::Constant, Action::Store],
-        SemanticAction::StepBehind(_) => {
-            &[Action::Fetch, Action::Constant, Action::Store, Action::Chop]
-        }
-        SemanticAction::Invoke => &[Action::EndCall],
-        SemanticAction::Evaluate => &[Action::Chop],
-        SemanticAction::Decide | SemanticAction::DecideElse => &[Action::EndIf],
-        SemanticAction::Repeat => &[Action::EndWhile],
-        SemanticAction::Zero => &[Action::Constant],
-        SemanticAction::GiveBack => &[Action::GiveBack],
-        SemanticAction::Define => &[Action::Constant, Action::GiveBack, Action::EndFunction],
-        SemanticAction::Operate(_) | SemanticAction::Pass | SemanticAction::Empty => &[],
+/// Returns what a step does with an item, by the next token and the one after it.
+pub(crate) fn decided(item: Item, next: &Token, after: &Token) -> Move
+    ensures { end_of result ≡ decided_of (item_of item) next.now after.now }
+{
+    match item {
+        _ if matches!(*next, Token::Fault(_)) => Move::Misfit,
+        Item::Part(symbol) => match choice(symbol, next, after) {
+            Some(production) => Move::Replace(production),
+            None => Move::Misfit,
+        },
+        Item::Make(_) | Item::Close => Move::Pass(0),
+        item if fits(item, next) => Move::Pass(1),
+        _ => Move::Misfit,
     }
 }

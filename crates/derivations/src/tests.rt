@@ -2,7 +2,6 @@
 
 use super::*;
 use grammar::Profile;
-use std::alloc::Global;
 use std::process::Abort;
 use std::test::Fail;
 use tokens::{Punctuator, Token};
@@ -10,12 +9,11 @@ use tokens::{Punctuator, Token};
 /// Compares the places of a source's instructions with rows of a line and a column.
 fn check(
     rt: &impl Abort,
-    alloc: Global,
     profile: Profile,
     source: &[u8],
     wanted: &[(u32, u32)],
 ) -> Result<(), Fail> {
-    let Ok(lines) = lines(alloc, source, profile) else {
+    let Some(lines) = lines(source, profile) else {
         return Err(Fail::from("no lines"));
     };
     for (address, (line, column)) in wanted.iter().enumerate() {
@@ -33,7 +31,6 @@ fn check(
 fn places_of_a_small_robot(rt: HostRuntime) -> Result<(), Fail> {
     check(
         &rt,
-        rt.alloc(),
         Profile::first(),
         b"main()\n{\n  while (1)\n    cannon(a, 7 + 2);\n}\n",
         &[
@@ -59,7 +56,6 @@ fn places_of_a_small_robot(rt: HostRuntime) -> Result<(), Fail> {
 fn places_of_a_condition_by_the_second_profile(rt: HostRuntime) -> Result<(), Fail> {
     check(
         &rt,
-        rt.alloc(),
         Profile::second(),
         b"main(){\n if (a)\n  b;\n}",
         &[(2, 6), (2, 2), (3, 3), (3, 4), (4, 1), (4, 1), (4, 2)],

@@ -1,35 +1,60 @@
-//! Drives a field many times: what an update, a scan and a bearing cost is measured by it.
+//! Drives a machine and a field many times: what a cycle, an update, a scan and a bearing cost is measured by it.
 #![tactic(auto)]
 
-mod drills;
+mod field;
+mod machine;
 
-use crate::drills::{bearings, marches, rests, scans};
+use crate::field::{bearings, marches, rests, scans};
+use crate::machine::{ROBOT, compiled, counted};
 use std::io::ErrorKind;
 use std::{env, io};
 
-/// How often each drill is done if no words are given.
-const TIMES: u32 = 300;
+/// The drills, and how often each is done if no words are given: ten lives of the robot, and 300 of each other drill.
+const DRILLS: [(&str, u32); 5] = [
+    ("machine", 29_060),
+    ("marches", 300),
+    ("rests", 300),
+    ("scans", 300),
+    ("bearings", 300),
+];
 
+/// Does the drill of the first word as often as the second word says, or all drills.
 fn main(rt: HostRuntime) -> io::Result<()> {
     let mut words = env::args(&rt)?;
     let _ = words.next();
     let Some(drill) = words.next() else {
-        println!(rt; "damage {}", marches(TIMES))?;
-        println!(rt; "damage {}", rests(TIMES))?;
-        println!(rt; "range {}", scans(TIMES))?;
-        println!(rt; "degree {}", bearings(TIMES))?;
-        return Ok(());
+        return do_all(&rt);
     };
-    let times = match words.next() {
-        Some(word) => word.parse::<u32>().map_err(|_| ErrorKind::InvalidInput)?,
-        None => TIMES,
-    };
-    match drill.as_str() {
-        "marches" => println!(rt; "damage {}", marches(times))?,
-        "rests" => println!(rt; "damage {}", rests(times))?,
-        "scans" => println!(rt; "range {}", scans(times))?,
-        "bearings" => println!(rt; "degree {}", bearings(times))?,
-        _ => return Err(ErrorKind::InvalidInput.into()),
+    let times = words.next().ok_or(ErrorKind::InvalidInput)?;
+    let times = times.parse().map_err(|_| ErrorKind::InvalidInput)?;
+    run(&rt, drill.as_str(), times)
+}
+
+/// Does each drill.
+fn do_all(rt: &HostRuntime) -> io::Result<()> {
+    for (drill, times) in DRILLS {
+        run(rt, drill, times)?;
     }
     Ok(())
+}
+
+/// Does a drill so many times, and prints what came of it. A drill that there isn't is refused.
+fn run(rt: &HostRuntime, drill: &str, times: u32) -> io::Result<()> {
+    match drill {
+        "machine" => run_machine(rt, times),
+        "marches" => println!(rt; "damage {}", marches(times)),
+        "rests" => println!(rt; "damage {}", rests(times)),
+        "scans" => println!(rt; "range {}", scans(times)),
+        "bearings" => println!(rt; "degree {}", bearings(times)),
+        _ => Err(ErrorKind::InvalidInput.into()),
+    }
+}
+
+/// Runs the robot for so many cycles, and prints in how many it asked and restarted.
+fn run_machine(rt: &HostRuntime, cycles: u32) -> io::Result<()> {
+    let program = compiled(ROBOT).ok_or(ErrorKind::InvalidData)?;
+    let counts = counted(&program, cycles);
+    println!(rt; "cycles {cycles}")?;
+    println!(rt; "asks {}", counts.asks)?;
+    println!(rt; "restarts {}", counts.restarts)
 }

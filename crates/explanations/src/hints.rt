@@ -1,12 +1,13 @@
 //! Hints on tokens that don't fit: what beginners mean by them.
 
 use crate::lookalikes::{Lookalike, meant_by};
+use crate::misnamed::is_intrinsic;
 use crate::scenes::Scene;
 use crate::told::spelling_of;
 use derivations::{Item, Role};
-use grammar::store_operator;
+use grammar::{operator_from, store_operator};
 use std::alloc::AllocError;
-use tokens::{Punctuator, Token, Word};
+use tokens::{Name, Punctuator, Token, Word};
 
 /// A hint.
 #[derive(Clone, Copy, Debug, PartialEq, Eq)]
@@ -50,11 +51,14 @@ pub fn hint_on(scene: &Scene<'_>) -> Option<Hint> {
     on_comments(scene)
         .or(on_numbers(scene))
         .or(on_declarations(scene))
+        .or(on_declared_names(scene))
         .or(on_operators(scene))
         .or(on_names(scene))
+        .or(on_calls(scene))
         .or(on_heads(scene))
         .or(on_the_outside(scene))
         .or(on_conditions(scene))
+        .or(on_operands(scene))
         .or(on_brackets(scene))
         .or(on_ends(scene))
 }
@@ -125,6 +129,32 @@ fn on_declarations(scene: &Scene<'_>) -> Option<Hint> {
             "declarations come first in their block: move it up, or leave it out, as a variable needs none",
         ));
     }
+    if scene.follows_mark(Punctuator::Comma) && !scene.kinds.expression {
+        return Some(Hint::Text("one `int` is enough: write `int a, b;`"));
+    }
+    None
+}
+
+/// Returns the hint on names of a declaration: with a digit in front, with a `-` in them, and without a `,` between them.
+fn on_declared_names(scene: &Scene<'_>) -> Option<Hint> {
+    let is_number = matches!(scene.met(), Token::Constant(_));
+    if is_number && scene.fits(&Token::Name(Name::new())) && !scene.kinds.expression {
+        return Some(Hint::Text(if is_in_list(scene) {
+            "a list of parameters has names alone; a call stands inside of a function"
+        } else {
+            "a name begins with a letter or `_`, not with a digit"
+        }));
+    }
+    if !declares(scene) {
+        return None;
+    }
+    if scene.is_mark(Punctuator::Minus) {
+        return Some(Hint::Text("a name has letters, digits and `_` alone"));
+    }
+    let is_on_line = scene.before()?.line == scene.line(scene.index);
+    if scene.name(scene.index).is_some() && is_on_line {
+        return Some(Hint::Text("a `,` may be missing before it"));
+    }
     None
 }
 
@@ -145,18 +175,33 @@ fn is_in_list(scene: &Scene<'_>) -> bool {
             .is_some_and(|pending| pending.item == Item::Naming(Role::Parameter))
 }
 
+/// Operators as beginners spell them: two marks, of which the second doesn't fit, and what is meant.
+static MISSPELLED: [(Punctuator, Punctuator, &str); 6] = [
+    (Punctuator::Less, Punctuator::Greater, "`!=`"),
+    (Punctuator::Equals, Punctuator::Less, "`<=`"),
+    (Punctuator::Equals, Punctuator::Greater, "`>=`"),
+    (Punctuator::Equals, Punctuator::Equals, "`==`"),
+    (Punctuator::EqualsEquals, Punctuator::Equals, "`==`"),
+    (Punctuator::Equals, Punctuator::Plus, "`+=`"),
+];
+
 /// Returns the hint on marks that are no operators here.
 fn on_operators(scene: &Scene<'_>) -> Option<Hint> {
-    if scene.is_mark(Punctuator::Greater) && scene.touches_mark(Punctuator::Less) {
-        return Some(Hint::Meant("`!=`"));
+    let misspelled = MISSPELLED
+        .iter()
+        .find(|row| scene.follows_mark(row.0) && scene.is_mark(row.1));
+    if let Some(row) = misspelled {
+        return Some(Hint::Meant(row.2));
     }
     if scene.is_mark(Punctuator::Equals) {
         match scene.token(scene.index.saturating_add(1)) {
             Token::Punctuator(Punctuator::Greater) => return Some(Hint::Meant("`>=`")),
             Token::Punctuator(Punctuator::Less) => return Some(Hint::Meant("`<=`")),
-            _ if scene.touches_mark(Punctuator::EqualsEquals) => return Some(Hint::Meant("`==`")),
             _ => {}
         }
+    }
+    if scene.is_mark(Punctuator::Star) && scene.touches_mark(Punctuator::Star) {
+        return Some(Hint::Text("there is no `**`: multiply, or write a function of the file"));
     }
     if store_operator(&scene.met()).is_some() && scene.kinds.operator {
         return Some(Hint::Text("only a single name can be assigned to; to compare write `==`"));
@@ -181,6 +226,20 @@ fn on_names(scene: &Scene<'_>) -> Option<Hint> {
         }
     }
     None
+}
+
+/// Returns the hint on an intrinsic function that is called without brackets.
+fn on_calls(scene: &Scene<'_>) -> Option<Hint> {
+    let name = scene.name(scene.index.checked_sub(1)?)?;
+    if begins_value(&scene.met()) && is_intrinsic(&name) {
+        return Some(Hint::Text("the arguments of a call stand in brackets"));
+    }
+    None
+}
+
+/// Reports whether a token is a name or a number.
+fn begins_value(token: &Token) -> bool {
+    matches!(token, Token::Name(_) | Token::Constant(_))
 }
 
 /// Returns the hint on the heads of functions.
@@ -224,6 +283,9 @@ fn on_the_outside(scene: &Scene<'_>) -> Option<Hint> {
     if scene.is_mark(Punctuator::CloseCurly) {
         return Some(Hint::Text("this `}` closes nothing: there is one too many, here or above"));
     }
+    if scene.is_mark(Punctuator::Semicolon) && scene.follows_mark(Punctuator::CloseCurly) {
+        return Some(Hint::Text("no `;` stands behind the `}` of a function"));
+    }
     if scene.wants(Punctuator::OpenRound) || scene.fits(&Token::End) {
         return Some(Hint::Text(
             "outside functions stand declarations and functions alone: a `}` above may be one too many",
@@ -247,9 +309,23 @@ fn on_conditions(scene: &Scene<'_>) -> Option<Hint> {
     None
 }
 
-/// Returns the hint on brackets that aren't closed or not opened.
+/// Returns the hint on an operator without a right side.
+fn on_operands(scene: &Scene<'_>) -> Option<Hint> {
+    let before = scene.before()?.token;
+    let is_operator = operator_from(&before, 1).is_some() || store_operator(&before).is_some();
+    if is_operator && scene.kinds.expression {
+        return Some(Hint::Text("the operator before it lacks its right side"));
+    }
+    None
+}
+
+/// Returns the hint on brackets that aren't closed or not opened, and on arguments without a `,` between them.
 fn on_brackets(scene: &Scene<'_>) -> Option<Hint> {
-    if scene.fits_mark(Punctuator::CloseRound) && !scene.kinds.expression {
+    let may_close = scene.fits_mark(Punctuator::CloseRound);
+    if may_close && scene.fits_mark(Punctuator::Comma) && begins_value(&scene.met()) {
+        return Some(Hint::Text("a `,` or a `)` may be missing before it"));
+    }
+    if may_close && !scene.kinds.expression {
         return Some(Hint::Text("a `)` may be missing before it"));
     }
     if scene.is_mark(Punctuator::CloseRound) && scene.kinds.operator {

@@ -3,6 +3,7 @@
 
 mod calls;
 mod carets;
+mod comments;
 mod compiling;
 mod explaining;
 mod flow;

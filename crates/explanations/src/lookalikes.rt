@@ -25,10 +25,11 @@ static WORDS: [(&str, &str); 9] = [
 ];
 
 /// Words of other languages, with a hint on each.
-static FOREIGN: [(&str, &str); 17] = [
+static FOREIGN: [(&str, &str); 18] = [
     ("then", "no `then` stands behind a condition"),
     ("elif", "write `else if`"),
     ("elseif", "write `else if`"),
+    ("begin", "a block begins with `{`"),
     ("endif", "a block ends with `}`"),
     ("end", "a block ends with `}`"),
     ("and", "write `&&`"),

@@ -1,5 +1,6 @@
 //! Faults of names: which name it is, and which one may be meant.
 
+use crate::comments::swallowed;
 use crate::explaining::{Found, add_met};
 use crate::lookalikes::{Lookalike, meant_by};
 use crate::spelling::{is_near, is_same_but_for_case};
@@ -59,8 +60,8 @@ pub fn add_misnamed(
             text.push_str("the robot has a function of this name already: give yours another one")?;
         }
         Code::BadParameterDeclaration => add_parameter(text, found)?,
-        Code::FunctionNotDefined => add_meant(text, found.tokens, defined, &name)?,
-        _ => add_main(text, found.tokens, defined)?,
+        Code::FunctionNotDefined => add_meant(text, found, defined, &name)?,
+        _ => add_main(text, found, defined)?,
     }
     text.push_str("\n")
 }
@@ -106,7 +107,7 @@ fn add_parameter(text: &mut String, found: &Found<'_>) -> Result<(), AllocError>
 /// Adds which function may be meant by a name that none has.
 fn add_meant(
     text: &mut String,
-    tokens: &[Located],
+    found: &Found<'_>,
     defined: &[usize],
     name: &Name,
 ) -> Result<(), AllocError> {
@@ -121,22 +122,55 @@ fn add_meant(
     if let Some(intrinsic) = intrinsic {
         return write!(text, "perhaps `{}` is meant", intrinsic.name());
     }
-    if let Some(function) = near_function(tokens, defined, name.as_bytes()) {
+    if let Some(function) = near_function(found.tokens, defined, name.as_bytes()) {
         return write!(text, "perhaps `{}` is meant", text_of(&function));
     }
     match meant_by(name.as_bytes()) {
         Some(Lookalike::Word(word)) => write!(text, "perhaps {word} is meant"),
         Some(Lookalike::Foreign(words)) => text.push_str(words),
-        None => text.push_str("neither the file nor the robot has a function of this name"),
+        None => add_unknown(text, found, name),
     }
 }
 
-/// Adds which function may be meant as `main`.
-fn add_main(text: &mut String, tokens: &[Located], defined: &[usize]) -> Result<(), AllocError> {
+/// Adds why a name may be no function's: its function is in a comment, or it is a variable's.
+fn add_unknown(text: &mut String, found: &Found<'_>, name: &Name) -> Result<(), AllocError> {
+    if let Some(line) = swallowed(found.source, name.as_bytes()) {
+        return write!(
+            text,
+            "a comment that isn't closed on line {line} has the function in it"
+        );
+    }
+    if is_variable(found.tokens, name) {
+        return text.push_str(
+            "it is a variable: leave the brackets out, or call the function that is meant",
+        );
+    }
+    text.push_str("neither the file nor the robot has a function of this name")
+}
+
+/// Reports whether a name stands somewhere without a bracket behind it.
+fn is_variable(tokens: &[Located], name: &Name) -> bool {
+    let open = Token::Punctuator(Punctuator::OpenRound);
+    let mut pairs = tokens.iter().zip(tokens.iter().skip(1));
+    pairs.any(|pair| pair.0.token == Token::Name(*name) && pair.1.token != open)
+}
+
+/// Reports whether a name is an intrinsic function's.
+pub fn is_intrinsic(name: &Name) -> bool {
+    INTRINSICS
+        .iter()
+        .any(|intrinsic| name.is(intrinsic.name().as_bytes()))
+}
+
+/// Adds which function may be meant as `main`, or that it is in a comment.
+fn add_main(text: &mut String, found: &Found<'_>, defined: &[usize]) -> Result<(), AllocError> {
     text.push_str("a robot begins in its function `main`")?;
-    if let Some(function) = near_function(tokens, defined, b"main") {
+    if let Some(function) = near_function(found.tokens, defined, b"main") {
         let name = text_of(&function);
-        write!(text, ": perhaps `{name}` is to be it")?;
+        return write!(text, ": perhaps `{name}` is to be it");
+    }
+    if let Some(line) = swallowed(found.source, b"main") {
+        write!(text, ": a comment that isn't closed on line {line} has it")?;
     }
     Ok(())
 }

@@ -83,7 +83,10 @@ pub fn on_character(source: &[u8], tokens: &[Located], index: usize) -> Option<&
         ),
         b'[' | b']' => Some("there are no arrays: use several variables"),
         b'?' => Some("there is no `?:`: write `if (..) a = ..; else a = ..;`"),
-        b':' => Some("there are no labels, and no `:` behind a condition"),
+        b':' if follows(source, located, b'=') => Some("an assignment is written with `=` alone"),
+        b':' => Some(
+            "there are no labels, and no `:` behind a condition or a head: a block stands in `{` and `}`",
+        ),
         b'.' => Some(on_point(source, tokens, index)),
         b'\\' => Some("a line needs no sign to go on in the next one"),
         128.. => Some(
@@ -91,6 +94,11 @@ pub fn on_character(source: &[u8], tokens: &[Located], index: usize) -> Option<&
         ),
         _ => None,
     }
+}
+
+/// Reports whether a byte follows a token at once.
+fn follows(source: &[u8], located: &Located, byte: u8) -> bool {
+    source.get(located.end) == Some(&byte)
 }
 
 /// Returns the hint on a point: in a number, or elsewhere.

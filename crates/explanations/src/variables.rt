@@ -1,7 +1,8 @@
 //! Warnings about variables of functions that are set and never read, or read and never set.
 
-use crate::misnamed::{may_mean, name_at};
+use crate::misnamed::{is_intrinsic, may_mean, name_at};
 use crate::nodes::{Body, Kind, Node};
+use crate::spelling::is_same_but_for_case;
 use crate::told::text_of;
 use crate::warnings::Lint;
 use derivations::Located;
@@ -65,8 +66,18 @@ fn warn_of(
     write!(text, "`{}` {words}", text_of(&name))?;
     if let Some(other) = meant(lint.tokens(), uses, &name) {
         write!(text, "; perhaps `{}` is meant", text_of(&other))?;
+    } else if is_intrinsic(&name) {
+        write!(text, "; perhaps `{}()` is meant", text_of(&name))?;
+    } else if is_truth(&name) {
+        text.push_str("; write 1 for what is true, and 0 for what is false")?;
     }
     lint.warn(token, text)
+}
+
+/// Reports whether a name is a truth value of other languages.
+fn is_truth(name: &Name) -> bool {
+    let bytes = name.as_bytes();
+    is_same_but_for_case(bytes, b"true") || is_same_but_for_case(bytes, b"false")
 }
 
 /// Returns the name of another variable of the function that may be meant by this one.

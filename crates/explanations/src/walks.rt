@@ -1,6 +1,6 @@
 //! A walk along the derivation of a source, with what each name means where it stands.
 
-use derivations::{Derivation, Item, Located, Outcome, Role, SemanticAction};
+use derivations::{Derivation, Item, Located, Role, SemanticAction, StepEnd};
 use grammar::{Callee, Code, Profile, Scope, Var, code_of};
 use std::alloc::{AllocError, Global};
 use tokens::{Name, Token, Word};
@@ -108,21 +108,21 @@ impl<'a> Walk<'a> {
         let outcome = self.derivation.step()?;
         let token = self.derivation.place();
         Ok(match outcome {
-            Outcome::Misfit => {
+            StepEnd::Misfit => {
                 self.is_stuck = true;
                 Event::Refused {
                     token,
                     code: misfit(&self.derivation.next()),
                 }
             }
-            Outcome::Done => Event::Done,
-            Outcome::Stepped if levels <= MOST_LEVELS && self.derivation.levels() > MOST_LEVELS => {
+            StepEnd::Done => Event::Done,
+            StepEnd::Stepped if levels <= MOST_LEVELS && self.derivation.levels() > MOST_LEVELS => {
                 Event::Refused {
                     token,
                     code: Code::NestedTooDeeply,
                 }
             }
-            Outcome::Stepped => event,
+            StepEnd::Stepped => event,
         })
     }
 

@@ -10,11 +10,14 @@ use Rattle.grammar.proofs.StandingLaws.{stands_then, may_first, may_then}
 use Rattle.parsing.specs.Room.{HasRoom}
 
 -- one behind others that were told
-pub next_follows : (before now : Meaning) (acts : List Action) (action : Action) (more : List Action) → MayFollowAll before (acts ++ action ∷ more) → AppendsAll before now acts → MayFollow now action
-next_follows before now acts action more f told = may_first now action more (may_then before now acts (action ∷ more) told f)
+pub next_follows : (before now : Meaning) (acts : List Action) (action : Action) (more : List Action) →
+    MayFollowAll before (acts ++ action ∷ more) → AppendsAll before now acts → MayFollow now action
+next_follows before now acts action more f told =
+    may_first now action more (may_then before now acts (action ∷ more) told f)
 
 -- actions that lead on from what is open
-pub all_follow : (before : Meaning) (opened next : Opened) (more : List Action) → StandsOpen before opened → Leads more opened next → MayFollowAll before more
+pub all_follow : (before : Meaning) (opened next : Opened) (more : List Action) → StandsOpen before opened →
+    Leads more opened next → MayFollowAll before more
 all_follow before opened next more s leads = record {
   profile = s.profile;
   acts = s.acts;
@@ -30,7 +33,8 @@ room_within before m n h less = record { outer = h.outer; opened = h.opened; sta
     few = let most : open_count (h.outer ∷ h.opened) + n ≤ 200 = h.few in omega arith
 
 -- room behind actions
-pub room_behind : (before now : Meaning) (n : ℕ) (acts : List Action) (opened : Opened) (inner : Open) (next : Opened) → StandsOpen before opened → AppendsAll before now acts →
+pub room_behind : (before now : Meaning) (n : ℕ) (acts : List Action) (opened : Opened) (inner : Open) (next : Opened) →
+    StandsOpen before opened → AppendsAll before now acts →
     Leads acts opened (inner ∷ next) → open_count (inner ∷ next) + n ≤ 200 → HasRoom now n
 room_behind before now n acts opened inner next s told leads small = record {
   outer = inner;
@@ -40,6 +44,8 @@ room_behind before now n acts opened inner next s told leads small = record {
 }
 
 -- room behind the values of arguments
-pub room_behind_args : (now : Meaning) (n : ℕ) (args : Args) (outer : Open) (o : Opened) → StandsOpen now (pushed args (outer ∷ o)) → open_count (outer ∷ o) + n ≤ 200 → HasRoom now n
+pub room_behind_args : (now : Meaning) (n : ℕ) (args : Args) (outer : Open) (o : Opened) →
+    StandsOpen now (pushed args (outer ∷ o)) → open_count (outer ∷ o) + n ≤ 200 → HasRoom now n
 room_behind_args now n NoMore outer o s small = record { outer = outer; opened = o; stands = s; few = small }
-room_behind_args now n (Argument e rest) outer o s small = room_behind_args now n rest (AValue (origin_of e)) (outer ∷ o) s (omega arith)
+room_behind_args now n (Argument e rest) outer o s small =
+    room_behind_args now n rest (AValue (origin_of e)) (outer ∷ o) s (omega arith)

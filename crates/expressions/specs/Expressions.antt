@@ -1,15 +1,15 @@
 -- What the parse of an expression did: the builder was told the actions of a tree, and the derivation made the same
 -- tree.
-use Rattle.std.specs.Prelude.{ℕ, ◌+◌, ◌≡◌, ◌≤◌, List, [], ◌∷◌, ◌++◌, Bool, None, Result, Ok, Err}
+use Rattle.std.specs.Prelude.{ℕ, ◌+◌, ◌≡◌, ◌≤◌, List, [], ◌∷◌, ◌++◌, None, Result, Ok, Err}
 use Rattle.grammar.specs.declared.diagnostics.ParseFault.{ParseFault}
 use Rattle.grammar.specs.declared.names.Callee.{Callee}
 use Rattle.grammar.specs.declared.operators.Binary.{Binary as AnOperator}
-use Rattle.grammar.specs.declared.operators.Op.{Op}
+use Rattle.arith.specs.declared.operators.Op.{Op}
 use Rattle.grammar.specs.declared.pools.TheConstants.{MOST_NAMES}
 use Rattle.grammar.specs.Actions.{ApplyBinop, args_actions, expr_actions, middle}
 use Rattle.grammar.specs.Building.{Meaning, AppendsAll}
 use Rattle.grammar.specs.Derivation.{ACall, AnExpr}
-use Rattle.grammar.specs.Grammar.{Item, Arguments, Part, Symbol, Tail}
+use Rattle.grammar.specs.Grammar.{Item, Arguments, Level, Part, Symbol, Tail}
 use Rattle.grammar.specs.Nesting.{args_nesting, nesting, right_side}
 use Rattle.grammar.specs.Climbing.{operator_from}
 use Rattle.grammar.specs.Resolved.{InArgs, InExpr}
@@ -17,7 +17,8 @@ use Rattle.grammar.specs.Tree.{Args, Binary, Expr, NoMore}
 use Rattle.parsing.specs.Position.{Place, Standing, taken_at, token_of}
 use Rattle.parsing.specs.Room.{room}
 use Rattle.parsing.specs.Stopping.{Stop}
-use Rattle.parsing.specs.Segment.{Derives, FailsAt, FailsItem, Refused}
+use Rattle.parsing.specs.Growing.{BreaksOff}
+use Rattle.parsing.specs.Segment.{Derives, FailsAt, FailsItem}
 
 -- An expression was read, by the items in front, of operators from a level on, with so many levels of nesting open.
 pub record AddsExpr (before after : Meaning) (depth level : ℕ) (front pending : List Item) (here there : Place)
@@ -63,7 +64,16 @@ abbrev pub Parses : {A : Type 0} → Result A ParseFault → (denied : Type 0) (
 Parses (Ok x) denied before after depth level symbol old new =
     AddsExpr before after depth level (Part symbol ∷ []) [] old.place new.place
 Parses (Err fault) denied before after depth level symbol old new =
-    Refused (FailsAt depth (Part symbol ∷ []) [] old.place) denied (taken_at new.place) fault
+    BreaksOff (FailsAt depth (Part symbol ∷ []) [] old.place) denied before after (taken_at new.place) fault
+
+-- the same of operators from a level on, up to a token that is none of these
+abbrev pub ParsesLevels : {A : Type 0} → Result A ParseFault → (denied : Type 0) (before after : Meaning)
+    (depth level : ℕ) → (old new : Standing) → Type 0
+ParsesLevels (Ok x) denied before after depth level old new =
+    AddsExpr before after depth level (Part (Level level) ∷ []) [] old.place new.place
+    × (operator_from level (token_of new) ≡ None)
+ParsesLevels (Err fault) denied before after depth level old new =
+    BreaksOff (FailsAt depth (Part (Level level) ∷ []) [] old.place) denied before after (taken_at new.place) fault
 
 -- the same of an operand that opens no level, at any depth
 abbrev pub ParsesOperandAlone : {A : Type 0} → Result A ParseFault → (denied : Type 0) (before after : Meaning) →
@@ -71,7 +81,7 @@ abbrev pub ParsesOperandAlone : {A : Type 0} → Result A ParseFault → (denied
 ParsesOperandAlone (Ok x) denied before after symbol old new =
     (depth : ℕ) → AddsExpr before after depth 11 (Part symbol ∷ []) [] old.place new.place
 ParsesOperandAlone (Err fault) denied before after symbol old new =
-    Refused (FailsItem (Part symbol) old.place) denied (taken_at new.place) fault
+    BreaksOff (FailsItem (Part symbol) old.place) denied before after (taken_at new.place) fault
 
 -- the same of an operator and its right side, which goes up to an operator that binds no tighter
 abbrev pub ParsesOperand : {A : Type 0} → Result A ParseFault → (denied : Type 0) (before after : Meaning)
@@ -80,7 +90,7 @@ ParsesOperand (Ok x) denied before after depth b old new =
     AddsOperand before after depth b.level b.op old.place new.place
     × (operator_from (b.level + 1) (token_of new) ≡ None)
 ParsesOperand (Err fault) denied before after depth b old new =
-    Refused (FailsOperand depth b.level old.place) denied (taken_at new.place) fault
+    BreaksOff (FailsOperand depth b.level old.place) denied before after (taken_at new.place) fault
 
 -- the same of a call's arguments
 abbrev pub ParsesArgs : {A : Type 0} → Result A ParseFault → (denied : Type 0) (before after : Meaning) (depth : ℕ) →
@@ -88,4 +98,4 @@ abbrev pub ParsesArgs : {A : Type 0} → Result A ParseFault → (denied : Type 
 ParsesArgs (Ok x) denied before after depth old new =
     AddsArgs before after depth (Part Arguments ∷ []) [] old.place new.place
 ParsesArgs (Err fault) denied before after depth old new =
-    Refused (FailsArgs depth old.place) denied (taken_at new.place) fault
+    BreaksOff (FailsArgs depth old.place) denied before after (taken_at new.place) fault

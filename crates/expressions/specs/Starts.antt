@@ -3,10 +3,11 @@ use Rattle.std.specs.Prelude.{◌≡◌, ℕ, Some, None, is_some, true, false}
 use Rattle.tokens.specs.declared.located_tokens.Punctuator.TheVariants as punctuator
 use Rattle.tokens.specs.declared.located_tokens.Token.TheVariants as token
 use Rattle.tokens.specs.Tokens.{FitsToken}
+use Rattle.grammar.specs.declared.operators.Binary.{Binary}
 use Rattle.grammar.specs.declared.operators.StoreOp.{StoreOp}
 use Rattle.grammar.specs.Derivation.{name_of_token}
 use Rattle.grammar.specs.Grammar.{is_punctuator}
-use Rattle.grammar.specs.Operators.{store_operator}
+use Rattle.grammar.specs.Operators.{operator_of, store_operator}
 use Rattle.parsing.specs.Position.{Standing, token_after, token_of}
 use Rattle.expressions.specs.declared.signs.Step.{Step}
 use Rattle.expressions.specs.Signs.{step_punctuator}
@@ -15,6 +16,10 @@ use Rattle.expressions.specs.Signs.{step_punctuator}
 pub record StartsConstant (value : ℕ) (at : Standing) : Type 0 where
   pub is : token_of at ≡ token.Constant value
   pub fits : FitsToken (token.Constant value)
+
+-- an operator of two operands
+abbrev pub StartsOperand : Binary → Standing → Type 0
+StartsOperand binary at = operator_of (token_of at) ≡ Some binary
 
 -- a name
 abbrev pub StartsName : Standing → Type 0

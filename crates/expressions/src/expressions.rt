@@ -1,19 +1,15 @@
 //! Assignments, the ten levels of binary operators, signs, brackets and calls.
 
-ghost use Rattle.std.specs.Prelude.{◌≡◌, ◌+◌, Some, None, IfNone, IfSome, OnOk, true};
+ghost use Rattle.std.specs.Prelude.{IfNone, IfSome, OnOk};
 ghost use Rattle.tokens.specs.declared.located_tokens.Punctuator.TheVariants as punctuator;
 ghost use Rattle.grammar.specs.Actions.{middle};
 ghost use Rattle.grammar.specs.Building.{AppendsAll, MayFollow, MayFollowAll, Refuses};
-ghost use Rattle.grammar.specs.Grammar.{Expression, Level, Primary, Unary, is_punctuator};
-ghost use Rattle.grammar.specs.Operators.{operator_of};
-ghost use Rattle.grammar.specs.Climbing.{operator_from};
-ghost use Rattle.parsing.specs.Advancing.{Advances, IsReady, Keeps};
-ghost use Rattle.parsing.specs.Growing.{Grows};
-ghost use Rattle.parsing.specs.Position.{token_of};
+ghost use Rattle.grammar.specs.Grammar.{Expression, Primary, Unary};
+ghost use Rattle.parsing.specs.Advancing.{Advances, Anywhere, IsAt, IsNext, Keeps};
 ghost use Rattle.parsing.specs.Room.{HasLeft, HasRoom, room};
-ghost use Rattle.expressions.specs.Expressions.{Parses, ParsesArgs, ParsesOperand};
+ghost use Rattle.expressions.specs.Expressions.{Parses, ParsesArgs, ParsesLevels, ParsesOperand};
 ghost use Rattle.expressions.specs.Signs.{sign_punctuator};
-ghost use Rattle.expressions.specs.Starts.{StartsAssignment, StartsCall, StartsNoAssignment};
+ghost use Rattle.expressions.specs.Starts.{StartsAssignment, StartsCall, StartsNoAssignment, StartsOperand};
 
 use crate::operands::{constant, step_before, variable};
 use crate::signs::{Sign, sign_of, step_of};
@@ -31,11 +27,9 @@ pub fn expression<F: Feed, B: Build>(
     build: &mut B,
     depth: u8,
 ) -> Result<(), ParseFault>
-    requires open { HasRoom (B.stands build.old) (room depth 1) }
-    requires ready { IsReady parser.old }
+    requires at { IsAt (HasRoom (B.stands build.old) (room depth 1)) Anywhere parser.old }
     ensures parses { Parses result B.denied (B.stands build.old) (B.stands build.new)
         depth 1 Expression parser.old parser.new }
-    ensures grown { Grows result (B.stands build.old) (B.stands build.new) }
     ensures kept { Advances result parser.old parser.new }
 {
     if let Some(op) = assignment_operator(parser) {
@@ -55,12 +49,9 @@ fn assignment<F: Feed, B: Build>(
     op: StoreOp,
     depth: u8,
 ) -> Result<(), ParseFault>
-    requires open { HasRoom (B.stands build.old) (room depth 1) }
-    requires is { StartsAssignment op parser.old }
-    requires ready { IsReady parser.old }
+    requires at { IsAt (HasRoom (B.stands build.old) (room depth 1)) (StartsAssignment op) parser.old }
     ensures parses { Parses result B.denied (B.stands build.old) (B.stands build.new)
         depth 1 Expression parser.old parser.new }
-    ensures grown { Grows result (B.stands build.old) (B.stands build.new) }
     ensures kept { Advances result parser.old parser.new }
 {
     if depth >= MOST_LEVELS {
@@ -81,11 +72,9 @@ fn right_side<F: Feed, B: Build>(
     build: &mut B,
     depth: u8,
 ) -> Result<(), ParseFault>
-    requires open { HasRoom (B.stands build.old) (room depth 1) }
-    requires ready { IsReady parser.old }
+    requires at { IsAt (HasRoom (B.stands build.old) (room depth 1)) Anywhere parser.old }
     ensures parses { Parses result B.denied (B.stands build.old) (B.stands build.new)
         depth 1 Expression parser.old parser.new }
-    ensures grown { Grows result (B.stands build.old) (B.stands build.new) }
     ensures kept { Advances result parser.old parser.new }
 {
     match assignment_operator(parser) {
@@ -104,12 +93,9 @@ fn levels<F: Feed, B: Build>(
     level: u8,
     depth: u8,
 ) -> Result<(), ParseFault>
-    requires open { HasRoom (B.stands build.old) (room depth level) }
-    requires ready { IsReady parser.old }
-    ensures parses { Parses result B.denied (B.stands build.old) (B.stands build.new)
-        depth level (Level level) parser.old parser.new }
-    ensures grown { Grows result (B.stands build.old) (B.stands build.new) }
-    ensures none { OnOk result (operator_from level (token_of parser.new) ≡ None) }
+    requires at { IsAt (HasRoom (B.stands build.old) (room depth level)) Anywhere parser.old }
+    ensures parses { ParsesLevels result B.denied (B.stands build.old) (B.stands build.new)
+        depth level parser.old parser.new }
     ensures kept { Advances result parser.old parser.new }
 {
     unary(parser, build, depth)?;
@@ -128,12 +114,9 @@ fn operand<F: Feed, B: Build>(
     binary: Binary,
     depth: u8,
 ) -> Result<(), ParseFault>
-    requires open { HasLeft (B.stands build.old) (room depth binary.level) }
-    requires is { operator_of (token_of parser.old) ≡ Some binary }
-    requires ready { IsReady parser.old }
+    requires at { IsAt (HasLeft (B.stands build.old) (room depth binary.level)) (StartsOperand binary) parser.old }
     ensures parses { ParsesOperand result B.denied (B.stands build.old) (B.stands build.new)
         depth binary parser.old parser.new }
-    ensures grown { Grows result (B.stands build.old) (B.stands build.new) }
     ensures kept { Advances result parser.old parser.new }
 {
     parser.advance()?;
@@ -151,11 +134,9 @@ fn unary<F: Feed, B: Build>(
     build: &mut B,
     depth: u8,
 ) -> Result<(), ParseFault>
-    requires open { HasRoom (B.stands build.old) (room depth 11) }
-    requires ready { IsReady parser.old }
+    requires at { IsAt (HasRoom (B.stands build.old) (room depth 11)) Anywhere parser.old }
     ensures parses { Parses result B.denied (B.stands build.old) (B.stands build.new)
         depth 11 Unary parser.old parser.new }
-    ensures grown { Grows result (B.stands build.old) (B.stands build.new) }
     ensures kept { Advances result parser.old parser.new }
 {
     if let Token::Punctuator(_) = parser.peek().token {
@@ -174,11 +155,9 @@ fn from_punctuator<F: Feed, B: Build>(
     build: &mut B,
     depth: u8,
 ) -> Result<(), ParseFault>
-    requires open { HasRoom (B.stands build.old) (room depth 11) }
-    requires ready { IsReady parser.old }
+    requires at { IsAt (HasRoom (B.stands build.old) (room depth 11)) Anywhere parser.old }
     ensures parses { Parses result B.denied (B.stands build.old) (B.stands build.new)
         depth 11 Unary parser.old parser.new }
-    ensures grown { Grows result (B.stands build.old) (B.stands build.new) }
     ensures kept { Advances result parser.old parser.new }
 {
     if let Some(sign) = sign_of(&parser.peek().token) {
@@ -200,12 +179,9 @@ fn signed<F: Feed, B: Build>(
     sign: Sign,
     depth: u8,
 ) -> Result<(), ParseFault>
-    requires open { HasRoom (B.stands build.old) (room depth 11) }
-    requires is { is_punctuator (sign_punctuator sign) (token_of parser.old) ≡ true }
-    requires ready { IsReady parser.old }
+    requires at { IsAt (HasRoom (B.stands build.old) (room depth 11)) (IsNext (sign_punctuator sign)) parser.old }
     ensures parses { Parses result B.denied (B.stands build.old) (B.stands build.new)
         depth 11 Unary parser.old parser.new }
-    ensures grown { Grows result (B.stands build.old) (B.stands build.new) }
     ensures kept { Advances result parser.old parser.new }
 {
     if depth >= MOST_LEVELS {
@@ -226,11 +202,9 @@ fn primary<F: Feed, B: Build>(
     build: &mut B,
     depth: u8,
 ) -> Result<(), ParseFault>
-    requires open { HasRoom (B.stands build.old) (room depth 11) }
-    requires ready { IsReady parser.old }
+    requires at { IsAt (HasRoom (B.stands build.old) (room depth 11)) Anywhere parser.old }
     ensures parses { Parses result B.denied (B.stands build.old) (B.stands build.new)
         depth 11 Primary parser.old parser.new }
-    ensures grown { Grows result (B.stands build.old) (B.stands build.new) }
     ensures kept { Advances result parser.old parser.new }
 {
     match parser.peek().token {
@@ -255,12 +229,9 @@ fn call<F: Feed, B: Build>(
     build: &mut B,
     depth: u8,
 ) -> Result<(), ParseFault>
-    requires open { HasRoom (B.stands build.old) (room depth 11) }
-    requires is { StartsCall parser.old }
-    requires ready { IsReady parser.old }
+    requires at { IsAt (HasRoom (B.stands build.old) (room depth 11)) StartsCall parser.old }
     ensures parses { Parses result B.denied (B.stands build.old) (B.stands build.new)
         depth 11 Primary parser.old parser.new }
-    ensures grown { Grows result (B.stands build.old) (B.stands build.new) }
     ensures kept { Advances result parser.old parser.new }
 {
     if depth >= MOST_LEVELS {
@@ -282,11 +253,9 @@ fn arguments<F: Feed, B: Build>(
     build: &mut B,
     depth: u8,
 ) -> Result<(), ParseFault>
-    requires open { HasRoom (B.stands build.old) (room depth 1) }
-    requires ready { IsReady parser.old }
+    requires at { IsAt (HasRoom (B.stands build.old) (room depth 1)) Anywhere parser.old }
     ensures parses { ParsesArgs result B.denied (B.stands build.old) (B.stands build.new)
         depth parser.old parser.new }
-    ensures grown { Grows result (B.stands build.old) (B.stands build.new) }
     ensures kept { Keeps result parser.old parser.new }
 {
     if is_punctuator(&parser.peek().token, Punctuator::CloseRound) {
@@ -308,12 +277,9 @@ fn bracketed<F: Feed, B: Build>(
     build: &mut B,
     depth: u8,
 ) -> Result<(), ParseFault>
-    requires open { HasRoom (B.stands build.old) (room depth 11) }
-    requires is { is_punctuator punctuator.OpenRound (token_of parser.old) ≡ true }
-    requires ready { IsReady parser.old }
+    requires at { IsAt (HasRoom (B.stands build.old) (room depth 11)) (IsNext punctuator.OpenRound) parser.old }
     ensures parses { Parses result B.denied (B.stands build.old) (B.stands build.new)
         depth 11 Primary parser.old parser.new }
-    ensures grown { Grows result (B.stands build.old) (B.stands build.new) }
     ensures kept { Advances result parser.old parser.new }
 {
     if depth >= MOST_LEVELS {

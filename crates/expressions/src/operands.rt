@@ -1,10 +1,7 @@
 //! Operands without operands of their own: constants and variables, with `++` and `--`.
 
-ghost use Rattle.std.specs.Prelude.{◌≡◌, [], ◌∷◌, true};
-ghost use Rattle.grammar.specs.Grammar.{Primary, Unary, is_punctuator};
-ghost use Rattle.parsing.specs.Advancing.{Advances, IsReady};
-ghost use Rattle.parsing.specs.Growing.{Grows};
-ghost use Rattle.parsing.specs.Position.{token_of};
+ghost use Rattle.grammar.specs.Grammar.{Primary, Unary};
+ghost use Rattle.parsing.specs.Advancing.{Advances, IsAt, IsNext};
 ghost use Rattle.parsing.specs.Room.{HasRoom};
 ghost use Rattle.expressions.specs.Expressions.{ParsesOperandAlone};
 ghost use Rattle.expressions.specs.Signs.{step_punctuator};
@@ -22,12 +19,9 @@ pub fn constant<F: Feed, B: Build>(
     build: &mut B,
     value: u32,
 ) -> Result<(), ParseFault>
-    requires open { HasRoom (B.stands build.old) 0 }
-    requires is { StartsConstant value parser.old }
-    requires ready { IsReady parser.old }
+    requires at { IsAt (HasRoom (B.stands build.old) 0) (StartsConstant value) parser.old }
     ensures parses { ParsesOperandAlone result B.denied (B.stands build.old) (B.stands build.new)
         Primary parser.old parser.new }
-    ensures grown { Grows result (B.stands build.old) (B.stands build.new) }
     ensures kept { Advances result parser.old parser.new }
 {
     build.constant(value as i32)?;
@@ -41,12 +35,9 @@ pub fn variable<F: Feed, B: Build>(
     parser: &mut Parser<'_, F>,
     build: &mut B,
 ) -> Result<(), ParseFault>
-    requires open { HasRoom (B.stands build.old) 0 }
-    requires is { StartsVariable parser.old }
-    requires ready { IsReady parser.old }
+    requires at { IsAt (HasRoom (B.stands build.old) 0) StartsVariable parser.old }
     ensures parses { ParsesOperandAlone result B.denied (B.stands build.old) (B.stands build.new)
         Primary parser.old parser.new }
-    ensures grown { Grows result (B.stands build.old) (B.stands build.new) }
     ensures kept { Advances result parser.old parser.new }
 {
     if let Some(step) = step_of(parser.after()) {
@@ -65,12 +56,9 @@ fn step_behind<F: Feed, B: Build>(
     build: &mut B,
     step: Step,
 ) -> Result<(), ParseFault>
-    requires open { HasRoom (B.stands build.old) 0 }
-    requires is { StartsStep step parser.old }
-    requires ready { IsReady parser.old }
+    requires at { IsAt (HasRoom (B.stands build.old) 0) (StartsStep step) parser.old }
     ensures parses { ParsesOperandAlone result B.denied (B.stands build.old) (B.stands build.new)
         Primary parser.old parser.new }
-    ensures grown { Grows result (B.stands build.old) (B.stands build.new) }
     ensures kept { Advances result parser.old parser.new }
 {
     let var = parser.mention()?;
@@ -89,12 +77,9 @@ pub fn step_before<F: Feed, B: Build>(
     build: &mut B,
     step: Step,
 ) -> Result<(), ParseFault>
-    requires open { HasRoom (B.stands build.old) 0 }
-    requires is { is_punctuator (step_punctuator step) (token_of parser.old) ≡ true }
-    requires ready { IsReady parser.old }
+    requires at { IsAt (HasRoom (B.stands build.old) 0) (IsNext (step_punctuator step)) parser.old }
     ensures parses { ParsesOperandAlone result B.denied (B.stands build.old) (B.stands build.new)
         Unary parser.old parser.new }
-    ensures grown { Grows result (B.stands build.old) (B.stands build.new) }
     ensures kept { Advances result parser.old parser.new }
 {
     parser.advance()?;

@@ -1,3 +1,5 @@
 pub mod Span
 pub mod Purposes
 pub mod Runs
+pub mod Directions
+pub mod Streaks

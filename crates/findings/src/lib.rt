@@ -1,14 +1,18 @@
-//! What is found out about a match: runs of a film, what a robot lost by, and where its time went.
+//! What is found out about a match: runs of a film, what a robot lost by, where its time went, and where it waits.
 #![tactic(auto)]
 
 mod counts;
+mod directions;
 mod hurts;
 mod runs;
 mod shares;
 mod spans;
+mod streaks;
 
 pub use counts::{function_at, largest};
+pub use directions::{DIRECTION_DEGREES, DIRECTIONS, direction_of};
 pub use hurts::{Loss, MOST_LOSSES, Source, losses};
 pub use runs::{News, Run, Stance, Step};
 pub use shares::{Purpose, Shares, percent, purpose_of};
 pub use spans::Span;
+pub use streaks::{Call, Streak};

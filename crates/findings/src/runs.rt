@@ -76,8 +76,14 @@ pub struct News {
 
 impl Run {
     /// Makes a run without places.
-    pub fn new() -> Run {
-        Run::default()
+    pub fn new() -> Run
+        ensures { result ≡ record { last = None; step = None; is_told = false } }
+    {
+        Run {
+            last: None,
+            step: None,
+            is_told: false,
+        }
     }
 
     /// Goes on to where the robot is after the next update. Returns what has to be told: nothing while the robot goes on

@@ -4,7 +4,7 @@ use Rattle.std.proofs.lemmas.Bool.Decides.{nat_tests}
 use Rattle.std.proofs.lemmas.List.{append-nil, length-replicate}
 use Rattle.std.specs.Prelude.{pos, ◌&&◌, Option, Some, None, IsTrue, is_some, if◌then◌else◌, nat_lt, nat_le, replicate}
 use Rattle.grammar.specs.declared.names.Callee.TheVariants as callee
-use Rattle.grammar.specs.declared.operators.Op.TheVariants as op
+use Rattle.arith.specs.declared.operators.Op.TheVariants as op
 use Rattle.grammar.specs.Actions.{Action, PushConstant, FetchVariable, StoreVariable, ApplyBinop, LogicMiddle, BeginCall, EndCall, IfTest, ElsePart, EndIf, BeginWhile, WhileTest, EndWhile, GiveBack, Chop, BeginFunction, EndFunction, expr_actions, body_actions, function_actions, last_return}
 use Rattle.grammar.specs.Beginning.{IsTellable, AreTellable, IsBeginning}
 use Rattle.grammar.specs.Derivation.{Definition}
@@ -20,16 +20,19 @@ use Rattle.grammar.proofs.UnfinishedSteps.{IsWithin, Steps, number_is, step}
 
 -- What begins actions that may follow may follow.
 
-front_if : (b : Bool) (whole front : Option Opened) → (IsTrue (is_some whole) → IsTrue (is_some front)) → IsTrue (is_some (if b then whole else None)) → IsTrue (is_some (if b then front else None))
+front_if : (b : Bool) (whole front : Option Opened) → (IsTrue (is_some whole) → IsTrue (is_some front)) →
+    IsTrue (is_some (if b then whole else None)) → IsTrue (is_some (if b then front else None))
 front_if true whole front again h = again h
 front_if false whole front again h = h
 
-front_then : (xs ys : List Action) (next : Option Opened) → ((p : Opened) → IsTrue (is_some (follow_all (xs ++ ys) p)) → IsTrue (is_some (follow_all xs p))) →
+front_then : (xs ys : List Action) (next : Option Opened) →
+    ((p : Opened) → IsTrue (is_some (follow_all (xs ++ ys) p)) → IsTrue (is_some (follow_all xs p))) →
     IsTrue (is_some (then_follow (follow_all (xs ++ ys)) next)) → IsTrue (is_some (then_follow (follow_all xs) next))
 front_then xs ys None again h = h
 front_then xs ys (Some p) again h = front_if (few_open p) (follow_all (xs ++ ys) p) (follow_all xs p) (again p) h
 
-front_follows : (xs ys : List Action) (o : Opened) → IsTrue (is_some (follow_all (xs ++ ys) o)) → IsTrue (is_some (follow_all xs o))
+front_follows : (xs ys : List Action) (o : Opened) → IsTrue (is_some (follow_all (xs ++ ys) o)) →
+    IsTrue (is_some (follow_all xs o))
 front_follows [] ys o h = refl
 front_follows (x ∷ xs) ys o h = front_then xs ys (follow x o) (λ p. front_follows xs ys p) h
 
@@ -39,25 +42,36 @@ functions_follow : (ds : List Definition) → AreTellable ds → Leads (definiti
 functions_follow [] h = record { is = refl }
 functions_follow (d ∷ ds) h =
     chain (function_actions d.number d.function) (definitions_actions ds) [] [] []
-    (definition_leads d.number d.function.parameters (length d.function.variables) d.function.body h.0.number h.0.parameters h.0.variables h.0.names h.0.few)
+    (definition_leads d.number d.function.parameters (length d.function.variables) d.function.body h.0.number
+    h.0.parameters h.0.variables h.0.names h.0.few)
     (functions_follow ds h.1)
 
 pub beginning_follows : (acts : List Action) → IsBeginning acts → IsTrue (is_some (follow_all acts []))
 beginning_follows acts b = front_follows acts b.rest []
-    (subst (λ (xs : List Action). IsTrue (is_some (follow_all xs []))) (sym b.begins) (rw (functions_follow b.functions b.tellable).is refl))
+    (subst (λ (xs : List Action). IsTrue (is_some (follow_all xs []))) (sym b.begins)
+    (rw (functions_follow b.functions b.tellable).is refl))
 
 -- A list is a beginning of another's beginning.
 
 pub begins_with : (xs ys : List Action) → IsBeginning (xs ++ ys) → IsBeginning xs
-begins_with xs ys b = record { functions = b.functions; tellable = b.tellable; rest = ys ++ b.rest; begins = sym (append_assoc xs ys b.rest) ∙ b.begins }
+begins_with xs ys b =
+    record {
+      functions = b.functions;
+      tellable = b.tellable;
+      rest = ys ++ b.rest;
+      begins = sym (append_assoc xs ys b.rest) ∙ b.begins;
+    }
 
 -- Functions that are finished.
 
 count_fits : (p : Place) → PlaceFits p → place_count p ≤ 200
 count_fits (InFun n k b) fits = omega arith
-count_fits (InFirst c b outer) fits = let few : 1 + place_count outer + body_nesting b ≤ 200 = fits.2.few in omega (arith, few)
-count_fits (InSecond c t b outer) fits = let few : 1 + place_count outer + body_nesting b ≤ 200 = fits.3.few in omega (arith, few)
-count_fits (InLoop c b outer) fits = let few : 1 + place_count outer + body_nesting b ≤ 200 = fits.2.few in omega (arith, few)
+count_fits (InFirst c b outer) fits =
+    let few : 1 + place_count outer + body_nesting b ≤ 200 = fits.2.few in omega (arith, few)
+count_fits (InSecond c t b outer) fits =
+    let few : 1 + place_count outer + body_nesting b ≤ 200 = fits.3.few in omega (arith, few)
+count_fits (InLoop c b outer) fits =
+    let few : 1 + place_count outer + body_nesting b ≤ 200 = fits.2.few in omega (arith, few)
 
 record Closes (acts : List Action) : Type 0 where
   definition : Definition
@@ -66,21 +80,38 @@ record Closes (acts : List Action) : Type 0 where
   is : acts ++ rest ≡ function_actions definition.number definition.function
 
 closes_with : (more xs ys : List Action) → xs ++ more ≡ ys → Closes ys → Closes xs
-closes_with more xs ys e c = record { definition = c.definition; tellable = c.tellable; rest = more ++ c.rest; is = sym (append_assoc xs more c.rest) ∙ ap (λ zs. zs ++ c.rest) e ∙ c.is }
+closes_with more xs ys e c =
+    record {
+      definition = c.definition;
+      tellable = c.tellable;
+      rest = more ++ c.rest;
+      is = sym (append_assoc xs more c.rest) ∙ ap (λ zs. zs ++ c.rest) e ∙ c.is;
+    }
 
 abbrev definition : (n k v : ℕ) → Body → Definition
-definition n k v b = record { number = n; function = record { name = []; parameters = k; variables = replicate v []; body = b } }
+definition n k v b =
+    record { number = n; function = record { name = []; parameters = k; variables = replicate v []; body = b } }
 
-definition_actions : (n k v : ℕ) (b : Body) → function_actions n (definition n k v b).function ≡ BeginFunction n k ∷ (body_actions b ++ (last_return ++ EndFunction v ∷ []))
-definition_actions n k v b = ap (λ (m : ℕ). BeginFunction n k ∷ (body_actions b ++ (last_return ++ EndFunction m ∷ []))) (length-replicate v [])
+definition_actions : (n k v : ℕ) (b : Body) →
+    function_actions n (definition n k v b).function ≡
+    BeginFunction n k ∷ (body_actions b ++ (last_return ++ EndFunction v ∷ []))
+definition_actions n k v b =
+    ap (λ (m : ℕ). BeginFunction n k ∷ (body_actions b ++ (last_return ++ EndFunction m ∷ []))) (length-replicate v [])
 
 definition_told : (n k v : ℕ) (b : Body) → n < 64 → k ≤ v → v ≤ 64 → BodyFits 0 b → IsTellable (definition n k v b)
 definition_told n k v b h l m f =
     let long : length {A = List ℕ} (replicate v []) ≡ v = length-replicate v [] in
-    record { number = h; parameters = omega (arith, l, long); variables = omega (arith, m, long); names = f.names; few = omega (arith, f.few) }
+    record {
+      number = h;
+      parameters = omega (arith, l, long);
+      variables = omega (arith, m, long);
+      names = f.names;
+      few = omega (arith, f.few);
+    }
 
 -- a place, with these statements more
-close_place : (p : Place) (s : Body) → PlaceFits p → BodyFits (place_count p) s → Closes (place_actions p ++ body_actions s)
+close_place : (p : Place) (s : Body) → PlaceFits p → BodyFits (place_count p) s →
+    Closes (place_actions p ++ body_actions s)
 close_place (InFun n k b) s fits more = record {
   definition = definition n k k (join b s);
   tellable = definition_told n k k (join b s) fits.0 (omega arith) fits.1 (fits-join 0 b s fits.2 more);
@@ -92,20 +123,24 @@ close_place (InFirst c b outer) s fits more =
     let few_test : place_count outer + nesting c ≤ 200 = fits.1.few in
     let few : 1 + place_count outer + body_nesting (join b s) ≤ 200 = both.few in
     closes_with (EndIf ∷ []) _ _ (rw (body_actions-join b s) (simp append_assoc refl))
-    (close_place outer (IfStatement c (join b s) Done) fits.0 (record { names = (fits.1.names, both.names, tt); few = omega (arith, few_test, few) }))
+    (close_place outer (IfStatement c (join b s) Done) fits.0
+    (record { names = (fits.1.names, both.names, tt); few = omega (arith, few_test, few) }))
 close_place (InSecond c t b outer) s fits more =
     let both : BodyFits (1 + place_count outer) (join b s) = fits-join (1 + place_count outer) b s fits.3 more in
     let few_test : place_count outer + nesting c ≤ 200 = fits.1.few in
     let few_first : 1 + place_count outer + body_nesting t ≤ 200 = fits.2.few in
     let few : 1 + place_count outer + body_nesting (join b s) ≤ 200 = both.few in
     closes_with (EndIf ∷ []) _ _ (rw (body_actions-join b s) (simp append_assoc refl))
-    (close_place outer (IfElseStatement c t (join b s) Done) fits.0 (record { names = (fits.1.names, fits.2.names, both.names, tt); few = omega (arith, few_test, few_first, few) }))
+    (close_place outer (IfElseStatement c t (join b s) Done) fits.0
+    (record
+    { names = (fits.1.names, fits.2.names, both.names, tt); few = omega (arith, few_test, few_first, few) }))
 close_place (InLoop c b outer) s fits more =
     let both : BodyFits (1 + place_count outer) (join b s) = fits-join (1 + place_count outer) b s fits.2 more in
     let few_test : 1 + place_count outer + nesting c ≤ 200 = fits.1.few in
     let few : 1 + place_count outer + body_nesting (join b s) ≤ 200 = both.few in
     closes_with (EndWhile ∷ []) _ _ (rw (body_actions-join b s) (simp append_assoc refl))
-    (close_place outer (While c (join b s) Done) fits.0 (record { names = (fits.1.names, both.names, tt); few = omega (arith, few_test, few) }))
+    (close_place outer (While c (join b s) Done) fits.0
+    (record { names = (fits.1.names, both.names, tt); few = omega (arith, few_test, few) }))
 
 abbrev zero : Expr
 zero = Constant (pos 0)
@@ -124,26 +159,34 @@ close_value (Behind l h) e fits f =
     let few_left : hole_count h + nesting l ≤ 200 = fits.1.few in
     let few_right : 0 + hole_count h + nesting e ≤ 200 = f.few in
     closes_with (ApplyBinop op.Add ∷ []) _ _ (simp append_assoc refl)
-    (close_value h (Binary op.Add l e) fits.0 (record { names = (fits.1.names, f.names); few = omega (arith, few_left, few_right) }))
+    (close_value h (Binary op.Add l e) fits.0
+    (record { names = (fits.1.names, f.names); few = omega (arith, few_left, few_right) }))
 close_value (RightSide o l h) e fits f =
     let one : right_side o ≡ 1 = rw fits.2 refl in
     let few_left : hole_count h + nesting l ≤ 200 = fits.1.few in
     let few_right : 1 + (0 + hole_count h) + nesting e ≤ 200 = f.few in
-    closes_with (ApplyBinop o ∷ []) _ (hole_actions h ++ expr_actions (Binary o l e)) (rw fits.2 (simp append_assoc refl))
-    (close_value h (Binary o l e) fits.0 (record { names = (fits.1.names, f.names); few = omega (arith, few_left, few_right, one) }))
+    closes_with (ApplyBinop o ∷ []) _ (hole_actions h ++ expr_actions (Binary o l e))
+    (rw fits.2 (simp append_assoc refl))
+    (close_value h (Binary o l e) fits.0
+    (record { names = (fits.1.names, f.names); few = omega (arith, few_left, few_right, one) }))
 close_value (Arguments h) e fits f =
     let few : 1 + hole_count h + nesting e ≤ 200 = f.few in
     closes_with (EndCall (callee.Function 0) ∷ []) _ _ (simp append_assoc refl)
-    (close_value h (Call (callee.Function 0) (Argument e NoMore)) fits.0 (record { names = (omega arith, (f.names, tt)); few = omega (arith, few) }))
+    (close_value h (Call (callee.Function 0) (Argument e NoMore)) fits.0
+    (record { names = (omega arith, (f.names, tt)); few = omega (arith, few) }))
 
 close_zero : (h : Hole) → HoleFits h → hole_count h ≤ 200 → Closes (hole_actions h)
-close_zero h fits few = closes_with (PushConstant (pos 0) ∷ []) _ _ refl (close_value h zero fits (record { names = tt; few = omega (arith, few) }))
+close_zero h fits few =
+    closes_with (PushConstant (pos 0) ∷ []) _ _ refl
+    (close_value h zero fits (record { names = tt; few = omega (arith, few) }))
 
 close_hole : (h : Hole) → HoleFits h → Closes (hole_actions h)
-close_hole (Statement p) fits = closes_with [] _ _ refl (close_place p Done fits (record { names = tt; few = omega (arith, count_fits p fits) }))
+close_hole (Statement p) fits =
+    closes_with [] _ _ refl (close_place p Done fits (record { names = tt; few = omega (arith, count_fits p fits) }))
 close_hole (Test p) fits = close_zero (Test p) fits fits.1
 close_hole (Behind e h) fits = close_value h e fits.0 fits.1
-close_hole (RightSide o e h) fits = let few : 1 + hole_count h ≤ 200 = fits.3 in close_zero (RightSide o e h) fits (omega (arith, few))
+close_hole (RightSide o e h) fits =
+    let few : 1 + hole_count h ≤ 200 = fits.3 in close_zero (RightSide o e h) fits (omega (arith, few))
 close_hole (Arguments h) fits = close_zero (Arguments h) fits fits.1
 
 -- What a list of actions makes.
@@ -172,9 +215,14 @@ record Makes (acts : List Action) (o : Opened) : Type 0 where
   tellable : AreTellable functions
   fits : HeldFits held
 
-pub definitions_last : (ds : List Definition) (d : Definition) → definitions_actions (ds ++ d ∷ []) ≡ definitions_actions ds ++ function_actions d.number d.function
+pub definitions_last : (ds : List Definition) (d : Definition) →
+    definitions_actions (ds ++ d ∷ []) ≡ definitions_actions ds ++ function_actions d.number d.function
 definitions_last [] d = append-nil (function_actions d.number d.function)
-definitions_last (x ∷ ds) d = ap (λ acts. function_actions x.number x.function ++ acts) (definitions_last ds d) ∙ sym (append_assoc (function_actions x.number x.function) (definitions_actions ds) (function_actions d.number d.function))
+definitions_last (x ∷ ds) d =
+    ap (λ acts. function_actions x.number x.function ++ acts) (definitions_last ds d) ∙
+    sym
+    (append_assoc (function_actions x.number x.function) (definitions_actions ds)
+    (function_actions d.number d.function))
 
 pub tellable_last : (ds : List Definition) (d : Definition) → AreTellable ds → IsTellable d → AreTellable (ds ++ d ∷ [])
 tellable_last [] d h t = (t, tt)
@@ -184,24 +232,33 @@ made_begins : (acts : List Action) (o : Opened) → Makes acts o → IsBeginning
 made_begins acts o m = by m.held m.actions m.fits
   where
     by : (held : Held) → definitions_actions m.functions ++ held_actions held ≡ acts → HeldFits held → IsBeginning acts
-    by Nothing e f = record { functions = m.functions; tellable = m.tellable; rest = []; begins = append-nil acts ∙ sym e ∙ append-nil (definitions_actions m.functions) }
+    by Nothing e f =
+        record {
+          functions = m.functions;
+          tellable = m.tellable;
+          rest = [];
+          begins = append-nil acts ∙ sym e ∙ append-nil (definitions_actions m.functions);
+        }
     by (Holds h) e f =
         let c : Closes (hole_actions h) = close_hole h f.0 in
         record {
           functions = m.functions ++ c.definition ∷ [];
           tellable = tellable_last m.functions c.definition m.tellable c.tellable;
           rest = c.rest;
-          begins = ap (λ xs. xs ++ c.rest) (sym e) ∙ append_assoc (definitions_actions m.functions) (hole_actions h) c.rest
+          begins =
+              ap (λ xs. xs ++ c.rest) (sym e) ∙ append_assoc (definitions_actions m.functions) (hole_actions h) c.rest
               ∙ ap (λ xs. definitions_actions m.functions ++ xs) c.is ∙ sym (definitions_last m.functions c.definition);
         }
 
 -- A function begins and is finished.
 
-pub begin_makes : (n k : ℕ) (q : Opened) → follow (BeginFunction n k) [] ≡ Some q → ((n < 64) × (k ≤ 64)) × (InFunction k false ∷ [] ≡ q)
+pub begin_makes : (n k : ℕ) (q : Opened) → follow (BeginFunction n k) [] ≡ Some q →
+    ((n < 64) × (k ≤ 64)) × (InFunction k false ∷ [] ≡ q)
 unfolding most_numbers
 begin_makes n k q e = by (nat_lt n 64) (nat_le k 64) refl refl e
   where
-    by : (a b : Bool) → nat_lt n 64 ≡ a → nat_le k 64 ≡ b → only_on (a && b) (InFunction k false ∷ []) ≡ Some q → ((n < 64) × (k ≤ 64)) × (InFunction k false ∷ [] ≡ q)
+    by : (a b : Bool) → nat_lt n 64 ≡ a → nat_le k 64 ≡ b → only_on (a && b) (InFunction k false ∷ []) ≡ Some q →
+        ((n < 64) × (k ≤ 64)) × (InFunction k false ∷ [] ≡ q)
     by true true f g h = ((grind (arith, nat_tests), grind (arith, nat_tests)), cc)
     by true false f g h = absurd (cc)
     by false b f g h = absurd (cc)
@@ -212,13 +269,17 @@ pub record FinishesBy (v k : ℕ) (o q : Opened) (last : Bool) : Type 0 where
   pub variables : v ≤ 64
   pub nothing : [] ≡ q
 
-pub finish_makes : (v k : ℕ) (last : Bool) (q : Opened) → follow (EndFunction v) (InFunction k last ∷ []) ≡ Some q → FinishesBy v k (InFunction k last ∷ []) q last
+pub finish_makes : (v k : ℕ) (last : Bool) (q : Opened) → follow (EndFunction v) (InFunction k last ∷ []) ≡ Some q →
+    FinishesBy v k (InFunction k last ∷ []) q last
 unfolding most_numbers
 finish_makes v k false q e = absurd (cc)
 finish_makes v k true q e = by (nat_le k v) (nat_le v 64) refl refl e
   where
-    by : (a b : Bool) → nat_le k v ≡ a → nat_le v 64 ≡ b → only_on (a && b) [] ≡ Some q → FinishesBy v k (InFunction k true ∷ []) q true
-    by true true f g h = record { returned = refl; parameters = grind (arith, nat_tests); variables = grind (arith, nat_tests); nothing = cc }
+    by : (a b : Bool) → nat_le k v ≡ a → nat_le v 64 ≡ b → only_on (a && b) [] ≡ Some q →
+        FinishesBy v k (InFunction k true ∷ []) q true
+    by true true f g h =
+        record
+        { returned = refl; parameters = grind (arith, nat_tests); variables = grind (arith, nat_tests); nothing = cc }
     by true false f g h = absurd (cc)
     by false b f g h = absurd (cc)
 
@@ -231,27 +292,32 @@ last_return_of : (before : Bool) (b : Body) → ends_in_return before b ≡ true
 last_return_of before Done h = inl (refl, h)
 last_return_of before (ExpressionStatement e rest) h = by (last_return_of false rest h)
   where
-    by : ((rest ≡ Done) × (false ≡ true)) ⊎ Before rest → ((ExpressionStatement e rest ≡ Done) × (before ≡ true)) ⊎ Before (ExpressionStatement e rest)
+    by : ((rest ≡ Done) × (false ≡ true)) ⊎ Before rest →
+        ((ExpressionStatement e rest ≡ Done) × (before ≡ true)) ⊎ Before (ExpressionStatement e rest)
     by (inl p) = absurd (let no : false ≡ true = p.1 in cc)
     by (inr s) = inr (record { body = ExpressionStatement e s.body; is = ap (ExpressionStatement e) s.is })
 last_return_of before (IfStatement c t rest) h = by (last_return_of false rest h)
   where
-    by : ((rest ≡ Done) × (false ≡ true)) ⊎ Before rest → ((IfStatement c t rest ≡ Done) × (before ≡ true)) ⊎ Before (IfStatement c t rest)
+    by : ((rest ≡ Done) × (false ≡ true)) ⊎ Before rest →
+        ((IfStatement c t rest ≡ Done) × (before ≡ true)) ⊎ Before (IfStatement c t rest)
     by (inl p) = absurd (let no : false ≡ true = p.1 in cc)
     by (inr s) = inr (record { body = IfStatement c t s.body; is = ap (IfStatement c t) s.is })
 last_return_of before (IfElseStatement c t u rest) h = by (last_return_of false rest h)
   where
-    by : ((rest ≡ Done) × (false ≡ true)) ⊎ Before rest → ((IfElseStatement c t u rest ≡ Done) × (before ≡ true)) ⊎ Before (IfElseStatement c t u rest)
+    by : ((rest ≡ Done) × (false ≡ true)) ⊎ Before rest →
+        ((IfElseStatement c t u rest ≡ Done) × (before ≡ true)) ⊎ Before (IfElseStatement c t u rest)
     by (inl p) = absurd (let no : false ≡ true = p.1 in cc)
     by (inr s) = inr (record { body = IfElseStatement c t u s.body; is = ap (IfElseStatement c t u) s.is })
 last_return_of before (While c t rest) h = by (last_return_of false rest h)
   where
-    by : ((rest ≡ Done) × (false ≡ true)) ⊎ Before rest → ((While c t rest ≡ Done) × (before ≡ true)) ⊎ Before (While c t rest)
+    by : ((rest ≡ Done) × (false ≡ true)) ⊎ Before rest →
+        ((While c t rest ≡ Done) × (before ≡ true)) ⊎ Before (While c t rest)
     by (inl p) = absurd (let no : false ≡ true = p.1 in cc)
     by (inr s) = inr (record { body = While c t s.body; is = ap (While c t) s.is })
 last_return_of before (Return e rest) h = by (last_return_of (is_number 0 (origin_of e)) rest h)
   where
-    by : ((rest ≡ Done) × (is_number 0 (origin_of e) ≡ true)) ⊎ Before rest → ((Return e rest ≡ Done) × (before ≡ true)) ⊎ Before (Return e rest)
+    by : ((rest ≡ Done) × (is_number 0 (origin_of e) ≡ true)) ⊎ Before rest →
+        ((Return e rest ≡ Done) × (before ≡ true)) ⊎ Before (Return e rest)
     by (inl p) = inr (record { body = Done; is = rw (p.0, number_is 0 e p.1) refl })
     by (inr s) = inr (record { body = Return e s.body; is = ap (Return e) s.is })
 
@@ -283,18 +349,21 @@ fits_front b s f = record { names = names_front b s f.names; few = omega (arith,
 
 -- One action more.
 
-within_makes : (a : Action) (h : Hole) (q : Opened) (acts : List Action) (ds : List Definition) → definitions_actions ds ++ hole_actions h ≡ acts → AreTellable ds → open_count q ≤ 200 →
+within_makes : (a : Action) (h : Hole) (q : Opened) (acts : List Action) (ds : List Definition) →
+    definitions_actions ds ++ hole_actions h ≡ acts → AreTellable ds → open_count q ≤ 200 →
     Steps a h q → Makes (acts ++ a ∷ []) q
 within_makes a h q acts ds e told small s = record {
   functions = ds;
   held = Holds s.next;
   opens = s.opens;
-  actions = ap (λ xs. definitions_actions ds ++ xs) s.adds ∙ sym (append_assoc (definitions_actions ds) (hole_actions h) (a ∷ [])) ∙ ap (λ xs. xs ++ a ∷ []) e;
+  actions = ap (λ xs. definitions_actions ds ++ xs) s.adds ∙
+      sym (append_assoc (definitions_actions ds) (hole_actions h) (a ∷ [])) ∙ ap (λ xs. xs ++ a ∷ []) e;
   tellable = told;
   fits = (s.fits, omega (arith, small, ap open_count s.opens));
 }
 
-begun : (n k : ℕ) (q : Opened) (acts : List Action) (ds : List Definition) → definitions_actions ds ++ [] ≡ acts → AreTellable ds → follow (BeginFunction n k) [] ≡ Some q → Makes (acts ++ BeginFunction n k ∷ []) q
+begun : (n k : ℕ) (q : Opened) (acts : List Action) (ds : List Definition) → definitions_actions ds ++ [] ≡ acts →
+    AreTellable ds → follow (BeginFunction n k) [] ≡ Some q → Makes (acts ++ BeginFunction n k ∷ []) q
 begun n k q acts ds e told is =
     let made = begin_makes n k q is in
     record {
@@ -306,23 +375,34 @@ begun n k q acts ds e told is =
       fits = ((made.0.0, made.0.1, record { names = tt; few = omega arith }), omega arith);
     }
 
-finished : (n k v : ℕ) (b : Body) (q : Opened) (acts : List Action) (ds : List Definition) → definitions_actions ds ++ (BeginFunction n k ∷ body_actions b) ≡ acts → AreTellable ds →
-    PlaceFits (InFun n k b) → follow (EndFunction v) (InFunction k (ends_in_return false b) ∷ []) ≡ Some q → Makes (acts ++ EndFunction v ∷ []) q
+finished : (n k v : ℕ) (b : Body) (q : Opened) (acts : List Action) (ds : List Definition) →
+    definitions_actions ds ++ (BeginFunction n k ∷ body_actions b) ≡ acts → AreTellable ds →
+    PlaceFits (InFun n k b) → follow (EndFunction v) (InFunction k (ends_in_return false b) ∷ []) ≡ Some q →
+    Makes (acts ++ EndFunction v ∷ []) q
 finished n k v b q acts ds e told fits is =
     let f = finish_makes v k (ends_in_return false b) q is in
     let front : Before b = before_last b f.returned in
-    let fit : BodyFits 0 front.body = fits_front front.body (Return (Constant (pos 0)) Done) (subst (λ (c : Body). BodyFits 0 c) front.is fits.2) in
-    let joined : (BeginFunction n k ∷ body_actions (join front.body (Return (Constant (pos 0)) Done))) ++ EndFunction v ∷ [] ≡ BeginFunction n k ∷ (body_actions front.body ++ (last_return ++ EndFunction v ∷ [])) =
+    let fit : BodyFits 0 front.body =
+    fits_front front.body (Return (Constant (pos 0)) Done) (subst (λ (c : Body). BodyFits 0 c) front.is fits.2) in
+    let joined : (BeginFunction n k ∷ body_actions (join front.body (Return (Constant (pos 0)) Done))) ++
+    EndFunction v ∷ [] ≡ BeginFunction n k ∷ (body_actions front.body ++ (last_return ++ EndFunction v ∷ [])) =
     rw (body_actions-join front.body (Return (Constant (pos 0)) Done)) (simp append_assoc refl) in
-    let all : (BeginFunction n k ∷ body_actions b) ++ EndFunction v ∷ [] ≡ function_actions n (definition n k v front.body).function =
-    ap (λ (c : Body). (BeginFunction n k ∷ body_actions c) ++ EndFunction v ∷ []) front.is ∙ joined ∙ sym (definition_actions n k v front.body) in
+    let all : (BeginFunction n k ∷ body_actions b) ++ EndFunction v ∷ [] ≡
+    function_actions n (definition n k v front.body).function =
+    ap (λ (c : Body). (BeginFunction n k ∷ body_actions c) ++ EndFunction v ∷ []) front.is ∙ joined ∙
+    sym (definition_actions n k v front.body) in
     record {
       functions = ds ++ definition n k v front.body ∷ [];
       held = Nothing;
       opens = f.nothing;
-      actions = append-nil (definitions_actions (ds ++ definition n k v front.body ∷ [])) ∙ definitions_last ds (definition n k v front.body)
-          ∙ ap (λ xs. definitions_actions ds ++ xs) (sym all) ∙ sym (append_assoc (definitions_actions ds) (BeginFunction n k ∷ body_actions b) (EndFunction v ∷ [])) ∙ ap (λ xs. xs ++ EndFunction v ∷ []) e;
-      tellable = tellable_last ds (definition n k v front.body) told (definition_told n k v front.body fits.0 f.parameters f.variables fit);
+      actions =
+          append-nil (definitions_actions (ds ++ definition n k v front.body ∷ [])) ∙
+          definitions_last ds (definition n k v front.body)
+          ∙ ap (λ xs. definitions_actions ds ++ xs) (sym all) ∙
+          sym (append_assoc (definitions_actions ds) (BeginFunction n k ∷ body_actions b) (EndFunction v ∷ [])) ∙
+          ap (λ xs. xs ++ EndFunction v ∷ []) e;
+      tellable = tellable_last ds (definition n k v front.body) told
+          (definition_told n k v front.body fits.0 f.parameters f.variables fit);
       fits = tt;
     }
 
@@ -353,7 +433,8 @@ never_begins n k (Behind x h) q e = cc
 never_begins n k (RightSide o x h) q e = cc
 never_begins n k (Arguments h) q e = cc
 
-nothing_makes : (a : Action) (q : Opened) (acts : List Action) (ds : List Definition) → definitions_actions ds ++ [] ≡ acts → AreTellable ds → follow a [] ≡ Some q → Makes (acts ++ a ∷ []) q
+nothing_makes : (a : Action) (q : Opened) (acts : List Action) (ds : List Definition) →
+    definitions_actions ds ++ [] ≡ acts → AreTellable ds → follow a [] ≡ Some q → Makes (acts ++ a ∷ []) q
 nothing_makes (BeginFunction n k) q acts ds e told is = begun n k q acts ds e told is
 nothing_makes (EndFunction v) q acts ds e told is = absurd (cc)
 nothing_makes (PushConstant x) q acts ds e told is = absurd (nothing_then (PushConstant x) q tt is)
@@ -364,31 +445,51 @@ nothing_makes (LogicMiddle o) q acts ds e told is = absurd (nothing_then (LogicM
 nothing_makes (EndCall f) q acts ds e told is = absurd (nothing_then (EndCall f) q tt is)
 nothing_makes a q acts ds e told is = absurd (cc)
 
-hole_makes : (a : Action) (h : Hole) (q : Opened) (acts : List Action) (ds : List Definition) → definitions_actions ds ++ hole_actions h ≡ acts → AreTellable ds → HoleFits h → hole_count h ≤ 200 →
+hole_makes : (a : Action) (h : Hole) (q : Opened) (acts : List Action) (ds : List Definition) →
+    definitions_actions ds ++ hole_actions h ≡ acts → AreTellable ds → HoleFits h → hole_count h ≤ 200 →
     follow a (open_hole h) ≡ Some q → open_count q ≤ 200 → Makes (acts ++ a ∷ []) q
 hole_makes (BeginFunction n k) h q acts ds e told fits least is small = absurd (never_begins n k h q is)
-hole_makes (EndFunction v) (Statement (InFun n k b)) q acts ds e told fits least is small = finished n k v b q acts ds e told fits is
+hole_makes (EndFunction v) (Statement (InFun n k b)) q acts ds e told fits least is small =
+    finished n k v b q acts ds e told fits is
 hole_makes (EndFunction v) h q acts ds e told fits least is small = absurd (cc)
-hole_makes (PushConstant x) h q acts ds e told fits least is small = within_makes (PushConstant x) h q acts ds e told small (step (PushConstant x) h q fits least is small tt)
-hole_makes (FetchVariable v) h q acts ds e told fits least is small = within_makes (FetchVariable v) h q acts ds e told small (step (FetchVariable v) h q fits least is small tt)
-hole_makes (StoreVariable v o) h q acts ds e told fits least is small = within_makes (StoreVariable v o) h q acts ds e told small (step (StoreVariable v o) h q fits least is small tt)
-hole_makes (ApplyBinop o) h q acts ds e told fits least is small = within_makes (ApplyBinop o) h q acts ds e told small (step (ApplyBinop o) h q fits least is small tt)
-hole_makes (LogicMiddle o) h q acts ds e told fits least is small = within_makes (LogicMiddle o) h q acts ds e told small (step (LogicMiddle o) h q fits least is small tt)
-hole_makes BeginCall h q acts ds e told fits least is small = within_makes BeginCall h q acts ds e told small (step BeginCall h q fits least is small tt)
-hole_makes (EndCall f) h q acts ds e told fits least is small = within_makes (EndCall f) h q acts ds e told small (step (EndCall f) h q fits least is small tt)
-hole_makes IfTest h q acts ds e told fits least is small = within_makes IfTest h q acts ds e told small (step IfTest h q fits least is small tt)
-hole_makes ElsePart h q acts ds e told fits least is small = within_makes ElsePart h q acts ds e told small (step ElsePart h q fits least is small tt)
-hole_makes EndIf h q acts ds e told fits least is small = within_makes EndIf h q acts ds e told small (step EndIf h q fits least is small tt)
-hole_makes BeginWhile h q acts ds e told fits least is small = within_makes BeginWhile h q acts ds e told small (step BeginWhile h q fits least is small tt)
-hole_makes WhileTest h q acts ds e told fits least is small = within_makes WhileTest h q acts ds e told small (step WhileTest h q fits least is small tt)
-hole_makes EndWhile h q acts ds e told fits least is small = within_makes EndWhile h q acts ds e told small (step EndWhile h q fits least is small tt)
-hole_makes GiveBack h q acts ds e told fits least is small = within_makes GiveBack h q acts ds e told small (step GiveBack h q fits least is small tt)
-hole_makes Chop h q acts ds e told fits least is small = within_makes Chop h q acts ds e told small (step Chop h q fits least is small tt)
+hole_makes (PushConstant x) h q acts ds e told fits least is small =
+    within_makes (PushConstant x) h q acts ds e told small (step (PushConstant x) h q fits least is small tt)
+hole_makes (FetchVariable v) h q acts ds e told fits least is small =
+    within_makes (FetchVariable v) h q acts ds e told small (step (FetchVariable v) h q fits least is small tt)
+hole_makes (StoreVariable v o) h q acts ds e told fits least is small =
+    within_makes (StoreVariable v o) h q acts ds e told small (step (StoreVariable v o) h q fits least is small tt)
+hole_makes (ApplyBinop o) h q acts ds e told fits least is small =
+    within_makes (ApplyBinop o) h q acts ds e told small (step (ApplyBinop o) h q fits least is small tt)
+hole_makes (LogicMiddle o) h q acts ds e told fits least is small =
+    within_makes (LogicMiddle o) h q acts ds e told small (step (LogicMiddle o) h q fits least is small tt)
+hole_makes BeginCall h q acts ds e told fits least is small =
+    within_makes BeginCall h q acts ds e told small (step BeginCall h q fits least is small tt)
+hole_makes (EndCall f) h q acts ds e told fits least is small =
+    within_makes (EndCall f) h q acts ds e told small (step (EndCall f) h q fits least is small tt)
+hole_makes IfTest h q acts ds e told fits least is small =
+    within_makes IfTest h q acts ds e told small (step IfTest h q fits least is small tt)
+hole_makes ElsePart h q acts ds e told fits least is small =
+    within_makes ElsePart h q acts ds e told small (step ElsePart h q fits least is small tt)
+hole_makes EndIf h q acts ds e told fits least is small =
+    within_makes EndIf h q acts ds e told small (step EndIf h q fits least is small tt)
+hole_makes BeginWhile h q acts ds e told fits least is small =
+    within_makes BeginWhile h q acts ds e told small (step BeginWhile h q fits least is small tt)
+hole_makes WhileTest h q acts ds e told fits least is small =
+    within_makes WhileTest h q acts ds e told small (step WhileTest h q fits least is small tt)
+hole_makes EndWhile h q acts ds e told fits least is small =
+    within_makes EndWhile h q acts ds e told small (step EndWhile h q fits least is small tt)
+hole_makes GiveBack h q acts ds e told fits least is small =
+    within_makes GiveBack h q acts ds e told small (step GiveBack h q fits least is small tt)
+hole_makes Chop h q acts ds e told fits least is small =
+    within_makes Chop h q acts ds e told small (step Chop h q fits least is small tt)
 
-one_makes : (a : Action) (acts : List Action) (o q : Opened) → Makes acts o → follow a o ≡ Some q → open_count q ≤ 200 → Makes (acts ++ a ∷ []) q
-one_makes a acts o q m e small = by m.held m.actions m.fits (subst (λ (p : Opened). follow a p ≡ Some q) (sym m.opens) e)
+one_makes : (a : Action) (acts : List Action) (o q : Opened) → Makes acts o → follow a o ≡ Some q → open_count q ≤ 200 →
+    Makes (acts ++ a ∷ []) q
+one_makes a acts o q m e small =
+    by m.held m.actions m.fits (subst (λ (p : Opened). follow a p ≡ Some q) (sym m.opens) e)
   where
-    by : (held : Held) → definitions_actions m.functions ++ held_actions held ≡ acts → HeldFits held → follow a (open_held held) ≡ Some q → Makes (acts ++ a ∷ []) q
+    by : (held : Held) → definitions_actions m.functions ++ held_actions held ≡ acts → HeldFits held →
+        follow a (open_held held) ≡ Some q → Makes (acts ++ a ∷ []) q
     by Nothing g f is = nothing_makes a q acts m.functions g m.tellable is
     by (Holds h) g f is = hole_makes a h q acts m.functions g m.tellable f.0 f.1 is small
 
@@ -397,18 +498,26 @@ one_makes a acts o q m e small = by m.held m.actions m.fits (subst (λ (p : Open
 few_is : (q : Opened) → few_open q ≡ true → open_count q ≤ 200
 few_is q h = grind (arith, nat_tests)
 
-all_make : (xs acts : List Action) (o : Opened) → Makes acts o → IsTrue (is_some (follow_all xs o)) → IsBeginning (acts ++ xs)
+all_make : (xs acts : List Action) (o : Opened) → Makes acts o → IsTrue (is_some (follow_all xs o)) →
+    IsBeginning (acts ++ xs)
 all_make [] acts o m h = made_begins (acts ++ []) o (subst (λ (ys : List Action). Makes ys o) (sym (append-nil acts)) m)
-all_make (x ∷ xs) acts o m h = by (follow x o) refl (λ q e small k. all_make xs (acts ++ x ∷ []) q (one_makes x acts o q m e small) k) h
+all_make (x ∷ xs) acts o m h =
+    by (follow x o) refl (λ q e small k. all_make xs (acts ++ x ∷ []) q (one_makes x acts o q m e small) k) h
   where
-    by : (next : Option Opened) → follow x o ≡ next → ((q : Opened) → follow x o ≡ Some q → open_count q ≤ 200 → IsTrue (is_some (follow_all xs q)) → IsBeginning ((acts ++ x ∷ []) ++ xs)) →
+    by : (next : Option Opened) → follow x o ≡ next →
+        ((q : Opened) → follow x o ≡ Some q → open_count q ≤ 200 → IsTrue (is_some (follow_all xs q)) →
+        IsBeginning ((acts ++ x ∷ []) ++ xs)) →
         IsTrue (is_some (then_follow (follow_all xs) next)) → IsBeginning (acts ++ x ∷ xs)
     by None e again k = absurd (cc)
     by (Some q) e again k = fewer (few_open q) refl k
       where
-        fewer : (b : Bool) → few_open q ≡ b → IsTrue (is_some (if b then follow_all xs q else None)) → IsBeginning (acts ++ x ∷ xs)
-        fewer true f j = subst (λ (ys : List Action). IsBeginning ys) (append_assoc acts (x ∷ []) xs) (again q e (few_is q f) j)
+        fewer : (b : Bool) → few_open q ≡ b → IsTrue (is_some (if b then follow_all xs q else None)) →
+            IsBeginning (acts ++ x ∷ xs)
+        fewer true f j =
+            subst (λ (ys : List Action). IsBeginning ys) (append_assoc acts (x ∷ []) xs) (again q e (few_is q f) j)
         fewer false f j = absurd (cc)
 
 pub follows_begins : (acts : List Action) → IsTrue (is_some (follow_all acts [])) → IsBeginning acts
-follows_begins acts h = all_make acts [] [] (record { functions = []; held = Nothing; opens = refl; actions = refl; tellable = tt; fits = tt }) h
+follows_begins acts h =
+    all_make acts [] []
+    (record { functions = []; held = Nothing; opens = refl; actions = refl; tellable = tt; fits = tt }) h

@@ -9,7 +9,7 @@ use Rattle.tokens.specs.declared.located_tokens.Token.{Token}
 use Rattle.tokens.specs.declared.located_tokens.Token.TheVariants as token
 use Rattle.tokens.specs.declared.located_tokens.Word.{Word}
 use Rattle.tokens.specs.declared.located_tokens.Word.TheVariants as word
-use Rattle.grammar.specs.declared.operators.Op.{Op}
+use Rattle.arith.specs.declared.operators.Op.{Op}
 use Rattle.grammar.specs.declared.operators.StoreOp.{StoreOp}
 use Rattle.grammar.specs.Derivation.{State, Value, Definition, start, step, step_of, stepped, run, next_of, name_of_token, constant_value, matched, name_matched, replaced, constant_matched}
 use Rattle.grammar.specs.Faults.{Fault, faults_of, faults_at}
@@ -46,7 +46,8 @@ fits bottom None = true
 fits true (Some items) = at_bottom items
 fits false (Some items) = has_none items
 
-level_fits : (n : ℕ) (b : Bool) → fits false (if b then Some (Part (Level (n + 1)) ∷ Part (Tail n) ∷ []) else Some (Part Unary ∷ [])) ≡ true
+level_fits : (n : ℕ) (b : Bool) →
+    fits false (if b then Some (Part (Level (n + 1)) ∷ Part (Tail n) ∷ []) else Some (Part Unary ∷ [])) ≡ true
 level_fits n true = refl
 level_fits n false = refl
 
@@ -124,15 +125,19 @@ choice_fits MoreArguments next after = refl
 no_true : false ≡ true → ⊥
 no_true e = cc
 
-none_above : (items stack : List Item) → has_none items ≡ true → at_bottom stack ≡ true → at_bottom (items ++ stack) ≡ true
+none_above : (items stack : List Item) → has_none items ≡ true → at_bottom stack ≡ true →
+    at_bottom (items ++ stack) ≡ true
 none_above [] stack none h = h
 none_above (item ∷ items) stack none h = by (is_bottom item) none (λ e. none_above items stack e h)
   where
-    by : (b : Bool) → (if b then false else has_none items) ≡ true → (has_none items ≡ true → at_bottom (items ++ stack) ≡ true) → (if b then is_nothing (items ++ stack) else at_bottom (items ++ stack)) ≡ true
+    by : (b : Bool) → (if b then false else has_none items) ≡ true →
+        (has_none items ≡ true → at_bottom (items ++ stack) ≡ true) →
+        (if b then is_nothing (items ++ stack) else at_bottom (items ++ stack)) ≡ true
     by true none each = absurd (no_true none)
     by false none each = each none
 
-items_above : (b : Bool) (items stack : List Item) → fits b (Some items) ≡ true → (if b then is_nothing stack else at_bottom stack) ≡ true → at_bottom (items ++ stack) ≡ true
+items_above : (b : Bool) (items stack : List Item) → fits b (Some items) ≡ true →
+    (if b then is_nothing stack else at_bottom stack) ≡ true → at_bottom (items ++ stack) ≡ true
 items_above true items [] fit h = subst (λ xs. at_bottom xs ≡ true) (sym (append-nil items)) fit
 items_above true items (item ∷ stack) fit h = absurd cc
 items_above false items stack fit h = none_above items stack fit h
@@ -183,7 +188,8 @@ constant_is_not_last token.End value h = absurd cc
 constant_is_not_last (token.Fault lexical_error) value h = absurd cc
 
 -- after a token that isn't the last there is another
-left_behind : (item : Item) (stack : List Item) (rest : List LocatedToken) → is_last (next_of rest) ≡ false → Left (item ∷ stack) rest → Left stack (drop 1 rest)
+left_behind : (item : Item) (stack : List Item) (rest : List LocatedToken) → is_last (next_of rest) ≡ false →
+    Left (item ∷ stack) rest → Left stack (drop 1 rest)
 left_behind item stack [] other h = absurd cc
 left_behind item stack (located_token ∷ []) other h = absurd cc
 left_behind item stack (located_token ∷ next ∷ rest) other h = h
@@ -193,78 +199,105 @@ left_at_end [] item h = refl
 left_at_end (located_token ∷ []) item h = refl
 left_at_end (located_token ∷ next ∷ rest) item h = h
 
-matched_leads : (b : Bool) (item : Item) (stack : List Item) (rest : List LocatedToken) (values : List Value) (scope : Scope) (functions : List Definition) →
-    at_bottom stack ≡ true → (b ≡ true → is_last (next_of rest) ≡ false) → Left (item ∷ stack) rest → Leads (matched b stack rest values scope functions)
-matched_leads true item stack rest values scope functions bottom other h = record { bottom = bottom; left = left_behind item stack rest (other refl) h }
+matched_leads : (b : Bool) (item : Item) (stack : List Item) (rest : List LocatedToken) (values : List Value)
+    (scope : Scope) (functions : List Definition) →
+    at_bottom stack ≡ true → (b ≡ true → is_last (next_of rest) ≡ false) → Left (item ∷ stack) rest →
+    Leads (matched b stack rest values scope functions)
+matched_leads true item stack rest values scope functions bottom other h =
+    record { bottom = bottom; left = left_behind item stack rest (other refl) h }
 matched_leads false item stack rest values scope functions bottom other h = tt
 
-name_leads : (role : Role) (name : Option (List ℕ)) (item : Item) (stack : List Item) (rest : List LocatedToken) (values : List Value) (scope : Scope) (functions : List Definition) →
-    at_bottom stack ≡ true → ((n : List ℕ) → name ≡ Some n → is_last (next_of rest) ≡ false) → Left (item ∷ stack) rest → Leads (name_matched role name stack rest values scope functions)
-name_leads role (Some name) item stack rest values scope functions bottom other h = record { bottom = bottom; left = left_behind item stack rest (other name refl) h }
+name_leads : (role : Role) (name : Option (List ℕ)) (item : Item) (stack : List Item) (rest : List LocatedToken)
+    (values : List Value) (scope : Scope) (functions : List Definition) →
+    at_bottom stack ≡ true → ((n : List ℕ) → name ≡ Some n → is_last (next_of rest) ≡ false) →
+    Left (item ∷ stack) rest → Leads (name_matched role name stack rest values scope functions)
+name_leads role (Some name) item stack rest values scope functions bottom other h =
+    record { bottom = bottom; left = left_behind item stack rest (other name refl) h }
 name_leads role None item stack rest values scope functions bottom other h = tt
 
-constant_leads : (value : Option ℕ) (item : Item) (stack : List Item) (rest : List LocatedToken) (values : List Value) (scope : Scope) (functions : List Definition) →
-    at_bottom stack ≡ true → ((n : ℕ) → value ≡ Some n → is_last (next_of rest) ≡ false) → Left (item ∷ stack) rest → Leads (constant_matched value stack rest values scope functions)
-constant_leads (Some value) item stack rest values scope functions bottom other h = record { bottom = bottom; left = left_behind item stack rest (other value refl) h }
+constant_leads : (value : Option ℕ) (item : Item) (stack : List Item) (rest : List LocatedToken) (values : List Value)
+    (scope : Scope) (functions : List Definition) →
+    at_bottom stack ≡ true → ((n : ℕ) → value ≡ Some n → is_last (next_of rest) ≡ false) → Left (item ∷ stack) rest →
+    Leads (constant_matched value stack rest values scope functions)
+constant_leads (Some value) item stack rest values scope functions bottom other h =
+    record { bottom = bottom; left = left_behind item stack rest (other value refl) h }
 constant_leads None item stack rest values scope functions bottom other h = tt
 
-end_leads : (b : Bool) (stack : List Item) (rest : List LocatedToken) (values : List Value) (scope : Scope) (functions : List Definition) →
+end_leads : (b : Bool) (stack : List Item) (rest : List LocatedToken) (values : List Value) (scope : Scope)
+    (functions : List Definition) →
     is_nothing stack ≡ true → Left (AnEnd ∷ stack) rest → Leads (matched b stack rest values scope functions)
 end_leads true [] rest values scope functions bottom h = record { bottom = refl; left = left_at_end rest AnEnd h }
 end_leads true (item ∷ stack) rest values scope functions bottom h = absurd cc
 end_leads false stack rest values scope functions bottom h = tt
 
 -- if an item is left to derive, tokens are left, whatever the items are
-left_same : (item : Item) (stack items : List Item) (rest : List LocatedToken) → Left (item ∷ stack) rest → Left items rest
+left_same : (item : Item) (stack items : List Item) (rest : List LocatedToken) → Left (item ∷ stack) rest →
+    Left items rest
 left_same item stack items [] h = absurd cc
 left_same item stack items (located_token ∷ rest) h = h
 
-replaced_leads : (symbol : Symbol) (items : Production) (stack : List Item) (rest : List LocatedToken) (values : List Value) (scope : Scope) (functions : List Definition) →
-    fits (is_bottom (Part symbol)) items ≡ true → IsGrounded (Part symbol ∷ stack) rest → Leads (replaced items stack rest values scope functions)
+replaced_leads : (symbol : Symbol) (items : Production) (stack : List Item) (rest : List LocatedToken)
+    (values : List Value) (scope : Scope) (functions : List Definition) →
+    fits (is_bottom (Part symbol)) items ≡ true → IsGrounded (Part symbol ∷ stack) rest →
+    Leads (replaced items stack rest values scope functions)
 replaced_leads symbol (Some items) stack rest values scope functions fit h = record {
   bottom = items_above (is_bottom (Part symbol)) items stack fit h.bottom;
   left = left_same (Part symbol) stack (items ++ stack) rest h.left;
 }
 replaced_leads symbol None stack rest values scope functions fit h = tt
 
-step_leads : (stack : List Item) (rest : List LocatedToken) (values : List Value) (scope : Scope) (functions : List Definition) → IsGrounded stack rest → Leads (step_of stack rest values scope functions)
+step_leads : (stack : List Item) (rest : List LocatedToken) (values : List Value) (scope : Scope)
+    (functions : List Definition) → IsGrounded stack rest → Leads (step_of stack rest values scope functions)
 step_leads [] rest values scope functions h = tt
-step_leads (Exactly m ∷ stack) rest values scope functions h = matched_leads _ (Exactly m) stack rest values scope functions h.bottom (punctuator_is_not_last m (next_of rest)) h.left
-step_leads (AWord w ∷ stack) rest values scope functions h = matched_leads _ (AWord w) stack rest values scope functions h.bottom (word_is_not_last w (next_of rest)) h.left
-step_leads (AName role ∷ stack) rest values scope functions h = name_leads role _ (AName role) stack rest values scope functions h.bottom (name_is_not_last (next_of rest)) h.left
-step_leads (AConstant ∷ stack) rest values scope functions h = constant_leads _ AConstant stack rest values scope functions h.bottom (constant_is_not_last (next_of rest)) h.left
+step_leads (Exactly m ∷ stack) rest values scope functions h =
+    matched_leads _ (Exactly m) stack rest values scope functions h.bottom (punctuator_is_not_last m (next_of rest))
+    h.left
+step_leads (AWord w ∷ stack) rest values scope functions h =
+    matched_leads _ (AWord w) stack rest values scope functions h.bottom (word_is_not_last w (next_of rest)) h.left
+step_leads (AName role ∷ stack) rest values scope functions h =
+    name_leads role _ (AName role) stack rest values scope functions h.bottom (name_is_not_last (next_of rest)) h.left
+step_leads (AConstant ∷ stack) rest values scope functions h =
+    constant_leads _ AConstant stack rest values scope functions h.bottom (constant_is_not_last (next_of rest)) h.left
 step_leads (AnEnd ∷ stack) rest values scope functions h = end_leads _ stack rest values scope functions h.bottom h.left
-step_leads (Part symbol ∷ stack) rest values scope functions h = replaced_leads symbol _ stack rest values scope functions (choice_fits symbol (next_of rest) _) h
-step_leads (Make rule ∷ stack) rest values scope functions h = record { bottom = h.bottom; left = left_same (Make rule) stack stack rest h.left }
-step_leads (Close ∷ stack) rest values scope functions h = record { bottom = h.bottom; left = left_same Close stack stack rest h.left }
+step_leads (Part symbol ∷ stack) rest values scope functions h =
+    replaced_leads symbol _ stack rest values scope functions (choice_fits symbol (next_of rest) _) h
+step_leads (Make rule ∷ stack) rest values scope functions h =
+    record { bottom = h.bottom; left = left_same (Make rule) stack stack rest h.left }
+step_leads (Close ∷ stack) rest values scope functions h =
+    record { bottom = h.bottom; left = left_same Close stack stack rest h.left }
 
 guarded_leads : (b : Bool) (o : Option State) → Leads o → Leads (if b then None else o)
 guarded_leads true o h = tt
 guarded_leads false o h = h
 
-kept_grounded : (s : State) (o : Option State) → IsGrounded s.stack s.rest → Leads o → IsGrounded (unwrap_or o s).stack (unwrap_or o s).rest
+kept_grounded : (s : State) (o : Option State) → IsGrounded s.stack s.rest → Leads o →
+    IsGrounded (unwrap_or o s).stack (unwrap_or o s).rest
 kept_grounded s None h k = h
 kept_grounded s (Some t) h k = k
 
 run_grounded : (n : ℕ) (s : State) → IsGrounded s.stack s.rest → IsGrounded (run n s).stack (run n s).rest
 run_grounded zero s h = h
 run_grounded (suc n) s h = run_grounded n (stepped s)
-    (kept_grounded s (step s) h (guarded_leads (is_fault (next_of s.rest)) _ (step_leads s.stack s.rest s.values s.scope s.functions h)))
+    (kept_grounded s (step s) h
+    (guarded_leads (is_fault (next_of s.rest)) _ (step_leads s.stack s.rest s.values s.scope s.functions h)))
 
 start_left : (located_tokens : List LocatedToken) → EndsWithLast located_tokens → Left (Part Source ∷ []) located_tokens
 start_left [] h = absurd h
 start_left (located_token ∷ rest) h = h
 
-some_left : (profile : Profile) (f : Fault) (stack : List Item) (rest : List LocatedToken) (values : List Value) (scope : Scope) (functions : List Definition) →
+some_left : (profile : Profile) (f : Fault) (stack : List Item) (rest : List LocatedToken) (values : List Value)
+    (scope : Scope) (functions : List Definition) →
     Left stack rest → IsIn f (faults_of profile stack rest values scope functions) → 0 < length rest
 some_left profile f [] [] values scope functions left h = absurd h
 some_left profile f (item ∷ stack) [] values scope functions left h = absurd cc
 some_left profile f stack (located_token ∷ rest) values scope functions left h = omega arith
 
 -- a fault is at a token
-pub fault_at_token : (profile : Profile) (located_tokens : List LocatedToken) (n : ℕ) (f : Fault) → EndsWithLast located_tokens →
+pub fault_at_token : (profile : Profile) (located_tokens : List LocatedToken) (n : ℕ) (f : Fault) →
+    EndsWithLast located_tokens →
     IsIn f (faults_at profile (run n (start located_tokens))) → 0 < length (run n (start located_tokens)).rest
 fault_at_token profile located_tokens n f ends h =
     let s : State = run n (start located_tokens) in
-    let grounded : IsGrounded s.stack s.rest = run_grounded n (start located_tokens) (record { bottom = refl; left = start_left located_tokens ends }) in
+    let grounded : IsGrounded s.stack s.rest =
+    run_grounded n (start located_tokens) (record { bottom = refl; left = start_left located_tokens ends }) in
     some_left profile f s.stack s.rest s.values s.scope s.functions grounded.left h

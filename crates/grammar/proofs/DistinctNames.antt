@@ -28,7 +28,8 @@ among_append k n (x ∷ ns) (inr h) = further (among_append k n ns h)
     further (inl i) = inl (inr i)
     further (inr e) = inr e
 
-pub distinct_append : {A : Type 0} (ns : List A) (n : A) → AreDistinct ns → (IsAmong n ns → ⊥) → AreDistinct (ns ++ n ∷ [])
+pub distinct_append : {A : Type 0} (ns : List A) (n : A) → AreDistinct ns → (IsAmong n ns → ⊥) →
+    AreDistinct (ns ++ n ∷ [])
 distinct_append [] n h new = (λ no. no, tt)
 distinct_append (x ∷ ns) n h new = (λ i. apart (among_append x n ns i), distinct_append ns n h.1 (λ i. new (inr i)))
   where
@@ -59,7 +60,8 @@ has_place : (name : List ℕ) (all : List (List ℕ)) → IsAmong name all → p
 has_place name [] i = absurd i
 has_place name (x ∷ all) i = at (λ among. has_place name all among) (bytes_eq name x) refl i
   where
-    at : (IsAmong name all → position_or_len (bytes_eq name) all < length all) → (b : Bool) → bytes_eq name x ≡ b → IsAmong name (x ∷ all)
+    at : (IsAmong name all → position_or_len (bytes_eq name) all < length all) → (b : Bool) → bytes_eq name x ≡ b →
+        IsAmong name (x ∷ all)
         → position_or_len (bytes_eq name) (x ∷ all) < length (x ∷ all)
     at later true is i = rw is (omega arith)
     at later false is (inl same) = absurd (false≢true (sym is ∙ (bytes_decides name x).1 same))
@@ -67,7 +69,8 @@ has_place name (x ∷ all) i = at (λ among. has_place name all among) (bytes_eq
 
 -- a name without a number isn't there
 pub not_named : (name : List ℕ) (all : List (List ℕ)) → number_of_name name all ≡ None → IsAmong name all → ⊥
-not_named name all none i = absurd (at (rw (lt-ltb (position_or_len (bytes_eq name) all) (length all) (has_place name all i)) at none))
+not_named name all none i =
+    absurd (at (rw (lt-ltb (position_or_len (bytes_eq name) all) (length all) (has_place name all i)) at none))
   where
     at : Some (position_or_len (bytes_eq name) all) ≡ None → ⊥
     at e = cc
@@ -78,18 +81,24 @@ stands_there : (name : List ℕ) (all : List (List ℕ)) → position_or_len (by
 stands_there name [] h = absurd (omega (arith, h))
 stands_there name (x ∷ all) h = at (λ less. stands_there name all less) (bytes_eq name x) refl
   where
-    at : (position_or_len (bytes_eq name) all < length all → slice_get all (position_or_len (bytes_eq name) all) ≡ Some name) → (b : Bool) → bytes_eq name x ≡ b
+    at :
+        (position_or_len (bytes_eq name) all < length all →
+        slice_get all (position_or_len (bytes_eq name) all) ≡ Some name) → (b : Bool) → bytes_eq name x ≡ b
         → slice_get (x ∷ all) (position_or_len (bytes_eq name) (x ∷ all)) ≡ Some name
     at later true is = rw is (ap (λ (l : List ℕ). Some l) (sym ((bytes_decides name x).0 is)))
     at later false is =
         let within = rw is at h in
         let one_behind : (n : ℕ) → suc n ≡ 1 + n = λ n. omega arith in
-        rw is (subst (λ (n : ℕ). slice_get (x ∷ all) n ≡ Some name) (one_behind (position_or_len (bytes_eq name) all)) (later (omega (arith, within))))
+        rw is
+        (subst (λ (n : ℕ). slice_get (x ∷ all) n ≡ Some name) (one_behind (position_or_len (bytes_eq name) all))
+        (later (omega (arith, within))))
 
-pub named_there : (name : List ℕ) (all : List (List ℕ)) (k : ℕ) → number_of_name name all ≡ Some k → slice_get all k ≡ Some name
+pub named_there : (name : List ℕ) (all : List (List ℕ)) (k : ℕ) → number_of_name name all ≡ Some k →
+    slice_get all k ≡ Some name
 named_there name all k e = at (nat_lt (position_or_len (bytes_eq name) all) (length all)) refl e
   where
-    at : (b : Bool) → nat_lt (position_or_len (bytes_eq name) all) (length all) ≡ b → cond b (Some (position_or_len (bytes_eq name) all)) None ≡ Some k → slice_get all k ≡ Some name
+    at : (b : Bool) → nat_lt (position_or_len (bytes_eq name) all) (length all) ≡ b →
+        cond b (Some (position_or_len (bytes_eq name) all)) None ≡ Some k → slice_get all k ≡ Some name
     at true less e =
         let same : position_or_len (bytes_eq name) all ≡ k = cc in
         subst (λ (n : ℕ). slice_get all n ≡ Some name) same (stands_there name all (less_of _ _ less))
@@ -100,32 +109,42 @@ none_of None h = refl
 none_of (Some x) h = absurd (cc)
 
 -- a name that is new has no number
-pub local_free : (name : List ℕ) (scope : Scope) → is_local_new name scope ≡ true → IsAmong name scope.current.variables → ⊥
+pub local_free : (name : List ℕ) (scope : Scope) → is_local_new name scope ≡ true →
+    IsAmong name scope.current.variables → ⊥
 local_free name scope new = not_named name scope.current.variables (none_of _ new)
 
-pub external_free : (name : List ℕ) (scope : Scope) → is_external_new name scope ≡ true → IsAmong name scope.externals → ⊥
+pub external_free : (name : List ℕ) (scope : Scope) → is_external_new name scope ≡ true → IsAmong name scope.externals →
+    ⊥
 external_free name scope new = not_named name scope.externals (none_of _ new)
 
-pub variable_free : (name : List ℕ) (scope : Scope) → is_variable_new name scope ≡ true → IsAmong name scope.current.variables → ⊥
-variable_free name scope new = not_named name scope.current.variables (first_none (number_of_name name scope.current.variables) (number_of_name name scope.externals) new)
+pub variable_free : (name : List ℕ) (scope : Scope) → is_variable_new name scope ≡ true →
+    IsAmong name scope.current.variables → ⊥
+variable_free name scope new =
+    not_named name scope.current.variables
+    (first_none (number_of_name name scope.current.variables) (number_of_name name scope.externals) new)
   where
-    first_none : (p q : Option ℕ) → is_none (option_or (option_map var.Local p) (option_map var.External q)) ≡ true → p ≡ None
+    first_none : (p q : Option ℕ) → is_none (option_or (option_map var.Local p) (option_map var.External q)) ≡ true →
+        p ≡ None
     first_none None q h = refl
     first_none (Some k) q h = absurd (cc)
 
-pub function_free : (name : List ℕ) (scope : Scope) → is_function_new name scope ≡ true → IsAmong name (names scope.functions) → ⊥
+pub function_free : (name : List ℕ) (scope : Scope) → is_function_new name scope ≡ true →
+    IsAmong name (names scope.functions) → ⊥
 function_free name scope new = not_named name (names scope.functions) (none_of _ (own (is_intrinsic name) new))
   where
-    own : (b : Bool) → (if b then false else is_none (function_number name scope)) ≡ true → is_none (function_number name scope) ≡ true
+    own : (b : Bool) → (if b then false else is_none (function_number name scope)) ≡ true →
+        is_none (function_number name scope) ≡ true
     own true h = absurd (cc)
     own false h = h
 
 -- one function more, which has a name alone
-pub names_more : (functions : List FunctionNames) (name : List ℕ) → names (functions ++ only_named name ∷ []) ≡ names functions ++ name ∷ []
+pub names_more : (functions : List FunctionNames) (name : List ℕ) →
+    names (functions ++ only_named name ∷ []) ≡ names functions ++ name ∷ []
 names_more functions name = map-append (λ (f : FunctionNames). f.name) functions (only_named name ∷ [])
 
 -- a function that keeps its name changes none
-pub names_kept : (functions : List FunctionNames) (number : ℕ) (f : FunctionNames) → slice_get (names functions) number ≡ Some f.name
+pub names_kept : (functions : List FunctionNames) (number : ℕ) (f : FunctionNames) →
+    slice_get (names functions) number ≡ Some f.name
     → names (set functions number f) ≡ names functions
 names_kept [] number f is = refl
 names_kept (g ∷ functions) zero f is = ap (λ (n : List ℕ). n ∷ names functions) (sym (some_name g.name f.name is))
@@ -143,7 +162,8 @@ pub names_wider : (all more : List (List ℕ)) (ds : List Definition) → HaveNa
 names_wider all more [] h = tt
 names_wider all more (d ∷ ds) h = (get_append all more d.number d.function.name h.0, names_wider all more ds h.1)
 
-pub names_append : (all : List (List ℕ)) (ds : List Definition) (d : Definition) → HaveNames all ds → slice_get all d.number ≡ Some d.function.name
+pub names_append : (all : List (List ℕ)) (ds : List Definition) (d : Definition) → HaveNames all ds →
+    slice_get all d.number ≡ Some d.function.name
     → HaveNames all (ds ++ d ∷ [])
 names_append all [] d h e = (e, tt)
 names_append all (x ∷ ds) d h e = (h.0, names_append all ds d h.1 e)

@@ -8,7 +8,7 @@ use Rattle.tokens.specs.declared.located_tokens.Punctuator.TheVariants as punctu
 use Rattle.tokens.specs.declared.located_tokens.Token.{Token}
 use Rattle.tokens.specs.declared.located_tokens.Token.TheVariants as token
 use Rattle.tokens.specs.declared.located_tokens.Word.TheVariants as word
-use Rattle.grammar.specs.declared.operators.Op.{Op}
+use Rattle.arith.specs.declared.operators.Op.{Op}
 use Rattle.grammar.specs.declared.operators.StoreOp.{StoreOp}
 use Rattle.grammar.specs.Derivation.{State, state, Value, Definition, step, step_of, stepped, run, next_of, after_of, matched, name_matched, replaced, constant_matched}
 use Rattle.grammar.specs.Grammar.{Symbol, Source, Types, Head, More, Parameters, ParameterTypes, FunctionBlock, Block, Declarations, Statements, Statement, ElsePart, Back, Expression, Level, Tail, Unary, Primary, Arguments, MoreArguments, Role, Item, Exactly, AWord, AName, AConstant, AnEnd, Part, Make, Close, Production, choice, assignment_or, tail_production, is_fault}
@@ -60,7 +60,8 @@ Lighter symbol (Some items) = (stack : List Item) → load (items ++ stack) < lo
 
 -- one that is empty, of a symbol with the most credit
 empty_lighter : (symbol : Symbol) → credit_of symbol ≡ 40 → Lighter symbol (Some [])
-empty_lighter symbol most stack = let one : 1 ≤ cost (Part symbol) = costs_one symbol in omega (arith, credit_small stack)
+empty_lighter symbol most stack =
+    let one : 1 ≤ cost (Part symbol) = costs_one symbol in omega (arith, credit_small stack)
   where
     costs_one : (symbol : Symbol) → 1 ≤ cost (Part symbol)
     costs_one Source = omega arith
@@ -79,7 +80,8 @@ assignment_lighter (Some op) m = λ stack. omega arith
 lower : (n : ℕ) → nat_lt n 11 ≡ true → n < 11
 lower n e = grind (arith, nat_tests)
 
-level_lighter : (n : ℕ) (b : Bool) → nat_lt n 11 ≡ b → Lighter (Level n) (if b then Some (Part (Level (n + 1)) ∷ Part (Tail n) ∷ []) else Some (Part Unary ∷ []))
+level_lighter : (n : ℕ) (b : Bool) → nat_lt n 11 ≡ b →
+    Lighter (Level n) (if b then Some (Part (Level (n + 1)) ∷ Part (Tail n) ∷ []) else Some (Part Unary ∷ []))
 level_lighter n true e = λ stack. let small : n < 11 = lower n e in omega arith
 level_lighter n false e = λ stack. omega arith
 
@@ -187,39 +189,57 @@ Falls n None = Unit {0}
 Falls n (Some t) = weight t < n
 
 -- the item that was matched is gone, and so is its token
-matched_falls : (fits : Bool) (item : Item) (stack : List Item) (located_token : LocatedToken) (rest : List LocatedToken) (values : List Value) (scope : Scope) (functions : List Definition) →
-    1 ≤ cost item → Falls (weight (state (item ∷ stack) (located_token ∷ rest) values scope functions)) (matched fits stack (located_token ∷ rest) values scope functions)
+matched_falls : (fits : Bool) (item : Item) (stack : List Item) (located_token : LocatedToken)
+    (rest : List LocatedToken) (values : List Value) (scope : Scope) (functions : List Definition) →
+    1 ≤ cost item →
+    Falls (weight (state (item ∷ stack) (located_token ∷ rest) values scope functions))
+    (matched fits stack (located_token ∷ rest) values scope functions)
 matched_falls false item stack located_token rest values scope functions h = tt
 matched_falls true item stack located_token rest values scope functions h = omega (arith, credit_small stack)
 
-name_falls : (role : Role) (name : Option (List ℕ)) (stack : List Item) (located_token : LocatedToken) (rest : List LocatedToken) (values : List Value) (scope : Scope) (functions : List Definition) →
-    Falls (weight (state (AName role ∷ stack) (located_token ∷ rest) values scope functions)) (name_matched role name stack (located_token ∷ rest) values scope functions)
+name_falls : (role : Role) (name : Option (List ℕ)) (stack : List Item) (located_token : LocatedToken)
+    (rest : List LocatedToken) (values : List Value) (scope : Scope) (functions : List Definition) →
+    Falls (weight (state (AName role ∷ stack) (located_token ∷ rest) values scope functions))
+    (name_matched role name stack (located_token ∷ rest) values scope functions)
 name_falls role None stack located_token rest values scope functions = tt
 name_falls role (Some name) stack located_token rest values scope functions = omega (arith, credit_small stack)
 
-constant_falls : (value : Option ℕ) (stack : List Item) (located_token : LocatedToken) (rest : List LocatedToken) (values : List Value) (scope : Scope) (functions : List Definition) →
-    Falls (weight (state (AConstant ∷ stack) (located_token ∷ rest) values scope functions)) (constant_matched value stack (located_token ∷ rest) values scope functions)
+constant_falls : (value : Option ℕ) (stack : List Item) (located_token : LocatedToken) (rest : List LocatedToken)
+    (values : List Value) (scope : Scope) (functions : List Definition) →
+    Falls (weight (state (AConstant ∷ stack) (located_token ∷ rest) values scope functions))
+    (constant_matched value stack (located_token ∷ rest) values scope functions)
 constant_falls None stack located_token rest values scope functions = tt
 constant_falls (Some value) stack located_token rest values scope functions = omega (arith, credit_small stack)
 
-replaced_falls : (symbol : Symbol) (items : Production) (stack : List Item) (rest : List LocatedToken) (values : List Value) (scope : Scope) (functions : List Definition) →
-    Lighter symbol items → Falls (weight (state (Part symbol ∷ stack) rest values scope functions)) (replaced items stack rest values scope functions)
+replaced_falls : (symbol : Symbol) (items : Production) (stack : List Item) (rest : List LocatedToken)
+    (values : List Value) (scope : Scope) (functions : List Definition) →
+    Lighter symbol items →
+    Falls (weight (state (Part symbol ∷ stack) rest values scope functions))
+    (replaced items stack rest values scope functions)
 replaced_falls symbol None stack rest values scope functions h = tt
 replaced_falls symbol (Some items) stack rest values scope functions h = omega (arith, h stack)
 
-falls_of : (stack : List Item) (rest : List LocatedToken) (values : List Value) (scope : Scope) (functions : List Definition) → Falls (weight (state stack rest values scope functions)) (step_of stack rest values scope functions)
+falls_of : (stack : List Item) (rest : List LocatedToken) (values : List Value) (scope : Scope)
+    (functions : List Definition) →
+    Falls (weight (state stack rest values scope functions)) (step_of stack rest values scope functions)
 falls_of [] rest values scope functions = tt
 falls_of (Exactly m ∷ stack) [] values scope functions = tt
-falls_of (Exactly m ∷ stack) (located_token ∷ rest) values scope functions = matched_falls _ (Exactly m) stack located_token rest values scope functions (omega arith)
+falls_of (Exactly m ∷ stack) (located_token ∷ rest) values scope functions =
+    matched_falls _ (Exactly m) stack located_token rest values scope functions (omega arith)
 falls_of (AWord w ∷ stack) [] values scope functions = tt
-falls_of (AWord w ∷ stack) (located_token ∷ rest) values scope functions = matched_falls _ (AWord w) stack located_token rest values scope functions (omega arith)
+falls_of (AWord w ∷ stack) (located_token ∷ rest) values scope functions =
+    matched_falls _ (AWord w) stack located_token rest values scope functions (omega arith)
 falls_of (AName role ∷ stack) [] values scope functions = tt
-falls_of (AName role ∷ stack) (located_token ∷ rest) values scope functions = name_falls role _ stack located_token rest values scope functions
+falls_of (AName role ∷ stack) (located_token ∷ rest) values scope functions =
+    name_falls role _ stack located_token rest values scope functions
 falls_of (AnEnd ∷ stack) [] values scope functions = omega (arith, credit_small stack)
-falls_of (AnEnd ∷ stack) (located_token ∷ rest) values scope functions = matched_falls _ AnEnd stack located_token rest values scope functions (omega arith)
+falls_of (AnEnd ∷ stack) (located_token ∷ rest) values scope functions =
+    matched_falls _ AnEnd stack located_token rest values scope functions (omega arith)
 falls_of (AConstant ∷ stack) [] values scope functions = tt
-falls_of (AConstant ∷ stack) (located_token ∷ rest) values scope functions = constant_falls _ stack located_token rest values scope functions
-falls_of (Part symbol ∷ stack) rest values scope functions = replaced_falls symbol _ stack rest values scope functions (lighter symbol (next_of rest) (after_of rest))
+falls_of (AConstant ∷ stack) (located_token ∷ rest) values scope functions =
+    constant_falls _ stack located_token rest values scope functions
+falls_of (Part symbol ∷ stack) rest values scope functions =
+    replaced_falls symbol _ stack rest values scope functions (lighter symbol (next_of rest) (after_of rest))
 falls_of (Make rule ∷ stack) rest values scope functions = omega (arith, credit_small stack)
 falls_of (Close ∷ stack) rest values scope functions = omega (arith, credit_small stack)
 
@@ -241,7 +261,8 @@ pub stays_final : (n : ℕ) (s : State) → IsFinal s → run n s ≡ s
 stays_final n s e = stays n s (final_stays s e)
 
 -- as many steps as the weight lead to the end
-ends_at : (n : ℕ) (s : State) (o : Option State) → step s ≡ o → weight s ≤ n → Falls (weight s) o → ((t : State) (m : ℕ) → suc m ≡ n → weight t ≤ m → IsFinal (run m t)) → IsFinal (run n s)
+ends_at : (n : ℕ) (s : State) (o : Option State) → step s ≡ o → weight s ≤ n → Falls (weight s) o →
+    ((t : State) (m : ℕ) → suc m ≡ n → weight t ≤ m → IsFinal (run m t)) → IsFinal (run n s)
 ends_at n s None e small h again = subst (λ (t : State). IsFinal t) (sym (stays_final n s e)) e
 ends_at zero s (Some t) e small h again = absurd (omega arith)
 ends_at (suc n) s (Some t) e small h again =
@@ -250,7 +271,9 @@ ends_at (suc n) s (Some t) e small h again =
 
 pub ends : (n : ℕ) (s : State) → weight s ≤ n → IsFinal (run n s)
 ends zero s small = ends_at zero s (step s) refl small (falls s) (λ t m e h. absurd (omega arith))
-ends (suc n) s small = ends_at (suc n) s (step s) refl small (falls s) (λ t m e h. subst (λ (k : ℕ). IsFinal (run k t)) (sym (pred_same m n e)) (ends n t (omega arith)))
+ends (suc n) s small =
+    ends_at (suc n) s (step s) refl small (falls s)
+    (λ t m e h. subst (λ (k : ℕ). IsFinal (run k t)) (sym (pred_same m n e)) (ends n t (omega arith)))
   where
     pred_same : (m n : ℕ) → suc m ≡ suc n → m ≡ n
     pred_same m n e = omega arith

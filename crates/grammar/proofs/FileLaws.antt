@@ -26,7 +26,8 @@ use Rattle.grammar.proofs.Places.{map_of_places}
 -- Functions by number.
 
 -- a number that was begun is that of a function defined
-any_defined : (number : ℕ) (ds : List Definition) → list_any (λ k. k == number) (order_of ds) ≡ is_some (defined_as number ds)
+any_defined : (number : ℕ) (ds : List Definition) →
+    list_any (λ k. k == number) (order_of ds) ≡ is_some (defined_as number ds)
 any_defined number [] = refl
 any_defined number (d ∷ ds) = at_test (any_defined number ds) (d.number == number)
   where
@@ -45,7 +46,8 @@ record AreAll (number : ℕ) (lines : List ℕ) (ds : List Definition) : Type 0 
 none_mentioned : (number : ℕ) (ds : List Definition) → AreAll number [] ds
 none_mentioned number ds = record { functions = []; are = refl; count = refl; each = λ k h. absurd (omega arith) }
 
-one_more : (number line : ℕ) (lines : List ℕ) (ds : List Definition) (f : Function) → defined_as number ds ≡ Some f → AreAll (number + 1) lines ds → AreAll number (line ∷ lines) ds
+one_more : (number line : ℕ) (lines : List ℕ) (ds : List Definition) (f : Function) → defined_as number ds ≡ Some f →
+    AreAll (number + 1) lines ds → AreAll number (line ∷ lines) ds
 one_more number line lines ds f here more = record {
   functions = f ∷ more.functions;
   are = rw (here, more.are) refl;
@@ -55,28 +57,39 @@ one_more number line lines ds f here more = record {
   where
     each : (k : ℕ) → k < length (line ∷ lines) → slice_get (f ∷ more.functions) k ≡ defined_as (number + k) ds
     each zero h = let at : number + 0 ≡ number = omega arith in sym here ∙ ap (λ n. defined_as n ds) (sym at)
-    each (suc k) h = let at : number + suc k ≡ number + 1 + k = omega arith in more.each k (omega arith) ∙ ap (λ n. defined_as n ds) (sym at)
+    each (suc k) h =
+        let at : number + suc k ≡ number + 1 + k = omega arith in
+        more.each k (omega arith) ∙ ap (λ n. defined_as n ds) (sym at)
 
 -- each function that was mentioned is defined
-all_are : (number : ℕ) (lines : List ℕ) (ds : List Definition) → line_of_undefined number lines (order_of ds) ≡ None → AreAll number lines ds
+all_are : (number : ℕ) (lines : List ℕ) (ds : List Definition) → line_of_undefined number lines (order_of ds) ≡ None →
+    AreAll number lines ds
 all_are number [] ds e = none_mentioned number ds
-all_are number (line ∷ lines) ds e = at_place (λ h. all_are (number + 1) lines ds h) (defined_as number ds) refl (rw (any_defined number ds) at e)
+all_are number (line ∷ lines) ds e =
+    at_place (λ h. all_are (number + 1) lines ds h) (defined_as number ds) refl (rw (any_defined number ds) at e)
   where
-    at_place : (line_of_undefined (number + 1) lines (order_of ds) ≡ None → AreAll (number + 1) lines ds) → (o : Option Function) → defined_as number ds ≡ o →
-        (if is_some o then line_of_undefined (number + 1) lines (order_of ds) else Some line) ≡ None → AreAll number (line ∷ lines) ds
+    at_place : (line_of_undefined (number + 1) lines (order_of ds) ≡ None → AreAll (number + 1) lines ds) →
+        (o : Option Function) → defined_as number ds ≡ o →
+        (if is_some o then line_of_undefined (number + 1) lines (order_of ds) else Some line) ≡ None →
+        AreAll number (line ∷ lines) ds
     at_place again None is h = absurd (cc)
     at_place again (Some f) is h = one_more number line lines ds f is (again h)
 
 -- one isn't
-one_is_not : (number : ℕ) (lines : List ℕ) (ds : List Definition) (line : ℕ) → line_of_undefined number lines (order_of ds) ≡ Some line → all_defined number lines ds ≡ Err line
+one_is_not : (number : ℕ) (lines : List ℕ) (ds : List Definition) (line : ℕ) →
+    line_of_undefined number lines (order_of ds) ≡ Some line → all_defined number lines ds ≡ Err line
 one_is_not number [] ds line e = absurd (cc)
-one_is_not number (first ∷ lines) ds line e = at_place (λ h. one_is_not (number + 1) lines ds line h) (defined_as number ds) (rw (any_defined number ds) at e)
+one_is_not number (first ∷ lines) ds line e =
+    at_place (λ h. one_is_not (number + 1) lines ds line h) (defined_as number ds) (rw (any_defined number ds) at e)
   where
     some_same : (a b : ℕ) → Some a ≡ Some b → a ≡ b
     some_same a b h = cc
 
-    at_place : (line_of_undefined (number + 1) lines (order_of ds) ≡ Some line → all_defined (number + 1) lines ds ≡ Err line) → (o : Option Function) →
-        (if is_some o then line_of_undefined (number + 1) lines (order_of ds) else Some first) ≡ Some line → in_front o first (all_defined (number + 1) lines ds) ≡ Err line
+    at_place :
+        (line_of_undefined (number + 1) lines (order_of ds) ≡ Some line → all_defined (number + 1) lines ds ≡ Err line)
+        → (o : Option Function) →
+        (if is_some o then line_of_undefined (number + 1) lines (order_of ds) else Some first) ≡ Some line →
+        in_front o first (all_defined (number + 1) lines ds) ≡ Err line
     at_place again None h = ap Err (some_same first line h)
     at_place again (Some f) h = rw (again h) refl
 
@@ -87,9 +100,13 @@ abbrev pub AreThere : List Function → List Definition → Type 0
 AreThere functions [] = Unit {0}
 AreThere functions (d ∷ ds) = (slice_get functions d.number ≡ Some d.function) × AreThere functions ds
 
-pub there : (functions : List Function) (ds : List Definition) → AreDistinct (order_of ds) → ((k : ℕ) → IsAmong k (order_of ds) → slice_get functions k ≡ defined_as k ds) → AreThere functions ds
+pub there : (functions : List Function) (ds : List Definition) → AreDistinct (order_of ds) →
+    ((k : ℕ) → IsAmong k (order_of ds) → slice_get functions k ≡ defined_as k ds) → AreThere functions ds
 there functions [] distinct each = tt
-there functions (d ∷ ds) distinct each = (each d.number (inl refl) ∙ at_itself d.number, there functions ds distinct.1 (λ k i. each k (inr i) ∙ at_other k i (d.number == k) refl))
+there functions (d ∷ ds) distinct each = (
+  each d.number (inl refl) ∙ at_itself d.number,
+  there functions ds distinct.1 (λ k i. each k (inr i) ∙ at_other k i (d.number == k) refl),
+)
   where
     same : (n : ℕ) → (n == n) ≡ true
     same n = grind (arith, nat_tests)
@@ -100,17 +117,21 @@ there functions (d ∷ ds) distinct each = (each d.number (inl refl) ∙ at_itse
     at_itself : (n : ℕ) → (if n == n then Some d.function else defined_as n ds) ≡ Some d.function
     at_itself n = rw (same n) refl
 
-    at_other : (k : ℕ) → IsAmong k (order_of ds) → (b : Bool) → (d.number == k) ≡ b → (if d.number == k then Some d.function else defined_as k ds) ≡ defined_as k ds
+    at_other : (k : ℕ) → IsAmong k (order_of ds) → (b : Bool) → (d.number == k) ≡ b →
+        (if d.number == k then Some d.function else defined_as k ds) ≡ defined_as k ds
     at_other k i true e = absurd (distinct.0 (subst (λ (n : ℕ). IsAmong n (order_of ds)) (sym (equal d.number k e)) i))
     at_other k i false e = rw e refl
 
-pub actions_there : (functions : List Function) (ds : List Definition) → AreThere functions ds → functions_actions functions (order_of ds) ≡ definitions_actions ds
+pub actions_there : (functions : List Function) (ds : List Definition) → AreThere functions ds →
+    functions_actions functions (order_of ds) ≡ definitions_actions ds
 actions_there functions [] h = refl
-actions_there functions (d ∷ ds) h = ap₂ (λ a b. a ++ b) (ap (numbered_actions d.number) h.0) (actions_there functions ds h.1)
+actions_there functions (d ∷ ds) h =
+    ap₂ (λ a b. a ++ b) (ap (numbered_actions d.number) h.0) (actions_there functions ds h.1)
 
 -- The names of a file.
 
-pub named_at : (functions : List FunctionNames) (k : ℕ) (f : Function) (ds : List Definition) → AreNamed functions ds → defined_as k ds ≡ Some f → slice_get functions k ≡ Some (names_of_function f)
+pub named_at : (functions : List FunctionNames) (k : ℕ) (f : Function) (ds : List Definition) → AreNamed functions ds →
+    defined_as k ds ≡ Some f → slice_get functions k ≡ Some (names_of_function f)
 named_at functions k f [] h is = absurd (cc)
 named_at functions k f (d ∷ ds) h is = at_test (λ g. named_at functions k f ds h.1 g) (d.number == k) refl is
   where
@@ -120,9 +141,12 @@ named_at functions k f (d ∷ ds) h is = at_test (λ g. named_at functions k f d
     some_same : (a b : Function) → Some a ≡ Some b → a ≡ b
     some_same a b e = cc
 
-    at_test : (defined_as k ds ≡ Some f → slice_get functions k ≡ Some (names_of_function f)) → (b : Bool) → (d.number == k) ≡ b →
+    at_test : (defined_as k ds ≡ Some f → slice_get functions k ≡ Some (names_of_function f)) → (b : Bool) →
+        (d.number == k) ≡ b →
         (if b then Some d.function else defined_as k ds) ≡ Some f → slice_get functions k ≡ Some (names_of_function f)
-    at_test again true e g = ap (slice_get functions) (sym (equal d.number k e)) ∙ h.0 ∙ ap (λ x. Some (names_of_function x)) (some_same d.function f g)
+    at_test again true e g =
+        ap (slice_get functions) (sym (equal d.number k e)) ∙ h.0 ∙
+        ap (λ x. Some (names_of_function x)) (some_same d.function f g)
     at_test again false e g = again g
 
 -- The end of a derivation.
@@ -134,15 +158,20 @@ at_end scope ds = state [] [] [] scope ds
 begun_at_end : (scope : Scope) (ds : List Definition) → Sound (at_end scope ds) → scope.begun ≡ order_of ds
 begun_at_end scope ds s = s.tied.begun
 
-verdict_at_end : (profile : Profile) (located_tokens : List LocatedToken) (scope : Scope) (ds : List Definition) → PassesAll profile located_tokens scope ds → compiled_tokens profile located_tokens ≡ resolved located_tokens scope ds
+verdict_at_end : (profile : Profile) (located_tokens : List LocatedToken) (scope : Scope) (ds : List Definition) →
+    PassesAll profile located_tokens scope ds →
+    compiled_tokens profile located_tokens ≡ resolved located_tokens scope ds
 verdict_at_end profile located_tokens scope ds p = clean_verdict profile located_tokens (at_end scope ds) p refl refl
 
 module _ (scope : Scope) (ds : List Definition) (s : Sound (at_end scope ds)) (a : AreAll 0 scope.lines ds) where
   each_at : (k : ℕ) → k < length scope.functions → slice_get a.functions k ≡ defined_as k ds
-  each_at k less = let at : 0 + k ≡ k = omega arith in a.each k (omega (arith, s.known.lines)) ∙ ap (λ n. defined_as n ds) at
+  each_at k less =
+      let at : 0 + k ≡ k = omega arith in a.each k (omega (arith, s.known.lines)) ∙ ap (λ n. defined_as n ds) at
 
   told_at : functions_actions a.functions (order_of ds) ≡ definitions_actions ds
-  told_at = actions_there a.functions ds (there a.functions ds (subst (λ (ns : List ℕ). AreDistinct ns) (begun_at_end scope ds s) s.known.begun)
+  told_at =
+      actions_there a.functions ds (there a.functions ds
+      (subst (λ (ns : List ℕ). AreDistinct ns) (begun_at_end scope ds s) s.known.begun)
       (λ k i. each_at k (order_below _ _ k ds s.known.definitions i)))
 
   names_at : AreNamed scope.functions ds → map names_of_function a.functions ≡ scope.functions
@@ -153,18 +182,24 @@ module _ (scope : Scope) (ds : List Definition) (s : Sound (at_end scope ds)) (a
       below k f e = omega (arith, slice_get_within a.functions k f e, a.count, s.known.lines)
 
 abbrev file_at : Scope → List Definition → List Function → ℕ → File
-file_at scope ds functions main = record { externals = scope.externals; functions = functions; order = order_of ds; main = main }
+file_at scope ds functions main =
+    record { externals = scope.externals; functions = functions; order = order_of ds; main = main }
 
 -- if each function is defined, and main is one of them, there is the file
-resolved_at : (located_tokens : List LocatedToken) (scope : Scope) (ds : List Definition) (functions : List Function) (main : ℕ) → all_defined 0 scope.lines ds ≡ Ok functions →
-    function_number main_name scope ≡ Some main → resolved located_tokens scope ds ≡ Ok (file_at scope ds functions main)
+resolved_at : (located_tokens : List LocatedToken) (scope : Scope) (ds : List Definition) (functions : List Function)
+    (main : ℕ) → all_defined 0 scope.lines ds ≡ Ok functions →
+    function_number main_name scope ≡ Some main →
+    resolved located_tokens scope ds ≡ Ok (file_at scope ds functions main)
 resolved_at located_tokens scope ds functions main all named = rw (all, named) refl
 
-without_main_at : (located_tokens : List LocatedToken) (scope : Scope) (ds : List Definition) (functions : List Function) → all_defined 0 scope.lines ds ≡ Ok functions →
-    function_number main_name scope ≡ None → resolved located_tokens scope ds ≡ Err (diagnostic (last_line located_tokens) code.NoMainFunction)
+without_main_at : (located_tokens : List LocatedToken) (scope : Scope) (ds : List Definition)
+    (functions : List Function) → all_defined 0 scope.lines ds ≡ Ok functions →
+    function_number main_name scope ≡ None →
+    resolved located_tokens scope ds ≡ Err (diagnostic (last_line located_tokens) code.NoMainFunction)
 without_main_at located_tokens scope ds functions all named = rw (all, named) refl
 
-names_same : (scope : Scope) (ds : List Definition) (functions : List Function) (main : ℕ) → map names_of_function functions ≡ scope.functions → known_names scope ≡ names_of (file_at scope ds functions main)
+names_same : (scope : Scope) (ds : List Definition) (functions : List Function) (main : ℕ) →
+    map names_of_function functions ≡ scope.functions → known_names scope ≡ names_of (file_at scope ds functions main)
 names_same scope ds functions main e = rw e refl
 
 -- main has a number or hasn't
@@ -180,21 +215,28 @@ is_none_value : (o : Option ℕ) → is_some o ≡ false → o ≡ None
 is_none_value None e = refl
 is_none_value (Some n) e = absurd (cc)
 
-all_at_end : (profile : Profile) (located_tokens : List LocatedToken) (scope : Scope) (ds : List Definition) → PassesAll profile located_tokens scope ds → line_of_undefined 0 scope.lines scope.begun ≡ None → AreAll 0 scope.lines ds
+all_at_end : (profile : Profile) (located_tokens : List LocatedToken) (scope : Scope) (ds : List Definition) →
+    PassesAll profile located_tokens scope ds → line_of_undefined 0 scope.lines scope.begun ≡ None →
+    AreAll 0 scope.lines ds
 all_at_end profile located_tokens scope ds p e =
-    all_are 0 scope.lines ds (subst (λ (ns : List ℕ). line_of_undefined 0 scope.lines ns ≡ None) (begun_at_end scope ds (sound_of_passes profile located_tokens (at_end scope ds) p)) e)
+    all_are 0 scope.lines ds
+    (subst (λ (ns : List ℕ). line_of_undefined 0 scope.lines ns ≡ None)
+    (begun_at_end scope ds (sound_of_passes profile located_tokens (at_end scope ds) p)) e)
 
 pub finished : Finished
 finished profile located_tokens scope ds p e has =
     let s : Sound (at_end scope ds) = sound_of_passes profile located_tokens (at_end scope ds) p in
     let a : AreAll 0 scope.lines ds = all_at_end profile located_tokens scope ds p e in
     let main : IsSome (function_number main_name scope) = is_some_value (function_number main_name scope) has in
-    let compiled : compiled_tokens profile located_tokens ≡ Ok (file_at scope ds a.functions main.value) = verdict_at_end profile located_tokens scope ds p ∙ resolved_at located_tokens scope ds a.functions main.value a.are main.is in
+    let compiled : compiled_tokens profile located_tokens ≡ Ok (file_at scope ds a.functions main.value) =
+    verdict_at_end profile located_tokens scope ds p ∙
+    resolved_at located_tokens scope ds a.functions main.value a.are main.is in
     record {
       file = file_at scope ds a.functions main.value;
       compiled = compiled;
       resolved = compiled_is_resolved profile located_tokens (file_at scope ds a.functions main.value) compiled;
-      named = names_same scope ds a.functions main.value (names_at scope ds s a (named_of_passes profile located_tokens (at_end scope ds) p));
+      named = names_same scope ds a.functions main.value
+          (names_at scope ds s a (named_of_passes profile located_tokens (at_end scope ds) p));
       main = main.is;
       told = told_at scope ds s a;
     }
@@ -202,10 +244,14 @@ finished profile located_tokens scope ds p e has =
 pub undefined : Undefined
 undefined profile located_tokens scope ds line p e =
     verdict_at_end profile located_tokens scope ds p
-    ∙ ap (λ all. file_of (last_line located_tokens) scope (order_of ds) all (function_number main_name scope)) (one_is_not 0 scope.lines ds line
-    (subst (λ (ns : List ℕ). line_of_undefined 0 scope.lines ns ≡ Some line) (begun_at_end scope ds (sound_of_passes profile located_tokens (at_end scope ds) p)) e))
+    ∙
+    ap (λ all. file_of (last_line located_tokens) scope (order_of ds) all (function_number main_name scope)) (one_is_not
+    0 scope.lines ds line
+    (subst (λ (ns : List ℕ). line_of_undefined 0 scope.lines ns ≡ Some line)
+    (begun_at_end scope ds (sound_of_passes profile located_tokens (at_end scope ds) p)) e))
 
 pub without_main : WithoutMain
 without_main profile located_tokens scope ds p e has =
     let a : AreAll 0 scope.lines ds = all_at_end profile located_tokens scope ds p e in
-    verdict_at_end profile located_tokens scope ds p ∙ without_main_at located_tokens scope ds a.functions a.are (is_none_value (function_number main_name scope) has)
+    verdict_at_end profile located_tokens scope ds p ∙
+    without_main_at located_tokens scope ds a.functions a.are (is_none_value (function_number main_name scope) has)

@@ -33,50 +33,67 @@ only_one f g (x ∷ []) e (inr h) = absurd h
 only_one f g (x ∷ y ∷ faults) e h = absurd (cc)
 
 -- if a derivation stays as it is, its one fault is the first
-pub stuck : (profile : Profile) (s : State) (f : Fault) → stepped s ≡ s → faults_at profile s ≡ f ∷ [] → IsFirstFault profile s f
+pub stuck : (profile : Profile) (s : State) (f : Fault) → stepped s ≡ s → faults_at profile s ≡ f ∷ [] →
+    IsFirstFault profile s f
 stuck profile s f still faults = record {
   comes = record { steps = 0; here = subst (λ (fs : List Fault). IsIn f fs) (sym faults) (inl refl) };
   first = λ g is.
-      let same : f ≡ g = only_one f g (faults_at profile s) faults (subst (λ (t : State). IsIn g (faults_at profile t)) (stays is.steps s still) is.here) in
+      let same : f ≡ g =
+      only_one f g (faults_at profile s) faults
+      (subst (λ (t : State). IsIn g (faults_at profile t)) (stays is.steps s still) is.here) in
       subst (λ (x : Fault). is_first f x ≡ true) same (reflexive f);
 }
 
-pub fails_stuck : (profile : Profile) (s : State) (rest : List LocatedToken) (c : Code) → stepped s ≡ s → faults_at profile s ≡ fault rest c ∷ [] →
+pub fails_stuck : (profile : Profile) (s : State) (rest : List LocatedToken) (c : Code) → stepped s ≡ s →
+    faults_at profile s ≡ fault rest c ∷ [] →
     Fails profile s (diagnostic (line_of rest) c)
-fails_stuck profile s rest c still faults = record { fault = fault rest c; first = stuck profile s (fault rest c) still faults; line = refl; code = refl }
+fails_stuck profile s rest c still faults =
+    record { fault = fault rest c; first = stuck profile s (fault rest c) still faults; line = refl; code = refl }
 
 -- a fault fits nothing
-pub at_fault : (profile : Profile) (stack : List Item) (rest : List LocatedToken) (values : List Value) (scope : Scope) (functions : List Definition) →
-    is_fault (next_of rest) ≡ true → Fails profile (state stack rest values scope functions) (diagnostic (line_of rest) (misfit_code (next_of rest)))
+pub at_fault : (profile : Profile) (stack : List Item) (rest : List LocatedToken) (values : List Value) (scope : Scope)
+    (functions : List Definition) →
+    is_fault (next_of rest) ≡ true →
+    Fails profile (state stack rest values scope functions) (diagnostic (line_of rest) (misfit_code (next_of rest)))
 at_fault profile stack rest values scope functions is = fails_stuck profile _ rest _ (rw is refl) (rw is refl)
 
-pub no_part : (profile : Profile) (symbol : Symbol) (stack : List Item) (rest : List LocatedToken) (values : List Value) (scope : Scope) (functions : List Definition) →
-    is_fault (next_of rest) ≡ false → choice symbol (next_of rest) (after_of rest) ≡ None → level_faults symbol stack rest ≡ [] →
-    Fails profile (state (Part symbol ∷ stack) rest values scope functions) (diagnostic (line_of rest) (misfit_code (next_of rest)))
+pub no_part : (profile : Profile) (symbol : Symbol) (stack : List Item) (rest : List LocatedToken) (values : List Value)
+    (scope : Scope) (functions : List Definition) →
+    is_fault (next_of rest) ≡ false → choice symbol (next_of rest) (after_of rest) ≡ None →
+    level_faults symbol stack rest ≡ [] →
+    Fails profile (state (Part symbol ∷ stack) rest values scope functions)
+    (diagnostic (line_of rest) (misfit_code (next_of rest)))
 no_part profile symbol stack rest values scope functions sound none clean =
     fails_stuck profile _ rest _ (rw (sound, none) refl) (rw (sound, clean, none) refl)
 
-pub no_punctuator : (profile : Profile) (m : Punctuator) (stack : List Item) (rest : List LocatedToken) (values : List Value) (scope : Scope) (functions : List Definition) →
+pub no_punctuator : (profile : Profile) (m : Punctuator) (stack : List Item) (rest : List LocatedToken)
+    (values : List Value) (scope : Scope) (functions : List Definition) →
     is_fault (next_of rest) ≡ false → is_punctuator m (next_of rest) ≡ false →
-    Fails profile (state (Exactly m ∷ stack) rest values scope functions) (diagnostic (line_of rest) (misfit_code (next_of rest)))
+    Fails profile (state (Exactly m ∷ stack) rest values scope functions)
+    (diagnostic (line_of rest) (misfit_code (next_of rest)))
 no_punctuator profile m stack rest values scope functions sound none =
     fails_stuck profile _ rest _ (rw (sound, none) refl) (rw (sound, none) refl)
 
-pub no_word : (profile : Profile) (w : Word) (stack : List Item) (rest : List LocatedToken) (values : List Value) (scope : Scope) (functions : List Definition) →
+pub no_word : (profile : Profile) (w : Word) (stack : List Item) (rest : List LocatedToken) (values : List Value)
+    (scope : Scope) (functions : List Definition) →
     is_fault (next_of rest) ≡ false → is_word w (next_of rest) ≡ false →
-    Fails profile (state (AWord w ∷ stack) rest values scope functions) (diagnostic (line_of rest) (misfit_code (next_of rest)))
+    Fails profile (state (AWord w ∷ stack) rest values scope functions)
+    (diagnostic (line_of rest) (misfit_code (next_of rest)))
 no_word profile w stack rest values scope functions sound none =
     fails_stuck profile _ rest _ (rw (sound, none) refl) (rw (sound, none) refl)
 
-pub no_name : (profile : Profile) (role : Role) (stack : List Item) (rest : List LocatedToken) (values : List Value) (scope : Scope) (functions : List Definition) →
+pub no_name : (profile : Profile) (role : Role) (stack : List Item) (rest : List LocatedToken) (values : List Value)
+    (scope : Scope) (functions : List Definition) →
     is_fault (next_of rest) ≡ false → name_of_token (next_of rest) ≡ None →
-    Fails profile (state (AName role ∷ stack) rest values scope functions) (diagnostic (line_of rest) (misfit_code (next_of rest)))
+    Fails profile (state (AName role ∷ stack) rest values scope functions)
+    (diagnostic (line_of rest) (misfit_code (next_of rest)))
 no_name profile role stack rest values scope functions sound none =
     fails_stuck profile _ rest _ (rw (sound, none) refl) (rw (sound, none) refl)
 
 -- A fault is at the next token.
 
-only_if_rest : (g : Fault) (b : Bool) (faults : List Fault) (rest : List LocatedToken) → ((IsIn g faults) → g.rest ≡ rest) → IsIn g (only_if b faults) → g.rest ≡ rest
+only_if_rest : (g : Fault) (b : Bool) (faults : List Fault) (rest : List LocatedToken) →
+    ((IsIn g faults) → g.rest ≡ rest) → IsIn g (only_if b faults) → g.rest ≡ rest
 only_if_rest g true faults rest each h = each h
 only_if_rest g false faults rest each h = absurd h
 
@@ -84,58 +101,80 @@ single_rest : (g : Fault) (rest : List LocatedToken) (c : Code) → IsIn g (faul
 single_rest g rest c (inl p) = sym (ap (λ (f : Fault). f.rest) p)
 single_rest g rest c (inr h) = absurd h
 
-appended_rest : (g : Fault) (xs ys : List Fault) (rest : List LocatedToken) → (IsIn g xs → g.rest ≡ rest) → (IsIn g ys → g.rest ≡ rest) → IsIn g (xs ++ ys) → g.rest ≡ rest
+appended_rest : (g : Fault) (xs ys : List Fault) (rest : List LocatedToken) → (IsIn g xs → g.rest ≡ rest) →
+    (IsIn g ys → g.rest ≡ rest) → IsIn g (xs ++ ys) → g.rest ≡ rest
 appended_rest g [] ys rest p q h = q h
 appended_rest g (x ∷ xs) ys rest p q (inl e) = p (inl e)
 appended_rest g (x ∷ xs) ys rest p q (inr h) = appended_rest g xs ys rest (λ k. p (inr k)) q h
 
-guarded_rest : (g : Fault) (b : Bool) (xs ys : List Fault) (rest : List LocatedToken) → (IsIn g xs → g.rest ≡ rest) → (IsIn g ys → g.rest ≡ rest) →
+guarded_rest : (g : Fault) (b : Bool) (xs ys : List Fault) (rest : List LocatedToken) → (IsIn g xs → g.rest ≡ rest) →
+    (IsIn g ys → g.rest ≡ rest) →
     IsIn g (if b then xs else ys) → g.rest ≡ rest
 guarded_rest g true xs ys rest p q h = p h
 guarded_rest g false xs ys rest p q h = q h
 
-no_room_rest : (g : Fault) (new : Bool) (count : ℕ) (c : Code) (rest : List LocatedToken) → IsIn g (no_room new count c rest) → g.rest ≡ rest
+no_room_rest : (g : Fault) (new : Bool) (count : ℕ) (c : Code) (rest : List LocatedToken) →
+    IsIn g (no_room new count c rest) → g.rest ≡ rest
 no_room_rest g new count c rest h =
     only_if_rest g new (only_if (nat_le most_names count) (fault rest c ∷ [])) rest
     (only_if_rest g (nat_le most_names count) (fault rest c ∷ []) rest (single_rest g rest c)) h
 
-role_rest : (g : Fault) (role : Role) (name : List ℕ) (scope : Scope) (rest : List LocatedToken) → IsIn g (role_faults role name scope rest) → g.rest ≡ rest
+role_rest : (g : Fault) (role : Role) (name : List ℕ) (scope : Scope) (rest : List LocatedToken) →
+    IsIn g (role_faults role name scope rest) → g.rest ≡ rest
 role_rest g Defined name scope rest h =
-    guarded_rest g (is_intrinsic name) (fault rest code.IntrinsicRedefined ∷ []) (if has_begun name scope then fault rest code.FunctionDefinedTwice ∷ [] else no_room (is_function_new name scope) (length scope.functions) code.TooManyFunctions rest) rest
+    guarded_rest g (is_intrinsic name) (fault rest code.IntrinsicRedefined ∷ [])
+    (if has_begun name scope then fault rest code.FunctionDefinedTwice ∷
+    [] else no_room (is_function_new name scope) (length scope.functions) code.TooManyFunctions rest) rest
     (single_rest g rest code.IntrinsicRedefined)
-    (guarded_rest g (has_begun name scope) (fault rest code.FunctionDefinedTwice ∷ []) (no_room (is_function_new name scope) (length scope.functions) code.TooManyFunctions rest) rest
-    (single_rest g rest code.FunctionDefinedTwice) (no_room_rest g (is_function_new name scope) (length scope.functions) code.TooManyFunctions rest)) h
-role_rest g External name scope rest h = no_room_rest g (is_external_new name scope) (length scope.externals) code.TooManyVariables rest h
+    (guarded_rest g (has_begun name scope) (fault rest code.FunctionDefinedTwice ∷ [])
+    (no_room (is_function_new name scope) (length scope.functions) code.TooManyFunctions rest) rest
+    (single_rest g rest code.FunctionDefinedTwice)
+    (no_room_rest g (is_function_new name scope) (length scope.functions) code.TooManyFunctions rest)) h
+role_rest g External name scope rest h =
+    no_room_rest g (is_external_new name scope) (length scope.externals) code.TooManyVariables rest h
 role_rest g Parameter name scope rest h =
-    guarded_rest g (is_local_new name scope) (no_room true (length scope.current.variables) code.TooManyVariables rest) (fault rest code.BadParameterDeclaration ∷ []) rest
-    (no_room_rest g true (length scope.current.variables) code.TooManyVariables rest) (single_rest g rest code.BadParameterDeclaration) h
+    guarded_rest g (is_local_new name scope) (no_room true (length scope.current.variables) code.TooManyVariables rest)
+    (fault rest code.BadParameterDeclaration ∷ []) rest
+    (no_room_rest g true (length scope.current.variables) code.TooManyVariables rest)
+    (single_rest g rest code.BadParameterDeclaration) h
 role_rest g Typed name scope rest h =
-    only_if_rest g (is_local_new name scope) (fault rest code.BadParameterDeclaration ∷ []) rest (single_rest g rest code.BadParameterDeclaration) h
-role_rest g Local name scope rest h = no_room_rest g (is_local_new name scope) (length scope.current.variables) code.TooManyVariables rest h
-role_rest g Called name scope rest h = no_room_rest g (is_function_new name scope) (length scope.functions) code.TooManyFunctions rest h
-role_rest g Mentioned name scope rest h = no_room_rest g (is_variable_new name scope) (length scope.current.variables) code.TooManyVariables rest h
+    only_if_rest g (is_local_new name scope) (fault rest code.BadParameterDeclaration ∷ []) rest
+    (single_rest g rest code.BadParameterDeclaration) h
+role_rest g Local name scope rest h =
+    no_room_rest g (is_local_new name scope) (length scope.current.variables) code.TooManyVariables rest h
+role_rest g Called name scope rest h =
+    no_room_rest g (is_function_new name scope) (length scope.functions) code.TooManyFunctions rest h
+role_rest g Mentioned name scope rest h =
+    no_room_rest g (is_variable_new name scope) (length scope.current.variables) code.TooManyVariables rest h
 
-name_rest : (g : Fault) (role : Role) (name : Option (List ℕ)) (scope : Scope) (rest : List LocatedToken) → IsIn g (name_faults role name scope rest) → g.rest ≡ rest
+name_rest : (g : Fault) (role : Role) (name : Option (List ℕ)) (scope : Scope) (rest : List LocatedToken) →
+    IsIn g (name_faults role name scope rest) → g.rest ≡ rest
 name_rest g role None scope rest h = absurd h
 name_rest g role (Some name) scope rest h = role_rest g role name scope rest h
 
-item_rest : (profile : Profile) (g : Fault) (stack : List Item) (rest : List LocatedToken) (values : List Value) (scope : Scope) (functions : List Definition) →
+item_rest : (profile : Profile) (g : Fault) (stack : List Item) (rest : List LocatedToken) (values : List Value)
+    (scope : Scope) (functions : List Definition) →
     IsIn g (item_faults profile stack rest values scope functions) → g.rest ≡ rest
 item_rest profile g [] rest values scope functions h = absurd h
 item_rest profile g (Exactly m ∷ stack) rest values scope functions h = absurd h
 item_rest profile g (AWord w ∷ stack) rest values scope functions h = absurd h
-item_rest profile g (AName role ∷ stack) rest values scope functions h = name_rest g role (name_of_token (next_of rest)) scope rest h
+item_rest profile g (AName role ∷ stack) rest values scope functions h =
+    name_rest g role (name_of_token (next_of rest)) scope rest h
 item_rest profile g (AnEnd ∷ stack) rest values scope functions h = absurd h
 item_rest profile g (AConstant ∷ stack) rest values scope functions h = absurd h
 item_rest profile g (Part symbol ∷ stack) rest values scope functions h =
-    only_if_rest g (enters symbol (next_of rest) (after_of rest)) (only_if (nat_le most_levels (levels stack)) (fault rest code.NestedTooDeeply ∷ [])) rest
-    (only_if_rest g (nat_le most_levels (levels stack)) (fault rest code.NestedTooDeeply ∷ []) rest (single_rest g rest code.NestedTooDeeply)) h
+    only_if_rest g (enters symbol (next_of rest) (after_of rest))
+    (only_if (nat_le most_levels (levels stack)) (fault rest code.NestedTooDeeply ∷ [])) rest
+    (only_if_rest g (nat_le most_levels (levels stack)) (fault rest code.NestedTooDeeply ∷ []) rest
+    (single_rest g rest code.NestedTooDeeply)) h
 item_rest profile g (Make Define ∷ stack) rest values scope functions h =
-    only_if_rest g (is_too_long profile (functions ++ definition_of scope (last_body values) ∷ [])) (fault rest code.TooMuchCode ∷ []) rest (single_rest g rest code.TooMuchCode) h
+    only_if_rest g (is_too_long profile (functions ++ definition_of scope (last_body values) ∷ []))
+    (fault rest code.TooMuchCode ∷ []) rest (single_rest g rest code.TooMuchCode) h
 item_rest profile g (Make rule ∷ stack) rest values scope functions h = absurd h
 item_rest profile g (Close ∷ stack) rest values scope functions h = absurd h
 
-misfits_rest : (g : Fault) (stack : List Item) (rest : List LocatedToken) (next : Option State) → IsIn g (misfits stack rest next) → g.rest ≡ rest
+misfits_rest : (g : Fault) (stack : List Item) (rest : List LocatedToken) (next : Option State) →
+    IsIn g (misfits stack rest next) → g.rest ≡ rest
 misfits_rest g [] rest next h = absurd h
 misfits_rest g (item ∷ stack) rest None h = single_rest g rest _ h
 misfits_rest g (item ∷ stack) rest (Some s) h = absurd h
@@ -143,10 +182,12 @@ misfits_rest g (item ∷ stack) rest (Some s) h = absurd h
 pub at_rest : (profile : Profile) (g : Fault) (s : State) → IsIn g (faults_at profile s) → g.rest ≡ s.rest
 at_rest profile g s h =
     guarded_rest g (is_fault (next_of s.rest)) _ _ s.rest (single_rest g s.rest _)
-    (appended_rest g _ _ s.rest (item_rest profile g s.stack s.rest s.values s.scope s.functions) (misfits_rest g s.stack s.rest _)) h
+    (appended_rest g _ _ s.rest (item_rest profile g s.stack s.rest s.values s.scope s.functions)
+    (misfits_rest g s.stack s.rest _)) h
 
 -- at the token after it, or later
-later_first : (profile : Profile) (f g : Fault) (s : State) (n : ℕ) → length s.rest < length f.rest → IsIn g (faults_at profile (run n s)) → is_first f g ≡ true
+later_first : (profile : Profile) (f g : Fault) (s : State) (n : ℕ) → length s.rest < length f.rest →
+    IsIn g (faults_at profile (run n s)) → is_first f g ≡ true
 later_first profile f g s n before h =
     let at : g.rest ≡ (run n s).rest = at_rest profile g (run n s) h in
     let keeps : length (run n s).rest ≤ length s.rest = run_keeps n s in
@@ -162,7 +203,8 @@ same_token_first f g same most = rw same (tested (length f.rest) (number_of f.co
     tested n c d h = grind (arith, nat_tests)
 
 -- A fault whose token is matched in this step is the first.
-pub now_first : (profile : Profile) (s : State) (f : Fault) → faults_at profile s ≡ f ∷ [] → length (stepped s).rest < length f.rest → IsFirstFault profile s f
+pub now_first : (profile : Profile) (s : State) (f : Fault) → faults_at profile s ≡ f ∷ [] →
+    length (stepped s).rest < length f.rest → IsFirstFault profile s f
 now_first profile s f faults before = record {
   comes = record { steps = 0; here = subst (λ (fs : List Fault). IsIn f fs) (sym faults) (inl refl) };
   first = λ g is. first_at g is.steps is.here;
@@ -174,7 +216,8 @@ now_first profile s f faults before = record {
 
 -- A fault whose token is matched in the step after it is the first, if no fault there comes before it.
 pub matched_first : (profile : Profile) (s : State) (f : Fault) → faults_at profile s ≡ f ∷ [] →
-    ((g : Fault) → IsIn g (faults_at profile (stepped s)) → is_first f g ≡ true) → length (stepped (stepped s)).rest < length f.rest → IsFirstFault profile s f
+    ((g : Fault) → IsIn g (faults_at profile (stepped s)) → is_first f g ≡ true) →
+    length (stepped (stepped s)).rest < length f.rest → IsFirstFault profile s f
 matched_first profile s f faults second before = record {
   comes = record { steps = 0; here = subst (λ (fs : List Fault). IsIn f fs) (sym faults) (inl refl) };
   first = λ g is. first_at g is.steps is.here;
@@ -190,9 +233,13 @@ none_in f [] e g h = absurd h
 none_in f (x ∷ faults) e g h = absurd (cc)
 
 -- A name with a fault of its role.
-pub name_fails : (profile : Profile) (role : Role) (name : List ℕ) (c : Code) (stack : List Item) (located_token : LocatedToken) (rest : List LocatedToken) (values : List Value) (scope : Scope) (functions : List Definition) →
-    is_fault located_token.token ≡ false → name_of_token located_token.token ≡ Some name → role_faults role name scope (located_token ∷ rest) ≡ fault (located_token ∷ rest) c ∷ [] →
-    Fails profile (state (AName role ∷ stack) (located_token ∷ rest) values scope functions) (diagnostic located_token.line c)
+pub name_fails : (profile : Profile) (role : Role) (name : List ℕ) (c : Code) (stack : List Item)
+    (located_token : LocatedToken) (rest : List LocatedToken) (values : List Value) (scope : Scope)
+    (functions : List Definition) →
+    is_fault located_token.token ≡ false → name_of_token located_token.token ≡ Some name →
+    role_faults role name scope (located_token ∷ rest) ≡ fault (located_token ∷ rest) c ∷ [] →
+    Fails profile (state (AName role ∷ stack) (located_token ∷ rest) values scope functions)
+    (diagnostic located_token.line c)
 name_fails profile role name c stack located_token rest values scope functions sound fits fails = record {
   fault = fault (located_token ∷ rest) c;
   first = now_first profile _ _ (rw (sound, fits, fails) refl) (simp (sound, fits) (omega arith));
@@ -201,78 +248,115 @@ name_fails profile role name c stack located_token rest values scope functions s
 }
 
 -- The closing brace of the function with which the code is too long.
-pub too_long : (profile : Profile) (stack : List Item) (located_token : LocatedToken) (rest : List LocatedToken) (values : List Value) (scope : Scope) (functions : List Definition) →
+pub too_long : (profile : Profile) (stack : List Item) (located_token : LocatedToken) (rest : List LocatedToken)
+    (values : List Value) (scope : Scope) (functions : List Definition) →
     is_fault located_token.token ≡ false → is_punctuator punctuator.CloseCurly located_token.token ≡ true →
-    length_faults profile scope functions values (located_token ∷ rest) ≡ fault (located_token ∷ rest) code.TooMuchCode ∷ [] →
-    Fails profile (state (Make Define ∷ Exactly punctuator.CloseCurly ∷ stack) (located_token ∷ rest) values scope functions) (diagnostic located_token.line code.TooMuchCode)
+    length_faults profile scope functions values (located_token ∷ rest) ≡
+    fault (located_token ∷ rest) code.TooMuchCode ∷ [] →
+    Fails profile
+    (state (Make Define ∷ Exactly punctuator.CloseCurly ∷ stack) (located_token ∷ rest) values scope functions)
+    (diagnostic located_token.line code.TooMuchCode)
 too_long profile stack located_token rest values scope functions sound fits long = record {
   fault = fault (located_token ∷ rest) code.TooMuchCode;
-  first = matched_first profile _ _ (rw (sound, long) refl) (none_in (fault (located_token ∷ rest) code.TooMuchCode) _ (simp (sound, fits))) (simp (sound, fits) (omega arith));
+  first = matched_first profile _ _ (rw (sound, long) refl)
+      (none_in (fault (located_token ∷ rest) code.TooMuchCode) _ (simp (sound, fits)))
+      (simp (sound, fits) (omega arith));
   line = refl;
   code = refl;
 }
 
 -- A level beyond the last one, opened by a punctuator.
-pub too_deep : (profile : Profile) (symbol : Symbol) (m : Punctuator) (items stack : List Item) (located_token : LocatedToken) (rest : List LocatedToken) (values : List Value) (scope : Scope) (functions : List Definition) →
-    is_fault located_token.token ≡ false → choice symbol located_token.token (next_of rest) ≡ Some (Exactly m ∷ items) → is_punctuator m located_token.token ≡ true →
+pub too_deep : (profile : Profile) (symbol : Symbol) (m : Punctuator) (items stack : List Item)
+    (located_token : LocatedToken) (rest : List LocatedToken) (values : List Value) (scope : Scope)
+    (functions : List Definition) →
+    is_fault located_token.token ≡ false → choice symbol located_token.token (next_of rest) ≡ Some (Exactly m ∷ items) →
+    is_punctuator m located_token.token ≡ true →
     level_faults symbol stack (located_token ∷ rest) ≡ fault (located_token ∷ rest) code.NestedTooDeeply ∷ [] →
-    Fails profile (state (Part symbol ∷ stack) (located_token ∷ rest) values scope functions) (diagnostic located_token.line code.NestedTooDeeply)
+    Fails profile (state (Part symbol ∷ stack) (located_token ∷ rest) values scope functions)
+    (diagnostic located_token.line code.NestedTooDeeply)
 too_deep profile symbol m items stack located_token rest values scope functions sound chosen fits deep = record {
   fault = fault (located_token ∷ rest) code.NestedTooDeeply;
-  first = matched_first profile _ _ (rw (sound, deep, chosen) refl) (none_in (fault (located_token ∷ rest) code.NestedTooDeeply) _ (simp (sound, chosen, fits))) (simp (sound, chosen, fits) (omega arith));
+  first = matched_first profile _ _ (rw (sound, deep, chosen) refl)
+      (none_in (fault (located_token ∷ rest) code.NestedTooDeeply) _ (simp (sound, chosen, fits)))
+      (simp (sound, chosen, fits) (omega arith));
   line = refl;
   code = refl;
 }
 
 -- By a word.
-pub too_deep_word : (profile : Profile) (symbol : Symbol) (w : Word) (items stack : List Item) (located_token : LocatedToken) (rest : List LocatedToken) (values : List Value) (scope : Scope) (functions : List Definition) →
-    is_fault located_token.token ≡ false → choice symbol located_token.token (next_of rest) ≡ Some (AWord w ∷ items) → is_word w located_token.token ≡ true →
+pub too_deep_word : (profile : Profile) (symbol : Symbol) (w : Word) (items stack : List Item)
+    (located_token : LocatedToken) (rest : List LocatedToken) (values : List Value) (scope : Scope)
+    (functions : List Definition) →
+    is_fault located_token.token ≡ false → choice symbol located_token.token (next_of rest) ≡ Some (AWord w ∷ items) →
+    is_word w located_token.token ≡ true →
     level_faults symbol stack (located_token ∷ rest) ≡ fault (located_token ∷ rest) code.NestedTooDeeply ∷ [] →
-    Fails profile (state (Part symbol ∷ stack) (located_token ∷ rest) values scope functions) (diagnostic located_token.line code.NestedTooDeeply)
+    Fails profile (state (Part symbol ∷ stack) (located_token ∷ rest) values scope functions)
+    (diagnostic located_token.line code.NestedTooDeeply)
 too_deep_word profile symbol w items stack located_token rest values scope functions sound chosen fits deep = record {
   fault = fault (located_token ∷ rest) code.NestedTooDeeply;
-  first = matched_first profile _ _ (rw (sound, deep, chosen) refl) (none_in (fault (located_token ∷ rest) code.NestedTooDeeply) _ (simp (sound, chosen, fits))) (simp (sound, chosen, fits) (omega arith));
+  first = matched_first profile _ _ (rw (sound, deep, chosen) refl)
+      (none_in (fault (located_token ∷ rest) code.NestedTooDeeply) _ (simp (sound, chosen, fits)))
+      (simp (sound, chosen, fits) (omega arith));
   line = refl;
   code = refl;
 }
 
 -- A fault of a role has a greater code than that of a level.
 
-single_code : (g : Fault) (rest : List LocatedToken) (c : Code) → 9 ≤ number_of c → IsIn g (fault rest c ∷ []) → 9 ≤ number_of g.code
+single_code : (g : Fault) (rest : List LocatedToken) (c : Code) → 9 ≤ number_of c → IsIn g (fault rest c ∷ []) →
+    9 ≤ number_of g.code
 single_code g rest c least (inl p) = subst (λ (f : Fault). 9 ≤ number_of f.code) p least
 single_code g rest c least (inr h) = absurd h
 
-only_if_code : (g : Fault) (b : Bool) (faults : List Fault) → (IsIn g faults → 9 ≤ number_of g.code) → IsIn g (only_if b faults) → 9 ≤ number_of g.code
+only_if_code : (g : Fault) (b : Bool) (faults : List Fault) → (IsIn g faults → 9 ≤ number_of g.code) →
+    IsIn g (only_if b faults) → 9 ≤ number_of g.code
 only_if_code g true faults each h = each h
 only_if_code g false faults each h = absurd h
 
-guarded_code : (g : Fault) (b : Bool) (xs ys : List Fault) → (IsIn g xs → 9 ≤ number_of g.code) → (IsIn g ys → 9 ≤ number_of g.code) →
+guarded_code : (g : Fault) (b : Bool) (xs ys : List Fault) → (IsIn g xs → 9 ≤ number_of g.code) →
+    (IsIn g ys → 9 ≤ number_of g.code) →
     IsIn g (if b then xs else ys) → 9 ≤ number_of g.code
 guarded_code g true xs ys p q h = p h
 guarded_code g false xs ys p q h = q h
 
-no_room_code : (g : Fault) (new : Bool) (count : ℕ) (c : Code) (rest : List LocatedToken) → 9 ≤ number_of c → IsIn g (no_room new count c rest) → 9 ≤ number_of g.code
+no_room_code : (g : Fault) (new : Bool) (count : ℕ) (c : Code) (rest : List LocatedToken) → 9 ≤ number_of c →
+    IsIn g (no_room new count c rest) → 9 ≤ number_of g.code
 no_room_code g new count c rest least h =
     only_if_code g new (only_if (nat_le most_names count) (fault rest c ∷ []))
     (only_if_code g (nat_le most_names count) (fault rest c ∷ []) (single_code g rest c least)) h
 
-role_code : (g : Fault) (role : Role) (name : List ℕ) (scope : Scope) (rest : List LocatedToken) → IsIn g (role_faults role name scope rest) → 9 ≤ number_of g.code
+role_code : (g : Fault) (role : Role) (name : List ℕ) (scope : Scope) (rest : List LocatedToken) →
+    IsIn g (role_faults role name scope rest) → 9 ≤ number_of g.code
 role_code g Defined name scope rest h =
-    guarded_code g (is_intrinsic name) (fault rest code.IntrinsicRedefined ∷ []) (if has_begun name scope then fault rest code.FunctionDefinedTwice ∷ [] else no_room (is_function_new name scope) (length scope.functions) code.TooManyFunctions rest)
+    guarded_code g (is_intrinsic name) (fault rest code.IntrinsicRedefined ∷ [])
+    (if has_begun name scope then fault rest code.FunctionDefinedTwice ∷
+    [] else no_room (is_function_new name scope) (length scope.functions) code.TooManyFunctions rest)
     (single_code g rest code.IntrinsicRedefined (omega arith))
-    (guarded_code g (has_begun name scope) (fault rest code.FunctionDefinedTwice ∷ []) (no_room (is_function_new name scope) (length scope.functions) code.TooManyFunctions rest)
-    (single_code g rest code.FunctionDefinedTwice (omega arith)) (no_room_code g (is_function_new name scope) (length scope.functions) code.TooManyFunctions rest (omega arith))) h
-role_code g External name scope rest h = no_room_code g (is_external_new name scope) (length scope.externals) code.TooManyVariables rest (omega arith) h
+    (guarded_code g (has_begun name scope) (fault rest code.FunctionDefinedTwice ∷ [])
+    (no_room (is_function_new name scope) (length scope.functions) code.TooManyFunctions rest)
+    (single_code g rest code.FunctionDefinedTwice (omega arith))
+    (no_room_code g (is_function_new name scope) (length scope.functions) code.TooManyFunctions rest (omega arith)))
+    h
+role_code g External name scope rest h =
+    no_room_code g (is_external_new name scope) (length scope.externals) code.TooManyVariables rest (omega arith) h
 role_code g Parameter name scope rest h =
-    guarded_code g (is_local_new name scope) (no_room true (length scope.current.variables) code.TooManyVariables rest) (fault rest code.BadParameterDeclaration ∷ [])
-    (no_room_code g true (length scope.current.variables) code.TooManyVariables rest (omega arith)) (single_code g rest code.BadParameterDeclaration (omega arith)) h
+    guarded_code g (is_local_new name scope) (no_room true (length scope.current.variables) code.TooManyVariables rest)
+    (fault rest code.BadParameterDeclaration ∷ [])
+    (no_room_code g true (length scope.current.variables) code.TooManyVariables rest (omega arith))
+    (single_code g rest code.BadParameterDeclaration (omega arith)) h
 role_code g Typed name scope rest h =
-    only_if_code g (is_local_new name scope) (fault rest code.BadParameterDeclaration ∷ []) (single_code g rest code.BadParameterDeclaration (omega arith)) h
-role_code g Local name scope rest h = no_room_code g (is_local_new name scope) (length scope.current.variables) code.TooManyVariables rest (omega arith) h
-role_code g Called name scope rest h = no_room_code g (is_function_new name scope) (length scope.functions) code.TooManyFunctions rest (omega arith) h
-role_code g Mentioned name scope rest h = no_room_code g (is_variable_new name scope) (length scope.current.variables) code.TooManyVariables rest (omega arith) h
+    only_if_code g (is_local_new name scope) (fault rest code.BadParameterDeclaration ∷ [])
+    (single_code g rest code.BadParameterDeclaration (omega arith)) h
+role_code g Local name scope rest h =
+    no_room_code g (is_local_new name scope) (length scope.current.variables) code.TooManyVariables rest (omega arith) h
+role_code g Called name scope rest h =
+    no_room_code g (is_function_new name scope) (length scope.functions) code.TooManyFunctions rest (omega arith) h
+role_code g Mentioned name scope rest h =
+    no_room_code g (is_variable_new name scope) (length scope.current.variables) code.TooManyVariables rest
+    (omega arith) h
 
-deep_before_role : (g : Fault) (role : Role) (name : List ℕ) (scope : Scope) (rest : List LocatedToken) (faults : List Fault) → faults ≡ role_faults role name scope rest →
+deep_before_role : (g : Fault) (role : Role) (name : List ℕ) (scope : Scope) (rest : List LocatedToken)
+    (faults : List Fault) → faults ≡ role_faults role name scope rest →
     IsIn g faults → is_first (fault rest code.NestedTooDeeply) g ≡ true
 deep_before_role g role name scope rest faults same h =
     let here : IsIn g (role_faults role name scope rest) = subst (λ (fs : List Fault). IsIn g fs) same h in
@@ -280,14 +364,22 @@ deep_before_role g role name scope rest faults same h =
     same_token_first (fault rest code.NestedTooDeeply) g (role_rest g role name scope rest here) (omega arith)
 
 -- A level beyond the last one, opened by a name: the name may have a fault of its role, which comes after.
-pub too_deep_name : (profile : Profile) (symbol : Symbol) (role : Role) (name : List ℕ) (items stack : List Item) (located_token : LocatedToken) (rest : List LocatedToken) (values : List Value) (scope : Scope) (functions : List Definition) →
-    is_fault located_token.token ≡ false → choice symbol located_token.token (next_of rest) ≡ Some (AName role ∷ items) → name_of_token located_token.token ≡ Some name →
+pub too_deep_name : (profile : Profile) (symbol : Symbol) (role : Role) (name : List ℕ) (items stack : List Item)
+    (located_token : LocatedToken) (rest : List LocatedToken) (values : List Value) (scope : Scope)
+    (functions : List Definition) →
+    is_fault located_token.token ≡ false →
+    choice symbol located_token.token (next_of rest) ≡ Some (AName role ∷ items) →
+    name_of_token located_token.token ≡ Some name →
     level_faults symbol stack (located_token ∷ rest) ≡ fault (located_token ∷ rest) code.NestedTooDeeply ∷ [] →
-    Fails profile (state (Part symbol ∷ stack) (located_token ∷ rest) values scope functions) (diagnostic located_token.line code.NestedTooDeeply)
-too_deep_name profile symbol role name items stack located_token rest values scope functions sound chosen fits deep = record {
-  fault = fault (located_token ∷ rest) code.NestedTooDeeply;
-  first = matched_first profile _ _ (rw (sound, deep, chosen) refl)
-      (λ g h. deep_before_role g role name scope (located_token ∷ rest) _ (simp (sound, chosen, fits, append-nil)) h) (simp (sound, chosen, fits) (omega arith));
-  line = refl;
-  code = refl;
-}
+    Fails profile (state (Part symbol ∷ stack) (located_token ∷ rest) values scope functions)
+    (diagnostic located_token.line code.NestedTooDeeply)
+too_deep_name profile symbol role name items stack located_token rest values scope functions sound chosen fits deep =
+    record {
+      fault = fault (located_token ∷ rest) code.NestedTooDeeply;
+      first = matched_first profile _ _ (rw (sound, deep, chosen) refl)
+          (λ g h. deep_before_role g role name scope (located_token ∷ rest) _ (simp (sound, chosen, fits, append-nil))
+          h)
+          (simp (sound, chosen, fits) (omega arith));
+      line = refl;
+      code = refl;
+    }

@@ -9,12 +9,13 @@ use Rattle.tokens.specs.declared.located_tokens.Token.TheVariants as token
 use Rattle.grammar.specs.declared.names.Callee.{Callee}
 use Rattle.grammar.specs.declared.names.Var.{Var}
 use Rattle.grammar.specs.declared.operators.Binary.{Binary}
-use Rattle.grammar.specs.declared.operators.Op.{Op}
-use Rattle.grammar.specs.declared.operators.Op.TheVariants as op
+use Rattle.arith.specs.declared.operators.Op.{Op}
+use Rattle.arith.specs.declared.operators.Op.TheVariants as op
 use Rattle.grammar.specs.declared.operators.StoreOp.{StoreOp}
 use Rattle.grammar.specs.Actions.{expr_actions, args_actions}
 use Rattle.grammar.specs.Nesting.{nesting, args_nesting, body_nesting, right_side}
-use Rattle.grammar.specs.Operators.{binary_of, if_at, operator_at, is_logic}
+use Rattle.arith.specs.Op.{is_logic}
+use Rattle.grammar.specs.Operators.{binary_of, if_at, operator_at}
 use Rattle.grammar.specs.Resolved.{IsVariable, IsCallable, InArgs, InExpr}
 use Rattle.grammar.specs.Tree as tree
 use Rattle.grammar.specs.Tree.{Expr, Args, Body, add_argument, join}

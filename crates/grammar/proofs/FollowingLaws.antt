@@ -6,12 +6,12 @@ use Rattle.grammar.specs.declared.names.Callee.{Callee}
 use Rattle.grammar.specs.declared.names.Callee.TheVariants as callee
 use Rattle.grammar.specs.declared.names.Var.{Var}
 use Rattle.grammar.specs.declared.names.Var.TheVariants as var
-use Rattle.grammar.specs.declared.operators.Op.{Op}
-use Rattle.grammar.specs.declared.operators.Op.TheVariants as op
+use Rattle.arith.specs.declared.operators.Op.{Op}
+use Rattle.arith.specs.declared.operators.Op.TheVariants as op
 use Rattle.grammar.specs.Actions.{Action, PushConstant, FetchVariable, StoreVariable, ApplyBinop, LogicMiddle, BeginCall, EndCall, IfTest, ElsePart, EndIf, BeginWhile, WhileTest, EndWhile, GiveBack, Chop, BeginFunction, EndFunction, expr_actions, args_actions, body_actions, last_return, middle, function_actions, functions_actions, numbered_actions}
 use Rattle.grammar.specs.Following.{Open, InFunction, AValue, BeforeRight, InCall, InBranch, InElse, BeforeTest, InTurn, Opened, Origin, Number, Fetched, Stepped, Computed, open_count, is_place, few_open, follow, follow_all, then_follow, most_numbers, is_var_numbered, is_callee_numbered, statement_done, call_done, is_number, same_op, same_var}
 use Rattle.grammar.specs.Nesting.{nesting, args_nesting, body_nesting, right_side}
-use Rattle.grammar.specs.Operators.{is_logic}
+use Rattle.arith.specs.Op.{is_logic}
 -- how the value of an expression came about
 pub use Rattle.grammar.specs.Origins.{origin_of}
 use Rattle.grammar.specs.Resolved.{IsVariable, IsCallable, InExpr, InArgs, InBody, InFile, IsAmong}
@@ -21,16 +21,19 @@ use Rattle.grammar.proofs.Widening.{body_wider, function_wider}
 
 -- Actions one after another.
 
-then_append : (xs ys : List Action) (next : Option Opened) (p : Opened) → ((o : Opened) → follow_all xs o ≡ Some p → follow_all (xs ++ ys) o ≡ follow_all ys p) →
+then_append : (xs ys : List Action) (next : Option Opened) (p : Opened) →
+    ((o : Opened) → follow_all xs o ≡ Some p → follow_all (xs ++ ys) o ≡ follow_all ys p) →
     then_follow (follow_all xs) next ≡ Some p → then_follow (follow_all (xs ++ ys)) next ≡ follow_all ys p
 then_append xs ys None p again e = absurd (cc)
 then_append xs ys (Some o) p again e = guarded (few_open o) e
   where
-    guarded : (b : Bool) → (if b then follow_all xs o else None) ≡ Some p → (if b then follow_all (xs ++ ys) o else None) ≡ follow_all ys p
+    guarded : (b : Bool) → (if b then follow_all xs o else None) ≡ Some p →
+        (if b then follow_all (xs ++ ys) o else None) ≡ follow_all ys p
     guarded true h = again o h
     guarded false h = absurd (cc)
 
-pub follow_append : (xs ys : List Action) (o p : Opened) → follow_all xs o ≡ Some p → follow_all (xs ++ ys) o ≡ follow_all ys p
+pub follow_append : (xs ys : List Action) (o p : Opened) → follow_all xs o ≡ Some p →
+    follow_all (xs ++ ys) o ≡ follow_all ys p
 follow_append [] ys o p e = ap (follow_all ys) (some_same o p e)
   where
     some_same : (x y : Opened) → Some x ≡ Some y → x ≡ y
@@ -41,7 +44,8 @@ few : (o : Opened) → open_count o ≤ 200 → few_open o ≡ true
 few o h = le-leb (open_count o) 200 h
 
 -- one action, and those after it
-pub follow_cons : (a : Action) (acts : List Action) (o p : Opened) → follow a o ≡ Some p → open_count p ≤ 200 → follow_all (a ∷ acts) o ≡ follow_all acts p
+pub follow_cons : (a : Action) (acts : List Action) (o p : Opened) → follow a o ≡ Some p → open_count p ≤ 200 →
+    follow_all (a ∷ acts) o ≡ follow_all acts p
 follow_cons a acts o p e small = rw (e, few p small) refl
 
 pub follow_one : (a : Action) (o p : Opened) → follow a o ≡ Some p → open_count p ≤ 200 → follow_all (a ∷ []) o ≡ Some p
@@ -116,18 +120,23 @@ chain xs ys o p q a b = record { is = follow_append xs ys o p a.is ∙ b.is }
 pub act : (a : Action) (o p : Opened) → follow a o ≡ Some p → open_count p ≤ 200 → Leads (a ∷ []) o p
 act a o p e small = record { is = follow_one a o p e small }
 
-pub also : (a : Action) (acts : List Action) (o p q : Opened) → follow a o ≡ Some p → open_count p ≤ 200 → Leads acts p q → Leads (a ∷ acts) o q
+pub also : (a : Action) (acts : List Action) (o p q : Opened) → follow a o ≡ Some p → open_count p ≤ 200 →
+    Leads acts p q → Leads (a ∷ acts) o q
 also a acts o p q e small b = record { is = follow_cons a acts o p e small ∙ b.is }
 
 -- after the sides of an operator
-sides_lead : (op : Op) (logic : Bool) → is_logic op ≡ logic → (a b : Expr) (outer : Open) (o : Opened) → open_count (outer ∷ o) + right_side op ≤ 200 →
+sides_lead : (op : Op) (logic : Bool) → is_logic op ≡ logic → (a b : Expr) (outer : Open) (o : Opened) →
+    open_count (outer ∷ o) + right_side op ≤ 200 →
     Leads (expr_actions a) (outer ∷ o) (AValue (origin_of a) ∷ outer ∷ o) →
-    ((inner : Open) (p : Opened) → open_count (inner ∷ p) ≤ open_count (outer ∷ o) + right_side op → Leads (expr_actions b) (inner ∷ p) (AValue (origin_of b) ∷ inner ∷ p)) →
-    Leads (expr_actions a ++ (middle op ++ (expr_actions b ++ ApplyBinop op ∷ []))) (outer ∷ o) (AValue Computed ∷ outer ∷ o)
+    ((inner : Open) (p : Opened) → open_count (inner ∷ p) ≤ open_count (outer ∷ o) + right_side op →
+    Leads (expr_actions b) (inner ∷ p) (AValue (origin_of b) ∷ inner ∷ p)) →
+    Leads (expr_actions a ++ (middle op ++ (expr_actions b ++ ApplyBinop op ∷ []))) (outer ∷ o)
+    (AValue Computed ∷ outer ∷ o)
 sides_lead op true logic a b outer o small left right =
     let side : right_side op ≡ 1 = rw logic refl in
     rw logic (chain (expr_actions a) _ _ _ _ left
-    (also (LogicMiddle op) _ _ (BeforeRight op ∷ AValue (origin_of a) ∷ outer ∷ o) _ (rw logic refl) (omega (arith, side))
+    (also (LogicMiddle op) _ _ (BeforeRight op ∷ AValue (origin_of a) ∷ outer ∷ o) _ (rw logic refl)
+    (omega (arith, side))
     (chain (expr_actions b) _ _ _ _ (right (BeforeRight op) (AValue (origin_of a) ∷ outer ∷ o) (omega (arith, side)))
     (act (ApplyBinop op) _ _ (rw (logic_itself op logic) refl) (omega arith)))))
 sides_lead op false logic a b outer o small left right =
@@ -136,29 +145,35 @@ sides_lead op false logic a b outer o small left right =
     (act (ApplyBinop op) _ _ (rw logic refl) (omega arith))))
 
 mutual
-  pub expr_leads : (e : Expr) (outer : Open) (o : Opened) → InExpr 64 64 64 e → open_count (outer ∷ o) + nesting e ≤ 200 →
+  pub expr_leads : (e : Expr) (outer : Open) (o : Opened) → InExpr 64 64 64 e →
+      open_count (outer ∷ o) + nesting e ≤ 200 →
       Leads (expr_actions e) (outer ∷ o) (AValue (origin_of e) ∷ outer ∷ o)
   expr_leads (Constant value) outer o h small = act (PushConstant value) _ _ refl (omega arith)
   expr_leads (Variable v) outer o h small = act (FetchVariable v) _ _ (rw (var_numbered v h) refl) (omega arith)
   expr_leads (Binary op a b) outer o h small =
-      sides_lead op (is_logic op) refl a b outer o (omega arith) (expr_leads a outer o h.0 (omega arith)) (λ inner p less. expr_leads b inner p h.1 (omega arith))
+      sides_lead op (is_logic op) refl a b outer o (omega arith) (expr_leads a outer o h.0 (omega arith))
+      (λ inner p less. expr_leads b inner p h.1 (omega arith))
   expr_leads (Assign op v e) outer o h small =
-      chain (expr_actions e) _ _ _ _ (expr_leads e outer o h.1 small) (act (StoreVariable v op) _ _ (rw (var_numbered v h.0) refl) (omega arith))
+      chain (expr_actions e) _ _ _ _ (expr_leads e outer o h.1 small)
+      (act (StoreVariable v op) _ _ (rw (var_numbered v h.0) refl) (omega arith))
   expr_leads (Postfix op v) outer o h small =
       also (FetchVariable v) _ _ (AValue (Fetched v) ∷ outer ∷ o) _ (rw (var_numbered v h) refl) (omega arith)
       (also (PushConstant (pos 1)) _ _ (AValue (Number (pos 1)) ∷ AValue (Fetched v) ∷ outer ∷ o) _ refl (omega arith)
-      (also (StoreVariable v op) _ _ (AValue (Stepped v) ∷ AValue (Fetched v) ∷ outer ∷ o) _ (rw (var_numbered v h) refl) (omega arith)
+      (also (StoreVariable v op) _ _ (AValue (Stepped v) ∷ AValue (Fetched v) ∷ outer ∷ o) _
+      (rw (var_numbered v h) refl) (omega arith)
       (act Chop _ _ (rw (same_itself v) refl) (omega arith))))
   expr_leads (Call f args) outer o h small =
       also BeginCall _ _ (InCall ∷ outer ∷ o) _ refl (omega arith)
       (chain (args_actions args) _ _ _ _ (args_lead args InCall (outer ∷ o) h.1 (omega arith))
       (act (EndCall f) _ _ (rw (callee_numbered f h.0) (call_ends args (InCall ∷ outer ∷ o))) (omega arith)))
 
-  pub args_lead : (args : Args) (outer : Open) (o : Opened) → InArgs 64 64 64 args → open_count (outer ∷ o) + args_nesting args ≤ 200 →
+  pub args_lead : (args : Args) (outer : Open) (o : Opened) → InArgs 64 64 64 args →
+      open_count (outer ∷ o) + args_nesting args ≤ 200 →
       Leads (args_actions args) (outer ∷ o) (pushed args (outer ∷ o))
   args_lead NoMore outer o h small = record { is = refl }
   args_lead (Argument e rest) outer o h small =
-      chain (expr_actions e) (args_actions rest) _ _ _ (expr_leads e outer o h.0 (omega arith)) (args_lead rest (AValue (origin_of e)) (outer ∷ o) h.1 (omega arith))
+      chain (expr_actions e) (args_actions rest) _ _ _ (expr_leads e outer o h.0 (omega arith))
+      (args_lead rest (AValue (origin_of e)) (outer ∷ o) h.1 (omega arith))
 
 -- Statements.
 
@@ -167,7 +182,8 @@ abbrev pub settled : Bool → Opened → Opened
 settled returned (InFunction parameters before ∷ o) = InFunction parameters returned ∷ o
 settled returned o = o
 
-pub done_settles : (returned : Bool) (o : Opened) → is_place o ≡ true → statement_done returned o ≡ Some (settled returned o)
+pub done_settles : (returned : Bool) (o : Opened) → is_place o ≡ true →
+    statement_done returned o ≡ Some (settled returned o)
 done_settles returned [] e = absurd (cc)
 done_settles returned (InFunction parameters before ∷ o) e = refl
 done_settles returned (InBranch ∷ o) e = refl
@@ -195,11 +211,13 @@ behind_body (While c s rest) o = behind_body rest (settled false o)
 behind_body (Return e rest) o = behind_body rest (settled (is_number 0 (origin_of e)) o)
 
 -- an expression at a statement's place
-value_leads : (e : Expr) (o : Opened) → is_place o ≡ true → InExpr 64 64 64 e → open_count o + nesting e ≤ 200 → Leads (expr_actions e) o (AValue (origin_of e) ∷ o)
+value_leads : (e : Expr) (o : Opened) → is_place o ≡ true → InExpr 64 64 64 e → open_count o + nesting e ≤ 200 →
+    Leads (expr_actions e) o (AValue (origin_of e) ∷ o)
 value_leads e [] place h small = absurd (cc)
 value_leads e (outer ∷ o) place h small = expr_leads e outer o h small
 
-pub chop_settles : (origin : Origin) (o : Opened) → is_place o ≡ true → follow Chop (AValue origin ∷ o) ≡ Some (settled false o)
+pub chop_settles : (origin : Origin) (o : Opened) → is_place o ≡ true →
+    follow Chop (AValue origin ∷ o) ≡ Some (settled false o)
 chop_settles origin [] e = absurd (cc)
 chop_settles origin (AValue below ∷ o) e = absurd (cc)
 chop_settles origin (InFunction parameters before ∷ o) e = refl
@@ -209,7 +227,8 @@ chop_settles origin (InTurn ∷ o) e = refl
 chop_settles origin (x ∷ o) e = absurd (cc)
 
 -- inside of a branch or a loop nothing is settled
-pub inside : (b : Body) (x : Open) (o : Opened) → ((returned : Bool) → settled returned (x ∷ o) ≡ x ∷ o) → behind_body b (x ∷ o) ≡ x ∷ o
+pub inside : (b : Body) (x : Open) (o : Opened) → ((returned : Bool) → settled returned (x ∷ o) ≡ x ∷ o) →
+    behind_body b (x ∷ o) ≡ x ∷ o
 inside Done x o same = refl
 inside (ExpressionStatement e rest) x o same = ap (behind_body rest) (same false) ∙ inside rest x o same
 inside (IfStatement c s rest) x o same = ap (behind_body rest) (same false) ∙ inside rest x o same
@@ -220,7 +239,8 @@ inside (Return e rest) x o same = ap (behind_body rest) (same (is_number 0 (orig
 pub leads_to : (acts : List Action) (o p q : Opened) → p ≡ q → Leads acts o p → Leads acts o q
 leads_to acts o p q e a = subst (λ (r : Opened). Leads acts o r) e a
 
-pub body_leads : (b : Body) (o : Opened) → is_place o ≡ true → InBody 64 64 64 b → open_count o + body_nesting b ≤ 200 → Leads (body_actions b) o (behind_body b o)
+pub body_leads : (b : Body) (o : Opened) → is_place o ≡ true → InBody 64 64 64 b → open_count o + body_nesting b ≤ 200 →
+    Leads (body_actions b) o (behind_body b o)
 body_leads Done o place h small = record { is = refl }
 body_leads (ExpressionStatement e rest) o place h small =
     chain (expr_actions e) _ _ _ _ (value_leads e o place h.0 (omega arith))
@@ -229,28 +249,34 @@ body_leads (ExpressionStatement e rest) o place h small =
 body_leads (IfStatement c s rest) o place h small =
     chain (expr_actions c) _ _ _ _ (value_leads c o place h.0 (omega arith))
     (also IfTest _ _ (InBranch ∷ o) _ (rw place refl) (omega arith)
-    (chain (body_actions s) _ _ (InBranch ∷ o) _ (leads_to _ _ _ _ (inside s InBranch o (λ returned. refl)) (body_leads s (InBranch ∷ o) refl h.1 (omega arith)))
+    (chain (body_actions s) _ _ (InBranch ∷ o) _
+    (leads_to _ _ _ _ (inside s InBranch o (λ returned. refl)) (body_leads s (InBranch ∷ o) refl h.1 (omega arith)))
     (also EndIf _ _ (settled false o) _ (done_settles false o place) (omega (arith, settled_count false o))
     (body_leads rest (settled false o) (settled_place false o place) h.2 (omega (arith, settled_count false o))))))
 body_leads (IfElseStatement c s t rest) o place h small =
     chain (expr_actions c) _ _ _ _ (value_leads c o place h.0 (omega arith))
     (also IfTest _ _ (InBranch ∷ o) _ (rw place refl) (omega arith)
-    (chain (body_actions s) _ _ (InBranch ∷ o) _ (leads_to _ _ _ _ (inside s InBranch o (λ returned. refl)) (body_leads s (InBranch ∷ o) refl h.1 (omega arith)))
+    (chain (body_actions s) _ _ (InBranch ∷ o) _
+    (leads_to _ _ _ _ (inside s InBranch o (λ returned. refl)) (body_leads s (InBranch ∷ o) refl h.1 (omega arith)))
     (also ElsePart _ _ (InElse ∷ o) _ refl (omega arith)
-    (chain (body_actions t) _ _ (InElse ∷ o) _ (leads_to _ _ _ _ (inside t InElse o (λ returned. refl)) (body_leads t (InElse ∷ o) refl h.2 (omega arith)))
+    (chain (body_actions t) _ _ (InElse ∷ o) _
+    (leads_to _ _ _ _ (inside t InElse o (λ returned. refl)) (body_leads t (InElse ∷ o) refl h.2 (omega arith)))
     (also EndIf _ _ (settled false o) _ (done_settles false o place) (omega (arith, settled_count false o))
     (body_leads rest (settled false o) (settled_place false o place) h.3 (omega (arith, settled_count false o))))))))
 body_leads (While c s rest) o place h small =
     also BeginWhile _ _ (BeforeTest ∷ o) _ (rw place refl) (omega arith)
     (chain (expr_actions c) _ _ _ _ (expr_leads c BeforeTest o h.0 (omega arith))
     (also WhileTest _ _ (InTurn ∷ o) _ refl (omega arith)
-    (chain (body_actions s) _ _ (InTurn ∷ o) _ (leads_to _ _ _ _ (inside s InTurn o (λ returned. refl)) (body_leads s (InTurn ∷ o) refl h.1 (omega arith)))
+    (chain (body_actions s) _ _ (InTurn ∷ o) _
+    (leads_to _ _ _ _ (inside s InTurn o (λ returned. refl)) (body_leads s (InTurn ∷ o) refl h.1 (omega arith)))
     (also EndWhile _ _ (settled false o) _ (done_settles false o place) (omega (arith, settled_count false o))
     (body_leads rest (settled false o) (settled_place false o place) h.2 (omega (arith, settled_count false o)))))))
 body_leads (Return e rest) o place h small =
     chain (expr_actions e) _ _ _ _ (value_leads e o place h.0 (omega arith))
-    (also GiveBack _ _ (settled (is_number 0 (origin_of e)) o) _ (done_settles (is_number 0 (origin_of e)) o place) (omega (arith, settled_count (is_number 0 (origin_of e)) o))
-    (body_leads rest (settled (is_number 0 (origin_of e)) o) (settled_place (is_number 0 (origin_of e)) o place) h.1 (omega (arith, settled_count (is_number 0 (origin_of e)) o))))
+    (also GiveBack _ _ (settled (is_number 0 (origin_of e)) o) _ (done_settles (is_number 0 (origin_of e)) o place)
+    (omega (arith, settled_count (is_number 0 (origin_of e)) o))
+    (body_leads rest (settled (is_number 0 (origin_of e)) o) (settled_place (is_number 0 (origin_of e)) o place) h.1
+    (omega (arith, settled_count (is_number 0 (origin_of e)) o))))
 
 -- Functions.
 
@@ -261,50 +287,77 @@ pub record KeepsFunction (b : Body) (parameters : ℕ) (before : Bool) : Type 0 
 
 pub keeps_function : (b : Body) (parameters : ℕ) (before : Bool) → KeepsFunction b parameters before
 keeps_function Done parameters before = record { returned = before; is = refl }
-keeps_function (ExpressionStatement e rest) parameters before = let k : KeepsFunction rest parameters false = keeps_function rest parameters false in record { returned = k.returned; is = k.is }
-keeps_function (IfStatement c s rest) parameters before = let k : KeepsFunction rest parameters false = keeps_function rest parameters false in record { returned = k.returned; is = k.is }
-keeps_function (IfElseStatement c s t rest) parameters before = let k : KeepsFunction rest parameters false = keeps_function rest parameters false in record { returned = k.returned; is = k.is }
-keeps_function (While c s rest) parameters before = let k : KeepsFunction rest parameters false = keeps_function rest parameters false in record { returned = k.returned; is = k.is }
+keeps_function (ExpressionStatement e rest) parameters before =
+    let k : KeepsFunction rest parameters false = keeps_function rest parameters false in
+    record { returned = k.returned; is = k.is }
+keeps_function (IfStatement c s rest) parameters before =
+    let k : KeepsFunction rest parameters false = keeps_function rest parameters false in
+    record { returned = k.returned; is = k.is }
+keeps_function (IfElseStatement c s t rest) parameters before =
+    let k : KeepsFunction rest parameters false = keeps_function rest parameters false in
+    record { returned = k.returned; is = k.is }
+keeps_function (While c s rest) parameters before =
+    let k : KeepsFunction rest parameters false = keeps_function rest parameters false in
+    record { returned = k.returned; is = k.is }
 keeps_function (Return e rest) parameters before =
-    let k : KeepsFunction rest parameters (is_number 0 (origin_of e)) = keeps_function rest parameters (is_number 0 (origin_of e)) in record { returned = k.returned; is = k.is }
+    let k : KeepsFunction rest parameters (is_number 0 (origin_of e)) =
+    keeps_function rest parameters (is_number 0 (origin_of e)) in
+    record { returned = k.returned; is = k.is }
 
-pub function_begins : (number parameters : ℕ) → number < 64 → parameters ≤ 64 → follow (BeginFunction number parameters) [] ≡ Some (InFunction parameters false ∷ [])
+pub function_begins : (number parameters : ℕ) → number < 64 → parameters ≤ 64 →
+    follow (BeginFunction number parameters) [] ≡ Some (InFunction parameters false ∷ [])
 unfolding most_numbers
 function_begins number parameters h k = rw (lt-ltb number 64 h, le-leb parameters 64 k) refl
 
-pub function_finishes : (parameters variables : ℕ) → parameters ≤ variables → variables ≤ 64 → follow (EndFunction variables) (InFunction parameters true ∷ []) ≡ Some []
+pub function_finishes : (parameters variables : ℕ) → parameters ≤ variables → variables ≤ 64 →
+    follow (EndFunction variables) (InFunction parameters true ∷ []) ≡ Some []
 unfolding most_numbers
 function_finishes parameters variables h k = rw (le-leb parameters variables h, le-leb variables 64 k) refl
 
 -- a function's actions, by its number, its parameters, its variables and its body
-pub definition_leads : (number parameters variables : ℕ) (body : Body) → number < 64 → parameters ≤ variables → variables ≤ 64 → InBody 64 64 64 body → body_nesting body ≤ 200 →
+pub definition_leads : (number parameters variables : ℕ) (body : Body) → number < 64 → parameters ≤ variables →
+    variables ≤ 64 → InBody 64 64 64 body → body_nesting body ≤ 200 →
     Leads (BeginFunction number parameters ∷ (body_actions body ++ (last_return ++ EndFunction variables ∷ []))) [] []
 definition_leads number parameters variables body known within most h small =
     let k : KeepsFunction body parameters false = keeps_function body parameters false in
-    also (BeginFunction number parameters) _ _ (InFunction parameters false ∷ []) _ (function_begins number parameters known (omega arith)) (omega arith)
-    (chain (body_actions body) _ _ (InFunction parameters k.returned ∷ []) _ (leads_to _ _ _ _ k.is (body_leads body (InFunction parameters false ∷ []) refl h (omega arith)))
-    (also (PushConstant (pos 0)) _ _ (AValue (Number (pos 0)) ∷ InFunction parameters k.returned ∷ []) _ refl (omega arith)
+    also (BeginFunction number parameters) _ _ (InFunction parameters false ∷ []) _
+    (function_begins number parameters known (omega arith)) (omega arith)
+    (chain (body_actions body) _ _ (InFunction parameters k.returned ∷ []) _
+    (leads_to _ _ _ _ k.is (body_leads body (InFunction parameters false ∷ []) refl h (omega arith)))
+    (also (PushConstant (pos 0)) _ _ (AValue (Number (pos 0)) ∷ InFunction parameters k.returned ∷ []) _ refl
+    (omega arith)
     (also GiveBack _ _ (InFunction parameters true ∷ []) _ refl (omega arith)
     (act (EndFunction variables) _ _ (function_finishes parameters variables within most) (omega arith)))))
 
-pub function_leads : (number : ℕ) (f : Function) → number < 64 → InFile 64 64 f → body_nesting f.body ≤ 200 → Leads (function_actions number f) [] []
+pub function_leads : (number : ℕ) (f : Function) → number < 64 → InFile 64 64 f → body_nesting f.body ≤ 200 →
+    Leads (function_actions number f) [] []
 function_leads number f known h small =
-    let within : InBody 64 64 64 f.body = body_wider 64 (length f.variables) 64 64 64 64 (record { externals = omega arith; locals = h.variables; functions = omega arith }) f.body h.body in
+    let within : InBody 64 64 64 f.body =
+    body_wider 64 (length f.variables) 64 64 64 64
+    (record { externals = omega arith; locals = h.variables; functions = omega arith }) f.body h.body in
     definition_leads number f.parameters (length f.variables) f.body known h.parameters h.variables within small
 
 -- Files.
 
-numbered_leads : (functions : List Function) (numbers : List ℕ) → ((k : ℕ) (f : Function) → slice_get functions k ≡ Some f → InFile 64 64 f × (body_nesting f.body ≤ 200)) →
+numbered_leads : (functions : List Function) (numbers : List ℕ) →
+    ((k : ℕ) (f : Function) → slice_get functions k ≡ Some f → InFile 64 64 f × (body_nesting f.body ≤ 200)) →
     ((k : ℕ) → IsAmong k numbers → k < 64) → Leads (functions_actions functions numbers) [] []
 numbered_leads functions [] each known = record { is = refl }
 numbered_leads functions (k ∷ ks) each known =
-    chain (numbered_actions k (slice_get functions k)) _ _ [] _ (one (slice_get functions k) refl) (numbered_leads functions ks each (λ j h. known j (inr h)))
+    chain (numbered_actions k (slice_get functions k)) _ _ [] _ (one (slice_get functions k) refl)
+    (numbered_leads functions ks each (λ j h. known j (inr h)))
   where
     one : (f : Option Function) → slice_get functions k ≡ f → Leads (numbered_actions k f) [] []
     one None e = record { is = refl }
-    one (Some f) e = let h : InFile 64 64 f × (body_nesting f.body ≤ 200) = each k f e in function_leads k f (known k (inl refl)) h.0 h.1
+    one (Some f) e =
+        let h : InFile 64 64 f × (body_nesting f.body ≤ 200) = each k f e in
+        function_leads k f (known k (inl refl)) h.0 h.1
 
 pub file_leads : EachFileFollows
 file_leads file resolved nested = (numbered_leads file.functions file.order
-    (λ k f e. (function_wider (length file.externals) (length file.functions) 64 64 resolved.externals resolved.functions f (resolved.each k f e), nested k f e))
+    (λ k f e. (
+      function_wider (length file.externals) (length file.functions) 64 64 resolved.externals resolved.functions f
+          (resolved.each k f e),
+      nested k f e,
+    ))
     (λ k h. let below : k < length file.functions = resolved.only k h in omega (arith, resolved.functions))).is

@@ -7,7 +7,7 @@ use Rattle.tokens.specs.declared.located_tokens.Punctuator.TheVariants as punctu
 use Rattle.tokens.specs.declared.located_tokens.Token.{Token}
 use Rattle.tokens.specs.declared.located_tokens.Token.TheVariants as token
 use Rattle.tokens.specs.declared.located_tokens.Word.TheVariants as word
-use Rattle.grammar.specs.declared.operators.Op.{Op}
+use Rattle.arith.specs.declared.operators.Op.{Op}
 use Rattle.grammar.specs.declared.operators.StoreOp.{StoreOp}
 use Rattle.grammar.specs.Derivation.{State, state, Value, Definition, step, step_of, stepped, run, next_of, after_of, line_of, matched, name_matched, constant_matched, replaced, name_of_token, constant_value, is_end, defined, behind_rule}
 use Rattle.grammar.specs.Grammar.{Symbol, Source, Types, Head, More, Parameters, ParameterTypes, FunctionBlock, Block, Declarations, Statements, Statement, ElsePart, Back, Expression, Level, Tail, Unary, Primary, Arguments, MoreArguments, Role, Defined, External, Parameter, Typed, Local, Called, Mentioned, Item, Exactly, AWord, AName, AConstant, AnEnd, Part, Make, Close, SemanticAction, Define, Production, choice, assignment_or, tail_production, is_fault, is_punctuator, is_word}
@@ -55,17 +55,21 @@ others_inner : (a b : Bool) → (if a then b else false) ≡ true → b ≡ true
 others_inner true b h = h
 others_inner false b h = absurd (cc)
 
-append_inner : (items more : List Item) → all_inner items ≡ true → all_inner more ≡ true → all_inner (items ++ more) ≡ true
+append_inner : (items more : List Item) → all_inner items ≡ true → all_inner more ≡ true →
+    all_inner (items ++ more) ≡ true
 append_inner [] more h k = k
 append_inner (item ∷ items) more h k =
-    both (is_inner item) (all_inner (items ++ more)) (front_inner (is_inner item) (all_inner items) h) (append_inner items more (others_inner (is_inner item) (all_inner items) h) k)
+    both (is_inner item) (all_inner (items ++ more)) (front_inner (is_inner item) (all_inner items) h)
+    (append_inner items more (others_inner (is_inner item) (all_inner items) h) k)
 
 -- The production of an inner symbol has inner items only.
 
-more_inner : (role : Role) → is_inner_role role ≡ true → inner_production (Some (Exactly punctuator.Comma ∷ AName role ∷ Part (More role) ∷ [])) ≡ true
+more_inner : (role : Role) → is_inner_role role ≡ true →
+    inner_production (Some (Exactly punctuator.Comma ∷ AName role ∷ Part (More role) ∷ [])) ≡ true
 more_inner role h = rw h refl
 
-level_inner : (n : ℕ) (b : Bool) → inner_production (if b then Some (Part (Level (n + 1)) ∷ Part (Tail n) ∷ []) else Some (Part Unary ∷ [])) ≡ true
+level_inner : (n : ℕ) (b : Bool) →
+    inner_production (if b then Some (Part (Level (n + 1)) ∷ Part (Tail n) ∷ []) else Some (Part Unary ∷ [])) ≡ true
 level_inner n true = refl
 level_inner n false = refl
 
@@ -86,7 +90,8 @@ primary_inner (token.Name name) after = refl
 primary_inner (token.Punctuator punctuator.OpenRound) after = refl
 primary_inner next after = refl
 
-choice_inner : (symbol : Symbol) (next after : Token) → is_inner_symbol symbol ≡ true → inner_production (choice symbol next after) ≡ true
+choice_inner : (symbol : Symbol) (next after : Token) → is_inner_symbol symbol ≡ true →
+    inner_production (choice symbol next after) ≡ true
 choice_inner Source next after h = absurd (cc)
 choice_inner Head next after h = absurd (cc)
 choice_inner Parameters next after h = absurd (cc)
@@ -136,26 +141,43 @@ kept : (scope : Scope) → KeepsFunction scope scope
 kept scope = record { number = refl; begun = refl; name = refl; parameters = refl }
 
 kept_on : (a b c : Scope) → KeepsFunction a b → KeepsFunction b c → KeepsFunction a c
-kept_on a b c h k = record { number = k.number ∙ h.number; begun = k.begun ∙ h.begun; name = k.name ∙ h.name; parameters = k.parameters ∙ h.parameters }
+kept_on a b c h k =
+    record {
+      number = k.number ∙ h.number;
+      begun = k.begun ∙ h.begun;
+      name = k.name ∙ h.name;
+      parameters = k.parameters ∙ h.parameters;
+    }
 
 kept_either : (b : Bool) (scope new : Scope) → KeepsFunction scope new → KeepsFunction scope (if b then new else scope)
 kept_either true scope new h = h
 kept_either false scope new h = kept scope
 
-name_keeps : (role : Role) (name : List ℕ) (line : ℕ) (scope : Scope) → is_inner_role role ≡ true → KeepsFunction scope (behind_name role name line scope)
+name_keeps : (role : Role) (name : List ℕ) (line : ℕ) (scope : Scope) → is_inner_role role ≡ true →
+    KeepsFunction scope (behind_name role name line scope)
 name_keeps Defined name line scope h = absurd (cc)
-name_keeps External name line scope h = kept_either (is_external_new name scope) scope (with_external name scope) (record { number = refl; begun = refl; name = refl; parameters = refl })
+name_keeps External name line scope h =
+    kept_either (is_external_new name scope) scope (with_external name scope)
+    (record { number = refl; begun = refl; name = refl; parameters = refl })
 name_keeps Parameter name line scope h = absurd (cc)
 name_keeps Typed name line scope h = kept scope
-name_keeps Local name line scope h = kept_either (is_local_new name scope) scope (with_variable name scope) (record { number = refl; begun = refl; name = refl; parameters = refl })
-name_keeps Called name line scope h = kept_either (is_function_new name scope) scope (with_new_function name line scope) (record { number = refl; begun = refl; name = refl; parameters = refl })
-name_keeps Mentioned name line scope h = kept_either (is_variable_new name scope) scope (with_variable name scope) (record { number = refl; begun = refl; name = refl; parameters = refl })
+name_keeps Local name line scope h =
+    kept_either (is_local_new name scope) scope (with_variable name scope)
+    (record { number = refl; begun = refl; name = refl; parameters = refl })
+name_keeps Called name line scope h =
+    kept_either (is_function_new name scope) scope (with_new_function name line scope)
+    (record { number = refl; begun = refl; name = refl; parameters = refl })
+name_keeps Mentioned name line scope h =
+    kept_either (is_variable_new name scope) scope (with_variable name scope)
+    (record { number = refl; begun = refl; name = refl; parameters = refl })
 
-rule_keeps : (rule : SemanticAction) (scope : Scope) → is_inner (Make rule) ≡ true → KeepsFunction scope (behind_rule rule scope)
+rule_keeps : (rule : SemanticAction) (scope : Scope) → is_inner (Make rule) ≡ true →
+    KeepsFunction scope (behind_rule rule scope)
 rule_keeps Define scope h = absurd (cc)
 rule_keeps rule scope h = kept scope
 
-defines_none : (rule : SemanticAction) (values : List Value) (scope : Scope) (functions : List Definition) → is_inner (Make rule) ≡ true →
+defines_none : (rule : SemanticAction) (values : List Value) (scope : Scope) (functions : List Definition) →
+    is_inner (Make rule) ≡ true →
     length (functions ++ defined rule values scope) ≡ length functions
 defines_none Define values scope functions h = absurd (cc)
 defines_none rule values scope functions h = length-append functions [] ∙ omega arith
@@ -173,49 +195,85 @@ abbrev IfStands : List Item → Scope → ℕ → Option State → Type 0
 IfStands base known count None = Unit {0}
 IfStands base known count (Some s) = Stands base known count s
 
-matched_stands : (fits : Bool) (items base : List Item) (rest : List LocatedToken) (values : List Value) (scope : Scope) (functions : List Definition) → all_inner items ≡ true →
+matched_stands : (fits : Bool) (items base : List Item) (rest : List LocatedToken) (values : List Value) (scope : Scope)
+    (functions : List Definition) → all_inner items ≡ true →
     IfStands base scope (length functions) (matched fits (items ++ base) rest values scope functions)
 matched_stands false items base rest values scope functions h = tt
-matched_stands true items base rest values scope functions h = record { items = items; inner = h; over = refl; keeps = kept scope; same = refl }
+matched_stands true items base rest values scope functions h =
+    record { items = items; inner = h; over = refl; keeps = kept scope; same = refl }
 
-name_stands : (role : Role) (o : Option (List ℕ)) (items base : List Item) (rest : List LocatedToken) (values : List Value) (scope : Scope) (functions : List Definition) → is_inner_role role ≡ true →
-    all_inner items ≡ true → IfStands base scope (length functions) (name_matched role o (items ++ base) rest values scope functions)
+name_stands : (role : Role) (o : Option (List ℕ)) (items base : List Item) (rest : List LocatedToken)
+    (values : List Value) (scope : Scope) (functions : List Definition) → is_inner_role role ≡ true →
+    all_inner items ≡ true →
+    IfStands base scope (length functions) (name_matched role o (items ++ base) rest values scope functions)
 name_stands role None items base rest values scope functions r h = tt
 name_stands role (Some name) items base rest values scope functions r h =
     record { items = items; inner = h; over = refl; keeps = name_keeps role name (line_of rest) scope r; same = refl }
 
-constant_stands : (o : Option ℕ) (items base : List Item) (rest : List LocatedToken) (values : List Value) (scope : Scope) (functions : List Definition) → all_inner items ≡ true →
+constant_stands : (o : Option ℕ) (items base : List Item) (rest : List LocatedToken) (values : List Value)
+    (scope : Scope) (functions : List Definition) → all_inner items ≡ true →
     IfStands base scope (length functions) (constant_matched o (items ++ base) rest values scope functions)
 constant_stands None items base rest values scope functions h = tt
-constant_stands (Some value) items base rest values scope functions h = record { items = items; inner = h; over = refl; keeps = kept scope; same = refl }
+constant_stands (Some value) items base rest values scope functions h =
+    record { items = items; inner = h; over = refl; keeps = kept scope; same = refl }
 
-part_stands : (production : Production) (items base : List Item) (rest : List LocatedToken) (values : List Value) (scope : Scope) (functions : List Definition) → inner_production production ≡ true →
-    all_inner items ≡ true → IfStands base scope (length functions) (replaced production (items ++ base) rest values scope functions)
+part_stands : (production : Production) (items base : List Item) (rest : List LocatedToken) (values : List Value)
+    (scope : Scope) (functions : List Definition) → inner_production production ≡ true →
+    all_inner items ≡ true →
+    IfStands base scope (length functions) (replaced production (items ++ base) rest values scope functions)
 part_stands None items base rest values scope functions p h = tt
 part_stands (Some front) items base rest values scope functions p h =
-    record { items = front ++ items; inner = append_inner front items p h; over = sym (append_assoc front items base); keeps = kept scope; same = refl }
+    record {
+      items = front ++ items;
+      inner = append_inner front items p h;
+      over = sym (append_assoc front items base);
+      keeps = kept scope;
+      same = refl;
+    }
 
-item_stands : (item : Item) (items base : List Item) (rest : List LocatedToken) (values : List Value) (scope : Scope) (functions : List Definition) → is_inner item ≡ true → all_inner items ≡ true →
+item_stands : (item : Item) (items base : List Item) (rest : List LocatedToken) (values : List Value) (scope : Scope)
+    (functions : List Definition) → is_inner item ≡ true → all_inner items ≡ true →
     IfStands base scope (length functions) (step_of (item ∷ items ++ base) rest values scope functions)
-item_stands (Exactly m) items base rest values scope functions i h = matched_stands (is_punctuator m (next_of rest)) items base rest values scope functions h
-item_stands (AWord w) items base rest values scope functions i h = matched_stands (is_word w (next_of rest)) items base rest values scope functions h
-item_stands (AName role) items base rest values scope functions i h = name_stands role (name_of_token (next_of rest)) items base rest values scope functions i h
-item_stands AConstant items base rest values scope functions i h = constant_stands (constant_value (next_of rest)) items base rest values scope functions h
-item_stands AnEnd items base rest values scope functions i h = matched_stands (is_end (next_of rest)) items base rest values scope functions h
+item_stands (Exactly m) items base rest values scope functions i h =
+    matched_stands (is_punctuator m (next_of rest)) items base rest values scope functions h
+item_stands (AWord w) items base rest values scope functions i h =
+    matched_stands (is_word w (next_of rest)) items base rest values scope functions h
+item_stands (AName role) items base rest values scope functions i h =
+    name_stands role (name_of_token (next_of rest)) items base rest values scope functions i h
+item_stands AConstant items base rest values scope functions i h =
+    constant_stands (constant_value (next_of rest)) items base rest values scope functions h
+item_stands AnEnd items base rest values scope functions i h =
+    matched_stands (is_end (next_of rest)) items base rest values scope functions h
 item_stands (Part symbol) items base rest values scope functions i h =
-    part_stands (choice symbol (next_of rest) (after_of rest)) items base rest values scope functions (choice_inner symbol (next_of rest) (after_of rest) i) h
+    part_stands (choice symbol (next_of rest) (after_of rest)) items base rest values scope functions
+    (choice_inner symbol (next_of rest) (after_of rest) i) h
 item_stands (Make rule) items base rest values scope functions i h =
-    record { items = items; inner = h; over = refl; keeps = rule_keeps rule scope i; same = defines_none rule values scope functions i }
-item_stands Close items base rest values scope functions i h = record { items = items; inner = h; over = refl; keeps = kept scope; same = refl }
+    record {
+      items = items;
+      inner = h;
+      over = refl;
+      keeps = rule_keeps rule scope i;
+      same = defines_none rule values scope functions i;
+    }
+item_stands Close items base rest values scope functions i h =
+    record { items = items; inner = h; over = refl; keeps = kept scope; same = refl }
 
-guarded_stands : (b : Bool) (base : List Item) (known : Scope) (count : ℕ) (o : Option State) → IfStands base known count o → IfStands base known count (if b then None else o)
+guarded_stands : (b : Bool) (base : List Item) (known : Scope) (count : ℕ) (o : Option State) →
+    IfStands base known count o → IfStands base known count (if b then None else o)
 guarded_stands true base known count o h = tt
 guarded_stands false base known count o h = h
 
-stays : (base : List Item) (known : Scope) (count : ℕ) (s : State) (o : Option State) → Stands base known count s → IfStands base s.scope (length s.functions) o → Stands base known count (unwrap_or o s)
+stays : (base : List Item) (known : Scope) (count : ℕ) (s : State) (o : Option State) → Stands base known count s →
+    IfStands base s.scope (length s.functions) o → Stands base known count (unwrap_or o s)
 stays base known count s None h k = h
 stays base known count s (Some t) h k =
-    record { items = k.items; inner = k.inner; over = k.over; keeps = kept_on known s.scope t.scope h.keeps k.keeps; same = k.same ∙ h.same }
+    record {
+      items = k.items;
+      inner = k.inner;
+      over = k.over;
+      keeps = kept_on known s.scope t.scope h.keeps k.keeps;
+      same = k.same ∙ h.same;
+    }
 
 -- A derivation takes no function away.
 
@@ -223,45 +281,64 @@ abbrev IfMore : ℕ → Option State → Type 0
 IfMore count None = Unit {0}
 IfMore count (Some s) = count ≤ length s.functions
 
-matched_more : (fits : Bool) (stack : List Item) (rest : List LocatedToken) (values : List Value) (scope : Scope) (functions : List Definition) →
+matched_more : (fits : Bool) (stack : List Item) (rest : List LocatedToken) (values : List Value) (scope : Scope)
+    (functions : List Definition) →
     IfMore (length functions) (matched fits stack rest values scope functions)
 matched_more false stack rest values scope functions = tt
 matched_more true stack rest values scope functions = omega arith
 
-name_more : (role : Role) (o : Option (List ℕ)) (stack : List Item) (rest : List LocatedToken) (values : List Value) (scope : Scope) (functions : List Definition) →
+name_more : (role : Role) (o : Option (List ℕ)) (stack : List Item) (rest : List LocatedToken) (values : List Value)
+    (scope : Scope) (functions : List Definition) →
     IfMore (length functions) (name_matched role o stack rest values scope functions)
 name_more role None stack rest values scope functions = tt
 name_more role (Some name) stack rest values scope functions = omega arith
 
-constant_more : (o : Option ℕ) (stack : List Item) (rest : List LocatedToken) (values : List Value) (scope : Scope) (functions : List Definition) →
+constant_more : (o : Option ℕ) (stack : List Item) (rest : List LocatedToken) (values : List Value) (scope : Scope)
+    (functions : List Definition) →
     IfMore (length functions) (constant_matched o stack rest values scope functions)
 constant_more None stack rest values scope functions = tt
 constant_more (Some value) stack rest values scope functions = omega arith
 
-part_more : (production : Production) (stack : List Item) (rest : List LocatedToken) (values : List Value) (scope : Scope) (functions : List Definition) →
+part_more : (production : Production) (stack : List Item) (rest : List LocatedToken) (values : List Value)
+    (scope : Scope) (functions : List Definition) →
     IfMore (length functions) (replaced production stack rest values scope functions)
 part_more None stack rest values scope functions = tt
 part_more (Some items) stack rest values scope functions = omega arith
 
-item_more : (stack : List Item) (rest : List LocatedToken) (values : List Value) (scope : Scope) (functions : List Definition) → IfMore (length functions) (step_of stack rest values scope functions)
+item_more : (stack : List Item) (rest : List LocatedToken) (values : List Value) (scope : Scope)
+    (functions : List Definition) → IfMore (length functions) (step_of stack rest values scope functions)
 item_more [] rest values scope functions = tt
-item_more (Exactly m ∷ stack) rest values scope functions = matched_more (is_punctuator m (next_of rest)) stack rest values scope functions
-item_more (AWord w ∷ stack) rest values scope functions = matched_more (is_word w (next_of rest)) stack rest values scope functions
-item_more (AName role ∷ stack) rest values scope functions = name_more role (name_of_token (next_of rest)) stack rest values scope functions
-item_more (AConstant ∷ stack) rest values scope functions = constant_more (constant_value (next_of rest)) stack rest values scope functions
-item_more (AnEnd ∷ stack) rest values scope functions = matched_more (is_end (next_of rest)) stack rest values scope functions
-item_more (Part symbol ∷ stack) rest values scope functions = part_more (choice symbol (next_of rest) (after_of rest)) stack rest values scope functions
-item_more (Make rule ∷ stack) rest values scope functions = omega (arith, length-append functions (defined rule values scope))
+item_more (Exactly m ∷ stack) rest values scope functions =
+    matched_more (is_punctuator m (next_of rest)) stack rest values scope functions
+item_more (AWord w ∷ stack) rest values scope functions =
+    matched_more (is_word w (next_of rest)) stack rest values scope functions
+item_more (AName role ∷ stack) rest values scope functions =
+    name_more role (name_of_token (next_of rest)) stack rest values scope functions
+item_more (AConstant ∷ stack) rest values scope functions =
+    constant_more (constant_value (next_of rest)) stack rest values scope functions
+item_more (AnEnd ∷ stack) rest values scope functions =
+    matched_more (is_end (next_of rest)) stack rest values scope functions
+item_more (Part symbol ∷ stack) rest values scope functions =
+    part_more (choice symbol (next_of rest) (after_of rest)) stack rest values scope functions
+item_more (Make rule ∷ stack) rest values scope functions =
+    omega (arith, length-append functions (defined rule values scope))
 item_more (Close ∷ stack) rest values scope functions = omega arith
 
-stepped_more : (b : Bool) (s : State) (o : Option State) → IfMore (length s.functions) o → length s.functions ≤ length (unwrap_or (if b then None else o) s).functions
+stepped_more : (b : Bool) (s : State) (o : Option State) → IfMore (length s.functions) o →
+    length s.functions ≤ length (unwrap_or (if b then None else o) s).functions
 stepped_more true s o h = omega arith
 stepped_more false s None h = omega arith
 stepped_more false s (Some t) h = h
 
 run_more : (n : ℕ) (s : State) → length s.functions ≤ length (run n s).functions
 run_more zero s = omega arith
-run_more (suc n) s = omega (arith, run_more n (stepped s), stepped_more (is_fault (next_of s.rest)) s (step_of s.stack s.rest s.values s.scope s.functions) (item_more s.stack s.rest s.values s.scope s.functions))
+run_more (suc n) s =
+    omega (
+      arith,
+      run_more n (stepped s),
+      stepped_more (is_fault (next_of s.rest)) s (step_of s.stack s.rest s.values s.scope s.functions)
+          (item_more s.stack s.rest s.values s.scope s.functions),
+    )
 
 -- A derivation that defined no function didn't pass the end of the one that it is in.
 
@@ -269,33 +346,50 @@ abbrev KeepsFrom : ℕ → Scope → ℕ → State → Type 0
 KeepsFrom n known count s = length (run n s).functions ≡ count → KeepsFunction known (run n s).scope
 
 -- at a function's end a step adds it, or the derivation stays
-end_keeps : (b : Bool) (n : ℕ) (stack : List Item) (known : Scope) (count : ℕ) (s : State) → length s.functions ≡ count → KeepsFrom n known count s →
-    KeepsFrom n known count (unwrap_or (if b then None else step_of (Make Define ∷ stack) s.rest s.values s.scope s.functions) s)
+end_keeps : (b : Bool) (n : ℕ) (stack : List Item) (known : Scope) (count : ℕ) (s : State) →
+    length s.functions ≡ count → KeepsFrom n known count s →
+    KeepsFrom n known count
+    (unwrap_or (if b then None else step_of (Make Define ∷ stack) s.rest s.values s.scope s.functions) s)
 end_keeps true n stack known count s before again = again
 end_keeps false n stack known count s before again = λ same. absurd (
-    let behind : State = state stack s.rest [] (behind_rule Define s.scope) (s.functions ++ defined Define s.values s.scope) in
+    let behind : State =
+    state stack s.rest [] (behind_rule Define s.scope) (s.functions ++ defined Define s.values s.scope) in
     omega (arith, before, same, run_more n behind, length-append s.functions (defined Define s.values s.scope)))
 
-step_keeps : (n : ℕ) (items stack : List Item) (known : Scope) (count : ℕ) (s : State) → all_inner items ≡ true → s.stack ≡ items ++ Make Define ∷ stack →
-    Stands (Make Define ∷ stack) known count s → ((t : State) → Stands (Make Define ∷ stack) known count t → KeepsFrom n known count t) → KeepsFrom n known count (stepped s)
+step_keeps : (n : ℕ) (items stack : List Item) (known : Scope) (count : ℕ) (s : State) → all_inner items ≡ true →
+    s.stack ≡ items ++ Make Define ∷ stack →
+    Stands (Make Define ∷ stack) known count s →
+    ((t : State) → Stands (Make Define ∷ stack) known count t → KeepsFrom n known count t) →
+    KeepsFrom n known count (stepped s)
 step_keeps n [] stack known count s inner over h again =
-    subst (λ (xs : List Item). KeepsFrom n known count (unwrap_or (if is_fault (next_of s.rest) then None else step_of xs s.rest s.values s.scope s.functions) s)) (sym over)
+    subst
+    (λ (xs : List Item). KeepsFrom n known count
+    (unwrap_or (if is_fault (next_of s.rest) then None else step_of xs s.rest s.values s.scope s.functions) s))
+    (sym over)
     (end_keeps (is_fault (next_of s.rest)) n stack known count s h.same (again s h))
 step_keeps n (item ∷ items) stack known count s inner over h again =
-    again (stepped s) (stays base known count s (step s) h (guarded_stands (is_fault (next_of s.rest)) base s.scope (length s.functions) (step_of s.stack s.rest s.values s.scope s.functions)
-    (subst (λ (xs : List Item). IfStands base s.scope (length s.functions) (step_of xs s.rest s.values s.scope s.functions)) (sym over)
-    (item_stands item items base s.rest s.values s.scope s.functions (front_inner (is_inner item) (all_inner items) inner) (others_inner (is_inner item) (all_inner items) inner)))))
+    again (stepped s) (stays base known count s (step s) h (guarded_stands (is_fault (next_of s.rest)) base s.scope
+    (length s.functions) (step_of s.stack s.rest s.values s.scope s.functions)
+    (subst
+    (λ (xs : List Item). IfStands base s.scope (length s.functions) (step_of xs s.rest s.values s.scope s.functions))
+    (sym over)
+    (item_stands item items base s.rest s.values s.scope s.functions
+    (front_inner (is_inner item) (all_inner items) inner) (others_inner (is_inner item) (all_inner items) inner)))))
   where
     base : List Item
     base = Make Define ∷ stack
 
-run_keeps : (n : ℕ) (stack : List Item) (known : Scope) (count : ℕ) (s : State) → Stands (Make Define ∷ stack) known count s → KeepsFrom n known count s
+run_keeps : (n : ℕ) (stack : List Item) (known : Scope) (count : ℕ) (s : State) →
+    Stands (Make Define ∷ stack) known count s → KeepsFrom n known count s
 run_keeps zero stack known count s h = λ same. h.keeps
-run_keeps (suc n) stack known count s h = step_keeps n h.items stack known count s h.inner h.over h (λ t k. run_keeps n stack known count t k)
+run_keeps (suc n) stack known count s h =
+    step_keeps n h.items stack known count s h.inner h.over h (λ t k. run_keeps n stack known count t k)
 
 -- from inner items over a function's end to any state before the next function is defined
-pub inner_keeps : (n : ℕ) (items stack after : List Item) (rest later : List LocatedToken) (values left : List Value) (known learnt : Scope) (functions : List Definition) → all_inner items ≡ true →
-    run n (state (items ++ Make Define ∷ stack) rest values known functions) ≡ state after later left learnt functions → KeepsFunction known learnt
+pub inner_keeps : (n : ℕ) (items stack after : List Item) (rest later : List LocatedToken) (values left : List Value)
+    (known learnt : Scope) (functions : List Definition) → all_inner items ≡ true →
+    run n (state (items ++ Make Define ∷ stack) rest values known functions) ≡ state after later left learnt functions →
+    KeepsFunction known learnt
 inner_keeps n items stack after rest later values left known learnt functions inner leads =
     subst (λ (t : State). KeepsFunction known t.scope) leads
     (run_keeps n stack known (length functions) (state (items ++ Make Define ∷ stack) rest values known functions)
@@ -304,4 +398,5 @@ inner_keeps n items stack after rest later values left known learnt functions in
 
 pub blocks_keep : BlocksKeepTheFunction
 blocks_keep n stack rest later values left known learnt functions leads =
-    inner_keeps n (Part Declarations ∷ Part Statements ∷ []) stack (Make Define ∷ stack) rest later values left known learnt functions refl leads
+    inner_keeps n (Part Declarations ∷ Part Statements ∷ []) stack (Make Define ∷ stack) rest later values left known
+    learnt functions refl leads

@@ -11,7 +11,8 @@ use Rattle.grammar.specs.Need.{built, need}
 use Rattle.grammar.specs.Profile.{first_profile}
 
 pub texts : KnownTexts
-unfolding compiled need built tokens located_tokens punctuator_of word_of most_levels intrinsic_named name_of first_profile
+unfolding compiled need built tokens located_tokens punctuator_of word_of most_levels intrinsic_named name_of
+    first_profile
 texts = record {
   nothing = refl;
   sum_of_postfix = refl;

@@ -14,11 +14,13 @@ EndsWithLast [] = ⊥
 EndsWithLast (located_token ∷ []) = is_last located_token.token ≡ true
 EndsWithLast (located_token ∷ other ∷ rest) = EndsWithLast (other ∷ rest)
 
-in_front : (located_token : LocatedToken) (others : List LocatedToken) → EndsWithLast others → EndsWithLast (located_token ∷ others)
+in_front : (located_token : LocatedToken) (others : List LocatedToken) → EndsWithLast others →
+    EndsWithLast (located_token ∷ others)
 in_front located_token [] h = absurd h
 in_front located_token (other ∷ others) h = h
 
-cut_ends : (n line place : ℕ) (bytes : List ℕ) (too_long : Bool) → length bytes < n → EndsWithLast (cut n (here line place bytes too_long))
+cut_ends : (n line place : ℕ) (bytes : List ℕ) (too_long : Bool) → length bytes < n →
+    EndsWithLast (cut n (here line place bytes too_long))
 cut_ends zero line place bytes t h = absurd (omega (arith, h))
 cut_ends (suc n) line place [] t h = last-is_last token.End line (at_end (here line place [] t)) refl
 cut_ends (suc n) line place (b ∷ bytes) t h = by (front (b ∷ bytes)) (front-is_piece (b ∷ bytes)) (λ count c.
@@ -29,15 +31,18 @@ cut_ends (suc n) line place (b ∷ bytes) t h = by (front (b ∷ bytes)) (front-
     a : Ahead
     a = here line place (b ∷ bytes) t
 
-    followed : (located_token : LocatedToken) (others : List LocatedToken) (last : Bool) → is_last located_token.token ≡ last → EndsWithLast others → EndsWithLast (located_token ∷ cond last [] others)
+    followed : (located_token : LocatedToken) (others : List LocatedToken) (last : Bool) →
+        is_last located_token.token ≡ last → EndsWithLast others → EndsWithLast (located_token ∷ cond last [] others)
     followed located_token others true e h = e
     followed located_token others false e h = in_front located_token others h
 
-    by : (f : Front) → IsPiece f → ((count : ℕ) → 0 < count → EndsWithLast (cut n (passed count a))) → EndsWithLast (cut_front f a (cut n))
+    by : (f : Front) → IsPiece f → ((count : ℕ) → 0 < count → EndsWithLast (cut n (passed count a))) →
+        EndsWithLast (cut_front f a (cut n))
     by Nothing p each = last-is_last token.End line (at_end a) refl
     by Unclosed p each = last-is_last (token.Fault CommentNotClosed) line (at_end a) refl
     by (Space count) p each = each count p
-    by (Sign sign count) p each = followed (placed sign count a) (cut n (passed count a)) (is_last sign) refl (each count p)
+    by (Sign sign count) p each =
+        followed (placed sign count a) (cut n (passed count a)) (is_last sign) refl (each count p)
 
 pub tokens_end : (bytes : List ℕ) → EndsWithLast (tokens bytes)
 unfolding tokens located_tokens

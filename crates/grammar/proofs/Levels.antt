@@ -6,13 +6,14 @@ use Rattle.tokens.specs.declared.located_tokens.Punctuator.TheVariants as punctu
 use Rattle.tokens.specs.declared.located_tokens.Token.{Token}
 use Rattle.tokens.specs.declared.located_tokens.Token.TheVariants as token
 use Rattle.tokens.specs.declared.located_tokens.Word.TheVariants as word
-use Rattle.grammar.specs.declared.operators.Op.{Op}
+use Rattle.arith.specs.declared.operators.Op.{Op}
 use Rattle.grammar.specs.declared.operators.StoreOp.{StoreOp}
 use Rattle.grammar.specs.Grammar.{Symbol, Source, Types, Head, More, Parameters, ParameterTypes, FunctionBlock, Block, Declarations, Statements, Statement, ElsePart, Back, Expression, Level, Tail, Unary, Primary, Arguments, MoreArguments, Part, choice, enters, assignment_or, tail_production}
 use Rattle.grammar.specs.Laws.{closes, entered_levels, LevelsAreClosed}
 use Rattle.grammar.specs.Operators.{operator_at, store_of}
 
-level_close : (n : ℕ) (b : Bool) → closes (if b then Some (Part (Level (n + 1)) ∷ Part (Tail n) ∷ []) else Some (Part Unary ∷ [])) ≡ 0
+level_close : (n : ℕ) (b : Bool) →
+    closes (if b then Some (Part (Level (n + 1)) ∷ Part (Tail n) ∷ []) else Some (Part Unary ∷ [])) ≡ 0
 level_close n true = refl
 level_close n false = refl
 
@@ -20,11 +21,13 @@ tail_close : (n : ℕ) (o : Option Op) (m : Punctuator) → closes (Some (tail_p
 tail_close n None m = refl
 tail_close n (Some op) m = refl
 
-assignment_close : (o : Option StoreOp) (m : Punctuator) → closes (Some (assignment_or o m)) ≡ entered_levels (is_some o)
+assignment_close : (o : Option StoreOp) (m : Punctuator) →
+    closes (Some (assignment_or o m)) ≡ entered_levels (is_some o)
 assignment_close None m = refl
 assignment_close (Some op) m = refl
 
-expression_close : (next after : Token) → closes (choice Expression next after) ≡ entered_levels (enters Expression next after)
+expression_close : (next after : Token) →
+    closes (choice Expression next after) ≡ entered_levels (enters Expression next after)
 expression_close (token.Name name) (token.Punctuator m) = assignment_close (store_of m) m
 expression_close next after = refl
 
@@ -42,7 +45,8 @@ head_close next after = refl
 pub levels_are_close : LevelsAreClosed
 levels_are_close symbol next after = close symbol next after
   where
-    close : (symbol : Symbol) (next after : Token) → closes (choice symbol next after) ≡ entered_levels (enters symbol next after)
+    close : (symbol : Symbol) (next after : Token) →
+        closes (choice symbol next after) ≡ entered_levels (enters symbol next after)
     close Source token.End after = refl
     close Source (token.Word word.Type) after = refl
     close Source (token.Name name) after = refl

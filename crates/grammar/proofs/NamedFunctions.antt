@@ -17,36 +17,46 @@ use Rattle.grammar.proofs.Runs.{append_empty}
 use Rattle.grammar.proofs.Places.{get_append, get_set_same, get_set_other}
 
 -- a derivation that comes from the start without a fault is sound
-pub sound_of_passes : (profile : Profile) (located_tokens : List LocatedToken) (s : State) → Passes profile (start located_tokens) s → Sound s
-sound_of_passes profile located_tokens s p = subst (λ (t : State). Sound t) p.leads (run_sound profile p.steps (start located_tokens) p.clean (start_sound located_tokens))
+pub sound_of_passes : (profile : Profile) (located_tokens : List LocatedToken) (s : State) →
+    Passes profile (start located_tokens) s → Sound s
+sound_of_passes profile located_tokens s p =
+    subst (λ (t : State). Sound t) p.leads
+    (run_sound profile p.steps (start located_tokens) p.clean (start_sound located_tokens))
 
 -- the names of each function that was defined are at its number
 abbrev pub AreNamed : List FunctionNames → List Definition → Type 0
 AreNamed functions [] = Unit {0}
-AreNamed functions (d ∷ ds) = (slice_get functions d.number ≡ Some (names_of_function d.function)) × AreNamed functions ds
+AreNamed functions (d ∷ ds) =
+    (slice_get functions d.number ≡ Some (names_of_function d.function)) × AreNamed functions ds
 
 -- Names.
 
-named_wider : (functions more : List FunctionNames) (ds : List Definition) → AreNamed functions ds → AreNamed (functions ++ more) ds
+named_wider : (functions more : List FunctionNames) (ds : List Definition) → AreNamed functions ds →
+    AreNamed (functions ++ more) ds
 named_wider functions more [] h = tt
-named_wider functions more (d ∷ ds) h = (get_append functions more d.number (names_of_function d.function) h.0, named_wider functions more ds h.1)
+named_wider functions more (d ∷ ds) h =
+    (get_append functions more d.number (names_of_function d.function) h.0, named_wider functions more ds h.1)
 
-named_if : (b : Bool) (more same : Scope) (ds : List Definition) → AreNamed more.functions ds → AreNamed same.functions ds → AreNamed (if b then more else same).functions ds
+named_if : (b : Bool) (more same : Scope) (ds : List Definition) → AreNamed more.functions ds →
+    AreNamed same.functions ds → AreNamed (if b then more else same).functions ds
 named_if true more same ds h k = h
 named_if false more same ds h k = k
 
-function_named : (name : List ℕ) (line : ℕ) (scope : Scope) (ds : List Definition) → AreNamed scope.functions ds → AreNamed (with_function name line scope).functions ds
+function_named : (name : List ℕ) (line : ℕ) (scope : Scope) (ds : List Definition) → AreNamed scope.functions ds →
+    AreNamed (with_function name line scope).functions ds
 function_named name line scope ds h =
     named_if (is_function_new name scope) _ scope ds (named_wider scope.functions (only_named name ∷ []) ds h) h
 
-role_named : (role : Role) (name : List ℕ) (line : ℕ) (scope : Scope) (ds : List Definition) → AreNamed scope.functions ds → AreNamed (behind_name role name line scope).functions ds
+role_named : (role : Role) (name : List ℕ) (line : ℕ) (scope : Scope) (ds : List Definition) →
+    AreNamed scope.functions ds → AreNamed (behind_name role name line scope).functions ds
 role_named Defined name line scope ds h = function_named name line scope ds h
 role_named External name line scope ds h = named_if (is_external_new name scope) (with_external name scope) scope ds h h
 role_named Parameter name line scope ds h = named_if (is_local_new name scope) (with_parameter name scope) scope ds h h
 role_named Typed name line scope ds h = h
 role_named Local name line scope ds h = named_if (is_local_new name scope) (with_variable name scope) scope ds h h
 role_named Called name line scope ds h = function_named name line scope ds h
-role_named Mentioned name line scope ds h = named_if (is_variable_new name scope) (with_variable name scope) scope ds h h
+role_named Mentioned name line scope ds h =
+    named_if (is_variable_new name scope) (with_variable name scope) scope ds h h
 
 -- The end of a definition.
 
@@ -57,25 +67,34 @@ last_apart (x ∷ ns) n h (inl e) = h.0 (subst (λ (k : ℕ). IsAmong k (ns ++ n
 last_apart (x ∷ ns) n h (inr i) = last_apart ns n h.1 i
 
 -- other functions keep their names
-others_named : (functions : List FunctionNames) (number : ℕ) (names : FunctionNames) (ds : List Definition) → (IsAmong number (order_of ds) → ⊥) →
+others_named : (functions : List FunctionNames) (number : ℕ) (names : FunctionNames) (ds : List Definition) →
+    (IsAmong number (order_of ds) → ⊥) →
     AreNamed functions ds → AreNamed (set functions number names) ds
 others_named functions number names [] new h = tt
-others_named functions number names (d ∷ ds) new h =
-    (get_set_other functions number d.number names (λ e. new (inl (sym e))) ∙ h.0, others_named functions number names ds (λ i. new (inr i)) h.1)
+others_named functions number names (d ∷ ds) new h = (
+  get_set_other functions number d.number names (λ e. new (inl (sym e))) ∙ h.0,
+  others_named functions number names ds (λ i. new (inr i)) h.1,
+)
 
 named_append : (functions : List FunctionNames) (ds : List Definition) (d : Definition) → AreNamed functions ds →
     slice_get functions d.number ≡ Some (names_of_function d.function) → AreNamed functions (ds ++ d ∷ [])
 named_append functions [] d h e = (e, tt)
 named_append functions (x ∷ ds) d h e = (h.0, named_append functions ds d h.1 e)
 
-define_named : (stack : List Item) (rest : List LocatedToken) (values : List Value) (scope : Scope) (ds : List Definition) → Sound (state (Make Define ∷ stack) rest values scope ds) →
-    AreNamed scope.functions ds → AreNamed (end_definition scope).functions (ds ++ definition_of scope (last_body values) ∷ [])
+define_named : (stack : List Item) (rest : List LocatedToken) (values : List Value) (scope : Scope)
+    (ds : List Definition) → Sound (state (Make Define ∷ stack) rest values scope ds) →
+    AreNamed scope.functions ds →
+    AreNamed (end_definition scope).functions (ds ++ definition_of scope (last_body values) ∷ [])
 define_named stack rest values scope ds s h =
     let b : Busy values scope ds = ended (phase_of stack) values scope ds s.tied in
-    let within : scope.number < length scope.functions = s.known.below scope.number (subst (λ (ns : List ℕ). IsAmong scope.number ns) (sym b.begun) (among_last scope.number (order_of ds))) in
-    let new : IsAmong scope.number (order_of ds) → ⊥ = last_apart (order_of ds) scope.number (subst (λ (ns : List ℕ). AreDistinct ns) b.begun s.known.begun) in
+    let within : scope.number < length scope.functions =
+    s.known.below scope.number
+    (subst (λ (ns : List ℕ). IsAmong scope.number ns) (sym b.begun) (among_last scope.number (order_of ds))) in
+    let new : IsAmong scope.number (order_of ds) → ⊥ =
+    last_apart (order_of ds) scope.number (subst (λ (ns : List ℕ). AreDistinct ns) b.begun s.known.begun) in
     named_append (set scope.functions scope.number scope.current) ds (definition_of scope (last_body values))
-    (others_named scope.functions scope.number scope.current ds new h) (get_set_same scope.functions scope.number scope.current within)
+    (others_named scope.functions scope.number scope.current ds new h)
+    (get_set_same scope.functions scope.number scope.current within)
 
 -- Steps.
 
@@ -83,38 +102,49 @@ abbrev IfNamed : Option State → Type 0
 IfNamed None = Unit {0}
 IfNamed (Some s) = AreNamed s.scope.functions s.functions
 
-matched_named : (fits : Bool) (stack : List Item) (rest : List LocatedToken) (values : List Value) (scope : Scope) (ds : List Definition) → AreNamed scope.functions ds →
+matched_named : (fits : Bool) (stack : List Item) (rest : List LocatedToken) (values : List Value) (scope : Scope)
+    (ds : List Definition) → AreNamed scope.functions ds →
     IfNamed (matched fits stack rest values scope ds)
 matched_named true stack rest values scope ds h = h
 matched_named false stack rest values scope ds h = tt
 
-name_named : (role : Role) (name : Option (List ℕ)) (stack : List Item) (rest : List LocatedToken) (values : List Value) (scope : Scope) (ds : List Definition) → AreNamed scope.functions ds →
+name_named : (role : Role) (name : Option (List ℕ)) (stack : List Item) (rest : List LocatedToken) (values : List Value)
+    (scope : Scope) (ds : List Definition) → AreNamed scope.functions ds →
     IfNamed (name_matched role name stack rest values scope ds)
 name_named role None stack rest values scope ds h = tt
 name_named role (Some name) stack rest values scope ds h = role_named role name (line_of rest) scope ds h
 
-constant_named : (value : Option ℕ) (stack : List Item) (rest : List LocatedToken) (values : List Value) (scope : Scope) (ds : List Definition) → AreNamed scope.functions ds →
+constant_named : (value : Option ℕ) (stack : List Item) (rest : List LocatedToken) (values : List Value) (scope : Scope)
+    (ds : List Definition) → AreNamed scope.functions ds →
     IfNamed (constant_matched value stack rest values scope ds)
 constant_named None stack rest values scope ds h = tt
 constant_named (Some value) stack rest values scope ds h = h
 
-part_named : (production : Production) (stack : List Item) (rest : List LocatedToken) (values : List Value) (scope : Scope) (ds : List Definition) → AreNamed scope.functions ds →
+part_named : (production : Production) (stack : List Item) (rest : List LocatedToken) (values : List Value)
+    (scope : Scope) (ds : List Definition) → AreNamed scope.functions ds →
     IfNamed (replaced production stack rest values scope ds)
 part_named None stack rest values scope ds h = tt
 part_named (Some items) stack rest values scope ds h = h
 
-same_named : (functions : List FunctionNames) (ds : List Definition) → AreNamed functions ds → AreNamed functions (ds ++ [])
+same_named : (functions : List FunctionNames) (ds : List Definition) → AreNamed functions ds →
+    AreNamed functions (ds ++ [])
 same_named functions ds h = subst (λ (xs : List Definition). AreNamed functions xs) (sym (append-nil ds)) h
 
-step_named : (stack : List Item) (rest : List LocatedToken) (values : List Value) (scope : Scope) (ds : List Definition) → Sound (state stack rest values scope ds) →
+step_named : (stack : List Item) (rest : List LocatedToken) (values : List Value) (scope : Scope) (ds : List Definition)
+    → Sound (state stack rest values scope ds) →
     AreNamed scope.functions ds → IfNamed (step_of stack rest values scope ds)
 step_named [] rest values scope ds s h = tt
-step_named (Exactly m ∷ stack) rest values scope ds s h = matched_named (is_punctuator m (next_of rest)) stack rest values scope ds h
-step_named (AWord w ∷ stack) rest values scope ds s h = matched_named (is_word w (next_of rest)) stack rest values scope ds h
-step_named (AName role ∷ stack) rest values scope ds s h = name_named role (name_of_token (next_of rest)) stack rest values scope ds h
-step_named (AConstant ∷ stack) rest values scope ds s h = constant_named (constant_value (next_of rest)) stack rest values scope ds h
+step_named (Exactly m ∷ stack) rest values scope ds s h =
+    matched_named (is_punctuator m (next_of rest)) stack rest values scope ds h
+step_named (AWord w ∷ stack) rest values scope ds s h =
+    matched_named (is_word w (next_of rest)) stack rest values scope ds h
+step_named (AName role ∷ stack) rest values scope ds s h =
+    name_named role (name_of_token (next_of rest)) stack rest values scope ds h
+step_named (AConstant ∷ stack) rest values scope ds s h =
+    constant_named (constant_value (next_of rest)) stack rest values scope ds h
 step_named (AnEnd ∷ stack) rest values scope ds s h = matched_named (is_end (next_of rest)) stack rest values scope ds h
-step_named (Part symbol ∷ stack) rest values scope ds s h = part_named (choice symbol (next_of rest) (after_of rest)) stack rest values scope ds h
+step_named (Part symbol ∷ stack) rest values scope ds s h =
+    part_named (choice symbol (next_of rest) (after_of rest)) stack rest values scope ds h
 step_named (Make Define ∷ stack) rest values scope ds s h = define_named stack rest values scope ds s h
 step_named (Make rule ∷ stack) rest values scope ds s h = same_named scope.functions ds h
 step_named (Close ∷ stack) rest values scope ds s h = h
@@ -125,23 +155,29 @@ guarded_named : (b : Bool) (o : Option State) → IfNamed o → IfNamed (if b th
 guarded_named true o h = tt
 guarded_named false o h = h
 
-kept_named : (s : State) (o : Option State) → AreNamed s.scope.functions s.functions → IfNamed o → AreNamed (unwrap_or o s).scope.functions (unwrap_or o s).functions
+kept_named : (s : State) (o : Option State) → AreNamed s.scope.functions s.functions → IfNamed o →
+    AreNamed (unwrap_or o s).scope.functions (unwrap_or o s).functions
 kept_named s None h k = h
 kept_named s (Some t) h k = k
 
-stepped_named : (s : State) → Sound s → AreNamed s.scope.functions s.functions → AreNamed (stepped s).scope.functions (stepped s).functions
+stepped_named : (s : State) → Sound s → AreNamed s.scope.functions s.functions →
+    AreNamed (stepped s).scope.functions (stepped s).functions
 stepped_named s sound h = kept_named s (step s) h
     (guarded_named (is_fault (next_of s.rest)) (step_of s.stack s.rest s.values s.scope s.functions)
     (step_named s.stack s.rest s.values s.scope s.functions (record { known = sound.known; tied = sound.tied }) h))
 
-run_named : (profile : Profile) (n : ℕ) (s : State) → faults_in profile n s ≡ [] → Sound s → AreNamed s.scope.functions s.functions →
+run_named : (profile : Profile) (n : ℕ) (s : State) → faults_in profile n s ≡ [] → Sound s →
+    AreNamed s.scope.functions s.functions →
     AreNamed (run n s).scope.functions (run n s).functions
 run_named profile zero s clean sound h = h
 run_named profile (suc n) s clean sound h =
     run_named profile n (stepped s) (append_empty (faults_at profile s) (faults_in profile n (stepped s)) clean).1
-    (stepped_sound profile s (append_empty (faults_at profile s) (faults_in profile n (stepped s)) clean).0 sound) (stepped_named s sound h)
+    (stepped_sound profile s (append_empty (faults_at profile s) (faults_in profile n (stepped s)) clean).0 sound)
+    (stepped_named s sound h)
 
 -- so it is wherever a derivation leads without a fault
-pub named_of_passes : (profile : Profile) (located_tokens : List LocatedToken) (s : State) → Passes profile (start located_tokens) s → AreNamed s.scope.functions s.functions
+pub named_of_passes : (profile : Profile) (located_tokens : List LocatedToken) (s : State) →
+    Passes profile (start located_tokens) s → AreNamed s.scope.functions s.functions
 named_of_passes profile located_tokens s p =
-    subst (λ (t : State). AreNamed t.scope.functions t.functions) p.leads (run_named profile p.steps (start located_tokens) p.clean (start_sound located_tokens) tt)
+    subst (λ (t : State). AreNamed t.scope.functions t.functions) p.leads
+    (run_named profile p.steps (start located_tokens) p.clean (start_sound located_tokens) tt)

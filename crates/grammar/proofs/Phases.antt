@@ -6,7 +6,7 @@ use Rattle.tokens.specs.declared.located_tokens.Punctuator.TheVariants as punctu
 use Rattle.tokens.specs.declared.located_tokens.Token.{Token}
 use Rattle.tokens.specs.declared.located_tokens.Token.TheVariants as token
 use Rattle.tokens.specs.declared.located_tokens.Word.TheVariants as word
-use Rattle.grammar.specs.declared.operators.Op.{Op}
+use Rattle.arith.specs.declared.operators.Op.{Op}
 use Rattle.grammar.specs.declared.operators.StoreOp.{StoreOp}
 use Rattle.grammar.specs.Grammar.{Symbol, Source, Types, Head, More, Parameters, ParameterTypes, FunctionBlock, Block, Declarations, Statements, Statement, ElsePart, Back, Expression, Level, Tail, Unary, Primary, Arguments, MoreArguments, Role, Defined, External, Parameter, Typed, Local, Called, Mentioned, Item, Exactly, AWord, AName, AConstant, AnEnd, Part, Make, Close, SemanticAction, Define, Production, choice, assignment_or, tail_production}
 use Rattle.grammar.specs.Operators.{operator_at, store_of}
@@ -75,7 +75,8 @@ over (item ∷ items) phase = by_item item (over items phase)
 abbrev pub phase_of : List Item → Phase
 phase_of stack = over stack Outside
 
-pub over-append : (items stack : List Item) (phase : Phase) → over (items ++ stack) phase ≡ over items (over stack phase)
+pub over-append : (items stack : List Item) (phase : Phase) →
+    over (items ++ stack) phase ≡ over items (over stack phase)
 over-append [] stack phase = refl
 over-append (item ∷ items) stack phase = ap (by_item item) (over-append items stack phase)
 
@@ -120,7 +121,8 @@ no_more_kept Local = record { outside = refl; before = refl; inside = refl; wron
 no_more_kept Called = record { outside = tt; before = tt; inside = refl; wrong = tt }
 no_more_kept Mentioned = record { outside = tt; before = tt; inside = refl; wrong = tt }
 
-level_kept : (n : ℕ) (b : Bool) → Kept (Level n) (if b then Some (Part (Level (n + 1)) ∷ Part (Tail n) ∷ []) else Some (Part Unary ∷ []))
+level_kept : (n : ℕ) (b : Bool) →
+    Kept (Level n) (if b then Some (Part (Level (n + 1)) ∷ Part (Tail n) ∷ []) else Some (Part Unary ∷ []))
 level_kept n true = record { outside = tt; before = tt; inside = refl; wrong = tt }
 level_kept n false = record { outside = tt; before = tt; inside = refl; wrong = tt }
 
@@ -133,17 +135,22 @@ assignment_kept None m = record { outside = tt; before = tt; inside = refl; wron
 assignment_kept (Some op) m = record { outside = tt; before = tt; inside = refl; wrong = tt }
 
 head_kept : (next after : Token) → Kept Head (choice Head next after)
-head_kept (token.Name name) (token.Punctuator punctuator.OpenRound) = record { outside = refl; before = tt; inside = tt; wrong = tt }
+head_kept (token.Name name) (token.Punctuator punctuator.OpenRound) =
+    record { outside = refl; before = tt; inside = tt; wrong = tt }
 head_kept (token.Name name) after = record { outside = refl; before = tt; inside = tt; wrong = tt }
 head_kept next after = tt
 
 primary_kept : (next after : Token) → Kept Primary (choice Primary next after)
 primary_kept (token.Constant value) after = record { outside = tt; before = tt; inside = refl; wrong = tt }
-primary_kept (token.Name name) (token.Punctuator punctuator.OpenRound) = record { outside = tt; before = tt; inside = refl; wrong = tt }
-primary_kept (token.Name name) (token.Punctuator punctuator.PlusPlus) = record { outside = tt; before = tt; inside = refl; wrong = tt }
-primary_kept (token.Name name) (token.Punctuator punctuator.MinusMinus) = record { outside = tt; before = tt; inside = refl; wrong = tt }
+primary_kept (token.Name name) (token.Punctuator punctuator.OpenRound) =
+    record { outside = tt; before = tt; inside = refl; wrong = tt }
+primary_kept (token.Name name) (token.Punctuator punctuator.PlusPlus) =
+    record { outside = tt; before = tt; inside = refl; wrong = tt }
+primary_kept (token.Name name) (token.Punctuator punctuator.MinusMinus) =
+    record { outside = tt; before = tt; inside = refl; wrong = tt }
 primary_kept (token.Name name) after = record { outside = tt; before = tt; inside = refl; wrong = tt }
-primary_kept (token.Punctuator punctuator.OpenRound) after = record { outside = tt; before = tt; inside = refl; wrong = tt }
+primary_kept (token.Punctuator punctuator.OpenRound) after =
+    record { outside = tt; before = tt; inside = refl; wrong = tt }
 primary_kept next after = tt
 
 kept : (symbol : Symbol) (next after : Token) → Kept symbol (choice symbol next after)
@@ -160,23 +167,29 @@ kept Parameters (token.Name name) after = record { outside = refl; before = refl
 kept Parameters next after = record { outside = refl; before = refl; inside = refl; wrong = tt }
 kept ParameterTypes (token.Word word.Type) after = record { outside = refl; before = refl; inside = refl; wrong = tt }
 kept ParameterTypes next after = record { outside = refl; before = refl; inside = refl; wrong = tt }
-kept FunctionBlock (token.Punctuator punctuator.OpenCurly) after = record { outside = refl; before = tt; inside = tt; wrong = tt }
+kept FunctionBlock (token.Punctuator punctuator.OpenCurly) after =
+    record { outside = refl; before = tt; inside = tt; wrong = tt }
 kept FunctionBlock next after = tt
-kept Block (token.Punctuator punctuator.OpenCurly) after = record { outside = tt; before = tt; inside = refl; wrong = tt }
+kept Block (token.Punctuator punctuator.OpenCurly) after =
+    record { outside = tt; before = tt; inside = refl; wrong = tt }
 kept Block next after = tt
 kept Declarations (token.Word word.Type) after = record { outside = refl; before = refl; inside = refl; wrong = tt }
 kept Declarations next after = record { outside = refl; before = refl; inside = refl; wrong = tt }
-kept Statements (token.Punctuator punctuator.CloseCurly) after = record { outside = tt; before = tt; inside = refl; wrong = tt }
+kept Statements (token.Punctuator punctuator.CloseCurly) after =
+    record { outside = tt; before = tt; inside = refl; wrong = tt }
 kept Statements next after = record { outside = tt; before = tt; inside = refl; wrong = tt }
-kept Statement (token.Punctuator punctuator.Semicolon) after = record { outside = tt; before = tt; inside = refl; wrong = tt }
-kept Statement (token.Punctuator punctuator.OpenCurly) after = record { outside = tt; before = tt; inside = refl; wrong = tt }
+kept Statement (token.Punctuator punctuator.Semicolon) after =
+    record { outside = tt; before = tt; inside = refl; wrong = tt }
+kept Statement (token.Punctuator punctuator.OpenCurly) after =
+    record { outside = tt; before = tt; inside = refl; wrong = tt }
 kept Statement (token.Word word.If) after = record { outside = tt; before = tt; inside = refl; wrong = tt }
 kept Statement (token.Word word.While) after = record { outside = tt; before = tt; inside = refl; wrong = tt }
 kept Statement (token.Word word.Return) after = record { outside = tt; before = tt; inside = refl; wrong = tt }
 kept Statement next after = record { outside = tt; before = tt; inside = refl; wrong = tt }
 kept ElsePart (token.Word word.Else) after = record { outside = tt; before = tt; inside = refl; wrong = tt }
 kept ElsePart next after = record { outside = tt; before = tt; inside = refl; wrong = tt }
-kept Back (token.Punctuator punctuator.Semicolon) after = record { outside = tt; before = tt; inside = refl; wrong = tt }
+kept Back (token.Punctuator punctuator.Semicolon) after =
+    record { outside = tt; before = tt; inside = refl; wrong = tt }
 kept Back next after = record { outside = tt; before = tt; inside = refl; wrong = tt }
 kept Expression (token.Name name) (token.Punctuator m) = assignment_kept (store_of m) m
 kept Expression next after = record { outside = tt; before = tt; inside = refl; wrong = tt }
@@ -186,29 +199,38 @@ kept (Tail n) next after = record { outside = tt; before = tt; inside = refl; wr
 kept Unary (token.Punctuator punctuator.Minus) after = record { outside = tt; before = tt; inside = refl; wrong = tt }
 kept Unary (token.Punctuator punctuator.Not) after = record { outside = tt; before = tt; inside = refl; wrong = tt }
 kept Unary (token.Punctuator punctuator.Tilde) after = record { outside = tt; before = tt; inside = refl; wrong = tt }
-kept Unary (token.Punctuator punctuator.PlusPlus) after = record { outside = tt; before = tt; inside = refl; wrong = tt }
-kept Unary (token.Punctuator punctuator.MinusMinus) after = record { outside = tt; before = tt; inside = refl; wrong = tt }
+kept Unary (token.Punctuator punctuator.PlusPlus) after =
+    record { outside = tt; before = tt; inside = refl; wrong = tt }
+kept Unary (token.Punctuator punctuator.MinusMinus) after =
+    record { outside = tt; before = tt; inside = refl; wrong = tt }
 kept Unary next after = record { outside = tt; before = tt; inside = refl; wrong = tt }
 kept Primary next after = primary_kept next after
-kept Arguments (token.Punctuator punctuator.CloseRound) after = record { outside = tt; before = tt; inside = refl; wrong = tt }
+kept Arguments (token.Punctuator punctuator.CloseRound) after =
+    record { outside = tt; before = tt; inside = refl; wrong = tt }
 kept Arguments next after = record { outside = tt; before = tt; inside = refl; wrong = tt }
-kept MoreArguments (token.Punctuator punctuator.Comma) after = record { outside = tt; before = tt; inside = refl; wrong = tt }
+kept MoreArguments (token.Punctuator punctuator.Comma) after =
+    record { outside = tt; before = tt; inside = refl; wrong = tt }
 kept MoreArguments next after = record { outside = tt; before = tt; inside = refl; wrong = tt }
 
-at_phase : (symbol : Symbol) (items : List Item) → KeptBy symbol items → (phase : Phase) → Stays (by_symbol symbol phase) (over items phase)
+at_phase : (symbol : Symbol) (items : List Item) → KeptBy symbol items → (phase : Phase) →
+    Stays (by_symbol symbol phase) (over items phase)
 at_phase symbol items h Outside = h.outside
 at_phase symbol items h Before = h.before
 at_phase symbol items h Inside = h.inside
 at_phase symbol items h Wrong = h.wrong
 
-production_stays : (symbol : Symbol) (production : Production) (items : List Item) → production ≡ Some items → Kept symbol production → KeptBy symbol items
+production_stays : (symbol : Symbol) (production : Production) (items : List Item) → production ≡ Some items →
+    Kept symbol production → KeptBy symbol items
 production_stays symbol None items e h = absurd (cc)
 production_stays symbol (Some made) items e h = subst (λ (xs : List Item). KeptBy symbol xs) (some_same made items e) h
   where
     some_same : (x y : List Item) → Some x ≡ Some y → x ≡ y
     some_same x y p = cc
 
-pub part_stays : (symbol : Symbol) (next after : Token) (items stack : List Item) → choice symbol next after ≡ Some items →
+pub part_stays : (symbol : Symbol) (next after : Token) (items stack : List Item) →
+    choice symbol next after ≡ Some items →
     Stays (phase_of (Part symbol ∷ stack)) (phase_of (items ++ stack))
 part_stays symbol next after items stack e =
-    rw (over-append items stack Outside) (at_phase symbol items (production_stays symbol (choice symbol next after) items e (kept symbol next after)) (phase_of stack))
+    rw (over-append items stack Outside)
+    (at_phase symbol items (production_stays symbol (choice symbol next after) items e (kept symbol next after))
+    (phase_of stack))

@@ -3,7 +3,8 @@ use Rattle.std.proofs.Common.{◌≡◌, ℕ, zero, suc, ◌<◌, List, [], ◌�
 use Rattle.std.specs.Prelude.{Some, slice_get, set, map}
 
 -- what comes after doesn't count
-pub get_append : {X : Type 0} (xs ys : List X) (k : ℕ) (x : X) → slice_get xs k ≡ Some x → slice_get (xs ++ ys) k ≡ Some x
+pub get_append : {X : Type 0} (xs ys : List X) (k : ℕ) (x : X) → slice_get xs k ≡ Some x →
+    slice_get (xs ++ ys) k ≡ Some x
 get_append [] ys k x e = absurd (cc)
 get_append (y ∷ xs) ys zero x e = e
 get_append (y ∷ xs) ys (suc k) x e = get_append xs ys k x e
@@ -13,7 +14,8 @@ get_set_same [] k x h = absurd (omega arith)
 get_set_same (y ∷ xs) zero x h = refl
 get_set_same (y ∷ xs) (suc k) x h = get_set_same xs k x (omega arith)
 
-pub get_set_other : {X : Type 0} (xs : List X) (n k : ℕ) (x : X) → (k ≡ n → ⊥) → slice_get (set xs n x) k ≡ slice_get xs k
+pub get_set_other : {X : Type 0} (xs : List X) (n k : ℕ) (x : X) → (k ≡ n → ⊥) →
+    slice_get (set xs n x) k ≡ slice_get xs k
 get_set_other [] n k x h = refl
 get_set_other (y ∷ xs) zero zero x h = absurd (h refl)
 get_set_other (y ∷ xs) zero (suc k) x h = refl
@@ -30,4 +32,5 @@ map_of_places f [] [] l h = refl
 map_of_places f [] (y ∷ ys) l h = absurd (omega (arith, l))
 map_of_places f (x ∷ xs) [] l h = absurd (omega (arith, l))
 map_of_places f (x ∷ xs) (y ∷ ys) l h =
-    ap₂ (λ a rest. a ∷ rest) (some_same (f x) y (h zero x refl)) (map_of_places f xs ys (omega (arith, l)) (λ k a e. h (suc k) a e))
+    ap₂ (λ a rest. a ∷ rest) (some_same (f x) y (h zero x refl))
+    (map_of_places f xs ys (omega (arith, l)) (λ k a e. h (suc k) a e))

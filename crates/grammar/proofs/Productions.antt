@@ -7,7 +7,7 @@ use Rattle.tokens.specs.declared.located_tokens.Punctuator.TheVariants as punctu
 use Rattle.tokens.specs.declared.located_tokens.Token.{Token}
 use Rattle.tokens.specs.declared.located_tokens.Token.TheVariants as token
 use Rattle.tokens.specs.declared.located_tokens.Word.TheVariants as word
-use Rattle.grammar.specs.declared.operators.Op.{Op}
+use Rattle.arith.specs.declared.operators.Op.{Op}
 use Rattle.grammar.specs.declared.operators.StoreOp.{StoreOp}
 use Rattle.grammar.specs.Grammar.{Role, Symbol, Source, Types, Head, More, Parameters, ParameterTypes, FunctionBlock, Block, Declarations, Statements, Statement, ElsePart, Back, Expression, Level, Tail, Unary, Primary, Arguments, MoreArguments, Mentioned, Part, assignment_or, choice, tail_production}
 use Rattle.grammar.specs.Operators.{operator_at, store_of}
@@ -180,7 +180,8 @@ tail_fits (suc (suc (suc (suc (suc (suc (suc zero))))))) next after l = (refl, r
 tail_fits (suc (suc (suc (suc (suc (suc (suc (suc zero)))))))) (token.Punctuator punctuator.Plus) after l = (refl, refl)
 tail_fits (suc (suc (suc (suc (suc (suc (suc (suc zero)))))))) (token.Word word.Type) after l = (refl, refl)
 tail_fits (suc (suc (suc (suc (suc (suc (suc (suc zero)))))))) next after l = (refl, refl)
-tail_fits (suc (suc (suc (suc (suc (suc (suc (suc (suc zero))))))))) (token.Punctuator punctuator.Plus) after l = (refl, refl)
+tail_fits (suc (suc (suc (suc (suc (suc (suc (suc (suc zero))))))))) (token.Punctuator punctuator.Plus) after l =
+    (refl, refl)
 tail_fits (suc (suc (suc (suc (suc (suc (suc (suc (suc zero))))))))) (token.Word word.Type) after l = (refl, refl)
 tail_fits (suc (suc (suc (suc (suc (suc (suc (suc (suc zero))))))))) next after l = (refl, refl)
 tail_fits (suc (suc (suc (suc (suc (suc (suc (suc (suc (suc n)))))))))) next after l = absurd (omega arith)

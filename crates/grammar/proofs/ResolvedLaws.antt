@@ -42,7 +42,8 @@ pub record Sound (s : State) : Type 0 where
   pub known : Known s.scope s.functions
   pub tied : Tied (phase_of s.stack) s.values s.scope s.functions
 
-tied_stays : (before after : Phase) (values : List Value) (scope : Scope) (ds : List Definition) → Stays before after → Tied before values scope ds → Tied after values scope ds
+tied_stays : (before after : Phase) (values : List Value) (scope : Scope) (ds : List Definition) → Stays before after →
+    Tied before values scope ds → Tied after values scope ds
 tied_stays Outside Outside values scope ds e t = t
 tied_stays Outside Before values scope ds e t = t
 tied_stays Outside Inside values scope ds e t = absurd (cc)
@@ -57,38 +58,44 @@ tied_stays Inside Inside values scope ds e t = t
 tied_stays Inside Wrong values scope ds e t = absurd (cc)
 tied_stays Wrong after values scope ds e t = absurd t
 
-quiet_grows : (values : List Value) (old new : Scope) (ds : List Definition) → Grows old new ds → Quiet values old ds → Quiet values new ds
+quiet_grows : (values : List Value) (old new : Scope) (ds : List Definition) → Grows old new ds → Quiet values old ds →
+    Quiet values new ds
 quiet_grows values old new ds g q = record { none = q.none; begun = g.begun ∙ q.begun }
 
-busy_grows : (values : List Value) (old new : Scope) (ds : List Definition) → Grows old new ds → Busy values old ds → Busy values new ds
+busy_grows : (values : List Value) (old new : Scope) (ds : List Definition) → Grows old new ds → Busy values old ds →
+    Busy values new ds
 busy_grows values old new ds g b = record {
   within = values_wider _ _ _ _ _ _ g.wider values b.within;
   begun = g.begun ∙ b.begun ∙ ap (λ n. order_of ds ++ n ∷ []) (sym g.number);
   named = rw (g.number, g.current) (g.same old.number old.current.name b.named);
 }
 
-tied_grows : (phase : Phase) (values : List Value) (old new : Scope) (ds : List Definition) → Grows old new ds → Tied phase values old ds → Tied phase values new ds
+tied_grows : (phase : Phase) (values : List Value) (old new : Scope) (ds : List Definition) → Grows old new ds →
+    Tied phase values old ds → Tied phase values new ds
 tied_grows Outside values old new ds g t = quiet_grows values old new ds g t
 tied_grows Before values old new ds g t = quiet_grows values old new ds g t
 tied_grows Inside values old new ds g t = busy_grows values old new ds g t
 tied_grows Wrong values old new ds g t = absurd t
 
 -- inside of a function the trees may change
-tied_inside : (phase : Phase) (values more : List Value) (old new : Scope) (ds : List Definition) → (Busy values old ds → Busy more new ds) → Tied (inside phase) values old ds → Tied phase more new ds
+tied_inside : (phase : Phase) (values more : List Value) (old new : Scope) (ds : List Definition) →
+    (Busy values old ds → Busy more new ds) → Tied (inside phase) values old ds → Tied phase more new ds
 tied_inside Inside values more old new ds change t = change t
 tied_inside Outside values more old new ds change t = absurd t
 tied_inside Before values more old new ds change t = absurd t
 tied_inside Wrong values more old new ds change t = absurd t
 
 -- a definition begins
-tied_begun : (phase : Phase) (values : List Value) (old new : Scope) (ds : List Definition) → (Quiet values old ds → Busy values new ds) → Tied (begun phase) values old ds → Tied phase values new ds
+tied_begun : (phase : Phase) (values : List Value) (old new : Scope) (ds : List Definition) →
+    (Quiet values old ds → Busy values new ds) → Tied (begun phase) values old ds → Tied phase values new ds
 tied_begun Inside values old new ds change t = change t
 tied_begun Outside values old new ds change t = absurd t
 tied_begun Before values old new ds change t = absurd t
 tied_begun Wrong values old new ds change t = absurd t
 
 -- it ends
-tied_ended : (phase : Phase) (values : List Value) (old new : Scope) (ds more : List Definition) → (Busy values old ds → Quiet [] new more) → Tied (outside_then Inside phase) values old ds → Tied phase [] new more
+tied_ended : (phase : Phase) (values : List Value) (old new : Scope) (ds more : List Definition) →
+    (Busy values old ds → Quiet [] new more) → Tied (outside_then Inside phase) values old ds → Tied phase [] new more
 tied_ended Outside values old new ds more change t = change t
 tied_ended Inside values old new ds more change t = absurd t
 tied_ended Before values old new ds more change t = absurd t
@@ -96,7 +103,8 @@ tied_ended Wrong values old new ds more change t = absurd t
 
 -- Steps.
 
-name_sound : (role : Role) (name : List ℕ) (stack : List Item) (rest : List LocatedToken) (line : ℕ) (left : List LocatedToken) (values : List Value) (scope : Scope) (ds : List Definition) →
+name_sound : (role : Role) (name : List ℕ) (stack : List Item) (rest : List LocatedToken) (line : ℕ)
+    (left : List LocatedToken) (values : List Value) (scope : Scope) (ds : List Definition) →
     Known scope ds → Clean (role_faults role name scope rest) → Tied (by_role role (phase_of stack)) values scope ds →
     Sound (state stack left (of_name role name scope ++ values) (behind_name role name line scope) ds)
 name_sound Defined name stack rest line left values scope ds k clean t =
@@ -104,13 +112,19 @@ name_sound Defined name stack rest line left values scope ds k clean t =
     record {
       known = w.known;
       tied = tied_begun (phase_of stack) values scope (behind_name Defined name line scope) ds
-          (λ q. record { within = rw q.none tt; begun = w.begun ∙ ap (λ ns. ns ++ number_for name scope ∷ []) q.begun; named = w.named }) t;
+          (λ q. record {
+            within = rw q.none tt;
+            begun = w.begun ∙ ap (λ ns. ns ++ number_for name scope ∷ []) q.begun;
+            named = w.named;
+          }) t;
     }
 name_sound External name stack rest line left values scope ds k clean t =
-    let g : Grows scope (behind_name External name line scope) ds = role_grows External name line scope ds rest tt k clean in
+    let g : Grows scope (behind_name External name line scope) ds =
+    role_grows External name line scope ds rest tt k clean in
     record { known = g.known; tied = tied_grows (phase_of stack) values scope _ ds g t }
 name_sound Parameter name stack rest line left values scope ds k clean t =
-    let g : Grows scope (behind_name Parameter name line scope) ds = role_grows Parameter name line scope ds rest tt k clean in
+    let g : Grows scope (behind_name Parameter name line scope) ds =
+    role_grows Parameter name line scope ds rest tt k clean in
     record { known = g.known; tied = tied_grows (phase_of stack) values scope _ ds g t }
 name_sound Typed name stack rest line left values scope ds k clean t =
     let g : Grows scope (behind_name Typed name line scope) ds = role_grows Typed name line scope ds rest tt k clean in
@@ -119,15 +133,21 @@ name_sound Local name stack rest line left values scope ds k clean t =
     let g : Grows scope (behind_name Local name line scope) ds = role_grows Local name line scope ds rest tt k clean in
     record { known = g.known; tied = tied_grows (phase_of stack) values scope _ ds g t }
 name_sound Called name stack rest line left values scope ds k clean t =
-    let g : Grows scope (behind_name Called name line scope) ds = role_grows Called name line scope ds rest tt k clean in
+    let g : Grows scope (behind_name Called name line scope) ds =
+    role_grows Called name line scope ds rest tt k clean in
     record {
       known = g.known;
       tied = tied_inside (phase_of stack) values _ scope _ ds
           (λ b. let c : Busy values (behind_name Called name line scope) ds = busy_grows values scope _ ds g b in
-          record { within = (record { callable = callee_in name line scope; arguments = tt }, c.within); begun = c.begun; named = c.named }) t;
+          record {
+            within = (record { callable = callee_in name line scope; arguments = tt }, c.within);
+            begun = c.begun;
+            named = c.named;
+          }) t;
     }
 name_sound Mentioned name stack rest line left values scope ds k clean t =
-    let g : Grows scope (behind_name Mentioned name line scope) ds = role_grows Mentioned name line scope ds rest tt k clean in
+    let g : Grows scope (behind_name Mentioned name line scope) ds =
+    role_grows Mentioned name line scope ds rest tt k clean in
     record {
       known = g.known;
       tied = tied_inside (phase_of stack) values _ scope _ ds
@@ -143,36 +163,50 @@ among_last n [] = inl refl
 among_last n (x ∷ ns) = inr (among_last n ns)
 
 -- at a function's end
-define_known : (values : List Value) (scope : Scope) (ds : List Definition) → Known scope ds → Busy values scope ds → Known (end_definition scope) (ds ++ definition_of scope (last_body values) ∷ [])
+define_known : (values : List Value) (scope : Scope) (ds : List Definition) → Known scope ds → Busy values scope ds →
+    Known (end_definition scope) (ds ++ definition_of scope (last_body values) ∷ [])
 define_known values scope ds k b =
-    let same : length (end_definition scope).functions ≡ length scope.functions = length-set scope.functions scope.number scope.current in
-    let kept : names (end_definition scope).functions ≡ names scope.functions = names_kept scope.functions scope.number scope.current b.named in
+    let same : length (end_definition scope).functions ≡ length scope.functions =
+    length-set scope.functions scope.number scope.current in
+    let kept : names (end_definition scope).functions ≡ names scope.functions =
+    names_kept scope.functions scope.number scope.current b.named in
     record {
       externals = k.externals;
       functions = omega (arith, k.functions);
       lines = k.lines ∙ sym same;
       variables = omega arith;
       parameters = omega arith;
-      definitions = subst (λ (n : ℕ). AllIn (length scope.externals) n (ds ++ definition_of scope (last_body values) ∷ [])) (sym same)
+      definitions =
+          subst (λ (n : ℕ). AllIn (length scope.externals) n (ds ++ definition_of scope (last_body values) ∷ []))
+          (sym same)
           (all_append _ _ ds _ k.definitions
-          (k.below scope.number (subst (λ (ns : List ℕ). IsAmong scope.number ns) (sym b.begun) (among_last scope.number (order_of ds))))
-          (record { parameters = k.parameters; variables = k.variables; distinct = k.distinct_variables; body = last_body_in _ _ _ values b.within }));
+          (k.below scope.number
+          (subst (λ (ns : List ℕ). IsAmong scope.number ns) (sym b.begun) (among_last scope.number (order_of ds))))
+          (record {
+            parameters = k.parameters;
+            variables = k.variables;
+            distinct = k.distinct_variables;
+            body = last_body_in _ _ _ values b.within;
+          }));
       begun = k.begun;
       below = λ j i. let low : j < length scope.functions = k.below j i in omega (arith, same);
       distinct_externals = k.distinct_externals;
       distinct_variables = tt;
       distinct_functions = rw kept k.distinct_functions;
-      named = rw kept (names_append (names scope.functions) ds (definition_of scope (last_body values)) k.named b.named);
+      named = rw kept
+          (names_append (names scope.functions) ds (definition_of scope (last_body values)) k.named b.named);
     }
 
 -- a function that ends had begun
-pub ended : (phase : Phase) (values : List Value) (scope : Scope) (ds : List Definition) → Tied (outside_then Inside phase) values scope ds → Busy values scope ds
+pub ended : (phase : Phase) (values : List Value) (scope : Scope) (ds : List Definition) →
+    Tied (outside_then Inside phase) values scope ds → Busy values scope ds
 ended Outside values scope ds t = t
 ended Inside values scope ds t = absurd t
 ended Before values scope ds t = absurd t
 ended Wrong values scope ds t = absurd t
 
-define_sound : (stack : List Item) (rest : List LocatedToken) (values : List Value) (scope : Scope) (ds : List Definition) →
+define_sound : (stack : List Item) (rest : List LocatedToken) (values : List Value) (scope : Scope)
+    (ds : List Definition) →
     Known scope ds → Tied (outside_then Inside (phase_of stack)) values scope ds →
     Sound (state stack rest [] (end_definition scope) (ds ++ definition_of scope (last_body values) ∷ []))
 define_sound stack rest values scope ds k t = record {
@@ -181,73 +215,116 @@ define_sound stack rest values scope ds k t = record {
       (λ b. record { none = refl; begun = b.begun ∙ sym (order-append ds (definition_of scope (last_body values))) }) t;
 }
 
-make_sound : (rule : SemanticAction) (stack : List Item) (rest : List LocatedToken) (values : List Value) (scope : Scope) (ds : List Definition) →
-    Known scope ds → Tied (inside (phase_of stack)) values scope ds → Sound (state stack rest (made rule values) scope (ds ++ []))
-make_sound rule stack rest values scope ds k t = subst (λ (xs : List Definition). Sound (state stack rest (made rule values) scope xs)) (sym (append-nil ds)) (record {
-  known = k;
-  tied = tied_inside (phase_of stack) values (made rule values) scope scope ds (λ b. record { within = made_in _ _ _ rule values b.within; begun = b.begun; named = b.named }) t;
-})
+make_sound : (rule : SemanticAction) (stack : List Item) (rest : List LocatedToken) (values : List Value)
+    (scope : Scope) (ds : List Definition) →
+    Known scope ds → Tied (inside (phase_of stack)) values scope ds →
+    Sound (state stack rest (made rule values) scope (ds ++ []))
+make_sound rule stack rest values scope ds k t =
+    subst (λ (xs : List Definition). Sound (state stack rest (made rule values) scope xs))
+    (sym (append-nil ds)) (record {
+      known = k;
+      tied = tied_inside (phase_of stack) values (made rule values) scope scope ds
+          (λ b. record { within = made_in _ _ _ rule values b.within; begun = b.begun; named = b.named }) t;
+    })
 
 abbrev IfSound : Option State → Type 0
 IfSound None = Unit {0}
 IfSound (Some s) = Sound s
 
-matched_sound : (fits : Bool) (stack : List Item) (rest : List LocatedToken) (values : List Value) (scope : Scope) (ds : List Definition) →
+matched_sound : (fits : Bool) (stack : List Item) (rest : List LocatedToken) (values : List Value) (scope : Scope)
+    (ds : List Definition) →
     Sound (state stack rest values scope ds) → IfSound (matched fits stack rest values scope ds)
 matched_sound true stack rest values scope ds s = record { known = s.known; tied = s.tied }
 matched_sound false stack rest values scope ds s = tt
 
-constant_sound : (value : Option ℕ) (stack : List Item) (rest : List LocatedToken) (values : List Value) (scope : Scope) (ds : List Definition) →
-    Known scope ds → Tied (inside (phase_of stack)) values scope ds → IfSound (constant_matched value stack rest values scope ds)
+constant_sound : (value : Option ℕ) (stack : List Item) (rest : List LocatedToken) (values : List Value) (scope : Scope)
+    (ds : List Definition) →
+    Known scope ds → Tied (inside (phase_of stack)) values scope ds →
+    IfSound (constant_matched value stack rest values scope ds)
 constant_sound None stack rest values scope ds k t = tt
 constant_sound (Some value) stack rest values scope ds k t = record {
   known = k;
-  tied = tied_inside (phase_of stack) values _ scope scope ds (λ b. record { within = (tt, b.within); begun = b.begun; named = b.named }) t;
+  tied = tied_inside (phase_of stack) values _ scope scope ds
+      (λ b. record { within = (tt, b.within); begun = b.begun; named = b.named }) t;
 }
 
-named_sound : (role : Role) (name : Option (List ℕ)) (stack : List Item) (rest : List LocatedToken) (values : List Value) (scope : Scope) (ds : List Definition) →
-    Clean (name_faults role name scope rest) → Known scope ds → Tied (by_role role (phase_of stack)) values scope ds → IfSound (name_matched role name stack rest values scope ds)
+named_sound : (role : Role) (name : Option (List ℕ)) (stack : List Item) (rest : List LocatedToken)
+    (values : List Value) (scope : Scope) (ds : List Definition) →
+    Clean (name_faults role name scope rest) → Known scope ds → Tied (by_role role (phase_of stack)) values scope ds →
+    IfSound (name_matched role name stack rest values scope ds)
 named_sound role None stack rest values scope ds clean k t = tt
-named_sound role (Some name) stack rest values scope ds clean k t = name_sound role name stack rest (line_of rest) (drop 1 rest) values scope ds k clean t
+named_sound role (Some name) stack rest values scope ds clean k t =
+    name_sound role name stack rest (line_of rest) (drop 1 rest) values scope ds k clean t
 
-part_sound : (symbol : Symbol) (production : Production) (stack : List Item) (rest : List LocatedToken) (values : List Value) (scope : Scope) (ds : List Definition) →
-    choice symbol (next_of rest) (after_of rest) ≡ production → Sound (state (Part symbol ∷ stack) rest values scope ds) → IfSound (replaced production stack rest values scope ds)
+part_sound : (symbol : Symbol) (production : Production) (stack : List Item) (rest : List LocatedToken)
+    (values : List Value) (scope : Scope) (ds : List Definition) →
+    choice symbol (next_of rest) (after_of rest) ≡ production →
+    Sound (state (Part symbol ∷ stack) rest values scope ds) →
+    IfSound (replaced production stack rest values scope ds)
 part_sound symbol None stack rest values scope ds e s = tt
 part_sound symbol (Some items) stack rest values scope ds e s = record {
   known = s.known;
-  tied = tied_stays (phase_of (Part symbol ∷ stack)) (phase_of (items ++ stack)) values scope ds (part_stays symbol (next_of rest) (after_of rest) items stack e) s.tied;
+  tied = tied_stays (phase_of (Part symbol ∷ stack)) (phase_of (items ++ stack)) values scope ds
+      (part_stays symbol (next_of rest) (after_of rest) items stack e) s.tied;
 }
 
-sound_of : (profile : Profile) (stack : List Item) (rest : List LocatedToken) (values : List Value) (scope : Scope) (ds : List Definition) →
-    Clean (item_faults profile stack rest values scope ds) → Sound (state stack rest values scope ds) → IfSound (step_of stack rest values scope ds)
+sound_of : (profile : Profile) (stack : List Item) (rest : List LocatedToken) (values : List Value) (scope : Scope)
+    (ds : List Definition) →
+    Clean (item_faults profile stack rest values scope ds) → Sound (state stack rest values scope ds) →
+    IfSound (step_of stack rest values scope ds)
 sound_of profile [] rest values scope ds clean s = tt
-sound_of profile (Exactly m ∷ stack) rest values scope ds clean s = matched_sound _ stack rest values scope ds (record { known = s.known; tied = s.tied })
-sound_of profile (AWord w ∷ stack) rest values scope ds clean s = matched_sound _ stack rest values scope ds (record { known = s.known; tied = s.tied })
-sound_of profile (AName role ∷ stack) rest values scope ds clean s = named_sound role (name_of_token (next_of rest)) stack rest values scope ds clean s.known s.tied
-sound_of profile (AConstant ∷ stack) rest values scope ds clean s = constant_sound (constant_value (next_of rest)) stack rest values scope ds s.known s.tied
-sound_of profile (AnEnd ∷ stack) rest values scope ds clean s = matched_sound _ stack rest values scope ds (record { known = s.known; tied = s.tied })
-sound_of profile (Part symbol ∷ stack) rest values scope ds clean s = part_sound symbol _ stack rest values scope ds refl s
-sound_of profile (Make Define ∷ stack) rest values scope ds clean s = define_sound stack rest values scope ds s.known s.tied
-sound_of profile (Make (Operate o) ∷ stack) rest values scope ds clean s = make_sound (Operate o) stack rest values scope ds s.known s.tied
-sound_of profile (Make Negate ∷ stack) rest values scope ds clean s = make_sound Negate stack rest values scope ds s.known s.tied
-sound_of profile (Make Not ∷ stack) rest values scope ds clean s = make_sound Not stack rest values scope ds s.known s.tied
-sound_of profile (Make Complement ∷ stack) rest values scope ds clean s = make_sound Complement stack rest values scope ds s.known s.tied
-sound_of profile (Make Fetch ∷ stack) rest values scope ds clean s = make_sound Fetch stack rest values scope ds s.known s.tied
-sound_of profile (Make (Store o) ∷ stack) rest values scope ds clean s = make_sound (Store o) stack rest values scope ds s.known s.tied
-sound_of profile (Make (StepBefore o) ∷ stack) rest values scope ds clean s = make_sound (StepBefore o) stack rest values scope ds s.known s.tied
-sound_of profile (Make (StepBehind o) ∷ stack) rest values scope ds clean s = make_sound (StepBehind o) stack rest values scope ds s.known s.tied
-sound_of profile (Make Pass ∷ stack) rest values scope ds clean s = make_sound Pass stack rest values scope ds s.known s.tied
-sound_of profile (Make Invoke ∷ stack) rest values scope ds clean s = make_sound Invoke stack rest values scope ds s.known s.tied
-sound_of profile (Make Empty ∷ stack) rest values scope ds clean s = make_sound Empty stack rest values scope ds s.known s.tied
-sound_of profile (Make Evaluate ∷ stack) rest values scope ds clean s = make_sound Evaluate stack rest values scope ds s.known s.tied
-sound_of profile (Make Decide ∷ stack) rest values scope ds clean s = make_sound Decide stack rest values scope ds s.known s.tied
-sound_of profile (Make DecideElse ∷ stack) rest values scope ds clean s = make_sound DecideElse stack rest values scope ds s.known s.tied
-sound_of profile (Make Repeat ∷ stack) rest values scope ds clean s = make_sound Repeat stack rest values scope ds s.known s.tied
-sound_of profile (Make Zero ∷ stack) rest values scope ds clean s = make_sound Zero stack rest values scope ds s.known s.tied
-sound_of profile (Make GiveBack ∷ stack) rest values scope ds clean s = make_sound GiveBack stack rest values scope ds s.known s.tied
+sound_of profile (Exactly m ∷ stack) rest values scope ds clean s =
+    matched_sound _ stack rest values scope ds (record { known = s.known; tied = s.tied })
+sound_of profile (AWord w ∷ stack) rest values scope ds clean s =
+    matched_sound _ stack rest values scope ds (record { known = s.known; tied = s.tied })
+sound_of profile (AName role ∷ stack) rest values scope ds clean s =
+    named_sound role (name_of_token (next_of rest)) stack rest values scope ds clean s.known s.tied
+sound_of profile (AConstant ∷ stack) rest values scope ds clean s =
+    constant_sound (constant_value (next_of rest)) stack rest values scope ds s.known s.tied
+sound_of profile (AnEnd ∷ stack) rest values scope ds clean s =
+    matched_sound _ stack rest values scope ds (record { known = s.known; tied = s.tied })
+sound_of profile (Part symbol ∷ stack) rest values scope ds clean s =
+    part_sound symbol _ stack rest values scope ds refl s
+sound_of profile (Make Define ∷ stack) rest values scope ds clean s =
+    define_sound stack rest values scope ds s.known s.tied
+sound_of profile (Make (Operate o) ∷ stack) rest values scope ds clean s =
+    make_sound (Operate o) stack rest values scope ds s.known s.tied
+sound_of profile (Make Negate ∷ stack) rest values scope ds clean s =
+    make_sound Negate stack rest values scope ds s.known s.tied
+sound_of profile (Make Not ∷ stack) rest values scope ds clean s =
+    make_sound Not stack rest values scope ds s.known s.tied
+sound_of profile (Make Complement ∷ stack) rest values scope ds clean s =
+    make_sound Complement stack rest values scope ds s.known s.tied
+sound_of profile (Make Fetch ∷ stack) rest values scope ds clean s =
+    make_sound Fetch stack rest values scope ds s.known s.tied
+sound_of profile (Make (Store o) ∷ stack) rest values scope ds clean s =
+    make_sound (Store o) stack rest values scope ds s.known s.tied
+sound_of profile (Make (StepBefore o) ∷ stack) rest values scope ds clean s =
+    make_sound (StepBefore o) stack rest values scope ds s.known s.tied
+sound_of profile (Make (StepBehind o) ∷ stack) rest values scope ds clean s =
+    make_sound (StepBehind o) stack rest values scope ds s.known s.tied
+sound_of profile (Make Pass ∷ stack) rest values scope ds clean s =
+    make_sound Pass stack rest values scope ds s.known s.tied
+sound_of profile (Make Invoke ∷ stack) rest values scope ds clean s =
+    make_sound Invoke stack rest values scope ds s.known s.tied
+sound_of profile (Make Empty ∷ stack) rest values scope ds clean s =
+    make_sound Empty stack rest values scope ds s.known s.tied
+sound_of profile (Make Evaluate ∷ stack) rest values scope ds clean s =
+    make_sound Evaluate stack rest values scope ds s.known s.tied
+sound_of profile (Make Decide ∷ stack) rest values scope ds clean s =
+    make_sound Decide stack rest values scope ds s.known s.tied
+sound_of profile (Make DecideElse ∷ stack) rest values scope ds clean s =
+    make_sound DecideElse stack rest values scope ds s.known s.tied
+sound_of profile (Make Repeat ∷ stack) rest values scope ds clean s =
+    make_sound Repeat stack rest values scope ds s.known s.tied
+sound_of profile (Make Zero ∷ stack) rest values scope ds clean s =
+    make_sound Zero stack rest values scope ds s.known s.tied
+sound_of profile (Make GiveBack ∷ stack) rest values scope ds clean s =
+    make_sound GiveBack stack rest values scope ds s.known s.tied
 sound_of profile (Close ∷ stack) rest values scope ds clean s = record { known = s.known; tied = s.tied }
 
-guarded_sound : (b : Bool) (rest : List LocatedToken) (xs ys : List Fault) (o : Option State) → (if b then misfit rest else xs ++ ys) ≡ [] → (xs ≡ [] → IfSound o) → IfSound (if b then None else o)
+guarded_sound : (b : Bool) (rest : List LocatedToken) (xs ys : List Fault) (o : Option State) →
+    (if b then misfit rest else xs ++ ys) ≡ [] → (xs ≡ [] → IfSound o) → IfSound (if b then None else o)
 guarded_sound true rest xs ys o e h = tt
 guarded_sound false rest xs ys o e h = h (append_empty xs ys e).0
 
@@ -257,7 +334,8 @@ kept_sound s (Some t) h k = k
 
 pub stepped_sound : (profile : Profile) (s : State) → faults_at profile s ≡ [] → Sound s → Sound (stepped s)
 stepped_sound profile s clean h = kept_sound s (step s) h
-    (guarded_sound (is_fault (next_of s.rest)) s.rest (item_faults profile s.stack s.rest s.values s.scope s.functions) (misfits s.stack s.rest (step_of s.stack s.rest s.values s.scope s.functions))
+    (guarded_sound (is_fault (next_of s.rest)) s.rest (item_faults profile s.stack s.rest s.values s.scope s.functions)
+    (misfits s.stack s.rest (step_of s.stack s.rest s.values s.scope s.functions))
     (step_of s.stack s.rest s.values s.scope s.functions) clean
     (λ c. sound_of profile s.stack s.rest s.values s.scope s.functions c (record { known = h.known; tied = h.tied })))
 
@@ -292,7 +370,8 @@ defined_in : (e n k : ℕ) (f : Function) (ds : List Definition) → AllIn e n d
 defined_in e n k f [] h is = absurd (cc)
 defined_in e n k f (d ∷ ds) h is = at_test (λ g. defined_in e n k f ds h.2 g) (d.number == k) is
   where
-    at_test : (defined_as k ds ≡ Some f → InFile e n f) → (b : Bool) → (if b then Some d.function else defined_as k ds) ≡ Some f → InFile e n f
+    at_test : (defined_as k ds ≡ Some f → InFile e n f) → (b : Bool) →
+        (if b then Some d.function else defined_as k ds) ≡ Some f → InFile e n f
     at_test again true g = let same : d.function ≡ f = cc in subst (λ (x : Function). InFile e n x) same h.1
     at_test again false g = again g
 
@@ -303,7 +382,8 @@ defined_among k f (d ∷ ds) is = at_test (λ g. defined_among k f ds g) (d.numb
     same_number : (x y : ℕ) → (x == y) ≡ true → y ≡ x
     same_number x y e = grind (arith, nat_tests)
 
-    at_test : (defined_as k ds ≡ Some f → IsAmong k (order_of ds)) → (b : Bool) → (d.number == k) ≡ b → (if b then Some d.function else defined_as k ds) ≡ Some f → IsAmong k (order_of (d ∷ ds))
+    at_test : (defined_as k ds ≡ Some f → IsAmong k (order_of ds)) → (b : Bool) → (d.number == k) ≡ b →
+        (if b then Some d.function else defined_as k ds) ≡ Some f → IsAmong k (order_of (d ∷ ds))
     at_test again true e g = inl (same_number d.number k e)
     at_test again false e g = inr (again g)
 
@@ -318,24 +398,29 @@ pub record AreDefined (number : ℕ) (lines : List ℕ) (ds : List Definition) (
   pub each : (k : ℕ) (f : Function) → slice_get functions k ≡ Some f → defined_as (number + k) ds ≡ Some f
   pub all : (k : ℕ) → k < length lines → IsAmong (number + k) (order_of ds)
 
-record InFront (number : ℕ) (ds : List Definition) (functions : List Function) (others : Result (List Function) ℕ) : Type 0 where
+record InFront (number : ℕ) (ds : List Definition) (functions : List Function) (others : Result (List Function) ℕ) :
+    Type 0 where
   first : Function
   rest : List Function
   is : functions ≡ first ∷ rest
   here : defined_as number ds ≡ Some first
   further : others ≡ Ok rest
 
-in_front_of : (number line : ℕ) (ds : List Definition) (functions : List Function) (o : Option Function) (others : Result (List Function) ℕ) → defined_as number ds ≡ o →
+in_front_of : (number line : ℕ) (ds : List Definition) (functions : List Function) (o : Option Function)
+    (others : Result (List Function) ℕ) → defined_as number ds ≡ o →
     in_front o line others ≡ Ok functions → InFront number ds functions others
 in_front_of number line ds functions None others at e = absurd (cc)
 in_front_of number line ds functions (Some f) (Err other) at e = absurd (cc)
-in_front_of number line ds functions (Some f) (Ok fs) at e = record { first = f; rest = fs; is = sym (cc); here = at; further = refl }
+in_front_of number line ds functions (Some f) (Ok fs) at e =
+    record { first = f; rest = fs; is = sym (cc); here = at; further = refl }
 
-none_there : (number : ℕ) (ds : List Definition) (functions : List Function) → functions ≡ [] → AreDefined number [] ds functions
+none_there : (number : ℕ) (ds : List Definition) (functions : List Function) → functions ≡ [] →
+    AreDefined number [] ds functions
 none_there number ds [] e = record { count = refl; each = λ k f g. absurd (cc); all = λ k h. absurd (omega arith) }
 none_there number ds (f ∷ fs) e = absurd (cc)
 
-one_more : (number line : ℕ) (lines : List ℕ) (ds : List Definition) (first : Function) (rest : List Function) → defined_as number ds ≡ Some first →
+one_more : (number line : ℕ) (lines : List ℕ) (ds : List Definition) (first : Function) (rest : List Function) →
+    defined_as number ds ≡ Some first →
     AreDefined (number + 1) lines ds rest → AreDefined number (line ∷ lines) ds (first ∷ rest)
 one_more number line lines ds first rest here more = record {
   count = omega (arith, more.count);
@@ -357,28 +442,34 @@ one_more number line lines ds first rest here more = record {
     all zero h = subst (λ (n : ℕ). IsAmong n (order_of ds)) (sym at_zero) (defined_among number first ds here)
     all (suc k) h = subst (λ (n : ℕ). IsAmong n (order_of ds)) (sym (at_suc k)) (more.all k (omega arith))
 
-pub are_defined : (number : ℕ) (lines : List ℕ) (ds : List Definition) (functions : List Function) → all_defined number lines ds ≡ Ok functions → AreDefined number lines ds functions
+pub are_defined : (number : ℕ) (lines : List ℕ) (ds : List Definition) (functions : List Function) →
+    all_defined number lines ds ≡ Ok functions → AreDefined number lines ds functions
 are_defined number [] ds functions e = none_there number ds functions (cc)
 are_defined number (line ∷ lines) ds functions e =
-    let i : InFront number ds functions (all_defined (number + 1) lines ds) = in_front_of number line ds functions (defined_as number ds) (all_defined (number + 1) lines ds) refl e in
+    let i : InFront number ds functions (all_defined (number + 1) lines ds) =
+    in_front_of number line ds functions (defined_as number ds) (all_defined (number + 1) lines ds) refl e in
     subst (λ (fs : List Function). AreDefined number (line ∷ lines) ds fs) (sym i.is)
     (one_more number line lines ds i.first i.rest i.here (are_defined (number + 1) lines ds i.rest i.further))
 
 abbrev pub made_file : Scope → List ℕ → List Function → ℕ → File
-made_file scope order functions main = record { externals = scope.externals; functions = functions; order = order; main = main }
+made_file scope order functions main =
+    record { externals = scope.externals; functions = functions; order = order; main = main }
 
-pub record IsMade (scope : Scope) (order : List ℕ) (functions : Result (List Function) ℕ) (main : Option ℕ) (file : File) : Type 0 where
+pub record IsMade (scope : Scope) (order : List ℕ) (functions : Result (List Function) ℕ) (main : Option ℕ)
+    (file : File) : Type 0 where
   pub all : List Function
   pub place : ℕ
   pub found : functions ≡ Ok all
   pub named : main ≡ Some place
   pub is : made_file scope order all place ≡ file
 
-pub is_made : (last : ℕ) (scope : Scope) (order : List ℕ) (functions : Result (List Function) ℕ) (main : Option ℕ) (file : File) → file_of last scope order functions main ≡ Ok file →
+pub is_made : (last : ℕ) (scope : Scope) (order : List ℕ) (functions : Result (List Function) ℕ) (main : Option ℕ)
+    (file : File) → file_of last scope order functions main ≡ Ok file →
     IsMade scope order functions main file
 is_made last scope order (Err line) main file e = absurd (cc)
 is_made last scope order (Ok fs) None file e = absurd (cc)
-is_made last scope order (Ok fs) (Some place) file e = record { all = fs; place = place; found = refl; named = refl; is = ok_same (made_file scope order fs place) file e }
+is_made last scope order (Ok fs) (Some place) file e =
+    record { all = fs; place = place; found = refl; named = refl; is = ok_same (made_file scope order fs place) file e }
   where
     ok_at : File → Result File Diagnostic
     ok_at x = Ok x
@@ -386,38 +477,47 @@ is_made last scope order (Ok fs) (Some place) file e = record { all = fs; place 
     ok_same : (x y : File) → ok_at x ≡ ok_at y → x ≡ y
     ok_same x y h = cc
 
-pub distinct_of : (phase : Phase) (values : List Value) (scope : Scope) (ds : List Definition) → AreDistinct scope.begun → Tied phase values scope ds → AreDistinct (order_of ds)
+pub distinct_of : (phase : Phase) (values : List Value) (scope : Scope) (ds : List Definition) →
+    AreDistinct scope.begun → Tied phase values scope ds → AreDistinct (order_of ds)
 distinct_of Outside values scope ds h t = subst (λ (ns : List ℕ). AreDistinct ns) t.begun h
 distinct_of Before values scope ds h t = subst (λ (ns : List ℕ). AreDistinct ns) t.begun h
-distinct_of Inside values scope ds h t = distinct_front (order_of ds) scope.number (subst (λ (ns : List ℕ). AreDistinct ns) t.begun h)
+distinct_of Inside values scope ds h t =
+    distinct_front (order_of ds) scope.number (subst (λ (ns : List ℕ). AreDistinct ns) t.begun h)
 distinct_of Wrong values scope ds h t = absurd t
 
 -- a function of this number is named as it was mentioned
-named_as : (all : List (List ℕ)) (k : ℕ) (f : Function) (ds : List Definition) → HaveNames all ds → defined_as k ds ≡ Some f → slice_get all k ≡ Some f.name
+named_as : (all : List (List ℕ)) (k : ℕ) (f : Function) (ds : List Definition) → HaveNames all ds →
+    defined_as k ds ≡ Some f → slice_get all k ≡ Some f.name
 named_as all k f [] h is = absurd (cc)
 named_as all k f (d ∷ ds) h is = at_test (λ g. named_as all k f ds h.1 g) (d.number == k) refl is
   where
     same_number : (x y : ℕ) → (x == y) ≡ true → x ≡ y
     same_number x y e = grind (arith, nat_tests)
 
-    at_test : (defined_as k ds ≡ Some f → slice_get all k ≡ Some f.name) → (b : Bool) → (d.number == k) ≡ b → (if b then Some d.function else defined_as k ds) ≡ Some f
+    at_test : (defined_as k ds ≡ Some f → slice_get all k ≡ Some f.name) → (b : Bool) → (d.number == k) ≡ b →
+        (if b then Some d.function else defined_as k ds) ≡ Some f
         → slice_get all k ≡ Some f.name
     at_test again true e g =
         let same : d.function ≡ f = cc in
-        subst (λ (n : ℕ). slice_get all n ≡ Some f.name) (same_number d.number k e) (h.0 ∙ ap (λ (x : Function). Some x.name) same)
+        subst (λ (n : ℕ). slice_get all n ≡ Some f.name) (same_number d.number k e)
+        (h.0 ∙ ap (λ (x : Function). Some x.name) same)
     at_test again false e g = again g
 
 -- so the functions' names are those that were mentioned
-defined_names : (functions : List FunctionNames) (lines : List ℕ) (ds : List Definition) (all : List Function) → AreDefined 0 lines ds all → HaveNames (names functions) ds
+defined_names : (functions : List FunctionNames) (lines : List ℕ) (ds : List Definition) (all : List Function) →
+    AreDefined 0 lines ds all → HaveNames (names functions) ds
     → length all ≡ length functions → map (λ (f : Function). f.name) all ≡ names functions
 defined_names functions lines ds all a h count =
-    map_of_places (λ (f : Function). f.name) all (names functions) (count ∙ sym (length-map functions (λ (f : FunctionNames). f.name)))
-    (λ k f e. named_as (names functions) k f ds h (subst (λ (n : ℕ). defined_as n ds ≡ Some f) (from_zero k) (a.each k f e)))
+    map_of_places (λ (f : Function). f.name) all (names functions)
+    (count ∙ sym (length-map functions (λ (f : FunctionNames). f.name)))
+    (λ k f e. named_as (names functions) k f ds h
+    (subst (λ (n : ℕ). defined_as n ds ≡ Some f) (from_zero k) (a.each k f e)))
   where
     from_zero : (k : ℕ) → 0 + k ≡ k
     from_zero k = omega arith
 
-resolved_of : (s : State) (all : List Function) (place : ℕ) → Sound s → all_defined 0 s.scope.lines s.functions ≡ Ok all → function_number main_name s.scope ≡ Some place →
+resolved_of : (s : State) (all : List Function) (place : ℕ) → Sound s →
+    all_defined 0 s.scope.lines s.functions ≡ Ok all → function_number main_name s.scope ≡ Some place →
     IsResolved (made_file s.scope (order_of s.functions) all place)
 resolved_of s all place h found named =
     let a : AreDefined 0 s.scope.lines s.functions all = are_defined 0 s.scope.lines s.functions all found in
@@ -426,9 +526,14 @@ resolved_of s all place h found named =
       externals = h.known.externals;
       functions = omega (arith, h.known.functions);
       distinct_externals = h.known.distinct_externals;
-      distinct_functions = rw (defined_names s.scope.functions s.scope.lines s.functions all a h.known.named count) h.known.distinct_functions;
-      each = λ k f e. subst (λ (n : ℕ). InFile (length s.scope.externals) n f) (sym count) (defined_in _ _ (0 + k) f s.functions h.known.definitions (a.each k f e));
-      defined = λ k less. subst (λ (n : ℕ). IsAmong n (order_of s.functions)) (from_zero k) (a.all k (omega (arith, a.count)));
+      distinct_functions = rw (defined_names s.scope.functions s.scope.lines s.functions all a h.known.named count)
+          h.known.distinct_functions;
+      each =
+          λ k f e. subst (λ (n : ℕ). InFile (length s.scope.externals) n f) (sym count)
+          (defined_in _ _ (0 + k) f s.functions h.known.definitions (a.each k f e));
+      defined =
+          λ k less. subst (λ (n : ℕ). IsAmong n (order_of s.functions)) (from_zero k)
+          (a.all k (omega (arith, a.count)));
       only = λ k i. subst (λ (n : ℕ). k < n) (sym count) (order_below _ _ k s.functions h.known.definitions i);
       once = distinct_of (phase_of s.stack) s.values s.scope s.functions h.known.begun h.tied;
       main = subst (λ (n : ℕ). place < n) (sym count) (function_below main_name s.scope place named);
@@ -438,18 +543,29 @@ resolved_of s all place h found named =
     from_zero k = omega arith
 
 -- if the verdict is a file, no fault was gathered
-pub record IsClean (located_tokens : List LocatedToken) (faults : List Fault) (scope : Scope) (ds : List Definition) (file : File) : Type 0 where
+pub record IsClean (located_tokens : List LocatedToken) (faults : List Fault) (scope : Scope) (ds : List Definition)
+    (file : File) : Type 0 where
   pub clean : faults ≡ []
   pub is : resolved located_tokens scope ds ≡ Ok file
 
-pub is_clean : (located_tokens : List LocatedToken) (faults : List Fault) (scope : Scope) (ds : List Definition) (file : File) → verdict located_tokens faults scope ds ≡ Ok file → IsClean located_tokens faults scope ds file
+pub is_clean : (located_tokens : List LocatedToken) (faults : List Fault) (scope : Scope) (ds : List Definition)
+    (file : File) → verdict located_tokens faults scope ds ≡ Ok file → IsClean located_tokens faults scope ds file
 is_clean located_tokens [] scope ds file e = record { clean = refl; is = e }
 is_clean located_tokens (f ∷ faults) scope ds file e = absurd (cc)
 
 pub compiled_is_resolved : CompiledIsResolved
 compiled_is_resolved profile located_tokens file e =
-    let c : IsClean located_tokens (all_faults profile located_tokens) (last_state located_tokens).scope (last_state located_tokens).functions file = is_clean located_tokens (all_faults profile located_tokens) (last_state located_tokens).scope (last_state located_tokens).functions file e in
-    let s : Sound (last_state located_tokens) = run_sound profile (enough located_tokens) (start located_tokens) c.clean (start_sound located_tokens) in
-    let m : IsMade (last_state located_tokens).scope (order_of (last_state located_tokens).functions) (all_defined 0 (last_state located_tokens).scope.lines (last_state located_tokens).functions) (function_number main_name (last_state located_tokens).scope) file =
-    is_made (last_line located_tokens) (last_state located_tokens).scope (order_of (last_state located_tokens).functions) (all_defined 0 (last_state located_tokens).scope.lines (last_state located_tokens).functions) (function_number main_name (last_state located_tokens).scope) file c.is in
+    let c : IsClean located_tokens (all_faults profile located_tokens) (last_state located_tokens).scope
+    (last_state located_tokens).functions file =
+    is_clean located_tokens (all_faults profile located_tokens) (last_state located_tokens).scope
+    (last_state located_tokens).functions file e in
+    let s : Sound (last_state located_tokens) =
+    run_sound profile (enough located_tokens) (start located_tokens) c.clean (start_sound located_tokens) in
+    let m : IsMade (last_state located_tokens).scope (order_of (last_state located_tokens).functions)
+    (all_defined 0 (last_state located_tokens).scope.lines (last_state located_tokens).functions)
+    (function_number main_name (last_state located_tokens).scope) file =
+    is_made (last_line located_tokens) (last_state located_tokens).scope
+    (order_of (last_state located_tokens).functions)
+    (all_defined 0 (last_state located_tokens).scope.lines (last_state located_tokens).functions)
+    (function_number main_name (last_state located_tokens).scope) file c.is in
     subst (λ (x : File). IsResolved x) m.is (resolved_of (last_state located_tokens) m.all m.place s m.found m.named)

@@ -27,23 +27,29 @@ abbrev Rests : List LocatedToken → Option State → Type 0
 Rests rest None = Unit {0}
 Rests rest (Some t) = IsRest t.rest rest
 
-name_rests : (role : Role) (name : Option (List ℕ)) (stack : List Item) (rest : List LocatedToken) (values : List Value) (scope : Scope) (functions : List Definition) → Rests rest (name_matched role name stack rest values scope functions)
+name_rests : (role : Role) (name : Option (List ℕ)) (stack : List Item) (rest : List LocatedToken) (values : List Value)
+    (scope : Scope) (functions : List Definition) →
+    Rests rest (name_matched role name stack rest values scope functions)
 name_rests role (Some name) stack rest values scope functions = rest_fewer rest
 name_rests role None stack rest values scope functions = tt
 
-matched_rests : (fits : Bool) (stack : List Item) (rest : List LocatedToken) (values : List Value) (scope : Scope) (functions : List Definition) → Rests rest (matched fits stack rest values scope functions)
+matched_rests : (fits : Bool) (stack : List Item) (rest : List LocatedToken) (values : List Value) (scope : Scope)
+    (functions : List Definition) → Rests rest (matched fits stack rest values scope functions)
 matched_rests true stack rest values scope functions = rest_fewer rest
 matched_rests false stack rest values scope functions = tt
 
-constant_rests : (value : Option ℕ) (stack : List Item) (rest : List LocatedToken) (values : List Value) (scope : Scope) (functions : List Definition) → Rests rest (constant_matched value stack rest values scope functions)
+constant_rests : (value : Option ℕ) (stack : List Item) (rest : List LocatedToken) (values : List Value) (scope : Scope)
+    (functions : List Definition) → Rests rest (constant_matched value stack rest values scope functions)
 constant_rests (Some value) stack rest values scope functions = rest_fewer rest
 constant_rests None stack rest values scope functions = tt
 
-replaced_rests : (items : Production) (stack : List Item) (rest : List LocatedToken) (values : List Value) (scope : Scope) (functions : List Definition) → Rests rest (replaced items stack rest values scope functions)
+replaced_rests : (items : Production) (stack : List Item) (rest : List LocatedToken) (values : List Value)
+    (scope : Scope) (functions : List Definition) → Rests rest (replaced items stack rest values scope functions)
 replaced_rests (Some items) stack rest values scope functions = rest_itself rest
 replaced_rests None stack rest values scope functions = tt
 
-step_rests : (stack : List Item) (rest : List LocatedToken) (values : List Value) (scope : Scope) (functions : List Definition) → Rests rest (step_of stack rest values scope functions)
+step_rests : (stack : List Item) (rest : List LocatedToken) (values : List Value) (scope : Scope)
+    (functions : List Definition) → Rests rest (step_of stack rest values scope functions)
 step_rests [] rest values scope functions = tt
 step_rests (Exactly m ∷ stack) rest values scope functions = matched_rests _ stack rest values scope functions
 step_rests (AWord w ∷ stack) rest values scope functions = matched_rests _ stack rest values scope functions
@@ -54,7 +60,8 @@ step_rests (Part symbol ∷ stack) rest values scope functions = replaced_rests 
 step_rests (Make rule ∷ stack) rest values scope functions = rest_itself rest
 step_rests (Close ∷ stack) rest values scope functions = rest_itself rest
 
-guarded_rests : (b : Bool) (rest : List LocatedToken) (o : Option State) → Rests rest o → Rests rest (if b then None else o)
+guarded_rests : (b : Bool) (rest : List LocatedToken) (o : Option State) → Rests rest o →
+    Rests rest (if b then None else o)
 guarded_rests true rest o h = tt
 guarded_rests false rest o h = h
 
@@ -65,7 +72,8 @@ kept_rests s (Some t) h = h
 pub run_rests : (n : ℕ) (s : State) → IsRest (run n s).rest s.rest
 run_rests zero s = rest_itself s.rest
 run_rests (suc n) s = rest_of_rest _ _ _ (run_rests n (stepped s))
-    (kept_rests s (step s) (guarded_rests (is_fault (next_of s.rest)) s.rest _ (step_rests s.stack s.rest s.values s.scope s.functions)))
+    (kept_rests s (step s)
+    (guarded_rests (is_fault (next_of s.rest)) s.rest _ (step_rests s.stack s.rest s.values s.scope s.functions)))
 
 pub run_keeps : (n : ℕ) (s : State) → length (run n s).rest ≤ length s.rest
 run_keeps n s =

@@ -21,7 +21,10 @@ faults_in-add profile zero n s = ap (λ k. faults_in profile k s) (zero-add n)
 faults_in-add profile (suc m) n s =
     ap (λ k. faults_in profile k s) (suc-add m n)
     ∙ ap (λ faults. faults_at profile s ++ faults) (faults_in-add profile m n (stepped s))
-    ∙ sym (append_assoc (faults_at profile s) (faults_in profile m (stepped s)) (faults_in profile n (run m (stepped s))))
+    ∙
+    sym
+    (append_assoc (faults_at profile s) (faults_in profile m (stepped s))
+    (faults_in profile n (run m (stepped s))))
 
 pub here : (profile : Profile) (s : State) → Passes profile s s
 here profile s = record { steps = 0; leads = refl; clean = refl }
@@ -46,16 +49,19 @@ none_in : (f : Fault) (faults : List Fault) → faults ≡ [] → IsIn f faults 
 none_in f [] e h = h
 none_in f (g ∷ faults) e h = cc
 
-later_at : (profile : Profile) (m : ℕ) (s : State) (f : Fault) → ((n : ℕ) → IsIn f (faults_at profile (run n (stepped s))) → IsFault profile (run m (stepped s)) f) →
+later_at : (profile : Profile) (m : ℕ) (s : State) (f : Fault) →
+    ((n : ℕ) → IsIn f (faults_at profile (run n (stepped s))) → IsFault profile (run m (stepped s)) f) →
     faults_at profile s ≡ [] → (n : ℕ) → IsIn f (faults_at profile (run n s)) → IsFault profile (run m (stepped s)) f
 later_at profile m s f again clean zero h = absurd (none_in f _ clean h)
 later_at profile m s f again clean (suc n) h = again n h
 
 -- if the first m states are clean, a fault of the derivation comes after them
-pub later : (profile : Profile) (m : ℕ) (s : State) (f : Fault) → faults_in profile m s ≡ [] → (n : ℕ) → IsIn f (faults_at profile (run n s)) → IsFault profile (run m s) f
+pub later : (profile : Profile) (m : ℕ) (s : State) (f : Fault) → faults_in profile m s ≡ [] → (n : ℕ) →
+    IsIn f (faults_at profile (run n s)) → IsFault profile (run m s) f
 later profile zero s f clean n h = record { steps = n; here = h }
 later profile (suc m) s f clean n h =
-    let parts : (faults_at profile s ≡ []) × (faults_in profile m (stepped s) ≡ []) = append_empty (faults_at profile s) (faults_in profile m (stepped s)) clean in
+    let parts : (faults_at profile s ≡ []) × (faults_in profile m (stepped s) ≡ []) =
+    append_empty (faults_at profile s) (faults_in profile m (stepped s)) clean in
     later_at profile m s f (λ k g. later profile m (stepped s) f parts.1 k g) parts.0 n h
 
 pub sooner : (profile : Profile) (m : ℕ) (s : State) (f : Fault) → IsFault profile (run m s) f → IsFault profile s f
@@ -65,11 +71,16 @@ sooner profile m s f h = record {
 }
 
 -- a first fault goes back along a segment without faults
-pub first_back : (profile : Profile) (s t : State) (f : Fault) → Passes profile s t → IsFirstFault profile t f → IsFirstFault profile s f
+pub first_back : (profile : Profile) (s t : State) (f : Fault) → Passes profile s t → IsFirstFault profile t f →
+    IsFirstFault profile s f
 first_back profile s t f p h = record {
   comes = sooner profile p.steps s f (subst (λ (v : State). IsFault profile v f) (sym p.leads) h.comes);
-  first = λ g is. h.first g (subst (λ (v : State). IsFault profile v g) p.leads (later profile p.steps s g p.clean is.steps is.here));
+  first =
+      λ g is. h.first g
+      (subst (λ (v : State). IsFault profile v g) p.leads (later profile p.steps s g p.clean is.steps is.here));
 }
 
-pub back : (profile : Profile) (s t : State) (d : Diagnostic) → Passes profile s t → Fails profile t d → Fails profile s d
-back profile s t d p h = record { fault = h.fault; first = first_back profile s t h.fault p h.first; line = h.line; code = h.code }
+pub back : (profile : Profile) (s t : State) (d : Diagnostic) → Passes profile s t → Fails profile t d →
+    Fails profile s d
+back profile s t d p h =
+    record { fault = h.fault; first = first_back profile s t h.fault p h.first; line = h.line; code = h.code }

@@ -21,11 +21,13 @@ use Rattle.grammar.specs.Naming.{IsKept, Knows, line_of_undefined}
 use Rattle.grammar.specs.Pools.{FunctionNames}
 use Rattle.grammar.specs.Scope.{Scope, is_local_new, is_function_new, function_number, number_of_name, only_named, with_new_function}
 
-position_or_len_of_map : {A B : Type 0} (p : B → Bool) (f : A → B) (xs : List A) → position_or_len p (map f xs) ≡ position_or_len (λ x. p (f x)) xs
+position_or_len_of_map : {A B : Type 0} (p : B → Bool) (f : A → B) (xs : List A) →
+    position_or_len p (map f xs) ≡ position_or_len (λ x. p (f x)) xs
 position_or_len_of_map p f [] = refl
 position_or_len_of_map p f (x ∷ xs) = ap (λ n. cond (not (p (f x))) (1 + n) 0) (position_or_len_of_map p f xs)
 
-pub position_of_map : {A B : Type 0} (p : B → Bool) (f : A → B) (xs : List A) → position p (map f xs) ≡ position (λ x. p (f x)) xs
+pub position_of_map : {A B : Type 0} (p : B → Bool) (f : A → B) (xs : List A) →
+    position p (map f xs) ≡ position (λ x. p (f x)) xs
 position_of_map p f xs = ap₂ (λ n m. cond (nat_lt n m) (Some n) None) (position_or_len_of_map p f xs) (length-map xs f)
 
 -- a new name that finds room
@@ -34,7 +36,8 @@ room false n c rest small = refl
 room true n c rest small = rw small refl
 
 -- and one that finds none
-pub full : (new : Bool) (n : ℕ) (c : Code) (rest : List LocatedToken) → new ≡ true → nat_le 64 n ≡ true → no_room new n c rest ≡ fault rest c ∷ []
+pub full : (new : Bool) (n : ℕ) (c : Code) (rest : List LocatedToken) → new ≡ true → nat_le 64 n ≡ true →
+    no_room new n c rest ≡ fault rest c ∷ []
 full new n c rest is large = rw (is, large) refl
 
 -- a name that isn't new
@@ -44,83 +47,117 @@ known new n c rest is = rw is refl
 pub below_most : (n : ℕ) → nat_le 64 n ≡ false → n < 64
 below_most n h = grind (arith, nat_tests)
 
-pub parameter_full : (name : List ℕ) (scope : Scope) (rest : List LocatedToken) → is_local_new name scope ≡ true → nat_le 64 (length scope.current.variables) ≡ true →
+pub parameter_full : (name : List ℕ) (scope : Scope) (rest : List LocatedToken) → is_local_new name scope ≡ true →
+    nat_le 64 (length scope.current.variables) ≡ true →
     parameter_faults name scope rest ≡ fault rest code.TooManyVariables ∷ []
-parameter_full name scope rest new large = rw new (full true (length scope.current.variables) code.TooManyVariables rest refl large)
+parameter_full name scope rest new large =
+    rw new (full true (length scope.current.variables) code.TooManyVariables rest refl large)
 
 -- a name that none of the functions has
-pub not_there : (name : List ℕ) (fs : List FunctionNames) → ((k : ℕ) → k < length fs → bytes_eq name (slice_index_or fs k (only_named [])).name ≡ false) → None ≡ number_of_name name (map (λ f. f.name) fs)
-not_there name fs none = sym (position_of_map (bytes_eq name) (λ f. f.name) fs ∙ at (position_or_len_is (λ f. bytes_eq name f.name) fs (length fs) (only_named []) (omega arith) none (λ h. absurd (omega (arith, h)))))
+pub not_there : (name : List ℕ) (fs : List FunctionNames) →
+    ((k : ℕ) → k < length fs → bytes_eq name (slice_index_or fs k (only_named [])).name ≡ false) →
+    None ≡ number_of_name name (map (λ f. f.name) fs)
+not_there name fs none =
+    sym
+    (position_of_map (bytes_eq name) (λ f. f.name) fs ∙
+    at
+    (position_or_len_is (λ f. bytes_eq name f.name) fs (length fs) (only_named []) (omega arith) none
+    (λ h. absurd (omega (arith, h)))))
   where
     at : {n : ℕ} → n ≡ length fs → cond (nat_lt n (length fs)) (Some n) None ≡ None
     at e = rw e (rw (le-ltb (length fs) (length fs) (omega arith)) refl)
 
-pub nowhere : (name : List ℕ) (fs : List FunctionNames) (n : ℕ) → NoneBefore n name fs → length fs ≤ n → None ≡ number_of_name name (map (λ f. f.name) fs)
+pub nowhere : (name : List ℕ) (fs : List FunctionNames) (n : ℕ) → NoneBefore n name fs → length fs ≤ n →
+    None ≡ number_of_name name (map (λ f. f.name) fs)
 nowhere name fs n none past = not_there name fs (λ k h. none.none k (omega (arith, h, past)) h)
 
 -- within a list the default counts for nothing
-any_default : {A : Type 0} (xs : List A) (n : ℕ) (d e : A) → n < length xs → slice_index_or xs n d ≡ slice_index_or xs n e
+any_default : {A : Type 0} (xs : List A) (n : ℕ) (d e : A) → n < length xs →
+    slice_index_or xs n d ≡ slice_index_or xs n e
 any_default [] n d e h = absurd (omega (arith, h))
 any_default (x ∷ xs) zero d e h = refl
 any_default (x ∷ xs) (suc n) d e h = any_default xs n d e (omega (arith, h))
 
 -- the first function that has it
-pub there : (name : List ℕ) (fs : List FunctionNames) (n : ℕ) (f : FunctionNames) → n < length fs → ((k : ℕ) → k < n → bytes_eq name (slice_index_or fs k (only_named [])).name ≡ false)
+pub there : (name : List ℕ) (fs : List FunctionNames) (n : ℕ) (f : FunctionNames) → n < length fs →
+    ((k : ℕ) → k < n → bytes_eq name (slice_index_or fs k (only_named [])).name ≡ false)
     → f ≡ slice_index_or fs n f → bytes_eq name f.name ≡ true → Some n ≡ number_of_name name (map (λ f. f.name) fs)
 there name fs n f h none here is = sym (position_of_map (bytes_eq name) (λ f. f.name) fs
-    ∙ at (position_or_len_is (λ f. bytes_eq name f.name) fs n (only_named []) (omega (arith, h)) none (λ l. ap (λ f. bytes_eq name f.name) (sym (here ∙ any_default fs n f (only_named []) h)) ∙ is)))
+    ∙
+    at
+    (position_or_len_is (λ f. bytes_eq name f.name) fs n (only_named []) (omega (arith, h)) none
+    (λ l. ap (λ f. bytes_eq name f.name) (sym (here ∙ any_default fs n f (only_named []) h)) ∙ is)))
   where
     at : {m : ℕ} → m ≡ n → cond (nat_lt m (length fs)) (Some m) None ≡ Some n
     at e = rw e (rw (lt-ltb n (length fs) h) refl)
 
-pub first_there : (name : List ℕ) (fs : List FunctionNames) (n : ℕ) (f : FunctionNames) → n < length fs → NoneBefore n name fs → f ≡ slice_index_or fs n f → bytes_eq name f.name ≡ true → Some n ≡ number_of_name name (map (λ f. f.name) fs)
+pub first_there : (name : List ℕ) (fs : List FunctionNames) (n : ℕ) (f : FunctionNames) → n < length fs →
+    NoneBefore n name fs → f ≡ slice_index_or fs n f → bytes_eq name f.name ≡ true →
+    Some n ≡ number_of_name name (map (λ f. f.name) fs)
 first_there name fs n f h none here is = there name fs n f h (λ k l. none.none k l (omega (arith, h, l))) here is
 
 -- one function more that hasn't
-pub none_more : (name : List ℕ) (fs : List FunctionNames) (n : ℕ) (f : FunctionNames) → n < length fs → NoneBefore n name fs → f ≡ slice_index_or fs n f → bytes_eq name f.name ≡ false → NoneBefore (n + 1) name fs
+pub none_more : (name : List ℕ) (fs : List FunctionNames) (n : ℕ) (f : FunctionNames) → n < length fs →
+    NoneBefore n name fs → f ≡ slice_index_or fs n f → bytes_eq name f.name ≡ false → NoneBefore (n + 1) name fs
 none_more name fs n f h none here other = record { none = λ k less within. by k less within (nat_lt k n) refl }
   where
-    by : (k : ℕ) → k < n + 1 → k < length fs → (b : Bool) → nat_lt k n ≡ b → bytes_eq name (slice_index_or fs k (only_named [])).name ≡ false
+    by : (k : ℕ) → k < n + 1 → k < length fs → (b : Bool) → nat_lt k n ≡ b →
+        bytes_eq name (slice_index_or fs k (only_named [])).name ≡ false
     by k less within true e = none.none k (grind (arith, nat_tests)) within
     by k less within false e =
         let last : k ≡ n = grind (arith, nat_tests) in
-        ap (λ j. bytes_eq name (slice_index_or fs j (only_named [])).name) last ∙ ap (λ g. bytes_eq name g.name) (sym (here ∙ any_default fs n f (only_named []) h)) ∙ other
+        ap (λ j. bytes_eq name (slice_index_or fs j (only_named [])).name) last ∙
+        ap (λ g. bytes_eq name g.name) (sym (here ∙ any_default fs n f (only_named []) h)) ∙ other
 
-pub function_new : (name : List ℕ) (scope : Scope) → intrinsic_named name ≡ None → function_number name scope ≡ None → is_function_new name scope ≡ true
+pub function_new : (name : List ℕ) (scope : Scope) → intrinsic_named name ≡ None → function_number name scope ≡ None →
+    is_function_new name scope ≡ true
 function_new name scope own unknown = rw (own, unknown) refl
 
 -- one function too many is called
-pub called_full : (name : List ℕ) (scope : Scope) (rest : List LocatedToken) → intrinsic_named name ≡ None → function_number name scope ≡ None → nat_le 64 (length scope.functions) ≡ true →
-    no_room (is_function_new name scope) (length scope.functions) code.TooManyFunctions rest ≡ fault rest code.TooManyFunctions ∷ []
+pub called_full : (name : List ℕ) (scope : Scope) (rest : List LocatedToken) → intrinsic_named name ≡ None →
+    function_number name scope ≡ None → nat_le 64 (length scope.functions) ≡ true →
+    no_room (is_function_new name scope) (length scope.functions) code.TooManyFunctions rest ≡
+    fault rest code.TooManyFunctions ∷ []
 called_full name scope rest own unknown large =
-    full (is_function_new name scope) (length scope.functions) code.TooManyFunctions rest (function_new name scope own unknown) large
+    full (is_function_new name scope) (length scope.functions) code.TooManyFunctions rest
+    (function_new name scope own unknown) large
 
 -- a function is called for the first time
-pub called_new : (name : List ℕ) (line : ℕ) (scope new : Scope) → intrinsic_named name ≡ None → function_number name scope ≡ None → nat_le 64 (length scope.functions) ≡ false →
+pub called_new : (name : List ℕ) (line : ℕ) (scope new : Scope) → intrinsic_named name ≡ None →
+    function_number name scope ≡ None → nat_le 64 (length scope.functions) ≡ false →
     new ≡ with_new_function name line scope → Knows Called name line scope new
 called_new name line scope new own unknown small e = rw e (record {
   clean = λ rest. room (is_function_new name scope) (length scope.functions) code.TooManyFunctions rest small;
   behind = rw (function_new name scope own unknown) refl;
 })
 
-pub position_by : {A B : Type 0} (p : B → Bool) (f : A → B) (xs : List A) → position (λ x. p (f x)) xs ≡ position p (map f xs)
+pub position_by : {A B : Type 0} (p : B → Bool) (f : A → B) (xs : List A) →
+    position (λ x. p (f x)) xs ≡ position p (map f xs)
 position_by p f xs = sym (position_of_map p f xs)
 
-pub kept_nothing : {F : Type 0} (functions : List F) (lines begun : List ℕ) → functions ≡ [] → lines ≡ [] → begun ≡ [] → IsKept functions lines begun
+pub kept_nothing : {F : Type 0} (functions : List F) (lines begun : List ℕ) → functions ≡ [] → lines ≡ [] → begun ≡ [] →
+    IsKept functions lines begun
 unfolding IsDistinct
-kept_nothing functions lines begun p q r = rw (p, q, r) (record { few = omega arith; lined = refl; once = tt; known = λ k h. absurd (cc) })
+kept_nothing functions lines begun p q r =
+    rw (p, q, r) (record { few = omega arith; lined = refl; once = tt; known = λ k h. absurd (cc) })
 
-all_snoc : {A : Type 0} (P : A → Type 0) (xs : List A) (x : A) → AllByRecursion P xs → P x → AllByRecursion P (xs ++ x ∷ [])
+all_snoc : {A : Type 0} (P : A → Type 0) (xs : List A) (x : A) → AllByRecursion P xs → P x →
+    AllByRecursion P (xs ++ x ∷ [])
 all_snoc P [] x h p = (p, tt)
 all_snoc P (y ∷ ys) x h p = (h.0, all_snoc P ys x h.1 p)
 
-distinct_snoc : (xs : List ℕ) (n : ℕ) → IsDistinct eqb xs → list_any (λ k. eqb k n) xs ≡ false → IsDistinct eqb (xs ++ n ∷ [])
+distinct_snoc : (xs : List ℕ) (n : ℕ) → IsDistinct eqb xs → list_any (λ k. eqb k n) xs ≡ false →
+    IsDistinct eqb (xs ++ n ∷ [])
 unfolding IsDistinct
 distinct_snoc [] n d f = (tt, tt)
-distinct_snoc (x ∷ xs) n d f = (all_snoc (λ y. eqb x y ≡ false) xs n d.0 (or_parts (eqb x n) (list_any (λ k. eqb k n) xs) f).0, distinct_snoc xs n d.1 (or_parts (eqb x n) (list_any (λ k. eqb k n) xs) f).1)
+distinct_snoc (x ∷ xs) n d f = (
+  all_snoc (λ y. eqb x y ≡ false) xs n d.0 (or_parts (eqb x n) (list_any (λ k. eqb k n) xs) f).0,
+  distinct_snoc xs n d.1 (or_parts (eqb x n) (list_any (λ k. eqb k n) xs) f).1,
+)
 
 -- one more definition begins
-pub kept_begun : {F : Type 0} (functions : List F) (lines begun : List ℕ) (n : ℕ) → IsKept functions lines begun → n < length functions → list_any (λ k. eqb k n) begun ≡ false
+pub kept_begun : {F : Type 0} (functions : List F) (lines begun : List ℕ) (n : ℕ) → IsKept functions lines begun →
+    n < length functions → list_any (λ k. eqb k n) begun ≡ false
     → IsKept functions lines (begun ++ n ∷ [])
 kept_begun functions lines begun n kept within new = record {
   few = kept.few;
@@ -138,7 +175,8 @@ kept_begun functions lines begun n kept within new = record {
         alone false a = a
 
 -- and there is room for it
-pub room_begun : {F : Type 0} (functions : List F) (lines begun : List ℕ) (n : ℕ) → IsKept functions lines begun → n < length functions → list_any (λ k. eqb k n) begun ≡ false
+pub room_begun : {F : Type 0} (functions : List F) (lines begun : List ℕ) (n : ℕ) → IsKept functions lines begun →
+    n < length functions → list_any (λ k. eqb k n) begun ≡ false
     → length begun < 64
 room_begun functions lines begun n kept within new =
     let more = kept_begun functions lines begun n kept within new in
@@ -153,11 +191,15 @@ any_swapped q [] = refl
 any_swapped q (x ∷ xs) = ap₂ (λ a b. a || b) (eqb_swapped x q) (any_swapped q xs)
 
 -- a function that wasn't mentioned has no definition
-pub not_begun : {F : Type 0} (functions : List F) (lines begun : List ℕ) → IsKept functions lines begun → false ≡ list_any (λ k. eqb k (length functions)) begun
+pub not_begun : {F : Type 0} (functions : List F) (lines begun : List ℕ) → IsKept functions lines begun →
+    false ≡ list_any (λ k. eqb k (length functions)) begun
 not_begun functions lines begun kept = by (list_any (λ k. eqb k (length functions)) begun) refl
   where
-    by : (b : Bool) → list_any (λ k. eqb k (length functions)) begun ≡ b → false ≡ list_any (λ k. eqb k (length functions)) begun
-    by true e = let less = kept.known (length functions) (sym (any_swapped (length functions) begun) ∙ e) in absurd (omega (arith, less))
+    by : (b : Bool) → list_any (λ k. eqb k (length functions)) begun ≡ b →
+        false ≡ list_any (λ k. eqb k (length functions)) begun
+    by true e =
+        let less = kept.known (length functions) (sym (any_swapped (length functions) begun) ∙ e) in
+        absurd (omega (arith, less))
     by false e = sym e
 
 -- a function of the pools changes in its place
@@ -170,5 +212,7 @@ pub ruleset names = (room, full, known, below_most, parameter_full)
 pub ruleset calls = (called_full, called_new, below_most)
 
 -- the first function whose definition didn't begin
-pub undefined_here : (lines begun : List ℕ) (n : ℕ) (first : Option ℕ) → first ≡ line_of_undefined n (drop n lines) begun → n < length lines → list_any (λ k. k == n) begun ≡ false → Some (slice_index_or lines n 0) ≡ first
+pub undefined_here : (lines begun : List ℕ) (n : ℕ) (first : Option ℕ) →
+    first ≡ line_of_undefined n (drop n lines) begun → n < length lines → list_any (λ k. k == n) begun ≡ false →
+    Some (slice_index_or lines n 0) ≡ first
 undefined_here lines begun n first e within none = sym (e ∙ rw (drop_more lines n 0 within, none) refl)

@@ -42,14 +42,21 @@ ValuesIn e l n (v ∷ values) = InValue e l n v × ValuesIn e l n values
 value_wider : (e l n e' l' n' : ℕ) → IsWider e l n e' l' n' → (v : Value) → InValue e l n v → InValue e' l' n' v
 value_wider e l n e' l' n' w (AnExpr x) h = expr_wider e l n e' l' n' w x h
 value_wider e l n e' l' n' w (AVariable v) h = variable_wider e l n e' l' n' w v h
-value_wider e l n e' l' n' w (ACall f args) h = record { callable = callable_wider e l n e' l' n' w f h.callable; arguments = args_wider e l n e' l' n' w args h.arguments }
+value_wider e l n e' l' n' w (ACall f args) h =
+    record {
+      callable = callable_wider e l n e' l' n' w f h.callable;
+      arguments = args_wider e l n e' l' n' w args h.arguments;
+    }
 value_wider e l n e' l' n' w (ABody b) h = body_wider e l n e' l' n' w b h
 
-pub values_wider : (e l n e' l' n' : ℕ) → IsWider e l n e' l' n' → (values : List Value) → ValuesIn e l n values → ValuesIn e' l' n' values
+pub values_wider : (e l n e' l' n' : ℕ) → IsWider e l n e' l' n' → (values : List Value) → ValuesIn e l n values →
+    ValuesIn e' l' n' values
 values_wider e l n e' l' n' w [] h = tt
-values_wider e l n e' l' n' w (v ∷ values) h = (value_wider e l n e' l' n' w v h.0, values_wider e l n e' l' n' w values h.1)
+values_wider e l n e' l' n' w (v ∷ values) h =
+    (value_wider e l n e' l' n' w v h.0, values_wider e l n e' l' n' w values h.1)
 
-argument_in : (e l n : ℕ) (args : Args) (x : Expr) → InArgs e l n args → InExpr e l n x → InArgs e l n (add_argument args x)
+argument_in : (e l n : ℕ) (args : Args) (x : Expr) → InArgs e l n args → InExpr e l n x →
+    InArgs e l n (add_argument args x)
 argument_in e l n tree.NoMore x h k = (k, tt)
 argument_in e l n (tree.Argument a rest) x h k = (h.0, argument_in e l n rest x h.1 k)
 
@@ -66,7 +73,8 @@ last_body_in e l n (ABody b ∷ values) h = h.0
 last_body_in e l n values h = tt
 
 -- what a rule makes is among the same names
-pub made_in : (e l n : ℕ) (rule : SemanticAction) (values : List Value) → ValuesIn e l n values → ValuesIn e l n (made rule values)
+pub made_in : (e l n : ℕ) (rule : SemanticAction) (values : List Value) → ValuesIn e l n values →
+    ValuesIn e l n (made rule values)
 made_in e l n (Operate o) (AnExpr b ∷ AnExpr a ∷ values) h = ((h.1.0, h.0), h.1.1)
 made_in e l n Negate (AnExpr x ∷ values) h = ((tt, h.0), h.1)
 made_in e l n Not (AnExpr x ∷ values) h = ((h.0, tt), h.1)
@@ -81,7 +89,8 @@ made_in e l n Invoke (ACall f args ∷ values) h = ((h.0.callable, h.0.arguments
 made_in e l n Empty values h = (tt, h)
 made_in e l n Evaluate (AnExpr x ∷ ABody b ∷ values) h = (join_in e l n b _ h.1.0 (h.0, tt), h.1.1)
 made_in e l n Decide (ABody s ∷ AnExpr c ∷ ABody b ∷ values) h = (join_in e l n b _ h.1.1.0 (h.1.0, h.0, tt), h.1.1.1)
-made_in e l n DecideElse (ABody t ∷ ABody s ∷ AnExpr c ∷ ABody b ∷ values) h = (join_in e l n b _ h.1.1.1.0 (h.1.1.0, h.1.0, h.0, tt), h.1.1.1.1)
+made_in e l n DecideElse (ABody t ∷ ABody s ∷ AnExpr c ∷ ABody b ∷ values) h =
+    (join_in e l n b _ h.1.1.1.0 (h.1.1.0, h.1.0, h.0, tt), h.1.1.1.1)
 made_in e l n Repeat (ABody s ∷ AnExpr c ∷ ABody b ∷ values) h = (join_in e l n b _ h.1.1.0 (h.1.0, h.0, tt), h.1.1.1)
 made_in e l n Zero values h = (tt, h)
 made_in e l n GiveBack (AnExpr x ∷ ABody b ∷ values) h = (join_in e l n b _ h.1.0 (h.0, tt), h.1.1)
@@ -96,9 +105,11 @@ AllIn e n (d ∷ ds) = (d.number < n) × InFile e n d.function × AllIn e n ds
 
 all_wider : (e n e' n' : ℕ) → e ≤ e' → n ≤ n' → (ds : List Definition) → AllIn e n ds → AllIn e' n' ds
 all_wider e n e' n' p q [] h = tt
-all_wider e n e' n' p q (d ∷ ds) h = (omega (arith, h.0), function_wider e n e' n' p q d.function h.1, all_wider e n e' n' p q ds h.2)
+all_wider e n e' n' p q (d ∷ ds) h =
+    (omega (arith, h.0), function_wider e n e' n' p q d.function h.1, all_wider e n e' n' p q ds h.2)
 
-pub all_append : (e n : ℕ) (ds : List Definition) (d : Definition) → AllIn e n ds → d.number < n → InFile e n d.function → AllIn e n (ds ++ d ∷ [])
+pub all_append : (e n : ℕ) (ds : List Definition) (d : Definition) → AllIn e n ds → d.number < n →
+    InFile e n d.function → AllIn e n (ds ++ d ∷ [])
 all_append e n [] d h k i = (k, i, tt)
 all_append e n (x ∷ ds) d h k i = (h.0, h.1, all_append e n ds d h.2 k i)
 
@@ -109,7 +120,8 @@ not_among k (n ∷ ns) e h = at_test (λ g i. not_among k ns g i) (n == k) refl 
     differs : (x : ℕ) → (x == x) ≡ false → ⊥
     differs x h = grind (arith, nat_tests)
 
-    at_test : (list_any (λ x. x == k) ns ≡ false → IsAmong k ns → ⊥) → (b : Bool) → (n == k) ≡ b → (b || list_any (λ x. x == k) ns) ≡ false → IsAmong k (n ∷ ns) → ⊥
+    at_test : (list_any (λ x. x == k) ns ≡ false → IsAmong k ns → ⊥) → (b : Bool) → (n == k) ≡ b →
+        (b || list_any (λ x. x == k) ns) ≡ false → IsAmong k (n ∷ ns) → ⊥
     at_test again true is h i = absurd (cc)
     at_test again false is h (inl same) = differs k (subst (λ (x : ℕ). (x == k) ≡ false) (sym same) is)
     at_test again false is h (inr i) = again h i
@@ -120,11 +132,20 @@ chosen_below : (n m k : ℕ) (b : Bool) → nat_lt n m ≡ b → cond b (Some n)
 chosen_below n m k true less e = let same : n ≡ k = cc in subst (λ (x : ℕ). x < m) same (less_of n m less)
 chosen_below n m k false less e = absurd (cc)
 
-pub place_below : (name : List ℕ) (names : List (List ℕ)) (k : ℕ) → number_of_name name names ≡ Some k → k < length names
-place_below name names k e = chosen_below (position_or_len (bytes_eq name) names) (length names) k (nat_lt (position_or_len (bytes_eq name) names) (length names)) refl e
+pub place_below : (name : List ℕ) (names : List (List ℕ)) (k : ℕ) → number_of_name name names ≡ Some k →
+    k < length names
+place_below name names k e =
+    chosen_below (position_or_len (bytes_eq name) names) (length names) k
+    (nat_lt (position_or_len (bytes_eq name) names) (length names)) refl e
 
-pub function_below : (name : List ℕ) (scope : Scope) (k : ℕ) → function_number name scope ≡ Some k → k < length scope.functions
-function_below name scope k e = omega (arith, place_below name (map (λ (f : FunctionNames). f.name) scope.functions) k e, length-map scope.functions (λ (f : FunctionNames). f.name))
+pub function_below : (name : List ℕ) (scope : Scope) (k : ℕ) → function_number name scope ≡ Some k →
+    k < length scope.functions
+function_below name scope k e =
+    omega (
+      arith,
+      place_below name (map (λ (f : FunctionNames). f.name) scope.functions) k e,
+      length-map scope.functions (λ (f : FunctionNames). f.name),
+    )
 
 -- if there is room for a name that is new
 pub room : (count : ℕ) (c : Code) (rest : List LocatedToken) → no_room true count c rest ≡ [] → count < 64
@@ -153,18 +174,30 @@ pub record Known (scope : Scope) (ds : List Definition) : Type 0 where
 -- more names are known, of the same function
 pub record Grows (old new : Scope) (ds : List Definition) : Type 0 where
   pub known : Known new ds
-  pub wider : IsWider (length old.externals) (length old.current.variables) (length old.functions) (length new.externals) (length new.current.variables) (length new.functions)
+  pub wider : IsWider (length old.externals) (length old.current.variables) (length old.functions)
+      (length new.externals) (length new.current.variables) (length new.functions)
   pub begun : new.begun ≡ old.begun
   pub number : new.number ≡ old.number
   pub current : new.current.name ≡ old.current.name
-  pub same : (n : ℕ) (name : List ℕ) → slice_get (names old.functions) n ≡ Some name → slice_get (names new.functions) n ≡ Some name
+  pub same : (n : ℕ) (name : List ℕ) → slice_get (names old.functions) n ≡ Some name →
+      slice_get (names new.functions) n ≡ Some name
 
 same_grows : (scope : Scope) (ds : List Definition) → Known scope ds → Grows scope scope ds
-same_grows scope ds k = record { known = k; wider = record { externals = omega arith; locals = omega arith; functions = omega arith }; begun = refl; number = refl; current = refl; same = λ n name e. e }
+same_grows scope ds k =
+    record {
+      known = k;
+      wider = record { externals = omega arith; locals = omega arith; functions = omega arith };
+      begun = refl;
+      number = refl;
+      current = refl;
+      same = λ n name e. e;
+    }
 
-external_grows : (name : List ℕ) (scope : Scope) (ds : List Definition) → Known scope ds → length scope.externals < 64 → is_external_new name scope ≡ true → Grows scope (with_external name scope) ds
+external_grows : (name : List ℕ) (scope : Scope) (ds : List Definition) → Known scope ds → length scope.externals < 64 →
+    is_external_new name scope ≡ true → Grows scope (with_external name scope) ds
 external_grows name scope ds k less new =
-    let longer : length (scope.externals ++ name ∷ []) ≡ length scope.externals + 1 = length-append scope.externals (name ∷ []) in
+    let longer : length (scope.externals ++ name ∷ []) ≡ length scope.externals + 1 =
+    length-append scope.externals (name ∷ []) in
     record {
       known = record {
         externals = omega arith;
@@ -189,10 +222,16 @@ external_grows name scope ds k less new =
 
 -- one variable more, of which so many are parameters
 local_grows : (name : List ℕ) (parameters : ℕ) (scope : Scope) (ds : List Definition) → Known scope ds →
-    length scope.current.variables < 64 → parameters ≤ length scope.current.variables + 1 → (IsAmong name scope.current.variables → ⊥) →
-    Grows scope (record scope { current = record scope.current { parameters = parameters; variables = scope.current.variables ++ name ∷ [] } }) ds
+    length scope.current.variables < 64 → parameters ≤ length scope.current.variables + 1 →
+    (IsAmong name scope.current.variables → ⊥) →
+    Grows scope
+    (record scope {
+      current =
+          record scope.current { parameters = parameters; variables = scope.current.variables ++ name ∷ [] };
+    }) ds
 local_grows name parameters scope ds k less few free =
-    let longer : length (scope.current.variables ++ name ∷ []) ≡ length scope.current.variables + 1 = length-append scope.current.variables (name ∷ []) in
+    let longer : length (scope.current.variables ++ name ∷ []) ≡ length scope.current.variables + 1 =
+    length-append scope.current.variables (name ∷ []) in
     record {
       known = record {
         externals = k.externals;
@@ -215,27 +254,37 @@ local_grows name parameters scope ds k less few free =
       same = λ n name e. e;
     }
 
-variable_grows : (name : List ℕ) (scope : Scope) (ds : List Definition) → Known scope ds → length scope.current.variables < 64
+variable_grows : (name : List ℕ) (scope : Scope) (ds : List Definition) → Known scope ds →
+    length scope.current.variables < 64
     → (IsAmong name scope.current.variables → ⊥) → Grows scope (with_variable name scope) ds
-variable_grows name scope ds k less = local_grows name scope.current.parameters scope ds k less (omega (arith, k.parameters))
+variable_grows name scope ds k less =
+    local_grows name scope.current.parameters scope ds k less (omega (arith, k.parameters))
 
-parameter_grows : (name : List ℕ) (scope : Scope) (ds : List Definition) → Known scope ds → length scope.current.variables < 64
+parameter_grows : (name : List ℕ) (scope : Scope) (ds : List Definition) → Known scope ds →
+    length scope.current.variables < 64
     → (IsAmong name scope.current.variables → ⊥) → Grows scope (with_parameter name scope) ds
-parameter_grows name scope ds k less = local_grows name (scope.current.parameters + 1) scope ds k less (omega (arith, k.parameters))
+parameter_grows name scope ds k less =
+    local_grows name (scope.current.parameters + 1) scope ds k less (omega (arith, k.parameters))
 
-function_grows : (name : List ℕ) (line : ℕ) (scope : Scope) (ds : List Definition) → Known scope ds → (is_function_new name scope ≡ true → length scope.functions < 64) →
+function_grows : (name : List ℕ) (line : ℕ) (scope : Scope) (ds : List Definition) → Known scope ds →
+    (is_function_new name scope ≡ true → length scope.functions < 64) →
     Grows scope (with_function name line scope) ds
 function_grows name line scope ds k less = at_test (is_function_new name scope) refl
   where
     added : Scope
     added = record scope { functions = scope.functions ++ only_named name ∷ []; lines = scope.lines ++ line ∷ [] }
 
-    at_test : (b : Bool) → is_function_new name scope ≡ b → Grows scope (if b then record scope { functions = scope.functions ++ only_named name ∷ []; lines = scope.lines ++ line ∷ [] } else scope) ds
+    at_test : (b : Bool) → is_function_new name scope ≡ b →
+        Grows scope
+        (if b then record scope
+        { functions = scope.functions ++ only_named name ∷ []; lines = scope.lines ++ line ∷ [] } else scope) ds
     at_test false is = same_grows scope ds k
     at_test true is =
         let small : length scope.functions < 64 = less is in
-        let longer : length (scope.functions ++ only_named name ∷ []) ≡ length scope.functions + 1 = length-append scope.functions (only_named name ∷ []) in
-        let lines : length (scope.lines ++ line ∷ []) ≡ length scope.lines + 1 = length-append scope.lines (line ∷ []) in
+        let longer : length (scope.functions ++ only_named name ∷ []) ≡ length scope.functions + 1 =
+        length-append scope.functions (only_named name ∷ []) in
+        let lines : length (scope.lines ++ line ∷ []) ≡ length scope.lines + 1 =
+        length-append scope.lines (line ∷ []) in
         record {
           known = record {
             externals = k.externals;
@@ -248,14 +297,17 @@ function_grows name line scope ds k less = at_test (is_function_new name scope) 
             below = λ j i. let low : j < length scope.functions = k.below j i in omega arith;
             distinct_externals = k.distinct_externals;
             distinct_variables = k.distinct_variables;
-            distinct_functions = rw (names_more scope.functions name) (distinct_append (names scope.functions) name k.distinct_functions (function_free name scope is));
+            distinct_functions = rw (names_more scope.functions name)
+                (distinct_append (names scope.functions) name k.distinct_functions (function_free name scope is));
             named = rw (names_more scope.functions name) (names_wider (names scope.functions) (name ∷ []) ds k.named);
           };
           wider = record { externals = omega arith; locals = omega arith; functions = omega arith };
           begun = refl;
           number = refl;
           current = refl;
-          same = λ n other e. rw (names_more scope.functions name) (get_append (names scope.functions) (name ∷ []) n other e);
+          same =
+              λ n other e. rw (names_more scope.functions name)
+              (get_append (names scope.functions) (name ∷ []) n other e);
         }
 
 -- Names by role.
@@ -264,39 +316,58 @@ abbrev pub Clean : List Fault → Type 0
 Clean faults = faults ≡ []
 
 -- if there is no room for a new name there is a fault
-room_if : (new : Bool) (count : ℕ) (c : Code) (rest : List LocatedToken) → Clean (no_room new count c rest) → new ≡ true → count < 64
+room_if : (new : Bool) (count : ℕ) (c : Code) (rest : List LocatedToken) → Clean (no_room new count c rest) →
+    new ≡ true → count < 64
 room_if true count c rest clean is = room count c rest clean
 room_if false count c rest clean is = absurd (cc)
 
 -- the number for a function is one of those known after its mention
-pub number_in : (name : List ℕ) (line : ℕ) (scope : Scope) → is_intrinsic name ≡ false → number_for name scope < length (with_function name line scope).functions
+pub number_in : (name : List ℕ) (line : ℕ) (scope : Scope) → is_intrinsic name ≡ false →
+    number_for name scope < length (with_function name line scope).functions
 number_in name line scope own = at_place (function_number name scope) refl
   where
-    at_place : (p : Option ℕ) → function_number name scope ≡ p → number_for name scope < length (with_function name line scope).functions
+    at_place : (p : Option ℕ) → function_number name scope ≡ p →
+        number_for name scope < length (with_function name line scope).functions
     at_place (Some k) e = rw (own, e) (function_below name scope k e)
-    at_place None e = rw (own, e) (let longer : length (scope.functions ++ only_named name ∷ []) ≡ length scope.functions + 1 = length-append scope.functions (only_named name ∷ []) in omega arith)
+    at_place None e =
+        rw (own, e)
+        (let longer : length (scope.functions ++ only_named name ∷ []) ≡ length scope.functions + 1 =
+        length-append scope.functions (only_named name ∷ []) in
+        omega arith)
 
 callable_or : (i : Option Intrinsic) (k n : ℕ) → (i ≡ None → k < n) → IsCallable n (callee_or i k)
 callable_or (Some i) k n h = tt
 callable_or None k n h = h refl
 
-pub callee_in : (name : List ℕ) (line : ℕ) (scope : Scope) → IsCallable (length (with_function name line scope).functions) (callee_of name scope)
-callee_in name line scope = callable_or (intrinsic_named name) (number_for name scope) _ (λ e. number_in name line scope (rw e refl))
+pub callee_in : (name : List ℕ) (line : ℕ) (scope : Scope) →
+    IsCallable (length (with_function name line scope).functions) (callee_of name scope)
+callee_in name line scope =
+    callable_or (intrinsic_named name) (number_for name scope) _ (λ e. number_in name line scope (rw e refl))
 
 -- a variable mentioned is one of those known after its mention
 abbrev pub behind_mention : List ℕ → Scope → Scope
 behind_mention name scope = if is_variable_new name scope then with_variable name scope else scope
 
-pub variable_in : (name : List ℕ) (scope : Scope) → IsVariable (length (behind_mention name scope).externals) (length (behind_mention name scope).current.variables) (variable_of name scope)
-variable_in name scope = at_places (number_of_name name scope.current.variables) (number_of_name name scope.externals) refl refl
+pub variable_in : (name : List ℕ) (scope : Scope) →
+    IsVariable (length (behind_mention name scope).externals) (length (behind_mention name scope).current.variables)
+    (variable_of name scope)
+variable_in name scope =
+    at_places (number_of_name name scope.current.variables) (number_of_name name scope.externals) refl refl
   where
-    at_places : (p q : Option ℕ) → number_of_name name scope.current.variables ≡ p → number_of_name name scope.externals ≡ q →
-        IsVariable (length (behind_mention name scope).externals) (length (behind_mention name scope).current.variables) (variable_of name scope)
+    at_places : (p q : Option ℕ) → number_of_name name scope.current.variables ≡ p →
+        number_of_name name scope.externals ≡ q →
+        IsVariable (length (behind_mention name scope).externals) (length (behind_mention name scope).current.variables)
+        (variable_of name scope)
     at_places (Some k) q e f = rw e (place_below name scope.current.variables k e)
     at_places None (Some j) e f = rw (e, f) (place_below name scope.externals j f)
-    at_places None None e f = rw (e, f) (let longer : length (scope.current.variables ++ name ∷ []) ≡ length scope.current.variables + 1 = length-append scope.current.variables (name ∷ []) in omega arith)
+    at_places None None e f =
+        rw (e, f)
+        (let longer : length (scope.current.variables ++ name ∷ []) ≡ length scope.current.variables + 1 =
+        length-append scope.current.variables (name ∷ []) in
+        omega arith)
 
-grows_if : (b : Bool) (old more same : Scope) (ds : List Definition) → (b ≡ true → Grows old more ds) → Grows old same ds → Grows old (if b then more else same) ds
+grows_if : (b : Bool) (old more same : Scope) (ds : List Definition) → (b ≡ true → Grows old more ds) →
+    Grows old same ds → Grows old (if b then more else same) ds
 grows_if true old more same ds p q = p refl
 grows_if false old more same ds p q = q
 
@@ -305,26 +376,41 @@ abbrev pub Begins : Role → Type 0
 Begins Defined = ⊥
 Begins role = Unit {0}
 
-pub role_grows : (role : Role) (name : List ℕ) (line : ℕ) (scope : Scope) (ds : List Definition) (rest : List LocatedToken) → Begins role → Known scope ds →
+pub role_grows : (role : Role) (name : List ℕ) (line : ℕ) (scope : Scope) (ds : List Definition)
+    (rest : List LocatedToken) → Begins role → Known scope ds →
     Clean (role_faults role name scope rest) → Grows scope (behind_name role name line scope) ds
 role_grows Defined name line scope ds rest other k clean = absurd other
 role_grows External name line scope ds rest other k clean =
-    grows_if (is_external_new name scope) scope (with_external name scope) scope ds (λ is. external_grows name scope ds k (room_if (is_external_new name scope) (length scope.externals) code.TooManyVariables rest clean is) is) (same_grows scope ds k)
+    grows_if (is_external_new name scope) scope (with_external name scope) scope ds
+    (λ is. external_grows name scope ds k
+    (room_if (is_external_new name scope) (length scope.externals) code.TooManyVariables rest clean is) is)
+    (same_grows scope ds k)
 role_grows Parameter name line scope ds rest other k clean =
     grows_if (is_local_new name scope) scope (with_parameter name scope) scope ds
-    (λ is. parameter_grows name scope ds k (room (length scope.current.variables) code.TooManyVariables rest (fits (is_local_new name scope) is clean)) (local_free name scope is)) (same_grows scope ds k)
+    (λ is. parameter_grows name scope ds k
+    (room (length scope.current.variables) code.TooManyVariables rest (fits (is_local_new name scope) is clean))
+    (local_free name scope is)) (same_grows scope ds k)
   where
-    fits : (b : Bool) → b ≡ true → (if b then no_room true (length scope.current.variables) code.TooManyVariables rest else fault rest code.BadParameterDeclaration ∷ []) ≡ [] →
+    fits : (b : Bool) → b ≡ true →
+        (if b then no_room true (length scope.current.variables) code.TooManyVariables rest else fault rest
+        code.BadParameterDeclaration ∷ []) ≡ [] →
         no_room true (length scope.current.variables) code.TooManyVariables rest ≡ []
     fits true is h = h
     fits false is h = absurd (cc)
 role_grows Typed name line scope ds rest other k clean = same_grows scope ds k
 role_grows Local name line scope ds rest other k clean =
-    grows_if (is_local_new name scope) scope (with_variable name scope) scope ds (λ is. variable_grows name scope ds k (room_if (is_local_new name scope) (length scope.current.variables) code.TooManyVariables rest clean is) (local_free name scope is)) (same_grows scope ds k)
+    grows_if (is_local_new name scope) scope (with_variable name scope) scope ds
+    (λ is. variable_grows name scope ds k
+    (room_if (is_local_new name scope) (length scope.current.variables) code.TooManyVariables rest clean is)
+    (local_free name scope is)) (same_grows scope ds k)
 role_grows Called name line scope ds rest other k clean =
-    function_grows name line scope ds k (room_if (is_function_new name scope) (length scope.functions) code.TooManyFunctions rest clean)
+    function_grows name line scope ds k
+    (room_if (is_function_new name scope) (length scope.functions) code.TooManyFunctions rest clean)
 role_grows Mentioned name line scope ds rest other k clean =
-    grows_if (is_variable_new name scope) scope (with_variable name scope) scope ds (λ is. variable_grows name scope ds k (room_if (is_variable_new name scope) (length scope.current.variables) code.TooManyVariables rest clean is) (variable_free name scope is)) (same_grows scope ds k)
+    grows_if (is_variable_new name scope) scope (with_variable name scope) scope ds
+    (λ is. variable_grows name scope ds k
+    (room_if (is_variable_new name scope) (length scope.current.variables) code.TooManyVariables rest clean is)
+    (variable_free name scope is)) (same_grows scope ds k)
 
 -- what a definition that begins makes known
 pub record BeginsWell (name : List ℕ) (line : ℕ) (scope : Scope) (ds : List Definition) : Type 0 where
@@ -333,33 +419,50 @@ pub record BeginsWell (name : List ℕ) (line : ℕ) (scope : Scope) (ds : List 
   pub named : slice_get (names (begin_definition name line scope).functions) (number_for name scope) ≡ Some name
 
 -- the name for a number stands at it after its mention
-named_at : (name : List ℕ) (line : ℕ) (scope : Scope) → is_intrinsic name ≡ false → slice_get (names (with_function name line scope).functions) (number_for name scope) ≡ Some name
+named_at : (name : List ℕ) (line : ℕ) (scope : Scope) → is_intrinsic name ≡ false →
+    slice_get (names (with_function name line scope).functions) (number_for name scope) ≡ Some name
 named_at name line scope own = at_place (function_number name scope) refl
   where
     last_there : (all : List (List ℕ)) → slice_get (all ++ name ∷ []) (length all) ≡ Some name
     last_there [] = refl
     last_there (x ∷ all) = last_there all
 
-    at_place : (p : Option ℕ) → function_number name scope ≡ p → slice_get (names (with_function name line scope).functions) (number_for name scope) ≡ Some name
+    at_place : (p : Option ℕ) → function_number name scope ≡ p →
+        slice_get (names (with_function name line scope).functions) (number_for name scope) ≡ Some name
     at_place (Some k) e = rw (own, e) (named_there name (names scope.functions) k e)
-    at_place None e = rw (own, e, names_more scope.functions name, sym (length-map scope.functions (λ (f : FunctionNames). f.name))) (last_there (names scope.functions))
+    at_place None e =
+        rw (own, e, names_more scope.functions name, sym (length-map scope.functions (λ (f : FunctionNames). f.name)))
+        (last_there (names scope.functions))
 
-pub definition_begins : (name : List ℕ) (line : ℕ) (scope : Scope) (ds : List Definition) (rest : List LocatedToken) → Known scope ds → Clean (role_faults Defined name scope rest) → BeginsWell name line scope ds
+pub definition_begins : (name : List ℕ) (line : ℕ) (scope : Scope) (ds : List Definition) (rest : List LocatedToken) →
+    Known scope ds → Clean (role_faults Defined name scope rest) → BeginsWell name line scope ds
 definition_begins name line scope ds rest k clean = at_tests (is_intrinsic name) (has_begun name scope) refl refl clean
   where
-    all_below : (j : ℕ) → IsAmong j scope.begun ⊎ (j ≡ number_for name scope) → Grows scope (with_function name line scope) ds → number_for name scope < length (with_function name line scope).functions → j < length (with_function name line scope).functions
-    all_below j (inl i) g within = let low : j < length scope.functions = k.below j i in omega (arith, g.wider.functions)
-    all_below j (inr e) g within = subst (λ (x : ℕ). x < length (with_function name line scope).functions) (sym e) within
+    all_below : (j : ℕ) → IsAmong j scope.begun ⊎ (j ≡ number_for name scope) →
+        Grows scope (with_function name line scope) ds →
+        number_for name scope < length (with_function name line scope).functions →
+        j < length (with_function name line scope).functions
+    all_below j (inl i) g within =
+        let low : j < length scope.functions = k.below j i in omega (arith, g.wider.functions)
+    all_below j (inr e) g within =
+        subst (λ (x : ℕ). x < length (with_function name line scope).functions) (sym e) within
 
     at_tests : (own begun : Bool) → is_intrinsic name ≡ own → has_begun name scope ≡ begun →
-        (if own then fault rest code.IntrinsicRedefined ∷ [] else (if begun then fault rest code.FunctionDefinedTwice ∷ [] else no_room (is_function_new name scope) (length scope.functions) code.TooManyFunctions rest)) ≡ [] →
+        (if own then fault rest code.IntrinsicRedefined ∷
+        [] else
+        (if begun then fault rest code.FunctionDefinedTwice ∷
+        [] else no_room (is_function_new name scope) (length scope.functions) code.TooManyFunctions rest)) ≡
+        [] →
         BeginsWell name line scope ds
     at_tests true begun is was h = absurd (cc)
     at_tests false true is was h = absurd (cc)
     at_tests false false is was h =
-        let g : Grows scope (with_function name line scope) ds = function_grows name line scope ds k (room_if (is_function_new name scope) (length scope.functions) code.TooManyFunctions rest h) in
+        let g : Grows scope (with_function name line scope) ds =
+        function_grows name line scope ds k
+        (room_if (is_function_new name scope) (length scope.functions) code.TooManyFunctions rest h) in
         let at : begun_with name scope ≡ scope.begun ++ number_for name scope ∷ [] = rw is refl in
-        let within : number_for name scope < length (with_function name line scope).functions = number_in name line scope is in
+        let within : number_for name scope < length (with_function name line scope).functions =
+        number_in name line scope is in
         record {
           known = record {
             externals = g.known.externals;
@@ -368,8 +471,13 @@ definition_begins name line scope ds rest k clean = at_tests (is_intrinsic name)
             variables = omega arith;
             parameters = omega arith;
             definitions = g.known.definitions;
-            begun = subst (λ (ns : List ℕ). AreDistinct ns) (sym at) (distinct_append scope.begun (number_for name scope) k.begun (not_among (number_for name scope) scope.begun was));
-            below = λ j i. all_below j (among_append j (number_for name scope) scope.begun (subst (λ (ns : List ℕ). IsAmong j ns) at i)) g within;
+            begun = subst (λ (ns : List ℕ). AreDistinct ns) (sym at)
+                (distinct_append scope.begun (number_for name scope) k.begun
+                (not_among (number_for name scope) scope.begun was));
+            below =
+                λ j i. all_below j
+                (among_append j (number_for name scope) scope.begun (subst (λ (ns : List ℕ). IsAmong j ns) at i)) g
+                within;
             distinct_externals = g.known.distinct_externals;
             distinct_variables = tt;
             distinct_functions = g.known.distinct_functions;

@@ -12,11 +12,18 @@ use Rattle.grammar.proofs.FollowingLaws.{follow_append, follow_one}
 pub may_follow : (before : Meaning) (opened next : Opened) (action : Action) → StandsOpen before opened →
     follow action opened ≡ Some next → open_count next ≤ 200 → MayFollow before action
 may_follow before opened next action s e small =
-    let is : follow_all (s.acts ++ action ∷ []) [] ≡ Some next = follow_append s.acts (action ∷ []) [] opened s.opens ∙ follow_one action opened next e small in
-    record { profile = s.profile; acts = s.acts; stood = s.stood; begins = follows_begins (s.acts ++ action ∷ []) (rw is refl) }
+    let is : follow_all (s.acts ++ action ∷ []) [] ≡ Some next =
+    follow_append s.acts (action ∷ []) [] opened s.opens ∙ follow_one action opened next e small in
+    record {
+      profile = s.profile;
+      acts = s.acts;
+      stood = s.stood;
+      begins = follows_begins (s.acts ++ action ∷ []) (rw is refl);
+    }
 
 -- after appended actions, what they leave open is open
-pub stands_then : (before behind : Meaning) (acts : List Action) (opened next : Opened) → AppendsAll before behind acts → StandsOpen before opened →
+pub stands_then : (before behind : Meaning) (acts : List Action) (opened next : Opened) →
+    AppendsAll before behind acts → StandsOpen before opened →
     follow_all acts opened ≡ Some next → StandsOpen behind next
 stands_then before behind acts opened next added s leads = record {
   profile = s.profile;
@@ -28,20 +35,40 @@ stands_then before behind acts opened next added s leads = record {
 -- the first of some actions may follow
 pub may_front : (before : Meaning) (xs ys : List Action) → MayFollowAll before (xs ++ ys) → MayFollowAll before xs
 may_front before xs ys may =
-    record { profile = may.profile; acts = may.acts; stood = may.stood; begins = begins_with (may.acts ++ xs) ys (subst IsBeginning (sym (append_assoc may.acts xs ys)) may.begins) }
+    record {
+      profile = may.profile;
+      acts = may.acts;
+      stood = may.stood;
+      begins = begins_with (may.acts ++ xs) ys (subst IsBeginning (sym (append_assoc may.acts xs ys)) may.begins);
+    }
 
 pub may_first : (before : Meaning) (x : Action) (xs : List Action) → MayFollowAll before (x ∷ xs) → MayFollow before x
 may_first before x xs may =
-    record { profile = may.profile; acts = may.acts; stood = may.stood; begins = begins_with (may.acts ++ x ∷ []) xs (subst IsBeginning (sym (append_assoc may.acts (x ∷ []) xs)) may.begins) }
+    record {
+      profile = may.profile;
+      acts = may.acts;
+      stood = may.stood;
+      begins =
+          begins_with (may.acts ++ x ∷ []) xs
+          (subst IsBeginning (sym (append_assoc may.acts (x ∷ []) xs)) may.begins);
+    }
 
 -- if the first ones were reported, the others may follow
-pub may_then : (before behind : Meaning) (xs ys : List Action) → AppendsAll before behind xs → MayFollowAll before (xs ++ ys) → MayFollowAll behind ys
+pub may_then : (before behind : Meaning) (xs ys : List Action) → AppendsAll before behind xs →
+    MayFollowAll before (xs ++ ys) → MayFollowAll behind ys
 may_then before behind xs ys added may =
-    record { profile = may.profile; acts = may.acts ++ xs; stood = added may.profile may.acts may.stood; begins = subst IsBeginning (sym (append_assoc may.acts xs ys)) may.begins }
+    record {
+      profile = may.profile;
+      acts = may.acts ++ xs;
+      stood = added may.profile may.acts may.stood;
+      begins = subst IsBeginning (sym (append_assoc may.acts xs ys)) may.begins;
+    }
 
 -- actions reported one after another
-pub appends_both : (before between behind : Meaning) (xs ys : List Action) → AppendsAll before between xs → AppendsAll between behind ys → AppendsAll before behind (xs ++ ys)
-appends_both before between behind xs ys first second p acts s = subst (behind p) (append_assoc acts xs ys) (second p (acts ++ xs) (first p acts s))
+pub appends_both : (before between behind : Meaning) (xs ys : List Action) → AppendsAll before between xs →
+    AppendsAll between behind ys → AppendsAll before behind (xs ++ ys)
+appends_both before between behind xs ys first second p acts s =
+    subst (behind p) (append_assoc acts xs ys) (second p (acts ++ xs) (first p acts s))
 
 pub appends_none : (before : Meaning) → AppendsAll before before []
 appends_none before p acts s = subst (before p) (sym (append-nil acts)) s

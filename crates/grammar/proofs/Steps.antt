@@ -15,50 +15,68 @@ use Rattle.grammar.specs.Tree.{Constant}
 pub one : (profile : Profile) (s t : State) → faults_at profile s ≡ [] → stepped s ≡ t → Passes profile s t
 one profile s t clean leads = record { steps = 1; leads = leads; clean = ap (λ faults. faults ++ []) clean }
 
-pub part : (profile : Profile) (symbol : Symbol) (items stack : List Item) (rest : List LocatedToken) (values : List Value) (scope : Scope) (functions : List Definition) →
-    is_fault (next_of rest) ≡ false → choice symbol (next_of rest) (after_of rest) ≡ Some items → level_faults symbol stack rest ≡ [] →
-    Passes profile (state (Part symbol ∷ stack) rest values scope functions) (state (items ++ stack) rest values scope functions)
+pub part : (profile : Profile) (symbol : Symbol) (items stack : List Item) (rest : List LocatedToken)
+    (values : List Value) (scope : Scope) (functions : List Definition) →
+    is_fault (next_of rest) ≡ false → choice symbol (next_of rest) (after_of rest) ≡ Some items →
+    level_faults symbol stack rest ≡ [] →
+    Passes profile (state (Part symbol ∷ stack) rest values scope functions)
+    (state (items ++ stack) rest values scope functions)
 part profile symbol items stack rest values scope functions sound chosen clean =
     one profile _ _ (rw (sound, clean, chosen) refl) (rw (sound, chosen) refl)
 
-pub punctuator : (profile : Profile) (m : Punctuator) (stack : List Item) (rest : List LocatedToken) (values : List Value) (scope : Scope) (functions : List Definition) →
+pub punctuator : (profile : Profile) (m : Punctuator) (stack : List Item) (rest : List LocatedToken)
+    (values : List Value) (scope : Scope) (functions : List Definition) →
     is_fault (next_of rest) ≡ false → is_punctuator m (next_of rest) ≡ true →
-    Passes profile (state (Exactly m ∷ stack) rest values scope functions) (state stack (drop 1 rest) values scope functions)
+    Passes profile (state (Exactly m ∷ stack) rest values scope functions)
+    (state stack (drop 1 rest) values scope functions)
 punctuator profile m stack rest values scope functions sound fits =
     one profile _ _ (rw (sound, fits) refl) (rw (sound, fits) refl)
 
-pub word : (profile : Profile) (w : Word) (stack : List Item) (rest : List LocatedToken) (values : List Value) (scope : Scope) (functions : List Definition) →
+pub word : (profile : Profile) (w : Word) (stack : List Item) (rest : List LocatedToken) (values : List Value)
+    (scope : Scope) (functions : List Definition) →
     is_fault (next_of rest) ≡ false → is_word w (next_of rest) ≡ true →
-    Passes profile (state (AWord w ∷ stack) rest values scope functions) (state stack (drop 1 rest) values scope functions)
+    Passes profile (state (AWord w ∷ stack) rest values scope functions)
+    (state stack (drop 1 rest) values scope functions)
 word profile w stack rest values scope functions sound fits =
     one profile _ _ (rw (sound, fits) refl) (rw (sound, fits) refl)
 
 -- a name, whose role has no fault there
-pub name : (profile : Profile) (role : Role) (bytes : List ℕ) (stack : List Item) (rest : List LocatedToken) (values : List Value) (scope : Scope) (functions : List Definition) →
-    is_fault (next_of rest) ≡ false → name_of_token (next_of rest) ≡ Some bytes → role_faults role bytes scope rest ≡ [] →
-    Passes profile (state (AName role ∷ stack) rest values scope functions) (state stack (drop 1 rest) (of_name role bytes scope ++ values) (behind_name role bytes (line_of rest) scope) functions)
+pub name : (profile : Profile) (role : Role) (bytes : List ℕ) (stack : List Item) (rest : List LocatedToken)
+    (values : List Value) (scope : Scope) (functions : List Definition) →
+    is_fault (next_of rest) ≡ false → name_of_token (next_of rest) ≡ Some bytes →
+    role_faults role bytes scope rest ≡ [] →
+    Passes profile (state (AName role ∷ stack) rest values scope functions)
+    (state stack (drop 1 rest) (of_name role bytes scope ++ values) (behind_name role bytes (line_of rest) scope)
+    functions)
 name profile role bytes stack rest values scope functions sound fits clean =
     one profile _ _ (rw (sound, fits, clean) refl) (rw (sound, fits) refl)
 
-pub constant : (profile : Profile) (value : ℕ) (stack : List Item) (rest : List LocatedToken) (values : List Value) (scope : Scope) (functions : List Definition) →
+pub constant : (profile : Profile) (value : ℕ) (stack : List Item) (rest : List LocatedToken) (values : List Value)
+    (scope : Scope) (functions : List Definition) →
     is_fault (next_of rest) ≡ false → constant_value (next_of rest) ≡ Some value →
-    Passes profile (state (AConstant ∷ stack) rest values scope functions) (state stack (drop 1 rest) (AnExpr (Constant (pos value)) ∷ values) scope functions)
+    Passes profile (state (AConstant ∷ stack) rest values scope functions)
+    (state stack (drop 1 rest) (AnExpr (Constant (pos value)) ∷ values) scope functions)
 constant profile value stack rest values scope functions sound fits =
     one profile _ _ (rw (sound, fits) refl) (rw (sound, fits) refl)
 
-pub last : (profile : Profile) (stack : List Item) (rest : List LocatedToken) (values : List Value) (scope : Scope) (functions : List Definition) →
+pub last : (profile : Profile) (stack : List Item) (rest : List LocatedToken) (values : List Value) (scope : Scope)
+    (functions : List Definition) →
     is_fault (next_of rest) ≡ false → is_end (next_of rest) ≡ true →
-    Passes profile (state (AnEnd ∷ stack) rest values scope functions) (state stack (drop 1 rest) values scope functions)
+    Passes profile (state (AnEnd ∷ stack) rest values scope functions)
+    (state stack (drop 1 rest) values scope functions)
 last profile stack rest values scope functions sound fits =
     one profile _ _ (rw (sound, fits) refl) (rw (sound, fits) refl)
 
-pub close : (profile : Profile) (stack : List Item) (rest : List LocatedToken) (values : List Value) (scope : Scope) (functions : List Definition) →
+pub close : (profile : Profile) (stack : List Item) (rest : List LocatedToken) (values : List Value) (scope : Scope)
+    (functions : List Definition) →
     is_fault (next_of rest) ≡ false →
     Passes profile (state (Close ∷ stack) rest values scope functions) (state stack rest values scope functions)
 close profile stack rest values scope functions sound = one profile _ _ (rw sound refl) (rw sound refl)
 
-pub make : (profile : Profile) (rule : SemanticAction) (stack : List Item) (rest : List LocatedToken) (values : List Value) (scope : Scope) (functions : List Definition) →
+pub make : (profile : Profile) (rule : SemanticAction) (stack : List Item) (rest : List LocatedToken)
+    (values : List Value) (scope : Scope) (functions : List Definition) →
     is_fault (next_of rest) ≡ false → item_faults profile (Make rule ∷ stack) rest values scope functions ≡ [] →
-    Passes profile (state (Make rule ∷ stack) rest values scope functions) (state stack rest (made rule values) (behind_rule rule scope) (functions ++ defined rule values scope))
+    Passes profile (state (Make rule ∷ stack) rest values scope functions)
+    (state stack rest (made rule values) (behind_rule rule scope) (functions ++ defined rule values scope))
 make profile rule stack rest values scope functions sound clean =
     one profile _ _ (rw (sound, clean) refl) (rw sound refl)

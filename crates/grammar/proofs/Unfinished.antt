@@ -1,11 +1,11 @@
 -- Functions that are not finished: what a list of actions makes that may still go on.
 use Rattle.std.proofs.Common.{◌≡◌, ℕ, ◌+◌, ◌<◌, ◌≤◌, List, [], ◌∷◌, ◌++◌, refl, Bool, true, false, arith, append_assoc}
 use Rattle.std.specs.Prelude.{Some}
-use Rattle.grammar.specs.declared.operators.Op.{Op}
+use Rattle.arith.specs.declared.operators.Op.{Op}
 use Rattle.grammar.specs.Actions.{Action, LogicMiddle, BeginCall, IfTest, ElsePart, BeginWhile, WhileTest, BeginFunction, expr_actions, body_actions}
 use Rattle.grammar.specs.Following.{InFunction, AValue, BeforeRight, InCall, InBranch, InElse, BeforeTest, InTurn, Open, Opened, open_count, is_place, is_number, statement_done, within}
 use Rattle.grammar.specs.Nesting.{nesting, body_nesting}
-use Rattle.grammar.specs.Operators.{is_logic}
+use Rattle.arith.specs.Op.{is_logic}
 use Rattle.grammar.specs.Origins.{origin_of, ends_in_return}
 use Rattle.grammar.specs.Resolved.{InExpr, InBody}
 use Rattle.grammar.specs.Tree.{Expr, Body, Done, ExpressionStatement, IfStatement, IfElseStatement, While, Return, join}
@@ -42,7 +42,8 @@ open_hole (Arguments h) = InCall ∷ open_hole h
 abbrev pub place_actions : Place → List Action
 place_actions (InFun n k b) = BeginFunction n k ∷ body_actions b
 place_actions (InFirst c b outer) = place_actions outer ++ (expr_actions c ++ IfTest ∷ body_actions b)
-place_actions (InSecond c s b outer) = place_actions outer ++ (expr_actions c ++ IfTest ∷ (body_actions s ++ ElsePart ∷ body_actions b))
+place_actions (InSecond c s b outer) =
+    place_actions outer ++ (expr_actions c ++ IfTest ∷ (body_actions s ++ ElsePart ∷ body_actions b))
 place_actions (InLoop c b outer) = place_actions outer ++ BeginWhile ∷ (expr_actions c ++ WhileTest ∷ body_actions b)
 
 abbrev pub hole_actions : Hole → List Action
@@ -71,7 +72,9 @@ pub record BodyFits (n : ℕ) (b : Body) : Type 0 where
 abbrev pub PlaceFits : Place → Type 0
 PlaceFits (InFun n k b) = (n < 64) × (k ≤ 64) × BodyFits 0 b
 PlaceFits (InFirst c b outer) = PlaceFits outer × ExprFits (place_count outer) c × BodyFits (1 + place_count outer) b
-PlaceFits (InSecond c s b outer) = PlaceFits outer × ExprFits (place_count outer) c × BodyFits (1 + place_count outer) s × BodyFits (1 + place_count outer) b
+PlaceFits (InSecond c s b outer) =
+    PlaceFits outer × ExprFits (place_count outer) c × BodyFits (1 + place_count outer) s ×
+    BodyFits (1 + place_count outer) b
 PlaceFits (InLoop c b outer) = PlaceFits outer × ExprFits (1 + place_count outer) c × BodyFits (1 + place_count outer) b
 
 abbrev pub HoleFits : Hole → Type 0
@@ -91,7 +94,8 @@ body_actions-join (IfElseStatement c t u rest) s = rw (body_actions-join rest s)
 body_actions-join (While c t rest) s = rw (body_actions-join rest s) (simp append_assoc refl)
 body_actions-join (Return e rest) s = rw (body_actions-join rest s) (simp append_assoc refl)
 
-ends_in_return-join : (before : Bool) (b s : Body) → ends_in_return before (join b s) ≡ ends_in_return (ends_in_return before b) s
+ends_in_return-join : (before : Bool) (b s : Body) →
+    ends_in_return before (join b s) ≡ ends_in_return (ends_in_return before b) s
 ends_in_return-join before Done s = refl
 ends_in_return-join before (ExpressionStatement e rest) s = ends_in_return-join false rest s
 ends_in_return-join before (IfStatement c t rest) s = ends_in_return-join false rest s
@@ -99,11 +103,15 @@ ends_in_return-join before (IfElseStatement c t u rest) s = ends_in_return-join 
 ends_in_return-join before (While c t rest) s = ends_in_return-join false rest s
 ends_in_return-join before (Return e rest) s = ends_in_return-join (is_number 0 (origin_of e)) rest s
 
-nesting-join : (n : ℕ) (b s : Body) → n + body_nesting b ≤ 200 → n + body_nesting s ≤ 200 → n + body_nesting (join b s) ≤ 200
+nesting-join : (n : ℕ) (b s : Body) → n + body_nesting b ≤ 200 → n + body_nesting s ≤ 200 →
+    n + body_nesting (join b s) ≤ 200
 nesting-join n Done s h k = k
-nesting-join n (ExpressionStatement e rest) s h k = let more = nesting-join n rest s (omega (arith, h)) k in omega (arith, h, more)
-nesting-join n (IfStatement c t rest) s h k = let more = nesting-join n rest s (omega (arith, h)) k in omega (arith, h, more)
-nesting-join n (IfElseStatement c t u rest) s h k = let more = nesting-join n rest s (omega (arith, h)) k in omega (arith, h, more)
+nesting-join n (ExpressionStatement e rest) s h k =
+    let more = nesting-join n rest s (omega (arith, h)) k in omega (arith, h, more)
+nesting-join n (IfStatement c t rest) s h k =
+    let more = nesting-join n rest s (omega (arith, h)) k in omega (arith, h, more)
+nesting-join n (IfElseStatement c t u rest) s h k =
+    let more = nesting-join n rest s (omega (arith, h)) k in omega (arith, h, more)
 nesting-join n (While c t rest) s h k = let more = nesting-join n rest s (omega (arith, h)) k in omega (arith, h, more)
 nesting-join n (Return e rest) s h k = let more = nesting-join n rest s (omega (arith, h)) k in omega (arith, h, more)
 
@@ -130,7 +138,8 @@ add_fits s (InFirst c b outer) f g = (f.0, f.1, fits-join (1 + place_count outer
 add_fits s (InSecond c t b outer) f g = (f.0, f.1, f.2, fits-join (1 + place_count outer) b s f.3 g)
 add_fits s (InLoop c b outer) f g = (f.0, f.1, fits-join (1 + place_count outer) b s f.2 g)
 
-pub add_opens : (r : Bool) (s : Body) (p : Place) → ((before : Bool) → ends_in_return before s ≡ r) → statement_done r (open_place p) ≡ Some (open_place (add s p))
+pub add_opens : (r : Bool) (s : Body) (p : Place) → ((before : Bool) → ends_in_return before s ≡ r) →
+    statement_done r (open_place p) ≡ Some (open_place (add s p))
 add_opens r s (InFun n k b) h = rw (ends_in_return-join false b s, h (ends_in_return false b)) refl
 add_opens r s (InFirst c b outer) h = refl
 add_opens r s (InSecond c t b outer) h = refl

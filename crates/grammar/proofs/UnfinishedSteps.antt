@@ -7,12 +7,12 @@ use Rattle.grammar.specs.declared.names.Callee.{Callee}
 use Rattle.grammar.specs.declared.names.Callee.TheVariants as callee
 use Rattle.grammar.specs.declared.names.Var.{Var}
 use Rattle.grammar.specs.declared.names.Var.TheVariants as var
-use Rattle.grammar.specs.declared.operators.Op.{Op}
+use Rattle.arith.specs.declared.operators.Op.{Op}
 use Rattle.grammar.specs.declared.operators.StoreOp.{StoreOp}
 use Rattle.grammar.specs.Actions.{Action, PushConstant, FetchVariable, StoreVariable, ApplyBinop, LogicMiddle, BeginCall, EndCall, IfTest, ElsePart, EndIf, BeginWhile, WhileTest, EndWhile, GiveBack, Chop, BeginFunction, EndFunction, expr_actions, args_actions, body_actions}
 use Rattle.grammar.specs.Following.{AValue, BeforeRight, InCall, InBranch, InElse, BeforeTest, Opened, Origin, Number, Fetched, Stepped, Computed, open_count, is_place, is_number, is_step, is_var_numbered, is_callee_numbered, same_var, same_op, stored, statement_done, call_done, only_on, within, follow, most_numbers}
 use Rattle.grammar.specs.Nesting.{nesting, args_nesting, body_nesting, right_side}
-use Rattle.grammar.specs.Operators.{is_logic}
+use Rattle.arith.specs.Op.{is_logic}
 use Rattle.grammar.specs.Origins.{origin_of, ends_in_return}
 use Rattle.grammar.specs.Resolved.{IsVariable, IsCallable, InArgs}
 use Rattle.grammar.specs.Tree.{Expr, Constant, Variable, Binary, Assign, Postfix, Call, Args, NoMore, Argument, Body, Done, ExpressionStatement, IfStatement, IfElseStatement, While, Return}
@@ -73,10 +73,12 @@ number_is n (Assign op v e) h = split (is_number 1 (origin_of e)) h
 number_is n (Postfix op v) h = absurd (cc)
 number_is n (Call f args) h = absurd (cc)
 
-pub step_is : (v : Var) (o under : Origin) → is_step (stored v o) under ≡ true → (is_number 1 o ≡ true) × (is_step (Stepped v) under ≡ true)
+pub step_is : (v : Var) (o under : Origin) → is_step (stored v o) under ≡ true →
+    (is_number 1 o ≡ true) × (is_step (Stepped v) under ≡ true)
 step_is v o under h = split (is_number 1 o) h
   where
-    split : (b : Bool) → is_step (if b then Stepped v else Computed) under ≡ true → (b ≡ true) × (is_step (Stepped v) under ≡ true)
+    split : (b : Bool) → is_step (if b then Stepped v else Computed) under ≡ true →
+        (b ≡ true) × (is_step (Stepped v) under ≡ true)
     split true k = (refl, k)
     split false k = absurd (cc)
 
@@ -100,18 +102,32 @@ fetched_is v (Call f es) h = absurd (cc)
 
 -- Values.
 
-push : (value : ℤ) (h : Hole) (q : Opened) → HoleFits h → follow (PushConstant value) (open_hole h) ≡ Some q → open_count q ≤ 200 → Steps (PushConstant value) h q
+push : (value : ℤ) (h : Hole) (q : Opened) → HoleFits h → follow (PushConstant value) (open_hole h) ≡ Some q →
+    open_count q ≤ 200 → Steps (PushConstant value) h q
 push value h q fits e small =
-    let is : AValue (Number value) ∷ open_hole h ≡ q = some_same _ q (sym (within_hole (AValue (Number value)) h) ∙ e) in
-    record { next = Behind (Constant value) h; opens = is; adds = refl; fits = (fits, record { names = tt; few = omega (arith, small, ap open_count is) }) }
+    let is : AValue (Number value) ∷ open_hole h ≡ q =
+    some_same _ q (sym (within_hole (AValue (Number value)) h) ∙ e) in
+    record {
+      next = Behind (Constant value) h;
+      opens = is;
+      adds = refl;
+      fits = (fits, record { names = tt; few = omega (arith, small, ap open_count is) });
+    }
 
-fetch : (v : Var) (h : Hole) (q : Opened) → HoleFits h → follow (FetchVariable v) (open_hole h) ≡ Some q → open_count q ≤ 200 → Steps (FetchVariable v) h q
+fetch : (v : Var) (h : Hole) (q : Opened) → HoleFits h → follow (FetchVariable v) (open_hole h) ≡ Some q →
+    open_count q ≤ 200 → Steps (FetchVariable v) h q
 fetch v h q fits e small =
     let both = if_true (is_var_numbered v) (within (AValue (Fetched v)) (open_hole h)) q e in
     let is : AValue (Fetched v) ∷ open_hole h ≡ q = some_same _ q (sym (within_hole (AValue (Fetched v)) h) ∙ both.1) in
-    record { next = Behind (Variable v) h; opens = is; adds = refl; fits = (fits, record { names = variable_in v both.0; few = omega (arith, small, ap open_count is) }) }
+    record {
+      next = Behind (Variable v) h;
+      opens = is;
+      adds = refl;
+      fits = (fits, record { names = variable_in v both.0; few = omega (arith, small, ap open_count is) });
+    }
 
-store : (v : Var) (op : StoreOp) (h : Hole) (q : Opened) → HoleFits h → follow (StoreVariable v op) (open_hole h) ≡ Some q → open_count q ≤ 200 → Steps (StoreVariable v op) h q
+store : (v : Var) (op : StoreOp) (h : Hole) (q : Opened) → HoleFits h →
+    follow (StoreVariable v op) (open_hole h) ≡ Some q → open_count q ≤ 200 → Steps (StoreVariable v op) h q
 store v op (Behind x h) q fits e small =
     let both = only_true (is_var_numbered v) (AValue (stored v (origin_of x)) ∷ open_hole h) q e in
     record {
@@ -123,7 +139,8 @@ store v op (Behind x h) q fits e small =
 store v op (Statement (InFun n k b)) q fits e small = absurd (cc)
 store v op h q fits e small = absurd (cc)
 
-binop : (op : Op) (h : Hole) (q : Opened) → HoleFits h → follow (ApplyBinop op) (open_hole h) ≡ Some q → open_count q ≤ 200 → Steps (ApplyBinop op) h q
+binop : (op : Op) (h : Hole) (q : Opened) → HoleFits h → follow (ApplyBinop op) (open_hole h) ≡ Some q →
+    open_count q ≤ 200 → Steps (ApplyBinop op) h q
 binop op (Behind r (Behind l h)) q fits e small =
     let both = if_false (is_logic op) (AValue Computed ∷ open_hole h) q e in
     let none : right_side op ≡ 0 = rw both.0 refl in
@@ -133,7 +150,8 @@ binop op (Behind r (Behind l h)) q fits e small =
       next = Behind (Binary op l r) h;
       opens = both.1;
       adds = rw both.0 (simp append_assoc refl);
-      fits = (fits.0.0, record { names = (fits.0.1.names, fits.1.names); few = omega (arith, few_left, few_right, none) });
+      fits =
+          (fits.0.0, record { names = (fits.0.1.names, fits.1.names); few = omega (arith, few_left, few_right, none) });
     }
 binop op (Behind r (RightSide o l h)) q fits e small =
     let both = only_true (same_op op o) (AValue Computed ∷ open_hole h) q e in
@@ -146,22 +164,30 @@ binop op (Behind r (RightSide o l h)) q fits e small =
       next = Behind (Binary op l r) h;
       opens = both.1;
       adds = rw (logic, sym same) (simp append_assoc refl);
-      fits = (fits.0.0, record { names = (fits.0.1.names, fits.1.names); few = omega (arith, few_left, few_right, one) });
+      fits =
+          (fits.0.0, record { names = (fits.0.1.names, fits.1.names); few = omega (arith, few_left, few_right, one) });
     }
 binop op (Behind r (Statement (InFun n k b))) q fits e small = absurd (cc)
 binop op (Statement (InFun n k b)) q fits e small = absurd (cc)
 binop op h q fits e small = absurd (cc)
 
-logic_middle : (op : Op) (h : Hole) (q : Opened) → HoleFits h → follow (LogicMiddle op) (open_hole h) ≡ Some q → open_count q ≤ 200 → Steps (LogicMiddle op) h q
+logic_middle : (op : Op) (h : Hole) (q : Opened) → HoleFits h → follow (LogicMiddle op) (open_hole h) ≡ Some q →
+    open_count q ≤ 200 → Steps (LogicMiddle op) h q
 logic_middle op (Behind l h) q fits e small =
     let both = only_true (is_logic op) (BeforeRight op ∷ AValue (origin_of l) ∷ open_hole h) q e in
-    record { next = RightSide op l h; opens = both.1; adds = refl; fits = (fits.0, fits.1, both.0, omega (arith, small, ap open_count both.1)) }
+    record {
+      next = RightSide op l h;
+      opens = both.1;
+      adds = refl;
+      fits = (fits.0, fits.1, both.0, omega (arith, small, ap open_count both.1));
+    }
 logic_middle op (Statement (InFun n k b)) q fits e small = absurd (cc)
 logic_middle op h q fits e small = absurd (cc)
 
 -- Calls.
 
-begin_call : (h : Hole) (q : Opened) → HoleFits h → follow BeginCall (open_hole h) ≡ Some q → open_count q ≤ 200 → Steps BeginCall h q
+begin_call : (h : Hole) (q : Opened) → HoleFits h → follow BeginCall (open_hole h) ≡ Some q → open_count q ≤ 200 →
+    Steps BeginCall h q
 begin_call h q fits e small =
     let is : InCall ∷ open_hole h ≡ q = some_same _ q (sym (within_hole InCall h) ∙ e) in
     record { next = Arguments h; opens = is; adds = refl; fits = (fits, omega (arith, small, ap open_count is)) }
@@ -176,17 +202,36 @@ record Collected (h : Hole) (args : Args) (q : Opened) : Type 0 where
   names : InArgs 64 64 64 all
   few : hole_count outer + (1 + args_nesting all) ≤ 200
 
-collect : (h : Hole) (args : Args) (q : Opened) → HoleFits h → InArgs 64 64 64 args → hole_count h + args_nesting args ≤ 200 → call_done (open_hole h) ≡ Some q → Collected h args q
+collect : (h : Hole) (args : Args) (q : Opened) → HoleFits h → InArgs 64 64 64 args →
+    hole_count h + args_nesting args ≤ 200 → call_done (open_hole h) ≡ Some q → Collected h args q
 collect (Behind x h) args q fits names small e =
     let few : hole_count h + nesting x ≤ 200 = fits.1.few in
-    let c : Collected h (Argument x args) q = collect h (Argument x args) q fits.0 (fits.1.names, names) (omega (arith, small, few)) e in
-    record { outer = c.outer; all = c.all; opens = c.opens; adds = c.adds ∙ sym (append_assoc (hole_actions h) (expr_actions x) (args_actions args)); fits = c.fits; names = c.names; few = c.few }
+    let c : Collected h (Argument x args) q =
+    collect h (Argument x args) q fits.0 (fits.1.names, names) (omega (arith, small, few)) e in
+    record {
+      outer = c.outer;
+      all = c.all;
+      opens = c.opens;
+      adds = c.adds ∙ sym (append_assoc (hole_actions h) (expr_actions x) (args_actions args));
+      fits = c.fits;
+      names = c.names;
+      few = c.few;
+    }
 collect (Arguments h) args q fits names small e =
-    record { outer = h; all = args; opens = some_same _ q e; adds = sym (append_assoc (hole_actions h) (BeginCall ∷ []) (args_actions args)); fits = fits.0; names = names; few = omega (arith, small) }
+    record {
+      outer = h;
+      all = args;
+      opens = some_same _ q e;
+      adds = sym (append_assoc (hole_actions h) (BeginCall ∷ []) (args_actions args));
+      fits = fits.0;
+      names = names;
+      few = omega (arith, small);
+    }
 collect (Statement (InFun n k b)) args q fits names small e = absurd (cc)
 collect h args q fits names small e = absurd (cc)
 
-end_call : (f : Callee) (h : Hole) (q : Opened) → HoleFits h → hole_count h ≤ 200 → follow (EndCall f) (open_hole h) ≡ Some q → open_count q ≤ 200 → Steps (EndCall f) h q
+end_call : (f : Callee) (h : Hole) (q : Opened) → HoleFits h → hole_count h ≤ 200 →
+    follow (EndCall f) (open_hole h) ≡ Some q → open_count q ≤ 200 → Steps (EndCall f) h q
 end_call f h q fits least e small =
     let both = if_true (is_callee_numbered f) (call_done (open_hole h)) q e in
     let c : Collected h NoMore q = collect h NoMore q fits tt (omega (arith, least)) both.1 in
@@ -194,15 +239,18 @@ end_call f h q fits least e small =
     record {
       next = Behind (Call f c.all) c.outer;
       opens = c.opens;
-      adds = sym (append_assoc (hole_actions c.outer) (BeginCall ∷ args_actions c.all) (EndCall f ∷ [])) ∙ ap (λ xs. xs ++ EndCall f ∷ []) (c.adds ∙ append-nil (hole_actions h));
+      adds = sym (append_assoc (hole_actions c.outer) (BeginCall ∷ args_actions c.all) (EndCall f ∷ [])) ∙
+          ap (λ xs. xs ++ EndCall f ∷ []) (c.adds ∙ append-nil (hole_actions h));
       fits = (c.fits, record { names = (callee_in f both.0, c.names); few = few });
     }
 
 -- Statements.
 
 -- a statement more in a place
-settled : (a : Action) (h : Hole) (p : Place) (s : Body) (r : Bool) (q : Opened) → PlaceFits p → BodyFits (place_count p) s → ((before : Bool) → ends_in_return before s ≡ r) →
-    statement_done r (open_place p) ≡ Some q → place_actions p ++ body_actions s ≡ hole_actions h ++ a ∷ [] → Steps a h q
+settled : (a : Action) (h : Hole) (p : Place) (s : Body) (r : Bool) (q : Opened) → PlaceFits p →
+    BodyFits (place_count p) s → ((before : Bool) → ends_in_return before s ≡ r) →
+    statement_done r (open_place p) ≡ Some q → place_actions p ++ body_actions s ≡ hole_actions h ++ a ∷ [] →
+    Steps a h q
 settled a h p s r q fits more same e adds = record {
   next = Statement (add s p);
   opens = some_same _ q (sym (add_opens r s p same) ∙ e);
@@ -210,7 +258,8 @@ settled a h p s r q fits more same e adds = record {
   fits = add_fits s p fits more;
 }
 
-if_test : (h : Hole) (q : Opened) → HoleFits h → follow IfTest (open_hole h) ≡ Some q → open_count q ≤ 200 → Steps IfTest h q
+if_test : (h : Hole) (q : Opened) → HoleFits h → follow IfTest (open_hole h) ≡ Some q → open_count q ≤ 200 →
+    Steps IfTest h q
 if_test (Behind c (Statement p)) q fits e small =
     let both = only_true (is_place (open_place p)) (InBranch ∷ open_place p) q e in
     record {
@@ -222,7 +271,8 @@ if_test (Behind c (Statement p)) q fits e small =
 if_test (Statement (InFun n k b)) q fits e small = absurd (cc)
 if_test h q fits e small = absurd (cc)
 
-else_part : (h : Hole) (q : Opened) → HoleFits h → follow ElsePart (open_hole h) ≡ Some q → open_count q ≤ 200 → Steps ElsePart h q
+else_part : (h : Hole) (q : Opened) → HoleFits h → follow ElsePart (open_hole h) ≡ Some q → open_count q ≤ 200 →
+    Steps ElsePart h q
 else_part (Statement (InFirst c s p)) q fits e small =
     let is : InElse ∷ open_place p ≡ q = some_same _ q e in
     record {
@@ -233,25 +283,34 @@ else_part (Statement (InFirst c s p)) q fits e small =
     }
 else_part h q fits e small = absurd (cc)
 
-end_if : (h : Hole) (q : Opened) → HoleFits h → follow EndIf (open_hole h) ≡ Some q → open_count q ≤ 200 → Steps EndIf h q
+end_if : (h : Hole) (q : Opened) → HoleFits h → follow EndIf (open_hole h) ≡ Some q → open_count q ≤ 200 →
+    Steps EndIf h q
 end_if (Statement (InFirst c s p)) q fits e small =
     let few_test : place_count p + nesting c ≤ 200 = fits.1.few in
     let few_first : 1 + place_count p + body_nesting s ≤ 200 = fits.2.few in
-    settled EndIf (Statement (InFirst c s p)) p (IfStatement c s Done) false q fits.0 (record { names = (fits.1.names, fits.2.names, tt); few = omega (arith, few_test, few_first) }) (λ before. refl) e (simp append_assoc refl)
+    settled EndIf (Statement (InFirst c s p)) p (IfStatement c s Done) false q fits.0
+    (record { names = (fits.1.names, fits.2.names, tt); few = omega (arith, few_test, few_first) }) (λ before. refl)
+    e (simp append_assoc refl)
 end_if (Statement (InSecond c s t p)) q fits e small =
     let few_test : place_count p + nesting c ≤ 200 = fits.1.few in
     let few_first : 1 + place_count p + body_nesting s ≤ 200 = fits.2.few in
     let few_second : 1 + place_count p + body_nesting t ≤ 200 = fits.3.few in
-    settled EndIf (Statement (InSecond c s t p)) p (IfElseStatement c s t Done) false q fits.0 (record { names = (fits.1.names, fits.2.names, fits.3.names, tt); few = omega (arith, few_test, few_first, few_second) }) (λ before. refl) e (simp append_assoc refl)
+    settled EndIf (Statement (InSecond c s t p)) p (IfElseStatement c s t Done) false q fits.0
+    (record {
+      names = (fits.1.names, fits.2.names, fits.3.names, tt);
+      few = omega (arith, few_test, few_first, few_second);
+    }) (λ before. refl) e (simp append_assoc refl)
 end_if h q fits e small = absurd (cc)
 
-begin_while : (h : Hole) (q : Opened) → HoleFits h → follow BeginWhile (open_hole h) ≡ Some q → open_count q ≤ 200 → Steps BeginWhile h q
+begin_while : (h : Hole) (q : Opened) → HoleFits h → follow BeginWhile (open_hole h) ≡ Some q → open_count q ≤ 200 →
+    Steps BeginWhile h q
 begin_while (Statement p) q fits e small =
     let both = only_true (is_place (open_place p)) (BeforeTest ∷ open_place p) q e in
     record { next = Test p; opens = both.1; adds = refl; fits = (fits, omega (arith, small, ap open_count both.1)) }
 begin_while h q fits e small = absurd (cc)
 
-while_test : (h : Hole) (q : Opened) → HoleFits h → follow WhileTest (open_hole h) ≡ Some q → open_count q ≤ 200 → Steps WhileTest h q
+while_test : (h : Hole) (q : Opened) → HoleFits h → follow WhileTest (open_hole h) ≡ Some q → open_count q ≤ 200 →
+    Steps WhileTest h q
 while_test (Behind c (Test p)) q fits e small =
     let few : 1 + place_count p + nesting c ≤ 200 = fits.1.few in
     record {
@@ -264,17 +323,22 @@ while_test (Behind c (Statement (InFun n k b))) q fits e small = absurd (cc)
 while_test (Statement (InFun n k b)) q fits e small = absurd (cc)
 while_test h q fits e small = absurd (cc)
 
-end_while : (h : Hole) (q : Opened) → HoleFits h → follow EndWhile (open_hole h) ≡ Some q → open_count q ≤ 200 → Steps EndWhile h q
+end_while : (h : Hole) (q : Opened) → HoleFits h → follow EndWhile (open_hole h) ≡ Some q → open_count q ≤ 200 →
+    Steps EndWhile h q
 end_while (Statement (InLoop c s p)) q fits e small =
     let few_test : 1 + place_count p + nesting c ≤ 200 = fits.1.few in
     let few_turn : 1 + place_count p + body_nesting s ≤ 200 = fits.2.few in
-    settled EndWhile (Statement (InLoop c s p)) p (While c s Done) false q fits.0 (record { names = (fits.1.names, fits.2.names, tt); few = omega (arith, few_test, few_turn) }) (λ before. refl) e (simp append_assoc refl)
+    settled EndWhile (Statement (InLoop c s p)) p (While c s Done) false q fits.0
+    (record { names = (fits.1.names, fits.2.names, tt); few = omega (arith, few_test, few_turn) }) (λ before. refl)
+    e (simp append_assoc refl)
 end_while h q fits e small = absurd (cc)
 
-give_back : (h : Hole) (q : Opened) → HoleFits h → follow GiveBack (open_hole h) ≡ Some q → open_count q ≤ 200 → Steps GiveBack h q
+give_back : (h : Hole) (q : Opened) → HoleFits h → follow GiveBack (open_hole h) ≡ Some q → open_count q ≤ 200 →
+    Steps GiveBack h q
 give_back (Behind x (Statement p)) q fits e small =
     let few : place_count p + nesting x ≤ 200 = fits.1.few in
-    settled GiveBack (Behind x (Statement p)) p (Return x Done) (is_number 0 (origin_of x)) q fits.0 (record { names = (fits.1.names, tt); few = omega (arith, few) }) (λ before. refl) e
+    settled GiveBack (Behind x (Statement p)) p (Return x Done) (is_number 0 (origin_of x)) q fits.0
+    (record { names = (fits.1.names, tt); few = omega (arith, few) }) (λ before. refl) e
     (sym (append_assoc (place_actions p) (expr_actions x) (GiveBack ∷ [])))
 give_back (Statement (InFun n k b)) q fits e small = absurd (cc)
 give_back h q fits e small = absurd (cc)
@@ -286,7 +350,8 @@ chop_place o (InSecond c s b outer) = refl
 chop_place o (InLoop c b outer) = refl
 
 -- a value over another is dropped where v++ and v-- end
-chop_step : (x y : Expr) (h : Hole) (q : Opened) → HoleFits (Behind x (Behind y h)) → follow Chop (open_hole (Behind x (Behind y h))) ≡ Some q → open_count q ≤ 200 → Steps Chop (Behind x (Behind y h)) q
+chop_step : (x y : Expr) (h : Hole) (q : Opened) → HoleFits (Behind x (Behind y h)) →
+    follow Chop (open_hole (Behind x (Behind y h))) ≡ Some q → open_count q ≤ 200 → Steps Chop (Behind x (Behind y h)) q
 chop_step (Assign op v e) y h q fits is small =
     let both = only_true (is_step (stored v (origin_of e)) (origin_of y)) (AValue Computed ∷ open_hole h) q is in
     let parts = step_is v (origin_of e) (origin_of y) both.0 in
@@ -307,7 +372,8 @@ chop_step (Call f args) y h q fits is small = absurd (cc)
 chop : (h : Hole) (q : Opened) → HoleFits h → follow Chop (open_hole h) ≡ Some q → open_count q ≤ 200 → Steps Chop h q
 chop (Behind x (Statement p)) q fits e small =
     let few : place_count p + nesting x ≤ 200 = fits.1.few in
-    settled Chop (Behind x (Statement p)) p (ExpressionStatement x Done) false q fits.0 (record { names = (fits.1.names, tt); few = omega (arith, few) }) (λ before. refl)
+    settled Chop (Behind x (Statement p)) p (ExpressionStatement x Done) false q fits.0
+    (record { names = (fits.1.names, tt); few = omega (arith, few) }) (λ before. refl)
     (sym (chop_place (origin_of x) p) ∙ e)
     (sym (append_assoc (place_actions p) (expr_actions x) (Chop ∷ [])))
 chop (Behind x (Behind y h)) q fits e small = chop_step x y h q fits e small
@@ -315,7 +381,8 @@ chop (Statement (InFun n k b)) q fits e small = absurd (cc)
 chop h q fits e small = absurd (cc)
 
 -- Any action within a function that doesn't end it.
-pub step : (a : Action) (h : Hole) (q : Opened) → HoleFits h → hole_count h ≤ 200 → follow a (open_hole h) ≡ Some q → open_count q ≤ 200 → IsWithin a → Steps a h q
+pub step : (a : Action) (h : Hole) (q : Opened) → HoleFits h → hole_count h ≤ 200 → follow a (open_hole h) ≡ Some q →
+    open_count q ≤ 200 → IsWithin a → Steps a h q
 step (PushConstant value) h q fits least e small w = push value h q fits e small
 step (FetchVariable v) h q fits least e small w = fetch v h q fits e small
 step (StoreVariable v op) h q fits least e small w = store v op h q fits e small

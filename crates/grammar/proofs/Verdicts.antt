@@ -18,7 +18,8 @@ use Rattle.grammar.proofs.Runs.{append_empty, run-add, faults_in-add}
 
 -- A derivation without a fault.
 
-final_clean : (profile : Profile) (n : ℕ) (s : State) → IsFinal s → faults_at profile s ≡ [] → faults_in profile n s ≡ []
+final_clean : (profile : Profile) (n : ℕ) (s : State) → IsFinal s → faults_at profile s ≡ [] →
+    faults_in profile n s ≡ []
 final_clean profile zero s final clean = refl
 final_clean profile (suc n) s final clean =
     let rest : faults_in profile n (stepped s) ≡ [] = rw (final_stays s final) (final_clean profile n s final clean) in
@@ -42,7 +43,8 @@ record Reaches (profile : Profile) (n : ℕ) (s t : State) : Type 0 where
   clean : faults_in profile n s ≡ []
   there : run n s ≡ t
 
-reached : (profile : Profile) (n m : ℕ) (s t : State) → IsFinal (run n s) → run m s ≡ t → faults_in profile m s ≡ [] → IsFinal t → faults_at profile t ≡ [] →
+reached : (profile : Profile) (n m : ℕ) (s t : State) → IsFinal (run n s) → run m s ≡ t → faults_in profile m s ≡ [] →
+    IsFinal t → faults_at profile t ≡ [] →
     Apart m n ⊎ Apart n m → Reaches profile n s t
 reached profile n m s t final leads clean ended quiet (inl a) = record {
   clean = subst (λ (k : ℕ). faults_in profile k s ≡ []) a.sum
@@ -50,8 +52,11 @@ reached profile n m s t final leads clean ended quiet (inl a) = record {
   there = subst (λ (k : ℕ). run k s ≡ t) a.sum (run-add m a.more s ∙ rw leads (stays_final a.more t ended));
 }
 reached profile n m s t final leads clean ended quiet (inr a) = record {
-  clean = (append_empty (faults_in profile n s) _ (sym (faults_in-add profile n a.more s) ∙ subst (λ (k : ℕ). faults_in profile k s ≡ []) (sym a.sum) clean)).0;
-  there = sym (stays_final a.more (run n s) final) ∙ sym (run-add n a.more s) ∙ subst (λ (k : ℕ). run k s ≡ t) (sym a.sum) leads;
+  clean =
+      (append_empty (faults_in profile n s) _
+      (sym (faults_in-add profile n a.more s) ∙ subst (λ (k : ℕ). faults_in profile k s ≡ []) (sym a.sum) clean)).0;
+  there = sym (stays_final a.more (run n s) final) ∙ sym (run-add n a.more s) ∙
+      subst (λ (k : ℕ). run k s ≡ t) (sym a.sum) leads;
 }
 
 pub weighs : (located_tokens : List LocatedToken) → weight (start located_tokens) + 1 ≡ enough located_tokens
@@ -59,12 +64,16 @@ weighs located_tokens = omega arith
 
 pub enough_ends : (located_tokens : List LocatedToken) → IsFinal (run (enough located_tokens) (start located_tokens))
 enough_ends located_tokens = ends (enough located_tokens) (start located_tokens)
-    (subst (λ (n : ℕ). weight (start located_tokens) ≤ n) (weighs located_tokens) (le-add_right (weight (start located_tokens)) 1))
+    (subst (λ (n : ℕ). weight (start located_tokens) ≤ n) (weighs located_tokens)
+    (le-add_right (weight (start located_tokens)) 1))
 
-pub clean_verdict : (profile : Profile) (located_tokens : List LocatedToken) (t : State) → Passes profile (start located_tokens) t → IsFinal t → faults_at profile t ≡ [] →
+pub clean_verdict : (profile : Profile) (located_tokens : List LocatedToken) (t : State) →
+    Passes profile (start located_tokens) t → IsFinal t → faults_at profile t ≡ [] →
     compiled_tokens profile located_tokens ≡ resolved located_tokens t.scope t.functions
 clean_verdict profile located_tokens t p ended quiet =
-    let r : Reaches profile (enough located_tokens) (start located_tokens) t = reached profile (enough located_tokens) p.steps (start located_tokens) t (enough_ends located_tokens) p.leads p.clean ended quiet (apart p.steps (enough located_tokens)) in
+    let r : Reaches profile (enough located_tokens) (start located_tokens) t =
+    reached profile (enough located_tokens) p.steps (start located_tokens) t (enough_ends located_tokens) p.leads
+    p.clean ended quiet (apart p.steps (enough located_tokens)) in
     rw (r.clean, r.there) refl
 
 -- A derivation with a fault.
@@ -84,32 +93,43 @@ in_either f (x ∷ xs) ys (inl e) = inl (inl e)
 in_either f (x ∷ xs) ys (inr h) = ⊎_elim (λ k. inl (inr k)) (λ k. inr k) (in_either f xs ys h)
 
 -- each fault that was gathered comes in the derivation
-pub gathered : (profile : Profile) (n : ℕ) (s : State) (f : Fault) → IsIn f (faults_in profile n s) → IsFault profile s f
+pub gathered : (profile : Profile) (n : ℕ) (s : State) (f : Fault) → IsIn f (faults_in profile n s) →
+    IsFault profile s f
 gathered profile zero s f h = absurd h
-gathered profile (suc n) s f h = gathered_at profile n s f (λ k. gathered profile n (stepped s) f k) (in_either f (faults_at profile s) (faults_in profile n (stepped s)) h)
+gathered profile (suc n) s f h =
+    gathered_at profile n s f (λ k. gathered profile n (stepped s) f k)
+    (in_either f (faults_at profile s) (faults_in profile n (stepped s)) h)
   where
-    gathered_at : (profile : Profile) (n : ℕ) (s : State) (f : Fault) → (IsIn f (faults_in profile n (stepped s)) → IsFault profile (stepped s) f) →
+    gathered_at : (profile : Profile) (n : ℕ) (s : State) (f : Fault) →
+        (IsIn f (faults_in profile n (stepped s)) → IsFault profile (stepped s) f) →
         IsIn f (faults_at profile s) ⊎ IsIn f (faults_in profile n (stepped s)) → IsFault profile s f
     gathered_at profile n s f again (inl h) = record { steps = 0; here = h }
-    gathered_at profile n s f again (inr h) = let k : IsFault profile (stepped s) f = again h in record { steps = suc k.steps; here = k.here }
+    gathered_at profile n s f again (inr h) =
+        let k : IsFault profile (stepped s) f = again h in record { steps = suc k.steps; here = k.here }
 
 -- and each that comes was gathered
-at_final : (profile : Profile) (k : ℕ) (s : State) (f : Fault) → IsFinal s → IsIn f (faults_at profile (run k s)) → IsIn f (faults_at profile s)
+at_final : (profile : Profile) (k : ℕ) (s : State) (f : Fault) → IsFinal s → IsIn f (faults_at profile (run k s)) →
+    IsIn f (faults_at profile s)
 at_final profile k s f final h = subst (λ (t : State). IsIn f (faults_at profile t)) (stays_final k s final) h
 
-pub all_gathered : (profile : Profile) (n : ℕ) (s : State) (k : ℕ) (f : Fault) → IsFinal (run n s) → IsIn f (faults_at profile (run k s)) → IsIn f (faults_in profile (suc n) s)
+pub all_gathered : (profile : Profile) (n : ℕ) (s : State) (k : ℕ) (f : Fault) → IsFinal (run n s) →
+    IsIn f (faults_at profile (run k s)) → IsIn f (faults_in profile (suc n) s)
 all_gathered profile zero s k f final h = in_append_left f (faults_at profile s) [] (at_final profile k s f final h)
 all_gathered profile (suc n) s zero f final h = in_append_left f (faults_at profile s) _ h
-all_gathered profile (suc n) s (suc k) f final h = in_append_right f (faults_at profile s) _ (all_gathered profile n (stepped s) k f final h)
+all_gathered profile (suc n) s (suc k) f final h =
+    in_append_right f (faults_at profile s) _ (all_gathered profile n (stepped s) k f final h)
 
 same_tails : (a b x y : List LocatedToken) → a ++ x ≡ b ++ y → length x ≡ length y → x ≡ y
 same_tails [] [] x y e l = e
-same_tails [] (p ∷ b) x y e l = let h : length x ≡ length ((p ∷ b) ++ y) = ap length e in absurd (omega (arith, length-append b y))
-same_tails (p ∷ a) [] x y e l = let h : length ((p ∷ a) ++ x) ≡ length y = ap length e in absurd (omega (arith, length-append a x))
+same_tails [] (p ∷ b) x y e l =
+    let h : length x ≡ length ((p ∷ b) ++ y) = ap length e in absurd (omega (arith, length-append b y))
+same_tails (p ∷ a) [] x y e l =
+    let h : length ((p ∷ a) ++ x) ≡ length y = ap length e in absurd (omega (arith, length-append a x))
 same_tails (p ∷ a) (q ∷ b) x y e l = same_tails a b x y (cc) l
 
 -- two faults of one derivation with as many tokens left are at one token
-same_rest : (profile : Profile) (s : State) (f g : Fault) → IsFault profile s f → IsFault profile s g → length f.rest ≡ length g.rest → f.rest ≡ g.rest
+same_rest : (profile : Profile) (s : State) (f g : Fault) → IsFault profile s f → IsFault profile s g →
+    length f.rest ≡ length g.rest → f.rest ≡ g.rest
 same_rest profile s f g a b l =
     let p : f.rest ≡ (run a.steps s).rest = at_rest profile f (run a.steps s) a.here in
     let q : g.rest ≡ (run b.steps s).rest = at_rest profile g (run b.steps s) b.here in
@@ -121,22 +141,31 @@ some_fault : (f : Fault) (xs : List Fault) → IsIn f xs → (g : Fault) × (gs 
 some_fault f [] h = absurd h
 some_fault f (g ∷ gs) h = (g, gs, refl)
 
-verdict_at : (profile : Profile) (located_tokens : List LocatedToken) (s : State) (f : Fault) (faults : List Fault) (scope : Scope) (functions : List Definition) →
+verdict_at : (profile : Profile) (located_tokens : List LocatedToken) (s : State) (f : Fault) (faults : List Fault)
+    (scope : Scope) (functions : List Definition) →
     IsFirstFault profile s f → ((g : Fault) → IsIn g faults → IsFault profile s g) → IsIn f faults →
     verdict located_tokens faults scope functions ≡ Err (diagnostic (line_of f.rest) f.code)
 verdict_at profile located_tokens s f [] scope functions first sound h = absurd h
 verdict_at profile located_tokens s f (g ∷ gs) scope functions first sound h =
     let one : IsFault profile s (first_of g gs) = sound (first_of g gs) (first_in g gs) in
-    let same : (length f.rest ≡ length (first_of g gs).rest) × (f.code ≡ (first_of g gs).code) = same_place f (first_of g gs) (first.first (first_of g gs) one) (first_least g gs f h) in
+    let same : (length f.rest ≡ length (first_of g gs).rest) × (f.code ≡ (first_of g gs).code) =
+    same_place f (first_of g gs) (first.first (first_of g gs) one) (first_least g gs f h) in
     let rest : f.rest ≡ (first_of g gs).rest = same_rest profile s f (first_of g gs) first.comes one same.0 in
     rw (rest, same.1) refl
 
-pub fault_verdict : (profile : Profile) (located_tokens : List LocatedToken) (d : Diagnostic) → Fails profile (start located_tokens) d → compiled_tokens profile located_tokens ≡ Err d
+pub fault_verdict : (profile : Profile) (located_tokens : List LocatedToken) (d : Diagnostic) →
+    Fails profile (start located_tokens) d → compiled_tokens profile located_tokens ≡ Err d
 fault_verdict profile located_tokens d h =
     let n : ℕ = weight (start located_tokens) in
-    let here : IsIn h.fault (faults_in profile (suc n) (start located_tokens)) = all_gathered profile n (start located_tokens) h.first.comes.steps h.fault (ends n (start located_tokens) (le_refl n)) h.first.comes.here in
-    let there : IsIn h.fault (faults_in profile (enough located_tokens) (start located_tokens)) = subst (λ (k : ℕ). IsIn h.fault (faults_in profile k (start located_tokens))) (sym (add-one n) ∙ weighs located_tokens) here in
-    verdict_at profile located_tokens (start located_tokens) h.fault (faults_in profile (enough located_tokens) (start located_tokens)) _ _ h.first (gathered profile (enough located_tokens) (start located_tokens)) there
+    let here : IsIn h.fault (faults_in profile (suc n) (start located_tokens)) =
+    all_gathered profile n (start located_tokens) h.first.comes.steps h.fault
+    (ends n (start located_tokens) (le_refl n)) h.first.comes.here in
+    let there : IsIn h.fault (faults_in profile (enough located_tokens) (start located_tokens)) =
+    subst (λ (k : ℕ). IsIn h.fault (faults_in profile k (start located_tokens)))
+    (sym (add-one n) ∙ weighs located_tokens) here in
+    verdict_at profile located_tokens (start located_tokens) h.fault
+    (faults_in profile (enough located_tokens) (start located_tokens)) _ _ h.first
+    (gathered profile (enough located_tokens) (start located_tokens)) there
     ∙ ap Err (same_diagnostic d (diagnostic (line_of h.fault.rest) h.fault.code) h.line h.code)
   where
     same_diagnostic : (d e : Diagnostic) → d.line ≡ e.line → d.code ≡ e.code → e ≡ d

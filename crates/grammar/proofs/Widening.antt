@@ -26,27 +26,39 @@ mutual
   expr_wider e l n e' l' n' w (Constant value) h = tt
   expr_wider e l n e' l' n' w (Variable v) h = variable_wider e l n e' l' n' w v h
   expr_wider e l n e' l' n' w (Binary op a b) h = (expr_wider e l n e' l' n' w a h.0, expr_wider e l n e' l' n' w b h.1)
-  expr_wider e l n e' l' n' w (Assign op v a) h = (variable_wider e l n e' l' n' w v h.0, expr_wider e l n e' l' n' w a h.1)
+  expr_wider e l n e' l' n' w (Assign op v a) h =
+      (variable_wider e l n e' l' n' w v h.0, expr_wider e l n e' l' n' w a h.1)
   expr_wider e l n e' l' n' w (Postfix op v) h = variable_wider e l n e' l' n' w v h
-  expr_wider e l n e' l' n' w (Call f args) h = (callable_wider e l n e' l' n' w f h.0, args_wider e l n e' l' n' w args h.1)
+  expr_wider e l n e' l' n' w (Call f args) h =
+      (callable_wider e l n e' l' n' w f h.0, args_wider e l n e' l' n' w args h.1)
 
   pub args_wider : (e l n e' l' n' : ℕ) → IsWider e l n e' l' n' → (x : Args) → InArgs e l n x → InArgs e' l' n' x
   args_wider e l n e' l' n' w NoMore h = tt
-  args_wider e l n e' l' n' w (Argument a rest) h = (expr_wider e l n e' l' n' w a h.0, args_wider e l n e' l' n' w rest h.1)
+  args_wider e l n e' l' n' w (Argument a rest) h =
+      (expr_wider e l n e' l' n' w a h.0, args_wider e l n e' l' n' w rest h.1)
 
 pub body_wider : (e l n e' l' n' : ℕ) → IsWider e l n e' l' n' → (b : Body) → InBody e l n b → InBody e' l' n' b
 body_wider e l n e' l' n' w Done h = tt
-body_wider e l n e' l' n' w (ExpressionStatement a rest) h = (expr_wider e l n e' l' n' w a h.0, body_wider e l n e' l' n' w rest h.1)
-body_wider e l n e' l' n' w (IfStatement c s rest) h = (expr_wider e l n e' l' n' w c h.0, body_wider e l n e' l' n' w s h.1, body_wider e l n e' l' n' w rest h.2)
-body_wider e l n e' l' n' w (IfElseStatement c s t rest) h =
-    (expr_wider e l n e' l' n' w c h.0, body_wider e l n e' l' n' w s h.1, body_wider e l n e' l' n' w t h.2, body_wider e l n e' l' n' w rest h.3)
-body_wider e l n e' l' n' w (While c s rest) h = (expr_wider e l n e' l' n' w c h.0, body_wider e l n e' l' n' w s h.1, body_wider e l n e' l' n' w rest h.2)
-body_wider e l n e' l' n' w (Return a rest) h = (expr_wider e l n e' l' n' w a h.0, body_wider e l n e' l' n' w rest h.1)
+body_wider e l n e' l' n' w (ExpressionStatement a rest) h =
+    (expr_wider e l n e' l' n' w a h.0, body_wider e l n e' l' n' w rest h.1)
+body_wider e l n e' l' n' w (IfStatement c s rest) h =
+    (expr_wider e l n e' l' n' w c h.0, body_wider e l n e' l' n' w s h.1, body_wider e l n e' l' n' w rest h.2)
+body_wider e l n e' l' n' w (IfElseStatement c s t rest) h = (
+  expr_wider e l n e' l' n' w c h.0,
+  body_wider e l n e' l' n' w s h.1,
+  body_wider e l n e' l' n' w t h.2,
+  body_wider e l n e' l' n' w rest h.3,
+)
+body_wider e l n e' l' n' w (While c s rest) h =
+    (expr_wider e l n e' l' n' w c h.0, body_wider e l n e' l' n' w s h.1, body_wider e l n e' l' n' w rest h.2)
+body_wider e l n e' l' n' w (Return a rest) h =
+    (expr_wider e l n e' l' n' w a h.0, body_wider e l n e' l' n' w rest h.1)
 
 pub function_wider : (e n e' n' : ℕ) → e ≤ e' → n ≤ n' → (f : Function) → InFile e n f → InFile e' n' f
 function_wider e n e' n' p q f h = record {
   parameters = h.parameters;
   variables = h.variables;
   distinct = h.distinct;
-  body = body_wider e (length f.variables) n e' (length f.variables) n' (record { externals = p; locals = omega arith; functions = q }) f.body h.body;
+  body = body_wider e (length f.variables) n e' (length f.variables) n'
+      (record { externals = p; locals = omega arith; functions = q }) f.body h.body;
 }

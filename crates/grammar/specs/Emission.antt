@@ -4,8 +4,8 @@ use Rattle.tokens.specs.declared.located_tokens.Punctuator.TheVariants as punctu
 use Rattle.tokens.specs.declared.located_tokens.Token.{Token}
 use Rattle.tokens.specs.declared.located_tokens.Token.TheVariants as token
 use Rattle.tokens.specs.declared.located_tokens.Word.TheVariants as word
-use Rattle.grammar.specs.declared.operators.Op.{Op}
-use Rattle.grammar.specs.declared.operators.Op.TheVariants as op
+use Rattle.arith.specs.declared.operators.Op.{Op}
+use Rattle.arith.specs.declared.operators.Op.TheVariants as op
 use Rattle.grammar.specs.Actions as action
 use Rattle.grammar.specs.Actions.{Action, PushConstant, FetchVariable, StoreVariable, ApplyBinop, BeginCall, EndCall}
 use Rattle.grammar.specs.Actions.{IfTest, EndIf, BeginWhile, WhileTest, EndWhile, Chop, BeginFunction, EndFunction}

@@ -2,16 +2,16 @@
 use Rattle.std.specs.Prelude.{ℕ, ℤ, pos, ◌+◌, List, [], ◌∷◌, Bool, true, false, ◌&&◌, ◌==◌, Option, Some, None, is_some}
 use Rattle.std.specs.Prelude.{IsTrue, nat_lt, nat_le, if◌then◌else◌}
 use denote.Enum.Bare.{sameb}
-use Rattle.grammar.specs.contracts.operators.Op as ops
+use Rattle.arith.specs.contracts.operators.Op as ops
 use Rattle.grammar.specs.declared.names.Callee.{Callee}
 use Rattle.grammar.specs.declared.names.Callee.TheVariants as callee
 use Rattle.grammar.specs.declared.names.Var.{Var}
 use Rattle.grammar.specs.declared.names.Var.TheVariants as var
-use Rattle.grammar.specs.declared.operators.Op.{Op}
+use Rattle.arith.specs.declared.operators.Op.{Op}
 use Rattle.grammar.specs.Actions.{Action, PushConstant, FetchVariable, StoreVariable, ApplyBinop, LogicMiddle}
 use Rattle.grammar.specs.Actions.{BeginCall, EndCall, IfTest, ElsePart, EndIf, BeginWhile, WhileTest, EndWhile}
 use Rattle.grammar.specs.Actions.{GiveBack, Chop, BeginFunction, EndFunction}
-use Rattle.grammar.specs.Operators.{is_logic}
+use Rattle.arith.specs.Op.{is_logic}
 
 -- the most calls, ifs, whiles and right sides of && and || that are open at once
 abbrev pub most_open : ℕ

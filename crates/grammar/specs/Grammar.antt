@@ -11,7 +11,7 @@ use Rattle.tokens.specs.declared.located_tokens.Word.{Word}
 use Rattle.tokens.specs.declared.located_tokens.Word.TheVariants as word
 use Rattle.tokens.specs.declared.located_tokens.Token.{Token}
 use Rattle.tokens.specs.declared.located_tokens.Token.TheVariants as token
-use Rattle.grammar.specs.declared.operators.Op.{Op}
+use Rattle.arith.specs.declared.operators.Op.{Op}
 use Rattle.grammar.specs.declared.operators.StoreOp.{StoreOp}
 use Rattle.grammar.specs.declared.operators.StoreOp.TheVariants as store
 use Rattle.grammar.specs.Operators.{operator_at, store_of}

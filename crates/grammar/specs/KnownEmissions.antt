@@ -6,7 +6,7 @@ use Rattle.tokens.specs.declared.located_tokens.Token.{Token}
 use Rattle.tokens.specs.declared.located_tokens.Token.TheVariants as token
 use Rattle.tokens.specs.declared.located_tokens.Word.TheVariants as word
 use Rattle.grammar.specs.declared.names.Var.TheVariants as var
-use Rattle.grammar.specs.declared.operators.Op.TheVariants as op
+use Rattle.arith.specs.declared.operators.Op.TheVariants as op
 use Rattle.grammar.specs.declared.operators.StoreOp.TheVariants as store
 use Rattle.grammar.specs.Actions.{Action, PushConstant, FetchVariable, StoreVariable, ApplyBinop, LogicMiddle}
 use Rattle.grammar.specs.Actions.{BeginWhile, WhileTest, EndWhile, GiveBack, Chop, BeginFunction, EndFunction, actions}

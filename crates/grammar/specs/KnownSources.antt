@@ -14,7 +14,7 @@ use Rattle.grammar.specs.declared.diagnostics.Diagnostic.{Diagnostic}
 use Rattle.grammar.specs.declared.names.Callee.TheVariants as callee
 use Rattle.grammar.specs.declared.names.Intrinsic.TheVariants as intrinsic
 use Rattle.grammar.specs.declared.names.Var.TheVariants as var
-use Rattle.grammar.specs.declared.operators.Op.TheVariants as op
+use Rattle.arith.specs.declared.operators.Op.TheVariants as op
 use Rattle.grammar.specs.declared.operators.StoreOp.TheVariants as store
 use Rattle.grammar.specs.Actions.{Action, PushConstant, FetchVariable, ApplyBinop, LogicMiddle, BeginCall, EndCall}
 use Rattle.grammar.specs.Actions.{IfTest, ElsePart, GiveBack, Chop, BeginFunction, EndFunction, actions, code_length}

@@ -1,7 +1,7 @@
 -- How many calls, branches, loops and right sides of && and || are open at once within a tree, at most.
 use Rattle.std.specs.Prelude.{ℕ, ◌+◌, max, if◌then◌else◌}
-use Rattle.grammar.specs.declared.operators.Op.{Op}
-use Rattle.grammar.specs.Operators.{is_logic}
+use Rattle.arith.specs.declared.operators.Op.{Op}
+use Rattle.arith.specs.Op.{is_logic}
 use Rattle.grammar.specs.Tree.{Expr, Constant, Variable, Binary, Assign, Postfix, Call, Args, NoMore, Argument, Body}
 use Rattle.grammar.specs.Tree.{Done, ExpressionStatement, IfStatement, IfElseStatement, While, Return}
 

@@ -1,12 +1,12 @@
 -- The punctuators that spell the binary operators, by the grammar's ten levels, and those of assignments.
-use Rattle.std.specs.Prelude.{ℕ, Bool, true, false, Option, Some, None, ◌==◌, if◌then◌else◌}
+use Rattle.std.specs.Prelude.{ℕ, Option, Some, None, ◌==◌, if◌then◌else◌}
 use Rattle.tokens.specs.declared.located_tokens.Punctuator.{Punctuator}
 use Rattle.tokens.specs.declared.located_tokens.Punctuator.TheVariants as punctuator
 use Rattle.tokens.specs.declared.located_tokens.Token.{Token}
 use Rattle.tokens.specs.declared.located_tokens.Token.TheVariants as token
 use Rattle.grammar.specs.declared.operators.Binary.{Binary}
-use Rattle.grammar.specs.declared.operators.Op.{Op}
-use Rattle.grammar.specs.declared.operators.Op.TheVariants as op
+use Rattle.arith.specs.declared.operators.Op.{Op}
+use Rattle.arith.specs.declared.operators.Op.TheVariants as op
 use Rattle.grammar.specs.declared.operators.StoreOp.{StoreOp}
 use Rattle.grammar.specs.declared.operators.StoreOp.TheVariants as store
 
@@ -35,6 +35,27 @@ binary_of punctuator.Slash = at_level 10 op.Divide
 binary_of punctuator.Percent = at_level 10 op.Remainder
 binary_of _ = None
 
+-- the punctuator that spells a binary operator
+abbrev pub binary_punctuator : Op → Punctuator
+binary_punctuator op.Or = punctuator.OrOr
+binary_punctuator op.And = punctuator.AndAnd
+binary_punctuator op.BitOr = punctuator.Or
+binary_punctuator op.BitXor = punctuator.Xor
+binary_punctuator op.BitAnd = punctuator.And
+binary_punctuator op.Equal = punctuator.EqualsEquals
+binary_punctuator op.NotEqual = punctuator.NotEquals
+binary_punctuator op.Less = punctuator.Less
+binary_punctuator op.Greater = punctuator.Greater
+binary_punctuator op.LessOrEqual = punctuator.LessEquals
+binary_punctuator op.GreaterOrEqual = punctuator.GreaterEquals
+binary_punctuator op.ShiftLeft = punctuator.ShiftLeft
+binary_punctuator op.ShiftRight = punctuator.ShiftRight
+binary_punctuator op.Add = punctuator.Plus
+binary_punctuator op.Subtract = punctuator.Minus
+binary_punctuator op.Multiply = punctuator.Star
+binary_punctuator op.Divide = punctuator.Slash
+binary_punctuator op.Remainder = punctuator.Percent
+
 abbrev pub if_at : ℕ → Option Binary → Option Op
 if_at n None = None
 if_at n (Some b) = if b.level == n then Some b.op else None
@@ -48,12 +69,6 @@ operator_at n _ = None
 abbrev pub operator_of : Token → Option Binary
 operator_of (token.Punctuator m) = binary_of m
 operator_of _ = None
-
--- the two operators between whose sides an action is reported to a builder
-abbrev pub is_logic : Op → Bool
-is_logic op.Or = true
-is_logic op.And = true
-is_logic _ = false
 
 -- the operator of an assignment that a punctuator spells
 abbrev pub store_of : Punctuator → Option StoreOp
@@ -69,6 +84,34 @@ store_of punctuator.AndEquals = Some store.BitAnd
 store_of punctuator.XorEquals = Some store.BitXor
 store_of punctuator.OrEquals = Some store.BitOr
 store_of _ = None
+
+-- the punctuator that spells an assignment's operator
+abbrev pub store_punctuator : StoreOp → Punctuator
+store_punctuator store.Set = punctuator.Equals
+store_punctuator store.Add = punctuator.PlusEquals
+store_punctuator store.Subtract = punctuator.MinusEquals
+store_punctuator store.Multiply = punctuator.StarEquals
+store_punctuator store.Divide = punctuator.SlashEquals
+store_punctuator store.Remainder = punctuator.PercentEquals
+store_punctuator store.ShiftLeft = punctuator.ShiftLeftEquals
+store_punctuator store.ShiftRight = punctuator.ShiftRightEquals
+store_punctuator store.BitAnd = punctuator.AndEquals
+store_punctuator store.BitXor = punctuator.XorEquals
+store_punctuator store.BitOr = punctuator.OrEquals
+
+-- the binary operator by which an assignment works out the new value: none for =
+abbrev pub op_of : StoreOp → Option Op
+op_of store.Set = None
+op_of store.Add = Some op.Add
+op_of store.Subtract = Some op.Subtract
+op_of store.Multiply = Some op.Multiply
+op_of store.Divide = Some op.Divide
+op_of store.Remainder = Some op.Remainder
+op_of store.ShiftLeft = Some op.ShiftLeft
+op_of store.ShiftRight = Some op.ShiftRight
+op_of store.BitAnd = Some op.BitAnd
+op_of store.BitXor = Some op.BitXor
+op_of store.BitOr = Some op.BitOr
 
 -- the operator of an assignment that a token spells
 abbrev pub store_operator : Token → Option StoreOp

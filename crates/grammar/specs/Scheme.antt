@@ -10,7 +10,7 @@ use Rattle.tokens.specs.declared.located_tokens.Word.{Word}
 use Rattle.tokens.specs.declared.located_tokens.Word.TheVariants as word
 use Rattle.tokens.specs.declared.located_tokens.Token.{Token}
 use Rattle.tokens.specs.declared.located_tokens.Token.TheVariants as token
-use Rattle.grammar.specs.declared.operators.Op.TheVariants as op
+use Rattle.arith.specs.declared.operators.Op.TheVariants as op
 use Rattle.grammar.specs.declared.operators.StoreOp.TheVariants as store
 use Rattle.grammar.specs.Grammar.{Role, Defined, External, Parameter, Typed, Local, Called, Mentioned, Symbol, Source}
 use Rattle.grammar.specs.Grammar.{Types, Head, More, Parameters, ParameterTypes, FunctionBlock, Block, Declarations}

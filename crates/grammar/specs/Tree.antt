@@ -1,6 +1,6 @@
 -- The trees of a program.
 use Rattle.std.specs.Prelude.{ℕ, ℤ, List}
-use Rattle.grammar.specs.declared.operators.Op.{Op}
+use Rattle.arith.specs.declared.operators.Op.{Op}
 use Rattle.grammar.specs.declared.operators.StoreOp.{StoreOp}
 use Rattle.grammar.specs.declared.names.Var.{Var}
 use Rattle.grammar.specs.declared.names.Callee.{Callee}

@@ -8,7 +8,8 @@ ghost use Rattle.grammar.specs.Building.{Appends, FitsWithin, IsOver, MayFollow,
 ghost use Rattle.grammar.specs.Profile.{Profile};
 
 use crate::names::{Callee, Var};
-use crate::operators::{Op, StoreOp};
+use crate::operators::StoreOp;
+use arith::Op;
 
 /// Why a builder refused an action. Nothing is promised then of what it represents: its owner gives it up.
 #[derive(Clone, Copy, Debug, PartialEq, Eq)]

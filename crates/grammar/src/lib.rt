@@ -13,11 +13,14 @@ mod pools;
 mod profiles;
 mod scope;
 
+pub use arith::Op;
 pub use build::{Build, BuildFault};
 pub use diagnostics::{Code, Diagnostic, ParseFault, code_of};
 pub use known::{known_emissions, known_sources, known_texts};
 pub use names::{Callee, Intrinsic, Var};
-pub use operators::{Binary, Op, StoreOp, operator_from, store_operator};
+pub use operators::{
+    Binary, StoreOp, operator_from, operator_punctuator, store_operator, store_punctuator,
+};
 pub use pools::{Function, MOST_NAMES, Pools};
 pub use profiles::Profile;
 pub use scope::{Scope, intrinsic, number_of};

@@ -1,52 +1,12 @@
 //! The eighteen binary operators and the eleven of assignments, with the punctuators that spell them.
 
-ghost use Rattle.std.specs.Prelude.{◌≡◌};
-ghost use Rattle.grammar.specs.Operators.{binary_of, is_logic, store_of, store_operator};
+ghost use Rattle.std.specs.Prelude.{◌≡◌, ◌≤◌, length};
+ghost use Rattle.tokens.specs.Punctuators.{spelling};
+ghost use Rattle.grammar.specs.Operators.{binary_of, binary_punctuator, op_of, store_of, store_operator, store_punctuator};
 ghost use Rattle.grammar.specs.Climbing.{operator_from};
 
+use arith::Op;
 use tokens::{Punctuator, Token};
-
-/// A binary operator. The levels of the grammar bind tighter from the first to the last:
-/// `||`, `&&`, `|`, `^`, `&`, equality, order, shifts, sums, products.
-#[derive(Clone, Copy, Debug, PartialEq, Eq)]
-pub enum Op {
-    /// `||`: 1 if one of the sides isn't 0, else 0. Both sides are evaluated.
-    Or,
-    /// `&&`: 1 if neither side is 0, else 0. Both sides are evaluated.
-    And,
-    /// `|`
-    BitOr,
-    /// `^`
-    BitXor,
-    /// `&`
-    BitAnd,
-    /// `==`
-    Equal,
-    /// `!=`
-    NotEqual,
-    /// `<`
-    Less,
-    /// `>`
-    Greater,
-    /// `<=`
-    LessOrEqual,
-    /// `>=`
-    GreaterOrEqual,
-    /// `<<`
-    ShiftLeft,
-    /// `>>`, which keeps the sign
-    ShiftRight,
-    /// `+`
-    Add,
-    /// `-`
-    Subtract,
-    /// `*`
-    Multiply,
-    /// `/`, towards 0
-    Divide,
-    /// `%`, with the dividend's sign
-    Remainder,
-}
 
 /// What a store does to a variable: it takes the word as it is, or the operator's result of the variable and the word.
 #[derive(Clone, Copy, Debug, PartialEq, Eq)]
@@ -84,12 +44,25 @@ pub struct Binary {
     pub op: Op,
 }
 
-impl Op {
-    /// Reports whether the middle between the operator's sides is reported to a builder: those of `&&` and `||`.
-    pub fn is_logic(self) -> bool
-        ensures { result ≡ is_logic self }
+impl StoreOp {
+    /// Returns the binary operator that makes the new value of the variable's and the right side: none for `=`.
+    #[inline(always)]
+    pub fn op(self) -> Option<Op>
+        ensures { result ≡ op_of self }
     {
-        matches!(self, Op::Or | Op::And)
+        match self {
+            StoreOp::Set => None,
+            StoreOp::Add => Some(Op::Add),
+            StoreOp::Subtract => Some(Op::Subtract),
+            StoreOp::Multiply => Some(Op::Multiply),
+            StoreOp::Divide => Some(Op::Divide),
+            StoreOp::Remainder => Some(Op::Remainder),
+            StoreOp::ShiftLeft => Some(Op::ShiftLeft),
+            StoreOp::ShiftRight => Some(Op::ShiftRight),
+            StoreOp::BitAnd => Some(Op::BitAnd),
+            StoreOp::BitXor => Some(Op::BitXor),
+            StoreOp::BitOr => Some(Op::BitOr),
+        }
     }
 }
 
@@ -107,55 +80,32 @@ pub fn operator_from(token: &Token, level: u8) -> Option<Binary>
     }
 }
 
-/// The binary operators with their levels, in the order of the punctuators.
-static BINARIES: [Option<(u8, Op)>; 39] = [
-    Some((9, Op::Add)),
-    Some((9, Op::Subtract)),
-    Some((10, Op::Multiply)),
-    Some((10, Op::Divide)),
-    Some((10, Op::Remainder)),
-    Some((5, Op::BitAnd)),
-    Some((3, Op::BitOr)),
-    Some((4, Op::BitXor)),
-    None,
-    None,
-    Some((7, Op::Less)),
-    Some((7, Op::Greater)),
-    None,
-    Some((8, Op::ShiftLeft)),
-    Some((8, Op::ShiftRight)),
-    Some((7, Op::LessOrEqual)),
-    Some((7, Op::GreaterOrEqual)),
-    Some((6, Op::Equal)),
-    Some((6, Op::NotEqual)),
-    Some((2, Op::And)),
-    Some((1, Op::Or)),
-    None,
-    None,
-    None,
-    None,
-    None,
-    None,
-    None,
-    None,
-    None,
-    None,
-    None,
-    None,
-    None,
-    None,
-    None,
-    None,
-    None,
-    None,
-];
-
 /// Returns the binary operator that a punctuator spells.
 #[inline(always)]
 fn binary_of(punctuator: Punctuator) -> Option<Binary>
     ensures { result ≡ binary_of punctuator }
 {
-    let (level, op) = BINARIES[punctuator as usize]?;
+    let (level, op) = match punctuator {
+        Punctuator::OrOr => (1, Op::Or),
+        Punctuator::AndAnd => (2, Op::And),
+        Punctuator::Or => (3, Op::BitOr),
+        Punctuator::Xor => (4, Op::BitXor),
+        Punctuator::And => (5, Op::BitAnd),
+        Punctuator::EqualsEquals => (6, Op::Equal),
+        Punctuator::NotEquals => (6, Op::NotEqual),
+        Punctuator::Less => (7, Op::Less),
+        Punctuator::Greater => (7, Op::Greater),
+        Punctuator::LessEquals => (7, Op::LessOrEqual),
+        Punctuator::GreaterEquals => (7, Op::GreaterOrEqual),
+        Punctuator::ShiftLeft => (8, Op::ShiftLeft),
+        Punctuator::ShiftRight => (8, Op::ShiftRight),
+        Punctuator::Plus => (9, Op::Add),
+        Punctuator::Minus => (9, Op::Subtract),
+        Punctuator::Star => (10, Op::Multiply),
+        Punctuator::Slash => (10, Op::Divide),
+        Punctuator::Percent => (10, Op::Remainder),
+        _ => return None,
+    };
     Some(Binary { level, op })
 }
 
@@ -186,5 +136,52 @@ fn store_of(punctuator: Punctuator) -> Option<StoreOp>
         Punctuator::XorEquals => Some(StoreOp::BitXor),
         Punctuator::OrEquals => Some(StoreOp::BitOr),
         _ => None,
+    }
+}
+
+/// Returns the punctuator that spells an operator.
+pub fn operator_punctuator(op: Op) -> &'static str
+    ensures punctuator { result.now ≡ spelling (binary_punctuator op) }
+    ensures short { length result.now ≤ 2 }
+{
+    match op {
+        Op::Or => "||",
+        Op::And => "&&",
+        Op::BitOr => "|",
+        Op::BitXor => "^",
+        Op::BitAnd => "&",
+        Op::Equal => "==",
+        Op::NotEqual => "!=",
+        Op::Less => "<",
+        Op::Greater => ">",
+        Op::LessOrEqual => "<=",
+        Op::GreaterOrEqual => ">=",
+        Op::ShiftLeft => "<<",
+        Op::ShiftRight => ">>",
+        Op::Add => "+",
+        Op::Subtract => "-",
+        Op::Multiply => "*",
+        Op::Divide => "/",
+        Op::Remainder => "%",
+    }
+}
+
+/// Returns the punctuator that spells an assignment's operator.
+pub fn store_punctuator(op: StoreOp) -> &'static str
+    ensures punctuator { result.now ≡ spelling (store_punctuator op) }
+    ensures short { length result.now ≤ 3 }
+{
+    match op {
+        StoreOp::Set => "=",
+        StoreOp::Add => "+=",
+        StoreOp::Subtract => "-=",
+        StoreOp::Multiply => "*=",
+        StoreOp::Divide => "/=",
+        StoreOp::Remainder => "%=",
+        StoreOp::ShiftLeft => "<<=",
+        StoreOp::ShiftRight => ">>=",
+        StoreOp::BitAnd => "&=",
+        StoreOp::BitXor => "^=",
+        StoreOp::BitOr => "|=",
     }
 }

@@ -17,7 +17,7 @@ use Rattle.series.specs.declared.endings.Status.{Status}
 use Rattle.series.specs.declared.endings.Status.TheVariants.{Done, Faulty}
 use Rattle.sinks.specs.Portions.{Contents, Portions, Takes}
 use Rattle.page.specs.declared.orders.Order.{Order}
-use Rattle.page.specs.declared.robots.Robot.{Robot}
+use Rattle.page.specs.declared.robots.RobotFile.{RobotFile}
 use Rattle.page.specs.declared.sheets.Sheet.{Sheet}
 use Rattle.page.specs.Orders.{setup_of}
 use Rattle.page.specs.Robots.{name_bytes, source_bytes, source_of}
@@ -39,10 +39,12 @@ record Grow (t f : Contents) (after : Taken) (text faults : List ℕ) : Type 0 w
 -- the bytes that a sink took
 grown : (t : Contents) (after : Portions) (bytes : List ℕ) (takes : Takes (Some t) after bytes)
     → concat (t.portions ++ takes.portions) ≡ concat t.portions ++ bytes
-grown t after bytes takes = concat-append t.portions takes.portions ∙ ap (λ (l : List ℕ). concat t.portions ++ l) takes.joined
+grown t after bytes takes =
+    concat-append t.portions takes.portions ∙ ap (λ (l : List ℕ). concat t.portions ++ l) takes.joined
 
 -- one piece
-one_grows : (channel : Channel) (bytes : List ℕ) (t f : Contents) (after : Taken) → TakesOn channel (both t f) after bytes
+one_grows : (channel : Channel) (bytes : List ℕ) (t f : Contents) (after : Taken) →
+    TakesOn channel (both t f) after bytes
     → Grow t f after (part_on Text channel bytes) (part_on Faults channel bytes)
 one_grows Text bytes t f after (takes, same) = record {
   new_text = record t { portions = t.portions ++ takes.portions };
@@ -81,8 +83,10 @@ all_grow t f after (piece ∷ pieces) (between, takes, rest) =
       new_text = there.new_text;
       new_faults = there.new_faults;
       is = there.is;
-      texts = behind (concat t.portions) (concat here.new_text.portions) (concat there.new_text.portions) _ _ here.texts there.texts;
-      lines = behind (concat f.portions) (concat here.new_faults.portions) (concat there.new_faults.portions) _ _ here.lines there.lines;
+      texts = behind (concat t.portions) (concat here.new_text.portions) (concat there.new_text.portions) _ _ here.texts
+          there.texts;
+      lines = behind (concat f.portions) (concat here.new_faults.portions) (concat there.new_faults.portions) _ _
+          here.lines there.lines;
     }
 
 -- what a sink took, portion by portion
@@ -92,16 +96,20 @@ portions_in (Some contents) = contents.portions
 
 -- two sheets that were blank
 held : (out : Output) (text faults : Sheet)
-    → Writes (both (record { portions = []; whole = false }) (record { portions = []; whole = false })) (taken (contents_of text) (contents_of faults)) out.pieces
+    →
+    Writes (both (record { portions = []; whole = false }) (record { portions = []; whole = false }))
+    (taken (contents_of text) (contents_of faults)) out.pieces
     → Holds out text faults
 held out text faults writes =
-    let grow = all_grow (record { portions = []; whole = false }) (record { portions = []; whole = false }) (taken (contents_of text) (contents_of faults)) out.pieces writes in
+    let grow =
+    all_grow (record { portions = []; whole = false }) (record { portions = []; whole = false })
+    (taken (contents_of text) (contents_of faults)) out.pieces writes in
     let texts : told text ≡ grow.new_text.portions = ap (λ (t : Taken). portions_in t.text) grow.is in
     let lines : told faults ≡ grow.new_faults.portions = ap (λ (t : Taken). portions_in t.faults) grow.is in
     record { texts = ap concat texts ∙ grow.texts; lines = ap concat lines ∙ grow.lines }
 
 -- a run's code says what the sheets hold
-pub is_output : (order : Order) (robots : List Robot) (ran : Option (Result Status RunFault)) (text faults : Sheet)
+pub is_output : (order : Order) (robots : List RobotFile) (ran : Option (Result Status RunFault)) (text faults : Sheet)
     → IfSome ran (λ ran. RunsRobots order robots ran text faults) → IsOutput order robots (code_of ran) text faults
 is_output order robots None text faults runs = λ small. absurd (omega arith)
 is_output order robots (Some (Ok status)) text faults (writes, is) = λ small.
@@ -111,11 +119,15 @@ is_output order robots (Some (Err fault.Write)) text faults runs = λ small. abs
 is_output order robots (Some (Err fault.Memory)) text faults runs = λ small. absurd (omega arith)
 
 -- a run over the sources of the robots, on blank sheets
-pub by_robots : (order : Order) (robots : List Robot) (setup : Setup) (words : List (List ℕ)) (known : List (Option (List ℕ)))
+pub by_robots : (order : Order) (robots : List RobotFile) (setup : Setup) (words : List (List ℕ))
+    (known : List (Option (List ℕ)))
     (ran : Result Status RunFault) (text faults new_text new_faults : Sheet) → setup ≡ setup_of order words
-    → words ≡ map name_bytes robots → known ≡ map (λ robot. Some (source_bytes robot)) robots → told text ≡ [] → told faults ≡ []
+    → words ≡ map name_bytes robots → known ≡ map (λ robot. Some (source_bytes robot)) robots → told text ≡ [] →
+    told faults ≡ []
     → ((sources : List Source) → AreSources sources setup.words known
-    → Runs setup sources ran (taken (contents_of text) (contents_of faults)) (taken (contents_of new_text) (contents_of new_faults)))
+    →
+    Runs setup sources ran (taken (contents_of text) (contents_of faults))
+    (taken (contents_of new_text) (contents_of new_faults)))
     → RunsRobots order robots ran new_text new_faults
 by_robots order robots setup words known ran text faults new_text new_faults is names bytes no_text no_faults runs =
     let whole : setup ≡ setup_of order (map name_bytes robots) = is ∙ ap (setup_of order) names in
@@ -126,7 +138,8 @@ by_robots order robots setup words known ran text faults new_text new_faults is 
     let after : Taken = taken (contents_of new_text) (contents_of new_faults) in
     let before : taken (contents_of text) (contents_of faults) ≡ blank = rw (no_text, no_faults) refl in
     let all = runs (map source_of robots) (record { named = named; bytes = told_bytes }) in
-    let P : Setup → Type 0 = λ s. Runs s (map source_of robots) ran (taken (contents_of text) (contents_of faults)) after in
+    let P : Setup → Type 0 =
+    λ s. Runs s (map source_of robots) ran (taken (contents_of text) (contents_of faults)) after in
     let Q : Taken → Type 0 = λ b. Runs (setup_of order (map name_bytes robots)) (map source_of robots) ran b after in
     subst Q before (subst P whole all)
 
@@ -137,21 +150,26 @@ never_failed (feed ∷ feeds) zero = refl
 never_failed (feed ∷ feeds) (suc n) = never_failed feeds n
 
 -- of devices that never fail only a sink stops a run
-pub only_writes : {X : Type 0} → (olds news : List X) (ran : Result Status RunFault) (text faults later_text later_faults : ℕ)
-    → Accounts ran (failures (map (λ _. no_device) olds) text faults) (failures (map (λ _. no_device) news) later_text later_faults)
+pub only_writes : {X : Type 0} →
+    (olds news : List X) (ran : Result Status RunFault) (text faults later_text later_faults : ℕ)
+    →
+    Accounts ran (failures (map (λ _. no_device) olds) text faults)
+    (failures (map (λ _. no_device) news) later_text later_faults)
     → IfErr ran (λ stopped. stopped ≡ fault.Write)
 only_writes olds news (Ok status) text faults later_text later_faults accounts = tt
 only_writes olds news (Err (fault.Read file)) text faults later_text later_faults (within, is) =
     let feeds : List Account = map (λ _. no_device) olds in
     let here = ap (λ (f : Failures). get_or f.feeds file no_device) is in
     let there = get_or-set_same feeds file (failed_again (get_or feeds file no_device)) no_device within in
-    let counts : 0 ≡ (get_or feeds file no_device).failures + 1 = ap (λ (a : Account). a.failures) (sym (never_failed news file) ∙ here ∙ there) in
+    let counts : 0 ≡ (get_or feeds file no_device).failures + 1 =
+    ap (λ (a : Account). a.failures) (sym (never_failed news file) ∙ here ∙ there) in
     absurd (omega (arith, counts))
 only_writes olds news (Err fault.Write) text faults later_text later_faults accounts = refl
 only_writes olds news (Err fault.Memory) text faults later_text later_faults accounts = absurd accounts
 
 -- the code of a run that only a sink can have stopped
-pub is_of_run : (ran : Option (Result Status RunFault)) → IsSome ran → IfSome ran (λ ran. IfErr ran (λ stopped. stopped ≡ fault.Write))
+pub is_of_run : (ran : Option (Result Status RunFault)) → IsSome ran →
+    IfSome ran (λ ran. IfErr ran (λ stopped. stopped ≡ fault.Write))
     → IsOfRun (code_of ran)
 is_of_run None some stopped = absurd (cc some)
 is_of_run (Some (Ok Done)) some stopped = inl (search rules)

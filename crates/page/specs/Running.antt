@@ -9,7 +9,7 @@ use Rattle.series.specs.declared.endings.Status.{Status}
 use Rattle.series.specs.declared.endings.Status.TheVariants.{Done, Faulty}
 use Rattle.sinks.specs.Portions.{Portions}
 use Rattle.page.specs.declared.orders.Order.{Order}
-use Rattle.page.specs.declared.robots.Robot.{Robot}
+use Rattle.page.specs.declared.robots.RobotFile.{RobotFile}
 use Rattle.page.specs.declared.sheets.Sheet.{Sheet}
 use Rattle.settings.specs.Limits.{files_max}
 use Rattle.page.specs.Orders.{AreWithin, setup_of}
@@ -25,19 +25,19 @@ abbrev pub blank : Taken
 blank = record { text = nothing; faults = nothing }
 
 -- one to four robots, whose names are texts, and an order whose numbers are within their limits
-pub record IsAccepted (order : Order) (robots : List Robot) : Type 0 where
+pub record IsAccepted (order : Order) (robots : List RobotFile) : Type 0 where
   pub within : AreWithin order
   pub some : 1 ≤ length robots
   pub most : length robots ≤ files_max
   pub names : All (λ robot. IsUtf8 (name_bytes robot)) robots
 
 -- what the order asks for of the robots wrote this on two sheets that were blank, and ended so
-abbrev pub RunsRobots : Order → List Robot → Result Status RunFault → Sheet → Sheet → Type 0
+abbrev pub RunsRobots : Order → List RobotFile → Result Status RunFault → Sheet → Sheet → Type 0
 RunsRobots order robots ran text faults = Runs (setup_of order (map name_bytes robots)) (map source_of robots) ran
     blank (taken (contents_of text) (contents_of faults))
 
 -- the output of what the order asks for of the robots
-abbrev pub output_of : Order → List Robot → Output
+abbrev pub output_of : Order → List RobotFile → Output
 output_of order robots = output (setup_of order (map name_bytes robots)) (map source_of robots)
 
 -- the bytes of a piece, if it is written on this channel
@@ -81,6 +81,6 @@ abbrev pub IsOfRun : ℕ → Type 0
 IsOfRun code = (code ≤ 1) ⊎ (code ≡ 4)
 
 -- a code of 0 or 1 is the output's status, and then the sheets hold the output
-abbrev pub IsOutput : Order → List Robot → ℕ → Sheet → Sheet → Type 0
+abbrev pub IsOutput : Order → List RobotFile → ℕ → Sheet → Sheet → Type 0
 IsOutput order robots code text faults = code ≤ 1
     → (code ≡ status_code (output_of order robots).status) × Holds (output_of order robots) text faults

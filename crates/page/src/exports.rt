@@ -5,7 +5,7 @@ ghost use Rattle.page.specs.Running.{IsAccepted, IsOfRun, IsOutput, code_of};
 
 use crate::filming::film_robots;
 use crate::orders::Order;
-use crate::robots::Robot;
+use crate::robots::RobotFile;
 use crate::running::run_robots;
 use crate::sheets::Sheet;
 use series::{RunFault, Status};
@@ -16,7 +16,12 @@ use series::{RunFault, Status};
 /// Answers as the program's exit status: 0 if each source is good, 1 if one has a fault, 2 if a number is not within its
 /// limits, a name is no text, or there is no robot or over four, and 4 if a sheet is full.
 #[unsafe(no_mangle)]
-pub extern "C" fn run(order: &Order, robots: &[Robot], text: &mut Sheet, faults: &mut Sheet) -> u32
+pub extern "C" fn run(
+    order: &Order,
+    robots: &[RobotFile],
+    text: &mut Sheet,
+    faults: &mut Sheet,
+) -> u32
     ensures output { IsOutput order.now robots.now result text.new faults.new }
     ensures accepted { IsAccepted order.now robots.now → IsOfRun result }
 {
@@ -28,7 +33,7 @@ pub extern "C" fn run(order: &Order, robots: &[Robot], text: &mut Sheet, faults:
 #[unsafe(no_mangle)]
 pub extern "C" fn film(
     order: &Order,
-    robots: &[Robot],
+    robots: &[RobotFile],
     text: &mut Sheet,
     faults: &mut Sheet,
 ) -> u32 {
@@ -58,7 +63,7 @@ pub extern "C" fn order_bytes() -> usize {
 /// Returns how many bytes a robot has.
 #[unsafe(no_mangle)]
 pub extern "C" fn robot_bytes() -> usize {
-    size_of::<Robot>()
+    size_of::<RobotFile>()
 }
 
 /// Returns how many bytes a sheet has.

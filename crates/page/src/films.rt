@@ -5,12 +5,20 @@ ghost use Rattle.std.specs.Prelude.{◌≡◌, ◌<◌, ◌≤◌, length};
 use crate::rows::{Field, Row};
 use crate::sheets::Sheet;
 use arena::{Arena, MOST_ROBOTS};
-use code::{Cause, Intrinsic, Program};
+use arrayvec::ArrayVec;
+use code::{Cause, Intrinsic};
+use derivations::Places;
 use findings::{Loss, Run, Source, Stance, function_at, losses};
+use grammar::MOST_NAMES;
 use playing::{Pilot, Question, Turn, Watcher};
+use series::{RunFault, Status};
+use tokens::Name;
 
 /// The first line of a film: the names of its columns.
 pub(crate) const COLUMNS: &[u8] = b"cycle\trobot\tkind\ta\tb\tc\td\te\n";
+
+/// The names of the functions of a file, by number.
+pub(crate) type Functions = ArrayVec<Name, MOST_NAMES>;
 
 /// What was seen of a robot.
 #[derive(Clone, Copy, Default)]
@@ -25,43 +33,65 @@ struct Seen {
 #[derive(Drop)]
 pub(crate) struct Film<'a> {
     sheet: &'a mut Sheet,
+    functions: &'a [Functions],
+    places: &'a [Option<Places>],
+    skipped: u32,
     seen: [Seen; MOST_ROBOTS],
     robots: usize,
 }
 
 impl<'a> Film<'a> {
-    /// Begins a film on a sheet.
-    pub(crate) fn new(sheet: &'a mut Sheet) -> Film<'a> {
+    /// Begins a film on a sheet. These are the functions of each file, and the places of its instructions. So many rows are
+    /// left out.
+    pub(crate) fn new(
+        sheet: &'a mut Sheet,
+        functions: &'a [Functions],
+        places: &'a [Option<Places>],
+        skipped: u32,
+    ) -> Film<'a> {
         sheet.add(COLUMNS);
         Film {
             sheet,
+            functions,
+            places,
+            skipped,
             seen: [Seen::default(); MOST_ROBOTS],
             robots: 0,
         }
     }
 
-    /// Ends the film after the last cycle: where the robots' ways end, and their damages.
-    pub(crate) fn end(mut self, cycle: u32) {
-        for robot in 0..self.robots {
-            let Some(seen) = self.seen.get(robot).copied() else {
-                return;
-            };
+    /// Ends the film after the last cycle: where the robots' ways end, and their damages. The error is that the sheet was
+    /// full.
+    pub(crate) fn end(mut self, cycle: u32) -> Result<Status, RunFault> {
+        for robot in 0..self.robots.min(MOST_ROBOTS) {
+            let seen = self.seen[robot];
             if let Some(end) = seen.run.end() {
                 self.tell_stance(robot, &end);
             }
-            self.tell(
-                cycle,
-                robot,
-                b"end",
-                &[Field::Number(i32::from(seen.damage))],
-            );
+            let damage = Field::Number(i32::from(seen.damage));
+            self.tell(cycle, robot, b"end", &[damage]);
         }
+        self.sheet.ending()
     }
 
-    /// Writes a row.
+    /// Writes a row, unless it is one of the first ones that are left out.
     fn tell(&mut self, cycle: u32, robot: usize, kind: &[u8], fields: &[Field<'_>]) {
+        if self.skipped > 0 {
+            self.skipped -= 1;
+            return;
+        }
         self.sheet
             .add(Row::new(cycle, robot, kind, fields).as_slice());
+    }
+
+    /// Returns the line that the instruction of an address comes from, 0 if it isn't known. A single file's program is that
+    /// of both robots.
+    fn line(&self, robot: usize, address: usize) -> u32 {
+        let file = robot.min(self.places.len().saturating_sub(1));
+        match self.places.get(file) {
+            Some(Some(places)) => places.place(address).unwrap_or_default().line,
+            _ => 0,
+        }
     }
 
     /// Writes where a robot is.
@@ -188,11 +218,13 @@ impl Watcher for Film<'_> {
     }
 
     fn restarts(&mut self, turn: Turn, pilot: &Pilot<'_>, cause: Cause) {
-        let function = function_name(pilot.program(), pilot.machine().address());
+        let address = pilot.machine().address();
+        let number = function_at(pilot.program().addresses(), address);
+        let function = function_name(self.functions, turn.robot, number);
         let fields = [
             Field::Text(word_of(cause)),
             Field::Text(function),
-            Field::Number(0),
+            Field::Count(self.line(turn.robot, address)),
         ];
         self.tell(turn.cycle, turn.robot, b"restart", &fields);
     }
@@ -215,11 +247,11 @@ impl Watcher for Film<'_> {
     }
 }
 
-/// Returns the name of the function that holds an address.
-fn function_name(program: &Program, address: usize) -> &[u8] {
-    let number = function_at(program.addresses(), address);
-    match program.names().functions().get(number) {
-        Some(function) => function.name().as_bytes(),
+/// Returns the name of a robot's function of this number. A single file is both robots'.
+fn function_name(files: &[Functions], robot: usize, number: usize) -> &[u8] {
+    let file = if files.len() == 1 { 0 } else { robot };
+    match files.get(file).and_then(|functions| functions.get(number)) {
+        Some(name) => name.as_bytes(),
         None => b"?",
     }
 }

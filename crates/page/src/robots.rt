@@ -6,14 +6,14 @@ ghost use Rattle.page.specs.Robots.{name_bytes, source_bytes};
 /// The most bytes of a name.
 pub const NAME_MAX: usize = 255;
 
-/// The most bytes of a source: 1 MiB.
-pub const SOURCE_MAX: usize = 1_048_576;
+/// The most bytes of a source: one more than a source may have, so that the engine itself refuses one that is too long.
+pub const SOURCE_MAX: usize = 1_048_577;
 
 /// A robot: its name is the first `name_size` bytes of `name`, and its source the first `source_size` of `source`. A
 /// greater number than there are means all.
 #[repr(C)]
 #[derive(Drop)]
-pub struct Robot {
+pub struct RobotFile {
     /// How many bytes the name has.
     pub name_size: u32,
     /// How many bytes the source has.
@@ -24,7 +24,7 @@ pub struct Robot {
     pub source: [u8; SOURCE_MAX],
 }
 
-impl Robot {
+impl RobotFile {
     /// Returns the name, if it is a text.
     pub fn name(&self) -> Option<&str>
         ensures name { IfSome result (λ name. name.now ≡ name_bytes self.now) }

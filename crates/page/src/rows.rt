@@ -12,6 +12,8 @@ pub(crate) const ROW_BYTES: usize = 200;
 pub(crate) enum Field<'a> {
     /// A number.
     Number(i32),
+    /// A number that is not below 0.
+    Count(u32),
     /// A text.
     Text(&'a [u8]),
 }
@@ -50,6 +52,7 @@ impl Row {
     fn field(&mut self, field: Field<'_>) {
         match field {
             Field::Number(number) => self.number(number),
+            Field::Count(number) => self.digits(number),
             Field::Text(text) => self.add(text),
         }
     }

@@ -10,7 +10,7 @@ ghost use Rattle.page.specs.Running.{IsAccepted, RunsRobots};
 ghost use Rattle.page.specs.Sheets.{contents_of};
 
 use crate::orders::Order;
-use crate::robots::Robot;
+use crate::robots::RobotFile;
 use crate::sheets::Sheet;
 use crate::sources::SourceFeed;
 use arrayvec::ArrayVec;
@@ -22,7 +22,7 @@ use series::{FILES_MAX, RunFault, Settings, Status, run};
 /// `None` if a number of the order is not within its limits, a name is no text, or there is no robot or over four.
 pub fn run_robots(
     order: &Order,
-    robots: &[Robot],
+    robots: &[RobotFile],
     text: &mut Sheet,
     faults: &mut Sheet,
 ) -> Option<Result<Status, RunFault>>
@@ -42,7 +42,7 @@ pub fn run_robots(
 }
 
 /// Returns the names of at most four robots, if they are texts.
-pub(crate) fn words_of(robots: &[Robot]) -> Option<ArrayVec<&str, FILES_MAX>>
+pub(crate) fn words_of(robots: &[RobotFile]) -> Option<ArrayVec<&str, FILES_MAX>>
     ensures names { IfSome result (λ words. map (λ word. word.now) words.items ≡ map name_bytes robots.now) }
     ensures accepted { All (λ robot. IsUtf8 (name_bytes robot)) robots.now → length robots.now ≤ FILES_MAX → IsSome result }
 {
@@ -54,7 +54,7 @@ pub(crate) fn words_of(robots: &[Robot]) -> Option<ArrayVec<&str, FILES_MAX>>
 }
 
 /// Returns the sources of at most four robots.
-pub(crate) fn feeds_of(robots: &[Robot]) -> Option<ArrayVec<SourceFeed<'_>, FILES_MAX>>
+pub(crate) fn feeds_of(robots: &[RobotFile]) -> Option<ArrayVec<SourceFeed<'_>, FILES_MAX>>
     ensures bytes { IfSome result (λ feeds. map (λ feed. Some feed.rest.now) feeds.items
         ≡ map (λ robot. Some (source_bytes robot)) robots.now) }
     ensures not_ended { IfSome result (λ feeds. All (λ feed. feed.ended ≡ false) feeds.items) }

@@ -1,9 +1,9 @@
 //! Sheets: what a run writes, kept in memory that the caller lends.
 
-ghost use Rattle.std.specs.Prelude.{◌≡◌, []};
+ghost use Rattle.std.specs.Prelude.{◌≡◌, ◌<◌, [], false, IfErr, IfOk, IsErr, IsOk};
 ghost use Rattle.page.specs.Sheets.{contents_of, told};
 
-use series::Sink;
+use series::{RunFault, Sink, Status};
 use tokens::DeviceFault;
 
 /// The most bytes of a frame.
@@ -43,11 +43,45 @@ impl Sheet {
         self.failures = 0;
     }
 
-    /// Adds bytes, up to 255. A sheet that was full takes no more, and so do no bytes.
+    /// Adds bytes, up to 255: to the last frame if that has room. A sheet that was full takes no more, and so do no bytes.
     pub(crate) fn add(&mut self, bytes: &[u8]) {
-        if !bytes.is_empty() && self.failures == 0 {
+        if !bytes.is_empty() && self.failures == 0 && !self.fill(bytes) {
             let _ = self.put(bytes);
         }
+    }
+
+    /// Returns how a run ended that wrote on the sheet: its text is whole, or a write failed.
+    pub(crate) fn ending(&self) -> Result<Status, RunFault>
+        ensures whole { IsOk result → self.now.failures ≡ 0 }
+        ensures cut { IsErr result → 0 < self.now.failures }
+        ensures status { IfOk result (λ status. status ≡ Status.Done) }
+        ensures fault { IfErr result (λ fault. fault ≡ RunFault.Write) }
+    {
+        if self.failures > 0 {
+            Err(RunFault::Write)
+        } else {
+            Ok(Status::Done)
+        }
+    }
+
+    /// Adds bytes to the last frame. Answers whether that had room for all of them.
+    fn fill(&mut self, bytes: &[u8]) -> bool
+        ensures failures { self.new.failures ≡ self.old.failures }
+        ensures refused { result ≡ false → self.new ≡ self.old }
+    {
+        let used = self.used as usize;
+        if used == 0 || used > FRAMES {
+            return false;
+        }
+        let begin = self.frames[used - 1].size as usize;
+        if bytes.len() > FRAME_BYTES - begin {
+            return false;
+        }
+        let frame = &mut self.frames[used - 1];
+        let end = begin + bytes.len();
+        frame.bytes[begin..end].copy_from_slice(bytes);
+        frame.size = end as u8;
+        true
     }
 }
 

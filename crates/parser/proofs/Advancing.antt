@@ -1,5 +1,5 @@
 -- How the reading of a file goes on, and where it stops.
-use Rattle.std.proofs.Common.{◌≡◌, List, [], ◌∷◌, ◌++◌, refl, sym, ap, ◌∙◌, subst, Bool, true, append_assoc, append-nil, ℕ}
+use Rattle.std.proofs.Common.{◌≡◌, List, [], ◌∷◌, ◌++◌, refl, sym, ap, ◌∙◌, subst, append_assoc, append-nil, ℕ}
 use Rattle.tokens.specs.declared.located_tokens.LocatedToken.{LocatedToken}
 use Rattle.grammar.specs.declared.diagnostics.Diagnostic.{Diagnostic}
 use Rattle.grammar.specs.declared.diagnostics.ParseFault.{ParseFault}
@@ -20,7 +20,8 @@ use Rattle.parsing.proofs.Segments.{refused_map, told_goes, Begins, functions_ba
 use Rattle.parser.specs.Progress.{IsTold, ReadsOn, StopsReading, StopsTelling}
 use Rattle.tokens.specs.Reading.{IsNearTo}
 
-pub definitions_actions-append : (ds es : List Definition) → definitions_actions (ds ++ es) ≡ definitions_actions ds ++ definitions_actions es
+pub definitions_actions-append : (ds es : List Definition) →
+    definitions_actions (ds ++ es) ≡ definitions_actions ds ++ definitions_actions es
 definitions_actions-append [] es = refl
 definitions_actions-append (d ∷ ds) es =
     ap (λ (acts : List Action). function_actions d.number d.function ++ acts) (definitions_actions-append ds es)
@@ -34,62 +35,96 @@ advances_stay before front at = record {
   told = λ located_tokens is. record { rest = located_tokens; is = refl; shows = is };
   follows = λ rest g. g;
   added = λ profile acts h. subst (λ (xs : List Action). before profile xs) (sym (append-nil acts)) h;
-  passes = λ rest g profile functions h. subst (λ (fs : List Definition). Passes profile (state front rest [] (scope_at at) functions) (state front rest [] (scope_at at) fs)) (sym (append-nil functions)) (here profile _);
+  passes =
+      λ rest g profile functions h. subst
+      (λ (fs : List Definition). Passes profile (state front rest [] (scope_at at) functions)
+      (state front rest [] (scope_at at) fs)) (sym (append-nil functions)) (here profile _);
 }
 
 -- two readings one behind another
 pub advances_then : (before mid after : Meaning) (front between pending : List Item) (at now there : Place) →
-    ReadsOn before mid front between at now → ReadsOn mid after between pending now there → ReadsOn before after front pending at there
+    ReadsOn before mid front between at now → ReadsOn mid after between pending now there →
+    ReadsOn before after front pending at there
 advances_then before mid after front between pending at now there a b = record {
   consumed = a.consumed ++ b.consumed;
   more = a.more ++ b.more;
   told = λ located_tokens is.
       let t : TakesTokens a.consumed located_tokens now = a.told located_tokens is in
       let u : TakesTokens b.consumed t.rest there = b.told t.rest t.shows in
-      record { rest = u.rest; is = t.is ∙ ap (λ (ls : List LocatedToken). a.consumed ++ ls) u.is ∙ sym (append_assoc a.consumed b.consumed u.rest); shows = u.shows };
-  follows = λ rest g. subst (λ (ls : List LocatedToken). GoesOn at ls) (sym (append_assoc a.consumed b.consumed rest)) (a.follows _ (b.follows rest g));
+      record {
+        rest = u.rest;
+        is = t.is ∙ ap (λ (ls : List LocatedToken). a.consumed ++ ls) u.is ∙
+            sym (append_assoc a.consumed b.consumed u.rest);
+        shows = u.shows;
+      };
+  follows =
+      λ rest g. subst (λ (ls : List LocatedToken). GoesOn at ls) (sym (append_assoc a.consumed b.consumed rest))
+      (a.follows _ (b.follows rest g));
   added = λ profile acts h.
-      subst (λ (xs : List Action). after profile xs) (append_assoc acts (definitions_actions a.more) (definitions_actions b.more) ∙ ap (λ (xs : List Action). acts ++ xs) (sym (definitions_actions-append a.more b.more)))
+      subst (λ (xs : List Action). after profile xs)
+      (append_assoc acts (definitions_actions a.more) (definitions_actions b.more) ∙
+      ap (λ (xs : List Action). acts ++ xs) (sym (definitions_actions-append a.more b.more)))
       (b.added profile _ (a.added profile acts h));
   passes = λ rest g profile functions h.
-      let told : mid profile (definitions_actions (functions ++ a.more)) = subst (λ (xs : List Action). mid profile xs) (sym (definitions_actions-append functions a.more)) (a.added profile _ h) in
+      let told : mid profile (definitions_actions (functions ++ a.more)) =
+      subst (λ (xs : List Action). mid profile xs) (sym (definitions_actions-append functions a.more))
+      (a.added profile _ h) in
       rw (append_assoc a.consumed b.consumed rest, sym (append_assoc functions a.more b.more))
-      (then profile _ _ _ (a.passes (b.consumed ++ rest) (b.follows rest g) profile functions h) (b.passes rest g profile (functions ++ a.more) told));
+      (then profile _ _ _ (a.passes (b.consumed ++ rest) (b.follows rest g) profile functions h)
+      (b.passes rest g profile (functions ++ a.more) told));
 }
 
 -- Where a reading stops.
 
 -- where it stops goes back along a segment without faults
-pub telling_back : (after : Meaning) (profile : Profile) (s t : State) (stop : Stop) (consumed : List LocatedToken) → s.rest ≡ consumed ++ t.rest → Passes profile s t →
+pub telling_back : (after : Meaning) (profile : Profile) (s t : State) (stop : Stop) (consumed : List LocatedToken) →
+    s.rest ≡ consumed ++ t.rest → Passes profile s t →
     StopsTelling after profile t stop → StopsTelling after profile s stop
 telling_back after profile s t stop consumed is p h = record {
   stops = stops_back profile s t stop consumed is p h.stops;
-  told = λ device. subst (λ (fs : List Definition). IsTold after profile fs) (sym (functions_back profile s t stop consumed is p h.stops)) (h.told device);
+  told =
+      λ device. subst (λ (fs : List Definition). IsTold after profile fs)
+      (sym (functions_back profile s t stop consumed is p h.stops)) (h.told device);
 }
 
 -- before a further function is defined
-pub telling_inside : (after : Meaning) (profile : Profile) (s : State) (stop : Stop) → (refusal.Device ≡ stop.fault → IsTold after profile s.functions) → StopsInside profile s stop → StopsTelling after profile s stop
+pub telling_inside : (after : Meaning) (profile : Profile) (s : State) (stop : Stop) →
+    (refusal.Device ≡ stop.fault → IsTold after profile s.functions) → StopsInside profile s stop →
+    StopsTelling after profile s stop
 telling_inside after profile s stop told h = record {
   stops = h.stops;
   told = λ device. subst (λ (fs : List Definition). IsTold after profile fs) (sym h.functions) (told device);
 }
 
-pub told_alone : (after : Meaning) (profile : Profile) (functions : List Definition) → after profile (definitions_actions functions) → IsTold after profile functions
-told_alone after profile functions h = record { more = []; stands = subst (λ (xs : List Action). after profile xs) (sym (append-nil (definitions_actions functions))) h }
+pub told_alone : (after : Meaning) (profile : Profile) (functions : List Definition) →
+    after profile (definitions_actions functions) → IsTold after profile functions
+told_alone after profile functions h =
+    record {
+      more = [];
+      stands = subst (λ (xs : List Action). after profile xs) (sym (append-nil (definitions_actions functions))) h;
+    }
 
-pub told_grown : (before after : Meaning) (profile : Profile) (functions : List Definition) → HasGrown before after → before profile (definitions_actions functions) → IsTold after profile functions
+pub told_grown : (before after : Meaning) (profile : Profile) (functions : List Definition) → HasGrown before after →
+    before profile (definitions_actions functions) → IsTold after profile functions
 told_grown before after profile functions grown h = record { more = grown.more; stands = grown.added profile _ h }
 
 -- a fault behind a reading
 pub stops_then : (before mid after : Meaning) (front between : List Item) (at now : Place) (d : Stop) →
-    ReadsOn before mid front between at now → StopsReading mid after between now d → StopsReading before after front at d
+    ReadsOn before mid front between at now → StopsReading mid after between now d →
+    StopsReading before after front at d
 stops_then before mid after front between at now d a stops located_tokens is profile functions h =
     let t : TakesTokens a.consumed located_tokens now = a.told located_tokens is in
-    let told : mid profile (definitions_actions (functions ++ a.more)) = subst (λ (xs : List Action). mid profile xs) (sym (definitions_actions-append functions a.more)) (a.added profile _ h) in
-    rw t.is (telling_back after profile _ _ d a.consumed refl (a.passes t.rest (told_goes now t.rest t.shows) profile functions h) (stops t.rest t.shows profile (functions ++ a.more) told))
+    let told : mid profile (definitions_actions (functions ++ a.more)) =
+    subst (λ (xs : List Action). mid profile xs) (sym (definitions_actions-append functions a.more))
+    (a.added profile _ h) in
+    rw t.is
+    (telling_back after profile _ _ d a.consumed refl
+    (a.passes t.rest (told_goes now t.rest t.shows) profile functions h)
+    (stops t.rest t.shows profile (functions ++ a.more) told))
 
 -- a segment between functions
-pub segment_advances : (before : Meaning) (front pending stack : List Item) (at there : Place) → levels stack ≡ 0 → Derives 0 front pending [] [] at there →
+pub segment_advances : (before : Meaning) (front pending stack : List Item) (at there : Place) → levels stack ≡ 0 →
+    Derives 0 front pending [] [] at there →
     ReadsOn before before (front ++ stack) (pending ++ stack) at there
 segment_advances before front pending stack at there depths a = record {
   consumed = a.consumed;
@@ -98,30 +133,48 @@ segment_advances before front pending stack at there depths a = record {
   follows = a.follows;
   added = λ profile acts h. subst (λ (xs : List Action). before profile xs) (sym (append-nil acts)) h;
   passes = λ rest g profile functions h.
-      subst (λ (fs : List Definition). Passes profile (state (front ++ stack) (a.consumed ++ rest) [] (scope_at at) functions) (state (pending ++ stack) rest [] (scope_at there) fs)) (sym (append-nil functions))
+      subst
+      (λ (fs : List Definition). Passes profile
+      (state (front ++ stack) (a.consumed ++ rest) [] (scope_at at) functions)
+      (state (pending ++ stack) rest [] (scope_at there) fs)) (sym (append-nil functions))
       (a.passes rest g profile stack [] functions depths);
 }
 
 -- a fault within one
-pub segment_stops : (before : Meaning) (front stack : List Item) (at : Place) (d : Stop) → levels stack ≡ 0 → FailsAt 0 front [] at d → StopsReading before before (front ++ stack) at d
+pub segment_stops : (before : Meaning) (front stack : List Item) (at : Place) (d : Stop) → levels stack ≡ 0 →
+    FailsAt 0 front [] at d → StopsReading before before (front ++ stack) at d
 segment_stops before front stack at d depths fails located_tokens is profile functions h =
-    telling_inside before profile _ d (λ device. told_alone before profile functions h) (fails located_tokens is profile stack [] functions depths)
+    telling_inside before profile _ d (λ device. told_alone before profile functions h)
+    (fails located_tokens is profile stack [] functions depths)
 
 -- a refusal behind a reading
-pub leave : (used : ℕ) (before mid after : Meaning) (front between : List Item) (at now : Place) (denied more : Type 0) (f : ParseFault) → ReadsOn before mid front between at now →
-    (denied → more) → Refused (StopsReading mid after between now) denied used f → Refused (StopsReading before after front at) more used f
-leave used before mid after front between at now denied more f a memory = refused_map used _ _ denied more f (λ d. stops_then before mid after front between at now d a) memory
+pub leave : (used : ℕ) (before mid after : Meaning) (front between : List Item) (at now : Place) (denied more : Type 0)
+    (f : ParseFault) → ReadsOn before mid front between at now →
+    (denied → more) → Refused (StopsReading mid after between now) denied used f →
+    Refused (StopsReading before after front at) more used f
+leave used before mid after front between at now denied more f a memory =
+    refused_map used _ _ denied more f (λ d. stops_then before mid after front between at now d a) memory
 
 -- a refusal of a callee within a segment
-pub leave_segment : (used : ℕ) (before : Meaning) (front stack : List Item) (at : Place) (denied more : Type 0) (f : ParseFault) → levels stack ≡ 0 →
-    (denied → more) → Refused (FailsAt 0 front [] at) denied used f → Refused (StopsReading before before (front ++ stack) at) more used f
-leave_segment used before front stack at denied more f depths memory = refused_map used _ _ denied more f (λ d. segment_stops before front stack at d depths) memory
+pub leave_segment : (used : ℕ) (before : Meaning) (front stack : List Item) (at : Place) (denied more : Type 0)
+    (f : ParseFault) → levels stack ≡ 0 →
+    (denied → more) → Refused (FailsAt 0 front [] at) denied used f →
+    Refused (StopsReading before before (front ++ stack) at) more used f
+leave_segment used before front stack at denied more f depths memory =
+    refused_map used _ _ denied more f (λ d. segment_stops before front stack at d depths) memory
 
 -- the first fault stands at the next token
-pub reading_fails_at_next : (before after : Meaning) (front : List Item) (at : Place) (d : Diagnostic) (used : ℕ) → IsNearTo at.position.reading used →
-    ((tail : List LocatedToken) (profile : Profile) (functions : List Definition) → Fails profile (state front (next_at at ∷ tail) [] (scope_at at) functions) d) →
+pub reading_fails_at_next : (before after : Meaning) (front : List Item) (at : Place) (d : Diagnostic) (used : ℕ) →
+    IsNearTo at.position.reading used →
+    ((tail : List LocatedToken) (profile : Profile) (functions : List Definition) →
+    Fails profile (state front (next_at at ∷ tail) [] (scope_at at) functions) d) →
     StopsReading before after front at (stop_with (refusal.Source d) used)
 reading_fails_at_next before after front at d used near fails located_tokens is profile functions h =
     let b : Begins at.position.reading located_tokens = told_begins at located_tokens is in
-    let here : Fails profile (state front located_tokens [] (scope_at at) functions) d = rw b.is (fails b.tail profile functions) in
-    record { stops = stops_here profile (state front located_tokens [] (scope_at at) functions) (stop_with (refusal.Source d) used) here (near_told at located_tokens used is near); told = λ device. absurd (cc) }
+    let here : Fails profile (state front located_tokens [] (scope_at at) functions) d =
+    rw b.is (fails b.tail profile functions) in
+    record {
+      stops = stops_here profile (state front located_tokens [] (scope_at at) functions)
+          (stop_with (refusal.Source d) used) here (near_told at located_tokens used is near);
+      told = λ device. absurd (cc);
+    }

@@ -1,5 +1,5 @@
 -- What the reading of a function derives.
-use Rattle.std.proofs.Common.{◌≡◌, ℕ, ◌+◌, ◌<◌, ◌≤◌, List, [], ◌∷◌, ◌++◌, refl, sym, ap, ◌∙◌, subst, Bool, true, false, arith, append_assoc, append-nil, le_refl}
+use Rattle.std.proofs.Common.{◌≡◌, ℕ, ◌+◌, ◌<◌, ◌≤◌, List, [], ◌∷◌, ◌++◌, refl, sym, ap, ◌∙◌, subst, true, false, arith, append_assoc, append-nil, le_refl}
 use Rattle.std.proofs.lemmas.Bool.Decides.{nat_tests}
 use Rattle.std.specs.Prelude.{length, nat_lt}
 use Rattle.tokens.specs.declared.located_tokens.LocatedToken.{LocatedToken}
@@ -37,44 +37,71 @@ use Rattle.parser.proofs.Advancing.{definitions_actions-append, telling_back, te
 use Rattle.tokens.specs.Reading.{IsNearTo}
 
 abbrev pub definition_items : List Item
-definition_items = AName Defined ∷ Exactly punctuator.OpenRound ∷ Part Parameters ∷ Exactly punctuator.CloseRound ∷ Part ParameterTypes ∷ Part FunctionBlock ∷ []
+definition_items =
+    AName Defined ∷ Exactly punctuator.OpenRound ∷ Part Parameters ∷ Exactly punctuator.CloseRound ∷
+    Part ParameterTypes ∷ Part FunctionBlock ∷ []
 
 -- up to the block
-pub headed : (at now : Place) → Derives 0 heading_items [] [] [] at now → Derives 0 definition_items (Part FunctionBlock ∷ []) [] [] at now
-headed at now h = joined 0 0 definition_items heading_items [] (Part FunctionBlock ∷ []) [] [] [] [] at at now (stay at 0 definition_items []) h (λ stack same. same)
+pub headed : (at now : Place) → Derives 0 heading_items [] [] [] at now →
+    Derives 0 definition_items (Part FunctionBlock ∷ []) [] [] at now
+headed at now h =
+    joined 0 0 definition_items heading_items [] (Part FunctionBlock ∷ []) [] [] [] [] at at now
+    (stay at 0 definition_items []) h (λ stack same. same)
 
 -- up to the closing brace
-pub braced : (before after : Meaning) (at now there : Place) → Derives 0 heading_items [] [] [] at now → (b : AddsBlock before after now there) →
+pub braced : (before after : Meaning) (at now there : Place) → Derives 0 heading_items [] [] [] at now →
+    (b : AddsBlock before after now there) →
     Derives 0 definition_items at_brace [] (ABody b.tree ∷ []) at there
-braced before after at now there h b = joined 0 0 definition_items (Part FunctionBlock ∷ []) at_brace [] [] [] (ABody b.tree ∷ []) [] at now there (headed at now h) b.derives (λ stack same. same)
+braced before after at now there h b =
+    joined 0 0 definition_items (Part FunctionBlock ∷ []) at_brace [] [] [] (ABody b.tree ∷ []) [] at now there
+    (headed at now h) b.derives (λ stack same. same)
 
 -- How long the code is.
 
 -- the code of functions and one more is what was told up to its return
 code_with : (p : Profile) (functions : List Definition) (scope : Scope) (body : Body) (parameters number : ℕ) →
-    code_length p (definitions_actions (functions ++ definition_of scope body ∷ [])) ≡ code_length p (((definitions_actions functions ++ BeginFunction number parameters ∷ []) ++ body_actions body) ++ last_return)
+    code_length p (definitions_actions (functions ++ definition_of scope body ∷ [])) ≡
+    code_length p
+    (((definitions_actions functions ++ BeginFunction number parameters ∷ []) ++ body_actions body) ++
+    last_return)
 code_with p functions scope body parameters number =
     let d : Definition = definition_of scope body in
     let finish : List Action = last_return ++ EndFunction (length scope.current.variables) ∷ [] in
     let told : List Action = definitions_actions functions ++ BeginFunction number parameters ∷ [] in
     ap (code_length p) (definitions_actions-append functions (d ∷ []))
     ∙ code_length-append p (definitions_actions functions) (function_actions d.number d.function ++ [])
-    ∙ omega (arith, code_length-append p (function_actions d.number d.function) [], code_length-append p (body_actions body) finish, code_length-append p (told ++ body_actions body) last_return, code_length-append p told (body_actions body), code_length-append p (definitions_actions functions) (BeginFunction number parameters ∷ []))
+    ∙
+    omega (
+      arith,
+      code_length-append p (function_actions d.number d.function) [],
+      code_length-append p (body_actions body) finish,
+      code_length-append p (told ++ body_actions body) last_return,
+      code_length-append p told (body_actions body),
+      code_length-append p (definitions_actions functions) (BeginFunction number parameters ∷ []),
+    )
 
-within_limit : (profile : Profile) (n m : ℕ) → n ≡ m → m + 1 ≤ profile.instructions → nat_lt profile.instructions (n + 1) ≡ false
+within_limit : (profile : Profile) (n m : ℕ) → n ≡ m → m + 1 ≤ profile.instructions →
+    nat_lt profile.instructions (n + 1) ≡ false
 within_limit profile n m e h = grind (arith, nat_tests)
 
-past_limit : (profile : Profile) (n m : ℕ) → n ≡ m → profile.instructions < m + 1 → nat_lt profile.instructions (n + 1) ≡ true
+past_limit : (profile : Profile) (n m : ℕ) → n ≡ m → profile.instructions < m + 1 →
+    nat_lt profile.instructions (n + 1) ≡ true
 past_limit profile n m e h = grind (arith, nat_tests)
 
 -- A function that was read.
 
 -- what the builder was told of it
-pub told_function : (first second third fourth : Meaning) (number parameters variables : ℕ) (body : Body) → AppendsAll first second (BeginFunction number parameters ∷ []) → AppendsAll second third (body_actions body) →
-    AppendsAll third fourth (last_return ++ EndFunction variables ∷ []) → AppendsAll first fourth (BeginFunction number parameters ∷ (body_actions body ++ (last_return ++ EndFunction variables ∷ [])))
+pub told_function : (first second third fourth : Meaning) (number parameters variables : ℕ) (body : Body) →
+    AppendsAll first second (BeginFunction number parameters ∷ []) → AppendsAll second third (body_actions body) →
+    AppendsAll third fourth (last_return ++ EndFunction variables ∷ []) →
+    AppendsAll first fourth
+    (BeginFunction number parameters ∷ (body_actions body ++ (last_return ++ EndFunction variables ∷ [])))
 told_function first second third fourth number parameters variables body a b c profile acts h =
     subst (λ (xs : List Action). fourth profile xs)
-    (append_assoc (acts ++ BeginFunction number parameters ∷ []) (body_actions body) (last_return ++ EndFunction variables ∷ []) ∙ append_assoc acts (BeginFunction number parameters ∷ []) (body_actions body ++ (last_return ++ EndFunction variables ∷ [])))
+    (append_assoc (acts ++ BeginFunction number parameters ∷ []) (body_actions body)
+    (last_return ++ EndFunction variables ∷ []) ∙
+    append_assoc acts (BeginFunction number parameters ∷ [])
+    (body_actions body ++ (last_return ++ EndFunction variables ∷ [])))
     (c profile _ (b profile _ (a profile acts h)))
 
 -- The function that a name began is that at the closing brace.
@@ -83,24 +110,37 @@ pub record IsSame (n p v : ℕ) (scope : Scope) : Type 0 where
   pub parameters : scope.current.parameters ≡ p
   pub variables : length scope.current.variables ≡ v
 
-function_told : (number parameters variables : ℕ) (scope : Scope) (body : Body) → IsSame number parameters variables scope →
-    definitions_actions (definition_of scope body ∷ []) ≡ BeginFunction number parameters ∷ (body_actions body ++ (last_return ++ EndFunction variables ∷ []))
+function_told : (number parameters variables : ℕ) (scope : Scope) (body : Body) →
+    IsSame number parameters variables scope →
+    definitions_actions (definition_of scope body ∷ []) ≡
+    BeginFunction number parameters ∷ (body_actions body ++ (last_return ++ EndFunction variables ∷ []))
 function_told number parameters variables scope body s = rw (append-nil, s.number, s.parameters, s.variables) refl
 
-short_enough : (profile : Profile) (second third fourth : Meaning) (functions : List Definition) (scope : Scope) (body : Body) (number parameters variables : ℕ) → AppendsAll second third (body_actions body) → ClosesFunction third fourth variables →
-    second profile (definitions_actions functions ++ BeginFunction number parameters ∷ []) → is_too_long profile (functions ++ definition_of scope body ∷ []) ≡ false
+short_enough : (profile : Profile) (second third fourth : Meaning) (functions : List Definition) (scope : Scope)
+    (body : Body) (number parameters variables : ℕ) → AppendsAll second third (body_actions body) →
+    ClosesFunction third fourth variables →
+    second profile (definitions_actions functions ++ BeginFunction number parameters ∷ []) →
+    is_too_long profile (functions ++ definition_of scope body ∷ []) ≡ false
 short_enough profile second third fourth functions scope body number parameters variables b c h =
-    within_limit profile _ _ (code_with profile functions scope body parameters number) (c.fits profile _ (b profile _ h))
+    within_limit profile _ _ (code_with profile functions scope body parameters number)
+    (c.fits profile _ (b profile _ h))
 
-define_step : (profile : Profile) (located_tokens : List LocatedToken) (known learnt : Scope) (functions : List Definition) (body : Body) (stack : List Item) (next : LocatedToken) (tail : List LocatedToken) → located_tokens ≡ next ∷ tail → is_fault next.token ≡ false → learnt ≡ end_definition known →
+define_step : (profile : Profile) (located_tokens : List LocatedToken) (known learnt : Scope)
+    (functions : List Definition) (body : Body) (stack : List Item) (next : LocatedToken) (tail : List LocatedToken) →
+    located_tokens ≡ next ∷ tail → is_fault next.token ≡ false → learnt ≡ end_definition known →
     is_too_long profile (functions ++ definition_of known body ∷ []) ≡ false →
-    Passes profile (state (Make Define ∷ stack) located_tokens (ABody body ∷ []) known functions) (state stack located_tokens [] learnt (functions ++ definition_of known body ∷ []))
+    Passes profile (state (Make Define ∷ stack) located_tokens (ABody body ∷ []) known functions)
+    (state stack located_tokens [] learnt (functions ++ definition_of known body ∷ []))
 define_step profile located_tokens known learnt functions body stack next tail e sound ended short =
     rw (e, ended) (make profile Define stack (next ∷ tail) (ABody body ∷ []) known functions sound (rw short refl))
 
-close_step : (profile : Profile) (located_tokens : List LocatedToken) (scope : Scope) (functions : List Definition) (stack : List Item) (next : LocatedToken) (tail : List LocatedToken) → located_tokens ≡ next ∷ tail → is_fault next.token ≡ false →
-    Passes profile (state (Close ∷ stack) located_tokens [] scope functions) (state stack located_tokens [] scope functions)
-close_step profile located_tokens scope functions stack next tail e sound = rw e (close profile stack (next ∷ tail) [] scope functions sound)
+close_step : (profile : Profile) (located_tokens : List LocatedToken) (scope : Scope) (functions : List Definition)
+    (stack : List Item) (next : LocatedToken) (tail : List LocatedToken) → located_tokens ≡ next ∷ tail →
+    is_fault next.token ≡ false →
+    Passes profile (state (Close ∷ stack) located_tokens [] scope functions)
+    (state stack located_tokens [] scope functions)
+close_step profile located_tokens scope functions stack next tail e sound =
+    rw e (close profile stack (next ∷ tail) [] scope functions sound)
 
 -- the place at the closing brace, and the same behind the function's end
 pub record IsEnded (brace ended : Place) : Type 0 where
@@ -112,7 +152,8 @@ pub record IsEnded (brace ended : Place) : Type 0 where
 pub ended : (at new : Standing) → new ≡ with_scope (end_definition (scope_of at)) at → IsEnded at.place new.place
 ended at new is = rw is (record { reading = refl; to_come = refl; scope = refl })
 
-pub renamed : (at new : Standing) → IsReady at → new ≡ with_scope (end_definition (scope_of at)) at → StayedOrWentOn at new
+pub renamed : (at new : Standing) → IsReady at → new ≡ with_scope (end_definition (scope_of at)) at →
+    StayedOrWentOn at new
 renamed at new ready is = rw is (record {
   device = refl;
   account = refl;
@@ -122,25 +163,34 @@ renamed at new ready is = rw is (record {
 })
 
 -- a refusal that is not the device's, at a parser that did nothing
-pub short : (f : ParseFault) (at : Standing) → (refusal.Device ≡ f → ⊥) → Stopped f at at
-short (refusal.Source d) at other = record { device = refl; account = refl; took = record { rest = λ total h. h } }
-short refusal.Device at other = absurd (other refl)
-short refusal.Memory at other = record { device = refl; account = refl; took = record { rest = λ total h. h } }
+pub short : (f : ParseFault) (at : Standing) (before : Meaning) (line : ℕ) (denied : Type 0) →
+    RefusesEnd before line denied f → Stopped f at at
+short (refusal.Source d) at before line denied ends =
+    record { device = refl; account = refl; took = record { rest = λ total h. h } }
+short refusal.Device at before line denied ends = absurd ends
+short refusal.Memory at before line denied ends =
+    record { device = refl; account = refl; took = record { rest = λ total h. h } }
 
-goes_ended : (brace ended : Place) (rest : List LocatedToken) → IsEnded brace ended → GoesOn ended rest → GoesOn brace rest
+goes_ended : (brace ended : Place) (rest : List LocatedToken) → IsEnded brace ended → GoesOn ended rest →
+    GoesOn brace rest
 goes_ended brace ended rest s g = record { behind = g.behind; is = g.is ∙ rw s.reading refl }
 
 tokens_ended : (brace ended : Place) → IsEnded brace ended → tokens_at ended ≡ tokens_at brace
 tokens_ended brace ended s = rw (s.reading, s.to_come) refl
 
 -- a function was read, whose closing brace ends it
-pub function_advances : (first second third fourth : Meaning) (at now brace ended there : Place) (number parameters variables : ℕ) →
-    Derives 0 heading_items [] [] [] at now → (b : AddsBlock second third now brace) → IsSame number parameters variables (scope_at brace) → IsEnded brace ended →
+pub function_advances : (first second third fourth : Meaning) (at now brace ended there : Place)
+    (number parameters variables : ℕ) →
+    Derives 0 heading_items [] [] [] at now → (b : AddsBlock second third now brace) →
+    IsSame number parameters variables (scope_at brace) → IsEnded brace ended →
     AppendsAll first second (BeginFunction number parameters ∷ []) → ClosesFunction third fourth variables →
-    DerivesItem (Exactly punctuator.CloseCurly) [] [] ended there → is_fault (next_at brace).token ≡ false → is_fault (next_at there).token ≡ false →
+    DerivesItem (Exactly punctuator.CloseCurly) [] [] ended there → is_fault (next_at brace).token ≡ false →
+    is_fault (next_at there).token ≡ false →
     ReadsOn first fourth at_definition at_source at there
-function_advances first second third fourth at now brace ended there number parameters variables h b same s told c e sound_brace sound =
-    let d : Derives 0 definition_items at_brace [] (ABody b.tree ∷ []) at brace = braced second third at now brace h b in
+function_advances first second third fourth at now brace ended there number parameters variables h b same s told c e
+    sound_brace sound =
+    let d : Derives 0 definition_items at_brace [] (ABody b.tree ∷ []) at brace =
+    braced second third at now brace h b in
     let f : Definition = definition_of (scope_at brace) b.tree in
     record {
       consumed = d.consumed ++ (e 1).consumed;
@@ -148,106 +198,182 @@ function_advances first second third fourth at now brace ended there number para
       told = λ located_tokens is.
           let t : TakesTokens d.consumed located_tokens brace = d.told located_tokens is in
           let u : TakesTokens (e 1).consumed t.rest there = (e 1).told t.rest (tokens_ended brace ended s ∙ t.shows) in
-          record { rest = u.rest; is = t.is ∙ ap (λ (ls : List LocatedToken). d.consumed ++ ls) u.is ∙ sym (append_assoc d.consumed (e 1).consumed u.rest); shows = u.shows };
-      follows = λ rest g. subst (λ (ls : List LocatedToken). GoesOn at ls) (sym (append_assoc d.consumed (e 1).consumed rest)) (d.follows _ (goes_ended brace ended _ s ((e 1).follows rest g)));
-      added = λ profile acts k. subst (λ (xs : List Action). fourth profile (acts ++ xs)) (sym (function_told number parameters variables (scope_at brace) b.tree same))
-          (told_function first second third fourth number parameters variables b.tree told b.added c.added profile acts k);
+          record {
+            rest = u.rest;
+            is = t.is ∙ ap (λ (ls : List LocatedToken). d.consumed ++ ls) u.is ∙
+                sym (append_assoc d.consumed (e 1).consumed u.rest);
+            shows = u.shows;
+          };
+      follows =
+          λ rest g. subst (λ (ls : List LocatedToken). GoesOn at ls) (sym (append_assoc d.consumed (e 1).consumed rest))
+          (d.follows _ (goes_ended brace ended _ s ((e 1).follows rest g)));
+      added =
+          λ profile acts k. subst (λ (xs : List Action). fourth profile (acts ++ xs))
+          (sym (function_told number parameters variables (scope_at brace) b.tree same))
+          (told_function first second third fourth number parameters variables b.tree told b.added c.added profile
+          acts k);
       passes = λ rest g profile functions k.
           let between : List LocatedToken = (e 1).consumed ++ rest in
           let goes : GoesOn brace between = goes_ended brace ended between s ((e 1).follows rest g) in
           let x : Begins brace.position.reading between = goes_begins brace between goes in
           let y : Begins there.position.reading rest = goes_begins there rest g in
-          let short : is_too_long profile (functions ++ f ∷ []) ≡ false = short_enough profile second third fourth functions (scope_at brace) b.tree number parameters variables b.added c (told profile _ k) in
+          let short : is_too_long profile (functions ++ f ∷ []) ≡ false =
+          short_enough profile second third fourth functions (scope_at brace) b.tree number parameters variables
+          b.added c (told profile _ k) in
           rw (append_assoc d.consumed (e 1).consumed rest)
           (then profile _ _ _ (d.passes between goes profile at_source [] functions refl)
-          (then profile _ _ _ (define_step profile between (scope_at brace) (scope_at ended) functions b.tree (Exactly punctuator.CloseCurly ∷ Close ∷ at_source) (next_at brace) x.tail x.is sound_brace s.scope short)
+          (then profile _ _ _
+          (define_step profile between (scope_at brace) (scope_at ended) functions b.tree
+          (Exactly punctuator.CloseCurly ∷ Close ∷ at_source) (next_at brace) x.tail x.is sound_brace s.scope short)
           (then profile _ _ _ ((e 1).passes rest g profile (Close ∷ at_source) [] (functions ++ f ∷ []) refl)
-          (close_step profile rest (scope_at there) (functions ++ f ∷ []) at_source (next_at there) y.tail y.is sound))));
+          (close_step profile rest (scope_at there) (functions ++ f ∷ []) at_source (next_at there) y.tail y.is
+          sound))));
     }
 
 -- Where the reading of a function stops.
 
-heading_stops : (before : Meaning) (at : Place) (d : Stop) → FailsAt 0 heading_items [] at d → StopsReading before before at_definition at d
+heading_stops : (before : Meaning) (at : Place) (d : Stop) → FailsAt 0 heading_items [] at d →
+    StopsReading before before at_definition at d
 heading_stops before at d fails located_tokens is profile functions h =
-    telling_inside before profile _ d (λ device. told_alone before profile functions h) (fails located_tokens is profile (Part FunctionBlock ∷ at_source) [] functions refl)
+    telling_inside before profile _ d (λ device. told_alone before profile functions h)
+    (fails located_tokens is profile (Part FunctionBlock ∷ at_source) [] functions refl)
 
-pub heading_refused : (used : ℕ) (before : Meaning) (at : Place) (f : ParseFault) (more : Type 0) → Refused (FailsAt 0 heading_items [] at) ⊥ used f → Refused (StopsReading before before at_definition at) more used f
-heading_refused used before at f more = refused_map used _ _ ⊥ more f (λ d. heading_stops before at d) (λ never. absurd never)
+pub heading_refused : (used : ℕ) (before : Meaning) (at : Place) (f : ParseFault) (more : Type 0) →
+    Refused (FailsAt 0 heading_items [] at) ⊥ used f → Refused (StopsReading before before at_definition at) more used f
+heading_refused used before at f more =
+    refused_map used _ _ ⊥ more f (λ d. heading_stops before at d) (λ never. absurd never)
 
-block_stops : (before after : Meaning) (at now : Place) (d : Stop) → Derives 0 heading_items [] [] [] at now → (refusal.Device ≡ d.fault → HasGrown before after) → FailsAt 0 (Part FunctionBlock ∷ []) [] now d →
+block_stops : (before after : Meaning) (at now : Place) (d : Stop) → Derives 0 heading_items [] [] [] at now →
+    (refusal.Device ≡ d.fault → HasGrown before after) → FailsAt 0 (Part FunctionBlock ∷ []) [] now d →
     StopsReading before after at_definition at d
 block_stops before after at now d h grown fails located_tokens is profile functions k =
     telling_inside after profile _ d (λ device. told_grown before after profile functions (grown device) k)
-    (fails_then 0 definition_items (Part FunctionBlock ∷ []) [] [] at now d (headed at now h) fails located_tokens is profile at_source [] functions refl)
+    (fails_then 0 definition_items (Part FunctionBlock ∷ []) [] [] at now d (headed at now h) fails located_tokens is
+    profile at_source [] functions refl)
 
-pub block_refused : (used : ℕ) (before second after : Meaning) (at now : Place) (number parameters : ℕ) (f : ParseFault) (denied : Type 0) → Derives 0 heading_items [] [] [] at now →
-    AppendsAll before second (BeginFunction number parameters ∷ []) → (refusal.Device ≡ f → HasGrown second after) → Refused (FailsAt 0 (Part FunctionBlock ∷ []) [] now) denied used f →
+pub block_refused : (used : ℕ) (before second after : Meaning) (at now : Place) (number parameters : ℕ) (f : ParseFault)
+    (denied : Type 0) → Derives 0 heading_items [] [] [] at now →
+    AppendsAll before second (BeginFunction number parameters ∷ []) → (refusal.Device ≡ f → HasGrown second after) →
+    Refused (FailsAt 0 (Part FunctionBlock ∷ []) [] now) denied used f →
     Refused (StopsReading before after at_definition at) denied used f
 block_refused used before second after at now number parameters f denied h told = by_fault f
   where
-    by_fault : (f : ParseFault) → (refusal.Device ≡ f → HasGrown second after) → Refused (FailsAt 0 (Part FunctionBlock ∷ []) [] now) denied used f → Refused (StopsReading before after at_definition at) denied used f
-    by_fault (refusal.Source d) grown fails = block_stops before after at now (stop_with (refusal.Source d) used) h (λ device. absurd (cc)) fails
-    by_fault refusal.Device grown fails = block_stops before after at now (stop_with refusal.Device used) h (λ device. grown_behind before second after _ told (grown refl)) fails
-    by_fault refusal.Memory grown fails = (fails.0, block_stops before after at now (stop_with refusal.Memory used) h (λ device. absurd (cc)) fails.1)
+    by_fault : (f : ParseFault) → (refusal.Device ≡ f → HasGrown second after) →
+        Refused (FailsAt 0 (Part FunctionBlock ∷ []) [] now) denied used f →
+        Refused (StopsReading before after at_definition at) denied used f
+    by_fault (refusal.Source d) grown fails =
+        block_stops before after at now (stop_with (refusal.Source d) used) h (λ device. absurd (cc)) fails
+    by_fault refusal.Device grown fails =
+        block_stops before after at now (stop_with refusal.Device used) h
+        (λ device. grown_behind before second after _ told (grown refl)) fails
+    by_fault refusal.Memory grown fails =
+        (fails.0, block_stops before after at now (stop_with refusal.Memory used) h (λ device. absurd (cc)) fails.1)
 
 -- the builder was refused memory
-pub definition_halts : (before after : Meaning) (pending : List Item) (left : List Value) (at now : Place) (used : ℕ) → Derives 0 definition_items pending [] left at now → IsNearTo now.position.reading used →
+pub definition_halts : (before after : Meaning) (pending : List Item) (left : List Value) (at now : Place) (used : ℕ) →
+    Derives 0 definition_items pending [] left at now → IsNearTo now.position.reading used →
     StopsReading before after at_definition at (stop_with refusal.Memory used)
 definition_halts before after pending left at now used d near located_tokens is profile functions k =
-    telling_inside after profile _ (stop_with refusal.Memory used) (λ device. absurd (cc)) (halts 0 definition_items pending [] left at now used d near located_tokens is profile at_source [] functions refl)
+    telling_inside after profile _ (stop_with refusal.Memory used) (λ device. absurd (cc))
+    (halts 0 definition_items pending [] left at now used d near located_tokens is profile at_source [] functions
+    refl)
 
-too_much_stops : (first second third after : Meaning) (at now brace : Place) (number parameters : ℕ) (d : Diagnostic) (used : ℕ) → IsNearTo brace.position.reading used → Derives 0 heading_items [] [] [] at now → (b : AddsBlock second third now brace) →
-    AppendsAll first second (BeginFunction number parameters ∷ []) → is_fault (next_at brace).token ≡ false → is_punctuator punctuator.CloseCurly (next_at brace).token ≡ true → IsTooMuch third (next_at brace).line d → StopsReading first after at_definition at (stop_with (refusal.Source d) used)
-too_much_stops first second third after at now brace number parameters d used near h b told sound closed much located_tokens is profile functions k =
-    let s : Derives 0 definition_items at_brace [] (ABody b.tree ∷ []) at brace = braced second third at now brace h b in
+too_much_stops : (first second third after : Meaning) (at now brace : Place) (number parameters : ℕ) (d : Diagnostic)
+    (used : ℕ) → IsNearTo brace.position.reading used → Derives 0 heading_items [] [] [] at now →
+    (b : AddsBlock second third now brace) →
+    AppendsAll first second (BeginFunction number parameters ∷ []) → is_fault (next_at brace).token ≡ false →
+    is_punctuator punctuator.CloseCurly (next_at brace).token ≡ true → IsTooMuch third (next_at brace).line d →
+    StopsReading first after at_definition at (stop_with (refusal.Source d) used)
+too_much_stops first second third after at now brace number parameters d used near h b told sound closed much
+    located_tokens is profile functions k =
+    let s : Derives 0 definition_items at_brace [] (ABody b.tree ∷ []) at brace =
+    braced second third at now brace h b in
     let t : TakesTokens s.consumed located_tokens brace = s.told located_tokens is in
     let x : Begins brace.position.reading t.rest = told_begins brace t.rest t.shows in
-    let long : is_too_long profile (functions ++ definition_of (scope_at brace) b.tree ∷ []) ≡ true = past_limit profile _ _ (code_with profile functions (scope_at brace) b.tree parameters number) (much.over profile _ (b.added profile _ (told profile _ k))) in
-    let fails : Fails profile (state (at_brace ++ at_source) t.rest (ABody b.tree ∷ []) (scope_at brace) functions) (diagnostic (next_at brace).line code.TooMuchCode) =
-    rw x.is (too_long profile (Close ∷ at_source) (next_at brace) x.tail (ABody b.tree ∷ []) (scope_at brace) functions sound closed (rw long refl)) in
-    let stop : Stops profile (state (at_brace ++ at_source) t.rest (ABody b.tree ∷ []) (scope_at brace) functions) (stop_with (refusal.Source d) used) =
-    stops_here profile (state (at_brace ++ at_source) t.rest (ABody b.tree ∷ []) (scope_at brace) functions) (stop_with (refusal.Source d) used) (rw much.is fails) (near_told brace t.rest used t.shows near) in
+    let long : is_too_long profile (functions ++ definition_of (scope_at brace) b.tree ∷ []) ≡ true =
+    past_limit profile _ _ (code_with profile functions (scope_at brace) b.tree parameters number)
+    (much.over profile _ (b.added profile _ (told profile _ k))) in
+    let fails : Fails profile (state (at_brace ++ at_source) t.rest (ABody b.tree ∷ []) (scope_at brace) functions)
+    (diagnostic (next_at brace).line code.TooMuchCode) =
+    rw x.is
+    (too_long profile (Close ∷ at_source) (next_at brace) x.tail (ABody b.tree ∷ []) (scope_at brace) functions
+    sound closed (rw long refl)) in
+    let stop : Stops profile (state (at_brace ++ at_source) t.rest (ABody b.tree ∷ []) (scope_at brace) functions)
+    (stop_with (refusal.Source d) used) =
+    stops_here profile (state (at_brace ++ at_source) t.rest (ABody b.tree ∷ []) (scope_at brace) functions)
+    (stop_with (refusal.Source d) used) (rw much.is fails) (near_told brace t.rest used t.shows near) in
     rw t.is
-    (telling_back after profile _ _ _ s.consumed refl (s.passes t.rest (told_goes brace t.rest t.shows) profile at_source [] functions refl) (record { stops = stop; told = λ device. absurd (cc) }))
+    (telling_back after profile _ _ _ s.consumed refl
+    (s.passes t.rest (told_goes brace t.rest t.shows) profile at_source [] functions refl)
+    (record { stops = stop; told = λ device. absurd (cc) }))
 
-pub too_much_refused : (used : ℕ) (first second third after : Meaning) (at now brace : Place) (number parameters : ℕ) (f : ParseFault) (denied : Type 0) → IsNearTo brace.position.reading used → Derives 0 heading_items [] [] [] at now → AddsBlock second third now brace →
-    AppendsAll first second (BeginFunction number parameters ∷ []) → is_fault (next_at brace).token ≡ false → is_punctuator punctuator.CloseCurly (next_at brace).token ≡ true → RefusesEnd third (next_at brace).line denied f →
+pub too_much_refused : (used : ℕ) (first second third after : Meaning) (at now brace : Place) (number parameters : ℕ)
+    (f : ParseFault) (denied : Type 0) → IsNearTo brace.position.reading used →
+    Derives 0 heading_items [] [] [] at now → AddsBlock second third now brace →
+    AppendsAll first second (BeginFunction number parameters ∷ []) → is_fault (next_at brace).token ≡ false →
+    is_punctuator punctuator.CloseCurly (next_at brace).token ≡ true →
+    RefusesEnd third (next_at brace).line denied f →
     Refused (StopsReading first after at_definition at) denied used f
 too_much_refused used first second third after at now brace number parameters f denied near h b told sound closed =
     by_fault f
   where
-    by_fault : (f : ParseFault) → RefusesEnd third (next_at brace).line denied f → Refused (StopsReading first after at_definition at) denied used f
-    by_fault (refusal.Source d) much = too_much_stops first second third after at now brace number parameters d used near h b told sound closed much
+    by_fault : (f : ParseFault) → RefusesEnd third (next_at brace).line denied f →
+        Refused (StopsReading first after at_definition at) denied used f
+    by_fault (refusal.Source d) much =
+        too_much_stops first second third after at now brace number parameters d used near h b told sound closed much
     by_fault refusal.Device never = absurd never
-    by_fault refusal.Memory asks = (asks, definition_halts first after at_brace (ABody b.tree ∷ []) at brace used (braced second third at now brace h b) near)
+    by_fault refusal.Memory asks = (
+      asks,
+      definition_halts first after at_brace (ABody b.tree ∷ []) at brace used
+          (braced second third at now brace h b) near,
+    )
 
 -- the closing brace itself is always there, but the token behind it may be a fault; the builder was told the function
-brace_stops : (first second third fourth : Meaning) (at now brace ended : Place) (number parameters variables : ℕ) (d : Stop) →
-    Derives 0 heading_items [] [] [] at now → AddsBlock second third now brace → IsSame number parameters variables (scope_at brace) → IsEnded brace ended →
-    AppendsAll first second (BeginFunction number parameters ∷ []) → ClosesFunction third fourth variables → is_fault (next_at brace).token ≡ false →
+brace_stops : (first second third fourth : Meaning) (at now brace ended : Place) (number parameters variables : ℕ)
+    (d : Stop) →
+    Derives 0 heading_items [] [] [] at now → AddsBlock second third now brace →
+    IsSame number parameters variables (scope_at brace) → IsEnded brace ended →
+    AppendsAll first second (BeginFunction number parameters ∷ []) → ClosesFunction third fourth variables →
+    is_fault (next_at brace).token ≡ false →
     FailsItem (Exactly punctuator.CloseCurly) ended d → StopsReading first fourth at_definition at d
-brace_stops first second third fourth at now brace ended number parameters variables d h b same s told c sound fails located_tokens is profile functions k =
-    let x : Derives 0 definition_items at_brace [] (ABody b.tree ∷ []) at brace = braced second third at now brace h b in
+brace_stops first second third fourth at now brace ended number parameters variables d h b same s told c sound fails
+    located_tokens is profile functions k =
+    let x : Derives 0 definition_items at_brace [] (ABody b.tree ∷ []) at brace =
+    braced second third at now brace h b in
     let t : TakesTokens x.consumed located_tokens brace = x.told located_tokens is in
     let y : Begins brace.position.reading t.rest = told_begins brace t.rest t.shows in
     let f : Definition = definition_of (scope_at brace) b.tree in
-    let short : is_too_long profile (functions ++ f ∷ []) ≡ false = short_enough profile second third fourth functions (scope_at brace) b.tree number parameters variables b.added c (told profile _ k) in
+    let short : is_too_long profile (functions ++ f ∷ []) ≡ false =
+    short_enough profile second third fourth functions (scope_at brace) b.tree number parameters variables b.added c
+    (told profile _ k) in
     let all : fourth profile (definitions_actions (functions ++ f ∷ [])) =
     subst (λ (xs : List Action). fourth profile xs)
-    (ap (λ (xs : List Action). definitions_actions functions ++ xs) (sym (function_told number parameters variables (scope_at brace) b.tree same)) ∙ sym (definitions_actions-append functions (f ∷ [])))
+    (ap (λ (xs : List Action). definitions_actions functions ++ xs)
+    (sym (function_told number parameters variables (scope_at brace) b.tree same)) ∙
+    sym (definitions_actions-append functions (f ∷ [])))
     (told_function first second third fourth number parameters variables b.tree told b.added c.added profile _ k) in
     rw t.is
-    (telling_back fourth profile _ _ _ x.consumed refl (x.passes t.rest (told_goes brace t.rest t.shows) profile at_source [] functions refl)
-    (telling_back fourth profile _ _ _ [] refl (define_step profile t.rest (scope_at brace) (scope_at ended) functions b.tree (Exactly punctuator.CloseCurly ∷ Close ∷ at_source) (next_at brace) y.tail y.is sound s.scope short)
+    (telling_back fourth profile _ _ _ x.consumed refl
+    (x.passes t.rest (told_goes brace t.rest t.shows) profile at_source [] functions refl)
+    (telling_back fourth profile _ _ _ [] refl
+    (define_step profile t.rest (scope_at brace) (scope_at ended) functions b.tree
+    (Exactly punctuator.CloseCurly ∷ Close ∷ at_source) (next_at brace) y.tail y.is sound s.scope short)
     (telling_inside fourth profile _ d (λ device. told_alone fourth profile (functions ++ f ∷ []) all)
     (fails 1 t.rest (tokens_ended brace ended s ∙ t.shows) profile (Close ∷ at_source) [] (functions ++ f ∷ []) refl))))
 
-pub brace_refused : (used : ℕ) (first second third fourth : Meaning) (at now brace ended : Place) (number parameters variables : ℕ) (f : ParseFault) (more : Type 0) →
-    Derives 0 heading_items [] [] [] at now → AddsBlock second third now brace → IsSame number parameters variables (scope_at brace) → IsEnded brace ended →
-    AppendsAll first second (BeginFunction number parameters ∷ []) → ClosesFunction third fourth variables → is_fault (next_at brace).token ≡ false →
-    Refused (FailsItem (Exactly punctuator.CloseCurly) ended) ⊥ used f → Refused (StopsReading first fourth at_definition at) more used f
-brace_refused used first second third fourth at now brace ended number parameters variables f more h b same s told c sound =
-    refused_map used _ _ ⊥ more f (λ d. brace_stops first second third fourth at now brace ended number parameters variables d h b same s told c sound) (λ never. absurd never)
+pub brace_refused : (used : ℕ) (first second third fourth : Meaning) (at now brace ended : Place)
+    (number parameters variables : ℕ) (f : ParseFault) (more : Type 0) →
+    Derives 0 heading_items [] [] [] at now → AddsBlock second third now brace →
+    IsSame number parameters variables (scope_at brace) → IsEnded brace ended →
+    AppendsAll first second (BeginFunction number parameters ∷ []) → ClosesFunction third fourth variables →
+    is_fault (next_at brace).token ≡ false →
+    Refused (FailsItem (Exactly punctuator.CloseCurly) ended) ⊥ used f →
+    Refused (StopsReading first fourth at_definition at) more used f
+brace_refused used first second third fourth at now brace ended number parameters variables f more h b same s told c
+    sound =
+    refused_map used _ _ ⊥ more f
+    (λ d. brace_stops first second third fourth at now brace ended number parameters variables d h b same s told c
+    sound) (λ never. absurd never)
 
 -- A closing brace is no fault.
 pub closing_sound : (t : Token) → is_punctuator punctuator.CloseCurly t ≡ true → is_fault t ≡ false

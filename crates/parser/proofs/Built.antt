@@ -50,43 +50,53 @@ fewer_ahead : (n count : ℕ) (xs : List LocatedToken) → has_ahead (suc n) cou
 fewer_ahead zero count xs h = refl
 fewer_ahead (suc n) count [] h = h
 fewer_ahead (suc n) count (x ∷ xs) h =
-    let p : (ends_by count x ≡ true) × (has_ahead (suc n) count xs ≡ true) = both_true (ends_by count x) (has_ahead (suc n) count xs) h in
+    let p : (ends_by count x ≡ true) × (has_ahead (suc n) count xs ≡ true) =
+    both_true (ends_by count x) (has_ahead (suc n) count xs) h in
     rw (p.0, fewer_ahead n count xs p.1) refl
 
 -- a token ends by this place where the one behind it does
-ends_sooner : (place count : ℕ) (x y : LocatedToken) (ys : List LocatedToken) → IsCut place (x ∷ y ∷ ys) → ends_by count y ≡ true → ends_by count x ≡ true
+ends_sooner : (place count : ℕ) (x y : LocatedToken) (ys : List LocatedToken) → IsCut place (x ∷ y ∷ ys) →
+    ends_by count y ≡ true → ends_by count x ≡ true
 ends_sooner place count x y ys cut h = by (is_last x.token) refl
   where
     by : (last : Bool) → is_last x.token ≡ last → ends_by count x ≡ true
     by true e = let none : y ∷ ys ≡ [] = cut.1.1.0 e in absurd (cc)
     by false e =
-        let p : (not (is_end y.token) ≡ true) × (nat_le y.end count ≡ true) = both_true (not (is_end y.token)) (nat_le y.end count) h in
+        let p : (not (is_end y.token) ≡ true) × (nat_le y.end count ≡ true) =
+        both_true (not (is_end y.token)) (nat_le y.end count) h in
         rw (not_end x.token e, sooner_by x.end y.end count cut.1.1.1.0 p.1) refl
 
-more_ahead : (n count place : ℕ) (x : LocatedToken) (xs : List LocatedToken) → IsCut place (x ∷ xs) → has_ahead (suc n) count xs ≡ true → has_ahead (suc n) count (x ∷ xs) ≡ true
+more_ahead : (n count place : ℕ) (x : LocatedToken) (xs : List LocatedToken) → IsCut place (x ∷ xs) →
+    has_ahead (suc n) count xs ≡ true → has_ahead (suc n) count (x ∷ xs) ≡ true
 more_ahead n count place x [] cut h = absurd (cc)
 more_ahead n count place x (y ∷ ys) cut h =
-    let p : (ends_by count y ≡ true) × (has_ahead n count ys ≡ true) = both_true (ends_by count y) (has_ahead n count ys) h in
+    let p : (ends_by count y ≡ true) × (has_ahead n count ys ≡ true) =
+    both_true (ends_by count y) (has_ahead n count ys) h in
     rw (ends_sooner place count x y ys cut p.0, fewer_ahead n count (y ∷ ys) h) refl
 
-sooner_brace : (count place : ℕ) (x : LocatedToken) (xs : List LocatedToken) → IsCut place (x ∷ xs) → is_behind_brace count xs ≡ true → is_behind_brace count (x ∷ xs) ≡ true
+sooner_brace : (count place : ℕ) (x : LocatedToken) (xs : List LocatedToken) → IsCut place (x ∷ xs) →
+    is_behind_brace count xs ≡ true → is_behind_brace count (x ∷ xs) ≡ true
 sooner_brace count place x [] cut h = absurd (cc)
 sooner_brace count place x (y ∷ ys) cut h = more_ahead 2 count x.end y ys cut.1.1.1 h
 
 -- where too little lies behind a brace, so it does behind each later one
-later_brace : (count place : ℕ) (x : LocatedToken) (xs : List LocatedToken) → IsCut place (x ∷ xs) → is_behind_brace count (x ∷ xs) ≡ false → is_behind_brace count xs ≡ false
+later_brace : (count place : ℕ) (x : LocatedToken) (xs : List LocatedToken) → IsCut place (x ∷ xs) →
+    is_behind_brace count (x ∷ xs) ≡ false → is_behind_brace count xs ≡ false
 later_brace count place x xs cut h = by (is_behind_brace count xs) refl
   where
     by : (b : Bool) → is_behind_brace count xs ≡ b → b ≡ false
     by true e = let other : is_behind_brace count (x ∷ xs) ≡ true = sooner_brace count place x xs cut e in sym other ∙ h
     by false e = refl
 
-later_braces : (count place : ℕ) (before rest : List LocatedToken) → IsCut place (before ++ rest) → is_behind_brace count (before ++ rest) ≡ false → is_behind_brace count rest ≡ false
+later_braces : (count place : ℕ) (before rest : List LocatedToken) → IsCut place (before ++ rest) →
+    is_behind_brace count (before ++ rest) ≡ false → is_behind_brace count rest ≡ false
 later_braces count place [] rest cut h = h
-later_braces count place (x ∷ before) rest cut h = later_braces count x.end before rest cut.1.1.1 (later_brace count place x (before ++ rest) cut h)
+later_braces count place (x ∷ before) rest cut h =
+    later_braces count x.end before rest cut.1.1.1 (later_brace count place x (before ++ rest) cut h)
 
 -- no brace from the stop on has three tokens behind it that were read
-at_stop : (count place : ℕ) (rest : List LocatedToken) → IsCut place rest → count ≤ reach_of rest → is_behind_brace count rest ≡ false
+at_stop : (count place : ℕ) (rest : List LocatedToken) → IsCut place rest → count ≤ reach_of rest →
+    is_behind_brace count rest ≡ false
 at_stop count place [] cut h = refl
 at_stop count place (x ∷ []) cut h = refl
 at_stop count place (x ∷ y ∷ ys) cut h = none (ends_by count y) (has_ahead 2 count ys) (beyond_two ys cut.1.1.1.1.1.1)
@@ -107,7 +117,8 @@ at_stop count place (x ∷ y ∷ ys) cut h = none (ends_by count y) (has_ahead 2
 
 -- Functions in a run.
 
-none_of : (count : ℕ) (stack : List Item) (rest : List LocatedToken) (values : List Value) (scope : Scope) → is_behind_brace count rest ≡ false → built_of count stack rest values scope ≡ []
+none_of : (count : ℕ) (stack : List Item) (rest : List LocatedToken) (values : List Value) (scope : Scope) →
+    is_behind_brace count rest ≡ false → built_of count stack rest values scope ≡ []
 none_of count [] rest values scope h = refl
 none_of count (Make Define ∷ stack) rest values scope h = rw h refl
 none_of count (Make rule ∷ stack) rest values scope h = refl
@@ -133,10 +144,13 @@ steps_on count place s cut =
     record {
       place = b.place;
       cut = b.is;
-      later = λ h. later_braces count place r.before (stepped s).rest c (subst (λ (xs : List LocatedToken). is_behind_brace count xs ≡ false) r.is h);
+      later =
+          λ h. later_braces count place r.before (stepped s).rest c
+          (subst (λ (xs : List LocatedToken). is_behind_brace count xs ≡ false) r.is h);
     }
 
-none_in : (count n place : ℕ) (s : State) → IsCut place s.rest → is_behind_brace count s.rest ≡ false → built_in count n s ≡ []
+none_in : (count n place : ℕ) (s : State) → IsCut place s.rest → is_behind_brace count s.rest ≡ false →
+    built_in count n s ≡ []
 none_in count zero place s cut h = refl
 none_in count (suc n) place s cut h =
     let t : IsStepped count s = steps_on count place s cut in
@@ -155,61 +169,93 @@ abbrev Keeps : List Definition → Option State → Type 0
 Keeps functions None = Unit {0}
 Keeps functions (Some t) = t.functions ≡ functions ++ []
 
-matched_keeps : (fits : Bool) (stack : List Item) (rest : List LocatedToken) (values : List Value) (scope : Scope) (functions : List Definition) → Keeps functions (matched fits stack rest values scope functions)
+matched_keeps : (fits : Bool) (stack : List Item) (rest : List LocatedToken) (values : List Value) (scope : Scope)
+    (functions : List Definition) → Keeps functions (matched fits stack rest values scope functions)
 matched_keeps true stack rest values scope functions = sym (append-nil functions)
 matched_keeps false stack rest values scope functions = tt
 
-name_keeps : (role : Role) (name : Option (List ℕ)) (stack : List Item) (rest : List LocatedToken) (values : List Value) (scope : Scope) (functions : List Definition) → Keeps functions (name_matched role name stack rest values scope functions)
+name_keeps : (role : Role) (name : Option (List ℕ)) (stack : List Item) (rest : List LocatedToken) (values : List Value)
+    (scope : Scope) (functions : List Definition) →
+    Keeps functions (name_matched role name stack rest values scope functions)
 name_keeps role (Some name) stack rest values scope functions = sym (append-nil functions)
 name_keeps role None stack rest values scope functions = tt
 
-constant_keeps : (value : Option ℕ) (stack : List Item) (rest : List LocatedToken) (values : List Value) (scope : Scope) (functions : List Definition) → Keeps functions (constant_matched value stack rest values scope functions)
+constant_keeps : (value : Option ℕ) (stack : List Item) (rest : List LocatedToken) (values : List Value) (scope : Scope)
+    (functions : List Definition) → Keeps functions (constant_matched value stack rest values scope functions)
 constant_keeps (Some value) stack rest values scope functions = sym (append-nil functions)
 constant_keeps None stack rest values scope functions = tt
 
-replaced_keeps : (items : Production) (stack : List Item) (rest : List LocatedToken) (values : List Value) (scope : Scope) (functions : List Definition) → Keeps functions (replaced items stack rest values scope functions)
+replaced_keeps : (items : Production) (stack : List Item) (rest : List LocatedToken) (values : List Value)
+    (scope : Scope) (functions : List Definition) → Keeps functions (replaced items stack rest values scope functions)
 replaced_keeps (Some items) stack rest values scope functions = sym (append-nil functions)
 replaced_keeps None stack rest values scope functions = tt
 
-kept : (fault : Bool) (o : Option State) (s : State) → Keeps s.functions o → (unwrap_or (if fault then None else o) s).functions ≡ s.functions ++ []
+kept : (fault : Bool) (o : Option State) (s : State) → Keeps s.functions o →
+    (unwrap_or (if fault then None else o) s).functions ≡ s.functions ++ []
 kept true o s h = sym (append-nil s.functions)
 kept false None s h = sym (append-nil s.functions)
 kept false (Some t) s h = h
 
 -- no function ends
-plain : (count : ℕ) (s : State) → built_of count s.stack s.rest s.values s.scope ≡ [] → Keeps s.functions (step_of s.stack s.rest s.values s.scope s.functions) → Defines count s
-plain count s none keeps = record { more = []; functions = kept (is_fault (next_of s.rest)) _ s keeps; built = inl none }
+plain : (count : ℕ) (s : State) → built_of count s.stack s.rest s.values s.scope ≡ [] →
+    Keeps s.functions (step_of s.stack s.rest s.values s.scope s.functions) → Defines count s
+plain count s none keeps =
+    record { more = []; functions = kept (is_fault (next_of s.rest)) _ s keeps; built = inl none }
 
 -- a fault has nothing behind it
-behind_fault : (count place : ℕ) (rest : List LocatedToken) → IsCut place rest → is_fault (next_of rest) ≡ true → is_behind_brace count rest ≡ false
+behind_fault : (count place : ℕ) (rest : List LocatedToken) → IsCut place rest → is_fault (next_of rest) ≡ true →
+    is_behind_brace count rest ≡ false
 behind_fault count place [] cut e = refl
 behind_fault count place (x ∷ rest) cut e =
     let alone : rest ≡ [] = cut.1.1.0 (fault_is_last x.token e) in
     rw alone refl
 
 -- one does
-defined_there : (count place : ℕ) (stack : List Item) (rest : List LocatedToken) (values : List Value) (scope : Scope) (functions : List Definition) → IsCut place rest →
-    (fault behind : Bool) → is_fault (next_of rest) ≡ fault → is_behind_brace count rest ≡ behind → Defines count (state (Make Define ∷ stack) rest values scope functions)
+defined_there : (count place : ℕ) (stack : List Item) (rest : List LocatedToken) (values : List Value) (scope : Scope)
+    (functions : List Definition) → IsCut place rest →
+    (fault behind : Bool) → is_fault (next_of rest) ≡ fault → is_behind_brace count rest ≡ behind →
+    Defines count (state (Make Define ∷ stack) rest values scope functions)
 defined_there count place stack rest values scope functions cut true behind e f =
     let none : is_behind_brace count rest ≡ false = behind_fault count place rest cut e in
     record { more = []; functions = rw e (sym (append-nil functions)); built = inl (rw none refl) }
 defined_there count place stack rest values scope functions cut false true e f =
     let d : Definition = definition_of scope (last_body values) in
-    record { more = d ∷ []; functions = rw e refl; built = inl (rw f (sym (append-nil (function_actions d.number d.function)))) }
+    record {
+      more = d ∷ [];
+      functions = rw e refl;
+      built = inl (rw f (sym (append-nil (function_actions d.number d.function))));
+    }
 defined_there count place stack rest values scope functions cut false false e f =
     record { more = definition_of scope (last_body values) ∷ []; functions = rw e refl; built = inr (rw f refl, f) }
 
-defines : (count place : ℕ) (stack : List Item) (rest : List LocatedToken) (values : List Value) (scope : Scope) (functions : List Definition) → IsCut place rest → Defines count (state stack rest values scope functions)
+defines : (count place : ℕ) (stack : List Item) (rest : List LocatedToken) (values : List Value) (scope : Scope)
+    (functions : List Definition) → IsCut place rest → Defines count (state stack rest values scope functions)
 defines count place [] rest values scope functions cut = plain count (state [] rest values scope functions) refl tt
-defines count place (Make Define ∷ stack) rest values scope functions cut = defined_there count place stack rest values scope functions cut (is_fault (next_of rest)) (is_behind_brace count rest) refl refl
-defines count place (Make rule ∷ stack) rest values scope functions cut = plain count (state (Make rule ∷ stack) rest values scope functions) refl refl
-defines count place (Exactly m ∷ stack) rest values scope functions cut = plain count (state (Exactly m ∷ stack) rest values scope functions) refl (matched_keeps _ stack rest values scope functions)
-defines count place (AWord w ∷ stack) rest values scope functions cut = plain count (state (AWord w ∷ stack) rest values scope functions) refl (matched_keeps _ stack rest values scope functions)
-defines count place (AName role ∷ stack) rest values scope functions cut = plain count (state (AName role ∷ stack) rest values scope functions) refl (name_keeps role (name_of_token (next_of rest)) stack rest values scope functions)
-defines count place (AConstant ∷ stack) rest values scope functions cut = plain count (state (AConstant ∷ stack) rest values scope functions) refl (constant_keeps (constant_value (next_of rest)) stack rest values scope functions)
-defines count place (AnEnd ∷ stack) rest values scope functions cut = plain count (state (AnEnd ∷ stack) rest values scope functions) refl (matched_keeps _ stack rest values scope functions)
-defines count place (Part symbol ∷ stack) rest values scope functions cut = plain count (state (Part symbol ∷ stack) rest values scope functions) refl (replaced_keeps _ stack rest values scope functions)
-defines count place (Close ∷ stack) rest values scope functions cut = plain count (state (Close ∷ stack) rest values scope functions) refl (sym (append-nil functions))
+defines count place (Make Define ∷ stack) rest values scope functions cut =
+    defined_there count place stack rest values scope functions cut (is_fault (next_of rest))
+    (is_behind_brace count rest) refl refl
+defines count place (Make rule ∷ stack) rest values scope functions cut =
+    plain count (state (Make rule ∷ stack) rest values scope functions) refl refl
+defines count place (Exactly m ∷ stack) rest values scope functions cut =
+    plain count (state (Exactly m ∷ stack) rest values scope functions) refl
+    (matched_keeps _ stack rest values scope functions)
+defines count place (AWord w ∷ stack) rest values scope functions cut =
+    plain count (state (AWord w ∷ stack) rest values scope functions) refl
+    (matched_keeps _ stack rest values scope functions)
+defines count place (AName role ∷ stack) rest values scope functions cut =
+    plain count (state (AName role ∷ stack) rest values scope functions) refl
+    (name_keeps role (name_of_token (next_of rest)) stack rest values scope functions)
+defines count place (AConstant ∷ stack) rest values scope functions cut =
+    plain count (state (AConstant ∷ stack) rest values scope functions) refl
+    (constant_keeps (constant_value (next_of rest)) stack rest values scope functions)
+defines count place (AnEnd ∷ stack) rest values scope functions cut =
+    plain count (state (AnEnd ∷ stack) rest values scope functions) refl
+    (matched_keeps _ stack rest values scope functions)
+defines count place (Part symbol ∷ stack) rest values scope functions cut =
+    plain count (state (Part symbol ∷ stack) rest values scope functions) refl
+    (replaced_keeps _ stack rest values scope functions)
+defines count place (Close ∷ stack) rest values scope functions cut =
+    plain count (state (Close ∷ stack) rest values scope functions) refl (sym (append-nil functions))
 
 -- What a run defines begins with what is built.
 
@@ -220,29 +266,53 @@ pub record IsFront (count n : ℕ) (s : State) : Type 0 where
 four : (a b c d : List Action) → (a ++ b) ++ (c ++ d) ≡ a ++ ((b ++ c) ++ d)
 four a b c d = append_assoc a b (c ++ d) ∙ ap (λ (xs : List Action). a ++ xs) (sym (append_assoc b c d))
 
-front_step : (count n place : ℕ) (s : State) → IsCut place s.rest → IsFront count n (stepped s) → IsFront count (suc n) s
+front_step : (count n place : ℕ) (s : State) → IsCut place s.rest → IsFront count n (stepped s) →
+    IsFront count (suc n) s
 front_step count n place s cut further =
     let d : Defines count s = defines count place s.stack s.rest s.values s.scope s.functions cut in
-    let told : definitions_actions (run n (stepped s)).functions ≡ (definitions_actions s.functions ++ definitions_actions d.more) ++ (built_in count n (stepped s) ++ further.more) =
-    further.is ∙ ap (λ (xs : List Action). xs ++ (built_in count n (stepped s) ++ further.more)) (ap definitions_actions d.functions ∙ definitions_actions-append s.functions d.more) in
+    let told : definitions_actions (run n (stepped s)).functions ≡
+    (definitions_actions s.functions ++ definitions_actions d.more) ++
+    (built_in count n (stepped s) ++ further.more) =
+    further.is ∙
+    ap (λ (xs : List Action). xs ++ (built_in count n (stepped s) ++ further.more))
+    (ap definitions_actions d.functions ∙ definitions_actions-append s.functions d.more) in
     by d.more told d.built
   where
-    by : (more : List Definition) → definitions_actions (run n (stepped s)).functions ≡ (definitions_actions s.functions ++ definitions_actions more) ++ (built_in count n (stepped s) ++ further.more) →
-        (built_of count s.stack s.rest s.values s.scope ≡ definitions_actions more) ⊎ ((built_of count s.stack s.rest s.values s.scope ≡ []) × (is_behind_brace count s.rest ≡ false)) → IsFront count (suc n) s
+    by : (more : List Definition) →
+        definitions_actions (run n (stepped s)).functions ≡
+        (definitions_actions s.functions ++ definitions_actions more) ++
+        (built_in count n (stepped s) ++ further.more) →
+        (built_of count s.stack s.rest s.values s.scope ≡ definitions_actions more) ⊎
+        ((built_of count s.stack s.rest s.values s.scope ≡ []) × (is_behind_brace count s.rest ≡ false)) →
+        IsFront count (suc n) s
     by more told (inl same) = record {
       more = further.more;
-      is = told ∙ four (definitions_actions s.functions) (definitions_actions more) (built_in count n (stepped s)) further.more
-          ∙ ap (λ (xs : List Action). definitions_actions s.functions ++ ((xs ++ built_in count n (stepped s)) ++ further.more)) (sym same);
+      is =
+          told ∙
+          four (definitions_actions s.functions) (definitions_actions more) (built_in count n (stepped s))
+          further.more
+          ∙
+          ap
+          (λ (xs : List Action). definitions_actions s.functions ++
+          ((xs ++ built_in count n (stepped s)) ++ further.more)) (sym same);
     }
     by more told (inr none) =
         let t : IsStepped count s = steps_on count place s cut in
         let later : built_in count n (stepped s) ≡ [] = none_in count n t.place (stepped s) t.cut (t.later none.1) in
-        let nothing : built_of count s.stack s.rest s.values s.scope ++ built_in count n (stepped s) ≡ [] = rw (none.0, later) refl in
+        let nothing : built_of count s.stack s.rest s.values s.scope ++ built_in count n (stepped s) ≡ [] =
+        rw (none.0, later) refl in
         record {
           more = definitions_actions more ++ further.more;
-          is = told ∙ ap (λ (xs : List Action). (definitions_actions s.functions ++ definitions_actions more) ++ (xs ++ further.more)) later
+          is =
+              told ∙
+              ap
+              (λ (xs : List Action). (definitions_actions s.functions ++ definitions_actions more) ++
+              (xs ++ further.more)) later
               ∙ append_assoc (definitions_actions s.functions) (definitions_actions more) further.more
-              ∙ ap (λ (xs : List Action). definitions_actions s.functions ++ (xs ++ (definitions_actions more ++ further.more))) (sym nothing);
+              ∙
+              ap
+              (λ (xs : List Action). definitions_actions s.functions ++
+              (xs ++ (definitions_actions more ++ further.more))) (sym nothing);
         }
 
 front_built : (count n place : ℕ) (s : State) → IsCut place s.rest → IsFront count n s
@@ -258,15 +328,20 @@ built_in-add count zero n s = ap (λ (k : ℕ). built_in count k s) (omega arith
 built_in-add count (suc m) n s =
     let same : suc m + n ≡ suc (m + n) = omega arith in
     ap (λ (k : ℕ). built_in count k s) same
-    ∙ ap (λ (xs : List Action). built_of count s.stack s.rest s.values s.scope ++ xs) (built_in-add count m n (stepped s))
-    ∙ sym (append_assoc (built_of count s.stack s.rest s.values s.scope) (built_in count m (stepped s)) (built_in count n (run m (stepped s))))
+    ∙
+    ap (λ (xs : List Action). built_of count s.stack s.rest s.values s.scope ++ xs) (built_in-add count m n (stepped s))
+    ∙
+    sym
+    (append_assoc (built_of count s.stack s.rest s.values s.scope) (built_in count m (stepped s))
+    (built_in count n (run m (stepped s))))
 
 -- the functions defined by then are those built, and others behind them
 pub record IsAmongDefined (bytes : List ℕ) (count steps : ℕ) : Type 0 where
   pub more : List Action
   pub is : definitions_actions (run steps (start (tokens bytes))).functions ≡ built bytes count ++ more
 
-pub built_by_stop : (bytes : List ℕ) (count steps : ℕ) → count ≤ reach_of (run steps (start (tokens bytes))).rest → IsAmongDefined bytes count steps
+pub built_by_stop : (bytes : List ℕ) (count steps : ℕ) → count ≤ reach_of (run steps (start (tokens bytes))).rest →
+    IsAmongDefined bytes count steps
 unfolding built
 built_by_stop bytes count steps h =
     let s : State = start (tokens bytes) in
@@ -283,5 +358,6 @@ built_by_stop bytes count steps h =
     ∙ sym (built_in-add count steps n s) ∙ ap (λ (k : ℕ). built_in count k s) swap ∙ built_in-add count n steps s in
     record {
       more = built_in count steps (run n s) ++ front.more;
-      is = front.is ∙ ap (λ (xs : List Action). xs ++ front.more) whole ∙ append_assoc (built_in count n s) (built_in count steps (run n s)) front.more;
+      is = front.is ∙ ap (λ (xs : List Action). xs ++ front.more) whole ∙
+          append_assoc (built_in count n s) (built_in count steps (run n s)) front.more;
     }

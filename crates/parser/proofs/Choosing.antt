@@ -1,5 +1,5 @@
 -- Which part of a file begins with the next token.
-use Rattle.std.proofs.Common.{◌≡◌, ℕ, List, [], ◌∷◌, ◌++◌, refl, ◌∙◌, Bool, true, false}
+use Rattle.std.proofs.Common.{◌≡◌, ℕ, List, [], ◌∷◌, ◌++◌, refl, ◌∙◌, true, false}
 use Rattle.std.specs.Prelude.{Some, None}
 use Rattle.tokens.specs.declared.located_tokens.LocatedToken.{LocatedToken}
 use Rattle.tokens.specs.declared.located_tokens.Punctuator.TheVariants as punctuator
@@ -25,30 +25,40 @@ use Rattle.parser.proofs.Advancing.{advances_then, leave, stops_then, segment_ad
 use Rattle.tokens.specs.Reading.{IsNearTo}
 
 -- a symbol that enters no level was replaced
-symbol_leads : (symbol : Symbol) (items : List Item) (located_token : LocatedToken) (tail : List LocatedToken) (at : Place) → is_fault located_token.token ≡ false → choice symbol located_token.token (next_of tail) ≡ Some items → enters symbol located_token.token (next_of tail) ≡ false →
+symbol_leads : (symbol : Symbol) (items : List Item) (located_token : LocatedToken) (tail : List LocatedToken)
+    (at : Place) → is_fault located_token.token ≡ false →
+    choice symbol located_token.token (next_of tail) ≡ Some items →
+    enters symbol located_token.token (next_of tail) ≡ false →
     Leads 0 (Part symbol ∷ []) items [] [] (scope_at at) (scope_at at) (located_token ∷ tail) (located_token ∷ tail)
 symbol_leads symbol items located_token tail at sound chosen flat = record {
-  passes = λ profile stack values functions depths. part profile symbol items stack (located_token ∷ tail) values (scope_at at) functions sound chosen (rw flat refl);
+  passes =
+      λ profile stack values functions depths. part profile symbol items stack (located_token ∷ tail) values
+      (scope_at at) functions sound chosen (rw flat refl);
 }
 
 abbrev pub typed_items : List Item
 typed_items = AWord word.Type ∷ Part Types ∷ Part Head ∷ at_source
 
 -- a type word begins a file's part
-pub source_typed : (before : Meaning) (at : Place) → is_word word.Type (next_at at).token ≡ true → ReadsOn before before at_source typed_items at at
+pub source_typed : (before : Meaning) (at : Place) → is_word word.Type (next_at at).token ≡ true →
+    ReadsOn before before at_source typed_items at at
 source_typed before at is =
     let same : (next_at at).token ≡ token.Word word.Type = word_is word.Type (next_at at).token is in
     segment_advances before (Part Source ∷ []) typed_items [] at at refl
-    (stand at 0 (Part Source ∷ []) typed_items [] [] (λ tail b. symbol_leads Source typed_items (next_at at) tail at (rw same refl) (rw same refl) refl))
+    (stand at 0 (Part Source ∷ []) typed_items [] []
+    (λ tail b. symbol_leads Source typed_items (next_at at) tail at (rw same refl) (rw same refl) refl))
 
 -- so does a function's name
-pub source_named : (before : Meaning) (at : Place) (name : List ℕ) → (next_at at).token ≡ token.Name name → ReadsOn before before at_source at_definition at at
+pub source_named : (before : Meaning) (at : Place) (name : List ℕ) → (next_at at).token ≡ token.Name name →
+    ReadsOn before before at_source at_definition at at
 source_named before at name same =
     segment_advances before (Part Source ∷ []) at_definition [] at at refl
-    (stand at 0 (Part Source ∷ []) at_definition [] [] (λ tail b. symbol_leads Source at_definition (next_at at) tail at (rw same refl) (rw same refl) refl))
+    (stand at 0 (Part Source ∷ []) at_definition [] []
+    (λ tail b. symbol_leads Source at_definition (next_at at) tail at (rw same refl) (rw same refl) refl))
 
 -- nothing else does
-source_none : (t after : Token) → (t ≡ token.End → ⊥) → is_word word.Type t ≡ false → ((name : List ℕ) → t ≡ token.Name name → ⊥) → choice Source t after ≡ None
+source_none : (t after : Token) → (t ≡ token.End → ⊥) → is_word word.Type t ≡ false →
+    ((name : List ℕ) → t ≡ token.Name name → ⊥) → choice Source t after ≡ None
 source_none token.End after end type name = absurd (end refl)
 source_none (token.Word word.Type) after end type name = absurd (cc)
 source_none (token.Word w) after end type name = refl
@@ -57,38 +67,57 @@ source_none (token.Punctuator m) after end type name = refl
 source_none (token.Constant value) after end type name = refl
 source_none (token.Fault lexical_error) after end type name = refl
 
-pub source_misfits : (before : Meaning) (at : Place) (used : ℕ) (near : IsNearTo at.position.reading used) → is_fault (next_at at).token ≡ false → ((next_at at).token ≡ token.End → ⊥) → is_word word.Type (next_at at).token ≡ false → ((name : List ℕ) → (next_at at).token ≡ token.Name name → ⊥) →
-    StopsReading before before at_source at (stop_with (refusal.Source (diagnostic (next_at at).line (misfit_code (next_at at).token))) used)
+pub source_misfits : (before : Meaning) (at : Place) (used : ℕ) (near : IsNearTo at.position.reading used) →
+    is_fault (next_at at).token ≡ false → ((next_at at).token ≡ token.End → ⊥) →
+    is_word word.Type (next_at at).token ≡ false → ((name : List ℕ) → (next_at at).token ≡ token.Name name → ⊥) →
+    StopsReading before before at_source at
+    (stop_with (refusal.Source (diagnostic (next_at at).line (misfit_code (next_at at).token))) used)
 source_misfits before at used near sound end type name =
-    reading_fails_at_next before before at_source at _ used near (λ tail profile functions. no_part profile Source [] (next_at at ∷ tail) [] (scope_at at) functions sound (source_none (next_at at).token _ end type name) refl)
+    reading_fails_at_next before before at_source at _ used near
+    (λ tail profile functions. no_part profile Source [] (next_at at ∷ tail) [] (scope_at at) functions sound
+    (source_none (next_at at).token _ end type name) refl)
 
 -- Behind the type words.
 
 abbrev pub at_head : List Item
 at_head = Part Head ∷ at_source
 
-pub type_word : (before : Meaning) (at now : Place) → DerivesItem (AWord word.Type) [] [] at now → ReadsOn before before typed_items (Part Types ∷ at_head) at now
+pub type_word : (before : Meaning) (at now : Place) → DerivesItem (AWord word.Type) [] [] at now →
+    ReadsOn before before typed_items (Part Types ∷ at_head) at now
 type_word before at now d = segment_advances before (AWord word.Type ∷ []) [] (Part Types ∷ at_head) at now refl (d 0)
 
-pub more_types : (before : Meaning) (at now : Place) → Derives 0 (Part Types ∷ []) [] [] [] at now → ReadsOn before before (Part Types ∷ at_head) at_head at now
+pub more_types : (before : Meaning) (at now : Place) → Derives 0 (Part Types ∷ []) [] [] [] at now →
+    ReadsOn before before (Part Types ∷ at_head) at_head at now
 more_types before at now d = segment_advances before (Part Types ∷ []) [] at_head at now refl d
 
 -- up to the head
-pub typed_head : (before : Meaning) (at now behind : Place) → is_word word.Type (next_at at).token ≡ true → DerivesItem (AWord word.Type) [] [] at now → Derives 0 (Part Types ∷ []) [] [] [] now behind →
+pub typed_head : (before : Meaning) (at now behind : Place) → is_word word.Type (next_at at).token ≡ true →
+    DerivesItem (AWord word.Type) [] [] at now → Derives 0 (Part Types ∷ []) [] [] [] now behind →
     ReadsOn before before at_source at_head at behind
 typed_head before at now behind is d e =
     advances_then before before before at_source (Part Types ∷ at_head) at_head at now behind
-    (advances_then before before before at_source typed_items (Part Types ∷ at_head) at at now (source_typed before at is) (type_word before at now d)) (more_types before now behind e)
+    (advances_then before before before at_source typed_items (Part Types ∷ at_head) at at now
+    (source_typed before at is) (type_word before at now d)) (more_types before now behind e)
 
-pub word_refused : (used : ℕ) (before : Meaning) (at : Place) (f : ParseFault) (more : Type 0) → is_word word.Type (next_at at).token ≡ true → Refused (FailsItem (AWord word.Type) at) ⊥ used f → Refused (StopsReading before before at_source at) more used f
-word_refused used before at f more is = refused_map used (FailsItem (AWord word.Type) at) (StopsReading before before at_source at) ⊥ more f
-    (λ d fails. stops_then before before before at_source typed_items at at d (source_typed before at is) (segment_stops before (AWord word.Type ∷ []) (Part Types ∷ at_head) at d refl (fails 0))) (λ never. absurd never)
+pub word_refused : (used : ℕ) (before : Meaning) (at : Place) (f : ParseFault) (more : Type 0) →
+    is_word word.Type (next_at at).token ≡ true → Refused (FailsItem (AWord word.Type) at) ⊥ used f →
+    Refused (StopsReading before before at_source at) more used f
+word_refused used before at f more is =
+    refused_map used (FailsItem (AWord word.Type) at) (StopsReading before before at_source at) ⊥ more f
+    (λ d fails. stops_then before before before at_source typed_items at at d (source_typed before at is)
+    (segment_stops before (AWord word.Type ∷ []) (Part Types ∷ at_head) at d refl (fails 0)))
+    (λ never. absurd never)
 
-pub types_refused : (used : ℕ) (before : Meaning) (at now : Place) (f : ParseFault) (more : Type 0) → is_word word.Type (next_at at).token ≡ true → DerivesItem (AWord word.Type) [] [] at now →
-    Refused (λ d. (depth : ℕ) → FailsAt depth (Part Types ∷ []) [] now d) ⊥ used f → Refused (StopsReading before before at_source at) more used f
-types_refused used before at now f more is passed = refused_map used (λ d. (depth : ℕ) → FailsAt depth (Part Types ∷ []) [] now d) (StopsReading before before at_source at) ⊥ more f
+pub types_refused : (used : ℕ) (before : Meaning) (at now : Place) (f : ParseFault) (more : Type 0) →
+    is_word word.Type (next_at at).token ≡ true → DerivesItem (AWord word.Type) [] [] at now →
+    Refused (λ d. (depth : ℕ) → FailsAt depth (Part Types ∷ []) [] now d) ⊥ used f →
+    Refused (StopsReading before before at_source at) more used f
+types_refused used before at now f more is passed =
+    refused_map used (λ d. (depth : ℕ) → FailsAt depth (Part Types ∷ []) [] now d)
+    (StopsReading before before at_source at) ⊥ more f
     (λ d fails. stops_then before before before at_source (Part Types ∷ at_head) at now d
-    (advances_then before before before at_source typed_items (Part Types ∷ at_head) at at now (source_typed before at is) (type_word before at now passed))
+    (advances_then before before before at_source typed_items (Part Types ∷ at_head) at at now
+    (source_typed before at is) (type_word before at now passed))
     (segment_stops before (Part Types ∷ []) at_head now d refl (fails 0))) (λ never. absurd never)
 
 -- A head.
@@ -107,17 +136,21 @@ round_is (token.Fault lexical_error) is = absurd (cc)
 
 abbrev pub definition_head : List Item
 definition_head =
-    AName Defined ∷ Exactly punctuator.OpenRound ∷ Part Parameters ∷ Exactly punctuator.CloseRound ∷ Part ParameterTypes ∷ Part FunctionBlock ∷ []
+    AName Defined ∷ Exactly punctuator.OpenRound ∷ Part Parameters ∷ Exactly punctuator.CloseRound ∷
+    Part ParameterTypes ∷ Part FunctionBlock ∷ []
 
 -- a name and a bracket begin a function
-pub head_defined : (before : Meaning) (at : Place) (name : List ℕ) → (next_at at).token ≡ token.Name name → is_punctuator punctuator.OpenRound (after_at at) ≡ true → ReadsOn before before at_head at_definition at at
+pub head_defined : (before : Meaning) (at : Place) (name : List ℕ) → (next_at at).token ≡ token.Name name →
+    is_punctuator punctuator.OpenRound (after_at at) ≡ true → ReadsOn before before at_head at_definition at at
 head_defined before at name same is =
     segment_advances before (Part Head ∷ []) definition_head at_source at at refl
     (stand at 0 (Part Head ∷ []) definition_head [] [] (λ tail b.
-    let next : next_of tail ≡ token.Punctuator punctuator.OpenRound = next_behind at tail b (rw same refl) ∙ round_is (after_at at) is in
+    let next : next_of tail ≡ token.Punctuator punctuator.OpenRound =
+    next_behind at tail b (rw same refl) ∙ round_is (after_at at) is in
     symbol_leads Head definition_head (next_at at) tail at (rw same refl) (rw (same, next) refl) refl))
 
-choose_external : (name : List ℕ) (after : Token) → is_punctuator punctuator.OpenRound after ≡ false → choice Head (token.Name name) after ≡ Some external_items
+choose_external : (name : List ℕ) (after : Token) → is_punctuator punctuator.OpenRound after ≡ false →
+    choice Head (token.Name name) after ≡ Some external_items
 choose_external name (token.Punctuator punctuator.OpenRound) other = absurd (cc)
 choose_external name (token.Punctuator m) other = refl
 choose_external name (token.Name n) other = refl
@@ -127,12 +160,15 @@ choose_external name token.End other = refl
 choose_external name (token.Fault lexical_error) other = refl
 
 -- any other name an external
-pub head_external : (before : Meaning) (at : Place) (name : List ℕ) → (next_at at).token ≡ token.Name name → is_punctuator punctuator.OpenRound (after_at at) ≡ false → ReadsOn before before at_head (external_items ++ at_source) at at
+pub head_external : (before : Meaning) (at : Place) (name : List ℕ) → (next_at at).token ≡ token.Name name →
+    is_punctuator punctuator.OpenRound (after_at at) ≡ false →
+    ReadsOn before before at_head (external_items ++ at_source) at at
 head_external before at name same other =
     segment_advances before (Part Head ∷ []) external_items at_source at at refl
     (stand at 0 (Part Head ∷ []) external_items [] [] (λ tail b.
     let next : next_of tail ≡ after_at at = next_behind at tail b (rw same refl) in
-    symbol_leads Head external_items (next_at at) tail at (rw same refl) (rw (same, next) (choose_external name (after_at at) other)) refl))
+    symbol_leads Head external_items (next_at at) tail at (rw same refl)
+    (rw (same, next) (choose_external name (after_at at) other)) refl))
 
 head_none : (t after : Token) → ((name : List ℕ) → t ≡ token.Name name → ⊥) → choice Head t after ≡ None
 head_none token.End after name = refl
@@ -142,25 +178,44 @@ head_none (token.Punctuator m) after name = refl
 head_none (token.Constant value) after name = refl
 head_none (token.Fault lexical_error) after name = refl
 
-pub head_misfits : (before : Meaning) (at : Place) (used : ℕ) (near : IsNearTo at.position.reading used) → is_fault (next_at at).token ≡ false → ((name : List ℕ) → (next_at at).token ≡ token.Name name → ⊥) →
-    StopsReading before before at_head at (stop_with (refusal.Source (diagnostic (next_at at).line (misfit_code (next_at at).token))) used)
+pub head_misfits : (before : Meaning) (at : Place) (used : ℕ) (near : IsNearTo at.position.reading used) →
+    is_fault (next_at at).token ≡ false → ((name : List ℕ) → (next_at at).token ≡ token.Name name → ⊥) →
+    StopsReading before before at_head at
+    (stop_with (refusal.Source (diagnostic (next_at at).line (misfit_code (next_at at).token))) used)
 head_misfits before at used near sound name =
-    reading_fails_at_next before before at_head at _ used near (λ tail profile functions. no_part profile Head at_source (next_at at ∷ tail) [] (scope_at at) functions sound (head_none (next_at at).token _ name) refl)
+    reading_fails_at_next before before at_head at _ used near
+    (λ tail profile functions. no_part profile Head at_source (next_at at ∷ tail) [] (scope_at at) functions sound
+    (head_none (next_at at).token _ name) refl)
 
 -- externals were declared
-pub externals_read : (before : Meaning) (at now : Place) (name : List ℕ) → (next_at at).token ≡ token.Name name → is_punctuator punctuator.OpenRound (after_at at) ≡ false → Derives 0 external_items [] [] [] at now → ReadsOn before before at_head at_source at now
+pub externals_read : (before : Meaning) (at now : Place) (name : List ℕ) → (next_at at).token ≡ token.Name name →
+    is_punctuator punctuator.OpenRound (after_at at) ≡ false → Derives 0 external_items [] [] [] at now →
+    ReadsOn before before at_head at_source at now
 externals_read before at now name same other d =
-    advances_then before before before at_head (external_items ++ at_source) at_source at at now (head_external before at name same other) (segment_advances before external_items [] at_source at now refl d)
+    advances_then before before before at_head (external_items ++ at_source) at_source at at now
+    (head_external before at name same other) (segment_advances before external_items [] at_source at now refl d)
 
-pub externals_refused : (used : ℕ) (before : Meaning) (at : Place) (name : List ℕ) (f : ParseFault) (more : Type 0) → (next_at at).token ≡ token.Name name → is_punctuator punctuator.OpenRound (after_at at) ≡ false →
-    Refused (λ d. (depth : ℕ) → FailsAt depth external_items [] at d) ⊥ used f → Refused (StopsReading before before at_head at) more used f
-externals_refused used before at name f more same other = refused_map used (λ d. (depth : ℕ) → FailsAt depth external_items [] at d) (StopsReading before before at_head at) ⊥ more f
-    (λ d fails. stops_then before before before at_head (external_items ++ at_source) at at d (head_external before at name same other) (segment_stops before external_items at_source at d refl (fails 0))) (λ never. absurd never)
+pub externals_refused : (used : ℕ) (before : Meaning) (at : Place) (name : List ℕ) (f : ParseFault) (more : Type 0) →
+    (next_at at).token ≡ token.Name name → is_punctuator punctuator.OpenRound (after_at at) ≡ false →
+    Refused (λ d. (depth : ℕ) → FailsAt depth external_items [] at d) ⊥ used f →
+    Refused (StopsReading before before at_head at) more used f
+externals_refused used before at name f more same other =
+    refused_map used (λ d. (depth : ℕ) → FailsAt depth external_items [] at d) (StopsReading before before at_head at) ⊥
+    more f
+    (λ d fails. stops_then before before before at_head (external_items ++ at_source) at at d
+    (head_external before at name same other) (segment_stops before external_items at_source at d refl (fails 0)))
+    (λ never. absurd never)
 
 -- a function was read behind what leads to it
-pub function_read : (before after : Meaning) (front : List Item) (at there : Place) → ReadsOn before before front at_definition at at → ReadsOn before after at_definition at_source at there → ReadsOn before after front at_source at there
-function_read before after front at there a b = advances_then before before after front at_definition at_source at at there a b
+pub function_read : (before after : Meaning) (front : List Item) (at there : Place) →
+    ReadsOn before before front at_definition at at → ReadsOn before after at_definition at_source at there →
+    ReadsOn before after front at_source at there
+function_read before after front at there a b =
+    advances_then before before after front at_definition at_source at at there a b
 
-pub function_refused : (used : ℕ) (before after : Meaning) (front : List Item) (at : Place) (f : ParseFault) (denied : Type 0) → ReadsOn before before front at_definition at at →
-    Refused (StopsReading before after at_definition at) denied used f → Refused (StopsReading before after front at) denied used f
-function_refused used before after front at f denied a = leave used before before after front at_definition at at denied denied f a (λ same. same)
+pub function_refused : (used : ℕ) (before after : Meaning) (front : List Item) (at : Place) (f : ParseFault)
+    (denied : Type 0) → ReadsOn before before front at_definition at at →
+    Refused (StopsReading before after at_definition at) denied used f →
+    Refused (StopsReading before after front at) denied used f
+function_refused used before after front at f denied a =
+    leave used before before after front at_definition at at denied denied f a (λ same. same)

@@ -14,28 +14,39 @@ use Rattle.parser.specs.Progress.{ClosesFunction, MayEnd}
 
 -- A function begins.
 
-pub may_begin : (before : Meaning) (number parameters : ℕ) → StandsOpen before [] → number < 64 → parameters ≤ 64 → MayFollow before (BeginFunction number parameters)
+pub may_begin : (before : Meaning) (number parameters : ℕ) → StandsOpen before [] → number < 64 → parameters ≤ 64 →
+    MayFollow before (BeginFunction number parameters)
 may_begin before number parameters s known few =
-    may_follow before [] (InFunction parameters false ∷ []) (BeginFunction number parameters) s (function_begins number parameters known few) (omega arith)
+    may_follow before [] (InFunction parameters false ∷ []) (BeginFunction number parameters) s
+    (function_begins number parameters known few) (omega arith)
 
-pub begun : (before behind : Meaning) (number parameters : ℕ) → StandsOpen before [] → number < 64 → parameters ≤ 64 → Appends before behind (BeginFunction number parameters) → StandsOpen behind (InFunction parameters false ∷ [])
+pub begun : (before behind : Meaning) (number parameters : ℕ) → StandsOpen before [] → number < 64 → parameters ≤ 64 →
+    Appends before behind (BeginFunction number parameters) → StandsOpen behind (InFunction parameters false ∷ [])
 begun before behind number parameters s known few told =
     stands_then before behind (BeginFunction number parameters ∷ []) [] (InFunction parameters false ∷ []) told s
-    (follow_one (BeginFunction number parameters) [] (InFunction parameters false ∷ []) (function_begins number parameters known few) (omega arith))
+    (follow_one (BeginFunction number parameters) [] (InFunction parameters false ∷ [])
+    (function_begins number parameters known few) (omega arith))
 
-pub has_place : (before : Meaning) (parameters : ℕ) → StandsOpen before (InFunction parameters false ∷ []) → HasPlace before (room 1 1)
-has_place before parameters s = record { opened = InFunction parameters false ∷ []; place = refl; stands = s; few = omega arith }
+pub has_place : (before : Meaning) (parameters : ℕ) → StandsOpen before (InFunction parameters false ∷ []) →
+    HasPlace before (room 1 1)
+has_place before parameters s =
+    record { opened = InFunction parameters false ∷ []; place = refl; stands = s; few = omega arith }
 
 -- Its statements leave it open.
-pub may_end : (before behind : Meaning) (parameters variables : ℕ) (body : Body) → StandsOpen before (InFunction parameters false ∷ []) → AppendsAll before behind (body_actions body) →
+pub may_end : (before behind : Meaning) (parameters variables : ℕ) (body : Body) →
+    StandsOpen before (InFunction parameters false ∷ []) → AppendsAll before behind (body_actions body) →
     InBody 64 64 64 body → body_nesting body ≤ 200 → parameters ≤ variables → variables ≤ 64 → MayEnd behind variables
 may_end before behind parameters variables body s told numbered narrow within few =
     let k : KeepsFunction body parameters false = keeps_function body parameters false in
     record {
       parameters = parameters;
       returned = k.returned;
-      stands = stands_then before behind (body_actions body) (InFunction parameters false ∷ []) (InFunction parameters k.returned ∷ []) told s
-          (leads_to (body_actions body) (InFunction parameters false ∷ []) _ (InFunction parameters k.returned ∷ []) k.is (body_leads body (InFunction parameters false ∷ []) refl numbered (omega arith))).is;
+      stands =
+          stands_then before behind (body_actions body) (InFunction parameters false ∷ [])
+          (InFunction parameters k.returned ∷ []) told s
+          (leads_to (body_actions body) (InFunction parameters false ∷ []) _
+          (InFunction parameters k.returned ∷ []) k.is
+          (body_leads body (InFunction parameters false ∷ []) refl numbered (omega arith))).is;
       within = within;
       few = few;
     }
@@ -44,37 +55,64 @@ may_end before behind parameters variables body s told numbered narrow within fe
 
 pub may_push : (before : Meaning) (variables : ℕ) → MayEnd before variables → MayFollow before (PushConstant (pos 0))
 may_push before variables m =
-    may_follow before (InFunction m.parameters m.returned ∷ []) (AValue (Number (pos 0)) ∷ InFunction m.parameters m.returned ∷ []) (PushConstant (pos 0)) m.stands refl (omega arith)
+    may_follow before (InFunction m.parameters m.returned ∷ [])
+    (AValue (Number (pos 0)) ∷ InFunction m.parameters m.returned ∷ []) (PushConstant (pos 0)) m.stands refl
+    (omega arith)
 
-pushed : (before behind : Meaning) (variables : ℕ) (m : MayEnd before variables) → Appends before behind (PushConstant (pos 0)) → StandsOpen behind (AValue (Number (pos 0)) ∷ InFunction m.parameters m.returned ∷ [])
+pushed : (before behind : Meaning) (variables : ℕ) (m : MayEnd before variables) →
+    Appends before behind (PushConstant (pos 0)) →
+    StandsOpen behind (AValue (Number (pos 0)) ∷ InFunction m.parameters m.returned ∷ [])
 pushed before behind variables m told =
-    stands_then before behind (PushConstant (pos 0) ∷ []) (InFunction m.parameters m.returned ∷ []) (AValue (Number (pos 0)) ∷ InFunction m.parameters m.returned ∷ []) told m.stands
-    (follow_one (PushConstant (pos 0)) (InFunction m.parameters m.returned ∷ []) (AValue (Number (pos 0)) ∷ InFunction m.parameters m.returned ∷ []) refl (omega arith))
+    stands_then before behind (PushConstant (pos 0) ∷ []) (InFunction m.parameters m.returned ∷ [])
+    (AValue (Number (pos 0)) ∷ InFunction m.parameters m.returned ∷ []) told m.stands
+    (follow_one (PushConstant (pos 0)) (InFunction m.parameters m.returned ∷ [])
+    (AValue (Number (pos 0)) ∷ InFunction m.parameters m.returned ∷ []) refl (omega arith))
 
-pub may_give : (before behind : Meaning) (variables : ℕ) → MayEnd before variables → Appends before behind (PushConstant (pos 0)) → MayFollow behind GiveBack
+pub may_give : (before behind : Meaning) (variables : ℕ) → MayEnd before variables →
+    Appends before behind (PushConstant (pos 0)) → MayFollow behind GiveBack
 may_give before behind variables m told =
-    may_follow behind (AValue (Number (pos 0)) ∷ InFunction m.parameters m.returned ∷ []) (InFunction m.parameters true ∷ []) GiveBack (pushed before behind variables m told) refl (omega arith)
+    may_follow behind (AValue (Number (pos 0)) ∷ InFunction m.parameters m.returned ∷ [])
+    (InFunction m.parameters true ∷ []) GiveBack (pushed before behind variables m told) refl (omega arith)
 
-pub may_finish : (before mid behind : Meaning) (variables : ℕ) → MayEnd before variables → Appends before mid (PushConstant (pos 0)) → Appends mid behind GiveBack → MayFollow behind (EndFunction variables)
+pub may_finish : (before mid behind : Meaning) (variables : ℕ) → MayEnd before variables →
+    Appends before mid (PushConstant (pos 0)) → Appends mid behind GiveBack → MayFollow behind (EndFunction variables)
 may_finish before mid behind variables m told given =
     let s : StandsOpen behind (InFunction m.parameters true ∷ []) =
-    stands_then mid behind (GiveBack ∷ []) (AValue (Number (pos 0)) ∷ InFunction m.parameters m.returned ∷ []) (InFunction m.parameters true ∷ []) given (pushed before mid variables m told)
-    (follow_one GiveBack (AValue (Number (pos 0)) ∷ InFunction m.parameters m.returned ∷ []) (InFunction m.parameters true ∷ []) refl (omega arith)) in
-    may_follow behind (InFunction m.parameters true ∷ []) [] (EndFunction variables) s (function_finishes m.parameters variables m.within m.few) (omega arith)
+    stands_then mid behind (GiveBack ∷ []) (AValue (Number (pos 0)) ∷ InFunction m.parameters m.returned ∷ [])
+    (InFunction m.parameters true ∷ []) given (pushed before mid variables m told)
+    (follow_one GiveBack (AValue (Number (pos 0)) ∷ InFunction m.parameters m.returned ∷ [])
+    (InFunction m.parameters true ∷ []) refl (omega arith)) in
+    may_follow behind (InFunction m.parameters true ∷ []) [] (EndFunction variables) s
+    (function_finishes m.parameters variables m.within m.few) (omega arith)
 
 -- what was told of its end
-pub closes : (before mid between after : Meaning) (variables : ℕ) → Appends before mid (PushConstant (pos 0)) → Appends mid between GiveBack → Appends between after (EndFunction variables) →
-    ((profile : Profile) (acts : List Action) → between profile acts → code_length profile acts + 1 ≤ profile.instructions) → ClosesFunction before after variables
+pub closes : (before mid between after : Meaning) (variables : ℕ) → Appends before mid (PushConstant (pos 0)) →
+    Appends mid between GiveBack → Appends between after (EndFunction variables) →
+    ((profile : Profile) (acts : List Action) → between profile acts →
+    code_length profile acts + 1 ≤ profile.instructions) → ClosesFunction before after variables
 closes before mid between after variables a b c fits = record {
-  added = λ profile acts h. subst (λ (xs : List Action). after profile xs) (rejoin acts) (c profile _ (b profile _ (a profile acts h)));
-  fits = λ profile acts h. subst (λ (xs : List Action). code_length profile xs + 1 ≤ profile.instructions) (append_assoc acts (PushConstant (pos 0) ∷ []) (GiveBack ∷ [])) (fits profile _ (b profile _ (a profile acts h)));
+  added =
+      λ profile acts h. subst (λ (xs : List Action). after profile xs) (rejoin acts)
+      (c profile _ (b profile _ (a profile acts h)));
+  fits =
+      λ profile acts h. subst (λ (xs : List Action). code_length profile xs + 1 ≤ profile.instructions)
+      (append_assoc acts (PushConstant (pos 0) ∷ []) (GiveBack ∷ []))
+      (fits profile _ (b profile _ (a profile acts h)));
 }
   where
-    rejoin : (acts : List Action) → ((acts ++ PushConstant (pos 0) ∷ []) ++ GiveBack ∷ []) ++ EndFunction variables ∷ [] ≡ acts ++ (last_return ++ EndFunction variables ∷ [])
-    rejoin acts = append_assoc (acts ++ PushConstant (pos 0) ∷ []) (GiveBack ∷ []) (EndFunction variables ∷ []) ∙ append_assoc acts (PushConstant (pos 0) ∷ []) (GiveBack ∷ EndFunction variables ∷ [])
+    rejoin : (acts : List Action) →
+        ((acts ++ PushConstant (pos 0) ∷ []) ++ GiveBack ∷ []) ++ EndFunction variables ∷ [] ≡
+        acts ++ (last_return ++ EndFunction variables ∷ [])
+    rejoin acts =
+        append_assoc (acts ++ PushConstant (pos 0) ∷ []) (GiveBack ∷ []) (EndFunction variables ∷ []) ∙
+        append_assoc acts (PushConstant (pos 0) ∷ []) (GiveBack ∷ EndFunction variables ∷ [])
 
 -- Behind it nothing is open.
-pub closed : (before after : Meaning) (number parameters variables : ℕ) (body : Body) → StandsOpen before [] → number < 64 → parameters ≤ variables → variables ≤ 64 → InBody 64 64 64 body → body_nesting body ≤ 200 →
-    AppendsAll before after (BeginFunction number parameters ∷ (body_actions body ++ (last_return ++ EndFunction variables ∷ []))) → StandsOpen after []
+pub closed : (before after : Meaning) (number parameters variables : ℕ) (body : Body) → StandsOpen before [] →
+    number < 64 → parameters ≤ variables → variables ≤ 64 → InBody 64 64 64 body → body_nesting body ≤ 200 →
+    AppendsAll before after
+    (BeginFunction number parameters ∷ (body_actions body ++ (last_return ++ EndFunction variables ∷ []))) →
+    StandsOpen after []
 closed before after number parameters variables body s known within few numbered narrow told =
-    stands_then before after _ [] [] told s (definition_leads number parameters variables body known within few numbered narrow).is
+    stands_then before after _ [] [] told s
+    (definition_leads number parameters variables body known within few numbered narrow).is

@@ -43,53 +43,80 @@ not_open (token.Constant value) after other = refl
 not_open token.End after other = refl
 not_open (token.Fault lexical_error) after other = refl
 
-first_level : (opened : Bool) (n : ℕ) (rest : List LocatedToken) → n ≡ 0 → only_if opened (only_if (nat_le most_levels n) (fault rest code.NestedTooDeeply ∷ [])) ≡ []
+first_level : (opened : Bool) (n : ℕ) (rest : List LocatedToken) → n ≡ 0 →
+    only_if opened (only_if (nat_le most_levels n) (fault rest code.NestedTooDeeply ∷ [])) ≡ []
 unfolding most_levels
 first_level false n rest e = refl
 first_level true n rest e = rw e refl
 
-brace_leads : (located_token : LocatedToken) → is_punctuator punctuator.OpenCurly located_token.token ≡ true → (known : Scope) (rest : List LocatedToken) →
+brace_leads : (located_token : LocatedToken) → is_punctuator punctuator.OpenCurly located_token.token ≡ true →
+    (known : Scope) (rest : List LocatedToken) →
     Leads 0 (Part FunctionBlock ∷ []) (Make Empty ∷ inside_items) [] [] known known (located_token ∷ rest) rest
 brace_leads located_token is known rest = record {
   passes = λ profile stack values functions depths.
-      let at : located_token.token ≡ token.Punctuator punctuator.OpenCurly = punctuator_is punctuator.OpenCurly located_token.token is in
+      let at : located_token.token ≡ token.Punctuator punctuator.OpenCurly =
+      punctuator_is punctuator.OpenCurly located_token.token is in
       then profile _ _ _
-      (part profile FunctionBlock (Exactly punctuator.OpenCurly ∷ Make Empty ∷ inside_items) stack (located_token ∷ rest) values known functions (rw at refl) (rw at refl) (first_level _ (levels stack) (located_token ∷ rest) depths))
-      (punctuator_step profile punctuator.OpenCurly (Make Empty ∷ (inside_items ++ stack)) (located_token ∷ rest) values known functions (rw at refl) is);
+      (part profile FunctionBlock (Exactly punctuator.OpenCurly ∷ Make Empty ∷ inside_items) stack
+      (located_token ∷ rest) values known functions (rw at refl) (rw at refl)
+      (first_level _ (levels stack) (located_token ∷ rest) depths))
+      (punctuator_step profile punctuator.OpenCurly (Make Empty ∷ (inside_items ++ stack)) (located_token ∷ rest)
+      values known functions (rw at refl) is);
 }
 
-empty_leads : (located_token : LocatedToken) → is_fault located_token.token ≡ false → (known : Scope) (rest : List LocatedToken) →
-    Leads 0 (Make Empty ∷ inside_items) inside_items [] (ABody Done ∷ []) known known (located_token ∷ rest) (located_token ∷ rest)
+empty_leads : (located_token : LocatedToken) → is_fault located_token.token ≡ false →
+    (known : Scope) (rest : List LocatedToken) →
+    Leads 0 (Make Empty ∷ inside_items) inside_items [] (ABody Done ∷ []) known known (located_token ∷ rest)
+    (located_token ∷ rest)
 empty_leads located_token sound known rest = record {
   passes = λ profile stack values functions depths.
-      subst (λ (fs : List Definition). Passes profile (state (Make Empty ∷ (inside_items ++ stack)) (located_token ∷ rest) values known functions) (state (inside_items ++ stack) (located_token ∷ rest) (ABody Done ∷ values) known fs))
-      (append-nil functions) (make profile Empty (inside_items ++ stack) (located_token ∷ rest) values known functions sound refl);
+      subst
+      (λ (fs : List Definition). Passes profile
+      (state (Make Empty ∷ (inside_items ++ stack)) (located_token ∷ rest) values known functions)
+      (state (inside_items ++ stack) (located_token ∷ rest) (ABody Done ∷ values) known fs))
+      (append-nil functions)
+      (make profile Empty (inside_items ++ stack) (located_token ∷ rest) values known functions sound refl);
 }
 
-pub brace_misfits : (at : Place) (used : ℕ) (near : IsNearTo at.position.reading used) → is_fault (next_at at).token ≡ false → is_punctuator punctuator.OpenCurly (next_at at).token ≡ false →
-    FailsAt 0 (Part FunctionBlock ∷ []) [] at (stop_with (refusal.Source (diagnostic (next_at at).line (misfit_code (next_at at).token))) used)
+pub brace_misfits : (at : Place) (used : ℕ) (near : IsNearTo at.position.reading used) →
+    is_fault (next_at at).token ≡ false → is_punctuator punctuator.OpenCurly (next_at at).token ≡ false →
+    FailsAt 0 (Part FunctionBlock ∷ []) [] at
+    (stop_with (refusal.Source (diagnostic (next_at at).line (misfit_code (next_at at).token))) used)
 brace_misfits at used near sound other =
     fails_at_next 0 (Part FunctionBlock ∷ []) [] at _ used near (λ tail b profile stack values functions depths.
-    no_part profile FunctionBlock stack (next_at at ∷ tail) values (scope_at at) functions sound (not_open (next_at at).token _ other) (first_level _ (levels stack) (next_at at ∷ tail) depths))
+    no_part profile FunctionBlock stack (next_at at ∷ tail) values (scope_at at) functions sound
+    (not_open (next_at at).token _ other) (first_level _ (levels stack) (next_at at ∷ tail) depths))
 
-pub brace_stops : (reading : Reading) (known : Scope) (more : Option (List ℕ)) → is_punctuator punctuator.OpenCurly reading.next.token ≡ true → (d : Stop) →
-    StopsAt (place (record { reading = reading; scope = known }) more) d → FailsAt 0 (Part FunctionBlock ∷ []) [] (place (record { reading = reading; scope = known }) more) d
+pub brace_stops : (reading : Reading) (known : Scope) (more : Option (List ℕ)) →
+    is_punctuator punctuator.OpenCurly reading.next.token ≡ true → (d : Stop) →
+    StopsAt (place (record { reading = reading; scope = known }) more) d →
+    FailsAt 0 (Part FunctionBlock ∷ []) [] (place (record { reading = reading; scope = known }) more) d
 brace_stops reading known more is d stop =
-    stops reading known known more d 0 (Part FunctionBlock ∷ []) (Make Empty ∷ inside_items) [] [] (λ rest b. brace_leads reading.next is known rest) stop
+    stops reading known known more d 0 (Part FunctionBlock ∷ []) (Make Empty ∷ inside_items) [] []
+    (λ rest b. brace_leads reading.next is known rest) stop
 
 -- behind the opening brace
-pub block_opened : (reading : Reading) (known : Scope) (more : Option (List ℕ)) (now : Place) → is_punctuator punctuator.OpenCurly reading.next.token ≡ true → is_fault (next_at now).token ≡ false →
-    GoesPast (place (record { reading = reading; scope = known }) more) now → Derives 0 (Part FunctionBlock ∷ []) inside_items [] (ABody Done ∷ []) (place (record { reading = reading; scope = known }) more) now
+pub block_opened : (reading : Reading) (known : Scope) (more : Option (List ℕ)) (now : Place) →
+    is_punctuator punctuator.OpenCurly reading.next.token ≡ true → is_fault (next_at now).token ≡ false →
+    GoesPast (place (record { reading = reading; scope = known }) more) now →
+    Derives 0 (Part FunctionBlock ∷ []) inside_items [] (ABody Done ∷ [])
+    (place (record { reading = reading; scope = known }) more) now
 block_opened reading known more now is sound goes =
-    joined 0 0 (Part FunctionBlock ∷ []) (Make Empty ∷ inside_items) inside_items [] [] [] (ABody Done ∷ []) [] _ now now
-    (past reading known known more now 0 (Part FunctionBlock ∷ []) (Make Empty ∷ inside_items) [] [] goes (λ rest b. brace_leads reading.next is known rest))
-    (stand now 0 (Make Empty ∷ inside_items) inside_items [] (ABody Done ∷ []) (λ tail b. empty_leads (next_at now) sound (scope_at now) tail)) (λ stack same. same)
+    joined 0 0 (Part FunctionBlock ∷ []) (Make Empty ∷ inside_items) inside_items [] [] [] (ABody Done ∷ []) [] _ now
+    now
+    (past reading known known more now 0 (Part FunctionBlock ∷ []) (Make Empty ∷ inside_items) [] [] goes
+    (λ rest b. brace_leads reading.next is known rest))
+    (stand now 0 (Make Empty ∷ inside_items) inside_items [] (ABody Done ∷ [])
+    (λ tail b. empty_leads (next_at now) sound (scope_at now) tail)) (λ stack same. same)
 
 -- behind the declarations
-pub block_declared : (at now then : Place) → Derives 0 (Part FunctionBlock ∷ []) inside_items [] (ABody Done ∷ []) at now → Derives 1 (Part Declarations ∷ []) [] [] [] now then →
+pub block_declared : (at now then : Place) →
+    Derives 0 (Part FunctionBlock ∷ []) inside_items [] (ABody Done ∷ []) at now →
+    Derives 1 (Part Declarations ∷ []) [] [] [] now then →
     Derives 0 (Part FunctionBlock ∷ []) (Part Statements ∷ at_brace) [] (ABody Done ∷ []) at then
 block_declared at now then a b =
-    joined 0 1 (Part FunctionBlock ∷ []) (Part Declarations ∷ []) [] (Part Statements ∷ at_brace) [] [] [] (ABody Done ∷ []) at now then a b (λ stack same. ap (λ n. n + 1) same)
+    joined 0 1 (Part FunctionBlock ∷ []) (Part Declarations ∷ []) [] (Part Statements ∷ at_brace) [] [] []
+    (ABody Done ∷ []) at now then a b (λ stack same. ap (λ n. n + 1) same)
 
 -- the tokens that a place may have: the two that were read, and no more
 abbrev some_tokens : Place → List LocatedToken
@@ -99,28 +126,46 @@ some_goes : (at : Place) → GoesOn at (some_tokens at)
 some_goes at = record { behind = []; is = refl }
 
 -- declarations and statements keep the function that is being defined
-kept_between : (before after : Meaning) (now mid there : Place) → Derives 1 (Part Declarations ∷ []) [] [] [] now mid → AddsBody before after 1 (Part Statements ∷ []) [] mid there → KeepsFunction (scope_at now) (scope_at there)
+kept_between : (before after : Meaning) (now mid there : Place) → Derives 1 (Part Declarations ∷ []) [] [] [] now mid →
+    AddsBody before after 1 (Part Statements ∷ []) [] mid there → KeepsFunction (scope_at now) (scope_at there)
 kept_between before after now mid there d s =
     let rest : List LocatedToken = some_tokens there in
     let goes : GoesOn there rest = some_goes there in
     let end : List Item = Exactly punctuator.CloseCurly ∷ Close ∷ [] in
-    let first : Passes first_profile (state (Part Declarations ∷ Part Statements ∷ Make Define ∷ end) (d.consumed ++ ((s.derives Done).consumed ++ rest)) (ABody Done ∷ []) (scope_at now) []) (state (Part Statements ∷ Make Define ∷ end) ((s.derives Done).consumed ++ rest) (ABody Done ∷ []) (scope_at mid) []) =
-    d.passes ((s.derives Done).consumed ++ rest) ((s.derives Done).follows rest goes) first_profile (Part Statements ∷ Make Define ∷ end) (ABody Done ∷ []) [] refl in
-    let second : Passes first_profile (state (Part Statements ∷ Make Define ∷ end) ((s.derives Done).consumed ++ rest) (ABody Done ∷ []) (scope_at mid) []) (state (Make Define ∷ end) rest (ABody s.tree ∷ []) (scope_at there) []) =
+    let first : Passes first_profile
+    (state (Part Declarations ∷ Part Statements ∷ Make Define ∷ end)
+    (d.consumed ++ ((s.derives Done).consumed ++ rest)) (ABody Done ∷ []) (scope_at now) [])
+    (state (Part Statements ∷ Make Define ∷ end) ((s.derives Done).consumed ++ rest) (ABody Done ∷ [])
+    (scope_at mid) []) =
+    d.passes ((s.derives Done).consumed ++ rest) ((s.derives Done).follows rest goes) first_profile
+    (Part Statements ∷ Make Define ∷ end) (ABody Done ∷ []) [] refl in
+    let second : Passes first_profile
+    (state (Part Statements ∷ Make Define ∷ end) ((s.derives Done).consumed ++ rest) (ABody Done ∷ []) (scope_at mid)
+    []) (state (Make Define ∷ end) rest (ABody s.tree ∷ []) (scope_at there) []) =
     (s.derives Done).passes rest goes first_profile (Make Define ∷ end) [] [] refl in
-    let whole : Passes first_profile (state (Part Declarations ∷ Part Statements ∷ Make Define ∷ end) (d.consumed ++ ((s.derives Done).consumed ++ rest)) (ABody Done ∷ []) (scope_at now) []) (state (Make Define ∷ end) rest (ABody s.tree ∷ []) (scope_at there) []) =
+    let whole : Passes first_profile
+    (state (Part Declarations ∷ Part Statements ∷ Make Define ∷ end)
+    (d.consumed ++ ((s.derives Done).consumed ++ rest)) (ABody Done ∷ []) (scope_at now) [])
+    (state (Make Define ∷ end) rest (ABody s.tree ∷ []) (scope_at there) []) =
     then first_profile _ _ _ first second in
-    inner_keeps whole.steps (Part Declarations ∷ Part Statements ∷ []) end (Make Define ∷ end) _ rest (ABody Done ∷ []) (ABody s.tree ∷ []) (scope_at now) (scope_at there) [] refl whole.leads
+    inner_keeps whole.steps (Part Declarations ∷ Part Statements ∷ []) end (Make Define ∷ end) _ rest (ABody Done ∷ [])
+    (ABody s.tree ∷ []) (scope_at now) (scope_at there) [] refl whole.leads
 
 -- the block was read up to its closing brace
-pub block_adds : (before after : Meaning) (at now mid there : Place) → scope_at now ≡ scope_at at → Derives 0 (Part FunctionBlock ∷ []) inside_items [] (ABody Done ∷ []) at now →
-    Derives 1 (Part Declarations ∷ []) [] [] [] now mid → AddsBody before after 1 (Part Statements ∷ []) [] mid there → AddsBlock before after at there
-block_adds before after at now mid there same a d s = record {
+pub block_adds : (before after : Meaning) (at now mid there : Place) → scope_at now ≡ scope_at at →
+    Derives 0 (Part FunctionBlock ∷ []) inside_items [] (ABody Done ∷ []) at now →
+    Derives 1 (Part Declarations ∷ []) [] [] [] now mid → AddsBody before after 1 (Part Statements ∷ []) [] mid there →
+    is_punctuator punctuator.CloseCurly (next_at there).token ≡ true → AddsBlock before after at there
+block_adds before after at now mid there same a d s closed = record {
   tree = s.tree;
   numbered = s.numbered;
   narrow = omega (arith, s.narrow);
   added = s.added;
-  kept = subst (λ (known : Scope). KeepsFunction known (scope_at there)) same (kept_between before after now mid there d s);
-  derives = joined 0 1 (Part FunctionBlock ∷ []) (Part Statements ∷ []) [] at_brace [] (ABody Done ∷ []) (ABody s.tree ∷ []) [] at mid there
+  kept = subst (λ (known : Scope). KeepsFunction known (scope_at there)) same
+      (kept_between before after now mid there d s);
+  derives =
+      joined 0 1 (Part FunctionBlock ∷ []) (Part Statements ∷ []) [] at_brace [] (ABody Done ∷ []) (ABody s.tree ∷ [])
+      [] at mid there
       (block_declared at now mid a d) (s.derives Done) (λ stack depths. ap (λ n. n + 1) depths);
+  closed = closed;
 }

@@ -1,5 +1,5 @@
 -- What a parse gives: a file, or its first fault.
-use Rattle.std.specs.Prelude.{ℕ, ◌+◌, ◌≡◌, ◌≤◌, List, [], ◌++◌, drop, map, Bool, IsTrue, Option, Some}
+use Rattle.std.specs.Prelude.{ℕ, ◌+◌, ◌≡◌, ◌≤◌, List, [], ◌++◌, drop, map, Option, Some}
 use Rattle.std.specs.Prelude.{Result, Ok, Err}
 use Rattle.tokens.specs.Ends.{last_undecided_until}
 use Rattle.tokens.specs.Tokens.{tokens}

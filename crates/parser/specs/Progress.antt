@@ -1,8 +1,9 @@
 -- How far a file was read: the functions defined, the builder's actions, and the derivation from the file's start.
-use Rattle.std.specs.Prelude.{ℕ, ◌+◌, ◌<◌, ◌≤◌, ◌≡◌, List, [], ◌∷◌, ◌++◌, Bool, true, false, Some, None, IsTrue}
+use Rattle.std.specs.Prelude.{ℕ, ◌+◌, ◌<◌, ◌≤◌, ◌≡◌, List, [], ◌∷◌, ◌++◌, Bool, true, false, Some, None}
 use Rattle.std.specs.Prelude.{Result, Ok, Err, is_some}
 use Rattle.tokens.specs.declared.located_tokens.LocatedToken.{LocatedToken}
 use Rattle.tokens.specs.declared.located_tokens.Punctuator.TheVariants as punctuator
+use Rattle.tokens.specs.declared.located_tokens.Token.TheVariants as token
 use Rattle.grammar.specs.declared.diagnostics.Code.TheVariants as code
 use Rattle.grammar.specs.Actions.{Action, EndFunction, body_actions, code_length, last_return}
 use Rattle.grammar.specs.Building.{Meaning, AppendsAll, StandsOpen}
@@ -11,11 +12,11 @@ use Rattle.grammar.specs.declared.diagnostics.ParseFault.{ParseFault}
 use Rattle.grammar.specs.declared.diagnostics.ParseFault.TheVariants as refusal
 use Rattle.grammar.specs.declared.pools.TheConstants.{MOST_NAMES}
 use Rattle.grammar.specs.Compiled.{diagnostic, main_name}
-use Rattle.grammar.specs.Derivation.{ABody, Definition, State, run, state}
+use Rattle.grammar.specs.Derivation.{ABody, Definition, State, is_end, run, state}
 use Rattle.grammar.specs.Faults.{definitions_actions}
 use Rattle.grammar.specs.Following.{InFunction, most_open}
 use Rattle.grammar.specs.Grammar.{Item, AName, Define, Defined, Exactly, FunctionBlock, Make, ParameterTypes}
-use Rattle.grammar.specs.Grammar.{Parameters, Part, Close, Source}
+use Rattle.grammar.specs.Grammar.{Parameters, Part, Close, Source, is_punctuator}
 use Rattle.grammar.specs.Laws.{KeepsFunction}
 use Rattle.grammar.specs.Naming.{line_of_undefined}
 use Rattle.grammar.specs.Nesting.{body_nesting}
@@ -24,7 +25,8 @@ use Rattle.grammar.specs.Profile.{Profile}
 use Rattle.grammar.specs.Resolved.{InBody}
 use Rattle.grammar.specs.Scope.{Scope, function_number}
 use Rattle.grammar.specs.Tree.{Body}
-use Rattle.parsing.specs.Position.{GoesOn, Place, Position, Standing, scope_at, taken_at, tokens_at}
+use Rattle.parsing.specs.Growing.{BreaksOff}
+use Rattle.parsing.specs.Position.{GoesOn, Place, Position, Standing, next_at, scope_at, taken_at, token_of, tokens_at}
 use Rattle.parsing.specs.Stopping.{Stop, Stops}
 use Rattle.parsing.specs.Segment.{Derives, FailsAt, Refused, TakesTokens}
 
@@ -64,6 +66,10 @@ StopsReading before after front here stop =
 abbrev pub at_source : List Item
 at_source = Part Source ∷ []
 
+-- a further part of the file is next
+abbrev pub HasMore : Standing → Type 0
+HasMore at = token_of at ≡ token.End → ⊥
+
 -- where a function's definition begins
 abbrev pub at_definition : List Item
 at_definition =
@@ -84,6 +90,7 @@ pub record AddsBlock (before after : Meaning) (here there : Place) : Type 0 wher
   pub added : AppendsAll before after (body_actions tree)
   pub kept : KeepsFunction (scope_at here) (scope_at there)
   pub derives : Derives 0 (Part FunctionBlock ∷ []) at_brace [] (ABody tree ∷ []) here there
+  pub closed : is_punctuator punctuator.CloseCurly (next_at there).token ≡ true
 
 -- a list is stood for that leaves a function open, which may end with so many variables
 pub record MayEnd (before : Meaning) (variables : ℕ) : Type 0 where
@@ -111,6 +118,12 @@ RefusesEnd before line denied (refusal.Source d) = IsTooMuch before line d
 RefusesEnd before line denied refusal.Device = ⊥
 RefusesEnd before line denied refusal.Memory = denied
 
+-- what the end of a function says, by its result
+abbrev pub EndsFunction : {A : Type 0} → Result A ParseFault → (denied : Type 0) (before after : Meaning)
+    (variables line : ℕ) → Type 0
+EndsFunction (Ok x) denied before after variables line = ClosesFunction before after variables
+EndsFunction (Err fault) denied before after variables line = RefusesEnd before line denied fault
+
 -- Each function that was mentioned is defined, and main is among them.
 pub record IsComplete (scope : Scope) : Type 0 where
   pub defined : line_of_undefined 0 scope.lines scope.begun ≡ None
@@ -126,16 +139,26 @@ pub data Lacks (position : Position) (fault : ParseFault) : Type 0 where
 
 -- What a parse of a file's parts says, by its result.
 
--- Parts of a file were read from these items on. Or the derivation stops within them, as the refusal says.
+-- Parts of a file were read from these items on, and the builder has nothing open. Or the derivation stops within them,
+-- as the refusal says.
 abbrev pub ReadsParts : {A : Type 0} → Result A ParseFault → (denied : Type 0) (before after : Meaning) →
     List Item → (old new : Standing) → Type 0
-ReadsParts (Ok x) denied before after front old new = ReadsOn before after front at_source old.place new.place
+ReadsParts (Ok x) denied before after front old new =
+    ReadsOn before after front at_source old.place new.place × StandsOpen after []
 ReadsParts (Err fault) denied before after front old new =
     Refused (StopsReading before after front old.place) denied (taken_at new.place) fault
+
+-- the same of all parts, up to the end of the file
+abbrev pub ReadsSource : {A : Type 0} → Result A ParseFault → (denied : Type 0) (before after : Meaning) →
+    (old new : Standing) → Type 0
+ReadsSource (Ok x) denied before after old new =
+    ReadsOn before after at_source at_source old.place new.place × StandsOpen after [] × (is_end (token_of new) ≡ true)
+ReadsSource (Err fault) denied before after old new =
+    Refused (StopsReading before after at_source old.place) denied (taken_at new.place) fault
 
 -- the same of a function's block, up to its closing brace
 abbrev pub ParsesBlock : {A : Type 0} → Result A ParseFault → (denied : Type 0) (before after : Meaning) →
     (old new : Standing) → Type 0
 ParsesBlock (Ok x) denied before after old new = AddsBlock before after old.place new.place
 ParsesBlock (Err fault) denied before after old new =
-    Refused (FailsAt 0 (Part FunctionBlock ∷ []) [] old.place) denied (taken_at new.place) fault
+    BreaksOff (FailsAt 0 (Part FunctionBlock ∷ []) [] old.place) denied before after (taken_at new.place) fault

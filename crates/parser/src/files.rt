@@ -1,17 +1,15 @@
 //! Files: one pass from a device's bytes to a builder, and the names of the file.
 
-ghost use Rattle.std.specs.Prelude.{◌≡◌, ◌∷◌, [], IfErr, IfOk, OnOk, true};
+ghost use Rattle.std.specs.Prelude.{◌∷◌, [], IfErr, IfOk, OnOk};
 ghost use Rattle.tokens.specs.Feed.{MayRead};
-ghost use Rattle.tokens.specs.declared.located_tokens.Token.TheVariants as token;
 ghost use Rattle.tokens.specs.declared.located_tokens.Word.TheVariants as word;
 ghost use Rattle.grammar.specs.Building.{StandsOpen};
-ghost use Rattle.grammar.specs.Derivation.{is_end};
-ghost use Rattle.grammar.specs.Grammar.{Head, Part, is_word};
-ghost use Rattle.parsing.specs.Advancing.{Advances, IsReady, Keeps};
-ghost use Rattle.parsing.specs.Position.{scope_of, token_of};
+ghost use Rattle.grammar.specs.Grammar.{Head, Part};
+ghost use Rattle.parsing.specs.Advancing.{Advances, Anywhere, IsAt, IsNextWord, Keeps};
+ghost use Rattle.parsing.specs.Position.{scope_of};
 ghost use Rattle.parsing.specs.Segment.{Counts};
 ghost use Rattle.parser.specs.Files.{IsFile, IsNew, IsRefused, TakesEnough};
-ghost use Rattle.parser.specs.Progress.{IsComplete, Lacks, ReadsParts, at_source};
+ghost use Rattle.parser.specs.Progress.{HasMore, IsComplete, Lacks, ReadsParts, ReadsSource, at_source};
 
 use crate::functions::function;
 use grammar::{Build, Code, Diagnostic, ParseFault, Pools};
@@ -56,12 +54,9 @@ pub fn parse<F: Feed, B: Build>(feed: &mut F, build: &mut B) -> Result<Pools, Pa
 
 /// `source → end`, `type types head source` and `name ( params ) pdecls block source`
 fn source<F: Feed, B: Build>(parser: &mut Parser<'_, F>, build: &mut B) -> Result<(), ParseFault>
-    requires closed { StandsOpen (B.stands build.old) [] }
-    requires ready { IsReady parser.old }
-    ensures reads { ReadsParts result B.denied (B.stands build.old) (B.stands build.new)
-        at_source parser.old parser.new }
-    ensures closed { OnOk result (StandsOpen (B.stands build.new) []) }
-    ensures ended { OnOk result (is_end (token_of parser.new) ≡ true) }
+    requires at { IsAt (StandsOpen (B.stands build.old) []) Anywhere parser.old }
+    ensures reads { ReadsSource result B.denied (B.stands build.old) (B.stands build.new)
+        parser.old parser.new }
     ensures kept { Keeps result parser.old parser.new }
 {
     while !matches!(parser.peek().token, Token::End) {
@@ -72,12 +67,9 @@ fn source<F: Feed, B: Build>(parser: &mut Parser<'_, F>, build: &mut B) -> Resul
 
 /// `type types head` or `name ( params ) pdecls block`
 fn part<F: Feed, B: Build>(parser: &mut Parser<'_, F>, build: &mut B) -> Result<(), ParseFault>
-    requires closed { StandsOpen (B.stands build.old) [] }
-    requires ready { IsReady parser.old }
-    requires more { token_of parser.old ≡ token.End → ⊥ }
+    requires at { IsAt (StandsOpen (B.stands build.old) []) HasMore parser.old }
     ensures reads { ReadsParts result B.denied (B.stands build.old) (B.stands build.new)
         at_source parser.old parser.new }
-    ensures closed { OnOk result (StandsOpen (B.stands build.new) []) }
     ensures kept { Advances result parser.old parser.new }
 {
     if is_word(&parser.peek().token, Word::Type) {
@@ -92,12 +84,9 @@ fn part<F: Feed, B: Build>(parser: &mut Parser<'_, F>, build: &mut B) -> Result<
 
 /// `type types head`
 fn typed<F: Feed, B: Build>(parser: &mut Parser<'_, F>, build: &mut B) -> Result<(), ParseFault>
-    requires closed { StandsOpen (B.stands build.old) [] }
-    requires ready { IsReady parser.old }
-    requires is { is_word word.Type (token_of parser.old) ≡ true }
+    requires at { IsAt (StandsOpen (B.stands build.old) []) (IsNextWord word.Type) parser.old }
     ensures reads { ReadsParts result B.denied (B.stands build.old) (B.stands build.new)
         at_source parser.old parser.new }
-    ensures closed { OnOk result (StandsOpen (B.stands build.new) []) }
     ensures kept { Advances result parser.old parser.new }
 {
     parser.expect_word(Word::Type)?;
@@ -108,11 +97,9 @@ fn typed<F: Feed, B: Build>(parser: &mut Parser<'_, F>, build: &mut B) -> Result
 
 /// `head → name ( params ) pdecls block` and `head → name more ;`
 fn head<F: Feed, B: Build>(parser: &mut Parser<'_, F>, build: &mut B) -> Result<(), ParseFault>
-    requires closed { StandsOpen (B.stands build.old) [] }
-    requires ready { IsReady parser.old }
+    requires at { IsAt (StandsOpen (B.stands build.old) []) Anywhere parser.old }
     ensures reads { ReadsParts result B.denied (B.stands build.old) (B.stands build.new)
         (Part Head ∷ at_source) parser.old parser.new }
-    ensures closed { OnOk result (StandsOpen (B.stands build.new) []) }
     ensures kept { Advances result parser.old parser.new }
 {
     match parser.peek().token {

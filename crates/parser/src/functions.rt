@@ -1,14 +1,11 @@
 //! Functions: their headings, blocks and ends.
 
-ghost use Rattle.std.specs.Prelude.{◌≡◌, [], OnOk, IfErr, true};
-ghost use Rattle.tokens.specs.declared.located_tokens.Punctuator.TheVariants as punctuator;
+ghost use Rattle.std.specs.Prelude.{[]};
 ghost use Rattle.grammar.specs.Building.{StandsOpen};
-ghost use Rattle.grammar.specs.Grammar.{is_punctuator};
-ghost use Rattle.parsing.specs.Advancing.{Advances, IsReady};
-ghost use Rattle.parsing.specs.Growing.{Grows};
-ghost use Rattle.parsing.specs.Position.{next_at, token_of};
+ghost use Rattle.parsing.specs.Advancing.{Advances, Anywhere, IsAt};
+ghost use Rattle.parsing.specs.Position.{next_at};
 ghost use Rattle.parsing.specs.Room.{HasPlace, room};
-ghost use Rattle.parser.specs.Progress.{ClosesFunction, MayEnd, ParsesBlock, ReadsParts, RefusesEnd, at_definition};
+ghost use Rattle.parser.specs.Progress.{EndsFunction, MayEnd, ParsesBlock, ReadsParts, at_definition};
 
 use grammar::{Build, BuildFault, Code, ParseFault};
 use parsing::{Declared, Parser, declarations, heading, is_punctuator};
@@ -20,11 +17,9 @@ pub fn function<F: Feed, B: Build>(
     parser: &mut Parser<'_, F>,
     build: &mut B,
 ) -> Result<(), ParseFault>
-    requires closed { StandsOpen (B.stands build.old) [] }
-    requires ready { IsReady parser.old }
+    requires at { IsAt (StandsOpen (B.stands build.old) []) Anywhere parser.old }
     ensures reads { ReadsParts result B.denied (B.stands build.old) (B.stands build.new)
         at_definition parser.old parser.new }
-    ensures closed { OnOk result (StandsOpen (B.stands build.new) []) }
     ensures kept { Advances result parser.old parser.new }
 {
     let number = heading(parser)?;
@@ -38,11 +33,8 @@ pub fn function<F: Feed, B: Build>(
 
 /// `block → { decls stmts }`, up to the closing brace
 fn block<F: Feed, B: Build>(parser: &mut Parser<'_, F>, build: &mut B) -> Result<(), ParseFault>
-    requires open { HasPlace (B.stands build.old) (room 1 1) }
-    requires ready { IsReady parser.old }
+    requires at { IsAt (HasPlace (B.stands build.old) (room 1 1)) Anywhere parser.old }
     ensures parses { ParsesBlock result B.denied (B.stands build.old) (B.stands build.new) parser.old parser.new }
-    ensures grown { Grows result (B.stands build.old) (B.stands build.new) }
-    ensures closed { OnOk result (is_punctuator punctuator.CloseCurly (token_of parser.new) ≡ true) }
     ensures kept { Advances result parser.old parser.new }
 {
     if !is_punctuator(&parser.peek().token, Punctuator::OpenCurly) {
@@ -61,9 +53,8 @@ fn close<F: Feed, B: Build>(
     variables: u8,
 ) -> Result<(), ParseFault>
     requires open { MayEnd (B.stands build.old) variables }
-    ensures closed { OnOk result (ClosesFunction (B.stands build.old) (B.stands build.new) variables) }
-    ensures refused { IfErr result (RefusesEnd (B.stands build.old) (next_at parser.now.place).line B.denied) }
-    ensures device { IfErr result (λ fault. ParseFault.Device ≡ fault → ⊥) }
+    ensures ends { EndsFunction result B.denied (B.stands build.old) (B.stands build.new) variables
+        (next_at parser.now.place).line }
 {
     build.constant(0)?;
     build.give_back()?;

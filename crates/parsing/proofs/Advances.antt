@@ -13,11 +13,13 @@ takes_then a b c x y z h i = record { rest = λ total e. i.rest total (h.rest to
 
 -- a parser that does nothing
 pub stays_ready : (at : Standing) → IsReady at → StayedOrWentOn at at
-stays_ready at ready = record { device = refl; account = refl; took = record { rest = λ total h. h }; falls = le_refl _; ready = ready }
+stays_ready at ready =
+    record { device = refl; account = refl; took = record { rest = λ total h. h }; falls = le_refl _; ready = ready }
 
 -- a call that went on, where none was needed
 pub on : (a b : Standing) → WentOn a b → StayedOrWentOn a b
-on a b h = record { device = h.device; account = h.account; took = h.took; falls = omega (arith, h.falls); ready = h.ready }
+on a b h =
+    record { device = h.device; account = h.account; took = h.took; falls = omega (arith, h.falls); ready = h.ready }
 
 pub kept_then : (a b c : Standing) → StayedOrWentOn a b → StayedOrWentOn b c → StayedOrWentOn a c
 kept_then a b c h i = record {
@@ -55,6 +57,7 @@ stopped_then f a b c h i = record {
 }
 
 -- the last call's answer
-pub handed_kept : {A : Type 0} (r : Result A ParseFault) (a b c : Standing) → StayedOrWentOn a b → Advances r b c → Advances r a c
+pub handed_kept : {A : Type 0} (r : Result A ParseFault) (a b c : Standing) → StayedOrWentOn a b → Advances r b c →
+    Advances r a c
 handed_kept (Ok x) a b c h i = kept_on a b c h i
 handed_kept (Err f) a b c h i = stopped_then f a b c h i

@@ -1,6 +1,6 @@
 -- Builders that were told further actions.
-use Rattle.std.proofs.Common.{Bool, List, [], ◌++◌, sym, subst, append_assoc, append-nil}
-use Rattle.std.specs.Prelude.{Err, IsTrue}
+use Rattle.std.proofs.Common.{List, [], ◌++◌, sym, subst, append_assoc, append-nil}
+use Rattle.std.specs.Prelude.{Err}
 use Rattle.grammar.specs.declared.build.BuildFault.{BuildFault}
 use Rattle.grammar.specs.declared.build.BuildFault.TheVariants as fault
 use Rattle.grammar.specs.Actions.{Action}
@@ -22,11 +22,14 @@ grown before after more told = record { more = more; added = told }
 pub grown_then : (before mid after : Meaning) → HasGrown before mid → HasGrown mid after → HasGrown before after
 grown_then before mid after a b = record {
   more = a.more ++ b.more;
-  added = λ profile acts h. subst (λ (xs : List Action). after profile xs) (append_assoc acts a.more b.more) (b.added profile _ (a.added profile acts h));
+  added =
+      λ profile acts h. subst (λ (xs : List Action). after profile xs) (append_assoc acts a.more b.more)
+      (b.added profile _ (a.added profile acts h));
 }
 
 -- behind these actions further ones
-pub grown_behind : (before mid after : Meaning) (more : List Action) → AppendsAll before mid more → HasGrown mid after → HasGrown before after
+pub grown_behind : (before mid after : Meaning) (more : List Action) → AppendsAll before mid more → HasGrown mid after →
+    HasGrown before after
 grown_behind before mid after more told h = grown_then before mid after (grown before mid more told) h
 
 -- A builder that was refused memory: of what it stands for nothing is known.

@@ -23,9 +23,11 @@ pub record Gives (symbol : Symbol) (next : Token) (items : List Item) : Type 0 w
   pub chosen : Chooses symbol next items
   pub plain : (after : Token) → enters symbol next after ≡ false
 
-pub replaces : (at : Place) (depth : ℕ) (symbol : Symbol) (items : List Item) → is_fault (next_at at).token ≡ false → Gives symbol (next_at at).token items →
+pub replaces : (at : Place) (depth : ℕ) (symbol : Symbol) (items : List Item) → is_fault (next_at at).token ≡ false →
+    Gives symbol (next_at at).token items →
     Derives depth (Part symbol ∷ []) items [] [] at at
-replaces at depth symbol items sound gives = part_stands at depth symbol items [] sound gives.chosen (free_of depth symbol (next_at at) gives.plain)
+replaces at depth symbol items sound gives =
+    part_stands at depth symbol items [] sound gives.chosen (free_of depth symbol (next_at at) gives.plain)
 
 -- The choices.
 
@@ -37,7 +39,8 @@ pub types_end : (t : Token) → is_word word.Type t ≡ false → Gives Types t 
 types_end (token.Word word.Type) other = absurd (cc)
 types_end t other = record { chosen = λ after. refl; plain = λ after. refl }
 
-pub names_more : (role : Role) (t : Token) → is_punctuator punctuator.Comma t ≡ true → Gives (More role) t (Exactly punctuator.Comma ∷ AName role ∷ Part (More role) ∷ [])
+pub names_more : (role : Role) (t : Token) → is_punctuator punctuator.Comma t ≡ true →
+    Gives (More role) t (Exactly punctuator.Comma ∷ AName role ∷ Part (More role) ∷ [])
 names_more role (token.Punctuator punctuator.Comma) is = record { chosen = λ after. refl; plain = λ after. refl }
 names_more role t is = absurd (cc)
 
@@ -49,12 +52,14 @@ pub declarations_more : (declared : Declared) (t : Token) → IsInFunction decla
     Gives (declarations_of declared) t (declaration_items declared ++ Part (declarations_of declared) ∷ [])
 declarations_more kind.Externals t never is = absurd never
 declarations_more kind.Parameters t never is = absurd never
-declarations_more kind.TypedParameters (token.Word word.Type) h is = record { chosen = λ after. refl; plain = λ after. refl }
+declarations_more kind.TypedParameters (token.Word word.Type) h is =
+    record { chosen = λ after. refl; plain = λ after. refl }
 declarations_more kind.TypedParameters t h is = absurd (cc)
 declarations_more kind.Locals (token.Word word.Type) h is = record { chosen = λ after. refl; plain = λ after. refl }
 declarations_more kind.Locals t h is = absurd (cc)
 
-pub declarations_end : (declared : Declared) (t : Token) → IsInFunction declared → is_word word.Type t ≡ false → Gives (declarations_of declared) t []
+pub declarations_end : (declared : Declared) (t : Token) → IsInFunction declared → is_word word.Type t ≡ false →
+    Gives (declarations_of declared) t []
 declarations_end kind.Externals t never other = absurd never
 declarations_end kind.Parameters t never other = absurd never
 declarations_end kind.TypedParameters (token.Word word.Type) h other = absurd (cc)
@@ -69,46 +74,62 @@ AreLevel below = (stack : List Item) → levels (below ++ stack) ≡ levels stac
 
 -- one segment behind another, with items left below it
 pub goes_on : (depth : ℕ) (front mid pending below : List Item) (at now there : Place) → AreLevel below →
-    Derives depth front (mid ++ below) [] [] at now → Derives depth mid pending [] [] now there → Derives depth front (pending ++ below) [] [] at there
+    Derives depth front (mid ++ below) [] [] at now → Derives depth mid pending [] [] now there →
+    Derives depth front (pending ++ below) [] [] at there
 goes_on depth front mid pending below at now there level a b =
     joined depth depth front mid pending below [] [] [] [] at now there a b (λ stack same. level stack ∙ same)
 
 -- behind a segment the symbol in front is replaced
-pub opens_on : (depth : ℕ) (front : List Item) (symbol : Symbol) (items : List Item) (at now : Place) → is_fault (next_at now).token ≡ false → Gives symbol (next_at now).token items →
+pub opens_on : (depth : ℕ) (front : List Item) (symbol : Symbol) (items : List Item) (at now : Place) →
+    is_fault (next_at now).token ≡ false → Gives symbol (next_at now).token items →
     Derives depth front (Part symbol ∷ []) [] [] at now → Derives depth front (items ++ []) [] [] at now
 opens_on depth front symbol items at now sound gives a =
-    goes_on depth front (Part symbol ∷ []) items [] at now now (λ stack. refl) a (replaces now depth symbol items sound gives)
+    goes_on depth front (Part symbol ∷ []) items [] at now now (λ stack. refl) a
+    (replaces now depth symbol items sound gives)
 
 -- a refusal behind a segment
-pub leaves : (used : ℕ) (front mid below : List Item) (at now : Place) (f : ParseFault) → AreLevel below → ((depth : ℕ) → Derives depth front (mid ++ below) [] [] at now) →
-    Refused (λ d. (depth : ℕ) → FailsAt depth mid [] now d) ⊥ used f → Refused (λ d. (depth : ℕ) → FailsAt depth front [] at d) ⊥ used f
+pub leaves : (used : ℕ) (front mid below : List Item) (at now : Place) (f : ParseFault) → AreLevel below →
+    ((depth : ℕ) → Derives depth front (mid ++ below) [] [] at now) →
+    Refused (λ d. (depth : ℕ) → FailsAt depth mid [] now d) ⊥ used f →
+    Refused (λ d. (depth : ℕ) → FailsAt depth front [] at d) ⊥ used f
 leaves used front mid below at now f level a =
-    refused_map used (λ d. (depth : ℕ) → FailsAt depth mid [] now d) (λ d. (depth : ℕ) → FailsAt depth front [] at d) ⊥ ⊥ f (λ d fails depth. fails_behind depth depth front mid below [] [] [] at now d (a depth) (λ stack same. level stack ∙ same) (fails depth)) (λ same. same)
+    refused_map used (λ d. (depth : ℕ) → FailsAt depth mid [] now d) (λ d. (depth : ℕ) → FailsAt depth front [] at d) ⊥
+    ⊥ f
+    (λ d fails depth. fails_behind depth depth front mid below [] [] [] at now d (a depth)
+    (λ stack same. level stack ∙ same) (fails depth)) (λ same. same)
 
 -- behind a comma of a list
-pub more_behind : (depth : ℕ) (role : Role) (at now there : Place) → is_fault (next_at now).token ≡ false → is_punctuator punctuator.Comma (next_at now).token ≡ true →
-    Derives depth (Part (More role) ∷ []) (Part (More role) ∷ []) [] [] at now → Derives depth (Exactly punctuator.Comma ∷ []) [] [] [] now there →
+pub more_behind : (depth : ℕ) (role : Role) (at now there : Place) → is_fault (next_at now).token ≡ false →
+    is_punctuator punctuator.Comma (next_at now).token ≡ true →
+    Derives depth (Part (More role) ∷ []) (Part (More role) ∷ []) [] [] at now →
+    Derives depth (Exactly punctuator.Comma ∷ []) [] [] [] now there →
     Derives depth (Part (More role) ∷ []) (AName role ∷ Part (More role) ∷ []) [] [] at there
 more_behind depth role at now there sound is a b =
-    goes_on depth (Part (More role) ∷ []) (Exactly punctuator.Comma ∷ []) [] (AName role ∷ Part (More role) ∷ []) at now there (λ stack. refl)
-    (opens_on depth (Part (More role) ∷ []) (More role) (Exactly punctuator.Comma ∷ AName role ∷ Part (More role) ∷ []) at now sound (names_more role (next_at now).token is) a) b
+    goes_on depth (Part (More role) ∷ []) (Exactly punctuator.Comma ∷ []) [] (AName role ∷ Part (More role) ∷ []) at now
+    there (λ stack. refl)
+    (opens_on depth (Part (More role) ∷ []) (More role) (Exactly punctuator.Comma ∷ AName role ∷ Part (More role) ∷ [])
+    at now sound (names_more role (next_at now).token is) a) b
 
 -- from these items to those, however many levels are open
 abbrev pub Goes : List Item → List Item → Place → Place → Type 0
 Goes front pending at there = (depth : ℕ) → Derives depth front pending [] [] at there
 
 -- the first item
-pub starts : (item : Item) (below : List Item) (at there : Place) → AreLevel below → DerivesItem item [] [] at there → Goes (item ∷ below) below at there
+pub starts : (item : Item) (below : List Item) (at there : Place) → AreLevel below → DerivesItem item [] [] at there →
+    Goes (item ∷ below) below at there
 starts item below at there level b depth =
     goes_on depth (item ∷ below) (item ∷ []) [] below at at there level (stay at depth (item ∷ below) []) (b depth)
 
 -- the next item
-pub item_on : (front : List Item) (item : Item) (below : List Item) (at now there : Place) → AreLevel below → Goes front (item ∷ below) at now → DerivesItem item [] [] now there →
+pub item_on : (front : List Item) (item : Item) (below : List Item) (at now there : Place) → AreLevel below →
+    Goes front (item ∷ below) at now → DerivesItem item [] [] now there →
     Goes front below at there
-item_on front item below at now there level a b depth = goes_on depth front (item ∷ []) [] below at now there level (a depth) (b depth)
+item_on front item below at now there level a b depth =
+    goes_on depth front (item ∷ []) [] below at now there level (a depth) (b depth)
 
 -- The last call's answer, after a segment that left the items that it matches.
-pub handed_on : {A : Type 0} (r : Result A ParseFault) (front mid : List Item) (at now there : Standing) → Goes front (mid ++ []) at.place now.place → Matches r mid (λ x. []) now there → Matches r front (λ x. []) at there
+pub handed_on : {A : Type 0} (r : Result A ParseFault) (front mid : List Item) (at now there : Standing) →
+    Goes front (mid ++ []) at.place now.place → Matches r mid (λ x. []) now there → Matches r front (λ x. []) at there
 handed_on (Ok x) front mid at now there a b =
     λ depth. goes_on depth front mid [] [] at.place now.place there.place (λ stack. refl) (a depth) (b depth)
 handed_on (Err e) front mid at now there a b = leaves _ front mid [] at.place now.place e (λ stack. refl) a b
@@ -118,12 +139,15 @@ handed_on (Err e) front mid at now there a b = leaves _ front mid [] at.place no
 pub name_first : (declared : Declared) (at there : Place) → DerivesItem (AName (role_of declared)) [] [] at there →
     Goes (names_items declared) (Part (More (role_of declared)) ∷ Exactly punctuator.Semicolon ∷ []) at there
 name_first declared at there b =
-    starts (AName (role_of declared)) (Part (More (role_of declared)) ∷ Exactly punctuator.Semicolon ∷ []) at there (λ stack. refl) b
+    starts (AName (role_of declared)) (Part (More (role_of declared)) ∷ Exactly punctuator.Semicolon ∷ []) at there
+    (λ stack. refl) b
 
 pub names_then : (declared : Declared) (at now there : Place) → DerivesItem (AName (role_of declared)) [] [] at now →
-    DerivesItem (Part (More (role_of declared))) [] [] now there → Goes (names_items declared) (Exactly punctuator.Semicolon ∷ []) at there
+    DerivesItem (Part (More (role_of declared))) [] [] now there →
+    Goes (names_items declared) (Exactly punctuator.Semicolon ∷ []) at there
 names_then declared at now there a b =
-    item_on (names_items declared) (Part (More (role_of declared))) (Exactly punctuator.Semicolon ∷ []) at now there (λ stack. refl)
+    item_on (names_items declared) (Part (More (role_of declared))) (Exactly punctuator.Semicolon ∷ []) at now there
+    (λ stack. refl)
     (name_first declared at now a) b
 
 pub type_first : (declared : Declared) (at there : Place) → DerivesItem (AWord word.Type) [] [] at there →
@@ -133,4 +157,5 @@ type_first declared at there b = starts (AWord word.Type) (Part Types ∷ names_
 pub types_then : (declared : Declared) (at now there : Place) → DerivesItem (AWord word.Type) [] [] at now →
     DerivesItem (Part Types) [] [] now there → Goes (declaration_items declared) (names_items declared) at there
 types_then declared at now there a b =
-    item_on (declaration_items declared) (Part Types) (names_items declared) at now there (λ stack. refl) (type_first declared at now a) b
+    item_on (declaration_items declared) (Part Types) (names_items declared) at now there (λ stack. refl)
+    (type_first declared at now a) b

@@ -16,7 +16,9 @@ use Rattle.grammar.specs.Derivation.{is_end}
 -- each token ends behind this place and behind the one ahead of it, the source's end perhaps with it; the last is last
 abbrev pub IsCut : ℕ → List LocatedToken → Type 0
 IsCut place [] = Unit {0}
-IsCut place (x ∷ others) = (place ≤ x.end) × ((is_end x.token ≡ false → place < x.end) × ((is_last x.token ≡ true → others ≡ []) × IsCut x.end others))
+IsCut place (x ∷ others) =
+    (place ≤ x.end) ×
+    ((is_end x.token ≡ false → place < x.end) × ((is_last x.token ≡ true → others ≡ []) × IsCut x.end others))
 
 cut_sooner : (p q : ℕ) (xs : List LocatedToken) → q ≤ p → IsCut p xs → IsCut q xs
 cut_sooner p q [] h r = tt
@@ -25,7 +27,8 @@ cut_sooner p q (x ∷ xs) h r = (omega (arith, h, r.0), ((λ other. omega (arith
 -- The last token.
 
 -- the source's end
-closing_end : (place line : ℕ) (end : Ahead) → place ≤ end.place → IsCut place (last_located_token variant.End line end ∷ [])
+closing_end : (place line : ℕ) (end : Ahead) → place ≤ end.place →
+    IsCut place (last_located_token variant.End line end ∷ [])
 closing_end place line end h = by end.too_long
   where
     by : (t : Bool) → IsCut place (last_located_token variant.End line (here end.line end.place end.bytes t) ∷ [])
@@ -33,18 +36,23 @@ closing_end place line end h = by end.too_long
     by false = (h, ((λ other. absurd (cc)), ((λ last. refl), tt)))
 
 -- a comment that is open there, of which something was passed
-closing_open : (place line : ℕ) (end : Ahead) → place < end.place → IsCut place (last_located_token (variant.Fault CommentNotClosed) line end ∷ [])
+closing_open : (place line : ℕ) (end : Ahead) → place < end.place →
+    IsCut place (last_located_token (variant.Fault CommentNotClosed) line end ∷ [])
 closing_open place line end h = by end.too_long
   where
-    by : (t : Bool) → IsCut place (last_located_token (variant.Fault CommentNotClosed) line (here end.line end.place end.bytes t) ∷ [])
+    by : (t : Bool) →
+        IsCut place
+        (last_located_token (variant.Fault CommentNotClosed) line (here end.line end.place end.bytes t) ∷ [])
     by true = (omega (arith, h), ((λ other. omega (arith, h)), ((λ last. refl), tt)))
     by false = (omega (arith, h), ((λ other. h), ((λ last. refl), tt)))
 
 -- All tokens.
 
-cut_strictly : (n line place : ℕ) (bytes : List ℕ) (too_long : Bool) → IsCut place (cut n (here line place bytes too_long))
+cut_strictly : (n line place : ℕ) (bytes : List ℕ) (too_long : Bool) →
+    IsCut place (cut n (here line place bytes too_long))
 cut_strictly zero line place bytes t = tt
-cut_strictly (suc n) line place [] t = closing_end place line (at_end (here line place [] t)) (place-passed 0 (here line place [] t))
+cut_strictly (suc n) line place [] t =
+    closing_end place line (at_end (here line place [] t)) (place-passed 0 (here line place [] t))
 cut_strictly (suc n) line place (b ∷ bytes) t =
     by (front (b ∷ bytes)) (front-inside (b ∷ bytes)) (front-is_piece (b ∷ bytes)) (λ count.
     let p = passed count a in cut_strictly n p.line p.place p.bytes p.too_long)
@@ -62,7 +70,8 @@ cut_strictly (suc n) line place (b ∷ bytes) t =
     alone : (last : Bool) (xs : List LocatedToken) → last ≡ true → cond last [] xs ≡ []
     alone last xs e = rw e refl
 
-    by : (f : Front) → IsInside (b ∷ bytes) f → IsPiece f → ((count : ℕ) → IsCut (passed count a).place (cut n (passed count a))) → IsCut place (cut_front f a (cut n))
+    by : (f : Front) → IsInside (b ∷ bytes) f → IsPiece f →
+        ((count : ℕ) → IsCut (passed count a).place (cut n (passed count a))) → IsCut place (cut_front f a (cut n))
     by Nothing i p h = closing_end place line (at_end a) (omega (arith, end_is))
     by Unclosed i p h = closing_open place line (at_end a) (omega (arith, end_is))
     by (Space count) i p h = cut_sooner _ _ _ (place-passed count a) (h count)
@@ -72,7 +81,8 @@ cut_strictly (suc n) line place (b ∷ bytes) t =
         (λ other. omega (arith, p)),
         (
           (λ last. alone (is_last sign) _ last),
-          followed (is_last sign) (place + count) _ (subst (λ (q : ℕ). IsCut q (cut n (passed count a))) (place-inside count a i) (h count)),
+          followed (is_last sign) (place + count) _
+              (subst (λ (q : ℕ). IsCut q (cut n (passed count a))) (place-inside count a i) (h count)),
         ),
       ),
     )
@@ -106,6 +116,7 @@ reach_limited bytes =
     let a = from_start (source bytes) in
     reach_by 1048577 (cut (suc (length a.bytes)) a) (cut-by (suc (length a.bytes)) 1048577 a (within a.too_long refl))
   where
-    within : (t : Bool) → (from_start (source bytes)).too_long ≡ t → 0 + length (take 1048576 (source bytes)) + over (from_start (source bytes)).too_long ≤ 1048577
+    within : (t : Bool) → (from_start (source bytes)).too_long ≡ t →
+        0 + length (take 1048576 (source bytes)) + over (from_start (source bytes)).too_long ≤ 1048577
     within true e = omega (arith, length-take 1048576 (source bytes), ap over e)
     within false e = omega (arith, length-take 1048576 (source bytes), ap over e)

@@ -1,10 +1,12 @@
 -- What each call of a parser needs and keeps. Every contract of the front end cites these facts.
-use Rattle.std.specs.Prelude.{ℕ, ◌-◌, ◌^◌, ◌≡◌, ◌<◌, ◌≤◌, false, Result, Ok, Err}
+use Rattle.std.specs.Prelude.{ℕ, ◌-◌, ◌^◌, ◌≡◌, ◌<◌, ◌≤◌, false, true, Result, Ok, Err}
 use Rattle.tokens.specs.ReadLimits.{most_bytes}
 use Rattle.tokens.specs.Reading.{IsNear, Reading, taken}
 use Rattle.tokens.specs.Window.{TakesBytes}
+use Rattle.tokens.specs.declared.located_tokens.Punctuator.{Punctuator}
+use Rattle.tokens.specs.declared.located_tokens.Word.{Word}
 use Rattle.grammar.specs.declared.diagnostics.ParseFault.{ParseFault}
-use Rattle.grammar.specs.Grammar.{is_fault}
+use Rattle.grammar.specs.Grammar.{is_fault, is_punctuator, is_word}
 use Rattle.parsing.specs.Position.{Standing, taken_at, to_go, token_of}
 use Rattle.parsing.specs.Segment.{counted}
 
@@ -25,6 +27,24 @@ pub record IsReady (at : Standing) : Type 0 where
   pub sound : is_fault (token_of at) ≡ false
   pub near : IsNear at.place.position.reading
   pub count : at.account.failures < most_failures
+
+-- What a parse function needs: this room in the builder, a parser that is ready, and these next tokens.
+pub record IsAt (has_room : Type 0) (starts : Standing → Type 0) (at : Standing) : Type 0 where
+  pub builder : has_room
+  pub ready : IsReady at
+  pub is : starts at
+
+-- whatever the next tokens are
+abbrev pub Anywhere : Standing → Type 0
+Anywhere at = Unit {0}
+
+-- the next token is this punctuator
+abbrev pub IsNext : Punctuator → Standing → Type 0
+IsNext punctuator at = is_punctuator punctuator (token_of at) ≡ true
+
+-- the next token is this word
+abbrev pub IsNextWord : Word → Standing → Type 0
+IsNextWord word at = is_word word (token_of at) ≡ true
 
 -- A parser went on: it reads the same device, which did not fail, the device still has all but the bytes taken, fewer
 -- tokens can come, and the parser is ready for the next call.

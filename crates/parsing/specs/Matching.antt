@@ -1,5 +1,5 @@
 -- What a call of the parser says of the derivation, by its result.
-use Rattle.std.specs.Prelude.{ℕ, List, [], Result, Ok, Err, false}
+use Rattle.std.specs.Prelude.{ℕ, List, [], Result, Ok, Err}
 use Rattle.grammar.specs.declared.diagnostics.ParseFault.{ParseFault}
 use Rattle.grammar.specs.Derivation.{Value}
 use Rattle.grammar.specs.Grammar.{Item}

@@ -7,7 +7,8 @@ use Rattle.tokens.specs.declared.located_tokens.Token.TheVariants as token
 use Rattle.grammar.specs.Grammar as grammar
 use Rattle.grammar.specs.Grammar.{Exactly, Part, Make, Declarations, ElsePart, Back, Decide, choice, is_fault}
 use Rattle.round_trip.specs.Written.{Sign, Minus, Step, Up, Expression, Constant, Variable, Binary, Signed, Assign, StepBefore, StepBehind, Call, NoMore, Argument, Statement, Evaluate, Statements, Done, Next}
-use Rattle.round_trip.specs.Spelling.{binary_punctuator, sign_punctuator, step_punctuator, spell, spell_statement, spell_statements}
+use Rattle.grammar.specs.Operators.{binary_punctuator}
+use Rattle.round_trip.specs.Spelling.{sign_punctuator, step_punctuator, spell, spell_statement, spell_statements}
 use Rattle.round_trip.proofs.Leading.{first, second}
 use Rattle.round_trip.proofs.Parts.{spell_part}
 
@@ -16,12 +17,15 @@ pub record BeginsStatement (t : Token) : Type 0 where
   pub sound : is_fault t ≡ false
   pub no_declaration : (after : Token) → choice Declarations t after ≡ Some []
   pub no_else : (after : Token) → choice ElsePart t after ≡ Some (Make Decide ∷ [])
-  pub one_more : (after : Token) → choice grammar.Statements t after ≡ Some (Part grammar.Statement ∷ Part grammar.Statements ∷ [])
+  pub one_more : (after : Token) →
+      choice grammar.Statements t after ≡ Some (Part grammar.Statement ∷ Part grammar.Statements ∷ [])
 
 -- an expression begins with it
 pub record BeginsExpression (t : Token) : Type 0 where
   pub begins : BeginsStatement t
-  pub evaluates : (after : Token) → choice grammar.Statement t after ≡ Some (Part grammar.Expression ∷ Exactly punctuator.Semicolon ∷ Make grammar.Evaluate ∷ [])
+  pub evaluates : (after : Token) →
+      choice grammar.Statement t after ≡
+      Some (Part grammar.Expression ∷ Exactly punctuator.Semicolon ∷ Make grammar.Evaluate ∷ [])
   pub gives_back : (after : Token) → choice Back t after ≡ Some (Part grammar.Expression ∷ [])
 
 begins_constant : (value : ℕ) → BeginsExpression (token.Constant value)
@@ -78,7 +82,8 @@ pub expression_first : (e : Expression) (rest : List Token) → BeginsExpression
 expression_first (Constant value) rest = begins_constant value
 expression_first (Variable name) rest = begins_name name
 expression_first (Binary o a b) rest =
-    rw (append_assoc (spell_part a) (token.Punctuator (binary_punctuator o) ∷ spell_part b) rest) (part_first a (token.Punctuator (binary_punctuator o) ∷ spell_part b ++ rest))
+    rw (append_assoc (spell_part a) (token.Punctuator (binary_punctuator o) ∷ spell_part b) rest)
+    (part_first a (token.Punctuator (binary_punctuator o) ∷ spell_part b ++ rest))
 expression_first (Signed sign e) rest = begins_sign sign
 expression_first (Assign o name e) rest = begins_name name
 expression_first (StepBefore step name) rest = begins_step step
@@ -88,8 +93,10 @@ expression_first (Call name (Argument e more)) rest = begins_name name
 
 pub statement_first : (s : Statement) (rest : List Token) → BeginsStatement (first (spell_statement s ++ rest))
 statement_first (Evaluate e) rest =
-    rw (append_assoc (spell e) (token.Punctuator punctuator.Semicolon ∷ []) rest) (expression_first e (token.Punctuator punctuator.Semicolon ∷ rest)).begins
-statement_first s rest = record { sound = refl; no_declaration = λ after. refl; no_else = λ after. refl; one_more = λ after. refl }
+    rw (append_assoc (spell e) (token.Punctuator punctuator.Semicolon ∷ []) rest)
+    (expression_first e (token.Punctuator punctuator.Semicolon ∷ rest)).begins
+statement_first s rest =
+    record { sound = refl; no_declaration = λ after. refl; no_else = λ after. refl; one_more = λ after. refl }
 
 -- what stands behind a statement: another one, or the brace
 pub record Follows (tokens : List Token) : Type 0 where
@@ -97,10 +104,15 @@ pub record Follows (tokens : List Token) : Type 0 where
   pub no_declaration : choice Declarations (first tokens) (second tokens) ≡ Some []
   pub no_else : choice ElsePart (first tokens) (second tokens) ≡ Some (Make Decide ∷ [])
 
-pub follows : (more : Statements) (rest : List Token) → Follows (spell_statements more ++ token.Punctuator punctuator.CloseCurly ∷ rest)
+pub follows : (more : Statements) (rest : List Token) →
+    Follows (spell_statements more ++ token.Punctuator punctuator.CloseCurly ∷ rest)
 follows Done rest = record { sound = refl; no_declaration = refl; no_else = refl }
 follows (Next s more) rest =
     let tokens : List Token = spell_statements more ++ token.Punctuator punctuator.CloseCurly ∷ rest in
     let b : BeginsStatement (first (spell_statement s ++ tokens)) = statement_first s tokens in
     rw (append_assoc (spell_statement s) (spell_statements more) (token.Punctuator punctuator.CloseCurly ∷ rest))
-    (record { sound = b.sound; no_declaration = b.no_declaration (second (spell_statement s ++ tokens)); no_else = b.no_else (second (spell_statement s ++ tokens)) })
+    (record {
+      sound = b.sound;
+      no_declaration = b.no_declaration (second (spell_statement s ++ tokens));
+      no_else = b.no_else (second (spell_statement s ++ tokens));
+    })

@@ -28,7 +28,8 @@ turned m n = omega arith
 -- a derivation has one end
 one_end : (m n : ℕ) (s : State) → step (run m s) ≡ None → step (run n s) ≡ None → run m s ≡ run n s
 one_end m n s ended_m ended_n =
-    sym (stays n (run m s) ended_m) ∙ sym (run-add m n s) ∙ ap (λ k. run k s) (turned m n) ∙ run-add n m s ∙ stays m (run n s) ended_n
+    sym (stays n (run m s) ended_m) ∙ sym (run-add m n s) ∙ ap (λ k. run k s) (turned m n) ∙ run-add n m s ∙
+    stays m (run n s) ended_n
 
 none_left : (rest : List LocatedToken) → bare_rest rest ≡ [] → rest ≡ []
 none_left [] e = refl
@@ -58,10 +59,13 @@ statements ends s located_tokens spelled =
     let learnt : Scope = behind_statement s in_body in
     let l : Leads (start (located_tokens_of (in_main (spell_statement s)))) (over body learnt) = derives_main s in
     let there : bare (run l.steps (start located_tokens)) ≡ over body learnt =
-    sym (bare_run l.steps (start located_tokens)) ∙ ap (λ ts. run l.steps (start (located_tokens_of ts))) spelled ∙ l.leads in
-    let o : IsOver (run l.steps (start located_tokens)) body learnt = is_over (run l.steps (start located_tokens)) body learnt there in
+    sym (bare_run l.steps (start located_tokens)) ∙ ap (λ ts. run l.steps (start (located_tokens_of ts))) spelled ∙
+    l.leads in
+    let o : IsOver (run l.steps (start located_tokens)) body learnt =
+    is_over (run l.steps (start located_tokens)) body learnt there in
     let last : run l.steps (start located_tokens) ≡ last_state located_tokens =
-    one_end l.steps (enough located_tokens) (start located_tokens) (ended (run l.steps (start located_tokens)) o.stack o.rest) (ends located_tokens) in
+    one_end l.steps (enough located_tokens) (start located_tokens)
+    (ended (run l.steps (start located_tokens)) o.stack o.rest) (ends located_tokens) in
     let p : IsOver (last_state located_tokens) body learnt = subst (λ (t : State). IsOver t body learnt) last o in
     record { nothing_open = p.stack; all_matched = p.rest; functions = p.functions; names = p.scope }
 

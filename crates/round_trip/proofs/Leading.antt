@@ -38,18 +38,24 @@ abbrev pub second : List Token → Token
 second tokens = after_of (located_tokens_of tokens)
 
 -- a symbol is replaced
-pub part : (symbol : Symbol) (items stack : List Item) (tokens : List Token) (values : List Value) (scope : Scope) (functions : List Definition) →
+pub part : (symbol : Symbol) (items stack : List Item) (tokens : List Token) (values : List Value) (scope : Scope)
+    (functions : List Definition) →
     is_fault (first tokens) ≡ false → choice symbol (first tokens) (second tokens) ≡ Some items →
     Leads (at (Part symbol ∷ stack) tokens values scope functions) (at (items ++ stack) tokens values scope functions)
-part symbol items stack tokens values scope functions sound chosen = record { steps = 1; leads = rw (sound, chosen) refl }
+part symbol items stack tokens values scope functions sound chosen =
+    record { steps = 1; leads = rw (sound, chosen) refl }
 
 -- a tree is made; no rule but that of a function's end adds to the functions
-pub make : (rule : SemanticAction) (stack : List Item) (tokens : List Token) (values left : List Value) (scope : Scope) (functions : List Definition) →
-    is_fault (first tokens) ≡ false → made rule values ≡ left → defined rule values scope ≡ [] → behind_rule rule scope ≡ scope →
+pub make : (rule : SemanticAction) (stack : List Item) (tokens : List Token) (values left : List Value) (scope : Scope)
+    (functions : List Definition) →
+    is_fault (first tokens) ≡ false → made rule values ≡ left → defined rule values scope ≡ [] →
+    behind_rule rule scope ≡ scope →
     Leads (at (Make rule ∷ stack) tokens values scope functions) (at stack tokens left scope functions)
 make rule stack tokens values left scope functions sound is quiet same =
     record { steps = 1; leads = rw (sound, is, quiet, same, append-nil functions) refl }
 
-pub close : (stack : List Item) (tokens : List Token) (values : List Value) (scope : Scope) (functions : List Definition) →
-    is_fault (first tokens) ≡ false → Leads (at (Close ∷ stack) tokens values scope functions) (at stack tokens values scope functions)
+pub close : (stack : List Item) (tokens : List Token) (values : List Value) (scope : Scope)
+    (functions : List Definition) →
+    is_fault (first tokens) ≡ false →
+    Leads (at (Close ∷ stack) tokens values scope functions) (at stack tokens values scope functions)
 close stack tokens values scope functions sound = record { steps = 1; leads = rw sound refl }

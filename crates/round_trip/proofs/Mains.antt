@@ -28,16 +28,20 @@ close = token.Punctuator punctuator.CloseCurly ∷ token.End ∷ []
 abbrev end : List Item
 end = Make Define ∷ Exactly punctuator.CloseCurly ∷ Close ∷ Part grammar.Source ∷ []
 
-is_main : (body : Body) (learnt : Scope) → Keeps in_body learnt → definition_of learnt body ≡ main_of learnt.current.variables body
+is_main : (body : Body) (learnt : Scope) → Keeps in_body learnt →
+    definition_of learnt body ≡ main_of learnt.current.variables body
 is_main body learnt k = rw (k.number, k.name, k.parameters) refl
 
-main_ends : (body : Body) (learnt : Scope) → Keeps in_body learnt → Leads (at (Part grammar.Statements ∷ end) close (ABody body ∷ []) learnt []) (over body learnt)
+main_ends : (body : Body) (learnt : Scope) → Keeps in_body learnt →
+    Leads (at (Part grammar.Statements ∷ end) close (ABody body ∷ []) learnt []) (over body learnt)
 main_ends body learnt k = record {
   steps = 6;
   leads = ap (λ (d : Definition). state [] [] [] (end_definition learnt) (d ∷ [])) (is_main body learnt k);
 }
 
-pub derives_main : (s : Statement) → Leads (start (located_tokens_of (in_main (spell_statement s)))) (over (body_of s in_body) (behind_statement s in_body))
+pub derives_main : (s : Statement) →
+    Leads (start (located_tokens_of (in_main (spell_statement s))))
+    (over (body_of s in_body) (behind_statement s in_body))
 derives_main s =
     let tokens : List Token = spell_statement s ++ close in
     let b : BeginsStatement (first tokens) = statement_first s close in
@@ -45,8 +49,13 @@ derives_main s =
     rw (append_assoc (spell_statement s) (token.Punctuator punctuator.CloseCurly ∷ []) (token.End ∷ []))
     (then _ (at (Make Empty ∷ Part Declarations ∷ more) tokens [] in_body []) _
     (record { steps = 8; leads = refl })
-    (then _ _ _ (make Empty (Part Declarations ∷ more) tokens [] (ABody tree.Done ∷ []) in_body [] b.sound refl refl refl)
-    (then _ _ _ (part Declarations [] more tokens (ABody tree.Done ∷ []) in_body [] b.sound (b.no_declaration (second tokens)))
-    (then _ _ _ (part grammar.Statements (Part grammar.Statement ∷ Part grammar.Statements ∷ []) end tokens (ABody tree.Done ∷ []) in_body [] b.sound (b.one_more (second tokens)))
-    (then _ _ _ (added s close (record { sound = refl; no_declaration = refl; no_else = refl }) more tree.Done [] in_body [])
+    (then _ _ _
+    (make Empty (Part Declarations ∷ more) tokens [] (ABody tree.Done ∷ []) in_body [] b.sound refl refl refl)
+    (then _ _ _
+    (part Declarations [] more tokens (ABody tree.Done ∷ []) in_body [] b.sound (b.no_declaration (second tokens)))
+    (then _ _ _
+    (part grammar.Statements (Part grammar.Statement ∷ Part grammar.Statements ∷ []) end tokens (ABody tree.Done ∷ [])
+    in_body [] b.sound (b.one_more (second tokens)))
+    (then _ _ _
+    (added s close (record { sound = refl; no_declaration = refl; no_else = refl }) more tree.Done [] in_body [])
     (main_ends (body_of s in_body) (behind_statement s in_body) (statement_keeps s in_body)))))))

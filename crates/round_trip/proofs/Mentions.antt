@@ -14,17 +14,22 @@ same : (scope : Scope) → Keeps scope scope
 same scope = record { number = refl; name = refl; parameters = refl }
 
 both : (scope known learnt : Scope) → Keeps scope known → Keeps known learnt → Keeps scope learnt
-both scope known learnt k l = record { number = l.number ∙ k.number; name = l.name ∙ k.name; parameters = l.parameters ∙ k.parameters }
+both scope known learnt k l =
+    record { number = l.number ∙ k.number; name = l.name ∙ k.name; parameters = l.parameters ∙ k.parameters }
 
 either : (b : Bool) (scope learnt : Scope) → Keeps scope learnt → Keeps scope (if b then learnt else scope)
 either true scope learnt k = k
 either false scope learnt k = same scope
 
 mention : (name : List ℕ) (scope : Scope) → Keeps scope (mentioned name scope)
-mention name scope = either (is_variable_new name scope) scope (with_variable name scope) (record { number = refl; name = refl; parameters = refl })
+mention name scope =
+    either (is_variable_new name scope) scope (with_variable name scope)
+    (record { number = refl; name = refl; parameters = refl })
 
 call : (name : List ℕ) (scope : Scope) → Keeps scope (called name scope)
-call name scope = either (is_function_new name scope) scope (with_new_function name 0 scope) (record { number = refl; name = refl; parameters = refl })
+call name scope =
+    either (is_function_new name scope) scope (with_new_function name 0 scope)
+    (record { number = refl; name = refl; parameters = refl })
 
 mutual
   keeps : (e : Expression) (scope : Scope) → Keeps scope (behind e scope)
@@ -32,10 +37,12 @@ mutual
   keeps (Variable name) scope = mention name scope
   keeps (Binary o a b) scope = both scope (behind a scope) _ (keeps a scope) (keeps b (behind a scope))
   keeps (Signed sign e) scope = keeps e scope
-  keeps (Assign o name e) scope = both scope (mentioned name scope) _ (mention name scope) (keeps e (mentioned name scope))
+  keeps (Assign o name e) scope =
+      both scope (mentioned name scope) _ (mention name scope) (keeps e (mentioned name scope))
   keeps (StepBefore step name) scope = mention name scope
   keeps (StepBehind step name) scope = mention name scope
-  keeps (Call name arguments) scope = both scope (called name scope) _ (call name scope) (all_keep arguments (called name scope))
+  keeps (Call name arguments) scope =
+      both scope (called name scope) _ (call name scope) (all_keep arguments (called name scope))
 
   all_keep : (arguments : Arguments) (scope : Scope) → Keeps scope (behind_arguments arguments scope)
   all_keep NoMore scope = same scope
@@ -45,15 +52,20 @@ mutual
   pub statement_keeps : (s : Statement) (scope : Scope) → Keeps scope (behind_statement s scope)
   statement_keeps Nothing scope = same scope
   statement_keeps (Evaluate e) scope = keeps e scope
-  statement_keeps (If c body) scope = both scope (behind c scope) _ (keeps c scope) (statements_keep body (behind c scope))
+  statement_keeps (If c body) scope =
+      both scope (behind c scope) _ (keeps c scope) (statements_keep body (behind c scope))
   statement_keeps (IfElse c body other) scope =
       both scope (behind c scope) _ (keeps c scope)
-      (both (behind c scope) (behind_statements body (behind c scope)) _ (statements_keep body (behind c scope)) (statements_keep other (behind_statements body (behind c scope))))
-  statement_keeps (While c body) scope = both scope (behind c scope) _ (keeps c scope) (statements_keep body (behind c scope))
+      (both (behind c scope) (behind_statements body (behind c scope)) _ (statements_keep body (behind c scope))
+      (statements_keep other (behind_statements body (behind c scope))))
+  statement_keeps (While c body) scope =
+      both scope (behind c scope) _ (keeps c scope) (statements_keep body (behind c scope))
   statement_keeps Return scope = same scope
   statement_keeps (ReturnValue e) scope = keeps e scope
   statement_keeps (Block body) scope = statements_keep body scope
 
   statements_keep : (body : Statements) (scope : Scope) → Keeps scope (behind_statements body scope)
   statements_keep Done scope = same scope
-  statements_keep (Next s rest) scope = both scope (behind_statement s scope) _ (statement_keeps s scope) (statements_keep rest (behind_statement s scope))
+  statements_keep (Next s rest) scope =
+      both scope (behind_statement s scope) _ (statement_keeps s scope)
+      (statements_keep rest (behind_statement s scope))

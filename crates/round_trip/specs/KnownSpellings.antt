@@ -7,7 +7,7 @@ use Rattle.tokens.specs.declared.located_tokens.Word.TheVariants as word
 use Rattle.grammar.specs.declared.names.Callee.TheVariants as callee
 use Rattle.grammar.specs.declared.names.Intrinsic.TheVariants as intrinsic
 use Rattle.grammar.specs.declared.names.Var.TheVariants as var
-use Rattle.grammar.specs.declared.operators.Op.TheVariants as op
+use Rattle.arith.specs.declared.operators.Op.TheVariants as op
 use Rattle.grammar.specs.declared.operators.StoreOp.TheVariants as store
 use Rattle.grammar.specs.KnownSources.{a, b, f, x, scan, number, return, ro, rc, co, cc, end, comma, equals}
 use Rattle.grammar.specs.Tree as tree

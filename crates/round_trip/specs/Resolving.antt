@@ -1,6 +1,6 @@
 -- The tree of what is written, its names resolved in the order of the tokens.
 use Rattle.std.specs.Prelude.{ℕ, pos, negsuc, List}
-use Rattle.grammar.specs.declared.operators.Op.TheVariants as op
+use Rattle.arith.specs.declared.operators.Op.TheVariants as op
 use Rattle.grammar.specs.declared.operators.StoreOp.{StoreOp}
 use Rattle.grammar.specs.declared.operators.StoreOp.TheVariants as store
 use Rattle.grammar.specs.Grammar.{Called, Mentioned}

@@ -5,49 +5,11 @@ use Rattle.tokens.specs.declared.located_tokens.Punctuator.TheVariants as punctu
 use Rattle.tokens.specs.declared.located_tokens.Token.{Token}
 use Rattle.tokens.specs.declared.located_tokens.Token.TheVariants as token
 use Rattle.tokens.specs.declared.located_tokens.Word.TheVariants as word
-use Rattle.grammar.specs.declared.operators.Op.{Op}
-use Rattle.grammar.specs.declared.operators.Op.TheVariants as op
-use Rattle.grammar.specs.declared.operators.StoreOp.{StoreOp}
-use Rattle.grammar.specs.declared.operators.StoreOp.TheVariants as store
+use Rattle.grammar.specs.Operators.{binary_punctuator, store_punctuator}
 use Rattle.round_trip.specs.Written.{Sign, Minus, Not, Tilde, Step, Up, Down, Expression, Constant, Variable, Binary}
 use Rattle.round_trip.specs.Written.{Signed, Assign, StepBefore, StepBehind, Call, Arguments, NoMore, Argument}
 use Rattle.round_trip.specs.Written.{Statement, Nothing, Evaluate, If, IfElse, While, Return, ReturnValue, Block}
 use Rattle.round_trip.specs.Written.{Statements, Done, Next}
-
--- the punctuator of a binary operator
-abbrev pub binary_punctuator : Op → Punctuator
-binary_punctuator op.Or = punctuator.OrOr
-binary_punctuator op.And = punctuator.AndAnd
-binary_punctuator op.BitOr = punctuator.Or
-binary_punctuator op.BitXor = punctuator.Xor
-binary_punctuator op.BitAnd = punctuator.And
-binary_punctuator op.Equal = punctuator.EqualsEquals
-binary_punctuator op.NotEqual = punctuator.NotEquals
-binary_punctuator op.Less = punctuator.Less
-binary_punctuator op.Greater = punctuator.Greater
-binary_punctuator op.LessOrEqual = punctuator.LessEquals
-binary_punctuator op.GreaterOrEqual = punctuator.GreaterEquals
-binary_punctuator op.ShiftLeft = punctuator.ShiftLeft
-binary_punctuator op.ShiftRight = punctuator.ShiftRight
-binary_punctuator op.Add = punctuator.Plus
-binary_punctuator op.Subtract = punctuator.Minus
-binary_punctuator op.Multiply = punctuator.Star
-binary_punctuator op.Divide = punctuator.Slash
-binary_punctuator op.Remainder = punctuator.Percent
-
--- the punctuator of an assignment
-abbrev pub store_punctuator : StoreOp → Punctuator
-store_punctuator store.Set = punctuator.Equals
-store_punctuator store.Add = punctuator.PlusEquals
-store_punctuator store.Subtract = punctuator.MinusEquals
-store_punctuator store.Multiply = punctuator.StarEquals
-store_punctuator store.Divide = punctuator.SlashEquals
-store_punctuator store.Remainder = punctuator.PercentEquals
-store_punctuator store.ShiftLeft = punctuator.ShiftLeftEquals
-store_punctuator store.ShiftRight = punctuator.ShiftRightEquals
-store_punctuator store.BitAnd = punctuator.AndEquals
-store_punctuator store.BitXor = punctuator.XorEquals
-store_punctuator store.BitOr = punctuator.OrEquals
 
 abbrev pub sign_punctuator : Sign → Punctuator
 sign_punctuator Minus = punctuator.Minus

@@ -1,6 +1,6 @@
 -- Expressions and statements as they are meant, with names in place of numbers.
 use Rattle.std.specs.Prelude.{ℕ, List}
-use Rattle.grammar.specs.declared.operators.Op.{Op}
+use Rattle.arith.specs.declared.operators.Op.{Op}
 use Rattle.grammar.specs.declared.operators.StoreOp.{StoreOp}
 
 -- -, ! or ~ in front of an operand

@@ -24,17 +24,21 @@ use Rattle.series.proofs.RunsLemmas.{no_source}
 codes_and_file : (profile : Profile) (files : Option (List File)) (verdict : Result File Diagnostic)
     → option_map (λ files. map (code_of profile) files) (and_file files verdict)
     ≡ and_code (option_map (λ files. map (code_of profile) files) files) (code_or_fault profile verdict)
-codes_and_file profile (Some files) (Ok file) = ap (λ (l : List ObjectCode). Some l) (map-append (code_of profile) files (file ∷ []))
+codes_and_file profile (Some files) (Ok file) =
+    ap (λ (l : List ObjectCode). Some l) (map-append (code_of profile) files (file ∷ []))
 codes_and_file profile (Some files) (Err d) = refl
 codes_and_file profile None (Ok file) = refl
 codes_and_file profile None (Err d) = refl
 
 -- the files with one source more
 files_more : (profile : Profile) (sources : List Source) (file : ℕ) → file < length sources
-    → files_of profile (take (file + 1) sources) ≡ and_file (files_of profile (take file sources)) (compiled profile (get_or sources file no_source).bytes)
+    →
+    files_of profile (take (file + 1) sources) ≡
+    and_file (files_of profile (take file sources)) (compiled profile (get_or sources file no_source).bytes)
 files_more profile sources file within =
     rw (take_more sources file no_source within)
-    (fold-append (λ files source. and_file files (compiled profile source.bytes)) (Some []) (take file sources) (get_or sources file no_source ∷ []))
+    (fold-append (λ files source. and_file files (compiled profile source.bytes)) (Some []) (take file sources)
+    (get_or sources file no_source ∷ []))
 
 -- the status of the files with one more
 both_of : (profile : Profile) (files : Option (List File)) (verdict : Result File Diagnostic)
@@ -46,21 +50,26 @@ both_of profile None (Err d) = refl
 
 -- the status of the files so far, with one source more
 pub status_more : (profile : Profile) (sources : List Source) (file : ℕ) (so_far one : Status) → file < length sources
-    → so_far ≡ status_of (files_of profile (take file sources)) → one ≡ status_by (compiled_code profile (get_or sources file no_source).bytes)
+    → so_far ≡ status_of (files_of profile (take file sources)) →
+    one ≡ status_by (compiled_code profile (get_or sources file no_source).bytes)
     → both so_far one ≡ status_of (files_of profile (take (file + 1) sources))
 status_more profile sources file so_far one within is one_is = rw (files_more profile sources file within, is, one_is)
     (both_of profile (files_of profile (take file sources)) (compiled profile (get_or sources file no_source).bytes))
 
 -- what a loop keeps, with one source more
-pub kept_more : (profile : Profile) (sources : List Source) (file : ℕ) (kept : Option (List ObjectCode)) (code : Result ObjectCode Diagnostic) → file < length sources
+pub kept_more : (profile : Profile) (sources : List Source) (file : ℕ) (kept : Option (List ObjectCode))
+    (code : Result ObjectCode Diagnostic) → file < length sources
     → kept ≡ codes_of profile (take file sources) → code ≡ compiled_code profile (get_or sources file no_source).bytes
     → and_code kept code ≡ codes_of profile (take (file + 1) sources)
 kept_more profile sources file kept code within so_far is = rw (so_far, is)
     (sym (ap (λ files. option_map (λ files. map (code_of profile) files) files) (files_more profile sources file within)
-    ∙ codes_and_file profile (files_of profile (take file sources)) (compiled profile (get_or sources file no_source).bytes)))
+    ∙
+    codes_and_file profile (files_of profile (take file sources))
+    (compiled profile (get_or sources file no_source).bytes)))
 
 -- the programs kept of the files so far, with what is kept of one more
-kept_of : (so_far : Status) (kept codes : Option (List ObjectCode)) (code : Result ObjectCode Diagnostic) → IfSome kept (λ k. kept_by so_far k ≡ codes)
+kept_of : (so_far : Status) (kept codes : Option (List ObjectCode)) (code : Result ObjectCode Diagnostic) →
+    IfSome kept (λ k. kept_by so_far k ≡ codes)
     → IfSome (and_compiled kept code) (λ k. kept_by (both so_far (status_by code)) k ≡ and_code codes code)
 kept_of so_far None codes (Ok code) are = tt
 kept_of so_far None codes (Err d) are = tt
@@ -70,7 +79,8 @@ kept_of Faulty (Some kept) codes (Ok code) are = ap (λ c. and_code c (Ok code))
 kept_of Faulty (Some kept) codes (Err d) are = ap (λ c. and_code c (Err d)) are
 
 -- those with one source more
-pub kept_with : (profile : Profile) (sources : List Source) (file : ℕ) (so_far one : Status) (kept after : Option (List ObjectCode)) → file < length sources
+pub kept_with : (profile : Profile) (sources : List Source) (file : ℕ) (so_far one : Status)
+    (kept after : Option (List ObjectCode)) → file < length sources
     → IfSome kept (λ k. kept_by so_far k ≡ codes_of profile (take file sources))
     → one ≡ status_by (compiled_code profile (get_or sources file no_source).bytes)
     → after ≡ and_compiled kept (compiled_code profile (get_or sources file no_source).bytes)
@@ -82,7 +92,8 @@ kept_with profile sources file so_far one kept after within are is adds =
     (rw (is, adds) (kept_of so_far kept (codes_of profile (take file sources)) code are))
 
 -- how many they are
-pub manned_more : (so_far one : Status) (file kept after : ℕ) → after ≡ kept + count_of one → kept ≤ file → (so_far ≡ Done → kept ≡ file)
+pub manned_more : (so_far one : Status) (file kept after : ℕ) → after ≡ kept + count_of one → kept ≤ file →
+    (so_far ≡ Done → kept ≡ file)
     → (after ≤ file + 1) × (both so_far one ≡ Done → after ≡ file + 1)
 manned_more Done Done file kept after is most all = (omega (arith, is, most), λ done. omega (arith, is, all refl))
 manned_more Done Faulty file kept after is most all = (omega (arith, is, most), λ done. cc)
@@ -102,13 +113,15 @@ manned_with so_far one file (Some kept) (Some after) more are =
     manned_more so_far one file (length kept) (length after) is are.0 are.1
 
 -- so there is room for the program of one more file
-pub room_left : (so_far : Status) (file files : ℕ) (kept : Option (List ObjectCode)) → file < files → files ≤ 4 → IfSome kept (λ k. IsManned so_far file k)
+pub room_left : (so_far : Status) (file files : ℕ) (kept : Option (List ObjectCode)) → file < files → files ≤ 4 →
+    IfSome kept (λ k. IsManned so_far file k)
     → IfSome kept (λ k. length k < 4)
 room_left so_far file files None within most are = tt
 room_left so_far file files (Some kept) within most are = omega (arith, are.0)
 
 -- and at the end one program for each
-pub all_manned : (so_far : Status) (file files : ℕ) (kept : Option (List ObjectCode)) → file ≡ files → so_far ≡ Done → IfSome kept (λ k. IsManned so_far file k)
+pub all_manned : (so_far : Status) (file files : ℕ) (kept : Option (List ObjectCode)) → file ≡ files → so_far ≡ Done →
+    IfSome kept (λ k. IsManned so_far file k)
     → IfSome kept (λ k. length k ≡ files)
 all_manned so_far file files None end done are = tt
 all_manned so_far file files (Some kept) end done are = are.1 done ∙ end
@@ -122,7 +135,8 @@ pub none_kept : (kept : Option (List ObjectCode)) → IfSome kept (λ k. k ≡ [
 none_kept None are = tt
 none_kept (Some kept) are = ap (λ (l : List ObjectCode). Some l) are
 
-pub none_other : (profile : Profile) (kept : Option (List ObjectCode)) → IfSome kept (λ k. k ≡ []) → IfSome kept (λ k. AreOfProfile profile k)
+pub none_other : (profile : Profile) (kept : Option (List ObjectCode)) → IfSome kept (λ k. k ≡ []) →
+    IfSome kept (λ k. AreOfProfile profile k)
 none_other profile None are = tt
 none_other profile (Some kept) are =
     let P : List ObjectCode → Type 0 = λ l. AreOfProfile profile l in
@@ -136,32 +150,42 @@ compiling_more : (mode : Mode) (profile : Profile) (sources : List Source) (file
 compiling_more mode profile sources file within =
     rw (take_more sources file no_source within)
     (flat_map-append (source_pieces mode profile) (take file sources) (get_or sources file no_source ∷ [])
-    ∙ ap (λ l. compiling mode profile (take file sources) ++ l) (append-nil (source_pieces mode profile (get_or sources file no_source))))
+    ∙
+    ap (λ l. compiling mode profile (take file sources) ++ l)
+    (append-nil (source_pieces mode profile (get_or sources file no_source))))
 
 -- one file's pieces more
-pub pieces_more : (mode : Mode) (profile : Profile) (sources : List Source) (file : ℕ) (before now after : Taken) (code : Result ObjectCode Diagnostic)
+pub pieces_more : (mode : Mode) (profile : Profile) (sources : List Source) (file : ℕ) (before now after : Taken)
+    (verdict : Result File Diagnostic)
     → file < length sources → Writes before now (compiling mode profile (take file sources))
-    → code ≡ compiled_code profile (get_or sources file no_source).bytes
-    → Writes now after (pieces_of mode (file_name (get_or sources file no_source).word) code)
+    → verdict ≡ compiled profile (get_or sources file no_source).bytes
+    → Writes now after (pieces_of mode profile (file_name (get_or sources file no_source).word) verdict)
     → Writes before after (compiling mode profile (take (file + 1) sources))
-pieces_more mode profile sources file before now after code within so_far is writes =
+pieces_more mode profile sources file before now after verdict within so_far is writes =
     let source : Source = get_or sources file no_source in
-    let P : Result ObjectCode Diagnostic → Type 0 = λ r. Writes now after (pieces_of mode (file_name source.word) r) in
+    let P : Result File Diagnostic → Type 0 =
+    λ r. Writes now after (pieces_of mode profile (file_name source.word) r) in
     rw (compiling_more mode profile sources file within)
-    (writes_then before now after (compiling mode profile (take file sources)) (source_pieces mode profile source) so_far (subst P is writes))
+    (writes_then before now after (compiling mode profile (take file sources)) (source_pieces mode profile source)
+    so_far (subst P is writes))
 
 -- the next file's pieces were cut
-pub pieces_cut : (mode : Mode) (profile : Profile) (sources : List Source) (file : ℕ) (before now after : Taken) (code : Result ObjectCode Diagnostic)
+pub pieces_cut : (mode : Mode) (profile : Profile) (sources : List Source) (file : ℕ) (before now after : Taken)
+    (verdict : Result File Diagnostic)
     → file < length sources → Writes before now (compiling mode profile (take file sources))
-    → code ≡ compiled_code profile (get_or sources file no_source).bytes
-    → Begins now after (pieces_of mode (file_name (get_or sources file no_source).word) code)
+    → verdict ≡ compiled profile (get_or sources file no_source).bytes
+    → Begins now after (pieces_of mode profile (file_name (get_or sources file no_source).word) verdict)
     → Begins before after (compiling mode profile sources)
-pieces_cut mode profile sources file before now after code within so_far is begins =
+pieces_cut mode profile sources file before now after verdict within so_far is begins =
     let source : Source = get_or sources file no_source in
-    let P : Result ObjectCode Diagnostic → Type 0 = λ r. Begins now after (pieces_of mode (file_name source.word) r) in
-    let split : compiling mode profile sources ≡ compiling mode profile (take (file + 1) sources) ++ compiling mode profile (drop (file + 1) sources) =
+    let P : Result File Diagnostic → Type 0 =
+    λ r. Begins now after (pieces_of mode profile (file_name source.word) r) in
+    let split : compiling mode profile sources ≡
+    compiling mode profile (take (file + 1) sources) ++ compiling mode profile (drop (file + 1) sources) =
     sym (ap (λ l. compiling mode profile l) (take-append-drop (file + 1) sources))
     ∙ flat_map-append (source_pieces mode profile) (take (file + 1) sources) (drop (file + 1) sources) in
     rw (split, compiling_more mode profile sources file within)
-    (begins_more before after (compiling mode profile (take file sources) ++ source_pieces mode profile source) (compiling mode profile (drop (file + 1) sources))
-    (begins_then before now after (compiling mode profile (take file sources)) (source_pieces mode profile source) so_far (subst P is begins)))
+    (begins_more before after (compiling mode profile (take file sources) ++ source_pieces mode profile source)
+    (compiling mode profile (drop (file + 1) sources))
+    (begins_then before now after (compiling mode profile (take file sources)) (source_pieces mode profile source)
+    so_far (subst P is begins)))

@@ -40,7 +40,8 @@ some_survivor outcome i lives = elim (cases_lt i (length outcome.damages)) [
   | inl within ↦
       let one : cond {A = ℕ} (nat_lt (get_or outcome.damages i 100) 100) 1 0 ≡ 1 = rw lives refl in
       omega (arith, one, get_or-le-sum_by (λ damage. cond (nat_lt damage 100) 1 0) outcome.damages i 100 within)
-  | inr past ↦ let none : nat_lt (get_or outcome.damages i 100) 100 ≡ false = rw (get_or_past outcome.damages i 100 past) refl in cc
+  | inr past ↦ let none : nat_lt (get_or outcome.damages i 100) 100 ≡ false =
+      rw (get_or_past outcome.damages i 100 past) refl in cc
 ]
 
 abbrev score : ℕ → ℕ → ℕ → Score
@@ -63,18 +64,30 @@ pub score_more : (ended : List Outcome) (outcome : Outcome) (i : ℕ) (is_alive 
     → is_alive ≡ alive outcome i → count ≡ survivors outcome
     → score_of (ended ++ outcome ∷ []) i ≡ with_match (score_of ended i) is_alive count
 score_more ended outcome i is_alive count lives survived =
-    rw (lives, survived, counted (has_won i) ended outcome, counted (has_tied i) ended outcome, counted (has_lost i) ended outcome)
+    rw (
+      lives,
+      survived,
+      counted (has_won i) ended outcome,
+      counted (has_tied i) ended outcome,
+      counted (has_lost i) ended outcome,
+    )
     (by_end (alive outcome i) (survivors outcome) (some_survivor outcome i))
   where
     by_test : (b one many : Bool) (won tied lost : ℕ) → (b ≡ true → many ≡ not one)
-        → score (won + (if b && one then 1 else 0)) (tied + (if b && many then 1 else 0)) (lost + (if not (b && one || b && many) then 1 else 0))
-        ≡ (if b then (if one then score (won + 1) tied lost else score won (tied + 1) lost) else score won tied (lost + 1))
+        →
+        score (won + (if b && one then 1 else 0)) (tied + (if b && many then 1 else 0))
+        (lost + (if not (b && one || b && many) then 1 else 0))
+        ≡
+        (if b then (if one then score (won + 1) tied lost else score won (tied + 1) lost) else score won tied
+        (lost + 1))
     by_test false one many won tied lost other = same (omega arith) (omega arith) refl
     by_test true true many won tied lost other = rw (other refl) (same refl (omega arith) (omega arith))
     by_test true false many won tied lost other = rw (other refl) (same (omega arith) refl (omega arith))
 
     by_end : (b : Bool) (n : ℕ) → (b ≡ true → 1 ≤ n)
-        → score (count_by (has_won i) ended + (if b && n == 1 then 1 else 0)) (count_by (has_tied i) ended + (if b && nat_le 2 n then 1 else 0))
+        →
+        score (count_by (has_won i) ended + (if b && n == 1 then 1 else 0))
+        (count_by (has_tied i) ended + (if b && nat_le 2 n then 1 else 0))
         (count_by (has_lost i) ended + (if not (b && n == 1 || b && nat_le 2 n) then 1 else 0))
         ≡ with_match (score_of ended i) b n
     by_end b n some = by_test b (n == 1) (nat_le 2 n) _ _ _ (λ lives. several n (some lives))
@@ -82,10 +95,14 @@ score_more ended outcome i is_alive count lives survived =
 -- each score adds up to the matches
 pub with_match_adds : (score : Score) (is_alive : Bool) (count matches : ℕ)
     → score.won + score.tied + score.lost ≡ matches
-    → (with_match score is_alive count).won + (with_match score is_alive count).tied + (with_match score is_alive count).lost ≡ matches + 1
+    →
+    (with_match score is_alive count).won + (with_match score is_alive count).tied +
+    (with_match score is_alive count).lost ≡ matches + 1
 with_match_adds score is_alive count matches adds = by_end is_alive (count == 1)
   where
-    by_end : (b one : Bool) → let later : Score = if b then (if one then record score { won = score.won + 1 } else record score { tied = score.tied + 1 }) else record score { lost = score.lost + 1 } in
+    by_end : (b one : Bool) → let later : Score =
+        if b then (if one then record score { won = score.won + 1 } else record score { tied = score.tied + 1 }) else
+        record score { lost = score.lost + 1 } in
         later.won + later.tied + later.lost ≡ matches + 1
     by_end true true = omega arith
     by_end true false = omega arith
@@ -93,7 +110,8 @@ with_match_adds score is_alive count matches adds = by_end is_alive (count == 1)
 
 -- how the match of this number ended
 pub outcome_is : (setup : Setup) (files : List File) (number : ℕ) (outcome : Outcome)
-    → outcome ≡ battle (robots_of setup.profile files) setup.seed number setup.limit → outcome ≡ outcome_of setup files number
+    → outcome ≡ battle (robots_of setup.profile files) setup.seed number setup.limit →
+    outcome ≡ outcome_of setup files number
 unfolding outcome_of
 outcome_is setup files number outcome is = is
 
@@ -124,19 +142,26 @@ plays setup played step left is =
     rw played_one refl
 
 -- the scores' lines, if the scores are the same
-same_lines : (f g : ℕ → List ℕ) (a n : ℕ) → ((i : ℕ) → i < a + n → f i ≡ g i) → map f (range_with_len a n) ≡ map g (range_with_len a n)
+same_lines : (f g : ℕ → List ℕ) (a n : ℕ) → ((i : ℕ) → i < a + n → f i ≡ g i) →
+    map f (range_with_len a n) ≡ map g (range_with_len a n)
 same_lines f g a zero each = refl
 same_lines f g a (suc n) each =
     rw (each a (omega arith)) (ap (λ l. g a ∷ l) (same_lines f g (a + 1) n (λ i below. each i (omega arith))))
 
 -- the text of the totals
-pub totals_are : (setup : Setup) (files : List File) (tally : Tallied) (names : List (List ℕ)) → 0 < length setup.words → length setup.words ≤ 4
-    → tally.matches ≡ setup.matches → names ≡ robot_names setup.words → IsTallyOf tally (outcomes setup files setup.matches)
+pub totals_are : (setup : Setup) (files : List File) (tally : Tallied) (names : List (List ℕ)) →
+    0 < length setup.words → length setup.words ≤ 4
+    → tally.matches ≡ setup.matches → names ≡ robot_names setup.words →
+    IsTallyOf tally (outcomes setup files setup.matches)
     → totals tally.matches names (score_at tally) ≡ totals_text setup files
 unfolding totals
 totals_are setup files tally names some most all named is =
     let few : length (robot_names setup.words) ≤ 4 =
-    omega (arith, length-map setup.words file_name, robots_there (map file_name setup.words) (omega (arith, length-map setup.words file_name))) in
+    omega (
+      arith,
+      length-map setup.words file_name,
+      robots_there (map file_name setup.words) (omega (arith, length-map setup.words file_name)),
+    ) in
     ap (λ l. totals tally.matches l (score_at tally)) named
     ∙ ap (λ n. totals n (robot_names setup.words) (score_at tally)) all
     ∙ (ap (λ lines. lines_text (totals_line setup.matches ∷ lines))

@@ -9,8 +9,8 @@ use Rattle.grammar.specs.Faults.{most_levels}
 use Rattle.grammar.specs.Intrinsics.{intrinsic_named, name_of}
 use Rattle.grammar.specs.Profile.{first_profile}
 use Rattle.grammar.specs.Texts.{text_of}
-use Rattle.code.specs.Listing.{in_five_columns, name_line, instr_line, function_line}
-use Rattle.code.specs.Spelling.{operator_text, instr_text}
+use Rattle.listings.specs.Listing.{code_lines, externals_lines, function_lines, instr_line, name_line}
+use Rattle.listings.specs.Spelling.{instr_text}
 use Rattle.battles.specs.Battle.{alive}
 use Rattle.series.specs.Reports.{report}
 use Rattle.series.specs.Totals.{totals}
@@ -33,5 +33,6 @@ unfolding digits report totals alive
 reports = record { single_file = refl; dead_and_alive = refl; scores = refl }
 
 pub outputs : KnownOutputs
-unfolding digits tokens located_tokens punctuator_of word_of first_profile most_levels intrinsic_named name_of compiled text_of operator_text instr_text in_five_columns name_line instr_line function_line
+unfolding digits tokens located_tokens punctuator_of word_of first_profile most_levels intrinsic_named name_of compiled
+    text_of instr_text name_line instr_line externals_lines function_lines code_lines
 outputs = record { listed = refl; faulty = refl; mixed = refl }

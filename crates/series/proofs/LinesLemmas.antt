@@ -3,8 +3,7 @@ use Rattle.std.proofs.Common.{◌≡◌, ℕ, ◌+◌, ◌<◌, List, [], ◌∷
 use Rattle.std.proofs.lemmas.List.{take_more, append-nil}
 use Rattle.std.proofs.lemmas.List.Folds.{concat-append}
 use mathlib.Core.List.{map-append}
-use Rattle.code.specs.Listing.{ended_line}
-use Rattle.series.specs.Lines.{lines_text}
+use Rattle.series.specs.Lines.{ended_line, lines_text}
 
 -- one more line behind a text
 pub lines_text_more : (text : List ℕ) (lines : List (List ℕ)) (n : ℕ) → n < length lines

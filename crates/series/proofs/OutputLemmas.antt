@@ -28,7 +28,8 @@ use Rattle.series.specs.Runs.{PutsPieces, StopsCompiling}
 use Rattle.series.proofs.PiecesLemmas.{writes_then, begins_then, begins_more}
 
 -- with a faulty file nothing is played
-faulty_plays : (setup : Setup) (mode : Mode) (files : Option (List File)) → None ≡ option_map (λ files. map (code_of setup.profile) files) files
+faulty_plays : (setup : Setup) (mode : Mode) (files : Option (List File)) →
+    None ≡ option_map (λ files. map (code_of setup.profile) files) files
     → (played setup mode files ≡ []) × (Faulty ≡ status_of files)
 faulty_plays setup mode (Some files) none = cc
 faulty_plays setup Listing None none = (refl, refl)
@@ -42,35 +43,46 @@ faulty_run setup sources before after writes none =
     (rw (ends.0, append-nil (compiling setup.mode setup.profile sources)) writes, ends.1)
 
 -- all files were listed, or their diagnostics put
-pub listing_run : (setup : Setup) (sources : List Source) (status : Status) (before after : Taken) → setup.mode ≡ Listing
-    → Writes before after (compiling Listing setup.profile sources) → status ≡ status_of (files_of setup.profile sources)
+pub listing_run : (setup : Setup) (sources : List Source) (status : Status) (before after : Taken) →
+    setup.mode ≡ Listing
+    → Writes before after (compiling Listing setup.profile sources) →
+    status ≡ status_of (files_of setup.profile sources)
     → Writes before after (output setup sources).pieces × (status ≡ (output setup sources).status)
-listing_run setup sources status before after listing writes is = (rw (listing, append-nil (compiling Listing setup.profile sources)) writes, is)
+listing_run setup sources status before after listing writes is =
+    (rw (listing, append-nil (compiling Listing setup.profile sources)) writes, is)
 
 -- a write failed while they were listed
 pub listing_stop : (setup : Setup) (sources : List Source) (before after : Taken) → setup.mode ≡ Listing
     → Begins before after (compiling Listing setup.profile sources) → Begins before after (output setup sources).pieces
-listing_stop setup sources before after listing begins = rw (listing, append-nil (compiling Listing setup.profile sources)) begins
+listing_stop setup sources before after listing begins =
+    rw (listing, append-nil (compiling Listing setup.profile sources)) begins
 
 -- the files of the codes that were kept
-kept_files : (profile : Profile) (kept : List ObjectCode) (files : Option (List File)) → Some kept ≡ option_map (λ files. map (code_of profile) files) files
+kept_files : (profile : Profile) (kept : List ObjectCode) (files : Option (List File)) →
+    Some kept ≡ option_map (λ files. map (code_of profile) files) files
     → (good : List File) × (files ≡ Some good) × (kept ≡ map (code_of profile) good)
 kept_files profile kept (Some files) some = (files, refl, cc)
 kept_files profile kept None some = cc
 
 -- a file that compiles is resolved
-resolved_here : CompiledIsResolved → (profile : Profile) (bytes : List ℕ) (file : File) → compiled profile bytes ≡ Ok file → IsResolved file
+resolved_here : CompiledIsResolved → (profile : Profile) (bytes : List ℕ) (file : File) →
+    compiled profile bytes ≡ Ok file → IsResolved file
 unfolding compiled
 resolved_here law profile bytes file is = law profile (tokens bytes) file is
 
 -- so each file is
-all_resolved : CompiledIsResolved → (profile : Profile) (sources : List Source) (so_far files : List File) → All IsResolved so_far
-    → fold (λ files source. and_file files (compiled profile source.bytes)) (Some so_far) sources ≡ Some files → All IsResolved files
-all_resolved law profile [] so_far files each is = let same : so_far ≡ files = cc in let P : List File → Type 0 = λ l. All IsResolved l in subst P same each
+all_resolved : CompiledIsResolved → (profile : Profile) (sources : List Source) (so_far files : List File) →
+    All IsResolved so_far
+    → fold (λ files source. and_file files (compiled profile source.bytes)) (Some so_far) sources ≡ Some files →
+    All IsResolved files
+all_resolved law profile [] so_far files each is =
+    let same : so_far ≡ files = cc in let P : List File → Type 0 = λ l. All IsResolved l in subst P same each
 all_resolved law profile (source ∷ sources) so_far files each is =
-    by_verdict (compiled profile source.bytes) refl is (λ file. all_resolved law profile sources (so_far ++ file ∷ []) files)
+    by_verdict (compiled profile source.bytes) refl is
+    (λ file. all_resolved law profile sources (so_far ++ file ∷ []) files)
   where
-    none_later : (sources : List Source) → fold (λ files source. and_file files (compiled profile source.bytes)) None sources ≡ None
+    none_later : (sources : List Source) →
+        fold (λ files source. and_file files (compiled profile source.bytes)) None sources ≡ None
     none_later [] = refl
     none_later (s ∷ sources) = none_later sources
 
@@ -79,16 +91,23 @@ all_resolved law profile (source ∷ sources) so_far files each is =
     one file good (suc k) d below = absurd (omega arith)
 
     by_verdict : (verdict : Result File Diagnostic) → compiled profile source.bytes ≡ verdict
-        → fold (λ files source. and_file files (compiled profile source.bytes)) (and_file (Some so_far) verdict) sources ≡ Some files
+        →
+        fold (λ files source. and_file files (compiled profile source.bytes)) (and_file (Some so_far) verdict)
+        sources ≡ Some files
         → ((file : File) → All IsResolved (so_far ++ file ∷ [])
-        → fold (λ files source. and_file files (compiled profile source.bytes)) (Some (so_far ++ file ∷ [])) sources ≡ Some files → All IsResolved files)
+        →
+        fold (λ files source. and_file files (compiled profile source.bytes)) (Some (so_far ++ file ∷ [])) sources ≡
+        Some files → All IsResolved files)
         → All IsResolved files
     by_verdict (Ok file) here rest more =
-        more file (All-append IsResolved so_far (file ∷ []) each (one file (resolved_here law profile source.bytes file here))) rest
+        more file
+        (All-append IsResolved so_far (file ∷ []) each
+        (one file (resolved_here law profile source.bytes file here))) rest
     by_verdict (Err d) here rest more = let none = none_later sources in cc
 
 -- the programs that were kept are the codes of the files, each resolved
-pub kept_codes : CompiledIsResolved → (profile : Profile) (sources : List Source) (kept : List ObjectCode) → Some kept ≡ codes_of profile sources
+pub kept_codes : CompiledIsResolved → (profile : Profile) (sources : List Source) (kept : List ObjectCode) →
+    Some kept ≡ codes_of profile sources
     → (files : List File) × (files_of profile sources ≡ Some files) × AreCodesOf kept profile files
 kept_codes law profile sources kept some =
     let found = kept_files profile kept (files_of profile sources) some in
@@ -96,40 +115,55 @@ kept_codes law profile sources kept some =
     (found.0, found.1, record { are = found.2; resolved = all_resolved law profile sources [] found.0 none found.1 })
 
 -- all matches were played
-pub played_run : (setup : Setup) (sources : List Source) (files : List File) (before now after : Taken) → setup.mode ≡ Matches
-    → files_of setup.profile sources ≡ Some files → Writes before now (compiling setup.mode setup.profile sources) → Writes now after (playing setup files)
+pub played_run : (setup : Setup) (sources : List Source) (files : List File) (before now after : Taken) →
+    setup.mode ≡ Matches
+    → files_of setup.profile sources ≡ Some files → Writes before now (compiling setup.mode setup.profile sources) →
+    Writes now after (playing setup files)
     → Writes before after (output setup sources).pieces × (Done ≡ (output setup sources).status)
 played_run setup sources files before now after matches good first second =
     let Pieces : List Piece → Type 0 = λ l. Writes before after (compiling setup.mode setup.profile sources ++ l) in
-    let plays : playing setup files ≡ played setup setup.mode (files_of setup.profile sources) = rw (matches, good) refl in (
-      subst Pieces plays (writes_then before now after (compiling setup.mode setup.profile sources) (playing setup files) first second),
+    let plays : playing setup files ≡ played setup setup.mode (files_of setup.profile sources) =
+    rw (matches, good) refl in (
+      subst Pieces plays
+          (writes_then before now after (compiling setup.mode setup.profile sources) (playing setup files) first
+          second),
       rw good refl,
     )
 
 -- a write failed while they were played
-pub played_stop : (setup : Setup) (sources : List Source) (files : List File) (before now after : Taken) → setup.mode ≡ Matches
-    → files_of setup.profile sources ≡ Some files → Writes before now (compiling setup.mode setup.profile sources) → Begins now after (playing setup files)
+pub played_stop : (setup : Setup) (sources : List Source) (files : List File) (before now after : Taken) →
+    setup.mode ≡ Matches
+    → files_of setup.profile sources ≡ Some files → Writes before now (compiling setup.mode setup.profile sources) →
+    Begins now after (playing setup files)
     → Begins before after (output setup sources).pieces
 played_stop setup sources files before now after matches good first second =
     let Pieces : List Piece → Type 0 = λ l. Begins before after (compiling setup.mode setup.profile sources ++ l) in
-    let plays : playing setup files ≡ played setup setup.mode (files_of setup.profile sources) = rw (matches, good) refl in
-    subst Pieces plays (begins_then before now after (compiling setup.mode setup.profile sources) (playing setup files) first second)
+    let plays : playing setup files ≡ played setup setup.mode (files_of setup.profile sources) =
+    rw (matches, good) refl in
+    subst Pieces plays
+    (begins_then before now after (compiling setup.mode setup.profile sources) (playing setup files) first second)
 
 -- what playing left, by its answer
-pub plays_run : (setup : Setup) (sources : List Source) (files : List File) (before now after : Taken) (result : Result Status RunFault) → setup.mode ≡ Matches
-    → files_of setup.profile sources ≡ Some files → Writes before now (compiling setup.mode setup.profile sources) → PutsPieces result now after (playing setup files)
-    → MatchResult result (λ status. status ≡ Done) (λ stopped. stopped ≡ fault.Write) → Runs setup sources result before after
+pub plays_run : (setup : Setup) (sources : List Source) (files : List File) (before now after : Taken)
+    (result : Result Status RunFault) → setup.mode ≡ Matches
+    → files_of setup.profile sources ≡ Some files → Writes before now (compiling setup.mode setup.profile sources) →
+    PutsPieces result now after (playing setup files)
+    → MatchResult result (λ status. status ≡ Done) (λ stopped. stopped ≡ fault.Write) →
+    Runs setup sources result before after
 plays_run setup sources files before now after (Ok status) matches good first second is =
-    let Ends : Status → Type 0 = λ s. Writes before after (output setup sources).pieces × (s ≡ (output setup sources).status) in
+    let Ends : Status → Type 0 =
+    λ s. Writes before after (output setup sources).pieces × (s ≡ (output setup sources).status) in
     subst Ends (sym is) (played_run setup sources files before now after matches good first second)
 plays_run setup sources files before now after (Err stopped) matches good first second is =
     let Ends : RunFault → Type 0 = λ f. Stops setup sources f before after in
     subst Ends (sym is) (played_stop setup sources files before now after matches good first second)
 
 -- compiling was stopped
-pub stops_run : (setup : Setup) (sources : List Source) (stopped : RunFault) (before after : Taken) → StopsCompiling setup sources stopped before after
+pub stops_run : (setup : Setup) (sources : List Source) (stopped : RunFault) (before after : Taken) →
+    StopsCompiling setup sources stopped before after
     → Stops setup sources stopped before after
 stops_run setup sources (fault.Read file) before after writes = writes
 stops_run setup sources fault.Write before after begins =
-    begins_more before after (compiling setup.mode setup.profile sources) (played setup setup.mode (files_of setup.profile sources)) begins
+    begins_more before after (compiling setup.mode setup.profile sources)
+    (played setup setup.mode (files_of setup.profile sources)) begins
 stops_run setup sources fault.Memory before after never = never

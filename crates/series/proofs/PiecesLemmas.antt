@@ -4,9 +4,11 @@ use Rattle.series.specs.Pieces.{Channel, Text, Faults, Piece, Taken, TakesFrontO
 use Rattle.sinks.proofs.PortionsLemmas.{nothing_taken}
 
 -- pieces, and then more pieces
-pub writes_then : (before now after : Taken) (pieces more : List Piece) → Writes before now pieces → Writes now after more
+pub writes_then : (before now after : Taken) (pieces more : List Piece) → Writes before now pieces →
+    Writes now after more
     → Writes before after (pieces ++ more)
-writes_then before now after [] more first second = let P : Taken → Type 0 = λ t. Writes t after more in subst P first second
+writes_then before now after [] more first second =
+    let P : Taken → Type 0 = λ t. Writes t after more in subst P first second
 writes_then before now after (piece ∷ pieces) more (between, takes, rest) second =
     (between, takes, writes_then between now after pieces more rest second)
 
@@ -28,14 +30,19 @@ begins_here now (piece ∷ pieces) = inl (front piece.channel piece.bytes)
     front Faults bytes = ((bytes, nothing_taken now.faults bytes), refl)
 
 -- pieces, and then a beginning of more
-pub begins_then : (before now after : Taken) (pieces more : List Piece) → Writes before now pieces → Begins now after more
+pub begins_then : (before now after : Taken) (pieces more : List Piece) → Writes before now pieces →
+    Begins now after more
     → Begins before after (pieces ++ more)
-begins_then before now after [] more first second = let P : Taken → Type 0 = λ t. Begins t after more in subst P first second
+begins_then before now after [] more first second =
+    let P : Taken → Type 0 = λ t. Begins t after more in subst P first second
 begins_then before now after (piece ∷ pieces) more (between, takes, rest) second =
     inr (between, takes, begins_then between now after pieces more rest second)
 
 -- a beginning of the pieces is one of more pieces
-pub begins_more : (before after : Taken) (pieces more : List Piece) → Begins before after pieces → Begins before after (pieces ++ more)
-begins_more before after [] more first = let P : Taken → Type 0 = λ t. Begins before t more in subst P (sym first) (begins_here before more)
+pub begins_more : (before after : Taken) (pieces more : List Piece) → Begins before after pieces →
+    Begins before after (pieces ++ more)
+begins_more before after [] more first =
+    let P : Taken → Type 0 = λ t. Begins before t more in subst P (sym first) (begins_here before more)
 begins_more before after (piece ∷ pieces) more (inl front) = inl front
-begins_more before after (piece ∷ pieces) more (inr (between, takes, rest)) = inr (between, takes, begins_more between after pieces more rest)
+begins_more before after (piece ∷ pieces) more (inr (between, takes, rest)) =
+    inr (between, takes, begins_more between after pieces more rest)

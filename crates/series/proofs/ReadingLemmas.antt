@@ -19,14 +19,17 @@ use Rattle.series.proofs.RunsLemmas.{feed_here, rest_more}
 
 module _ {X : Type 0} where
   -- what a feed tells, and what it told at the start
-  told_there : (tells : X → Option (List ℕ)) (start feeds : List X) (file : ℕ) (x : X) → file < length start → drop file feeds ≡ drop file start
+  told_there : (tells : X → Option (List ℕ)) (start feeds : List X) (file : ℕ) (x : X) → file < length start →
+      drop file feeds ≡ drop file start
       → get_or (map tells start) file None ≡ tells (get_or feeds file x)
   told_there tells start feeds file x within same =
       get_or-map tells start file x None within ∙ ap tells (sym (feed_here start feeds file x same))
 
-  pub same_length : (start feeds : List X) (file : ℕ) → file < length start → drop file feeds ≡ drop file start → file < length feeds
+  pub same_length : (start feeds : List X) (file : ℕ) → file < length start → drop file feeds ≡ drop file start →
+      file < length feeds
   same_length start feeds file within same =
-      let rests : length feeds - file ≡ length start - file = sym (length-drop file feeds) ∙ ap length same ∙ length-drop file start in
+      let rests : length feeds - file ≡ length start - file =
+      sym (length-drop file feeds) ∙ ap length same ∙ length-drop file start in
       omega (arith, rests)
 
   -- what the file that was read tells then
@@ -34,46 +37,61 @@ module _ {X : Type 0} where
       → get_or (map tells (set feeds file y)) file None ≡ tells y
   told_then tells feeds file y within =
       let inside : file < length (map tells feeds) = rw (length-map feeds tells) within in
-      ap (λ l. get_or l file None) (map-set tells feeds file y) ∙ get_or-set_same (map tells feeds) file (tells y) None inside
+      ap (λ l. get_or l file None) (map-set tells feeds file y) ∙
+      get_or-set_same (map tells feeds) file (tells y) None inside
 
   told_others : (tells : X → Option (List ℕ)) (feeds : List X) (file i : ℕ) (y : X) → i ≢ file
       → get_or (map tells (set feeds file y)) i None ≡ get_or (map tells feeds) i None
-  told_others tells feeds file i y other = ap (λ l. get_or l i None) (map-set tells feeds file y) ∙ get_or-set_other (map tells feeds) file i (tells y) None other
+  told_others tells feeds file i y other =
+      ap (λ l. get_or l i None) (map-set tells feeds file y) ∙
+      get_or-set_other (map tells feeds) file i (tells y) None other
 
   -- the files before the one that was read
   pub reads_before : (tells : X → Option (List ℕ)) (profile : Profile) (start feeds : List X) (file : ℕ) (y : X)
-      → TakesOfFirst profile (map tells start) (map tells feeds) file → TakesOfFirst profile (map tells start) (map tells (set feeds file y)) file
+      → TakesOfFirst profile (map tells start) (map tells feeds) file →
+      TakesOfFirst profile (map tells start) (map tells (set feeds file y)) file
   reads_before tells profile start feeds file y read i below =
       let Takes : Option (List ℕ) → Type 0 = λ later. TakesOf profile (get_or (map tells start) i None) later 4096 in
       let other : i ≢ file = omega arith in
       subst Takes (sym (told_others tells feeds file i y other)) (read i below)
 
   -- the file that was read
-  pub reads_here : (Takes : (told later : Option (List ℕ)) → Type 0) (tells : X → Option (List ℕ)) (start feeds : List X) (file : ℕ) (x y : X) → file < length start
+  pub reads_here : (Takes : (told later : Option (List ℕ)) → Type 0) (tells : X → Option (List ℕ))
+      (start feeds : List X) (file : ℕ) (x y : X) → file < length start
       → drop file feeds ≡ drop file start → Takes (tells (get_or feeds file x)) (tells y)
       → Takes (get_or (map tells start) file None) (get_or (map tells (set feeds file y)) file None)
   reads_here Takes tells start feeds file x y within same takes =
-      rw (told_there tells start feeds file x within same, told_then tells feeds file y (same_length start feeds file within same)) takes
+      rw (
+        told_there tells start feeds file x within same,
+        told_then tells feeds file y (same_length start feeds file within same),
+      ) takes
 
   -- one file more was read
-  pub reads_more : (tells : X → Option (List ℕ)) (profile : Profile) (start feeds : List X) (file : ℕ) (x y : X) → file < length start
+  pub reads_more : (tells : X → Option (List ℕ)) (profile : Profile) (start feeds : List X) (file : ℕ) (x y : X) →
+      file < length start
       → drop file feeds ≡ drop file start → TakesOfFirst profile (map tells start) (map tells feeds) file
       → TakesOf profile (tells (get_or feeds file x)) (tells y) 4096
       → TakesOfFirst profile (map tells start) (map tells (set feeds file y)) (file + 1)
   reads_more tells profile start feeds file x y within same read takes =
-      below_more _ _ (reads_before tells profile start feeds file y read) (reads_here (λ told later. TakesOf profile told later 4096) tells start feeds file x y within same takes)
+      below_more _ _ (reads_before tells profile start feeds file y read)
+      (reads_here (λ told later. TakesOf profile told later 4096) tells start feeds file x y within same takes)
 
   unread_of : (tells : X → Option (List ℕ)) (start feeds : List X) (count : ℕ) → drop count feeds ≡ drop count start
       → drop count (map tells feeds) ≡ drop count (map tells start)
-  unread_of tells start feeds count same = drop-map tells count feeds ∙ ap (map tells) same ∙ sym (drop-map tells count start)
+  unread_of tells start feeds count same =
+      drop-map tells count feeds ∙ ap (map tells) same ∙ sym (drop-map tells count start)
 
   -- so many files were read
-  pub reads_first : (tells : X → Option (List ℕ)) (profile : Profile) (start feeds : List X) (count : ℕ) → drop count feeds ≡ drop count start
-      → TakesOfFirst profile (map tells start) (map tells feeds) count → ReadsFirst profile (map tells start) (map tells feeds) count
-  reads_first tells profile start feeds count same read = record { read = read; unread = unread_of tells start feeds count same }
+  pub reads_first : (tells : X → Option (List ℕ)) (profile : Profile) (start feeds : List X) (count : ℕ) →
+      drop count feeds ≡ drop count start
+      → TakesOfFirst profile (map tells start) (map tells feeds) count →
+      ReadsFirst profile (map tells start) (map tells feeds) count
+  reads_first tells profile start feeds count same read =
+      record { read = read; unread = unread_of tells start feeds count same }
 
   -- the read of a file failed
-  pub fails_at : (tells : X → Option (List ℕ)) (profile : Profile) (start feeds : List X) (file : ℕ) (x y : X) → file < length start
+  pub fails_at : (tells : X → Option (List ℕ)) (profile : Profile) (start feeds : List X) (file : ℕ) (x y : X) →
+      file < length start
       → drop file feeds ≡ drop file start → TakesOfFirst profile (map tells start) (map tells feeds) file
       → MayLeaveUndecided profile (tells (get_or feeds file x)) (tells y)
       → FailsAt profile (map tells start) (map tells (set feeds file y)) file
@@ -84,7 +102,8 @@ module _ {X : Type 0} where
   }
 
 -- a write of this file's pieces failed
-pub cut_at : (mode : Mode) (profile : Profile) (sources : List Source) (file : ℕ) (before now after : Taken) (pieces : List Piece)
+pub cut_at : (mode : Mode) (profile : Profile) (sources : List Source) (file : ℕ) (before now after : Taken)
+    (pieces : List Piece)
     → Writes before now (compiling mode profile (take file sources)) → Begins now after pieces
     → TakesPast before after (compiling mode profile (take (file + 1 - 1) sources))
 cut_at mode profile sources file before now after pieces so_far begins =
@@ -93,7 +112,8 @@ cut_at mode profile sources file before now after pieces so_far begins =
     subst P same (now, so_far, (pieces, begins))
 
 -- a write failed after all files were compiled
-pub cut_behind : (mode : Mode) (profile : Profile) (sources : List Source) (count : ℕ) (before now after : Taken) (pieces : List Piece)
+pub cut_behind : (mode : Mode) (profile : Profile) (sources : List Source) (count : ℕ) (before now after : Taken)
+    (pieces : List Piece)
     → Writes before now (compiling mode profile sources) → Begins now after pieces
     → TakesPast before after (compiling mode profile (take count sources))
 cut_behind mode profile sources count before now after pieces writes begins =
@@ -107,7 +127,8 @@ cut_behind mode profile sources count before now after pieces writes begins =
     (between, front, (rest ++ pieces, begins_then between now after rest pieces back begins))
 
 -- what was read by the end of the matches
-pub reads_played : (setup : Setup) (result : Result Status RunFault) (told later : List (Option (List ℕ))) (before after : Taken)
+pub reads_played : (setup : Setup) (result : Result Status RunFault) (told later : List (Option (List ℕ)))
+    (before after : Taken)
     → ReadsFirst setup.profile told later (length told)
     → MatchResult result (λ status. status ≡ Done) (λ stopped. stopped ≡ fault.Write)
     → (result ≡ Err fault.Write → (sources : List Source) → AreSources sources setup.words told

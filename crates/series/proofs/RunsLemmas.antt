@@ -13,12 +13,14 @@ abbrev pub no_source : Source
 no_source = record { word = []; bytes = [] }
 
 -- each word has its source
-pub length_sources : (sources : List Source) (words : List (List ℕ)) (told : List (Option (List ℕ))) → AreSources sources words told
+pub length_sources : (sources : List Source) (words : List (List ℕ)) (told : List (Option (List ℕ))) →
+    AreSources sources words told
     → length sources ≡ length words
 length_sources sources words told are = sym (length-map sources (λ (s : Source). s.word)) ∙ ap length are.named
 
 -- the source that stands under a word
-pub word_here : (sources : List Source) (words : List (List ℕ)) (told : List (Option (List ℕ))) (file : ℕ) → AreSources sources words told
+pub word_here : (sources : List Source) (words : List (List ℕ)) (told : List (Option (List ℕ))) (file : ℕ) →
+    AreSources sources words told
     → file < length words → get_or words file [] ≡ (get_or sources file no_source).word
 word_here sources words told file are within =
     let in_sources : file < length sources = rw (length_sources sources words told are) within in
@@ -26,17 +28,22 @@ word_here sources words told file are within =
 
 module _ {X : Type 0} where
   -- a feed that is not yet read
-  pub feed_here : (start feeds : List X) (file : ℕ) (x : X) → drop file feeds ≡ drop file start → get_or feeds file x ≡ get_or start file x
+  pub feed_here : (start feeds : List X) (file : ℕ) (x : X) → drop file feeds ≡ drop file start →
+      get_or feeds file x ≡ get_or start file x
   feed_here start feeds file x same =
-      let first : (l : List X) → get_or (drop file l) 0 x ≡ get_or l file x = λ l. get_or-drop file l 0 x ∙ ap (λ n. get_or l n x) (add-zero file) in
+      let first : (l : List X) → get_or (drop file l) 0 x ≡ get_or l file x =
+      λ l. get_or-drop file l 0 x ∙ ap (λ n. get_or l n x) (add-zero file) in
       sym (first feeds) ∙ ap (λ l. get_or l 0 x) same ∙ first start
 
   -- tells the bytes of its source
-  pub told_here : (tells : X → Option (List ℕ)) (start feeds : List X) (sources : List Source) (words : List (List ℕ)) (file : ℕ) (x : X)
-      → AreSources sources words (map tells start) → length start ≡ length words → file < length start → drop file feeds ≡ drop file start
+  pub told_here : (tells : X → Option (List ℕ)) (start feeds : List X) (sources : List Source) (words : List (List ℕ))
+      (file : ℕ) (x : X)
+      → AreSources sources words (map tells start) → length start ≡ length words → file < length start →
+      drop file feeds ≡ drop file start
       → tells (get_or feeds file x) ≡ Some (get_or sources file no_source).bytes
   told_here tells start feeds sources words file x are same within rest =
-      let in_sources : file < length sources = rw (length_sources sources words (map tells start) are, sym same) within in
+      let in_sources : file < length sources =
+      rw (length_sources sources words (map tells start) are, sym same) within in
       ap tells (feed_here start feeds file x rest)
       ∙ sym (get_or-map tells start file x (tells x) within)
       ∙ ap (λ l. get_or l file (tells x)) (sym are.bytes)
@@ -48,22 +55,31 @@ module _ {X : Type 0} where
   none_failed fails feeds file x y same = map-set_same fails feeds file y x same
 
   -- a feed failed
-  pub read_failed : (fails : X → Account) (start feeds : List X) (file text faults first_text first_faults : ℕ) (x y : X)
+  pub read_failed : (fails : X → Account) (start feeds : List X) (file text faults first_text first_faults : ℕ)
+      (x y : X)
       → failures (map fails feeds) text faults ≡ failures (map fails start) first_text first_faults
       → file < length feeds → fails y ≡ failed_again (fails (get_or feeds file x))
-      → failures (map fails (set feeds file y)) text faults ≡ feed_failed (failures (map fails start) first_text first_faults) file
+      →
+      failures (map fails (set feeds file y)) text faults ≡
+      feed_failed (failures (map fails start) first_text first_faults) file
   read_failed fails start feeds file text faults first_text first_faults x y before within more =
-      let here : get_or (map fails feeds) file no_device ≡ fails (get_or feeds file x) = get_or-map fails feeds file x no_device within in
-      let later : fails y ≡ failed_again (get_or (map fails feeds) file no_device) = more ∙ ap failed_again (sym here) in
+      let here : get_or (map fails feeds) file no_device ≡ fails (get_or feeds file x) =
+      get_or-map fails feeds file x no_device within in
+      let later : fails y ≡ failed_again (get_or (map fails feeds) file no_device) =
+      more ∙ ap failed_again (sym here) in
       let P : Failures → Type 0 = λ f. failures (map fails (set feeds file y)) text faults ≡ feed_failed f file in
-      subst P before (ap (λ l. failures l text faults) (map-set fails feeds file y ∙ ap (λ a. set (map fails feeds) file a) later))
+      subst P before
+      (ap (λ l. failures l text faults) (map-set fails feeds file y ∙ ap (λ a. set (map fails feeds) file a) later))
 
   -- a sink failed
-  pub write_failed : (fails : X → Account) (start feeds : List X) (file text faults first_text first_faults later_text later_faults : ℕ) (x y : X)
+  pub write_failed : (fails : X → Account) (start feeds : List X)
+      (file text faults first_text first_faults later_text later_faults : ℕ) (x y : X)
       → failures (map fails feeds) text faults ≡ failures (map fails start) first_text first_faults
       → fails y ≡ fails (get_or feeds file x)
       → ((later_text ≡ text + 1) × (later_faults ≡ faults)) ⊎ ((later_text ≡ text) × (later_faults ≡ faults + 1))
-      → SinkFailed (failures (map fails start) first_text first_faults) (failures (map fails (set feeds file y)) later_text later_faults)
+      →
+      SinkFailed (failures (map fails start) first_text first_faults)
+      (failures (map fails (set feeds file y)) later_text later_faults)
   write_failed fails start feeds file text faults first_text first_faults later_text later_faults x y before same one =
       let P : Failures → Type 0 = λ f. SinkFailed f (failures (map fails (set feeds file y)) later_text later_faults) in
       subst P before (rw (none_failed fails feeds file x y same) (which one))
@@ -86,9 +102,14 @@ module _ {X : Type 0} where
       drop-set-lt (file + 1) feeds file y (omega arith) ∙ behind feeds ∙ ap (λ l. drop 1 l) same ∙ sym (behind start)
 
   -- the name of a source's file
-  pub name_here : (bytes : X → List ℕ) (words : List X) (sources : List Source) (told : List (Option (List ℕ))) (file : ℕ) (x : X) (word name : List ℕ)
-      → AreSources sources (map bytes words) told → file < length words → word ≡ bytes (get_or words file x) → name ≡ file_name word
+  pub name_here : (bytes : X → List ℕ) (words : List X) (sources : List Source) (told : List (Option (List ℕ)))
+      (file : ℕ) (x : X) (word name : List ℕ)
+      → AreSources sources (map bytes words) told → file < length words → word ≡ bytes (get_or words file x) →
+      name ≡ file_name word
       → name ≡ file_name (get_or sources file no_source).word
   name_here bytes words sources told file x word name are within is named =
       let in_words : file < length (map bytes words) = rw (length-map words bytes) within in
-      named ∙ ap file_name (is ∙ sym (get_or-map bytes words file x [] within) ∙ word_here sources (map bytes words) told file are in_words)
+      named ∙
+      ap file_name
+      (is ∙ sym (get_or-map bytes words file x [] within) ∙
+      word_here sources (map bytes words) told file are in_words)

@@ -26,16 +26,21 @@ none_later profile (s ∷ sources) = none_later profile sources
 
 -- if all files are good, compiling them for matches writes nothing
 nothing_listed : (profile : Profile) (sources : List Source) (so_far files : List File)
-    → fold (λ files source. and_file files (compiled profile source.bytes)) (Some so_far) sources ≡ Some files → compiling Matches profile sources ≡ []
+    → fold (λ files source. and_file files (compiled profile source.bytes)) (Some so_far) sources ≡ Some files →
+    compiling Matches profile sources ≡ []
 nothing_listed profile [] so_far files is = refl
 nothing_listed profile (source ∷ sources) so_far files is =
     by_verdict (compiled profile source.bytes) is (λ file. nothing_listed profile sources (so_far ++ file ∷ []) files)
   where
     by_verdict : (verdict : Result File Diagnostic)
-        → fold (λ files source. and_file files (compiled profile source.bytes)) (and_file (Some so_far) verdict) sources ≡ Some files
-        → ((file : File) → fold (λ files source. and_file files (compiled profile source.bytes)) (Some (so_far ++ file ∷ [])) sources ≡ Some files
+        →
+        fold (λ files source. and_file files (compiled profile source.bytes)) (and_file (Some so_far) verdict)
+        sources ≡ Some files
+        → ((file : File) →
+        fold (λ files source. and_file files (compiled profile source.bytes)) (Some (so_far ++ file ∷ [])) sources ≡
+        Some files
         → compiling Matches profile sources ≡ [])
-        → pieces_of Matches (file_name source.word) (code_or_fault profile verdict) ++ compiling Matches profile sources ≡ []
+        → pieces_of Matches profile (file_name source.word) verdict ++ compiling Matches profile sources ≡ []
     by_verdict (Ok file) rest more = more file rest
     by_verdict (Err d) rest more = let none = none_later profile sources in cc
 
@@ -58,13 +63,16 @@ report_at f a (suc n) (suc i) below =
     report_at f (a + 1) n i (omega arith) ∙ ap (λ k. Some (f k)) (omega arith)
 
 -- the report of a match that the series contains
-report_is : (setup : Setup) (sources : List Source) (files : List File) (k : ℕ) → setup.mode ≡ Matches → files_of setup.profile sources ≡ Some files
+report_is : (setup : Setup) (sources : List Source) (files : List File) (k : ℕ) → setup.mode ≡ Matches →
+    files_of setup.profile sources ≡ Some files
     → Contains setup k → report_in setup sources k ≡ Some (text_piece (report_text setup files k))
 unfolding playing
 report_is setup sources files k matches good contains =
     let Report : ℕ → Piece = λ k. text_piece (report_text setup files k) in
-    let none : compiling setup.mode setup.profile sources ≡ [] = rw matches (nothing_listed setup.profile sources [] files good) in
-    let all : played setup setup.mode (files_of setup.profile sources) ≡ playing setup files = rw (matches, good) refl in
+    let none : compiling setup.mode setup.profile sources ≡ [] =
+    rw matches (nothing_listed setup.profile sources [] files good) in
+    let all : played setup setup.mode (files_of setup.profile sources) ≡ playing setup files =
+    rw (matches, good) refl in
     let whole : (output setup sources).pieces ≡ playing setup files =
     ap (λ l. l ++ played setup setup.mode (files_of setup.profile sources)) none ∙ all in
     let place : k - setup.first < setup.matches = omega (arith, contains.least, contains.most) in
@@ -76,7 +84,8 @@ report_is setup sources files k matches good contains =
     ∙ ap (λ n. Some (Report n)) number
 
 -- whatever the other matches are
-same_text : (setup : Setup) (files : List File) (first matches k : ℕ) → report_text setup files k ≡ report_text (with_matches setup first matches) files k
+same_text : (setup : Setup) (files : List File) (first matches k : ℕ) →
+    report_text setup files k ≡ report_text (with_matches setup first matches) files k
 unfolding outcome_of
 same_text setup files first matches k = refl
 

@@ -3,7 +3,7 @@ use Rattle.std.proofs.Common.{◌≡◌, ◌≢◌, ℕ, ◌+◌, ◌<◌, zero,
 use Rattle.std.specs.Prelude.{max}
 use Rattle.std.proofs.lemmas.List.FromFn.{get_or-map-range_with_len, length-map-range_with_len}
 use Rattle.std.proofs.lemmas.List.{get_or-map, length-map}
-use Rattle.code.specs.Listing.{ended_line}
+use Rattle.series.specs.Lines.{ended_line}
 use Rattle.battles.specs.Battle.{Outcome, alive}
 use Rattle.battles.specs.Pairing.{paired}
 use Rattle.series.specs.declared.tallies.Score.{Score}
@@ -14,45 +14,70 @@ use Rattle.series.specs.Totals.{score_line, score_lines}
 
 -- eight fragments after a text
 added_eight : (text a b c d e f g h : List ℕ)
-    → (((((((text ++ a) ++ b) ++ c) ++ d) ++ e) ++ f) ++ g) ++ h ≡ text ++ (((((((a ++ b) ++ c) ++ d) ++ e) ++ f) ++ g) ++ h)
+    →
+    (((((((text ++ a) ++ b) ++ c) ++ d) ++ e) ++ f) ++ g) ++ h ≡
+    text ++ (((((((a ++ b) ++ c) ++ d) ++ e) ++ f) ++ g) ++ h)
 added_eight text a b c d e f g h = simp append_assoc
 
 -- and one more
 added : (text a b c d e f g h i : List ℕ)
-    → text ++ ((((((((a ++ b) ++ c) ++ d) ++ e) ++ f) ++ g) ++ h) ++ i) ≡ ((((((((text ++ a) ++ b) ++ c) ++ d) ++ e) ++ f) ++ g) ++ h) ++ i
+    →
+    text ++ ((((((((a ++ b) ++ c) ++ d) ++ e) ++ f) ++ g) ++ h) ++ i) ≡
+    ((((((((text ++ a) ++ b) ++ c) ++ d) ++ e) ++ f) ++ g) ++ h) ++ i
 added text a b c d e f g h i =
-    sym (ap (λ l. l ++ i) (added_eight text a b c d e f g h) ∙ append_assoc text (((((((a ++ b) ++ c) ++ d) ++ e) ++ f) ++ g) ++ h) i)
+    sym
+    (ap (λ l. l ++ i) (added_eight text a b c d e f g h) ∙
+    append_assoc text (((((((a ++ b) ++ c) ++ d) ++ e) ++ f) ++ g) ++ h) i)
 
 -- the fragments of a robot's line
 pub robot_line_added : (text name : List ℕ) (i damage : ℕ) (is_alive : Bool)
     → text ++ ended_line (robot_line i is_alive damage name)
-    ≡ ((((((((text ++ codes "  ") ++ decimal (i + 1)) ++ codes ") ") ++ state_text is_alive) ++ codes " damage ") ++ column 3 damage) ++ codes "% ") ++ name) ++ codes "\n"
+    ≡
+    ((((((((text ++ codes "  ") ++ decimal (i + 1)) ++ codes ") ") ++ state_text is_alive) ++ codes " damage ")
+    ++ column 3 damage) ++ codes "% ") ++ name) ++ codes "\n"
 robot_line_added text name i damage is_alive =
-    added text (codes "  ") (decimal (i + 1)) (codes ") ") (state_text is_alive) (codes " damage ") (column 3 damage) (codes "% ") name (codes "\n")
+    added text (codes "  ") (decimal (i + 1)) (codes ") ") (state_text is_alive) (codes " damage ") (column 3 damage)
+    (codes "% ") name (codes "\n")
 
 -- the fragments of a score's line
 pub score_line_added : (text name : List ℕ) (i : ℕ) (score : Score)
     → text ++ ended_line (score_line i score name)
-    ≡ ((((((((((text ++ codes "  ") ++ decimal (i + 1)) ++ codes ") won ") ++ decimal score.won) ++ codes " tied ") ++ decimal score.tied) ++ codes " lost ") ++ decimal score.lost) ++ codes " ") ++ name) ++ codes "\n"
+    ≡
+    ((((((((((text ++ codes "  ") ++ decimal (i + 1)) ++ codes ") won ") ++ decimal score.won) ++
+    codes " tied ") ++ decimal score.tied) ++ codes " lost ") ++ decimal score.lost) ++ codes " ") ++ name)
+    ++ codes "\n"
 score_line_added text name i score =
-    let line : List ℕ = codes "  " ++ decimal (i + 1) ++ codes ") won " ++ decimal score.won ++ codes " tied " ++ decimal score.tied ++ codes " lost " ++ decimal score.lost in
+    let line : List ℕ =
+    codes "  " ++ decimal (i + 1) ++ codes ") won " ++ decimal score.won ++ codes " tied " ++ decimal score.tied ++
+    codes " lost " ++ decimal score.lost in
     let rest : List ℕ = line ++ codes " " ++ name in
     sym (append_assoc text rest (codes "\n"))
     ∙ ap (λ l. l ++ codes "\n") (sym (append_assoc text (line ++ codes " ") name)
     ∙ ap (λ l. l ++ name) (sym (append_assoc text line (codes " "))
-    ∙ ap (λ l. l ++ codes " ") (sym (added_eight text (codes "  ") (decimal (i + 1)) (codes ") won ") (decimal score.won) (codes " tied ") (decimal score.tied) (codes " lost ") (decimal score.lost)))))
+    ∙
+    ap (λ l. l ++ codes " ")
+    (sym
+    (added_eight text (codes "  ") (decimal (i + 1)) (codes ") won ") (decimal score.won) (codes " tied ")
+    (decimal score.tied) (codes " lost ") (decimal score.lost)))))
 
 -- the line of one robot
-pub robot_line_at : (names : List (List ℕ)) (outcome : Outcome) (i : ℕ) (name : List ℕ) → i < length outcome.damages → name ≡ get_or names i []
+pub robot_line_at : (names : List (List ℕ)) (outcome : Outcome) (i : ℕ) (name : List ℕ) → i < length outcome.damages →
+    name ≡ get_or names i []
     → get_or (robot_lines names outcome) i [] ≡ robot_line i (alive outcome i) (get_or outcome.damages i 0) name
 robot_line_at names outcome i name within named =
-    rw named (get_or-map-range_with_len (λ i. robot_line i (alive outcome i) (get_or outcome.damages i 0) (get_or names i [])) 0 (length outcome.damages) i i [] within (omega arith))
+    rw named
+    (get_or-map-range_with_len
+    (λ i. robot_line i (alive outcome i) (get_or outcome.damages i 0) (get_or names i [])) 0
+    (length outcome.damages) i i [] within (omega arith))
 
 -- the line of one score
-pub score_line_at : (names : List (List ℕ)) (scores : ℕ → Score) (i : ℕ) (name : List ℕ) → i < length names → name ≡ get_or names i []
+pub score_line_at : (names : List (List ℕ)) (scores : ℕ → Score) (i : ℕ) (name : List ℕ) → i < length names →
+    name ≡ get_or names i []
     → get_or (score_lines names scores) i [] ≡ score_line i (scores i) name
 score_line_at names scores i name within named =
-    rw named (get_or-map-range_with_len (λ i. score_line i (scores i) (get_or names i [])) 0 (length names) i i [] within (omega arith))
+    rw named
+    (get_or-map-range_with_len (λ i. score_line i (scores i) (get_or names i [])) 0 (length names) i i [] within
+    (omega arith))
 
 -- a robot's file: the only one, or the one with the robot's index
 pub paired_at : {A : Type 0} (xs : List A) (robot file : ℕ) (d : A) → robot < length (paired xs)
@@ -65,7 +90,8 @@ paired_at (x ∷ y ∷ xs) robot file d within one several =
     let same : file ≡ robot = several (λ e. omega (arith, e)) in rw same refl
 
 -- as many robots, whatever they are told by
-pub length_paired : {A B : Type 0} (xs : List A) (ys : List B) → length xs ≡ length ys → length (paired xs) ≡ length (paired ys)
+pub length_paired : {A B : Type 0} (xs : List A) (ys : List B) → length xs ≡ length ys →
+    length (paired xs) ≡ length (paired ys)
 length_paired [] [] same = refl
 length_paired [] (y ∷ ys) same = absurd (omega (arith, same))
 length_paired (x ∷ xs) [] same = absurd (omega (arith, same))
@@ -84,7 +110,8 @@ paired_within (x ∷ y ∷ xs) robot file within one several = omega (arith, sev
 -- the name of a robot's file
 pub robot_name_is : {X : Type 0} (bytes : X → List ℕ) (words : List X) (robot file : ℕ) (x : X) (word name : List ℕ)
     → robot < length (paired words) → (length words ≡ 1 → file ≡ 0) → (length words ≢ 1 → file ≡ robot)
-    → word ≡ bytes (get_or words file x) → name ≡ file_name word → name ≡ get_or (robot_names (map bytes words)) robot []
+    → word ≡ bytes (get_or words file x) → name ≡ file_name word →
+    name ≡ get_or (robot_names (map bytes words)) robot []
 robot_name_is {X} bytes words robot file x word name within one several is named =
     let names : List (List ℕ) = map file_name (map bytes words) in
     let same : length names ≡ length words = length-map (map bytes words) file_name ∙ length-map words bytes in
@@ -96,12 +123,15 @@ robot_name_is {X} bytes words robot file x word name within one several is named
     ∙ get_or-map file_name (map bytes words) file [] [] there)
 
 -- a line for each robot
-pub length_robot_lines : (names : List (List ℕ)) (outcome : Outcome) → length (robot_lines names outcome) ≡ length outcome.damages
+pub length_robot_lines : (names : List (List ℕ)) (outcome : Outcome) →
+    length (robot_lines names outcome) ≡ length outcome.damages
 length_robot_lines names outcome =
-    length-map-range_with_len (λ i. robot_line i (alive outcome i) (get_or outcome.damages i 0) (get_or names i [])) 0 (length outcome.damages)
+    length-map-range_with_len (λ i. robot_line i (alive outcome i) (get_or outcome.damages i 0) (get_or names i [])) 0
+    (length outcome.damages)
 
 pub length_score_lines : (names : List (List ℕ)) (scores : ℕ → Score) → length (score_lines names scores) ≡ length names
-length_score_lines names scores = length-map-range_with_len (λ i. score_line i (scores i) (get_or names i [])) 0 (length names)
+length_score_lines names scores =
+    length-map-range_with_len (λ i. score_line i (scores i) (get_or names i [])) 0 (length names)
 
 -- there are two robots at least
 pub robots_there : {A : Type 0} (xs : List A) → 0 < length xs → length (paired xs) ≡ max (length xs) 2
@@ -110,6 +140,8 @@ robots_there (x ∷ []) some = refl
 robots_there (x ∷ y ∷ xs) some = omega arith
 
 -- a name for each robot
-pub length_robot_names : {X : Type 0} (bytes : X → List ℕ) (words : List X) → length (robot_names (map bytes words)) ≡ length (paired words)
+pub length_robot_names : {X : Type 0} (bytes : X → List ℕ) (words : List X) →
+    length (robot_names (map bytes words)) ≡ length (paired words)
 length_robot_names bytes words =
-    length_paired (map file_name (map bytes words)) words (length-map (map bytes words) file_name ∙ length-map words bytes)
+    length_paired (map file_name (map bytes words)) words
+    (length-map (map bytes words) file_name ∙ length-map words bytes)

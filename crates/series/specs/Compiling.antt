@@ -2,11 +2,12 @@
 use Rattle.std.specs.Prelude.{ℕ, List, [], ◌∷◌, ◌++◌, Option, Some, None, Result, Ok, Err, map, fold, flat_map, option_map}
 use Rattle.grammar.specs.declared.diagnostics.Diagnostic.{Diagnostic}
 use Rattle.grammar.specs.Compiled.{compiled}
+use Rattle.grammar.specs.Pools.{Names, names_of}
 use Rattle.grammar.specs.Profile.{Profile}
 use Rattle.grammar.specs.Texts.{text_of}
 use Rattle.grammar.specs.Tree.{File}
 use Rattle.code.specs.Generation.{ObjectCode, code_of}
-use Rattle.code.specs.Listing.{listing_of}
+use Rattle.listings.specs.Listing.{listing_of}
 use Rattle.settings.specs.declared.settings.Mode.{Mode}
 use Rattle.settings.specs.declared.settings.Mode.TheVariants.{Listing, Matches}
 use Rattle.series.specs.declared.endings.Status.{Status}
@@ -46,8 +47,8 @@ abbrev pub compiled_code : Profile → List ℕ → Result ObjectCode Diagnostic
 compiled_code profile bytes = code_or_fault profile (compiled profile bytes)
 
 -- a good file's listing is a text
-abbrev pub listing_piece : List ℕ → ObjectCode → Piece
-listing_piece name code = record { channel = Text; bytes = listing_of name code }
+abbrev pub listing_piece : List ℕ → Names → ObjectCode → Piece
+listing_piece name names code = record { channel = Text; bytes = listing_of name names code }
 
 -- a faulty file's diagnostic goes to the channel of faults
 abbrev pub diagnostic_piece : List ℕ → Diagnostic → Piece
@@ -59,12 +60,12 @@ listed Listing listing = listing ∷ []
 listed Matches listing = []
 
 -- what is written of one file, by its name and what it compiles to
-abbrev pub pieces_of : Mode → List ℕ → Result ObjectCode Diagnostic → List Piece
-pieces_of mode name (Ok code) = listed mode (listing_piece name code)
-pieces_of mode name (Err d) = diagnostic_piece name d ∷ []
+abbrev pub pieces_of : Mode → Profile → List ℕ → Result File Diagnostic → List Piece
+pieces_of mode profile name (Ok file) = listed mode (listing_piece name (names_of file) (code_of profile file))
+pieces_of mode profile name (Err d) = diagnostic_piece name d ∷ []
 
 abbrev pub source_pieces : Mode → Profile → Source → List Piece
-source_pieces mode profile source = pieces_of mode (file_name source.word) (compiled_code profile source.bytes)
+source_pieces mode profile source = pieces_of mode profile (file_name source.word) (compiled profile source.bytes)
 
 -- what is written while the files are compiled, in order
 abbrev pub compiling : Mode → Profile → List Source → List Piece

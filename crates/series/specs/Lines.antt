@@ -1,7 +1,10 @@
 -- Lines of text.
-use Rattle.std.specs.Prelude.{ℕ, List, map}
+use Rattle.std.specs.Prelude.{ℕ, List, [], ◌∷◌, ◌++◌, map}
 use Rattle.std.specs.List.{concat}
-use Rattle.code.specs.Listing.{ended_line}
+
+-- a line's bytes with its LF
+abbrev pub ended_line : List ℕ → List ℕ
+ended_line line = line ++ 10 ∷ []
 
 -- lines, each ended
 abbrev pub lines_text : List (List ℕ) → List ℕ

@@ -28,7 +28,8 @@ CompilesTo answer setup sources result before after = MatchResult result
 
 -- the programs are theirs, if none has a fault
 abbrev pub Compiles : Setup → List Source → Result (Option (List ObjectCode)) RunFault → Taken → Taken → Type 0
-Compiles setup sources result before after = CompilesTo (codes_of setup.profile sources) setup sources result before after
+Compiles setup sources result before after =
+    CompilesTo (codes_of setup.profile sources) setup sources result before after
 
 -- the sinks took the pieces, or a beginning of them
 abbrev pub PutsPieces : {T E : Type 0} → Result T E → Taken → Taken → List Piece → Type 0

@@ -2,6 +2,7 @@
 
 ghost use Rattle.std.specs.Prelude.{◌≡◌, ℕ, ◌+◌, ◌-◌, ◌^◌, ◌<◌, ◌≤◌, List, [], Some, false, length, map, All, IfOk, IfSome, OnOk, OnErr};
 ghost use Rattle.battles.specs.Programs.{AreOfProfile};
+ghost use Rattle.grammar.specs.Compiled.{compiled};
 ghost use Rattle.tokens.specs.ReadLimits.{window_bytes};
 ghost use Rattle.tokens.specs.Feed.{Counts};
 ghost use Rattle.series.specs.Compiling.{Source, codes_of, compiled_code, files_of, pieces_of, status_of};
@@ -79,7 +80,8 @@ pub(crate) fn both(first: Status, second: Status) -> Status
 }
 
 /// Compiles the file of a feed. The keeper takes a good file's program; of a faulty one puts the diagnostic. Answers
-/// whether the file was read, and then whether all was put, and then whether the file is good.
+/// whether the file was read, and then whether all was put, and then whether the file is good. The names of a
+/// file are large: they stay where the parse leaves them.
 #[inline(never)]
 fn compile_file<K: TakesPrograms, F: Feed, O: Sink, E: Sink>(
     keeper: &mut K,
@@ -98,7 +100,7 @@ fn compile_file<K: TakesPrograms, F: Feed, O: Sink, E: Sink>(
     ensures output { IfOk result (λ put. (bytes : List ℕ) → F.to_come feed.old ≡ Some bytes
         → PutsPieces put (taken (O.portions out.old) (E.portions err.old))
         (taken (O.portions out.new) (E.portions err.new))
-        (pieces_of (K.mode keeper.old) name.now (compiled_code profile bytes))) }
+        (pieces_of (K.mode keeper.old) profile name.now (compiled profile bytes))) }
     ensures status { IfOk result (λ put. (bytes : List ℕ) → F.to_come feed.old ≡ Some bytes
         → IfOk put (λ status. status ≡ status_by (compiled_code profile bytes))) }
     ensures kept { IfOk result (λ put. (bytes : List ℕ) → F.to_come feed.old ≡ Some bytes → IfOk put (λ status.
@@ -116,7 +118,7 @@ fn compile_file<K: TakesPrograms, F: Feed, O: Sink, E: Sink>(
 {
     let mut maker = Maker::new(profile);
     match parse(feed, &mut maker) {
-        Ok(names) => match keeper.take(name, maker.finish(names), out) {
+        Ok(ref names) => match keeper.take(name, names, maker.finish(names), out) {
             Ok(()) => Ok(Ok(Status::Done)),
             Err(DeviceFault) => Ok(Err(DeviceFault)),
         },

@@ -12,9 +12,10 @@ ghost use Rattle.settings.specs.declared.settings.Mode.{Mode};
 ghost use Rattle.settings.specs.declared.settings.Mode.TheVariants.{Listing};
 ghost use Rattle.sinks.specs.Portions.{Portions};
 
-use crate::listing::put_listing;
 use battles::Programs;
 use code::Program;
+use grammar::Pools;
+use listings::put_listing;
 use settings::{FILES_MAX, Mode};
 use sinks::Sink;
 use tokens::DeviceFault;
@@ -27,10 +28,11 @@ pub(crate) trait TakesPrograms {
     /// Whether it puts listings.
     ghost mode: { Self → Mode };
 
-    /// Takes the program of the file with this name. Puts its listing, if listings are asked for.
+    /// Takes the program of the file with this name. Puts its listing with these names, if listings are asked for.
     fn take<S: Sink>(
         &mut self,
         name: &[u8],
+        names: &Pools,
         program: Program,
         out: &mut S,
     ) -> Result<(), DeviceFault>
@@ -41,7 +43,7 @@ pub(crate) trait TakesPrograms {
         ensures kept { kept self.new ≡ and_program (kept self.old) program }
         ensures output { (faults : Portions)
             → PutsPieces result (taken (S.portions out.old) faults) (taken (S.portions out.new) faults)
-            (listed (mode self.old) (listing_piece name.now program)) }
+            (listed (mode self.old) (listing_piece name.now names.now program)) }
         ensures count { CountsSink result (S.failures out.old) (S.failures out.new) };
 }
 
@@ -74,13 +76,14 @@ impl TakesPrograms for Keeper {
     fn take<S: Sink>(
         &mut self,
         name: &[u8],
+        names: &Pools,
         program: Program,
         out: &mut S,
     ) -> Result<(), DeviceFault> {
         let file = self.programs.len();
         self.programs.push(program);
         match self.mode {
-            Mode::Listing => put_listing(out, name, self.programs.program(file)),
+            Mode::Listing => put_listing(out, name, names, self.programs.program(file)),
             Mode::Matches => Ok(()),
         }
     }
@@ -98,9 +101,10 @@ impl TakesPrograms for Lister {
     fn take<S: Sink>(
         &mut self,
         name: &[u8],
+        names: &Pools,
         program: Program,
         out: &mut S,
     ) -> Result<(), DeviceFault> {
-        put_listing(out, name, &program)
+        put_listing(out, name, names, &program)
     }
 }

@@ -7,7 +7,6 @@ mod endings;
 mod keeping;
 mod known;
 pub mod laws;
-mod listing;
 mod names;
 mod reports;
 mod runs;
@@ -17,7 +16,7 @@ mod tallies;
 pub use battles::Programs;
 pub use endings::{RunFault, SeriesFault, Status, Step};
 pub use known::known_outputs;
-pub use listing::put_listing;
+pub use listings::put_listing;
 pub use runs::{compile_files, run};
 pub use series::Series;
 pub use settings::{

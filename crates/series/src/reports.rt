@@ -7,8 +7,7 @@ ghost use Rattle.sinks.specs.Draft.{MayFail, Adds};
 ghost use Rattle.sinks.specs.Portions.{Puts};
 ghost use Rattle.series.specs.Reports.{report, robot_line, robot_lines, state_text};
 ghost use Rattle.series.specs.Names.{robot_names};
-ghost use Rattle.series.specs.Lines.{lines_text};
-ghost use Rattle.code.specs.Listing.{ended_line};
+ghost use Rattle.series.specs.Lines.{ended_line, lines_text};
 
 use crate::names::robot_name;
 use battles::Outcome;

@@ -2,7 +2,7 @@
 
 ghost use Rattle.std.specs.Prelude.{◌≡◌, ℕ, ◌+◌, ◌-◌, ◌^◌, ◌<◌, ◌≤◌, List, [], ◌∷◌, ◌++◌, length, map, All};
 ghost use Rattle.battles.specs.Battle.{Outcome as Ended, alive};
-ghost use Rattle.code.specs.Listing.{ended_line};
+ghost use Rattle.series.specs.Lines.{ended_line};
 ghost use Rattle.series.specs.Courses.{Tallied, IsTallyOf, score_at, with_match};
 ghost use Rattle.sinks.specs.Draft.{MayFail, Adds};
 ghost use Rattle.sinks.specs.Portions.{Puts};

@@ -37,15 +37,6 @@ pub fn text_of(alloc: Global, lines: &[&str]) -> Result<Vec<u8>, AllocError> {
     Ok(text)
 }
 
-/// Returns the bytes that a sink took.
-pub fn taken(alloc: Global, sink: &Recorder) -> Result<Vec<u8>, AllocError> {
-    let mut all = Vec::new(alloc);
-    for portion in sink.portions() {
-        all.extend_from_slice(portion)?;
-    }
-    Ok(all)
-}
-
 /// Makes the settings of a run that lists these files.
 pub fn listing<'a>(words: ArrayVec<&'a str, FILES_MAX>) -> Settings<'a>
     requires some { 0 < length words.items }
@@ -106,8 +97,8 @@ pub fn list(alloc: Global, word: &str, source: &[u8], most: usize) -> Result<End
     let answer = run(&listing_of_one(word), &mut feeds, &mut out, &mut err);
     Ok(Ended {
         answer,
-        text: taken(alloc, &out)?,
-        faults: taken(alloc, &err)?,
+        text: out.joined()?,
+        faults: err.joined()?,
     })
 }
 
@@ -115,7 +106,7 @@ pub fn list(alloc: Global, word: &str, source: &[u8], most: usize) -> Result<End
 pub fn program_of(source: &[u8]) -> Result<Program, Fail> {
     let mut maker = Maker::new(Profile::first());
     match parse(&mut Pieces::new(source, 4096), &mut maker) {
-        Ok(names) => Ok(maker.finish(names)),
+        Ok(names) => Ok(maker.finish(&names)),
         Err(_) => Err("the source has a fault".into()),
     }
 }
@@ -272,8 +263,8 @@ pub fn play_one(alloc: Global, settings: &Settings, source: &[u8]) -> Result<End
     let answer = run(settings, &mut feeds, &mut out, &mut err);
     Ok(Ended {
         answer,
-        text: taken(alloc, &out)?,
-        faults: taken(alloc, &err)?,
+        text: out.joined()?,
+        faults: err.joined()?,
     })
 }
 
@@ -292,8 +283,8 @@ pub fn play_two(
     let answer = run(settings, &mut feeds, &mut out, &mut err);
     Ok(Ended {
         answer,
-        text: taken(alloc, &out)?,
-        faults: taken(alloc, &err)?,
+        text: out.joined()?,
+        faults: err.joined()?,
     })
 }
 

@@ -1,24 +1,40 @@
 //! The listing of a program whose trees were made first is the listing of the program made in one pass.
 
-use crate::checks::program_of;
-use code::{Line, Maker, Program};
-use grammar::Profile;
+use code::{Maker, Program};
+use grammar::{Pools, Profile};
 use lang::{TreeMaker, parse};
+use series::{Recorder, put_listing};
 use std::alloc::Global;
 use std::test::Fail;
 use tokens::Pieces;
 
-/// Compiles a good source, whose trees are made first and then replayed to the maker.
-fn replayed(alloc: Global, source: &[u8]) -> Option<Program> {
+/// Lists a program with these names.
+fn listed(alloc: Global, names: &Pools, program: &Program) -> Result<Vec<u8>, Fail> {
+    let mut out = Recorder::new(alloc);
+    let _ = put_listing(&mut out, b"a.r", names, program);
+    Ok(out.joined()?)
+}
+
+/// Lists a good source.
+fn direct(alloc: Global, source: &[u8]) -> Result<Vec<u8>, Fail> {
+    let mut maker = Maker::new(Profile::first());
+    match parse(&mut Pieces::new(source, 4096), &mut maker) {
+        Ok(names) => listed(alloc, &names, &maker.finish(&names)),
+        Err(_) => Err("the source has a fault".into()),
+    }
+}
+
+/// Lists a good source, whose trees are made first and then replayed to the maker.
+fn replayed(alloc: Global, source: &[u8]) -> Result<Vec<u8>, Fail> {
     let profile = Profile::first();
     let mut trees = TreeMaker::new(alloc, profile);
     let Ok(names) = parse(&mut Pieces::new(source, 4096), &mut trees) else {
-        return None;
+        return Err("the source has a fault".into());
     };
     let mut maker = Maker::new(profile);
     match trees.replay(&mut maker) {
-        Ok(()) => Some(maker.finish(names)),
-        Err(_) => None,
+        Ok(()) => listed(alloc, &names, &maker.finish(&names)),
+        Err(_) => Err("it is not replayed".into()),
     }
 }
 
@@ -39,17 +55,9 @@ const SOURCES: &[&[u8]] = &[
 
 #[test]
 fn replayed_trees_have_the_same_listing(rt: HostRuntime) -> Result<(), Fail> {
-    let mut line = Line::new();
-    let mut other = Line::new();
     for source in SOURCES {
-        let direct = program_of(source)?;
-        let replayed = replayed(rt.alloc(), source).ok_or("it is not replayed")?;
-        assert_eq!(rt; replayed.lines(), direct.lines());
-        for n in 0..direct.lines() {
-            direct.listing_line(n, &mut line);
-            replayed.listing_line(n, &mut other);
-            assert_eq!(rt; other.as_slice(), line.as_slice(), "line {n}");
-        }
+        let wanted = direct(rt.alloc(), source)?;
+        assert_eq!(rt; replayed(rt.alloc(), source)?.as_slice(), wanted.as_slice());
     }
     Ok(())
 }

@@ -4,7 +4,7 @@ ghost use Rattle.std.specs.Prelude.{◌<◌};
 
 use crate::checks::{
     EMPTY_MAIN, Ended, Game, ONE_MATCH, game_of_one, game_of_two, listing_of_one, listing_of_three,
-    taken, text_of,
+    text_of,
 };
 use series::{Recorder, RunFault, Status, run};
 use std::process::Abort;
@@ -26,12 +26,12 @@ fn each_file_has_its_own_piece(rt: HostRuntime) -> Result<(), Fail> {
             Ok(Status::Faulty)
         );
         assert_eq!(rt;
-            taken(rt.alloc(), &out)?.as_slice(),
+            out.joined()?.as_slice(),
             text_of(rt.alloc(), EMPTY_MAIN)?.as_slice()
         );
         let faults = &["b.r:1: function not defined", "c.r:2: reserved word"];
         assert_eq!(rt;
-            taken(rt.alloc(), &err)?.as_slice(),
+            err.joined()?.as_slice(),
             text_of(rt.alloc(), faults)?.as_slice()
         );
         assert_eq!(rt; err.portions().len(), 2);
@@ -53,7 +53,7 @@ fn a_failed_read_ends_the_run(rt: HostRuntime) -> Result<(), Fail> {
         Err(RunFault::Read(1))
     );
     assert_eq!(rt;
-        taken(rt.alloc(), &out)?.as_slice(),
+        out.joined()?.as_slice(),
         text_of(rt.alloc(), EMPTY_MAIN)?.as_slice()
     );
     assert_eq!(rt; err.portions().len(), 0);
@@ -71,10 +71,7 @@ fn a_failed_write_leaves_a_beginning(rt: HostRuntime) -> Result<(), Fail> {
             run(&listing_of_one("a.r"), &mut feeds, &mut out, &mut err),
             Err(RunFault::Write)
         );
-        assert_eq!(rt;
-            taken(rt.alloc(), &out)?.as_slice(),
-            &whole.as_slice()[..room]
-        );
+        assert_eq!(rt; out.joined()?.as_slice(), &whole.as_slice()[..room]);
         assert_eq!(rt; out.failures(), 1);
     }
     Ok(())
@@ -105,8 +102,8 @@ fn list_within(
     let answer = run(&listing_of_three(), &mut feeds, &mut out, &mut err);
     Ok(Ended {
         answer,
-        text: taken(rt.alloc(), &out)?,
-        faults: taken(rt.alloc(), &err)?,
+        text: out.joined()?,
+        faults: err.joined()?,
     })
 }
 
@@ -204,10 +201,7 @@ fn a_failed_write_leaves_a_beginning_of_the_reports(rt: HostRuntime) -> Result<(
                 Ok(Status::Done)
             };
             assert_eq!(rt; answer, wanted);
-            assert_eq!(rt;
-                taken(rt.alloc(), &out)?.as_slice(),
-                &whole.as_slice()[..room]
-            );
+            assert_eq!(rt; out.joined()?.as_slice(), &whole.as_slice()[..room]);
         }
     }
     Ok(())
@@ -257,7 +251,7 @@ fn a_failed_read_leaves_the_diagnostics_before_it(rt: HostRuntime) -> Result<(),
         );
         assert_eq!(rt; out.portions().len(), 0);
         assert_eq!(rt;
-            taken(rt.alloc(), &err)?.as_slice(),
+            err.joined()?.as_slice(),
             text_of(rt.alloc(), faults)?.as_slice()
         );
     }

@@ -1,6 +1,6 @@
 //! A series, match by match, and what it answers after a write has failed.
 
-use crate::checks::{Game, game_of_one, programs_of, taken};
+use crate::checks::{Game, game_of_one, programs_of};
 use series::{Recorder, Series, SeriesFault, Step, compile_files};
 use std::test::Fail;
 use tokens::Pieces;
@@ -39,10 +39,7 @@ fn a_series_stops_at_a_failed_report(rt: HostRuntime) -> Result<(), Fail> {
     assert!(rt; series.has_failed());
     assert!(rt; !series.is_over());
     assert_eq!(rt; series.next(&mut out), Err(SeriesFault::Write));
-    assert_eq!(rt;
-        taken(rt.alloc(), &out)?.as_slice(),
-        b"Match 1: c".as_slice()
-    );
+    assert_eq!(rt; out.joined()?.as_slice(), b"Match 1: c".as_slice());
     assert_eq!(rt; out.failures(), 1);
     Ok(())
 }

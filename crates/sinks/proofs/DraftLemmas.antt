@@ -27,12 +27,15 @@ module _ {before now : Portions} {n failures : ℕ} where
   }
 
   -- the page is put
-  pub page_put : {T E : Type 0} (pen later : Draft) (after : Portions) (count : ℕ) (page text : List ℕ) (put : Result T E)
+  pub page_put : {T E : Type 0} (pen later : Draft) (after : Portions) (count : ℕ) (page text : List ℕ)
+      (put : Result T E)
       → PutsSoFar before now n failures pen text → pen.failed ≡ false → page ≡ pen.page
       → later.failed ≡ is_err put → later.page ≡ []
       → Puts put now failures after count page → PutsSoFar before after n count later text
   page_put pen later after count page text (Ok _) so_far was same is empty puts = record {
-    going = λ h. rw empty (all_but_then before now after text page [] (rw same (so_far.going was)) (none_left now after page puts.0));
+    going =
+        λ h. rw empty
+        (all_but_then before now after text page [] (rw same (so_far.going was)) (none_left now after page puts.0));
     calm = λ h. puts.1 ∙ so_far.calm was;
     stopped = λ h. cc;
     counted = λ h. cc;
@@ -45,18 +48,21 @@ module _ {before now : Portions} {n failures : ℕ} where
   }
 
   -- a fragment is put behind an empty page
-  pub fragment_put : {T E : Type 0} (pen later : Draft) (after : Portions) (count : ℕ) (bytes text : List ℕ) (put : Result T E)
+  pub fragment_put : {T E : Type 0} (pen later : Draft) (after : Portions) (count : ℕ) (bytes text : List ℕ)
+      (put : Result T E)
       → PutsSoFar before now n failures pen text → pen.failed ≡ false → pen.page ≡ []
       → later.failed ≡ is_err put → later.page ≡ pen.page
       → Puts put now failures after count bytes → PutsSoFar before after n count later (text ++ bytes)
   fragment_put pen later after count bytes text put so_far was empty is same puts =
       let page : bytes ≡ pen.page ++ bytes = rw empty in
       page_put (record { page = bytes; failed = false }) later after count bytes (text ++ bytes) put
-      (writes_more pen (record { page = bytes; failed = false }) text bytes so_far (sym was) page) refl refl is (same ∙ empty) puts
+      (writes_more pen (record { page = bytes; failed = false }) text bytes so_far (sym was) page) refl refl is
+      (same ∙ empty) puts
 
   -- a text that fits the page is on it, and a fragment goes on the page
   pub kept_more : (pen later : Draft) (text more : List ℕ) → WritesSoFar before now n failures pen text
-      → later.failed ≡ pen.failed → later.page ≡ pen.page ++ more → length (text ++ more) ≤ page_bytes → IsOnPage before now later (text ++ more)
+      → later.failed ≡ pen.failed → later.page ≡ pen.page ++ more → length (text ++ more) ≤ page_bytes →
+      IsOnPage before now later (text ++ more)
   kept_more pen later text more so_far same page fits =
       let less : length text ≤ page_bytes = omega (arith, length-append text more) in
       let on_page : IsOnPage before now pen text = so_far.kept less in
@@ -77,7 +83,8 @@ module _ {before now : Portions} {n failures : ℕ} where
   -- nothing is added once a put has failed
   pub nothing_more : (pen : Draft) (text more : List ℕ) → PutsSoFar before now n failures pen text → pen.failed ≡ true
       → (length (text ++ more) ≤ page_bytes → ⊥) → WritesSoFar before now n failures pen (text ++ more)
-  nothing_more pen text more so_far was long = record { puts = writes_no_more pen pen text more so_far was was; kept = λ fits. absurd (long fits) }
+  nothing_more pen text more so_far was long =
+      record { puts = writes_no_more pen pen text more so_far was was; kept = λ fits. absurd (long fits) }
 
   -- a pen whose put has failed has written more bytes than the page
   pub not_failed : (pen : Draft) (text more : List ℕ) → WritesSoFar before now n failures pen text
@@ -91,16 +98,22 @@ module _ {before now : Portions} {n failures : ℕ} where
   pub piece_put : {T E : Type 0} (pen : Draft) (after : Portions) (count : ℕ) (page text : List ℕ) (put : Result T E)
       → WritesSoFar before now n failures pen text → pen.failed ≡ false → page ≡ pen.page
       → Puts put now failures after count page → Puts put before n after count text
-  piece_put pen after count page text (Ok _) so_far was same puts =
-      (all_taken before after text (all_but_then before now after text page [] (rw same (so_far.puts.going was)) (none_left now after page puts.0)) one, puts.1 ∙ so_far.puts.calm was)
+  piece_put pen after count page text (Ok _) so_far was same puts = (
+    all_taken before after text
+        (all_but_then before now after text page [] (rw same (so_far.puts.going was))
+        (none_left now after page puts.0)) one,
+    puts.1 ∙ so_far.puts.calm was,
+  )
     where
       one : TakesWhole before → 0 < length text → length text ≤ page_bytes → after ≡ and_portions before (text ∷ [])
       one whole some fits =
           let on_page : IsOnPage before now pen text = so_far.kept fits in
           let whole_text : Takes before after text = rw (← on_page.nothing, ← (same ∙ on_page.page)) puts.0 in
           whole_text.one whole some fits
-  piece_put pen after count page text (Err _) so_far was same puts =
-      (front_then before now after text page (rw same (so_far.puts.going was)) puts.0, puts.1 ∙ ap (λ m. m + 1) (so_far.puts.calm was))
+  piece_put pen after count page text (Err _) so_far was same puts = (
+    front_then before now after text page (rw same (so_far.puts.going was)) puts.0,
+    puts.1 ∙ ap (λ m. m + 1) (so_far.puts.calm was),
+  )
 
 -- a pen at its begin has written nothing
 pub writes_nothing : (pen : Draft) (now : Portions) (n : ℕ) → pen ≡ blank → WritesSoFar now now n n pen []

@@ -8,12 +8,17 @@ use Rattle.std.proofs.lemmas.Fmt.{decimal_step, decimal_digit}
 use Rattle.sinks.specs.Texts.{file_name, column}
 
 -- the last digit is a column of its own
-pub column_step : (width n : ℕ) → 10 ≤ n → n < 2 ^ 64 → column width n ≡ column (width - 1) (n / 10) ++ ((48 + n % 10) ∷ [])
+pub column_step : (width n : ℕ) → 10 ≤ n → n < 2 ^ 64 →
+    column width n ≡ column (width - 1) (n / 10) ++ ((48 + n % 10) ∷ [])
 column_step width n long fits =
     let step : decimal n ≡ decimal (n / 10) ++ ((48 + n % 10) ∷ []) = decimal_step n long fits in
-    let len : length (decimal n) ≡ length (decimal (n / 10)) + 1 = ap length step ∙ length-append (decimal (n / 10)) ((48 + n % 10) ∷ []) in
+    let len : length (decimal n) ≡ length (decimal (n / 10)) + 1 =
+    ap length step ∙ length-append (decimal (n / 10)) ((48 + n % 10) ∷ []) in
     let room : width - length (decimal n) ≡ (width - 1) - length (decimal (n / 10)) = omega arith in
-    rw (room, step) (sym (append_assoc (replicate ((width - 1) - length (decimal (n / 10))) 32) (decimal (n / 10)) ((48 + n % 10) ∷ [])))
+    rw (room, step)
+    (sym
+    (append_assoc (replicate ((width - 1) - length (decimal (n / 10))) 32) (decimal (n / 10))
+    ((48 + n % 10) ∷ [])))
 
 -- one digit stands behind spaces
 pub column_digit : (width n : ℕ) → n < 10 → column width n ≡ replicate (width - 1) 32 ++ ((48 + n) ∷ [])

@@ -56,6 +56,22 @@ impl Pen {
         }
     }
 
+    /// Adds a byte to the piece.
+    #[inline(always)]
+    pub fn push<S: Sink>(&mut self, sink: &mut S, byte: u8)
+        requires { MayFail self.old (S.failures sink.old) }
+        ensures countable { MayFail self.new (S.failures sink.new) }
+        ensures text { Adds (S.portions sink.old) (S.failures sink.old) self.old (S.portions sink.new)
+            (S.failures sink.new) self.new (byte ∷ []) }
+    {
+        if self.page.remaining_capacity() == 0 {
+            self.turn(sink);
+        }
+        if !self.failed {
+            self.page.push(byte);
+        }
+    }
+
     /// Puts the page and begins a new one.
     fn turn<S: Sink>(&mut self, sink: &mut S)
         requires { MayFail self.old (S.failures sink.old) }

@@ -1,6 +1,7 @@
-//! A sink in memory, for tests.
+//! A sink in memory.
 
 ghost use Rattle.std.specs.Prelude.{◌≡◌, ℕ, ◌+◌, ◌-◌, ◌^◌, ◌<◌, ◌≤◌, List, [], ◌∷◌, ◌++◌, map, option_map, length, take, Some, None, IfOk, OnOk, OnErr, IfSome, OnSome, min};
+ghost use Rattle.std.specs.List.{concat};
 ghost use Rattle.sinks.specs.Recording.{Recording, contents_of, size_of_next, failing_then};
 ghost use Rattle.sinks.specs.Portions.{TakesWhole, and_portions};
 
@@ -81,6 +82,18 @@ impl Recorder {
         ensures { map (λ v. v.items) result.now ≡ self.now.portions }
     {
         self.portions.as_slice()
+    }
+
+    /// Returns the bytes that it took.
+    pub fn joined(&self) -> Result<Vec<u8>, AllocError>
+        ensures { IfOk result (λ bytes. bytes.items ≡ concat self.now.portions) }
+    {
+        let portions = self.portions();
+        let mut joined = Vec::new(*self.portions.allocator());
+        for portion in portions {
+            joined.extend_from_slice(portion.as_slice())?;
+        }
+        Ok(joined)
     }
 
     /// Returns how often it failed.

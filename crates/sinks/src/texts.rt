@@ -20,7 +20,7 @@ impl Pen {
         if n >= 10 {
             self.number(sink, n / 10);
         }
-        self.add(sink, &[b'0' + (n % 10) as u8]);
+        self.push(sink, b'0' + (n % 10) as u8);
     }
 
     /// Adds a number in decimal, and spaces before it up to the width.
@@ -35,7 +35,7 @@ impl Pen {
         } else {
             self.spaces(sink, width.saturating_sub(1));
         }
-        self.add(sink, &[b'0' + (n % 10) as u8]);
+        self.push(sink, b'0' + (n % 10) as u8);
     }
 
     /// Adds so many spaces.
@@ -46,7 +46,7 @@ impl Pen {
             (S.failures sink.new) self.new (replicate count 32) }
     {
         for _ in 0..count {
-            self.add(sink, b" ");
+            self.push(sink, b' ');
         }
     }
 }

@@ -1,11 +1,11 @@
 //! A source with what the compiler makes of it: its program, and its trees.
 
-use code::{Profile, Program};
+use code::Profile;
 use grammar::{Diagnostic, ParseFault, Pools};
 use parser::parse;
 use std::alloc::{AllocError, Global};
 use tokens::{DeviceFault, Pieces, WINDOW};
-use tools::compile;
+use tools::{Compiled, compile};
 use trees::TreeMaker;
 
 /// Why nothing is made of a source.
@@ -29,9 +29,9 @@ impl From<AllocError> for CompileFault {
 }
 
 /// Compiles a source by a profile. A source in memory never fails to be read.
-pub fn compiled(source: &[u8], profile: Profile) -> Result<Program, CompileFault> {
+pub fn compiled(source: &[u8], profile: Profile) -> Result<Compiled, CompileFault> {
     match compile(profile, &mut Pieces::new(source, WINDOW)) {
-        Ok(Ok(program)) => Ok(program),
+        Ok(Ok(made)) => Ok(made),
         Ok(Err(diagnostic)) => Err(CompileFault::Source(diagnostic)),
         Err(DeviceFault) => Err(CompileFault::Memory),
     }

@@ -2,9 +2,11 @@
 
 ghost use Rattle.code.specs.Standing.{FitsProgram};
 
-use crate::spelling::{instruction_line, line_text, name_at};
+use crate::spelling::{instruction_at, name_at};
+use crate::texts::ascii;
 use code::{Cause, Frame, Intrinsic, Machine, Program, Want};
 use std::alloc::{AllocError, Global};
+use tools::Compiled;
 
 /// The first line.
 const HEAD: &str = " cycle    at instruction       stack, each frame in brackets\n";
@@ -13,17 +15,17 @@ const HEAD: &str = " cycle    at instruction       stack, each frame in brackets
 /// functions reply what is listed, in order, and then 0.
 pub fn execution(
     alloc: Global,
-    program: &Program,
+    made: &Compiled,
     cycles: u32,
     replies: &[i32],
 ) -> Result<String, AllocError> {
     let mut text = String::from_str(alloc, HEAD)?;
-    let mut machine = Machine::new(program);
+    let mut machine = Machine::new(&made.program);
     let mut asked = 0usize;
     for cycle in 0..cycles {
         let number = cycle.saturating_add(1);
         let reply = replies.get(asked).copied().unwrap_or(0);
-        if add_cycle(&mut text, &mut machine, program, number, reply)? {
+        if add_cycle(&mut text, &mut machine, made, number, reply)? {
             asked = asked.saturating_add(1);
         }
     }
@@ -34,20 +36,20 @@ pub fn execution(
 fn add_cycle(
     text: &mut String,
     machine: &mut Machine,
-    program: &Program,
+    made: &Compiled,
     number: u32,
     reply: i32,
 ) -> Result<bool, AllocError>
-    requires { FitsProgram machine.old program.now }
-    ensures { FitsProgram machine.new program.now }
+    requires { FitsProgram machine.old made.now.program }
+    ensures { FitsProgram machine.new made.now.program }
 {
-    let address = machine.address();
+    let (program, address) = (&made.program, machine.address());
     add_instruction(text, program, number, address)?;
     match machine.next(program) {
         Want::Quiet => {
             machine.advance(program, 0);
             add_stack(text, machine)?;
-            add_name(text, program, address)?;
+            add_name(text, made, address)?;
             Ok(false)
         }
         Want::Restart => {
@@ -74,13 +76,9 @@ fn add_instruction(
     number: u32,
     address: usize,
 ) -> Result<(), AllocError> {
-    match instruction_line(program, address) {
-        Some(line) => {
-            let line = line_text(&line);
-            write!(text, "{number:>6} {line:<23}")
-        }
-        None => write!(text, "{number:>6} {address:>5}                  "),
-    }
+    let found = instruction_at(*text.allocator(), program, address)?;
+    let instruction = found.as_ref().map_or("", |bytes| ascii(bytes.as_slice()));
+    write!(text, "{number:>6} {address:>5} {instruction:<17}")
 }
 
 /// Adds the stack, bottom first: the words of each frame in brackets.
@@ -112,8 +110,8 @@ fn words_of<'a>(words: &'a [i32], frames: &[Frame], number: usize) -> &'a [i32] 
 }
 
 /// Adds the name that an instruction speaks of, if it speaks of one.
-fn add_name(text: &mut String, program: &Program, address: usize) -> Result<(), AllocError> {
-    match name_at(program, address) {
+fn add_name(text: &mut String, made: &Compiled, address: usize) -> Result<(), AllocError> {
+    match name_at(made, address) {
         Some(name) => write!(text, "  ; {name}\n"),
         None => text.push('\n'),
     }

@@ -1,8 +1,7 @@
 //! What the nodes of a tree are called: names stand beside their numbers.
 
 use crate::texts::text_of;
-use code::{operator_punctuator, store_punctuator};
-use grammar::{Callee, Function, Name, Pools, StoreOp, Var};
+use grammar::{Callee, Function, Name, Pools, StoreOp, Var, operator_punctuator, store_punctuator};
 use std::alloc::{AllocError, Global};
 use trees::{Expr, Statement};
 

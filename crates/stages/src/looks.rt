@@ -23,7 +23,7 @@ main { display: grid; grid-template-columns: minmax(0, 3fr) minmax(0, 2fr); gap:
 section { border: 1px solid var(--edge); border-radius: .4rem; overflow: auto; max-height: calc(100vh - 7rem); }
 h2 { position: sticky; top: 0; margin: 0; padding: .3rem .6rem; font-size: .9rem; background: var(--ground); border-bottom: 1px solid var(--edge); }
 .rows { width: max-content; min-width: 100%; font: .85rem/1.5 ui-monospace, monospace; tab-size: 8; }
-.rows > div { white-space: pre; min-height: 1.5em; padding-right: .6rem; border-left: .3rem solid transparent; }
+.rows > div { white-space: pre; min-height: 1.5em; scroll-margin-top: 2.2rem; padding-right: .6rem; border-left: .3rem solid transparent; }
 .rows > .k { background: hsl(var(--h) 60% var(--light)); border-left-color: hsl(var(--h) 60% 55%); }
 .rows > :target { outline: 2px solid var(--ink); outline-offset: -2px; }
 .rows > .f { padding: .3rem 0 0 .8rem; font-weight: bold; }
@@ -35,7 +35,7 @@ b { min-width: 9.5rem; }
 @media (max-width: 45rem) {
   body { padding: .5rem; }
   main { grid-template-columns: minmax(0, 1fr); gap: .5rem; }
-  section { max-height: 42vh; }
+  section { max-height: 40vh; }
 }
 ";
 

@@ -2,12 +2,12 @@
 //! and the cycles of its machine.
 #![tactic(auto)]
 
+mod code_rows;
 mod compiled;
 mod drawings;
 mod execution;
 mod forms;
 mod labels;
-mod listings;
 mod looks;
 mod nodes;
 mod origins;
@@ -18,16 +18,15 @@ mod tests;
 mod texts;
 mod token_rows;
 
+use crate::code_rows::listing;
 use crate::compiled::{CompileFault, compiled, grown};
 use crate::drawings::{graph, indented};
 use crate::execution::execution;
 use crate::forms::{Form, OPTIONS, Request};
-use crate::listings::listing;
 use crate::nodes::Nodes;
 use crate::origins::Origins;
 use crate::pages::page;
 use crate::token_rows::token_rows;
-use code::Program;
 use std::alloc::Global;
 use std::io::Write;
 use std::process::ExitCode;
@@ -65,17 +64,17 @@ fn run(rt: &HostRuntime) -> Result<(), Fault> {
 
 /// Returns the text of a source that is asked for. A source with a fault has none.
 fn shown(alloc: Global, request: &Request<'_>, source: &[u8]) -> Result<String, CompileFault> {
-    let program = compiled(source, request.profile)?;
+    let made = compiled(source, request.profile)?;
     let text = match request.form {
         Form::Tokens => token_rows(alloc, source)?,
         Form::Tree => indented(alloc, &tree(alloc, request, source)?)?,
         Form::Dot => graph(alloc, &tree(alloc, request, source)?)?,
-        Form::Code => listing(alloc, source, &program, &found(alloc, request, source)?)?,
+        Form::Code => listing(alloc, source, &made, &found(alloc, request, source)?)?,
         Form::Html => {
             let origins = found(alloc, request, source)?;
-            page(alloc, name_of(request.file), source, &program, &origins)?
+            page(alloc, name_of(request.file), source, &made, &origins)?
         }
-        Form::Run(cycles) => execution(alloc, &program, cycles, request.replies.as_slice())?,
+        Form::Run(cycles) => execution(alloc, &made, cycles, request.replies.as_slice())?,
     };
     Ok(text)
 }

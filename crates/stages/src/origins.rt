@@ -1,6 +1,6 @@
 //! The line of a source that each instruction of its program comes from.
 
-use derivations::{Place, PlacesFault, lines};
+use derivations::{Place, lines};
 use grammar::Profile;
 use std::alloc::{AllocError, Global};
 
@@ -20,10 +20,8 @@ impl Origins {
             by_line: Vec::new(alloc),
             distinct: Vec::new(alloc),
         };
-        match lines(alloc, source, profile) {
-            Ok(places) => origins.add(places.places())?,
-            Err(PlacesFault::Misfit) => {}
-            Err(PlacesFault::Memory) => return Err(AllocError),
+        if let Some(places) = lines(source, profile) {
+            origins.add(places.places())?;
         }
         Ok(origins)
     }

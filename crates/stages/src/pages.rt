@@ -4,10 +4,10 @@ ghost use Rattle.std.specs.Prelude.{◌<◌};
 
 use crate::looks::{BEFORE_CODE, BEFORE_NAME, BEFORE_SOURCE, BEFORE_TITLE, LOOK, TAIL};
 use crate::origins::Origins;
-use crate::spelling::{begun_at, instruction_line, instruction_text, name_at};
-use crate::texts::{lines_of, shown, text_of};
-use code::Program;
+use crate::spelling::{begun_at, instruction_at, name_at};
+use crate::texts::{ascii, lines_of, shown, text_of};
 use std::alloc::{AllocError, Global};
+use tools::Compiled;
 
 /// How many colours there are.
 const COLOURS: usize = 12;
@@ -17,7 +17,7 @@ pub fn page(
     alloc: Global,
     name: &str,
     source: &[u8],
-    program: &Program,
+    made: &Compiled,
     origins: &Origins,
 ) -> Result<String, AllocError> {
     let name = shown(alloc, name.as_bytes())?;
@@ -30,9 +30,9 @@ pub fn page(
     text.push_str(BEFORE_SOURCE)?;
     add_source(&mut text, alloc, source, origins)?;
     text.push_str(BEFORE_CODE)?;
-    for address in 0..program.instructions().len() {
-        add_begin(&mut text, program, address)?;
-        add_instruction(&mut text, program, origins, address)?;
+    for address in 0..made.program.instructions().len() {
+        add_begin(&mut text, made, address)?;
+        add_instruction(&mut text, made, origins, address)?;
     }
     text.push_str(TAIL)?;
     Ok(text)
@@ -88,11 +88,11 @@ fn add_number(text: &mut String, origins: &Origins, number: u32) -> Result<(), A
 }
 
 /// Adds the name of the function that begins at an address, if one does.
-fn add_begin(text: &mut String, program: &Program, address: usize) -> Result<(), AllocError> {
-    let Some(number) = begun_at(program.addresses(), address) else {
+fn add_begin(text: &mut String, made: &Compiled, address: usize) -> Result<(), AllocError> {
+    let Some(number) = begun_at(made.program.addresses(), address) else {
         return Ok(());
     };
-    let Some(function) = program.names().functions().get(number) else {
+    let Some(function) = made.names.functions().get(number) else {
         return Ok(());
     };
     write!(
@@ -105,11 +105,11 @@ fn add_begin(text: &mut String, program: &Program, address: usize) -> Result<(),
 /// Adds the row of an instruction: the line that it comes from, its address, itself, and the name that it speaks of.
 fn add_instruction(
     text: &mut String,
-    program: &Program,
+    made: &Compiled,
     origins: &Origins,
     address: usize,
 ) -> Result<(), AllocError> {
-    let Some(listed) = instruction_line(program, address) else {
+    let Some(bytes) = instruction_at(*text.allocator(), &made.program, address)? else {
         return Ok(());
     };
     let number = origins.line(address).unwrap_or(0);
@@ -118,8 +118,8 @@ fn add_instruction(
         text,
         "<div class=\"k k{colour} l{number}\" id=\"c{address}\"><a href=\"#s{number}\">{number}</a><i class=\"n\">{address}</i><b>"
     )?;
-    add_escaped(text, instruction_text(&listed))?;
-    let name = name_at(program, address).unwrap_or("");
+    add_escaped(text, ascii(bytes.as_slice()))?;
+    let name = name_at(made, address).unwrap_or("");
     write!(text, "</b><i>{name}</i></div>\n")
 }
 

@@ -1,53 +1,42 @@
 //! How the instructions of a program are spelled, with the names that they speak of.
 
-ghost use Rattle.std.specs.Prelude.{◌≡◌, ◌<◌, ℕ, IfSome, IsSome, None, Some, get_or, length, slice_get};
+ghost use Rattle.std.specs.Prelude.{◌≡◌, ◌<◌, ℕ, IfOk, IfSome, IsSome, None, Some, get_or, length, slice_get};
 ghost use Rattle.code.specs.declared.instr.Instr.{Instr};
-ghost use Rattle.code.specs.Listing.{instr_line};
+ghost use Rattle.listings.specs.Spelling.{instr_text};
 ghost use Rattle.stages.specs.Owners.{Owns};
 
 use crate::texts::text_of;
-use code::{Instr, Line, Program};
+use code::{Instr, Program};
 use grammar::{Callee, Var};
-use std::str;
+use listings::instruction_text;
+use std::alloc::{AllocError, Global};
+use tools::Compiled;
 
-/// How many bytes of an instruction's line are before its word: its address and a blank.
-const ADDRESS_BYTES: usize = 6;
-
-/// Returns the listing's line of the instruction of an address, if there is one.
-#[tactic(auto, using(crate::proofs::Listed::count_within, crate::proofs::Listed::line_is))]
-pub fn instruction_line(program: &Program, address: usize) -> Option<Line>
-    ensures some { address < length program.now.instructions → IsSome result }
-    ensures value { IfSome result (λ line. (instr : Instr) → slice_get program.now.instructions address ≡ Some instr
-        → line.items ≡ instr_line address instr) }
+/// Returns the instruction of an address as a listing has it, if there is one.
+pub fn instruction_at(
+    alloc: Global,
+    program: &Program,
+    address: usize,
+) -> Result<Option<Vec<u8>>, AllocError>
+    ensures some { address < length program.now.instructions → IfOk result (λ found. IsSome found) }
+    ensures value { IfOk result (λ found. IfSome found (λ text. (instr : Instr)
+        → slice_get program.now.instructions address ≡ Some instr → text.items ≡ instr_text instr)) }
 {
-    let count = program.instructions().len();
-    if address >= count {
-        return None;
+    match program.instructions().get(address) {
+        Some(coded) => Ok(Some(instruction_text(alloc, coded.instr())?)),
+        None => Ok(None),
     }
-    let mut line = Line::new();
-    program.listing_line(program.lines() - count + address, &mut line);
-    Some(line)
-}
-
-/// Returns a line of a listing as text. It is ASCII.
-pub fn line_text(line: &Line) -> &str {
-    str::from_utf8(line.as_slice()).unwrap_or("?")
-}
-
-/// Returns the instruction of a listing's line, without its address.
-pub fn instruction_text(line: &Line) -> &str {
-    line_text(line).get(ADDRESS_BYTES..).unwrap_or("?")
 }
 
 /// Returns the name that the instruction of an address speaks of by number: its variable, or the file's function that it
 /// calls.
-pub fn name_at(program: &Program, address: usize) -> Option<&str> {
-    match program.instructions().get(address)?.instr() {
+pub fn name_at(made: &Compiled, address: usize) -> Option<&str> {
+    match made.program.instructions().get(address)?.instr() {
         Instr::Fetch(variable) | Instr::Store(variable, _) => {
-            variable_at(program, address, variable)
+            variable_at(made, address, variable)
         }
         Instr::Fcall(Callee::Function(number)) => {
-            let function = program.names().functions().get(usize::from(number))?;
+            let function = made.names.functions().get(usize::from(number))?;
             Some(text_of(function.name()))
         }
         _ => None,
@@ -55,12 +44,12 @@ pub fn name_at(program: &Program, address: usize) -> Option<&str> {
 }
 
 /// Returns the name of a variable of the function to which an address belongs.
-fn variable_at(program: &Program, address: usize, variable: Var) -> Option<&str> {
+fn variable_at(made: &Compiled, address: usize, variable: Var) -> Option<&str> {
     let name = match variable {
-        Var::External(number) => program.names().externals().get(usize::from(number))?,
+        Var::External(number) => made.names.externals().get(usize::from(number))?,
         Var::Local(number) => {
-            let function = owner(program.addresses(), address)?;
-            let function = program.names().functions().get(function)?;
+            let function = owner(made.program.addresses(), address)?;
+            let function = made.names.functions().get(function)?;
             function.variables().get(usize::from(number))?
         }
     };

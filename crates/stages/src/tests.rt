@@ -1,18 +1,18 @@
 //! The stages of small robots, worked out by hand.
 
+use crate::code_rows::listing;
 use crate::compiled::{CompileFault, compiled, grown};
 use crate::drawings::{graph, indented};
 use crate::execution::execution;
-use crate::listings::listing;
 use crate::nodes::Nodes;
 use crate::origins::Origins;
 use crate::pages::page;
 use crate::token_rows::token_rows;
-use code::Program;
 use grammar::Profile;
 use std::alloc::Global;
 use std::process::Abort;
 use std::test::Fail;
+use tools::Compiled;
 
 /// A robot that looks and shoots into one direction.
 const LOOKOUT: &[u8] = b"int hits;
@@ -30,8 +30,8 @@ main()
 const TURNER: &[u8] = b"turned(by) { return by * 2; }
 main() { int n; if (!n++) turned(-n); else { --n; return; } }";
 
-/// Returns a source's program.
-fn program(source: &[u8], profile: Profile) -> Result<Program, Fail> {
+/// Returns a source's program, with its names.
+fn program(source: &[u8], profile: Profile) -> Result<Compiled, Fail> {
     compiled(source, profile).map_err(|_| Fail::from("it doesn't compile"))
 }
 

@@ -57,7 +57,12 @@ fn printed(character: char) -> char
     }
 }
 
-/// Returns a name as text. Names are ASCII.
+/// Returns a name as text.
 pub fn text_of(name: &Name) -> &str {
-    str::from_utf8(name.as_bytes()).unwrap_or("?")
+    ascii(name.as_bytes())
+}
+
+/// Returns bytes of ASCII as text.
+pub fn ascii(bytes: &[u8]) -> &str {
+    str::from_utf8(bytes).unwrap_or("?")
 }

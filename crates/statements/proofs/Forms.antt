@@ -31,7 +31,8 @@ evaluates (token.Fault lexical_error) plain = record { chosen = λ after. refl; 
 
 -- Statements, up to the closing brace.
 
-pub more_chosen : (t : Token) → is_punctuator punctuator.CloseCurly t ≡ false → Chooses Statements t (Part Statement ∷ Part Statements ∷ [])
+pub more_chosen : (t : Token) → is_punctuator punctuator.CloseCurly t ≡ false →
+    Chooses Statements t (Part Statement ∷ Part Statements ∷ [])
 more_chosen (token.Punctuator punctuator.CloseCurly) other = absurd (cc)
 more_chosen (token.Punctuator m) other = λ after. refl
 more_chosen (token.Name name) other = λ after. refl
@@ -41,11 +42,13 @@ more_chosen token.End other = λ after. refl
 more_chosen (token.Fault lexical_error) other = λ after. refl
 
 pub end_chosen : (t : Token) → is_punctuator punctuator.CloseCurly t ≡ true → Chooses Statements t []
-end_chosen t is after = let at : t ≡ token.Punctuator punctuator.CloseCurly = punctuator_is punctuator.CloseCurly t is in rw at refl
+end_chosen t is after =
+    let at : t ≡ token.Punctuator punctuator.CloseCurly = punctuator_is punctuator.CloseCurly t is in rw at refl
 
 -- Second branches.
 
-pub else_chosen : (t : Token) → is_word word.Else t ≡ true → Chooses ElsePart t (AWord word.Else ∷ Make Empty ∷ Part Statement ∷ Make DecideElse ∷ [])
+pub else_chosen : (t : Token) → is_word word.Else t ≡ true →
+    Chooses ElsePart t (AWord word.Else ∷ Make Empty ∷ Part Statement ∷ Make DecideElse ∷ [])
 else_chosen t is after = let at : t ≡ token.Word word.Else = word_is word.Else t is in rw at refl
 
 pub no_else_chosen : (t : Token) → is_word word.Else t ≡ false → Chooses ElsePart t (Make Decide ∷ [])
@@ -60,7 +63,8 @@ no_else_chosen (token.Fault lexical_error) other = λ after. refl
 -- What a return gives back.
 
 pub zero_chosen : (t : Token) → is_punctuator punctuator.Semicolon t ≡ true → Chooses Back t (Make Zero ∷ [])
-zero_chosen t is after = let at : t ≡ token.Punctuator punctuator.Semicolon = punctuator_is punctuator.Semicolon t is in rw at refl
+zero_chosen t is after =
+    let at : t ≡ token.Punctuator punctuator.Semicolon = punctuator_is punctuator.Semicolon t is in rw at refl
 
 pub value_chosen : (t : Token) → is_punctuator punctuator.Semicolon t ≡ false → Chooses Back t (Part Expression ∷ [])
 value_chosen (token.Punctuator punctuator.Semicolon) other = absurd (cc)
@@ -73,11 +77,15 @@ value_chosen (token.Fault lexical_error) other = λ after. refl
 
 -- The forms that a punctuator or a word begins.
 
-pub empty_chosen : (t : Token) → is_punctuator punctuator.Semicolon t ≡ true → Chooses Statement t (Exactly punctuator.Semicolon ∷ [])
-empty_chosen t is after = let at : t ≡ token.Punctuator punctuator.Semicolon = punctuator_is punctuator.Semicolon t is in rw at refl
+pub empty_chosen : (t : Token) → is_punctuator punctuator.Semicolon t ≡ true →
+    Chooses Statement t (Exactly punctuator.Semicolon ∷ [])
+empty_chosen t is after =
+    let at : t ≡ token.Punctuator punctuator.Semicolon = punctuator_is punctuator.Semicolon t is in rw at refl
 
-pub empty_shallow : (t : Token) → is_punctuator punctuator.Semicolon t ≡ true → (after : Token) → enters Statement t after ≡ false
-empty_shallow t is after = let at : t ≡ token.Punctuator punctuator.Semicolon = punctuator_is punctuator.Semicolon t is in rw at refl
+pub empty_shallow : (t : Token) → is_punctuator punctuator.Semicolon t ≡ true → (after : Token) →
+    enters Statement t after ≡ false
+empty_shallow t is after =
+    let at : t ≡ token.Punctuator punctuator.Semicolon = punctuator_is punctuator.Semicolon t is in rw at refl
 
 -- what stands behind the opening brace of a block
 abbrev pub in_braces : List Item
@@ -92,7 +100,12 @@ pub record BeginsBlock (t : Token) : Type 0 where
 pub begins_block : (t : Token) → is_punctuator punctuator.OpenCurly t ≡ true → BeginsBlock t
 begins_block t is =
     let at : t ≡ token.Punctuator punctuator.OpenCurly = punctuator_is punctuator.OpenCurly t is in
-    record { statement = λ after. rw at refl; shallow = λ after. rw at refl; chosen = λ after. rw at refl; opened = λ after. rw at refl }
+    record {
+      statement = λ after. rw at refl;
+      shallow = λ after. rw at refl;
+      chosen = λ after. rw at refl;
+      opened = λ after. rw at refl;
+    }
 
 -- what stands behind the condition of an `if`
 abbrev pub behind_if : List Item
@@ -111,13 +124,15 @@ if_chosen t is after = let at : t ≡ token.Word word.If = word_is word.If t is 
 pub if_enters : (t : Token) → is_word word.If t ≡ true → (after : Token) → enters Statement t after ≡ true
 if_enters t is after = let at : t ≡ token.Word word.If = word_is word.If t is in rw at refl
 
-pub while_chosen : (t : Token) → is_word word.While t ≡ true → Chooses Statement t (AWord word.While ∷ conditioned behind_while)
+pub while_chosen : (t : Token) → is_word word.While t ≡ true →
+    Chooses Statement t (AWord word.While ∷ conditioned behind_while)
 while_chosen t is after = let at : t ≡ token.Word word.While = word_is word.While t is in rw at refl
 
 pub while_enters : (t : Token) → is_word word.While t ≡ true → (after : Token) → enters Statement t after ≡ true
 while_enters t is after = let at : t ≡ token.Word word.While = word_is word.While t is in rw at refl
 
-pub return_chosen : (t : Token) → is_word word.Return t ≡ true → Chooses Statement t (AWord word.Return ∷ Part Back ∷ Exactly punctuator.Semicolon ∷ Make GiveBack ∷ [])
+pub return_chosen : (t : Token) → is_word word.Return t ≡ true →
+    Chooses Statement t (AWord word.Return ∷ Part Back ∷ Exactly punctuator.Semicolon ∷ Make GiveBack ∷ [])
 return_chosen t is after = let at : t ≡ token.Word word.Return = word_is word.Return t is in rw at refl
 
 pub return_shallow : (t : Token) → is_word word.Return t ≡ true → (after : Token) → enters Statement t after ≡ false

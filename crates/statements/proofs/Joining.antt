@@ -5,7 +5,8 @@ use Rattle.grammar.specs.Nesting.{body_nesting}
 use Rattle.grammar.specs.Resolved.{InBody}
 use Rattle.grammar.specs.Tree.{ExpressionStatement, Body, IfElseStatement, Done, Return, IfStatement, While, join}
 
-deeper : (xs : List Action) (a : Action) (ys zs tail : List Action) → ys ++ zs ≡ tail → (xs ++ a ∷ ys) ++ zs ≡ xs ++ a ∷ tail
+deeper : (xs : List Action) (a : Action) (ys zs tail : List Action) → ys ++ zs ≡ tail →
+    (xs ++ a ∷ ys) ++ zs ≡ xs ++ a ∷ tail
 deeper xs a ys zs tail e = append_assoc xs (a ∷ ys) zs ∙ ap (λ (ts : List Action). xs ++ a ∷ ts) e
 
 pub actions_join : (a b : Body) → body_actions a ++ body_actions b ≡ body_actions (join a b)
@@ -14,9 +15,11 @@ actions_join (ExpressionStatement e rest) b = deeper (expr_actions e) Chop _ _ _
 actions_join (IfStatement c s rest) b =
     deeper (expr_actions c) IfTest _ _ _ (deeper (body_actions s) EndIf _ _ _ (actions_join rest b))
 actions_join (IfElseStatement c s t rest) b =
-    deeper (expr_actions c) IfTest _ _ _ (deeper (body_actions s) ElsePart _ _ _ (deeper (body_actions t) EndIf _ _ _ (actions_join rest b)))
+    deeper (expr_actions c) IfTest _ _ _
+    (deeper (body_actions s) ElsePart _ _ _ (deeper (body_actions t) EndIf _ _ _ (actions_join rest b)))
 actions_join (While c s rest) b =
-    ap (λ (ts : List Action). BeginWhile ∷ ts) (deeper (expr_actions c) WhileTest _ _ _ (deeper (body_actions s) EndWhile _ _ _ (actions_join rest b)))
+    ap (λ (ts : List Action). BeginWhile ∷ ts)
+    (deeper (expr_actions c) WhileTest _ _ _ (deeper (body_actions s) EndWhile _ _ _ (actions_join rest b)))
 actions_join (Return e rest) b = deeper (expr_actions e) GiveBack _ _ _ (actions_join rest b)
 
 pub join_numbered : (a b : Body) → InBody 64 64 64 a → InBody 64 64 64 b → InBody 64 64 64 (join a b)

@@ -1,5 +1,5 @@
 -- What may stand behind the first branch of an `if`: nothing, or an `else` with a second branch.
-use Rattle.std.specs.Prelude.{ℕ, ◌+◌, ◌≡◌, ◌≤◌, true, List, [], ◌∷◌, Bool, Option, Some, None, Result, Ok, Err}
+use Rattle.std.specs.Prelude.{ℕ, ◌+◌, ◌≡◌, ◌≤◌, true, List, [], ◌∷◌, Option, Some, None, Result, Ok, Err}
 use Rattle.parsing.specs.Stopping.{Stop}
 use Rattle.grammar.specs.declared.diagnostics.ParseFault.{ParseFault}
 use Rattle.grammar.specs.declared.pools.TheConstants.{MOST_NAMES}
@@ -13,7 +13,8 @@ use Rattle.grammar.specs.Resolved.{InBody}
 use Rattle.grammar.specs.Tree.{Body, IfElseStatement, Done, Expr, IfStatement, join}
 use Rattle.parsing.specs.Position.{Place, Standing, taken_at}
 use Rattle.parsing.specs.Room.{room}
-use Rattle.parsing.specs.Segment.{Derives, FailsAt, Refused}
+use Rattle.parsing.specs.Growing.{BreaksOff}
+use Rattle.parsing.specs.Segment.{Derives, FailsAt}
 
 -- the actions of a second branch, where there is one
 abbrev pub else_actions : Option Body → List Action
@@ -57,7 +58,7 @@ abbrev pub ParsesElse : {A : Type 0} → Result A ParseFault → Type 0 → (bef
     (old new : Standing) → Type 0
 ParsesElse (Ok x) denied before after depth old new = AddsElse before after depth old.place new.place
 ParsesElse (Err fault) denied before after depth old new =
-    Refused (FailsElse depth old.place) denied (taken_at new.place) fault
+    BreaksOff (FailsElse depth old.place) denied before after (taken_at new.place) fault
 
 -- A list is stood for that leaves this open, where a statement stands, and room for so many more.
 pub record HasInside (inner : Open) (before : Meaning) (count : ℕ) : Type 0 where

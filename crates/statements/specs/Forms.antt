@@ -1,5 +1,5 @@
 -- Which tokens begin a statement of a form of its own, and what stands behind `if` and `while`.
-use Rattle.std.specs.Prelude.{ℕ, List, [], ◌∷◌, Bool, true, false, Result, Ok, Err}
+use Rattle.std.specs.Prelude.{ℕ, ◌≡◌, List, [], ◌∷◌, Bool, true, false, Result, Ok, Err}
 use Rattle.tokens.specs.declared.located_tokens.Punctuator.TheVariants as punctuator
 use Rattle.tokens.specs.declared.located_tokens.Token.{Token}
 use Rattle.tokens.specs.declared.located_tokens.Token.TheVariants as token
@@ -7,8 +7,9 @@ use Rattle.tokens.specs.declared.located_tokens.Word.TheVariants as word
 use Rattle.grammar.specs.declared.diagnostics.ParseFault.{ParseFault}
 use Rattle.grammar.specs.Building.{Meaning}
 use Rattle.grammar.specs.Grammar.{Item, Exactly, Expression, Part}
-use Rattle.parsing.specs.Position.{Standing, taken_at}
-use Rattle.parsing.specs.Segment.{FailsAt, Refused}
+use Rattle.parsing.specs.Position.{Standing, taken_at, token_of}
+use Rattle.parsing.specs.Growing.{BreaksOff}
+use Rattle.parsing.specs.Segment.{FailsAt}
 use Rattle.expressions.specs.Expressions.{AddsExpr}
 
 -- ; { if while return: any other token begins an expression, for its effect
@@ -20,6 +21,10 @@ begins_statement (token.Word word.While) = true
 begins_statement (token.Word word.Return) = true
 begins_statement next = false
 
+-- an expression for its effect
+abbrev pub StartsEvaluation : Standing → Type 0
+StartsEvaluation at = begins_statement (token_of at) ≡ false
+
 -- a condition
 abbrev pub in_brackets : List Item
 in_brackets = Exactly punctuator.OpenRound ∷ Part Expression ∷ Exactly punctuator.CloseRound ∷ []
@@ -30,4 +35,4 @@ abbrev pub ParsesCondition : {A : Type 0} → Result A ParseFault → Type 0 →
 ParsesCondition (Ok x) denied before after depth old new =
     AddsExpr before after depth 1 in_brackets [] old.place new.place
 ParsesCondition (Err fault) denied before after depth old new =
-    Refused (FailsAt depth in_brackets [] old.place) denied (taken_at new.place) fault
+    BreaksOff (FailsAt depth in_brackets [] old.place) denied before after (taken_at new.place) fault

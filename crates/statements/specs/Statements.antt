@@ -1,19 +1,22 @@
 -- What the parse of statements did: the builder was told their actions, and the derivation put them behind the body so
 -- far.
 use Rattle.std.specs.Prelude.{ℕ, ◌≤◌, List, [], ◌∷◌, Result, Ok, Err}
+use Rattle.tokens.specs.declared.located_tokens.Punctuator.TheVariants as punctuator
 use Rattle.parsing.specs.Stopping.{Stop}
 use Rattle.grammar.specs.Actions.{body_actions}
 use Rattle.grammar.specs.Building.{Meaning, AppendsAll}
 use Rattle.grammar.specs.Derivation.{ABody}
 use Rattle.grammar.specs.declared.pools.TheConstants.{MOST_NAMES}
 use Rattle.grammar.specs.declared.diagnostics.ParseFault.{ParseFault}
-use Rattle.grammar.specs.Grammar.{Item, Part, Symbol}
+use Rattle.grammar.specs.Grammar.{Item, Part, Statements, Symbol}
 use Rattle.grammar.specs.Nesting.{body_nesting}
 use Rattle.grammar.specs.Resolved.{InBody}
 use Rattle.grammar.specs.Tree.{Body, join}
+use Rattle.parsing.specs.Advancing.{IsNext}
 use Rattle.parsing.specs.Position.{Place, Standing, taken_at}
 use Rattle.parsing.specs.Room.{room}
-use Rattle.parsing.specs.Segment.{Derives, FailsAt, Refused}
+use Rattle.parsing.specs.Growing.{BreaksOff}
+use Rattle.parsing.specs.Segment.{Derives, FailsAt}
 
 -- Statements were read, by the items in front, with so many levels of nesting open, whatever the body is so far.
 pub record AddsBody (before after : Meaning) (depth : ℕ) (front pending : List Item) (here there : Place) : Type 0 where
@@ -34,4 +37,12 @@ abbrev pub ParsesBody : {A : Type 0} → Result A ParseFault → Type 0 → (bef
 ParsesBody (Ok x) denied before after depth symbol old new =
     AddsBody before after depth (Part symbol ∷ []) [] old.place new.place
 ParsesBody (Err fault) denied before after depth symbol old new =
-    Refused (FailsBody depth (Part symbol ∷ []) old.place) denied (taken_at new.place) fault
+    BreaksOff (FailsBody depth (Part symbol ∷ []) old.place) denied before after (taken_at new.place) fault
+
+-- the same of all statements up to a closing brace
+abbrev pub ParsesStatements : {A : Type 0} → Result A ParseFault → Type 0 → (before after : Meaning) → ℕ →
+    (old new : Standing) → Type 0
+ParsesStatements (Ok x) denied before after depth old new =
+    AddsBody before after depth (Part Statements ∷ []) [] old.place new.place × IsNext punctuator.CloseCurly new
+ParsesStatements (Err fault) denied before after depth old new =
+    BreaksOff (FailsBody depth (Part Statements ∷ []) old.place) denied before after (taken_at new.place) fault

@@ -1,18 +1,15 @@
 //! Blocks, branches, loops, returns and expressions for their effect.
 
-ghost use Rattle.std.specs.Prelude.{◌≡◌, OnOk, false, true};
 ghost use Rattle.tokens.specs.declared.located_tokens.Punctuator.TheVariants as punctuator;
 ghost use Rattle.tokens.specs.declared.located_tokens.Word.TheVariants as word;
 ghost use Rattle.grammar.specs.Following.{InBranch};
-ghost use Rattle.grammar.specs.Grammar.{Back, Statement, Statements, is_punctuator, is_word};
-ghost use Rattle.parsing.specs.Advancing.{Advances, IsReady, Keeps};
-ghost use Rattle.parsing.specs.Growing.{Grows};
-ghost use Rattle.parsing.specs.Position.{token_of};
+ghost use Rattle.grammar.specs.Grammar.{Back, Statement};
+ghost use Rattle.parsing.specs.Advancing.{Advances, Anywhere, IsAt, IsNext, IsNextWord, Keeps};
 ghost use Rattle.parsing.specs.Room.{HasPlace, HasRoom, room};
 ghost use Rattle.expressions.specs.Expressions.{Parses};
 ghost use Rattle.statements.specs.Branches.{HasInside, ParsesElse};
-ghost use Rattle.statements.specs.Forms.{ParsesCondition, begins_statement};
-ghost use Rattle.statements.specs.Statements.{ParsesBody};
+ghost use Rattle.statements.specs.Forms.{ParsesCondition, StartsEvaluation};
+ghost use Rattle.statements.specs.Statements.{ParsesBody, ParsesStatements};
 
 use expressions::expression;
 use grammar::{Build, Code, ParseFault};
@@ -26,12 +23,9 @@ pub fn statements<F: Feed, B: Build>(
     build: &mut B,
     depth: u8,
 ) -> Result<(), ParseFault>
-    requires open { HasPlace (B.stands build.old) (room depth 1) }
-    requires ready { IsReady parser.old }
-    ensures parses { ParsesBody result B.denied (B.stands build.old) (B.stands build.new) depth Statements
+    requires at { IsAt (HasPlace (B.stands build.old) (room depth 1)) Anywhere parser.old }
+    ensures parses { ParsesStatements result B.denied (B.stands build.old) (B.stands build.new) depth
         parser.old parser.new }
-    ensures grown { Grows result (B.stands build.old) (B.stands build.new) }
-    ensures closed { OnOk result (is_punctuator punctuator.CloseCurly (token_of parser.new) ≡ true) }
     ensures kept { Keeps result parser.old parser.new }
 {
     while !is_punctuator(&parser.peek().token, Punctuator::CloseCurly) {
@@ -47,11 +41,9 @@ fn statement<F: Feed, B: Build>(
     build: &mut B,
     depth: u8,
 ) -> Result<(), ParseFault>
-    requires open { HasPlace (B.stands build.old) (room depth 1) }
-    requires ready { IsReady parser.old }
+    requires at { IsAt (HasPlace (B.stands build.old) (room depth 1)) Anywhere parser.old }
     ensures parses { ParsesBody result B.denied (B.stands build.old) (B.stands build.new) depth Statement
         parser.old parser.new }
-    ensures grown { Grows result (B.stands build.old) (B.stands build.new) }
     ensures kept { Advances result parser.old parser.new }
 {
     match parser.peek().token {
@@ -72,12 +64,9 @@ fn block<F: Feed, B: Build>(
     build: &mut B,
     depth: u8,
 ) -> Result<(), ParseFault>
-    requires open { HasPlace (B.stands build.old) (room depth 1) }
-    requires is { is_punctuator punctuator.OpenCurly (token_of parser.old) ≡ true }
-    requires ready { IsReady parser.old }
+    requires at { IsAt (HasPlace (B.stands build.old) (room depth 1)) (IsNext punctuator.OpenCurly) parser.old }
     ensures parses { ParsesBody result B.denied (B.stands build.old) (B.stands build.new) depth Statement
         parser.old parser.new }
-    ensures grown { Grows result (B.stands build.old) (B.stands build.new) }
     ensures kept { Advances result parser.old parser.new }
 {
     if depth >= MOST_LEVELS {
@@ -97,12 +86,9 @@ fn branch<F: Feed, B: Build>(
     build: &mut B,
     depth: u8,
 ) -> Result<(), ParseFault>
-    requires open { HasPlace (B.stands build.old) (room depth 1) }
-    requires is { is_word word.If (token_of parser.old) ≡ true }
-    requires ready { IsReady parser.old }
+    requires at { IsAt (HasPlace (B.stands build.old) (room depth 1)) (IsNextWord word.If) parser.old }
     ensures parses { ParsesBody result B.denied (B.stands build.old) (B.stands build.new) depth Statement
         parser.old parser.new }
-    ensures grown { Grows result (B.stands build.old) (B.stands build.new) }
     ensures kept { Advances result parser.old parser.new }
 {
     if depth >= MOST_LEVELS {
@@ -125,11 +111,9 @@ fn else_part<F: Feed, B: Build>(
     build: &mut B,
     depth: u8,
 ) -> Result<(), ParseFault>
-    requires open { HasInside InBranch (B.stands build.old) (room depth 1) }
-    requires ready { IsReady parser.old }
+    requires at { IsAt (HasInside InBranch (B.stands build.old) (room depth 1)) Anywhere parser.old }
     ensures parses { ParsesElse result B.denied (B.stands build.old) (B.stands build.new) depth
         parser.old parser.new }
-    ensures grown { Grows result (B.stands build.old) (B.stands build.new) }
     ensures kept { Keeps result parser.old parser.new }
 {
     if is_word(&parser.peek().token, Word::Else) {
@@ -147,12 +131,9 @@ fn repetition<F: Feed, B: Build>(
     build: &mut B,
     depth: u8,
 ) -> Result<(), ParseFault>
-    requires open { HasPlace (B.stands build.old) (room depth 1) }
-    requires is { is_word word.While (token_of parser.old) ≡ true }
-    requires ready { IsReady parser.old }
+    requires at { IsAt (HasPlace (B.stands build.old) (room depth 1)) (IsNextWord word.While) parser.old }
     ensures parses { ParsesBody result B.denied (B.stands build.old) (B.stands build.new) depth Statement
         parser.old parser.new }
-    ensures grown { Grows result (B.stands build.old) (B.stands build.new) }
     ensures kept { Advances result parser.old parser.new }
 {
     if depth >= MOST_LEVELS {
@@ -174,11 +155,9 @@ fn condition<F: Feed, B: Build>(
     build: &mut B,
     depth: u8,
 ) -> Result<(), ParseFault>
-    requires open { HasRoom (B.stands build.old) (room depth 1) }
-    requires ready { IsReady parser.old }
+    requires at { IsAt (HasRoom (B.stands build.old) (room depth 1)) Anywhere parser.old }
     ensures parses { ParsesCondition result B.denied (B.stands build.old) (B.stands build.new) depth
         parser.old parser.new }
-    ensures grown { Grows result (B.stands build.old) (B.stands build.new) }
     ensures kept { Advances result parser.old parser.new }
 {
     parser.expect(Punctuator::OpenRound)?;
@@ -193,12 +172,9 @@ fn give_back<F: Feed, B: Build>(
     build: &mut B,
     depth: u8,
 ) -> Result<(), ParseFault>
-    requires open { HasPlace (B.stands build.old) (room depth 1) }
-    requires is { is_word word.Return (token_of parser.old) ≡ true }
-    requires ready { IsReady parser.old }
+    requires at { IsAt (HasPlace (B.stands build.old) (room depth 1)) (IsNextWord word.Return) parser.old }
     ensures parses { ParsesBody result B.denied (B.stands build.old) (B.stands build.new) depth Statement
         parser.old parser.new }
-    ensures grown { Grows result (B.stands build.old) (B.stands build.new) }
     ensures kept { Advances result parser.old parser.new }
 {
     parser.advance()?;
@@ -214,11 +190,9 @@ fn back<F: Feed, B: Build>(
     build: &mut B,
     depth: u8,
 ) -> Result<(), ParseFault>
-    requires open { HasRoom (B.stands build.old) (room depth 1) }
-    requires ready { IsReady parser.old }
+    requires at { IsAt (HasRoom (B.stands build.old) (room depth 1)) Anywhere parser.old }
     ensures parses { Parses result B.denied (B.stands build.old) (B.stands build.new) depth 1 Back
         parser.old parser.new }
-    ensures grown { Grows result (B.stands build.old) (B.stands build.new) }
     ensures kept { Keeps result parser.old parser.new }
 {
     if is_punctuator(&parser.peek().token, Punctuator::Semicolon) {
@@ -235,12 +209,9 @@ fn evaluation<F: Feed, B: Build>(
     build: &mut B,
     depth: u8,
 ) -> Result<(), ParseFault>
-    requires open { HasPlace (B.stands build.old) (room depth 1) }
-    requires plain { begins_statement (token_of parser.old) ≡ false }
-    requires ready { IsReady parser.old }
+    requires at { IsAt (HasPlace (B.stands build.old) (room depth 1)) StartsEvaluation parser.old }
     ensures parses { ParsesBody result B.denied (B.stands build.old) (B.stands build.new) depth Statement
         parser.old parser.new }
-    ensures grown { Grows result (B.stands build.old) (B.stands build.new) }
     ensures kept { Advances result parser.old parser.new }
 {
     expression(parser, build, depth)?;

@@ -26,7 +26,8 @@ IsInside bytes Unclosed = Unit {0}
 IsInside bytes (Space count) = Unit {0}
 IsInside bytes (Sign sign count) = count ≤ length bytes
 
-either-inside : (t : Bool) (bytes : List ℕ) (x y : Front) → IsInside bytes x → IsInside bytes y → IsInside bytes (cond t x y)
+either-inside : (t : Bool) (bytes : List ℕ) (x y : Front) → IsInside bytes x → IsInside bytes y →
+    IsInside bytes (cond t x y)
 either-inside true bytes x y f g = f
 either-inside false bytes x y f g = g
 
@@ -34,14 +35,19 @@ comment-inside : (bytes : List ℕ) (n : Option ℕ) → IsInside bytes (comment
 comment-inside bytes None = tt
 comment-inside bytes (Some n) = tt
 
-spelling-inside : (n : ℕ) (bytes : List ℕ) (m : Punctuator) → punctuator_of (take n bytes) ≡ Some m → length (spelling m) ≤ length bytes
+spelling-inside : (n : ℕ) (bytes : List ℕ) (m : Punctuator) → punctuator_of (take n bytes) ≡ Some m →
+    length (spelling m) ≤ length bytes
 spelling-inside n bytes m e = omega (arith, ap length (punctuator_of-spelled (take n bytes) m e), length-take n bytes)
 
-or-inside : (bytes : List ℕ) (x y : Option Punctuator) → ((m : Punctuator) → x ≡ Some m → length (spelling m) ≤ length bytes) → ((m : Punctuator) → y ≡ Some m → length (spelling m) ≤ length bytes) → (m : Punctuator) → option_or x y ≡ Some m → length (spelling m) ≤ length bytes
+or-inside : (bytes : List ℕ) (x y : Option Punctuator) →
+    ((m : Punctuator) → x ≡ Some m → length (spelling m) ≤ length bytes) →
+    ((m : Punctuator) → y ≡ Some m → length (spelling m) ≤ length bytes) → (m : Punctuator) → option_or x y ≡ Some m →
+    length (spelling m) ≤ length bytes
 or-inside bytes None y f g m e = g m e
 or-inside bytes (Some x) y f g m e = f m e
 
-punctuator-inside : (b : ℕ) (rest : List ℕ) (o : Option Punctuator) → ((m : Punctuator) → o ≡ Some m → length (spelling m) ≤ length (b ∷ rest)) → IsInside (b ∷ rest) (punctuator o)
+punctuator-inside : (b : ℕ) (rest : List ℕ) (o : Option Punctuator) →
+    ((m : Punctuator) → o ≡ Some m → length (spelling m) ≤ length (b ∷ rest)) → IsInside (b ∷ rest) (punctuator o)
 punctuator-inside b rest None f = omega arith
 punctuator-inside b rest (Some m) f = f m refl
 
@@ -53,12 +59,16 @@ front-inside (b ∷ rest) =
     either-inside (is_letter b) xs _ _ (prefix_len-le-length is_name_byte xs) (
     either-inside (is_digit b) xs _ _ (prefix_len-le-length is_digit xs) (
     either-inside (eqb b 47 && begins_with 42 rest) xs _ _ (comment-inside xs (up_to_close (drop 1 rest)))
-    (punctuator-inside b rest (longest_punctuator xs) (or-inside xs _ _ (spelling-inside 3 xs) (or-inside xs _ _ (spelling-inside 2 xs) (spelling-inside 1 xs)))))))
+    (punctuator-inside b rest (longest_punctuator xs)
+    (or-inside xs _ _ (spelling-inside 3 xs) (or-inside xs _ _ (spelling-inside 2 xs) (spelling-inside 1 xs)))))))
 
-place-here : (n line place : ℕ) (bytes : List ℕ) (too_long : Bool) → n ≤ length bytes → (passed n (here line place bytes too_long)).place ≡ place + n
+place-here : (n line place : ℕ) (bytes : List ℕ) (too_long : Bool) → n ≤ length bytes →
+    (passed n (here line place bytes too_long)).place ≡ place + n
 place-here zero line place xs t h = omega arith
 place-here (suc n) line place [] t h = absurd (omega (arith, h))
-place-here (suc n) line place (x ∷ xs) t h = let b = behind_byte (here line place (x ∷ xs) t) in omega (arith, place-here n b.line b.place b.bytes b.too_long (omega (arith, h)))
+place-here (suc n) line place (x ∷ xs) t h =
+    let b = behind_byte (here line place (x ∷ xs) t) in
+    omega (arith, place-here n b.line b.place b.bytes b.too_long (omega (arith, h)))
 
 pub place-inside : (n : ℕ) (a : Ahead) → n ≤ length a.bytes → (passed n a).place ≡ a.place + n
 place-inside n a h = place-here n a.line a.place a.bytes a.too_long h
@@ -77,7 +87,9 @@ long-passed (suc n) a = long-passed n (behind_byte a) ∙ long-behind_byte a
 sum-behind_byte : (a : Ahead) → (behind_byte a).place + length (behind_byte a).bytes ≡ a.place + length a.bytes
 sum-behind_byte a = by a.line a.place a.bytes a.too_long
   where
-    by : (line place : ℕ) (xs : List ℕ) (t : Bool) → (behind_byte (here line place xs t)).place + length (behind_byte (here line place xs t)).bytes ≡ place + length xs
+    by : (line place : ℕ) (xs : List ℕ) (t : Bool) →
+        (behind_byte (here line place xs t)).place + length (behind_byte (here line place xs t)).bytes ≡
+        place + length xs
     by line place [] t = refl
     by line place (x ∷ xs) t = omega arith
 
@@ -97,15 +109,25 @@ cut-rising (suc n) a = by (front a.bytes) (front-inside a.bytes) (λ count. cut-
     rest true p xs r = tt
     rest false p xs r = r
 
-    by : (f : Front) → IsInside a.bytes f → ((count : ℕ) → IsRising (passed count a).place (cut n (passed count a))) → IsRising a.place (cut_front f a (cut n))
+    by : (f : Front) → IsInside a.bytes f → ((count : ℕ) → IsRising (passed count a).place (cut n (passed count a))) →
+        IsRising a.place (cut_front f a (cut n))
     by Nothing i h = (omega (arith, last-behind variant.End a.line (at_end a), place-passed (length a.bytes) a), tt)
-    by Unclosed i h = (omega (arith, last-behind (variant.Fault CommentNotClosed) a.line (at_end a), place-passed (length a.bytes) a), tt)
+    by Unclosed i h = (
+      omega
+          (arith, last-behind (variant.Fault CommentNotClosed) a.line (at_end a), place-passed (length a.bytes) a),
+      tt,
+    )
     by (Space count) i h = rising-sooner _ _ _ (place-passed count a) (h count)
-    by (Sign sign count) i h = (omega arith, rest (is_last sign) (a.place + count) _ (subst (λ (p : ℕ). IsRising p (cut n (passed count a))) (place-inside count a i) (h count)))
+    by (Sign sign count) i h = (
+      omega arith,
+      rest (is_last sign) (a.place + count) _
+          (subst (λ (p : ℕ). IsRising p (cut n (passed count a))) (place-inside count a i) (h count)),
+    )
 
 cut-open : (n : ℕ) (a : Ahead) → StaysUndecided a.place (cut n a)
 cut-open zero a = tt
-cut-open (suc n) a = by (front a.bytes) (front-inside a.bytes) (front-is_piece a.bytes) (λ count. cut-open n (passed count a))
+cut-open (suc n) a =
+    by (front a.bytes) (front-inside a.bytes) (front-is_piece a.bytes) (λ count. cut-open n (passed count a))
   where
     sooner : (p q : ℕ) (xs : List LocatedToken) → q ≤ p → StaysUndecided p xs → StaysUndecided q xs
     sooner p q [] h r = tt
@@ -115,42 +137,61 @@ cut-open (suc n) a = by (front a.bytes) (front-inside a.bytes) (front-is_piece a
     rest true p xs r = tt
     rest false p xs r = r
 
-    by : (f : Front) → IsInside a.bytes f → IsPiece f → ((count : ℕ) → StaysUndecided (passed count a).place (cut n (passed count a))) → StaysUndecided a.place (cut_front f a (cut n))
-    by Nothing i p h = (omega (arith, last-open variant.End a.line (at_end a) refl, place-passed (length a.bytes) a), tt)
-    by Unclosed i p h = (omega (arith, last-open (variant.Fault CommentNotClosed) a.line (at_end a) refl, place-passed (length a.bytes) a), tt)
+    by : (f : Front) → IsInside a.bytes f → IsPiece f →
+        ((count : ℕ) → StaysUndecided (passed count a).place (cut n (passed count a))) →
+        StaysUndecided a.place (cut_front f a (cut n))
+    by Nothing i p h =
+        (omega (arith, last-open variant.End a.line (at_end a) refl, place-passed (length a.bytes) a), tt)
+    by Unclosed i p h = (
+      omega
+          (arith, last-open (variant.Fault CommentNotClosed) a.line (at_end a) refl, place-passed (length a.bytes) a),
+      tt,
+    )
     by (Space count) i p h = sooner _ _ _ (place-passed count a) (h count)
-    by (Sign sign count) i p h = (open-placed sign count a p, rest (is_last sign) (a.place + count) _ (subst (λ (p : ℕ). StaysUndecided p (cut n (passed count a))) (place-inside count a i) (h count)))
+    by (Sign sign count) i p h = (
+      open-placed sign count a p,
+      rest (is_last sign) (a.place + count) _
+          (subst (λ (p : ℕ). StaysUndecided p (cut n (passed count a))) (place-inside count a i) (h count)),
+    )
 
 abbrev pub over : Bool → ℕ
 over true = 1
 over false = 0
 
-last-by : (limit line : ℕ) (token : Token) (a : Ahead) → a.place + length a.bytes + over a.too_long ≤ limit → (last_located_token token line (at_end a)).end ≤ limit
+last-by : (limit line : ℕ) (token : Token) (a : Ahead) → a.place + length a.bytes + over a.too_long ≤ limit →
+    (last_located_token token line (at_end a)).end ≤ limit
 last-by limit line token a h = by (at_end a).too_long (long-passed (length a.bytes) a)
   where
-    by : (t : Bool) → t ≡ a.too_long → (last_located_token token line (here (at_end a).line (at_end a).place (at_end a).bytes t)).end ≤ limit
+    by : (t : Bool) → t ≡ a.too_long →
+        (last_located_token token line (here (at_end a).line (at_end a).place (at_end a).bytes t)).end ≤ limit
     by true e = omega (arith, place-inside (length a.bytes) a (omega arith), ap over e, h)
     by false e = omega (arith, place-inside (length a.bytes) a (omega arith), h)
 
 pub cut-by : (n limit : ℕ) (a : Ahead) → a.place + length a.bytes + over a.too_long ≤ limit → AllEndBy limit (cut n a)
 cut-by zero limit a h = tt
-cut-by (suc n) limit a h = by (front a.bytes) (front-inside a.bytes) (λ count further. cut-by n limit (passed count a) further)
+cut-by (suc n) limit a h =
+    by (front a.bytes) (front-inside a.bytes) (λ count further. cut-by n limit (passed count a) further)
   where
     rest : (t : Bool) (xs : List LocatedToken) → AllEndBy limit xs → AllEndBy limit (cond t [] xs)
     rest true xs r = tt
     rest false xs r = r
 
-    further : (count : ℕ) → (passed count a).place + length (passed count a).bytes + over (passed count a).too_long ≤ limit
+    further : (count : ℕ) →
+        (passed count a).place + length (passed count a).bytes + over (passed count a).too_long ≤ limit
     further count = omega (arith, h, sum-passed count a, ap over (long-passed count a))
 
-    by : (f : Front) → IsInside a.bytes f → ((count : ℕ) → (passed count a).place + length (passed count a).bytes + over (passed count a).too_long ≤ limit → AllEndBy limit (cut n (passed count a))) → AllEndBy limit (cut_front f a (cut n))
+    by : (f : Front) → IsInside a.bytes f →
+        ((count : ℕ) →
+        (passed count a).place + length (passed count a).bytes + over (passed count a).too_long ≤ limit →
+        AllEndBy limit (cut n (passed count a))) → AllEndBy limit (cut_front f a (cut n))
     by Nothing i g = (last-by limit a.line variant.End a h, tt)
     by Unclosed i g = (last-by limit a.line (variant.Fault CommentNotClosed) a h, tt)
     by (Space count) i g = g count (further count)
     by (Sign sign count) i g = (omega (arith, h, i), rest (is_last sign) _ (g count (further count)))
 
 -- there is a first token
-cut-nonempty : (n line place : ℕ) (bytes : List ℕ) (too_long : Bool) → length bytes < n → (first : LocatedToken) × (others : List LocatedToken) × (cut n (here line place bytes too_long) ≡ first ∷ others)
+cut-nonempty : (n line place : ℕ) (bytes : List ℕ) (too_long : Bool) → length bytes < n →
+    (first : LocatedToken) × (others : List LocatedToken) × (cut n (here line place bytes too_long) ≡ first ∷ others)
 cut-nonempty zero line place xs t h = absurd (omega (arith, h))
 cut-nonempty (suc n) line place [] t h = (_, _, refl)
 cut-nonempty (suc n) line place (b ∷ xs) t h = by (front (b ∷ xs)) (front-is_piece (b ∷ xs)) (λ count c.
@@ -161,13 +202,17 @@ cut-nonempty (suc n) line place (b ∷ xs) t h = by (front (b ∷ xs)) (front-is
     a : Ahead
     a = here line place (b ∷ xs) t
 
-    by : (f : Front) → IsPiece f → ((count : ℕ) → 0 < count → (first : LocatedToken) × (others : List LocatedToken) × (cut n (passed count a) ≡ first ∷ others)) → (first : LocatedToken) × (others : List LocatedToken) × (cut_front f a (cut n) ≡ first ∷ others)
+    by : (f : Front) → IsPiece f →
+        ((count : ℕ) → 0 < count →
+        (first : LocatedToken) × (others : List LocatedToken) × (cut n (passed count a) ≡ first ∷ others)) →
+        (first : LocatedToken) × (others : List LocatedToken) × (cut_front f a (cut n) ≡ first ∷ others)
     by Nothing p g = (_, _, refl)
     by Unclosed p g = (_, _, refl)
     by (Space count) p g = g count p
     by (Sign sign count) p g = (_, _, refl)
 
-pub located_tokens-nonempty : (a : Ahead) → (first : LocatedToken) × (others : List LocatedToken) × (located_tokens a ≡ first ∷ others)
+pub located_tokens-nonempty : (a : Ahead) →
+    (first : LocatedToken) × (others : List LocatedToken) × (located_tokens a ≡ first ∷ others)
 unfolding located_tokens
 located_tokens-nonempty a = cut-nonempty (suc (length a.bytes)) a.line a.place a.bytes a.too_long (omega arith)
 
@@ -189,8 +234,11 @@ tokens-rising bytes = located_tokens-rising (from_start (source bytes))
 
 pub tokens-by : (bytes : List ℕ) → AllEndBy (length (source bytes)) (tokens bytes)
 unfolding tokens located_tokens
-tokens-by bytes = cut-by (suc (length (take 1048576 (source bytes)))) (length (source bytes)) (from_start (source bytes)) (by (ltb 1048576 (length (source bytes))) refl)
+tokens-by bytes =
+    cut-by (suc (length (take 1048576 (source bytes)))) (length (source bytes)) (from_start (source bytes))
+    (by (ltb 1048576 (length (source bytes))) refl)
   where
-    by : (t : Bool) → ltb 1048576 (length (source bytes)) ≡ t → 0 + length (take 1048576 (source bytes)) + over t ≤ length (source bytes)
+    by : (t : Bool) → ltb 1048576 (length (source bytes)) ≡ t →
+        0 + length (take 1048576 (source bytes)) + over t ≤ length (source bytes)
     by true e = omega (arith, length-take 1048576 (source bytes), ltb-true _ _ e)
     by false e = omega (arith, length-take 1048576 (source bytes))

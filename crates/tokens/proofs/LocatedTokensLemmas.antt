@@ -29,7 +29,8 @@ comment-is_piece : (n : Option ℕ) → IsPiece (comment n)
 comment-is_piece None = tt
 comment-is_piece (Some n) = omega arith
 
-run-is_piece : (test : ℕ → Bool) (f : List ℕ → Token) (b : ℕ) (rest : List ℕ) → test b ≡ true → IsPiece (run test f (b ∷ rest))
+run-is_piece : (test : ℕ → Bool) (f : List ℕ → Token) (b : ℕ) (rest : List ℕ) → test b ≡ true →
+    IsPiece (run test f (b ∷ rest))
 run-is_piece test f b rest e = by (test b) e
   where
     by : (t : Bool) → t ≡ true → 0 < cond t (1 + prefix_len test rest) 0
@@ -53,7 +54,8 @@ front-is_piece (b ∷ rest) =
     either-is_piece (is_blank b) _ _ (λ e. lit< tt) (λ n.
     either-is_piece (is_letter b) _ _ (λ e. run-is_piece is_name_byte name_token b rest (letter-is_name_byte b e)) (λ n.
     either-is_piece (is_digit b) _ _ (λ e. run-is_piece is_digit constant_token b rest e) (λ n.
-    either-is_piece _ _ _ (λ e. comment-is_piece (up_to_close (drop 1 rest))) (λ n. punctuator-is_piece (longest_punctuator (b ∷ rest))))))
+    either-is_piece _ _ _ (λ e. comment-is_piece (up_to_close (drop 1 rest)))
+    (λ n. punctuator-is_piece (longest_punctuator (b ∷ rest))))))
 
 length-behind_byte : (a : Ahead) → length (behind_byte a).bytes ≡ length a.bytes - 1
 length-behind_byte a = by a.line a.place a.bytes a.too_long
@@ -66,14 +68,17 @@ pub length-passed : (n : ℕ) (a : Ahead) → length (passed n a).bytes ≡ leng
 length-passed zero a = omega arith
 length-passed (suc n) a = omega (arith, length-passed n (behind_byte a), length-behind_byte a)
 
-cut_front-same : (f : Front) (a : Ahead) (others others' : Ahead → List LocatedToken) → IsPiece f → ((count : ℕ) → 0 < count → others (passed count a) ≡ others' (passed count a)) → cut_front f a others ≡ cut_front f a others'
+cut_front-same : (f : Front) (a : Ahead) (others others' : Ahead → List LocatedToken) → IsPiece f →
+    ((count : ℕ) → 0 < count → others (passed count a) ≡ others' (passed count a)) →
+    cut_front f a others ≡ cut_front f a others'
 cut_front-same Nothing a others others' p h = refl
 cut_front-same Unclosed a others others' p h = refl
 cut_front-same (Space count) a others others' p h = h count p
 cut_front-same (Sign sign count) a others others' p h = ap (followed_by (placed sign count a)) (h count p)
 
 -- more pieces than bytes make no difference
-cut-enough : (m n line place : ℕ) (bytes : List ℕ) (too_long : Bool) → length bytes < m → length bytes < n → cut m (here line place bytes too_long) ≡ cut n (here line place bytes too_long)
+cut-enough : (m n line place : ℕ) (bytes : List ℕ) (too_long : Bool) → length bytes < m → length bytes < n →
+    cut m (here line place bytes too_long) ≡ cut n (here line place bytes too_long)
 cut-enough zero n line place xs t h k = absurd (omega (arith, h))
 cut-enough (suc m) zero line place xs t h k = absurd (omega (arith, k))
 cut-enough (suc m) (suc n) line place [] t h k = refl
@@ -83,14 +88,18 @@ cut-enough (suc m) (suc n) line place (b ∷ xs) t h k =
     let e = length-passed count (here line place (b ∷ xs) t) in
     cut-enough m n p.line p.place p.bytes p.too_long (omega (arith, e, h, c)) (omega (arith, e, k, c)))
 
-located_tokens-here : (line place : ℕ) (bytes : List ℕ) (too_long : Bool) → located_tokens (here line place bytes too_long) ≡ cut_front (front bytes) (here line place bytes too_long) located_tokens
+located_tokens-here : (line place : ℕ) (bytes : List ℕ) (too_long : Bool) →
+    located_tokens (here line place bytes too_long) ≡
+    cut_front (front bytes) (here line place bytes too_long) located_tokens
 unfolding located_tokens
 located_tokens-here line place [] t = refl
 located_tokens-here line place (b ∷ xs) t =
-    cut_front-same (front (b ∷ xs)) (here line place (b ∷ xs) t) (cut (length (b ∷ xs))) located_tokens (front-is_piece (b ∷ xs)) (λ count c.
+    cut_front-same (front (b ∷ xs)) (here line place (b ∷ xs) t) (cut (length (b ∷ xs))) located_tokens
+    (front-is_piece (b ∷ xs)) (λ count c.
     let p = passed count (here line place (b ∷ xs) t) in
     let e = length-passed count (here line place (b ∷ xs) t) in
-    cut-enough (length (b ∷ xs)) (suc (length p.bytes)) p.line p.place p.bytes p.too_long (omega (arith, e, c)) (omega arith))
+    cut-enough (length (b ∷ xs)) (suc (length p.bytes)) p.line p.place p.bytes p.too_long (omega (arith, e, c))
+    (omega arith))
 
 -- the law of which all others are cases
 pub located_tokens-front : (a : Ahead) → located_tokens a ≡ cut_front (front a.bytes) a located_tokens

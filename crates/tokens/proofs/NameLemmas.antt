@@ -28,27 +28,36 @@ other_name xs ys t h f = by (bytes_eq xs ys) refl
     by true e = let same = h ((bytes_eq-Decides xs ys).0 e) in absurd cc
 
 -- a name takes a byte more in its field
-padded-put : (name : List ℕ) (b n : ℕ) → length name ≡ n → n < 31 → slice_set (padded name) n b ≡ padded (name ++ b ∷ [])
+padded-put : (name : List ℕ) (b n : ℕ) → length name ≡ n → n < 31 →
+    slice_set (padded name) n b ≡ padded (name ++ b ∷ [])
 padded-put name b n l h =
     let k : 31 - length name ≡ suc (30 - n) = omega (arith, l, h) in
     let m : 31 - length (name ++ b ∷ []) ≡ 30 - n = omega (arith, length-append name (b ∷ []), l) in
-    ap (λ j. slice_set (name ++ replicate j 0) n b) k ∙ ap (λ i. slice_set (name ++ 0 ∷ replicate (30 - n) 0) i b) (sym l) ∙ set-append_seam name 0 (replicate (30 - n) 0) b
+    ap (λ j. slice_set (name ++ replicate j 0) n b) k ∙
+    ap (λ i. slice_set (name ++ 0 ∷ replicate (30 - n) 0) i b) (sym l) ∙ set-append_seam name 0 (replicate (30 - n) 0) b
     ∙ sym (append_assoc name (b ∷ []) (replicate (30 - n) 0)) ∙ ap (λ j. (name ++ b ∷ []) ++ replicate j 0) (sym m)
 
 -- the bytes of a name that has begun, with one more
-pub begun-more : (first i : ℕ) (rest bytes : List ℕ) → i < length rest → i + 1 < 31 → bytes ≡ padded (first ∷ take i rest) → slice_set bytes (i + 1) (slice_index_or rest i 0) ≡ padded (first ∷ take (i + 1) rest)
+pub begun-more : (first i : ℕ) (rest bytes : List ℕ) → i < length rest → i + 1 < 31 →
+    bytes ≡ padded (first ∷ take i rest) →
+    slice_set bytes (i + 1) (slice_index_or rest i 0) ≡ padded (first ∷ take (i + 1) rest)
 begun-more first i rest bytes h room e =
     let l = length-take-le i rest (omega (arith, h)) in
-    ap (λ bs. slice_set bs (i + 1) (slice_index_or rest i 0)) e ∙ padded-put (first ∷ take i rest) (slice_index_or rest i 0) (i + 1) (omega (arith, l)) room
+    ap (λ bs. slice_set bs (i + 1) (slice_index_or rest i 0)) e ∙
+    padded-put (first ∷ take i rest) (slice_index_or rest i 0) (i + 1) (omega (arith, l)) room
     ∙ ap (λ t. padded (first ∷ t)) (sym (take_more rest i 0 h))
 
 -- a name that has begun ends
-pub begun-ends : (first i : ℕ) (rest bytes : List ℕ) → i < length rest → bytes ≡ padded (first ∷ take i rest) → prefix_len is_name_byte rest ≡ i + prefix_len is_name_byte (drop i rest) → is_name_byte (slice_index_or rest i 0) ≡ false → BeginsName first rest (take (i + 1) bytes)
+pub begun-ends : (first i : ℕ) (rest bytes : List ℕ) → i < length rest → bytes ≡ padded (first ∷ take i rest) →
+    prefix_len is_name_byte rest ≡ i + prefix_len is_name_byte (drop i rest) →
+    is_name_byte (slice_index_or rest i 0) ≡ false → BeginsName first rest (take (i + 1) bytes)
 begun-ends first i rest bytes h e run ends =
     let l = length-take-le i rest (omega (arith, h)) in
     let name = first ∷ take i rest in
-    let count : prefix_len is_name_byte rest ≡ i = run ∙ ap (λ k. i + k) (prefix_len-drop_no is_name_byte rest i 0 h ends) ∙ omega arith in
+    let count : prefix_len is_name_byte rest ≡ i =
+    run ∙ ap (λ k. i + k) (prefix_len-drop_no is_name_byte rest i 0 h ends) ∙ omega arith in
     record {
-      is = ap (take (i + 1)) e ∙ take-append-le (i + 1) name (replicate (31 - length name) 0) (omega (arith, l)) ∙ take_all (i + 1) name (omega (arith, l)) ∙ ap (λ n. first ∷ take n rest) (sym count);
+      is = ap (take (i + 1)) e ∙ take-append-le (i + 1) name (replicate (31 - length name) 0) (omega (arith, l)) ∙
+          take_all (i + 1) name (omega (arith, l)) ∙ ap (λ n. first ∷ take n rest) (sym count);
       ended = omega (arith, count, h);
     }

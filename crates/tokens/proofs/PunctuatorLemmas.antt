@@ -13,15 +13,20 @@ use Rattle.tokens.specs.declared.located_tokens.Token.TheVariants as variant
 use Rattle.tokens.specs.declared.located_tokens.Punctuator.{Punctuator}
 use Rattle.tokens.specs.declared.located_tokens.Punctuator.TheVariants.{Plus, Minus, Star, Slash, Percent, And, Or, Xor, Tilde, Not, Less, Greater, Equals, ShiftLeft, ShiftRight, LessEquals, GreaterEquals, EqualsEquals, NotEquals, AndAnd, OrOr, PlusPlus, MinusMinus, PlusEquals, MinusEquals, StarEquals, SlashEquals, PercentEquals, ShiftLeftEquals, ShiftRightEquals, AndEquals, XorEquals, OrEquals, OpenRound, CloseRound, OpenCurly, CloseCurly, Comma, Semicolon}
 
-entry-spelled : (bytes : List ℕ) (punctuator : Punctuator) (punctuators : List Punctuator) → entry bytes (map row punctuators) ≡ Some punctuator → bytes ≡ spelling punctuator
+entry-spelled : (bytes : List ℕ) (punctuator : Punctuator) (punctuators : List Punctuator) →
+    entry bytes (map row punctuators) ≡ Some punctuator → bytes ≡ spelling punctuator
 entry-spelled bytes punctuator [] e = absurd cc
-entry-spelled bytes punctuator (m ∷ punctuators) e = by (bytes_eq bytes (spelling m)) refl (entry-spelled bytes punctuator punctuators) e
+entry-spelled bytes punctuator (m ∷ punctuators) e =
+    by (bytes_eq bytes (spelling m)) refl (entry-spelled bytes punctuator punctuators) e
   where
-    by : (t : Bool) → bytes_eq bytes (spelling m) ≡ t → (entry bytes (map row punctuators) ≡ Some punctuator → bytes ≡ spelling punctuator) → cond t (Some m) (entry bytes (map row punctuators)) ≡ Some punctuator → bytes ≡ spelling punctuator
+    by : (t : Bool) → bytes_eq bytes (spelling m) ≡ t →
+        (entry bytes (map row punctuators) ≡ Some punctuator → bytes ≡ spelling punctuator) →
+        cond t (Some m) (entry bytes (map row punctuators)) ≡ Some punctuator → bytes ≡ spelling punctuator
     by true q f e = let d : m ≡ punctuator = cc in (bytes_eq-Decides bytes (spelling m)).0 q ∙ ap spelling d
     by false q f e = f e
 
-pub punctuator_of-spelled : (bytes : List ℕ) (punctuator : Punctuator) → punctuator_of bytes ≡ Some punctuator → bytes ≡ spelling punctuator
+pub punctuator_of-spelled : (bytes : List ℕ) (punctuator : Punctuator) → punctuator_of bytes ≡ Some punctuator →
+    bytes ≡ spelling punctuator
 unfolding punctuator_of
 punctuator_of-spelled bytes punctuator e = entry-spelled bytes punctuator all_punctuators e
 
@@ -184,8 +189,10 @@ two-of-three MinusEquals b c d e h = absurd (omega (arith, ap length e))
 two-of-three StarEquals b c d e h = absurd (omega (arith, ap length e))
 two-of-three SlashEquals b c d e h = absurd (omega (arith, ap length e))
 two-of-three PercentEquals b c d e h = absurd (omega (arith, ap length e))
-two-of-three ShiftLeftEquals b c d e h = let p : b ≡ 60 = cc in let q : c ≡ 60 = cc in (some-none ShiftLeft (rw (p, q) at h))
-two-of-three ShiftRightEquals b c d e h = let p : b ≡ 62 = cc in let q : c ≡ 62 = cc in (some-none ShiftRight (rw (p, q) at h))
+two-of-three ShiftLeftEquals b c d e h =
+    let p : b ≡ 60 = cc in let q : c ≡ 60 = cc in (some-none ShiftLeft (rw (p, q) at h))
+two-of-three ShiftRightEquals b c d e h =
+    let p : b ≡ 62 = cc in let q : c ≡ 62 = cc in (some-none ShiftRight (rw (p, q) at h))
 two-of-three AndEquals b c d e h = absurd (omega (arith, ap length e))
 two-of-three XorEquals b c d e h = absurd (omega (arith, ap length e))
 two-of-three OrEquals b c d e h = absurd (omega (arith, ap length e))
@@ -224,7 +231,9 @@ further3 : (place : ℕ) → place + 3 ≡ place + 1 + 1 + 1
 further3 place = omega arith
 
 -- no punctuator has the byte that ends a line
-located_token-here : (m : Punctuator) (line place : ℕ) (rest : List ℕ) (too_long : Bool) → let a : Ahead = record { line = line; place = place; bytes = spelling m ++ rest; too_long = too_long } in placed (variant.Punctuator m) (length (spelling m)) a ≡ ending (variant.Punctuator m) (passed (length (spelling m)) a)
+located_token-here : (m : Punctuator) (line place : ℕ) (rest : List ℕ) (too_long : Bool) → let a : Ahead =
+    record { line = line; place = place; bytes = spelling m ++ rest; too_long = too_long } in placed
+    (variant.Punctuator m) (length (spelling m)) a ≡ ending (variant.Punctuator m) (passed (length (spelling m)) a)
 located_token-here Plus line place rest t = refl
 located_token-here Minus line place rest t = refl
 located_token-here Star line place rest t = refl
@@ -238,26 +247,46 @@ located_token-here Not line place rest t = refl
 located_token-here Less line place rest t = refl
 located_token-here Greater line place rest t = refl
 located_token-here Equals line place rest t = refl
-located_token-here ShiftLeft line place rest t = ap (λ p. record { token = variant.Punctuator ShiftLeft; line = line; end = p }) (further2 place)
-located_token-here ShiftRight line place rest t = ap (λ p. record { token = variant.Punctuator ShiftRight; line = line; end = p }) (further2 place)
-located_token-here LessEquals line place rest t = ap (λ p. record { token = variant.Punctuator LessEquals; line = line; end = p }) (further2 place)
-located_token-here GreaterEquals line place rest t = ap (λ p. record { token = variant.Punctuator GreaterEquals; line = line; end = p }) (further2 place)
-located_token-here EqualsEquals line place rest t = ap (λ p. record { token = variant.Punctuator EqualsEquals; line = line; end = p }) (further2 place)
-located_token-here NotEquals line place rest t = ap (λ p. record { token = variant.Punctuator NotEquals; line = line; end = p }) (further2 place)
-located_token-here AndAnd line place rest t = ap (λ p. record { token = variant.Punctuator AndAnd; line = line; end = p }) (further2 place)
-located_token-here OrOr line place rest t = ap (λ p. record { token = variant.Punctuator OrOr; line = line; end = p }) (further2 place)
-located_token-here PlusPlus line place rest t = ap (λ p. record { token = variant.Punctuator PlusPlus; line = line; end = p }) (further2 place)
-located_token-here MinusMinus line place rest t = ap (λ p. record { token = variant.Punctuator MinusMinus; line = line; end = p }) (further2 place)
-located_token-here PlusEquals line place rest t = ap (λ p. record { token = variant.Punctuator PlusEquals; line = line; end = p }) (further2 place)
-located_token-here MinusEquals line place rest t = ap (λ p. record { token = variant.Punctuator MinusEquals; line = line; end = p }) (further2 place)
-located_token-here StarEquals line place rest t = ap (λ p. record { token = variant.Punctuator StarEquals; line = line; end = p }) (further2 place)
-located_token-here SlashEquals line place rest t = ap (λ p. record { token = variant.Punctuator SlashEquals; line = line; end = p }) (further2 place)
-located_token-here PercentEquals line place rest t = ap (λ p. record { token = variant.Punctuator PercentEquals; line = line; end = p }) (further2 place)
-located_token-here ShiftLeftEquals line place rest t = ap (λ p. record { token = variant.Punctuator ShiftLeftEquals; line = line; end = p }) (further3 place)
-located_token-here ShiftRightEquals line place rest t = ap (λ p. record { token = variant.Punctuator ShiftRightEquals; line = line; end = p }) (further3 place)
-located_token-here AndEquals line place rest t = ap (λ p. record { token = variant.Punctuator AndEquals; line = line; end = p }) (further2 place)
-located_token-here XorEquals line place rest t = ap (λ p. record { token = variant.Punctuator XorEquals; line = line; end = p }) (further2 place)
-located_token-here OrEquals line place rest t = ap (λ p. record { token = variant.Punctuator OrEquals; line = line; end = p }) (further2 place)
+located_token-here ShiftLeft line place rest t =
+    ap (λ p. record { token = variant.Punctuator ShiftLeft; line = line; end = p }) (further2 place)
+located_token-here ShiftRight line place rest t =
+    ap (λ p. record { token = variant.Punctuator ShiftRight; line = line; end = p }) (further2 place)
+located_token-here LessEquals line place rest t =
+    ap (λ p. record { token = variant.Punctuator LessEquals; line = line; end = p }) (further2 place)
+located_token-here GreaterEquals line place rest t =
+    ap (λ p. record { token = variant.Punctuator GreaterEquals; line = line; end = p }) (further2 place)
+located_token-here EqualsEquals line place rest t =
+    ap (λ p. record { token = variant.Punctuator EqualsEquals; line = line; end = p }) (further2 place)
+located_token-here NotEquals line place rest t =
+    ap (λ p. record { token = variant.Punctuator NotEquals; line = line; end = p }) (further2 place)
+located_token-here AndAnd line place rest t =
+    ap (λ p. record { token = variant.Punctuator AndAnd; line = line; end = p }) (further2 place)
+located_token-here OrOr line place rest t =
+    ap (λ p. record { token = variant.Punctuator OrOr; line = line; end = p }) (further2 place)
+located_token-here PlusPlus line place rest t =
+    ap (λ p. record { token = variant.Punctuator PlusPlus; line = line; end = p }) (further2 place)
+located_token-here MinusMinus line place rest t =
+    ap (λ p. record { token = variant.Punctuator MinusMinus; line = line; end = p }) (further2 place)
+located_token-here PlusEquals line place rest t =
+    ap (λ p. record { token = variant.Punctuator PlusEquals; line = line; end = p }) (further2 place)
+located_token-here MinusEquals line place rest t =
+    ap (λ p. record { token = variant.Punctuator MinusEquals; line = line; end = p }) (further2 place)
+located_token-here StarEquals line place rest t =
+    ap (λ p. record { token = variant.Punctuator StarEquals; line = line; end = p }) (further2 place)
+located_token-here SlashEquals line place rest t =
+    ap (λ p. record { token = variant.Punctuator SlashEquals; line = line; end = p }) (further2 place)
+located_token-here PercentEquals line place rest t =
+    ap (λ p. record { token = variant.Punctuator PercentEquals; line = line; end = p }) (further2 place)
+located_token-here ShiftLeftEquals line place rest t =
+    ap (λ p. record { token = variant.Punctuator ShiftLeftEquals; line = line; end = p }) (further3 place)
+located_token-here ShiftRightEquals line place rest t =
+    ap (λ p. record { token = variant.Punctuator ShiftRightEquals; line = line; end = p }) (further3 place)
+located_token-here AndEquals line place rest t =
+    ap (λ p. record { token = variant.Punctuator AndEquals; line = line; end = p }) (further2 place)
+located_token-here XorEquals line place rest t =
+    ap (λ p. record { token = variant.Punctuator XorEquals; line = line; end = p }) (further2 place)
+located_token-here OrEquals line place rest t =
+    ap (λ p. record { token = variant.Punctuator OrEquals; line = line; end = p }) (further2 place)
 located_token-here OpenRound line place rest t = refl
 located_token-here CloseRound line place rest t = refl
 located_token-here OpenCurly line place rest t = refl
@@ -265,16 +294,25 @@ located_token-here CloseCurly line place rest t = refl
 located_token-here Comma line place rest t = refl
 located_token-here Semicolon line place rest t = refl
 
-pub punctuator-located_token : (m : Punctuator) (a : Ahead) (rest : List ℕ) → a.bytes ≡ spelling m ++ rest → placed (variant.Punctuator m) (length (spelling m)) a ≡ ending (variant.Punctuator m) (passed (length (spelling m)) a)
+pub punctuator-located_token : (m : Punctuator) (a : Ahead) (rest : List ℕ) → a.bytes ≡ spelling m ++ rest →
+    placed (variant.Punctuator m) (length (spelling m)) a ≡
+    ending (variant.Punctuator m) (passed (length (spelling m)) a)
 punctuator-located_token m a rest e =
-    subst (λ (xs : List ℕ). let b : Ahead = record { line = a.line; place = a.place; bytes = xs; too_long = a.too_long } in placed (variant.Punctuator m) (length (spelling m)) b ≡ ending (variant.Punctuator m) (passed (length (spelling m)) b)) (sym e)
+    subst
+    (λ (xs : List ℕ).
+    let b : Ahead = record { line = a.line; place = a.place; bytes = xs; too_long = a.too_long } in
+    placed (variant.Punctuator m) (length (spelling m)) b ≡
+    ending (variant.Punctuator m) (passed (length (spelling m)) b)) (sym e)
     (located_token-here m a.line a.place rest a.too_long)
 
 -- the punctuator of a byte, by its kind
-of_kind : (kind c : ℕ) (o : Option Punctuator) → agree_below (λ x. eqb (slice_index kinds x) kind) (λ x. eqb x c) 256 ≡ true → punctuator_of (c ∷ []) ≡ o → (b : ℕ) → b < 256 → slice_index kinds b ≡ kind → o ≡ punctuator_of (b ∷ [])
+of_kind : (kind c : ℕ) (o : Option Punctuator) →
+    agree_below (λ x. eqb (slice_index kinds x) kind) (λ x. eqb x c) 256 ≡ true → punctuator_of (c ∷ []) ≡ o → (b : ℕ) →
+    b < 256 → slice_index kinds b ≡ kind → o ≡ punctuator_of (b ∷ [])
 of_kind kind c o all is b h e = sym (ap (λ x. punctuator_of (x ∷ [])) (by_kind kind c all b h e) ∙ is)
 
-as_whole : (b : ℕ) (m : Punctuator) → Some m ≡ punctuator_of (b ∷ []) → ((n : ℕ) → punctuator_of (spelling m ++ n ∷ []) ≡ None) → IsWhole b m
+as_whole : (b : ℕ) (m : Punctuator) → Some m ≡ punctuator_of (b ∷ []) →
+    ((n : ℕ) → punctuator_of (spelling m ++ n ∷ []) ≡ None) → IsWhole b m
 as_whole b m is ends = record { is = sym is; ends = ends }
 
 pub kind-open_round : (b : ℕ) → b < 256 → slice_index kinds b ≡ 3 → Some OpenRound ≡ punctuator_of (b ∷ [])
@@ -380,7 +418,10 @@ whole-semicolon b h e = as_whole b Semicolon (kind-semicolon b h e) (λ n. refl)
 -- no punctuator begins with a byte of another kind
 pub kind-none : (b : ℕ) → b < 256 → slice_index kinds b < 3 → None ≡ punctuator_of (b ∷ [])
 unfolding kinds punctuator_of
-kind-none b h low = by (punctuator_of (b ∷ [])) (sym (agree_below_at (λ x. nat_le 3 (slice_index kinds x)) (λ x. is_some (punctuator_of (x ∷ []))) 256 b refl h) ∙ lt-leb _ _ low)
+kind-none b h low =
+    by (punctuator_of (b ∷ []))
+    (sym (agree_below_at (λ x. nat_le 3 (slice_index kinds x)) (λ x. is_some (punctuator_of (x ∷ []))) 256 b refl h)
+    ∙ lt-leb _ _ low)
   where
     by : (o : Option Punctuator) → is_some o ≡ false → None ≡ o
     by None e = refl
@@ -389,7 +430,9 @@ kind-none b h low = by (punctuator_of (b ∷ [])) (sym (agree_below_at (λ x. na
 -- no punctuator is a digit
 pub no-digit : (b : ℕ) (m : Punctuator) → b < 256 → punctuator_of (b ∷ []) ≡ Some m → is_digit b ≡ false
 unfolding punctuator_of
-no-digit b m h e = by (is_digit b) (punctuator_of (b ∷ [])) (agree_below_at (λ x. is_digit x && is_some (punctuator_of (x ∷ []))) (λ x. false) 256 b refl h) e
+no-digit b m h e =
+    by (is_digit b) (punctuator_of (b ∷ []))
+    (agree_below_at (λ x. is_digit x && is_some (punctuator_of (x ∷ []))) (λ x. false) 256 b refl h) e
   where
     by : (t : Bool) (o : Option Punctuator) → (t && is_some o) ≡ false → o ≡ Some m → t ≡ false
     by false o none is = refl

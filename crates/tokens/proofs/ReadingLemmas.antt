@@ -15,20 +15,25 @@ abbrev reading : LocatedToken → LocatedToken → Held → Reading
 reading next after behind = record { next = next; after = after; behind = behind }
 
 -- the token behind the next one was read
-pub shown-read : (next after : LocatedToken) (new old : Held) (told' told : Option (List ℕ)) → to_read (followed after) new told' ≡ to_read located_tokens old told → shown (reading next after new) told' ≡ to_read (followed next) old told
+pub shown-read : (next after : LocatedToken) (new old : Held) (told' told : Option (List ℕ)) →
+    to_read (followed after) new told' ≡ to_read located_tokens old told →
+    shown (reading next after new) told' ≡ to_read (followed next) old told
 unfolding to_read followed unread
 shown-read next after new old None None e = refl
 shown-read next after new old None (Some t) e = absurd cc
 shown-read next after new old (Some t') None e = absurd cc
 shown-read next after new old (Some t') (Some t) e =
-    ap (λ xs. Some (followed_by next xs)) (same_Some (followed_by after (located_tokens (ahead new t'))) (located_tokens (ahead old t)) e)
+    ap (λ xs. Some (followed_by next xs))
+    (same_Some (followed_by after (located_tokens (ahead new t'))) (located_tokens (ahead old t)) e)
 
 -- there is none
-pub shown-last : (next after : LocatedToken) (behind : Held) (told : Option (List ℕ)) → is_last next.token ≡ true → shown (reading next after behind) told ≡ to_read (followed next) behind told
+pub shown-last : (next after : LocatedToken) (behind : Held) (told : Option (List ℕ)) → is_last next.token ≡ true →
+    shown (reading next after behind) told ≡ to_read (followed next) behind told
 unfolding to_read followed unread
 shown-last next after behind None e = refl
 shown-last next after behind (Some t) e =
-    ap (λ s. Some (next ∷ cond s [] (followed_by after (located_tokens (ahead behind t))))) e ∙ sym (ap (λ s. Some (next ∷ cond s [] (located_tokens (ahead behind t)))) e)
+    ap (λ s. Some (next ∷ cond s [] (followed_by after (located_tokens (ahead behind t))))) e ∙
+    sym (ap (λ s. Some (next ∷ cond s [] (located_tokens (ahead behind t)))) e)
 
 -- at the begin
 pub shown-opened : (told : Option (List ℕ)) → to_read located_tokens untouched told ≡ option_map tokens told
@@ -37,11 +42,15 @@ shown-opened None = refl
 shown-opened (Some bytes) = refl
 
 -- behind the next token
-pub shown-advanced : (next after located_token : LocatedToken) (new old : Held) (told' told : Option (List ℕ)) → is_last next.token ≡ false → to_read (followed located_token) new told' ≡ to_read located_tokens old told → shown (reading after located_token new) told' ≡ option_map (drop 1) (shown (reading next after old) told)
+pub shown-advanced : (next after located_token : LocatedToken) (new old : Held) (told' told : Option (List ℕ)) →
+    is_last next.token ≡ false → to_read (followed located_token) new told' ≡ to_read located_tokens old told →
+    shown (reading after located_token new) told' ≡ option_map (drop 1) (shown (reading next after old) told)
 unfolding to_read followed unread
-shown-advanced next after located_token new old told' told not_last e = shown-read after located_token new old told' told e ∙ by told
+shown-advanced next after located_token new old told' told not_last e =
+    shown-read after located_token new old told' told e ∙ by told
   where
-    by : (told : Option (List ℕ)) → to_read (followed after) old told ≡ option_map (drop 1) (shown (reading next after old) told)
+    by : (told : Option (List ℕ)) →
+        to_read (followed after) old told ≡ option_map (drop 1) (shown (reading next after old) told)
     by None = refl
     by (Some t) = sym (ap (λ s. Some (cond s [] (followed_by after (located_tokens (ahead old t))))) not_last)
 
@@ -57,17 +66,22 @@ remaining-bounded r = by (is_last r.next.token) (is_last r.after.token)
     by false true = omega arith
     by false false = omega arith
 
-pub remaining-advanced : (next after located_token : LocatedToken) (new old : Held) → is_last next.token ≡ false → is_last after.token ≡ false → (is_last located_token.token ≡ false → old.place < new.place) → new.place ≤ 1048576 → remaining (reading after located_token new) < remaining (reading next after old)
+pub remaining-advanced : (next after located_token : LocatedToken) (new old : Held) → is_last next.token ≡ false →
+    is_last after.token ≡ false → (is_last located_token.token ≡ false → old.place < new.place) → new.place ≤ 1048576 →
+    remaining (reading after located_token new) < remaining (reading next after old)
 unfolding remaining
-remaining-advanced next after located_token new old n a further within = by (is_last next.token) (is_last after.token) (is_last located_token.token) n a further
+remaining-advanced next after located_token new old n a further within =
+    by (is_last next.token) (is_last after.token) (is_last located_token.token) n a further
   where
-    by : (s t u : Bool) → s ≡ false → t ≡ false → (u ≡ false → old.place < new.place) → left t u new.place < left s t old.place
+    by : (s t u : Bool) → s ≡ false → t ≡ false → (u ≡ false → old.place < new.place) →
+        left t u new.place < left s t old.place
     by true t u n a f = absurd cc
     by false true u n a f = absurd cc
     by false false true n a f = omega arith
     by false false false n a f = omega (arith, f refl)
 
-pub remaining-ended : (next after after' : LocatedToken) (new old : Held) → is_last next.token ≡ false → is_last after.token ≡ true → remaining (reading after after' new) < remaining (reading next after old)
+pub remaining-ended : (next after after' : LocatedToken) (new old : Held) → is_last next.token ≡ false →
+    is_last after.token ≡ true → remaining (reading after after' new) < remaining (reading next after old)
 unfolding remaining
 remaining-ended next after after' new old n a = by (is_last next.token) (is_last after.token) n a
   where
@@ -84,38 +98,60 @@ open-end x = by (is_decided_by_last_byte x.token)
     by true = omega arith
     by false = omega arith
 
-reach-first : (place : ℕ) (first : LocatedToken) (others : List LocatedToken) → StaysUndecided place (first ∷ others) → undecided_until first ≤ undecided_reach_of (first ∷ others)
+reach-first : (place : ℕ) (first : LocatedToken) (others : List LocatedToken) → StaysUndecided place (first ∷ others) →
+    undecided_until first ≤ undecided_reach_of (first ∷ others)
 reach-first place first [] r = omega arith
 reach-first place first (x ∷ others) r = omega (arith, r.1.0, open-end first)
 
-pub opened-stopped : (bytes : List ℕ) (n : ℕ) (window : Held) (told : Option (List ℕ)) → window ≡ untouched → told ≡ Some bytes → ((first : LocatedToken) (others : List LocatedToken) → to_read located_tokens window told ≡ Some (first ∷ others) → n ≤ undecided_until first) → n ≤ undecided_reach_of (tokens bytes)
+pub opened-stopped : (bytes : List ℕ) (n : ℕ) (window : Held) (told : Option (List ℕ)) → window ≡ untouched →
+    told ≡ Some bytes →
+    ((first : LocatedToken) (others : List LocatedToken) → to_read located_tokens window told ≡ Some (first ∷ others) →
+    n ≤ undecided_until first) → n ≤ undecided_reach_of (tokens bytes)
 unfolding tokens
 opened-stopped bytes n window told w t f =
     let some = located_tokens-nonempty (from_start (source bytes)) in
-    let here = ap (λ h. to_read located_tokens h told) w ∙ ap (to_read located_tokens untouched) t ∙ shown-opened (Some bytes) in
+    let here =
+    ap (λ h. to_read located_tokens h told) w ∙ ap (to_read located_tokens untouched) t ∙ shown-opened (Some bytes) in
     let rising = subst (StaysUndecided 0) some.2 (located_tokens-open (from_start (source bytes))) in
     subst (λ (xs : List LocatedToken). n ≤ undecided_reach_of xs) (sym some.2)
     (omega (arith, f some.0 some.1 (here ∙ ap Some some.2), reach-first 0 some.0 some.1 rising))
 
-pub second-stopped : (bytes : List ℕ) (n : ℕ) (next : LocatedToken) (first second : Held) (told told' : Option (List ℕ)) → first ≡ untouched → told ≡ Some bytes → is_last next.token ≡ false → to_read (followed next) second told' ≡ to_read located_tokens first told → ((x : LocatedToken) (others : List LocatedToken) → to_read located_tokens second told' ≡ Some (x ∷ others) → n ≤ undecided_until x) → n ≤ undecided_reach_of (tokens bytes)
+pub second-stopped : (bytes : List ℕ) (n : ℕ) (next : LocatedToken) (first second : Held) (told told' : Option (List ℕ))
+    → first ≡ untouched → told ≡ Some bytes → is_last next.token ≡ false →
+    to_read (followed next) second told' ≡ to_read located_tokens first told →
+    ((x : LocatedToken) (others : List LocatedToken) → to_read located_tokens second told' ≡ Some (x ∷ others) →
+    n ≤ undecided_until x) → n ≤ undecided_reach_of (tokens bytes)
 unfolding to_read followed
 second-stopped bytes n next first second told told' w t last e f =
-    by told' (e ∙ ap (λ h. to_read located_tokens h told) w ∙ ap (to_read located_tokens untouched) t ∙ shown-opened (Some bytes)) f
+    by told'
+    (e ∙ ap (λ h. to_read located_tokens h told) w ∙ ap (to_read located_tokens untouched) t ∙
+    shown-opened (Some bytes)) f
   where
-    by : (told' : Option (List ℕ)) → to_read (followed next) second told' ≡ Some (tokens bytes) → ((x : LocatedToken) (others : List LocatedToken) → to_read located_tokens second told' ≡ Some (x ∷ others) → n ≤ undecided_until x) → n ≤ undecided_reach_of (tokens bytes)
+    by : (told' : Option (List ℕ)) → to_read (followed next) second told' ≡ Some (tokens bytes) →
+        ((x : LocatedToken) (others : List LocatedToken) → to_read located_tokens second told' ≡ Some (x ∷ others) →
+        n ≤ undecided_until x) → n ≤ undecided_reach_of (tokens bytes)
     by None e f = absurd cc
     by (Some to_come) e f =
         let some = located_tokens-nonempty (ahead second to_come) in
-        let is : tokens bytes ≡ next ∷ some.0 ∷ some.1 = sym (same_Some _ _ e) ∙ ap (λ s. next ∷ cond s [] (located_tokens (ahead second to_come))) last ∙ ap (λ xs. next ∷ xs) some.2 in
+        let is : tokens bytes ≡ next ∷ some.0 ∷ some.1 =
+        sym (same_Some _ _ e) ∙ ap (λ s. next ∷ cond s [] (located_tokens (ahead second to_come))) last ∙
+        ap (λ xs. next ∷ xs) some.2 in
         subst (λ (xs : List LocatedToken). n ≤ undecided_reach_of xs) (sym is) (f some.0 some.1 (ap Some some.2))
 
-pub advanced-stopped : (n : ℕ) (next after : LocatedToken) (window : Held) (told : Option (List ℕ)) → is_last next.token ≡ false → is_last after.token ≡ false → ((first : LocatedToken) (others : List LocatedToken) → to_read located_tokens window told ≡ Some (first ∷ others) → n ≤ undecided_until first) → (x : LocatedToken) (others : List LocatedToken) → shown (reading next after window) told ≡ Some (x ∷ others) → n ≤ undecided_reach_of others
+pub advanced-stopped : (n : ℕ) (next after : LocatedToken) (window : Held) (told : Option (List ℕ)) →
+    is_last next.token ≡ false → is_last after.token ≡ false →
+    ((first : LocatedToken) (others : List LocatedToken) → to_read located_tokens window told ≡ Some (first ∷ others) →
+    n ≤ undecided_until first) → (x : LocatedToken) (others : List LocatedToken) →
+    shown (reading next after window) told ≡ Some (x ∷ others) → n ≤ undecided_reach_of others
 unfolding to_read unread
 advanced-stopped n next after window None l m f x others e = absurd cc
 advanced-stopped n next after window (Some to_come) l m f x others e =
     let some = located_tokens-nonempty (ahead window to_come) in
     let is : next ∷ after ∷ some.0 ∷ some.1 ≡ x ∷ others =
-    sym (ap (λ s. next ∷ cond s [] (after ∷ cond (is_last after.token) [] (located_tokens (ahead window to_come)))) l ∙ ap (λ s. next ∷ after ∷ cond s [] (located_tokens (ahead window to_come))) m ∙ ap (λ xs. next ∷ after ∷ xs) some.2)
+    sym
+    (ap (λ s. next ∷ cond s [] (after ∷ cond (is_last after.token) [] (located_tokens (ahead window to_come)))) l ∙
+    ap (λ s. next ∷ after ∷ cond s [] (located_tokens (ahead window to_come))) m ∙
+    ap (λ xs. next ∷ after ∷ xs) some.2)
     ∙ same_Some _ _ e in
     let rest : after ∷ some.0 ∷ some.1 ≡ others = cc in
     subst (λ (xs : List LocatedToken). n ≤ undecided_reach_of xs) rest (f some.0 some.1 (ap Some some.2))
@@ -127,20 +163,24 @@ open-reach [] = omega arith
 open-reach (x ∷ []) = open-end x
 open-reach (x ∷ y ∷ rest) = open-end y
 
-first-last : (place : ℕ) (x : LocatedToken) (others : List LocatedToken) → StaysUndecided place (x ∷ others) → undecided_until x ≤ last_undecided_until (x ∷ others)
+first-last : (place : ℕ) (x : LocatedToken) (others : List LocatedToken) → StaysUndecided place (x ∷ others) →
+    undecided_until x ≤ last_undecided_until (x ∷ others)
 first-last place x [] s = omega arith
 first-last place x (y ∷ others) s = omega (arith, open-end x, s.1.0, first-last x.end y others s.1)
 
-reach-last : (place : ℕ) (rest : List LocatedToken) → StaysUndecided place rest → undecided_reach_of rest ≤ last_undecided_until rest
+reach-last : (place : ℕ) (rest : List LocatedToken) → StaysUndecided place rest →
+    undecided_reach_of rest ≤ last_undecided_until rest
 reach-last place [] s = omega arith
 reach-last place (x ∷ []) s = omega arith
 reach-last place (x ∷ y ∷ others) s = first-last x.end y others s.1
 
-last-behind : (x : LocatedToken) (others : List LocatedToken) → last_undecided_until others ≤ last_undecided_until (x ∷ others)
+last-behind : (x : LocatedToken) (others : List LocatedToken) →
+    last_undecided_until others ≤ last_undecided_until (x ∷ others)
 last-behind x [] = omega arith
 last-behind x (y ∷ others) = omega arith
 
-all-last : (place : ℕ) (passed rest : List LocatedToken) → StaysUndecided place (passed ++ rest) → undecided_reach_of rest ≤ last_undecided_until (passed ++ rest)
+all-last : (place : ℕ) (passed rest : List LocatedToken) → StaysUndecided place (passed ++ rest) →
+    undecided_reach_of rest ≤ last_undecided_until (passed ++ rest)
 all-last place [] rest s = reach-last place rest s
 all-last place (x ∷ passed) rest s = omega (arith, last-behind x (passed ++ rest), all-last x.end passed rest s.1)
 
@@ -148,7 +188,8 @@ all-last place (x ∷ passed) rest s = omega (arith, last-behind x (passed ++ re
 pub open-within : (rest : List LocatedToken) (n : ℕ) → n ≤ undecided_reach_of rest → n ≤ reach_of rest
 open-within rest n h = omega (arith, h, open-reach rest)
 
-pub open-to_last : (bytes : List ℕ) (passed rest : List LocatedToken) (n : ℕ) → tokens bytes ≡ passed ++ rest → n ≤ undecided_reach_of rest → n ≤ last_undecided_until (tokens bytes)
+pub open-to_last : (bytes : List ℕ) (passed rest : List LocatedToken) (n : ℕ) → tokens bytes ≡ passed ++ rest →
+    n ≤ undecided_reach_of rest → n ≤ last_undecided_until (tokens bytes)
 open-to_last bytes passed rest n is h =
     subst (λ (xs : List LocatedToken). n ≤ last_undecided_until xs) (sym is)
     (omega (arith, h, all-last 0 passed rest (subst (StaysUndecided 0) is (tokens-open bytes))))

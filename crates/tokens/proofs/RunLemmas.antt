@@ -16,41 +16,65 @@ use Rattle.tokens.specs.Source.{source}
 
 map-agree : (f g : ℕ → Bool) (v : List ℕ) → Each1 (Fits w8) v → agree_below f g 256 ≡ true → map f v ≡ map g v
 map-agree f g [] fits all = refl
-map-agree f g (x ∷ xs) fits all = ap₂ (λ t ts. t ∷ ts) (agree_below_at f g 256 x all fits.0.fits) (map-agree f g xs fits.1 all)
+map-agree f g (x ∷ xs) fits all =
+    ap₂ (λ t ts. t ∷ ts) (agree_below_at f g 256 x all fits.0.fits) (map-agree f g xs fits.1 all)
 
 -- the bits of a block whose lanes were computed from its bytes
-pub bits_are : (test : ℕ → Bool) (f : ℕ → ℕ) (v : List ℕ) {z : List ℕ} → length v ≡ 32 → Each1 (Fits w8) v → z ≡ map f v → agree_below (λ x. top 7 (f x)) test 256 ≡ true
+pub bits_are : (test : ℕ → Bool) (f : ℕ → ℕ) (v : List ℕ) {z : List ℕ} → length v ≡ 32 → Each1 (Fits w8) v →
+    z ≡ map f v → agree_below (λ x. top 7 (f x)) test 256 ≡ true
     → mask_l (map (top 7) z) % 2 ^ 64 ≡ mask_l (map test v)
 bits_are test f v long fits lanes all =
     let tested = ap (map (top 7)) lanes ∙ map-map (top 7) f v ∙ map-agree (λ x. top 7 (f x)) test v fits all in
     ap (λ ms. mask_l ms % 2 ^ 64) tested ∙ mask_l-mod (map test v) 64 (omega (arith, length-map v test, long))
 
 -- how many bytes of a block pass a test, by its bits
-pub ones_whole : (test : ℕ → Bool) (v : List ℕ) {m : ℕ} → length v ≡ 32 → m ≡ mask_l (map test v) → count_ones m ≡ count_by test (take 32 v)
-ones_whole test v long e = ap count_ones e ∙ ones-mask_l test v ∙ ap (count_by test) (sym (take_all 32 v (omega (arith, long))))
+pub ones_whole : (test : ℕ → Bool) (v : List ℕ) {m : ℕ} → length v ≡ 32 → m ≡ mask_l (map test v) →
+    count_ones m ≡ count_by test (take 32 v)
+ones_whole test v long e =
+    ap count_ones e ∙ ones-mask_l test v ∙ ap (count_by test) (sym (take_all 32 v (omega (arith, long))))
 
 -- the lowest bits of two numbers, and the others
-low_apart : (c d : Bool) (m n : ℕ) → bit_and (cond c 1 0 + 2 * m) (cond d 1 0 + 2 * n) ≡ cond (c && d) 1 0 + 2 * bit_and m n
-low_apart true true m n = let h = and_block 1 m n 1 1 (omega arith) (omega arith) in let e : 1 + 2 * m ≡ m * 2 + 1 = omega arith in let f : 1 + 2 * n ≡ n * 2 + 1 = omega arith in rw (e, f) (h ∙ omega arith)
-low_apart true false m n = let h = and_block 1 m n 1 0 (omega arith) (omega arith) in let e : 1 + 2 * m ≡ m * 2 + 1 = omega arith in let f : 0 + 2 * n ≡ n * 2 + 0 = omega arith in rw (e, f) (h ∙ omega arith)
-low_apart false true m n = let h = and_block 1 m n 0 1 (omega arith) (omega arith) in let e : 0 + 2 * m ≡ m * 2 + 0 = omega arith in let f : 1 + 2 * n ≡ n * 2 + 1 = omega arith in rw (e, f) (h ∙ omega arith)
-low_apart false false m n = let h = and_block 1 m n 0 0 (omega arith) (omega arith) in let e : 0 + 2 * m ≡ m * 2 + 0 = omega arith in let f : 0 + 2 * n ≡ n * 2 + 0 = omega arith in rw (e, f) (h ∙ omega arith)
+low_apart : (c d : Bool) (m n : ℕ) →
+    bit_and (cond c 1 0 + 2 * m) (cond d 1 0 + 2 * n) ≡ cond (c && d) 1 0 + 2 * bit_and m n
+low_apart true true m n =
+    let h = and_block 1 m n 1 1 (omega arith) (omega arith) in
+    let e : 1 + 2 * m ≡ m * 2 + 1 = omega arith in
+    let f : 1 + 2 * n ≡ n * 2 + 1 = omega arith in rw (e, f) (h ∙ omega arith)
+low_apart true false m n =
+    let h = and_block 1 m n 1 0 (omega arith) (omega arith) in
+    let e : 1 + 2 * m ≡ m * 2 + 1 = omega arith in
+    let f : 0 + 2 * n ≡ n * 2 + 0 = omega arith in rw (e, f) (h ∙ omega arith)
+low_apart false true m n =
+    let h = and_block 1 m n 0 1 (omega arith) (omega arith) in
+    let e : 0 + 2 * m ≡ m * 2 + 0 = omega arith in
+    let f : 1 + 2 * n ≡ n * 2 + 1 = omega arith in rw (e, f) (h ∙ omega arith)
+low_apart false false m n =
+    let h = and_block 1 m n 0 0 (omega arith) (omega arith) in
+    let e : 0 + 2 * m ≡ m * 2 + 0 = omega arith in
+    let f : 0 + 2 * n ≡ n * 2 + 0 = omega arith in rw (e, f) (h ∙ omega arith)
 
 -- two tests of which no byte passes both share no bit
-apart : (p q : ℕ → Bool) → ((b : ℕ) → (p b && q b) ≡ false) → (xs : List ℕ) → bit_and (mask_l (map p xs)) (mask_l (map q xs)) ≡ 0
+apart : (p q : ℕ → Bool) → ((b : ℕ) → (p b && q b) ≡ false) → (xs : List ℕ) →
+    bit_and (mask_l (map p xs)) (mask_l (map q xs)) ≡ 0
 apart p q none [] = refl
 apart p q none (x ∷ xs) =
     low_apart (p x) (q x) (mask_l (map p xs)) (mask_l (map q xs))
     ∙ ap₂ (λ t n. cond t 1 0 + 2 * n) (none x) (apart p q none xs)
 
 ones_apart : (c : Bool) (n : ℕ) → count_ones (cond c 1 0 + 2 * n) ≡ cond c 1 0 + count_ones n
-ones_apart true n = let e : (1 + 2 * n) % 2 ≡ 1 = omega arith in let f : (1 + 2 * n) / 2 ≡ n = omega arith in ones_step (1 + 2 * n) ∙ ap₂ (λ a b. a + count_ones b) e f
-ones_apart false n = let e : (0 + 2 * n) % 2 ≡ 0 = omega arith in let f : (0 + 2 * n) / 2 ≡ n = omega arith in ones_step (0 + 2 * n) ∙ ap₂ (λ a b. a + count_ones b) e f
+ones_apart true n =
+    let e : (1 + 2 * n) % 2 ≡ 1 = omega arith in
+    let f : (1 + 2 * n) / 2 ≡ n = omega arith in ones_step (1 + 2 * n) ∙ ap₂ (λ a b. a + count_ones b) e f
+ones_apart false n =
+    let e : (0 + 2 * n) % 2 ≡ 0 = omega arith in
+    let f : (0 + 2 * n) / 2 ≡ n = omega arith in ones_step (0 + 2 * n) ∙ ap₂ (λ a b. a + count_ones b) e f
 
 -- How many bytes pass a test before the first that passes another: no byte passes both, so the bits above the first
 -- count nothing.
 pub ones_before : (p q : ℕ → Bool) → ((b : ℕ) → (p b && q b) ≡ false) → (xs : List ℕ) → 0 < mask_l (map q xs)
-    → count_ones (bit_and (mask_l (map p xs)) (mask_l (map q xs) - 1)) ≡ count_by p (take (prefix_len (λ b. not (q b)) xs) xs)
+    →
+    count_ones (bit_and (mask_l (map p xs)) (mask_l (map q xs) - 1)) ≡
+    count_by p (take (prefix_len (λ b. not (q b)) xs) xs)
 ones_before p q none [] some = absurd (omega (arith, some))
 ones_before p q none (x ∷ xs) some = by (p x) (q x) (none x) some (ones_before p q none xs) ∙ of_cons (q x)
   where
@@ -63,7 +87,10 @@ ones_before p q none (x ∷ xs) some = by (p x) (q x) (none x) some (ones_before
         sym (sum_by-cons (λ b. cond (p b) 1 0) x (take r xs)) ∙ ap (λ n. count_by p (take n (x ∷ xs))) e
 
     by : (c d : Bool) → (c && d) ≡ false → 0 < cond d 1 0 + 2 * mask_l (map q xs)
-        → (0 < mask_l (map q xs) → count_ones (bit_and (mask_l (map p xs)) (mask_l (map q xs) - 1)) ≡ count_by p (take (prefix_len (λ b. not (q b)) xs) xs))
+        →
+        (0 < mask_l (map q xs) →
+        count_ones (bit_and (mask_l (map p xs)) (mask_l (map q xs) - 1)) ≡
+        count_by p (take (prefix_len (λ b. not (q b)) xs) xs))
         → count_ones (bit_and (cond c 1 0 + 2 * mask_l (map p xs)) (cond d 1 0 + 2 * mask_l (map q xs) - 1))
         ≡ cond d 0 (cond c 1 0 + count_by p (take (prefix_len (λ b. not (q b)) xs) xs))
     by true true never some rest = absurd cc
@@ -103,38 +130,49 @@ neither true b e = absurd cc
 neither false b e = (refl, e)
 
 -- a block with no stop is passed, and the run goes on behind it
-pub block_passed : (q : ℕ → Bool) (xs : List ℕ) (i n r : ℕ) → i + n ≤ length xs → r ≡ prefix_len q (chunk i n xs) → r ≡ n → prefix_len q (drop i xs) ≡ n + prefix_len q (drop (i + n) xs)
+pub block_passed : (q : ℕ → Bool) (xs : List ℕ) (i n r : ℕ) → i + n ≤ length xs → r ≡ prefix_len q (chunk i n xs) →
+    r ≡ n → prefix_len q (drop i xs) ≡ n + prefix_len q (drop (i + n) xs)
 block_passed q xs i n r room e whole =
     let long = length-chunk i n xs room in
     ap (prefix_len q) (chunk-drop i n xs) ∙ prefix_len-append q (chunk i n xs) (drop (i + n) xs)
     ∙ cond-true _ _ _ (eq-eqb _ _ (sym e ∙ whole ∙ sym long)) ∙ ap (λ k. k + prefix_len q (drop (i + n) xs)) long
 
 -- the run ends within a block
-pub block_stops : (q : ℕ → Bool) (xs : List ℕ) (i r : ℕ) → i + 32 ≤ length xs → r ≡ prefix_len q (chunk i 32 xs) → r < 32 → prefix_len q (drop i xs) ≡ r
+pub block_stops : (q : ℕ → Bool) (xs : List ℕ) (i r : ℕ) → i + 32 ≤ length xs → r ≡ prefix_len q (chunk i 32 xs) →
+    r < 32 → prefix_len q (drop i xs) ≡ r
 block_stops q xs i r room e short =
     let long = length-chunk i 32 xs room in
     ap (prefix_len q) (chunk-drop i 32 xs) ∙ prefix_len-append q (chunk i 32 xs) (drop (i + 32) xs)
-    ∙ cond-false _ _ _ (ne_eqb (prefix_len q (chunk i 32 xs)) (length (chunk i 32 xs)) (λ same. omega (arith, same, long, e, short))) ∙ sym e
+    ∙
+    cond-false _ _ _
+    (ne_eqb (prefix_len q (chunk i 32 xs)) (length (chunk i 32 xs)) (λ same. omega (arith, same, long, e, short)))
+    ∙ sym e
 
 -- the bytes of two segments, one behind the other
-pub counts_more : (test : ℕ → Bool) (xs : List ℕ) (n m : ℕ) → n ≤ length xs → count_by test (take (n + m) xs) ≡ count_by test (take n xs) + count_by test (take m (drop n xs))
+pub counts_more : (test : ℕ → Bool) (xs : List ℕ) (n m : ℕ) → n ≤ length xs →
+    count_by test (take (n + m) xs) ≡ count_by test (take n xs) + count_by test (take m (drop n xs))
 counts_more test xs n m h =
     let d = take-append-drop n xs in
     let l = length-take-le n xs h in
-    let t : take (n + m) xs ≡ take n xs ++ take m (drop n xs) = ap (take (n + m)) (sym d) ∙ (ap (λ k. take (k + m) (take n xs ++ drop n xs)) (sym l) ∙ take-append-add (take n xs) (drop n xs) m) in
+    let t : take (n + m) xs ≡ take n xs ++ take m (drop n xs) =
+    ap (take (n + m)) (sym d) ∙
+    (ap (λ k. take (k + m) (take n xs ++ drop n xs)) (sym l) ∙ take-append-add (take n xs) (drop n xs) m) in
     ap (count_by test) t ∙ sum_by-append (λ b. cond (test b) 1 0) (take n xs) (take m (drop n xs))
 
 -- a block's, behind those before it
-pub counts_block : (test : ℕ → Bool) (xs : List ℕ) (i r a b : ℕ) → i ≤ length xs → r ≤ 32 → a ≡ count_by test (take i xs) → b ≡ count_by test (take r (chunk i 32 xs)) → a + b ≡ count_by test (take (i + r) xs)
+pub counts_block : (test : ℕ → Bool) (xs : List ℕ) (i r a b : ℕ) → i ≤ length xs → r ≤ 32 →
+    a ≡ count_by test (take i xs) → b ≡ count_by test (take r (chunk i 32 xs)) → a + b ≡ count_by test (take (i + r) xs)
 counts_block test xs i r a b h few e f =
     ap₂ (λ x y. x + y) e (f ∙ ap (count_by test) (take-take r 32 (drop i xs) few)) ∙ sym (counts_more test xs i r h)
 
 -- those of the bytes behind the blocks
-pub counts_rest : (test : ℕ → Bool) (xs : List ℕ) (i r a b : ℕ) → i ≤ length xs → a ≡ count_by test (take i xs) → b ≡ count_by test (take r (slice_range xs i (length xs))) → a + b ≡ count_by test (take (i + r) xs)
+pub counts_rest : (test : ℕ → Bool) (xs : List ℕ) (i r a b : ℕ) → i ≤ length xs → a ≡ count_by test (take i xs) →
+    b ≡ count_by test (take r (slice_range xs i (length xs))) → a + b ≡ count_by test (take (i + r) xs)
 counts_rest test xs i r a b h e f =
     ap₂ (λ x y. x + y) e (f ∙ ap (λ ys. count_by test (take r ys)) (take_rest xs i)) ∙ sym (counts_more test xs i r h)
 
-pub rest_of_run : (q : ℕ → Bool) (xs : List ℕ) (i r : ℕ) → prefix_len q xs ≡ i + prefix_len q (drop i xs) → r ≡ prefix_len q (slice_range xs i (length xs)) → i + r ≡ prefix_len q xs
+pub rest_of_run : (q : ℕ → Bool) (xs : List ℕ) (i r : ℕ) → prefix_len q xs ≡ i + prefix_len q (drop i xs) →
+    r ≡ prefix_len q (slice_range xs i (length xs)) → i + r ≡ prefix_len q xs
 rest_of_run q xs i r e f = ap (λ k. i + k) (f ∙ ap (prefix_len q) (take_rest xs i)) ∙ sym e
 
 -- a test that was turned twice
@@ -142,7 +180,8 @@ pub turned_twice : (p : ℕ → Bool) (xs : List ℕ) → prefix_len (λ b. not 
 turned_twice p [] = refl
 turned_twice p (x ∷ xs) = by (p x) (turned_twice p xs)
   where
-    by : (t : Bool) → prefix_len (λ b. not (not (p b))) xs ≡ prefix_len p xs → cond (not (not t)) (1 + prefix_len (λ b. not (not (p b))) xs) 0 ≡ cond t (1 + prefix_len p xs) 0
+    by : (t : Bool) → prefix_len (λ b. not (not (p b))) xs ≡ prefix_len p xs →
+        cond (not (not t)) (1 + prefix_len (λ b. not (not (p b))) xs) 0 ≡ cond t (1 + prefix_len p xs) 0
     by true e = ap (λ n. 1 + n) e
     by false e = refl
 
@@ -150,7 +189,8 @@ pub source-is_run : (xs : List ℕ) → length (source xs) ≡ prefix_len (λ b.
 source-is_run [] = refl
 source-is_run (b ∷ xs) = by (eqb b 26) (source-is_run xs)
   where
-    by : (t : Bool) → length (source xs) ≡ prefix_len (λ b. not (eqb b 26)) xs → length (cond t [] (b ∷ source xs)) ≡ cond (not t) (1 + prefix_len (λ b. not (eqb b 26)) xs) 0
+    by : (t : Bool) → length (source xs) ≡ prefix_len (λ b. not (eqb b 26)) xs →
+        length (cond t [] (b ∷ source xs)) ≡ cond (not t) (1 + prefix_len (λ b. not (eqb b 26)) xs) 0
     by true e = refl
     by false e = omega (arith, e)
 

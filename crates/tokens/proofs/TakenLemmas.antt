@@ -23,15 +23,19 @@ use Rattle.tokens.proofs.LocatedTokensLemmas.{IsPiece, front-is_piece}
 use Rattle.tokens.proofs.CommentLemmas.{in_star}
 use Rattle.tokens.proofs.BeginLemmas.{in_slash}
 
-pub TakesBytes-then : {old mid new : ℕ} {told told' told'' : Option (List ℕ)} → TakesBytes old mid told told' → TakesBytes mid new told' told'' → TakesBytes old new told told''
+pub TakesBytes-then : {old mid new : ℕ} {told told' told'' : Option (List ℕ)} → TakesBytes old mid told told' →
+    TakesBytes mid new told' told'' → TakesBytes old new told told''
 TakesBytes-then f g = record { rest = λ total e. g.rest total (f.rest total e) }
 
 -- nothing is taken where the window goes on
-pub TakesBytes-pass : {old mid new : ℕ} {told told' : Option (List ℕ)} → new ≡ mid → TakesBytes old mid told told' → TakesBytes old new told told'
+pub TakesBytes-pass : {old mid new : ℕ} {told told' : Option (List ℕ)} → new ≡ mid → TakesBytes old mid told told' →
+    TakesBytes old new told told'
 TakesBytes-pass {old} {mid} {new} {told} {told'} e f = subst (λ (n : ℕ). TakesBytes old n told told') (sym e) f
 
 -- a window that went on goes on
-goes_on : (counted counted' : Account) (old mid new : Held) (told told' told'' : Option (List ℕ)) (after : Account) (ended : Bool) → TakesBytes old.taken mid.taken told told' → old.place ≤ mid.place → counted' ≡ counted → WentOn mid new told' told'' counted' after ended → WentOn old new told told'' counted after ended
+goes_on : (counted counted' : Account) (old mid new : Held) (told told' told'' : Option (List ℕ)) (after : Account)
+    (ended : Bool) → TakesBytes old.taken mid.taken told told' → old.place ≤ mid.place → counted' ≡ counted →
+    WentOn mid new told' told'' counted' after ended → WentOn old new told told'' counted after ended
 goes_on counted counted' old mid new told told' told'' after ended took forward count asks = record {
   took = TakesBytes-then took asks.took;
   forward = omega (arith, forward, asks.forward);
@@ -42,17 +46,29 @@ goes_on counted counted' old mid new told told' told'' after ended took forward 
   known = asks.known;
 }
 
-pub then-asks : {T : Type 0} (r : Result T DeviceFault) (old mid new : Held) (told told' told'' : Option (List ℕ)) (before between after : Account) (ended : Bool) → TakesBytes old.taken mid.taken told told' → old.place ≤ mid.place → between ≡ before → Asks r mid new told' told'' between after ended → Asks r old new told told'' before after ended
-then-asks (Ok x) old mid new told told' told'' before between after ended took forward count asks = goes_on before between old mid new told told' told'' after ended took forward count asks
-then-asks (Err x) old mid new told told' told'' before between after ended took forward count asks = goes_on (failed_again before) (failed_again between) old mid new told told' told'' after ended took forward (ap failed_again count) asks
+pub then-asks : {T : Type 0} (r : Result T DeviceFault) (old mid new : Held) (told told' told'' : Option (List ℕ))
+    (before between after : Account) (ended : Bool) → TakesBytes old.taken mid.taken told told' →
+    old.place ≤ mid.place → between ≡ before → Asks r mid new told' told'' between after ended →
+    Asks r old new told told'' before after ended
+then-asks (Ok x) old mid new told told' told'' before between after ended took forward count asks =
+    goes_on before between old mid new told told' told'' after ended took forward count asks
+then-asks (Err x) old mid new told told' told'' before between after ended took forward count asks =
+    goes_on (failed_again before) (failed_again between) old mid new told told' told'' after ended took forward
+    (ap failed_again count) asks
 
 -- and may fail then
-pub then-fails : {T : Type 0} (r : Result T DeviceFault) (P : DeviceFault → Type 0) → IsErrAnd r P → (old mid new : Held) (told told' told'' : Option (List ℕ)) (before between after : Account) (ended : Bool) → TakesBytes old.taken mid.taken told told' → old.place ≤ mid.place → between ≡ before → WentOn mid new told' told'' (failed_again between) after ended → Asks r old new told told'' before after ended
+pub then-fails : {T : Type 0} (r : Result T DeviceFault) (P : DeviceFault → Type 0) → IsErrAnd r P →
+    (old mid new : Held) (told told' told'' : Option (List ℕ)) (before between after : Account) (ended : Bool) →
+    TakesBytes old.taken mid.taken told told' → old.place ≤ mid.place → between ≡ before →
+    WentOn mid new told' told'' (failed_again between) after ended → Asks r old new told told'' before after ended
 then-fails (Ok x) P h old mid new told told' told'' before between after ended took forward count asks = absurd h
-then-fails (Err x) P h old mid new told told' told'' before between after ended took forward count asks = goes_on (failed_again before) (failed_again between) old mid new told told' told'' after ended took forward (ap failed_again count) asks
+then-fails (Err x) P h old mid new told told' told'' before between after ended took forward count asks =
+    goes_on (failed_again before) (failed_again between) old mid new told told' told'' after ended took forward
+    (ap failed_again count) asks
 
 -- nothing was taken before the window went on
-pub TakesBytes-from : {old mid new : ℕ} {told told' : Option (List ℕ)} → mid ≡ old → TakesBytes mid new told told' → TakesBytes old new told told'
+pub TakesBytes-from : {old mid new : ℕ} {told told' : Option (List ℕ)} → mid ≡ old → TakesBytes mid new told told' →
+    TakesBytes old new told told'
 TakesBytes-from {old} {mid} {new} {told} {told'} e f = subst (λ (n : ℕ). TakesBytes n new told told') e f
 
 -- what a call that failed leaves
@@ -62,12 +78,14 @@ on_err-from (Err x) p = p
 
 -- the first token is open where it begins
 pub record EndsBehind (made : Ahead → List LocatedToken) : Type 0 where
-  pub ends : (a : Ahead) (first : LocatedToken) (others : List LocatedToken) → made a ≡ first ∷ others → a.place ≤ undecided_until first
+  pub ends : (a : Ahead) (first : LocatedToken) (others : List LocatedToken) → made a ≡ first ∷ others →
+      a.place ≤ undecided_until first
 
 same_first : (x first : LocatedToken) (xs others : List LocatedToken) → x ∷ xs ≡ first ∷ others → x ≡ first
 same_first x first xs others e = cc
 
-at_most : (place : ℕ) (x first : LocatedToken) (xs others : List LocatedToken) → place ≤ undecided_until x → x ∷ xs ≡ first ∷ others → place ≤ undecided_until first
+at_most : (place : ℕ) (x first : LocatedToken) (xs others : List LocatedToken) → place ≤ undecided_until x →
+    x ∷ xs ≡ first ∷ others → place ≤ undecided_until first
 at_most place x first xs others h e = omega (arith, h, ap undecided_until (same_first x first xs others e))
 
 -- a token of more than no bytes is open where it begins, and any other that isn't decided by its last byte
@@ -78,7 +96,8 @@ open-placed token count a h = by (is_decided_by_last_byte token)
     by true = omega (arith, h)
     by false = omega arith
 
-open-undecided : (token : Token) (count : ℕ) (a : Ahead) → is_decided_by_last_byte token ≡ false → a.place ≤ undecided_until (placed token count a)
+open-undecided : (token : Token) (count : ℕ) (a : Ahead) → is_decided_by_last_byte token ≡ false →
+    a.place ≤ undecided_until (placed token count a)
 open-undecided token count a h = by (is_decided_by_last_byte token) h
   where
     by : (t : Bool) → t ≡ false → a.place ≤ cond t (a.place + count - 1) (a.place + count)
@@ -88,7 +107,8 @@ open-undecided token count a h = by (is_decided_by_last_byte token) h
 place-behind_byte : (a : Ahead) → a.place ≤ (behind_byte a).place
 place-behind_byte a = by a.line a.place a.bytes a.too_long
   where
-    by : (line place : ℕ) (xs : List ℕ) (t : Bool) → let b : Ahead = record { line = line; place = place; bytes = xs; too_long = t } in place ≤ (behind_byte b).place
+    by : (line place : ℕ) (xs : List ℕ) (t : Bool) → let b : Ahead =
+        record { line = line; place = place; bytes = xs; too_long = t } in place ≤ (behind_byte b).place
     by line place [] t = omega arith
     by line place (x ∷ xs) t = omega arith
 
@@ -96,32 +116,52 @@ pub place-passed : (n : ℕ) (a : Ahead) → a.place ≤ (passed n a).place
 place-passed zero a = omega arith
 place-passed (suc n) a = omega (arith, place-behind_byte a, place-passed n (behind_byte a))
 
-pub last-open : (token : Token) (line : ℕ) (end : Ahead) → is_decided_by_last_byte token ≡ false → end.place ≤ undecided_until (last_located_token token line end)
+pub last-open : (token : Token) (line : ℕ) (end : Ahead) → is_decided_by_last_byte token ≡ false →
+    end.place ≤ undecided_until (last_located_token token line end)
 last-open token line end h = by end.too_long
   where
     here : (u : Bool) → u ≡ false → end.place ≤ cond u (end.place - 1) end.place
     here true h = absurd cc
     here false h = omega arith
 
-    by : (t : Bool) → end.place ≤ undecided_until (cond t (let x : LocatedToken = record { token = variant.Fault SourceTooLong; line = end.line; end = end.place + 1 } in x) (let x : LocatedToken = record { token = token; line = line; end = end.place } in x))
+    by : (t : Bool) →
+        end.place ≤
+        undecided_until
+        (cond t
+        (let x : LocatedToken =
+        record { token = variant.Fault SourceTooLong; line = end.line; end = end.place + 1 } in
+        x) (let x : LocatedToken = record { token = token; line = line; end = end.place } in x))
     by true = omega arith
     by false = here (is_decided_by_last_byte token) h
 
 pub last-behind : (token : Token) (line : ℕ) (end : Ahead) → end.place ≤ (last_located_token token line end).end
 last-behind token line end = by end.too_long
   where
-    by : (t : Bool) → end.place ≤ (cond t (let x : LocatedToken = record { token = variant.Fault SourceTooLong; line = end.line; end = end.place + 1 } in x) (let x : LocatedToken = record { token = token; line = line; end = end.place } in x)).end
+    by : (t : Bool) →
+        end.place ≤
+        (cond t
+        (let x : LocatedToken =
+        record { token = variant.Fault SourceTooLong; line = end.line; end = end.place + 1 } in
+        x) (let x : LocatedToken = record { token = token; line = line; end = end.place } in x)).end
     by true = omega arith
     by false = omega arith
 
-last-ends : (place : ℕ) (token : Token) (line : ℕ) (a : Ahead) (first : LocatedToken) (others : List LocatedToken) → is_decided_by_last_byte token ≡ false → place ≤ a.place → last_located_token token line (at_end a) ∷ [] ≡ first ∷ others → place ≤ undecided_until first
-last-ends place token line a first others u h e = at_most place _ first [] others (omega (arith, h, last-open token line (at_end a) u, place-passed (length a.bytes) a)) e
+last-ends : (place : ℕ) (token : Token) (line : ℕ) (a : Ahead) (first : LocatedToken) (others : List LocatedToken) →
+    is_decided_by_last_byte token ≡ false → place ≤ a.place →
+    last_located_token token line (at_end a) ∷ [] ≡ first ∷ others → place ≤ undecided_until first
+last-ends place token line a first others u h e =
+    at_most place _ first [] others
+    (omega (arith, h, last-open token line (at_end a) u, place-passed (length a.bytes) a)) e
 
-cut-ends : (n : ℕ) (a : Ahead) (first : LocatedToken) (others : List LocatedToken) → cut n a ≡ first ∷ others → a.place ≤ undecided_until first
+cut-ends : (n : ℕ) (a : Ahead) (first : LocatedToken) (others : List LocatedToken) → cut n a ≡ first ∷ others →
+    a.place ≤ undecided_until first
 cut-ends zero a first others e = absurd cc
-cut-ends (suc n) a first others e = by (front a.bytes) (front-is_piece a.bytes) (λ count. cut-ends n (passed count a) first others) e
+cut-ends (suc n) a first others e =
+    by (front a.bytes) (front-is_piece a.bytes) (λ count. cut-ends n (passed count a) first others) e
   where
-    by : (f : Front) → IsPiece f → ((count : ℕ) → cut n (passed count a) ≡ first ∷ others → (passed count a).place ≤ undecided_until first) → cut_front f a (cut n) ≡ first ∷ others → a.place ≤ undecided_until first
+    by : (f : Front) → IsPiece f →
+        ((count : ℕ) → cut n (passed count a) ≡ first ∷ others → (passed count a).place ≤ undecided_until first) →
+        cut_front f a (cut n) ≡ first ∷ others → a.place ≤ undecided_until first
     by Nothing p h e = last-ends a.place variant.End a.line a first others refl (omega arith) e
     by Unclosed p h e = last-ends a.place (variant.Fault CommentNotClosed) a.line a first others refl (omega arith) e
     by (Space count) p h e = omega (arith, h count e, place-passed count a)
@@ -131,16 +171,25 @@ pub located_tokens-end : EndsBehind located_tokens
 unfolding located_tokens
 located_tokens-end = record { ends = λ a. cut-ends (suc (length a.bytes)) a }
 
-pub in_run-ends : (test : ℕ → Bool) (token_of : List ℕ → Token) → ((bytes : List ℕ) → is_decided_by_last_byte (token_of bytes) ≡ false) → EndsBehind (in_run test token_of)
+pub in_run-ends : (test : ℕ → Bool) (token_of : List ℕ → Token) →
+    ((bytes : List ℕ) → is_decided_by_last_byte (token_of bytes) ≡ false) → EndsBehind (in_run test token_of)
 unfolding in_run followed
-in_run-ends test token_of u = record { ends = λ a first others e. at_most a.place (placed (token_of (take (prefix_len test a.bytes) a.bytes)) (prefix_len test a.bytes) a) first _ others (open-undecided _ (prefix_len test a.bytes) a (u (take (prefix_len test a.bytes) a.bytes))) e }
+in_run-ends test token_of u =
+    record {
+      ends =
+          λ a first others e. at_most a.place
+          (placed (token_of (take (prefix_len test a.bytes) a.bytes)) (prefix_len test a.bytes) a) first _ others
+          (open-undecided _ (prefix_len test a.bytes) a (u (take (prefix_len test a.bytes) a.bytes))) e;
+    }
 
 -- a name isn't decided by its last byte, nor is a constant
-pub name-undecided : (name : List ℕ) (too_long : Bool) (more : List ℕ) → is_decided_by_last_byte (name_going_on name too_long more) ≡ false
+pub name-undecided : (name : List ℕ) (too_long : Bool) (more : List ℕ) →
+    is_decided_by_last_byte (name_going_on name too_long more) ≡ false
 name-undecided name true more = refl
 name-undecided name false more = by (nat_le (length (name ++ more)) 31) (word_of (name ++ more))
   where
-    by : (t : Bool) (w : Option Word) → is_decided_by_last_byte (cond t (name_or (name ++ more) w) (variant.Fault NameTooLong)) ≡ false
+    by : (t : Bool) (w : Option Word) →
+        is_decided_by_last_byte (cond t (name_or (name ++ more) w) (variant.Fault NameTooLong)) ≡ false
     by true None = refl
     by true (Some word) = refl
     by false w = refl
@@ -151,16 +200,26 @@ constant-undecided value more = by (fold (λ value digit. 10 * value + (digit - 
     by : (n : ℕ) → is_decided_by_last_byte (value_token n) ≡ false
     by n = either (nat_le n 2147483647)
       where
-        either : (t : Bool) → is_decided_by_last_byte (cond t (variant.Constant n) (variant.Fault ConstantTooLarge)) ≡ false
+        either : (t : Bool) →
+            is_decided_by_last_byte (cond t (variant.Constant n) (variant.Fault ConstantTooLarge)) ≡ false
         either true = refl
         either false = refl
 
-grown-ends : (punctuator : Punctuator) (bytes : List ℕ) (a : Ahead) (first : LocatedToken) (others : List LocatedToken) → grown punctuator bytes a ≡ first ∷ others → a.place ≤ undecided_until first
+grown-ends : (punctuator : Punctuator) (bytes : List ℕ) (a : Ahead) (first : LocatedToken) (others : List LocatedToken)
+    → grown punctuator bytes a ≡ first ∷ others → a.place ≤ undecided_until first
 unfolding followed
-grown-ends punctuator [] a first others e = at_most a.place (ending (variant.Punctuator punctuator) a) first _ others (omega arith) e
-grown-ends punctuator (b ∷ rest) a first others e = by (punctuator_of (spelling punctuator ++ b ∷ [])) (λ longer. grown-ends longer rest (behind_byte a) first others) e
+grown-ends punctuator [] a first others e =
+    at_most a.place (ending (variant.Punctuator punctuator) a) first _ others (omega arith) e
+grown-ends punctuator (b ∷ rest) a first others e =
+    by (punctuator_of (spelling punctuator ++ b ∷ [])) (λ longer. grown-ends longer rest (behind_byte a) first others) e
   where
-    by : (o : Option Punctuator) → ((longer : Punctuator) → grown longer rest (behind_byte a) ≡ first ∷ others → (behind_byte a).place ≤ undecided_until first) → elim o [ None ↦ followed (ending (variant.Punctuator punctuator) a) a | Some longer ↦ grown longer rest (behind_byte a) ] ≡ first ∷ others → a.place ≤ undecided_until first
+    by : (o : Option Punctuator) →
+        ((longer : Punctuator) → grown longer rest (behind_byte a) ≡ first ∷ others →
+        (behind_byte a).place ≤ undecided_until first) →
+        elim o [
+          | None ↦ followed (ending (variant.Punctuator punctuator) a) a
+          | Some longer ↦ grown longer rest (behind_byte a)
+        ] ≡ first ∷ others → a.place ≤ undecided_until first
     by None h e = at_most a.place (ending (variant.Punctuator punctuator) a) first _ others (omega arith) e
     by (Some longer) h e = omega (arith, h longer e, place-behind_byte a)
 
@@ -172,11 +231,16 @@ pub in_comment-ends : (line : ℕ) → EndsBehind (in_comment line)
 unfolding in_comment
 in_comment-ends line = record { ends = λ a first others. by a first others (up_to_close a.bytes) }
   where
-    by : (a : Ahead) (first : LocatedToken) (others : List LocatedToken) (o : Option ℕ) → closed_at o line a ≡ first ∷ others → a.place ≤ undecided_until first
-    by a first others None e = last-ends a.place (variant.Fault CommentNotClosed) line a first others refl (omega arith) e
-    by a first others (Some count) e = omega (arith, located_tokens-end.ends (passed count a) first others e, place-passed count a)
+    by : (a : Ahead) (first : LocatedToken) (others : List LocatedToken) (o : Option ℕ) →
+        closed_at o line a ≡ first ∷ others → a.place ≤ undecided_until first
+    by a first others None e =
+        last-ends a.place (variant.Fault CommentNotClosed) line a first others refl (omega arith) e
+    by a first others (Some count) e =
+        omega (arith, located_tokens-end.ends (passed count a) first others e, place-passed count a)
 
-either-ends : (t : Bool) (place : ℕ) (xs ys : List LocatedToken) (first : LocatedToken) (others : List LocatedToken) → (xs ≡ first ∷ others → place ≤ undecided_until first) → (ys ≡ first ∷ others → place ≤ undecided_until first) → cond t xs ys ≡ first ∷ others → place ≤ undecided_until first
+either-ends : (t : Bool) (place : ℕ) (xs ys : List LocatedToken) (first : LocatedToken) (others : List LocatedToken) →
+    (xs ≡ first ∷ others → place ≤ undecided_until first) → (ys ≡ first ∷ others → place ≤ undecided_until first) →
+    cond t xs ys ≡ first ∷ others → place ≤ undecided_until first
 either-ends true place xs ys first others f g e = f e
 either-ends false place xs ys first others f g e = g e
 
@@ -184,25 +248,34 @@ pub in_star-ends : (line : ℕ) → EndsBehind (in_star line)
 unfolding in_star
 in_star-ends line = record {
   ends = λ a first others. either-ends (begins_with 47 a.bytes) a.place _ _ first others
-      (λ e. omega (arith, located_tokens-end.ends (behind_byte a) first others e, place-behind_byte a)) ((in_comment-ends line).ends a first others);
+      (λ e. omega (arith, located_tokens-end.ends (behind_byte a) first others e, place-behind_byte a))
+      ((in_comment-ends line).ends a first others);
 }
 
 pub in_slash-ends : (line : ℕ) → EndsBehind (in_slash line)
 unfolding in_slash
 in_slash-ends line = record {
   ends = λ a first others. either-ends (begins_with 42 a.bytes) a.place _ _ first others
-      (λ e. omega (arith, (in_comment-ends line).ends (behind_byte a) first others e, place-behind_byte a)) ((in_punctuator-ends Slash).ends a first others);
+      (λ e. omega (arith, (in_comment-ends line).ends (behind_byte a) first others e, place-behind_byte a))
+      ((in_punctuator-ends Slash).ends a first others);
 }
 
 -- a read that failed took nothing behind the place that was reached
-pub stops : (made : Ahead → List LocatedToken) → EndsBehind made → (here new : Held) (told : Option (List ℕ)) → new.taken ≡ new.place → new.place ≡ here.place → StopsWithin made here new told
+pub stops : (made : Ahead → List LocatedToken) → EndsBehind made → (here new : Held) (told : Option (List ℕ)) →
+    new.taken ≡ new.place → new.place ≡ here.place → StopsWithin made here new told
 unfolding to_read
 stops made ends here new None t p = λ first others e. absurd cc
-stops made ends here new (Some to_come) t p = λ first others e. omega (arith, ends.ends (ahead here to_come) first others (same_Some _ _ e))
+stops made ends here new (Some to_come) t p =
+    λ first others e. omega (arith, ends.ends (ahead here to_come) first others (same_Some _ _ e))
 
-pub stops-from : (made made' : Ahead → List LocatedToken) (here old new : Held) (told told' : Option (List ℕ)) → to_read made here told' ≡ to_read made' old told → StopsWithin made here new told' → StopsWithin made' old new told
+pub stops-from : (made made' : Ahead → List LocatedToken) (here old new : Held) (told told' : Option (List ℕ)) →
+    to_read made here told' ≡ to_read made' old told → StopsWithin made here new told' → StopsWithin made' old new told
 stops-from made made' here old new told told' s f = λ first others e. f first others (s ∙ e)
 
 -- nor did it put a token
-pub fails-from : (made made' : Ahead → List LocatedToken) (here old new : Held) (told told' : Option (List ℕ)) {located_token mid_token new_token : LocatedToken} → to_read made here told' ≡ to_read made' old told → mid_token ≡ located_token → Fails made here new told' mid_token new_token → Fails made' old new told located_token new_token
-fails-from made made' here old new told told' s h f = record { within = stops-from made made' here old new told told' s f.within; unread = f.unread ∙ h }
+pub fails-from : (made made' : Ahead → List LocatedToken) (here old new : Held) (told told' : Option (List ℕ))
+    {located_token mid_token new_token : LocatedToken} → to_read made here told' ≡ to_read made' old told →
+    mid_token ≡ located_token → Fails made here new told' mid_token new_token →
+    Fails made' old new told located_token new_token
+fails-from made made' here old new told told' s h f =
+    record { within = stops-from made made' here old new told told' s f.within; unread = f.unread ∙ h }

@@ -17,21 +17,28 @@ use Rattle.tokens.specs.declared.windows.Beyond.TheVariants.{Unread, Nothing, To
 use Rattle.tokens.proofs.SourceLemmas.{source-append, source-ended, take-source, length-source-le}
 
 abbrev pub held : ℕ → ℕ → List ℕ → ℕ → Beyond → Held
-held line place at_hand taken beyond = record { line = line; place = place; at_hand = at_hand; taken = taken; beyond = beyond }
+held line place at_hand taken beyond =
+    record { line = line; place = place; at_hand = at_hand; taken = taken; beyond = beyond }
 
 -- the lines behind a byte and some more
-lines-cons : (line b : ℕ) (xs : List ℕ) → line_behind b line + count_by (λ b. eqb b 10) xs ≡ line + count_by (λ b. eqb b 10) (b ∷ xs)
+lines-cons : (line b : ℕ) (xs : List ℕ) →
+    line_behind b line + count_by (λ b. eqb b 10) xs ≡ line + count_by (λ b. eqb b 10) (b ∷ xs)
 lines-cons line b xs =
-    let e : count_by (λ b. eqb b 10) (b ∷ xs) ≡ cond (eqb b 10) 1 0 + count_by (λ b. eqb b 10) xs = sum_by-cons (λ b. cond (eqb b 10) 1 0) b xs in
+    let e : count_by (λ b. eqb b 10) (b ∷ xs) ≡ cond (eqb b 10) 1 0 + count_by (λ b. eqb b 10) xs =
+    sum_by-cons (λ b. cond (eqb b 10) 1 0) b xs in
     rw e (by (eqb b 10))
   where
-    by : (t : Bool) → cond t (line + 1) line + count_by (λ b. eqb b 10) xs ≡ line + (cond t 1 0 + count_by (λ b. eqb b 10) xs)
+    by : (t : Bool) →
+        cond t (line + 1) line + count_by (λ b. eqb b 10) xs ≡ line + (cond t 1 0 + count_by (λ b. eqb b 10) xs)
     by true = omega arith
     by false = omega arith
 
 -- so many bytes further on: the lines among them are counted
-pub behind-is : (line place taken : ℕ) (beyond : Beyond) (n : ℕ) (xs : List ℕ) → n ≤ length xs → behind n (held line place xs taken beyond) ≡ held (line + count_by (λ b. eqb b 10) (take n xs)) (place + n) (drop n xs) taken beyond
-behind-is line place taken beyond zero xs h = let e : line + 0 ≡ line = omega arith in let f : place + 0 ≡ place = omega arith in cc
+pub behind-is : (line place taken : ℕ) (beyond : Beyond) (n : ℕ) (xs : List ℕ) → n ≤ length xs →
+    behind n (held line place xs taken beyond) ≡
+    held (line + count_by (λ b. eqb b 10) (take n xs)) (place + n) (drop n xs) taken beyond
+behind-is line place taken beyond zero xs h =
+    let e : line + 0 ≡ line = omega arith in let f : place + 0 ≡ place = omega arith in cc
 behind-is line place taken beyond (suc n) [] h = absurd (omega (arith, h))
 behind-is line place taken beyond (suc n) (b ∷ xs) h =
     let e = lines-cons line b (take n xs) in
@@ -43,8 +50,13 @@ pub between-further : (xs : List ℕ) (i n j : ℕ) → between (i + n) j xs ≡
 between-further xs i n j = rw (between_is, between_is, drop-drop) refl
 
 -- behind a run of the bytes at hand
-pub run-passed : (q : ℕ → Bool) (line start taken next filled count lines : ℕ) (beyond : Beyond) (bytes : List ℕ) → count ≡ prefix_len q (between next filled bytes) → lines ≡ count_by (λ b. eqb b 10) (take count (between next filled bytes))
-    → held (line + lines) (start + (next + count)) (between (next + count) filled bytes) taken beyond ≡ behind (prefix_len q (between next filled bytes)) (held line (start + next) (between next filled bytes) taken beyond)
+pub run-passed : (q : ℕ → Bool) (line start taken next filled count lines : ℕ) (beyond : Beyond) (bytes : List ℕ) →
+    count ≡ prefix_len q (between next filled bytes) →
+    lines ≡ count_by (λ b. eqb b 10) (take count (between next filled bytes))
+    →
+    held (line + lines) (start + (next + count)) (between (next + count) filled bytes) taken beyond ≡
+    behind (prefix_len q (between next filled bytes))
+    (held line (start + next) (between next filled bytes) taken beyond)
 run-passed q line start taken next filled count lines beyond bytes e f =
     let at_hand = between next filled bytes in
     let within : count ≤ length at_hand = rw e (prefix_len-le-length q at_hand) in
@@ -54,8 +66,11 @@ run-passed q line start taken next filled count lines beyond bytes e f =
     rw (← e) (rw b (rw (d, p, f) refl))
 
 -- behind bytes at hand of which none ends a line
-pub in_line : (line start taken next filled count : ℕ) (beyond : Beyond) (bytes : List ℕ) → count ≤ length (between next filled bytes) → count_by (λ b. eqb b 10) (take count (between next filled bytes)) ≡ 0
-    → held line (start + (next + count)) (between (next + count) filled bytes) taken beyond ≡ behind count (held line (start + next) (between next filled bytes) taken beyond)
+pub in_line : (line start taken next filled count : ℕ) (beyond : Beyond) (bytes : List ℕ) →
+    count ≤ length (between next filled bytes) → count_by (λ b. eqb b 10) (take count (between next filled bytes)) ≡ 0
+    →
+    held line (start + (next + count)) (between (next + count) filled bytes) taken beyond ≡
+    behind count (held line (start + next) (between next filled bytes) taken beyond)
 in_line line start taken next filled count beyond bytes h z =
     let b = behind-is line (start + next) taken beyond count (between next filled bytes) h in
     let d = between-further bytes next count filled in
@@ -71,10 +86,13 @@ pub record IsSame (buffer to_come rest : List ℕ) (taken n kept : ℕ) (beyond 
   pub bytes : take kept buffer ++ later beyond (taken + n) rest ≡ later Unread taken to_come
   pub over : goes_on beyond (taken + n) rest ≡ goes_on Unread taken to_come
 
-pub filled-same : (beyond : Beyond) (buffer front rest : List ℕ) (taken n kept : ℕ) → Cuts front (1048576 - taken) kept beyond → take n buffer ≡ front → length front ≡ n → (n ≡ 0 → rest ≡ []) → IsSame buffer (front ++ rest) rest taken n kept beyond
+pub filled-same : (beyond : Beyond) (buffer front rest : List ℕ) (taken n kept : ℕ) →
+    Cuts front (1048576 - taken) kept beyond → take n buffer ≡ front → length front ≡ n → (n ≡ 0 → rest ≡ []) →
+    IsSame buffer (front ++ rest) rest taken n kept beyond
 filled-same Unread buffer front rest taken n kept h e l z =
     let whole = source-append front rest (omega (arith, ap length h.0)) in
-    let len : length (source (front ++ rest)) ≡ n + length (source rest) = ap length whole ∙ (length-append front (source rest) ∙ ap (λ k. k + length (source rest)) l) in
+    let len : length (source (front ++ rest)) ≡ n + length (source rest) =
+    ap length whole ∙ (length-append front (source rest) ∙ ap (λ k. k + length (source rest)) l) in
     let room : 1048576 - taken ≡ length front + (1048576 - (taken + n)) = omega (arith, l, h.2, h.3) in
     let kept_is : kept ≡ n = h.1 ∙ l in
     record {
@@ -83,17 +101,24 @@ filled-same Unread buffer front rest taken n kept h e l z =
     }
 filled-same TooMuch buffer front rest taken n kept h e l z =
     let whole = source-append front rest (omega (arith, ap length h.0)) in
-    let len : length (source (front ++ rest)) ≡ n + length (source rest) = ap length whole ∙ (length-append front (source rest) ∙ ap (λ k. k + length (source rest)) l) in
+    let len : length (source (front ++ rest)) ≡ n + length (source rest) =
+    ap length whole ∙ (length-append front (source rest) ∙ ap (λ k. k + length (source rest)) l) in
     record {
-      bytes = append-nil _ ∙ (ap (λ k. take k buffer) h.1 ∙ sym (take-take (1048576 - taken) n buffer (omega (arith, h.2, l))) ∙ ap (λ xs. take (1048576 - taken) xs) e
-          ∙ sym (take-append-le (1048576 - taken) front (source rest) (omega (arith, h.2))) ∙ ap (λ xs. take (1048576 - taken) xs) (sym whole));
+      bytes =
+          append-nil _ ∙ (ap (λ k. take k buffer) h.1 ∙
+          sym (take-take (1048576 - taken) n buffer (omega (arith, h.2, l))) ∙ ap (λ xs. take (1048576 - taken) xs) e
+          ∙ sym (take-append-le (1048576 - taken) front (source rest) (omega (arith, h.2))) ∙
+          ap (λ xs. take (1048576 - taken) xs) (sym whole));
       over = sym (lt-ltb _ _ (omega (arith, len, h.2, l)));
     }
 filled-same Nothing buffer front rest taken n kept h e l z =
     let same : source (front ++ rest) ≡ source front = ended n l z in
     record {
-      bytes = append-nil _ ∙ (sym (take-take kept n buffer (omega (arith, h.0, l, length-source-le front))) ∙ ap (λ xs. take kept xs) e ∙ ap (λ k. take k front) h.0
-          ∙ take-source front ∙ sym (take_all (1048576 - taken) (source front) h.1) ∙ ap (λ xs. take (1048576 - taken) xs) (sym same));
+      bytes =
+          append-nil _ ∙ (sym (take-take kept n buffer (omega (arith, h.0, l, length-source-le front))) ∙
+          ap (λ xs. take kept xs) e ∙ ap (λ k. take k front) h.0
+          ∙ take-source front ∙ sym (take_all (1048576 - taken) (source front) h.1) ∙
+          ap (λ xs. take (1048576 - taken) xs) (sym same));
       over = sym (le-ltb _ _ (omega (arith, ap length same, h.1)));
     }
   where
@@ -102,15 +127,22 @@ filled-same Nothing buffer front rest taken n kept h e l z =
     ended (suc m) l z = source-ended front rest (h.2 (omega (arith, l)))
 
 -- an empty window was filled
-pub refilled : (before after : Option (List ℕ)) (beyond : Beyond) (at_hand buffer bytes : List ℕ) (line place new_place taken n kept : ℕ) → at_hand ≡ [] → new_place ≡ place → Cuts (take n bytes) (1048576 - taken) kept beyond → take n bytes ≡ take n buffer → Gives before after buffer n → seen (held line new_place (between 0 kept bytes) (taken + n) beyond) after ≡ seen (held line place at_hand taken Unread) before
+pub refilled : (before after : Option (List ℕ)) (beyond : Beyond) (at_hand buffer bytes : List ℕ)
+    (line place new_place taken n kept : ℕ) → at_hand ≡ [] → new_place ≡ place →
+    Cuts (take n bytes) (1048576 - taken) kept beyond → take n bytes ≡ take n buffer → Gives before after buffer n →
+    seen (held line new_place (between 0 kept bytes) (taken + n) beyond) after ≡
+    seen (held line place at_hand taken Unread) before
 refilled None after beyond at_hand buffer bytes line place new_place taken n kept e p h f w = rw w refl
 refilled (Some told) after beyond at_hand buffer bytes line place new_place taken n kept e p h f w =
     let d = take-append-drop n told in
     let l = length-take-le n told w.within in
-    let same : IsSame bytes told (drop n told) taken n kept beyond = subst (λ (t : List ℕ). IsSame bytes t (drop n told) taken n kept beyond) d
-    (filled-same beyond bytes (take n told) (drop n told) taken n kept (rw (← w.front, ← f) h) (f ∙ w.front) l (λ z. rw (w.ends z) (drop_all n [] (omega arith)))) in
+    let same : IsSame bytes told (drop n told) taken n kept beyond =
+    subst (λ (t : List ℕ). IsSame bytes t (drop n told) taken n kept beyond) d
+    (filled-same beyond bytes (take n told) (drop n told) taken n kept (rw (← w.front, ← f) h) (f ∙ w.front) l
+    (λ z. rw (w.ends z) (drop_all n [] (omega arith)))) in
     rw (w.rest, e, p, between_from_start, same.bytes, same.over) refl
 
 -- nothing is at hand in an empty range
-pub empty-range : (bytes : List ℕ) (next filled : ℕ) → filled ≤ length bytes → next ≤ filled → between next filled bytes ≡ [] → filled ≡ next
+pub empty-range : (bytes : List ℕ) (next filled : ℕ) → filled ≤ length bytes → next ≤ filled →
+    between next filled bytes ≡ [] → filled ≡ next
 empty-range bytes next filled h o e = omega (arith, length-between bytes next filled h, ap length e)

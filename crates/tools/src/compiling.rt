@@ -6,7 +6,7 @@ use crate::faults::Fault;
 use crate::feeds::{FileFeed, opened};
 use crate::wishes::Wish;
 use code::{Maker, Profile, Program};
-use grammar::{Diagnostic, ParseFault};
+use grammar::{Diagnostic, ParseFault, Pools};
 use parser::parse;
 use tokens::{DeviceFault, Feed};
 
@@ -22,7 +22,7 @@ pub fn programs(rt: &HostRuntime, program: &str, wish: &Wish<'_>) -> Result<Vec<
     for word in wish.files() {
         let file = opened(rt, program, word)?;
         match compile(wish.profile(), &mut FileFeed::new(file)) {
-            Ok(Ok(made)) => programs.push(made).map_err(|_| Fault::Memory)?,
+            Ok(Ok(made)) => programs.push(made.program).map_err(|_| Fault::Memory)?,
             Ok(Err(diagnostic)) => {
                 tell_diagnostic(rt, word, &diagnostic);
                 is_faulty = true;
@@ -39,17 +39,29 @@ pub fn programs(rt: &HostRuntime, program: &str, wish: &Wish<'_>) -> Result<Vec<
     Ok(programs)
 }
 
-/// Compiles the file of a feed: returns its program, or its first fault.
+/// What a file compiles to: its program, and its names, which the program hasn't.
+#[derive(Drop)]
+pub struct Compiled {
+    /// The program.
+    pub program: Program,
+    /// The names of its externals, functions and variables.
+    pub names: Pools,
+}
+
+/// Compiles the file of a feed: returns its program and names, or its first fault.
 pub fn compile<F: Feed>(
     profile: Profile,
     feed: &mut F,
-) -> Result<Result<Program, Diagnostic>, DeviceFault>
+) -> Result<Result<Compiled, Diagnostic>, DeviceFault>
     requires count { (F.account feed.old).failures < 2 ^ 64 - 1 }
     requires not_ended { F.ended feed.old ≡ false }
 {
     let mut maker = Maker::new(profile);
     match parse(feed, &mut maker) {
-        Ok(names) => Ok(Ok(maker.finish(names))),
+        Ok(names) => {
+            let program = maker.finish(&names);
+            Ok(Ok(Compiled { program, names }))
+        }
         Err(ParseFault::Source(diagnostic)) => Ok(Err(diagnostic)),
         Err(ParseFault::Device) => Err(DeviceFault),
         Err(ParseFault::Memory) => unreachable!(),

@@ -11,7 +11,7 @@ mod outputs;
 mod wishes;
 
 pub use command_line::words;
-pub use compiling::{compile, name_of, programs, tell_diagnostic};
+pub use compiling::{Compiled, compile, name_of, programs, tell_diagnostic};
 pub use faults::{Fault, ended};
 pub use feeds::{FileFeed, opened, source_of};
 pub use options::{Known, Options, read_options};

@@ -2,7 +2,7 @@
 
 ghost use Rattle.std.specs.Prelude.{◌≤◌, length};
 
-use crate::notes::{Note, function_name, note_of};
+use crate::notes::{Note, place_of};
 use crate::requests::Request;
 use crate::rows::Rows;
 use arena::{Arena, MOST_ROBOTS};
@@ -47,11 +47,9 @@ impl Watcher for Asks<'_> {
         if !self.span.has(turn.cycle, turn.robot) {
             return;
         }
-        let line = match note_of(self.notes, turn.robot) {
-            Some(note) => note.line(pilot.machine().address()),
-            None => 0,
-        };
-        let added = add_ask(self.rows.text(), turn, pilot, line, &question);
+        let address = pilot.machine().address();
+        let (line, function) = place_of(self.notes, turn.robot, pilot.program(), address);
+        let added = add_ask(self.rows.text(), turn, function, line, &question);
         self.rows.note(added.map_err(Fault::from));
         self.rows.pass();
     }
@@ -65,12 +63,11 @@ impl Watcher for Asks<'_> {
 fn add_ask(
     text: &mut String,
     turn: Turn,
-    pilot: &Pilot<'_>,
+    function: &str,
     line: u32,
     question: &Question,
 ) -> Result<(), AllocError> {
     let (cycle, robot) = (turn.cycle, turn.robot.saturating_add(1));
-    let function = function_name(pilot.program(), pilot.machine().address());
     write!(text, "{cycle}\t{robot}\t{function}\t{line}\t")?;
     add_call(text, question)?;
     let reply = question.reply;

@@ -2,7 +2,7 @@
 
 ghost use Rattle.std.specs.Prelude.{◌<◌, ◌≤◌, length};
 
-use crate::notes::{Note, function_name, note_of};
+use crate::notes::{Note, note_of, place_of};
 use crate::requests::Request;
 use crate::rows::{Field, Rows};
 use arena::{Arena, MOST_ROBOTS};
@@ -238,11 +238,7 @@ impl Watcher for Events<'_> {
 
     fn restarts(&mut self, turn: Turn, pilot: &Pilot<'_>, cause: Cause) {
         let address = pilot.machine().address();
-        let function = function_name(pilot.program(), address);
-        let line = match note_of(self.notes, turn.robot) {
-            Some(note) => note.line(address),
-            None => 0,
-        };
+        let (line, function) = place_of(self.notes, turn.robot, pilot.program(), address);
         let fields = [
             Field::Text(word_of(cause)),
             Field::Text(function),

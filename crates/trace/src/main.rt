@@ -3,9 +3,12 @@
 
 mod asks;
 mod events;
+mod habits;
+mod items;
 mod notes;
 mod reports;
 mod requests;
+mod restarts;
 mod rows;
 mod steps;
 mod sums;

@@ -3,12 +3,13 @@
 ghost use Rattle.std.specs.Prelude.{◌<◌, ◌≤◌, IfOk, length};
 
 use code::{Profile, Program};
-use derivations::{Places, PlacesFault, lines};
+use derivations::{Places, lines};
 use findings::function_at;
+use grammar::Pools;
 use std::alloc::{AllocError, Global};
 use std::str;
 use tokens::{Pieces, WINDOW};
-use tools::{Fault, Wish, compile, name_of, source_of, tell_diagnostic};
+use tools::{Compiled, Fault, Wish, compile, name_of, source_of, tell_diagnostic};
 
 /// What is known of a file beside its program.
 #[derive(Drop)]
@@ -19,6 +20,8 @@ pub struct Note {
     pub text: Vec<u8>,
     /// Where its instructions come from.
     pub places: Places,
+    /// The names of its functions and variables.
+    pub names: Pools,
 }
 
 impl Note {
@@ -27,6 +30,19 @@ impl Note {
         match self.places.place(address) {
             Some(place) => place.line,
             None => 0,
+        }
+    }
+
+    /// Returns the name of the function of the file's program that holds an address.
+    pub fn function(&self, program: &Program, address: usize) -> &str {
+        self.function_name(function_at(program.addresses(), address))
+    }
+
+    /// Returns the name of the function of this number.
+    pub fn function_name(&self, number: usize) -> &str {
+        match self.names.functions().get(number) {
+            Some(function) => str::from_utf8(function.name().as_bytes()).unwrap_or("?"),
+            None => "?",
         }
     }
 
@@ -49,12 +65,16 @@ pub fn note_of(notes: &[Note], robot: usize) -> Option<&Note> {
     }
 }
 
-/// Returns the name of the function that holds an address.
-pub fn function_name(program: &Program, address: usize) -> &str {
-    let number = function_at(program.addresses(), address);
-    match program.names().functions().get(number) {
-        Some(function) => str::from_utf8(function.name().as_bytes()).unwrap_or("?"),
-        None => "?",
+/// Returns the line that the instruction of an address of a robot's program comes from, and the name of its function.
+pub fn place_of<'a>(
+    notes: &'a [Note],
+    robot: usize,
+    program: &Program,
+    address: usize,
+) -> (u32, &'a str) {
+    match note_of(notes, robot) {
+        Some(note) => (note.line(address), note.function(program, address)),
+        None => (0, "?"),
     }
 }
 
@@ -100,7 +120,10 @@ fn compiled_file(
 ) -> Result<Option<(Program, Note)>, Fault> {
     let text = source_of(rt, program, word)?;
     match compile(wish.profile(), &mut Pieces::new(text.as_slice(), WINDOW)) {
-        Ok(Ok(made)) => Ok(Some((made, noted(rt.alloc(), wish.profile(), word, text)?))),
+        Ok(Ok(Compiled { program, names })) => {
+            let note = noted(rt.alloc(), wish.profile(), word, text, names)?;
+            Ok(Some((program, note)))
+        }
         Ok(Err(diagnostic)) => {
             tell_diagnostic(rt, word, &diagnostic);
             Ok(None)
@@ -109,19 +132,23 @@ fn compiled_file(
     }
 }
 
-/// Returns the note of the file of a word with this text.
-fn noted(alloc: Global, profile: Profile, word: &str, text: Vec<u8>) -> Result<Note, Fault> {
-    let places = lines(alloc, text.as_slice(), profile).map_err(fault_of)?;
+/// Returns the note of the file of a word with this text and these names.
+fn noted(
+    alloc: Global,
+    profile: Profile,
+    word: &str,
+    text: Vec<u8>,
+    names: Pools,
+) -> Result<Note, Fault> {
+    // the source of a program has a place for each instruction
+    let places = lines(text.as_slice(), profile).ok_or(Fault::Source)?;
     let name = plain(alloc, name_of(word).as_bytes())?;
-    Ok(Note { name, text, places })
-}
-
-/// Returns the fault of places that are not found: the source of a program has them all.
-fn fault_of(fault: PlacesFault) -> Fault {
-    match fault {
-        PlacesFault::Misfit => Fault::Source,
-        PlacesFault::Memory => Fault::Memory,
-    }
+    Ok(Note {
+        name,
+        text,
+        places,
+        names,
+    })
 }
 
 /// Returns bytes as text on one line: a tab is a blank, and each other control character a question mark, as is each byte

@@ -1,15 +1,18 @@
 //! The report of a match's sums.
 
-use crate::notes::{Note, function_name, note_of, plain};
+use crate::habits::{add_calls, add_directions, add_streak};
+use crate::items::Items;
+use crate::notes::{Note, note_of, plain};
 use crate::requests::Request;
-use crate::tallies::{INTRINSICS, Tally};
-use code::{Cause, Intrinsic, Program};
+use crate::restarts::add_restarts;
+use crate::tallies::{Tally, add, clear};
+use code::{Intrinsic, Program};
 use findings::{function_at, largest, percent};
 use playing::Pilot;
 use std::alloc::AllocError;
 use std::str;
 
-/// How many lines of a source, and how many places of restarts, are told.
+/// How many lines of a source are told.
 const MOST_TOLD: usize = 10;
 
 /// How many characters of a line of a source are told.
@@ -77,9 +80,11 @@ fn add_robot(
     add_taken(text, tally)?;
     add_shots(text, tally)?;
     add_restarts(text, tally, note, program)?;
+    add_streak(text, tally, note, program)?;
     add_time(text, tally)?;
     add_calls(text, tally)?;
-    add_functions(text, tally, program)?;
+    add_directions(text, tally)?;
+    add_functions(text, tally, note, program)?;
     add_lines(text, tally, note)
 }
 
@@ -146,55 +151,6 @@ fn add_shots(text: &mut String, tally: &Tally) -> Result<(), AllocError> {
     items.end(text)
 }
 
-/// Adds where and why a robot restarted, the most frequent places first.
-fn add_restarts(
-    text: &mut String,
-    tally: &Tally,
-    note: &Note,
-    program: &Program,
-) -> Result<(), AllocError> {
-    let mut items = Items::new("restarts");
-    let mut counts = Vec::new(*text.allocator());
-    for spot in tally.spots.as_slice() {
-        counts.push(spot.restarts)?;
-    }
-    for _ in 0..MOST_TOLD {
-        let Some(address) = largest(counts.as_slice()) else {
-            break;
-        };
-        items.begin(text)?;
-        add_restart(text, address, tally, note, program)?;
-        clear(counts.as_mut_slice(), address);
-    }
-    items.end(text)
-}
-
-/// Adds the restarts at an address.
-fn add_restart(
-    text: &mut String,
-    address: usize,
-    tally: &Tally,
-    note: &Note,
-    program: &Program,
-) -> Result<(), AllocError> {
-    let Some(spot) = tally.spots.get(address) else {
-        return Ok(());
-    };
-    let (count, why) = (spot.restarts, reason(spot.cause));
-    let (line, function) = (note.line(address), function_name(program, address));
-    write!(text, "{count} in line {line} of {function}: {why}")
-}
-
-/// Returns the words for the cause of a restart.
-fn reason(cause: Option<Cause>) -> &'static str {
-    match cause {
-        Some(Cause::Words) => "the stack was full",
-        Some(Cause::Frames) => "too many calls were open",
-        Some(Cause::Returned) => "main returned",
-        None => "",
-    }
-}
-
 /// Adds what a robot's cycles were for.
 fn add_time(text: &mut String, tally: &Tally) -> Result<(), AllocError> {
     let shares = &tally.shares;
@@ -212,28 +168,13 @@ fn add_time(text: &mut String, tally: &Tally) -> Result<(), AllocError> {
     items.end(text)
 }
 
-/// Adds a robot's calls of intrinsic functions.
-fn add_calls(text: &mut String, tally: &Tally) -> Result<(), AllocError> {
-    let mut items = Items::new("calls");
-    for intrinsic in INTRINSICS {
-        let calls = tally.calls_of(intrinsic);
-        if calls.all == 0 {
-            continue;
-        }
-        let (all, zero, name) = (calls.all, calls.zero, intrinsic.name());
-        items.begin(text)?;
-        write!(text, "{all} {name}")?;
-        match intrinsic {
-            Intrinsic::Scan => write!(text, " ({zero} saw nobody)")?,
-            Intrinsic::Cannon => write!(text, " ({zero} refused)")?,
-            _ => {}
-        }
-    }
-    items.end(text)
-}
-
 /// Adds the share of each function in a robot's cycles.
-fn add_functions(text: &mut String, tally: &Tally, program: &Program) -> Result<(), AllocError> {
+fn add_functions(
+    text: &mut String,
+    tally: &Tally,
+    note: &Note,
+    program: &Program,
+) -> Result<(), AllocError> {
     let mut items = Items::new("functions");
     let mut counts = Vec::new(*text.allocator());
     for _ in program.addresses() {
@@ -249,7 +190,8 @@ fn add_functions(text: &mut String, tally: &Tally, program: &Program) -> Result<
             break;
         };
         items.begin(text)?;
-        add_function(text, number, share(counts.as_slice(), number, all), program)?;
+        let share = share(counts.as_slice(), number, all);
+        write!(text, "{share}% {}", note.function_name(number))?;
         clear(counts.as_mut_slice(), number);
     }
     items.end(text)
@@ -258,34 +200,6 @@ fn add_functions(text: &mut String, tally: &Tally, program: &Program) -> Result<
 /// Returns the count of this number in percent of all.
 fn share(counts: &[u64], number: usize, all: u64) -> u64 {
     percent(counts.get(number).copied().unwrap_or(0), all)
-}
-
-/// Adds a function and its share.
-fn add_function(
-    text: &mut String,
-    number: usize,
-    share: u64,
-    program: &Program,
-) -> Result<(), AllocError> {
-    let Some(function) = program.names().functions().get(number) else {
-        return Ok(());
-    };
-    let name = str::from_utf8(function.name().as_bytes()).unwrap_or("?");
-    write!(text, "{share}% {name}")
-}
-
-/// Adds to a count.
-fn add(counts: &mut [u64], n: usize, by: u64) {
-    if let Some(count) = counts.get_mut(n) {
-        *count = count.saturating_add(by);
-    }
-}
-
-/// Makes a count 0.
-fn clear(counts: &mut [u64], n: usize) {
-    if let Some(count) = counts.get_mut(n) {
-        *count = 0;
-    }
 }
 
 /// Adds the lines that took most cycles.
@@ -344,38 +258,4 @@ fn add_source(text: &mut String, bytes: &[u8]) -> Result<(), AllocError> {
         text.push(c)?;
     }
     text.push('\n')
-}
-
-/// The items of a line, with commas between them.
-#[derive(Drop)]
-struct Items {
-    label: &'static str,
-    count: usize,
-}
-
-impl Items {
-    /// Makes a line with this label.
-    fn new(label: &'static str) -> Items {
-        Items { label, count: 0 }
-    }
-
-    /// Begins an item.
-    fn begin(&mut self, text: &mut String) -> Result<(), AllocError> {
-        if self.count == 0 {
-            let label = self.label;
-            write!(text, "   {label:<11}")?;
-        } else {
-            text.push_str(", ")?;
-        }
-        self.count = self.count.saturating_add(1);
-        Ok(())
-    }
-
-    /// Ends the line. Nothing is added if it has no items.
-    fn end(self, text: &mut String) -> Result<(), AllocError> {
-        if self.count == 0 {
-            return Ok(());
-        }
-        text.push('\n')
-    }
 }

@@ -5,8 +5,9 @@ ghost use Rattle.std.specs.Prelude.{◌≤◌, length};
 use crate::requests::Request;
 use crate::rows::Rows;
 use arena::MOST_ROBOTS;
-use code::{Line, Program};
+use code::Program;
 use findings::Span;
+use listings::instruction_text;
 use playing::{Pilot, Turn, Watcher, play};
 use std::alloc::AllocError;
 use std::str;
@@ -14,9 +15,6 @@ use tools::Fault;
 
 /// The names of the columns.
 const COLUMNS: &str = "cycle\trobot\taddress\tinstruction\tstack";
-
-/// The bytes of a listing's line before the instruction: the address in five columns, and a blank.
-const ADDRESS_BYTES: usize = 6;
 
 /// Plays a match, and writes its steps.
 pub fn write_steps(
@@ -76,14 +74,9 @@ fn add_step(text: &mut String, turn: Turn, pilot: &Pilot<'_>) -> Result<(), Allo
 
 /// Adds the instruction of an address as a listing has it.
 fn add_instruction(text: &mut String, program: &Program, address: usize) -> Result<(), AllocError> {
-    let lines = program.lines();
-    let count = program.instructions().len();
-    let number = lines.saturating_sub(count).saturating_add(address);
-    if number >= lines {
+    let Some(instr) = program.instructions().get(address) else {
         return Ok(());
-    }
-    let mut line = Line::new();
-    program.listing_line(number, &mut line);
-    let instruction = line.as_slice().get(ADDRESS_BYTES..).unwrap_or(&[]);
-    text.push_str(str::from_utf8(instruction).unwrap_or("?"))
+    };
+    let instruction = instruction_text(*text.allocator(), instr.instr())?;
+    text.push_str(str::from_utf8(instruction.as_slice()).unwrap_or("?"))
 }

@@ -103,15 +103,16 @@ impl Watcher for Sums {
         }
     }
 
-    fn asked(&mut self, turn: Turn, _pilot: &Pilot<'_>, question: Question, _arena: &Arena) {
+    fn asked(&mut self, turn: Turn, pilot: &Pilot<'_>, question: Question, _arena: &Arena) {
         if let Some(tally) = self.tally(turn.cycle, turn.robot) {
-            tally.ask(&question);
+            tally.ask(turn.cycle, pilot.machine().address(), &question);
         }
     }
 
     fn restarts(&mut self, turn: Turn, pilot: &Pilot<'_>, cause: Cause) {
         if let Some(tally) = self.tally(turn.cycle, turn.robot) {
-            tally.restart(pilot.machine().address(), cause);
+            let machine = pilot.machine();
+            tally.restart(machine.address(), cause, machine.frames());
         }
     }
 

@@ -1,8 +1,9 @@
 //! What is counted of a robot.
 
+use crate::restarts::{Crowd, crowd_of};
 use arena::MOST_ROBOTS;
-use code::{Cause, Intrinsic};
-use findings::{Loss, Shares, Source, purpose_of};
+use code::{Cause, Frame, Intrinsic};
+use findings::{Call, DIRECTIONS, Loss, Shares, Source, Streak, direction_of, purpose_of};
 use playing::Question;
 use std::alloc::{AllocError, Global};
 
@@ -30,8 +31,10 @@ pub struct Spot {
     pub cycles: u64,
     /// How often its instruction led to a restart.
     pub restarts: u64,
-    /// Why it did the last time.
+    /// Why it did.
     pub cause: Option<Cause>,
+    /// The open calls of which there were most the last time.
+    pub crowd: Option<Crowd>,
 }
 
 /// The calls of an intrinsic function.
@@ -41,6 +44,44 @@ pub struct Calls {
     pub all: u64,
     /// How many of them had the reply 0.
     pub zero: u64,
+    /// The least and the greatest reply, of scans that saw a robot and of all other calls.
+    pub replies: Option<[i32; 2]>,
+}
+
+impl Calls {
+    /// Counts a call.
+    fn count(&mut self, question: &Question) {
+        let reply = question.reply;
+        self.all = self.all.saturating_add(1);
+        if reply == 0 {
+            self.zero = self.zero.saturating_add(1);
+        }
+        if reply != 0 || question.intrinsic != Intrinsic::Scan {
+            let [least, most] = self.replies.unwrap_or([reply, reply]);
+            self.replies = Some([least.min(reply), most.max(reply)]);
+        }
+    }
+}
+
+/// What a robot does in a direction.
+#[derive(Clone, Copy, Debug, PartialEq, Eq)]
+pub enum Deed {
+    /// It sees a robot.
+    Sees,
+    /// It shoots.
+    Shoots,
+    /// It asks to drive.
+    Drives,
+}
+
+/// Returns what a call does in the direction of its first argument, if it does.
+fn deed_of(question: &Question) -> Option<Deed> {
+    match question.intrinsic {
+        Intrinsic::Scan if question.reply > 0 => Some(Deed::Sees),
+        Intrinsic::Cannon if question.reply > 0 => Some(Deed::Shoots),
+        Intrinsic::Drive if question.arguments[1] > 0 => Some(Deed::Drives),
+        _ => None,
+    }
 }
 
 /// What is counted of a robot.
@@ -52,6 +93,12 @@ pub struct Tally {
     pub shares: Shares,
     /// Its calls, in the order of the intrinsic functions.
     pub calls: [Calls; 13],
+    /// What it did, by direction.
+    pub deeds: [[u64; DIRECTIONS]; 3],
+    /// Its last calls, if they are from one address.
+    pub streak: Option<Streak>,
+    /// The streak that took most cycles.
+    pub longest: Option<Streak>,
     /// How many of its shots burst.
     pub bursts: u64,
     /// How many of these hurt another robot.
@@ -81,6 +128,9 @@ impl Tally {
             spots,
             shares: Shares::default(),
             calls: [Calls::default(); 13],
+            deeds: [[0; DIRECTIONS]; 3],
+            streak: None,
+            longest: None,
             bursts: 0,
             hits: 0,
             walls: 0,
@@ -100,22 +150,47 @@ impl Tally {
         }
     }
 
-    /// Counts a call.
-    pub fn ask(&mut self, question: &Question) {
+    /// Counts a call from an address.
+    pub fn ask(&mut self, cycle: u32, address: usize, question: &Question) {
         self.shares.settle(purpose_of(question.intrinsic));
         if let Some(calls) = self.calls.get_mut(question.intrinsic as usize) {
-            calls.all = calls.all.saturating_add(1);
-            if question.reply == 0 {
-                calls.zero = calls.zero.saturating_add(1);
-            }
+            calls.count(question);
+        }
+        if let Some(deed) = deed_of(question)
+            && let Some(counts) = self.deeds.get_mut(deed as usize)
+        {
+            add(counts, direction_of(question.arguments[0]), 1);
+        }
+        self.follow(Call {
+            cycle,
+            address,
+            intrinsic: question.intrinsic,
+            reply: question.reply,
+        });
+    }
+
+    /// Follows the streak of calls, and keeps the one that took most cycles.
+    fn follow(&mut self, call: Call) {
+        let mut streak = self.streak.unwrap_or(Streak::new(call));
+        if self.streak.is_some() && !streak.take(call) {
+            streak = Streak::new(call);
+        }
+        self.streak = Some(streak);
+        if self
+            .longest
+            .is_none_or(|longest| longest.cycles() < streak.cycles())
+        {
+            self.longest = Some(streak);
         }
     }
 
-    /// Counts a restart at an address.
-    pub fn restart(&mut self, address: usize, cause: Cause) {
+    /// Counts a restart at an address, with these frames open.
+    pub fn restart(&mut self, address: usize, cause: Cause, frames: &[Frame]) {
+        self.streak = None;
         if let Some(spot) = self.spots.get_mut(address) {
             spot.restarts = spot.restarts.saturating_add(1);
             spot.cause = Some(cause);
+            spot.crowd = crowd_of(frames);
         }
     }
 
@@ -178,8 +253,15 @@ impl Tally {
 }
 
 /// Adds to the count of this number, if there is one.
-fn add(counts: &mut [u64], n: usize, by: u64) {
+pub fn add(counts: &mut [u64], n: usize, by: u64) {
     if let Some(count) = counts.get_mut(n) {
         *count = count.saturating_add(by);
+    }
+}
+
+/// Makes the count of this number 0, if there is one.
+pub fn clear(counts: &mut [u64], n: usize) {
+    if let Some(count) = counts.get_mut(n) {
+        *count = 0;
     }
 }

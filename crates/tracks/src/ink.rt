@@ -10,8 +10,8 @@ use trails::opacity;
 /// The colours of the robots, in order.
 const COLOURS: [&str; MOST_ROBOTS] = ["#1f6fb4", "#d1495b", "#2e8540", "#8a4fbe"];
 
-/// The most characters of a name that are shown.
-const MOST_CHARACTERS: usize = 24;
+/// The greatest width of a name that is shown, in characters.
+const MOST_WIDTH: usize = 24;
 
 /// Returns the colour of a robot.
 pub fn colour(robot: usize) -> &'static str {
@@ -54,13 +54,38 @@ pub fn cycle_of(update: u32) -> u32 {
 
 /// Adds a name, cut after its first characters if it is long.
 pub fn add_short_name(text: &mut String, name: &str) -> Result<(), AllocError> {
-    if name.chars().count() <= MOST_CHARACTERS {
+    let fits = fitting(name, MOST_WIDTH);
+    if fits == name.chars().count() {
         return add_name(text, name);
     }
-    for c in name.chars().take(MOST_CHARACTERS - 1) {
+    for c in name.chars().take(fitting(name, MOST_WIDTH - 1)) {
         add_character(text, c)?;
     }
     text.push_str("&#8230;")
+}
+
+/// Returns how many of the first characters of a name fit into a width.
+fn fitting(name: &str, width: usize) -> usize {
+    let mut left = width;
+    let mut count: usize = 0;
+    for c in name.chars() {
+        let width = width_of(c);
+        if left < width {
+            return count;
+        }
+        left -= width;
+        count = count.saturating_add(1);
+    }
+    count
+}
+
+/// Returns how wide a character is: the widest letters, and those beyond ASCII, are two.
+fn width_of(c: char) -> usize {
+    match c {
+        'm' | 'w' | 'M' | 'W' | '@' | '%' => 2,
+        _ if !c.is_ascii() => 2,
+        _ => 1,
+    }
 }
 
 /// Adds a name, with the characters that mean something in SVG replaced.

@@ -13,9 +13,10 @@ use trails::Shots;
 const SIGNS: &str =
     "<g fill=\"none\" stroke=\"#444444\" stroke-width=\"2\"><circle cx=\"1092\" cy=\"840\" r=\"8\"/><circle cx=\"1092\" cy=\"870\" r=\"8\" fill=\"#444444\"/>\
 <path d=\"M1082 890l20 20m0 -20l-20 20\" stroke-width=\"4\"/><circle cx=\"1092\" cy=\"930\" r=\"4\"/></g>
-<path d=\"M1276 840h24\" stroke=\"#444444\"/><circle cx=\"1288\" cy=\"870\" r=\"2\" fill=\"#444444\"/><use href=\"#burst\" x=\"1110\" y=\"1010\"/>
+<g stroke=\"#444444\"><path d=\"M1276 840h24\"/><path d=\"M1276 870h24\" stroke-opacity=\".4\"/><path d=\"M1276 900h24\" stroke-dasharray=\"4\"/></g>\
+<circle cx=\"1300\" cy=\"870\" r=\"2\" fill=\"#444444\"/><use href=\"#burst\" x=\"1110\" y=\"1010\"/>
 <g fill=\"#222222\"><text x=\"1116\" y=\"846\">start</text><text x=\"1116\" y=\"876\">end</text><text x=\"1116\" y=\"906\">death</text>\
-<text x=\"1312\" y=\"846\">shot</text><text x=\"1312\" y=\"876\">it hurt nobody</text>\
+<text x=\"1312\" y=\"846\">shot</text><text x=\"1312\" y=\"876\">it hurt nobody</text><text x=\"1312\" y=\"906\">still in the air</text>\
 <text x=\"1160\" y=\"1000\">burst that hurt: 10, 5 and 3 percent</text><text x=\"1160\" y=\"1024\">up to 5, 20 and 40 metres</text></g>
 ";
 

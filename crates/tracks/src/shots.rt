@@ -53,13 +53,15 @@ fn add_burst(text: &mut String, shot: &Shot, period: Period) -> Result<(), Alloc
     )
 }
 
-/// Adds the line of a shot, which is dashed if it did not burst before the end.
+/// Adds the line of a shot: dashed if it did not burst before the end, and fainter if its burst hurt nobody.
 fn add_line(text: &mut String, shot: &Shot, period: Period) -> Result<(), AllocError> {
     let colour = colour(shot.robot);
     write!(text, "<path stroke=\"{colour}\"")?;
     period.add_opacity(text, shot.fired)?;
     if shot.burst > period.last {
         text.push_str(" stroke-dasharray=\"4\"")?;
+    } else if !shot.hit {
+        text.push_str(" stroke-opacity=\".4\"")?;
     }
     add_way(text, shot)?;
     let (number, cycle) = (shot.robot.saturating_add(1), cycle_of(shot.fired));

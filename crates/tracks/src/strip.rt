@@ -2,6 +2,7 @@
 
 use crate::ink::{Period, add_name, colour, cycle_of};
 use crate::matches::{Recording, Track};
+use arena::MOST_ROBOTS;
 use std::alloc::AllocError;
 use tools::{Wish, name_of};
 use trails::{STRIP_LEFT, STRIP_PERCENT, STRIP_TOP, STRIP_WIDTH, step_of, strip_column, strip_row};
@@ -11,6 +12,12 @@ const MOST_MARKS: u32 = 5;
 
 /// The height of the strip.
 const HEIGHT: u32 = 100 * STRIP_PERCENT;
+
+/// A million cycles.
+const MILLION: u32 = 1_000_000;
+
+/// How much higher the line of each robot lies than that of the one before.
+const LIFT: usize = 2;
 
 /// Adds the strip: its axes, the cycles that are drawn in the field, and the damage of each robot.
 pub fn add_strip(
@@ -71,15 +78,27 @@ fn add_cycles(text: &mut String, cycles: u32) -> Result<(), AllocError> {
         let x = strip_column(cycle, cycles);
         write!(
             text,
-            "<path stroke=\"#777777\" d=\"M{x} {}v6\"/><text x=\"{x}\" y=\"{}\" font-size=\"12\" text-anchor=\"middle\">{cycle}</text>\n",
+            "<path stroke=\"#777777\" d=\"M{x} {}v6\"/><text x=\"{x}\" y=\"{}\" font-size=\"12\" text-anchor=\"middle\">",
             STRIP_TOP + HEIGHT,
             STRIP_TOP + HEIGHT + 22
         )?;
+        add_short_cycle(text, cycle, step)?;
+        text.push_str("</text>\n")?;
     }
     Ok(())
 }
 
-/// Adds the damage of a robot: a line that goes up a step whenever it grows.
+/// Adds a cycle at a mark: in millions, if the marks are whole millions apart.
+fn add_short_cycle(text: &mut String, cycle: u32, step: u32) -> Result<(), AllocError> {
+    if cycle > 0 && step % MILLION == 0 {
+        write!(text, "{}M", cycle / MILLION)
+    } else {
+        write!(text, "{cycle}")
+    }
+}
+
+/// Adds the damage of a robot: a line that goes up a step whenever it grows. It lies a little above that of the robot
+/// before, so that equal ones are all seen.
 fn add_damage(
     text: &mut String,
     robot: usize,
@@ -88,9 +107,10 @@ fn add_damage(
     cycles: u32,
 ) -> Result<(), AllocError> {
     let (colour, number) = (colour(robot), robot.saturating_add(1));
+    let lift = LIFT * (robot % MOST_ROBOTS);
     write!(
         text,
-        "<path stroke=\"{colour}\" d=\"M{STRIP_LEFT} {}",
+        "<path stroke=\"{colour}\" transform=\"translate(0 -{lift})\" d=\"M{STRIP_LEFT} {}",
         strip_row(0)
     )?;
     for growth in track.growths.as_slice() {

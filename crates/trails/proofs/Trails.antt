@@ -47,12 +47,16 @@ same_multiple n k stride some e =
     omega (arith, up, down)
 
 -- a place that isn't due
-pub keeps_skipped : (t u : Trail) (ps : List Spot) (p : Spot) → Keeps t ps → t.skip < t.stride → u.places ≡ t.places → u.stride ≡ t.stride
+pub keeps_skipped : (t u : Trail) (ps : List Spot) (p : Spot) → Keeps t ps → t.skip < t.stride → u.places ≡ t.places →
+    u.stride ≡ t.stride
     → u.skip + 1 ≡ t.skip → Keeps u (ps ++ p ∷ [])
 keeps_skipped t u ps p k small same stride skip = record {
   each = λ n.
       ap (λ l. slice_get l n) same ∙ k.each n
-      ∙ sym (get_other ps p (n * t.stride) (between n (length t.places) t.stride t.skip (length ps) (omega arith) small k.next))
+      ∙
+      sym
+      (get_other ps p (n * t.stride)
+      (between n (length t.places) t.stride t.skip (length ps) (omega arith) small k.next))
       ∙ ap (λ s. slice_get (ps ++ p ∷ []) (n * s)) (sym stride);
   next =
       let here : length u.places * u.stride ≡ length t.places * t.stride = ap₂ (λ l s. length l * s) same stride in
@@ -61,7 +65,8 @@ keeps_skipped t u ps p k small same stride skip = record {
 }
 
 -- a place that is due
-pub keeps_pushed : (t u : Trail) (ps : List Spot) (p : Spot) → Keeps t ps → t.skip ≡ 0 → 0 < t.stride → u.places ≡ t.places ++ p ∷ []
+pub keeps_pushed : (t u : Trail) (ps : List Spot) (p : Spot) → Keeps t ps → t.skip ≡ 0 → 0 < t.stride →
+    u.places ≡ t.places ++ p ∷ []
     → u.stride ≡ t.stride → u.skip + 1 ≡ t.stride → Keeps u (ps ++ p ∷ [])
 keeps_pushed t u ps p k due some more stride skip =
     let len : length ps ≡ length t.places * t.stride = omega (arith, k.next) in
@@ -74,30 +79,38 @@ keeps_pushed t u ps p k due some more stride skip =
                 ∙ ap (slice_get (ps ++ p ∷ [])) (len ∙ ap (λ m. m * t.stride) (sym e))
             | inr off ↦
                 get_other t.places p n off ∙ k.each n
-                ∙ sym (get_other ps p (n * t.stride) (λ e. off (same_multiple n (length t.places) t.stride some (e ∙ len))))
+                ∙
+                sym
+                (get_other ps p (n * t.stride)
+                (λ e. off (same_multiple n (length t.places) t.stride some (e ∙ len))))
           ]
           ∙ ap (λ s. slice_get (ps ++ p ∷ []) (n * s)) (sym stride);
       next =
-          let count : length u.places ≡ suc (length t.places) = ap length more ∙ length-append t.places (p ∷ []) ∙ omega arith in
+          let count : length u.places ≡ suc (length t.places) =
+          ap length more ∙ length-append t.places (p ∷ []) ∙ omega arith in
           let here : length u.places * u.stride ≡ suc (length t.places) * t.stride = ap₂ (λ l s. l * s) count stride in
           omega (arith, length-append ps (p ∷ []), here, len, suc-mul (length t.places) t.stride);
     }
 
 -- a full trail of which each second place is dropped
 pub keeps_thinned : (t u : Trail) (ps : List Spot) → Keeps t ps → t.skip ≡ 0 → u.skip ≡ 0 → length t.places ≡ 2000
-    → ((n : ℕ) → n < length t.places / 2 → slice_get u.places n ≡ slice_get t.places (2 * n)) → length u.places ≡ length t.places / 2
+    → ((n : ℕ) → n < length t.places / 2 → slice_get u.places n ≡ slice_get t.places (2 * n)) →
+    length u.places ≡ length t.places / 2
     → u.stride ≡ 2 * t.stride → Keeps u ps
 keeps_thinned t u ps k due now full half count stride =
     let len : length ps ≡ 2000 * t.stride = omega (arith, k.next ∙ ap (λ m. m * t.stride) full) in
-    let place : (n : ℕ) → n * u.stride ≡ 2 * n * t.stride = λ n. ap (λ s. n * s) stride ∙ sym (mul_assoc n 2 t.stride) ∙ ap (λ m. m * t.stride) (omega arith) in
+    let place : (n : ℕ) → n * u.stride ≡ 2 * n * t.stride =
+    λ n. ap (λ s. n * s) stride ∙ sym (mul_assoc n 2 t.stride) ∙ ap (λ m. m * t.stride) (omega arith) in
     record {
       each = λ n. elim (cases_lt n 1000) [
         | inl h ↦ half n (omega arith) ∙ k.each (2 * n) ∙ ap (slice_get ps) (sym (place n))
         | inr h ↦
             let far : 2000 * t.stride ≤ 2 * n * t.stride = mul-le-mul_right t.stride (omega arith) in
-            slice_get_past u.places n (omega arith) ∙ sym (slice_get_past ps (n * u.stride) (omega (arith, far, place n, len)))
+            slice_get_past u.places n (omega arith) ∙
+            sym (slice_get_past ps (n * u.stride) (omega (arith, far, place n, len)))
       ];
       next =
-          let here : length u.places * u.stride ≡ 1000 * (2 * t.stride) = ap₂ (λ l s. l * s) (count ∙ omega arith) stride in
+          let here : length u.places * u.stride ≡ 1000 * (2 * t.stride) =
+          ap₂ (λ l s. l * s) (count ∙ omega arith) stride in
           omega (arith, here, len);
     }

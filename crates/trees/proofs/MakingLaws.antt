@@ -5,11 +5,11 @@ use Rattle.std.specs.Option.{option_to_list}
 use Rattle.std.specs.Prelude.{pos, if◌then◌else◌, Option, Some, None, IsSome, IsTrue, is_some}
 use Rattle.grammar.specs.declared.names.Callee.{Callee}
 use Rattle.grammar.specs.declared.names.Var.{Var}
-use Rattle.grammar.specs.declared.operators.Op.{Op}
+use Rattle.arith.specs.declared.operators.Op.{Op}
 use Rattle.grammar.specs.declared.operators.StoreOp.{StoreOp}
 use Rattle.grammar.specs.Actions.{Action, ApplyBinop, LogicMiddle, BeginCall, EndCall, EndIf, EndWhile, GiveBack, Chop, EndFunction, body_actions, args_actions, expr_actions}
 use Rattle.grammar.specs.Following.{InFunction, AValue, BeforeRight, Opened, Origin, Computed, follow, only_on, statement_done, call_done, is_step, stored, same_op, is_callee_numbered}
-use Rattle.grammar.specs.Operators.{is_logic}
+use Rattle.arith.specs.Op.{is_logic}
 use Rattle.grammar.specs.Origins.{origin_of, ends_in_return}
 use Rattle.grammar.specs.Tree.{Args, Body, Done}
 use Rattle.grammar.specs.Tree as tree
@@ -37,7 +37,8 @@ without_added [] s = refl
 without_added (t ∷ []) s = refl
 without_added (t ∷ u ∷ ts) s = ap (λ us. t ∷ us) (without_added (u ∷ ts) s)
 
-pub last_left : (ss ts : List Statement) (n : ℕ) (o : Option Statement) → n ≡ length ss → ss ≡ ts ++ option_to_list o → (IsSome o ↔ (0 < n)) → ts ≡ without_last ss
+pub last_left : (ss ts : List Statement) (n : ℕ) (o : Option Statement) → n ≡ length ss → ss ≡ ts ++ option_to_list o →
+    (IsSome o ↔ (0 < n)) → ts ≡ without_last ss
 last_left ss ts n (Some s) long e some = sym (ap without_last e ∙ without_added ts s)
 last_left [] [] n None long e some = refl
 last_left [] (t ∷ ts) n None long e some = absurd (cc)
@@ -52,15 +53,21 @@ place_adds (heading.First c) ss s o = refl
 place_adds (heading.Second c t) ss s o = refl
 place_adds (heading.Loop c) ss s o = refl
 
-pub adds_follows : (s : Statement) (xs ys : List entry.Open) → AddsTo s xs ys → statement_done (returns_zero s) (opened xs) ≡ Some (opened ys)
+pub adds_follows : (s : Statement) (xs ys : List entry.Open) → AddsTo s xs ys →
+    statement_done (returns_zero s) (opened xs) ≡ Some (opened ys)
 adds_follows s xs ys a =
     rw (a.was, a.is, a.heading, a.adds) (place_adds a.body.heading a.body.statements.items s (opened a.rest))
 
-pub adds_actions : (s : Statement) (xs ys : List entry.Open) → AddsTo s xs ys → open_actions xs ++ statement_actions s ≡ open_actions ys
+pub adds_actions : (s : Statement) (xs ys : List entry.Open) → AddsTo s xs ys →
+    open_actions xs ++ statement_actions s ≡ open_actions ys
 adds_actions s xs ys a =
     rw (a.was, a.is, a.heading, a.adds, body_adds a.body.statements.items s)
-    (append_assoc (open_actions a.rest) (heading_actions a.body.heading ++ body_actions (body_tree a.body.statements.items)) (statement_actions s)
-    ∙ ap (λ acts. open_actions a.rest ++ acts) (append_assoc (heading_actions a.body.heading) (body_actions (body_tree a.body.statements.items)) (statement_actions s)))
+    (append_assoc (open_actions a.rest)
+    (heading_actions a.body.heading ++ body_actions (body_tree a.body.statements.items)) (statement_actions s)
+    ∙
+    ap (λ acts. open_actions a.rest ++ acts)
+    (append_assoc (heading_actions a.body.heading) (body_actions (body_tree a.body.statements.items))
+    (statement_actions s)))
 
 -- an action that makes a statement
 statement_continues : (a : Action) (s : Statement) (before xs ys : List entry.Open) → AddsTo s xs ys →
@@ -69,39 +76,46 @@ statement_continues : (a : Action) (s : Statement) (before xs ys : List entry.Op
 statement_continues a s before xs ys added follows acts =
     record { follows = follows ∙ adds_follows s xs ys added; adds = acts ∙ adds_actions s xs ys added }
 
-chop_place : (h : Heading) (b : Body) (origin : Origin) (o : Opened) → follow Chop (AValue origin ∷ place_of h b ∷ o) ≡ statement_done false (place_of h b ∷ o)
+chop_place : (h : Heading) (b : Body) (origin : Origin) (o : Opened) →
+    follow Chop (AValue origin ∷ place_of h b ∷ o) ≡ statement_done false (place_of h b ∷ o)
 chop_place (heading.Function n p) b origin o = refl
 chop_place (heading.First c) b origin o = refl
 chop_place (heading.Second c t) b origin o = refl
 chop_place (heading.Loop c) b origin o = refl
 
-pub alone_continues : (e : Expr) (xs ys : List entry.Open) → AddsTo (statement.ExpressionStatement e) xs ys → Continues Chop (Value e ∷ xs) ys
+pub alone_continues : (e : Expr) (xs ys : List entry.Open) → AddsTo (statement.ExpressionStatement e) xs ys →
+    Continues Chop (Value e ∷ xs) ys
 alone_continues e xs ys a =
     statement_continues Chop (statement.ExpressionStatement e) (Value e ∷ xs) xs ys a
-    (rw (a.was, tree-ExpressionStatement e) (chop_place a.body.heading (body_tree a.body.statements.items) (origin_of (expr_tree e)) (opened a.rest)))
+    (rw (a.was, tree-ExpressionStatement e)
+    (chop_place a.body.heading (body_tree a.body.statements.items) (origin_of (expr_tree e)) (opened a.rest)))
     (rw (tree-ExpressionStatement e) (append_assoc (open_actions xs) (expr_actions (expr_tree e)) (Chop ∷ [])))
 
-pub return_continues : (e : Expr) (xs ys : List entry.Open) → AddsTo (statement.Return e) xs ys → Continues GiveBack (Value e ∷ xs) ys
+pub return_continues : (e : Expr) (xs ys : List entry.Open) → AddsTo (statement.Return e) xs ys →
+    Continues GiveBack (Value e ∷ xs) ys
 return_continues e xs ys a =
     statement_continues GiveBack (statement.Return e) (Value e ∷ xs) xs ys a
     (rw (tree-Return e) refl)
     (rw (tree-Return e) (append_assoc (open_actions xs) (expr_actions (expr_tree e)) (GiveBack ∷ [])))
 
-pub when_continues : (b : body_type.Body) (c : Expr) (xs ys : List entry.Open) → b.heading ≡ heading.First c → AddsTo (statement.IfStatement c b.statements) xs ys →
+pub when_continues : (b : body_type.Body) (c : Expr) (xs ys : List entry.Open) → b.heading ≡ heading.First c →
+    AddsTo (statement.IfStatement c b.statements) xs ys →
     Continues EndIf (entry_of.Body b ∷ xs) ys
 when_continues b c xs ys is a =
     statement_continues EndIf (statement.IfStatement c b.statements) (entry_of.Body b ∷ xs) xs ys a
     (rw (is, tree-IfStatement c b.statements) refl)
     (rw (is, tree-IfStatement c b.statements) (simp append_assoc refl))
 
-pub choose_continues : (b : body_type.Body) (c : Expr) (s : Vec Statement Global) (xs ys : List entry.Open) → b.heading ≡ heading.Second c s → AddsTo (statement.IfElseStatement c s b.statements) xs ys →
+pub choose_continues : (b : body_type.Body) (c : Expr) (s : Vec Statement Global) (xs ys : List entry.Open) →
+    b.heading ≡ heading.Second c s → AddsTo (statement.IfElseStatement c s b.statements) xs ys →
     Continues EndIf (entry_of.Body b ∷ xs) ys
 choose_continues b c s xs ys is a =
     statement_continues EndIf (statement.IfElseStatement c s b.statements) (entry_of.Body b ∷ xs) xs ys a
     (rw (is, tree-IfElseStatement c s b.statements) refl)
     (rw (is, tree-IfElseStatement c s b.statements) (simp append_assoc refl))
 
-pub while_continues : (b : body_type.Body) (c : Expr) (xs ys : List entry.Open) → b.heading ≡ heading.Loop c → AddsTo (statement.While c b.statements) xs ys →
+pub while_continues : (b : body_type.Body) (c : Expr) (xs ys : List entry.Open) → b.heading ≡ heading.Loop c →
+    AddsTo (statement.While c b.statements) xs ys →
     Continues EndWhile (entry_of.Body b ∷ xs) ys
 while_continues b c xs ys is a =
     statement_continues EndWhile (statement.While c b.statements) (entry_of.Body b ∷ xs) xs ys a
@@ -114,24 +128,29 @@ only_true : (b : Bool) (o : Opened) → IsTrue (is_some (only_on b o)) → b ≡
 only_true true o h = refl
 only_true false o h = absurd (cc)
 
-pub middle_continues : (o : Op) (xs : List entry.Open) → IsAllowed (LogicMiddle o) xs → Continues (LogicMiddle o) xs (RightSide o ∷ xs)
+pub middle_continues : (o : Op) (xs : List entry.Open) → IsAllowed (LogicMiddle o) xs →
+    Continues (LogicMiddle o) xs (RightSide o ∷ xs)
 middle_continues o [] h = absurd (cc)
 middle_continues o (Value left ∷ xs) h =
-    let logic : is_logic o ≡ true = only_true (is_logic o) (BeforeRight o ∷ AValue (origin_of (expr_tree left)) ∷ opened xs) h in
+    let logic : is_logic o ≡ true =
+    only_true (is_logic o) (BeforeRight o ∷ AValue (origin_of (expr_tree left)) ∷ opened xs) h in
     record { follows = rw logic refl; adds = rw logic refl }
 middle_continues o (RightSide p ∷ xs) h = absurd (cc)
 middle_continues o (Call ∷ xs) h = absurd (cc)
 middle_continues o (Test ∷ xs) h = absurd (cc)
 middle_continues o (entry_of.Body b ∷ xs) h = at_place b.heading h
   where
-    at_place : (g : Heading) → IsTrue (is_some (follow (LogicMiddle o) (place_of g (body_tree b.statements.items) ∷ opened xs))) → Continues (LogicMiddle o) (entry_of.Body b ∷ xs) (RightSide o ∷ entry_of.Body b ∷ xs)
+    at_place : (g : Heading) →
+        IsTrue (is_some (follow (LogicMiddle o) (place_of g (body_tree b.statements.items) ∷ opened xs))) →
+        Continues (LogicMiddle o) (entry_of.Body b ∷ xs) (RightSide o ∷ entry_of.Body b ∷ xs)
     at_place (heading.Function n p) k = absurd (cc)
     at_place (heading.First c) k = absurd (cc)
     at_place (heading.Second c t) k = absurd (cc)
     at_place (heading.Loop c) k = absurd (cc)
 
 -- below the right side is the left one, past the middle if there is one
-pub left_is : (xs : List entry.Open) → ends_in_value xs ≡ false → ends_in_value (past_middle xs) ≡ true → below xs ≡ past_middle xs
+pub left_is : (xs : List entry.Open) → ends_in_value xs ≡ false → ends_in_value (past_middle xs) ≡ true →
+    below xs ≡ past_middle xs
 left_is [] h k = refl
 left_is (Value e ∷ xs) h k = absurd (cc)
 left_is (RightSide o ∷ xs) h k = refl
@@ -148,19 +167,22 @@ value_is_left (Test ∷ xs) h = refl
 value_is_left (entry_of.Body b ∷ xs) h = refl
 
 -- no operator is applied right in a body
-apply_place : (o : Op) (origin : Origin) (g : Heading) (b : Body) (q : Opened) → IsTrue (is_some (follow (ApplyBinop o) (AValue origin ∷ place_of g b ∷ q))) → ⊥
+apply_place : (o : Op) (origin : Origin) (g : Heading) (b : Body) (q : Opened) →
+    IsTrue (is_some (follow (ApplyBinop o) (AValue origin ∷ place_of g b ∷ q))) → ⊥
 apply_place o origin (heading.Function n p) b q k = absurd (cc)
 apply_place o origin (heading.First c) b q k = absurd (cc)
 apply_place o origin (heading.Second c t) b q k = absurd (cc)
 apply_place o origin (heading.Loop c) b q k = absurd (cc)
 
-apply_right : (o p : Op) (origin : Origin) (g : Heading) (b : Body) (q : Opened) → IsTrue (is_some (follow (ApplyBinop o) (AValue origin ∷ BeforeRight p ∷ place_of g b ∷ q))) → ⊥
+apply_right : (o p : Op) (origin : Origin) (g : Heading) (b : Body) (q : Opened) →
+    IsTrue (is_some (follow (ApplyBinop o) (AValue origin ∷ BeforeRight p ∷ place_of g b ∷ q))) → ⊥
 apply_right o p origin (heading.Function n m) b q k = absurd (cc)
 apply_right o p origin (heading.First c) b q k = absurd (cc)
 apply_right o p origin (heading.Second c t) b q k = absurd (cc)
 apply_right o p origin (heading.Loop c) b q k = absurd (cc)
 
-pub left_allowed : (o : Op) (right : Expr) (xs : List entry.Open) → IsAllowed (ApplyBinop o) (Value right ∷ xs) → ends_in_value (past_middle xs) ≡ true
+pub left_allowed : (o : Op) (right : Expr) (xs : List entry.Open) → IsAllowed (ApplyBinop o) (Value right ∷ xs) →
+    ends_in_value (past_middle xs) ≡ true
 left_allowed o right [] h = absurd (cc)
 left_allowed o right (Value left ∷ xs) h = refl
 left_allowed o right (RightSide p ∷ []) h = absurd (cc)
@@ -168,17 +190,20 @@ left_allowed o right (RightSide p ∷ Value left ∷ xs) h = refl
 left_allowed o right (RightSide p ∷ RightSide q ∷ xs) h = absurd (cc)
 left_allowed o right (RightSide p ∷ Call ∷ xs) h = absurd (cc)
 left_allowed o right (RightSide p ∷ Test ∷ xs) h = absurd (cc)
-left_allowed o right (RightSide p ∷ entry_of.Body b ∷ xs) h = absurd (apply_right o p (origin_of (expr_tree right)) b.heading (body_tree b.statements.items) (opened xs) h)
+left_allowed o right (RightSide p ∷ entry_of.Body b ∷ xs) h =
+    absurd (apply_right o p (origin_of (expr_tree right)) b.heading (body_tree b.statements.items) (opened xs) h)
 left_allowed o right (Call ∷ xs) h = absurd (cc)
 left_allowed o right (Test ∷ xs) h = absurd (cc)
-left_allowed o right (entry_of.Body b ∷ xs) h = absurd (apply_place o (origin_of (expr_tree right)) b.heading (body_tree b.statements.items) (opened xs) h)
+left_allowed o right (entry_of.Body b ∷ xs) h =
+    absurd (apply_place o (origin_of (expr_tree right)) b.heading (body_tree b.statements.items) (opened xs) h)
 
 plain_sides : (o : Op) (logic : Bool) (q : Opened) → IsTrue (is_some (if logic then None else Some q)) → logic ≡ false
 plain_sides o true q h = absurd (cc)
 plain_sides o false q h = refl
 
 -- without a middle
-plain_continues : (o : Op) (right left : Expr) (a b : Box Expr Global) (xs : List entry.Open) → IsAllowed (ApplyBinop o) (Value right ∷ Value left ∷ xs) → a.value ≡ left → b.value ≡ right →
+plain_continues : (o : Op) (right left : Expr) (a b : Box Expr Global) (xs : List entry.Open) →
+    IsAllowed (ApplyBinop o) (Value right ∷ Value left ∷ xs) → a.value ≡ left → b.value ≡ right →
     Continues (ApplyBinop o) (Value right ∷ Value left ∷ xs) (Value (expr.Binary o a b) ∷ xs)
 plain_continues o right left a b xs h is_left is_right =
     let plain : is_logic o ≡ false = plain_sides o (is_logic o) (AValue Computed ∷ opened xs) h in
@@ -188,7 +213,8 @@ plain_continues o right left a b xs h is_left is_right =
     }
 
 -- with one
-logic_continues : (o p : Op) (right left : Expr) (a b : Box Expr Global) (xs : List entry.Open) → IsAllowed (ApplyBinop o) (Value right ∷ RightSide p ∷ Value left ∷ xs) → a.value ≡ left → b.value ≡ right →
+logic_continues : (o p : Op) (right left : Expr) (a b : Box Expr Global) (xs : List entry.Open) →
+    IsAllowed (ApplyBinop o) (Value right ∷ RightSide p ∷ Value left ∷ xs) → a.value ≡ left → b.value ≡ right →
     Continues (ApplyBinop o) (Value right ∷ RightSide p ∷ Value left ∷ xs) (Value (expr.Binary o a b) ∷ xs)
 logic_continues o p right left a b xs h is_left is_right =
     let same : same_op o p ≡ true = only_true (same_op o p) (AValue Computed ∷ opened xs) h in
@@ -198,28 +224,34 @@ logic_continues o p right left a b xs h is_left is_right =
       adds = rw (tree-Binary o a b, is_left, is_right, is) (simp append_assoc refl);
     }
 
-pub binop_continues : (o : Op) (right left : Expr) (a b : Box Expr Global) (xs ys : List entry.Open) → IsAllowed (ApplyBinop o) (Value right ∷ xs) → past_middle xs ≡ Value left ∷ ys → a.value ≡ left → b.value ≡ right →
+pub binop_continues : (o : Op) (right left : Expr) (a b : Box Expr Global) (xs ys : List entry.Open) →
+    IsAllowed (ApplyBinop o) (Value right ∷ xs) → past_middle xs ≡ Value left ∷ ys → a.value ≡ left → b.value ≡ right →
     Continues (ApplyBinop o) (Value right ∷ xs) (Value (expr.Binary o a b) ∷ ys)
 binop_continues o right left a b [] ys h e is_left is_right = absurd (cc)
 binop_continues o right left a b (Value l ∷ xs) ys h e is_left is_right =
     let same : l ≡ left = cc in
     let below : xs ≡ ys = cc in
-    subst (λ zs. Continues (ApplyBinop o) (Value right ∷ Value l ∷ xs) (Value (expr.Binary o a b) ∷ zs)) below (plain_continues o right l a b xs h (is_left ∙ sym same) is_right)
+    subst (λ zs. Continues (ApplyBinop o) (Value right ∷ Value l ∷ xs) (Value (expr.Binary o a b) ∷ zs)) below
+    (plain_continues o right l a b xs h (is_left ∙ sym same) is_right)
 binop_continues o right left a b (RightSide p ∷ xs) ys h e is_left is_right =
     subst (λ zs. Continues (ApplyBinop o) (Value right ∷ RightSide p ∷ zs) (Value (expr.Binary o a b) ∷ ys)) (sym e)
-    (logic_continues o p right left a b ys (subst (λ zs. IsAllowed (ApplyBinop o) (Value right ∷ RightSide p ∷ zs)) e h) is_left is_right)
+    (logic_continues o p right left a b ys
+    (subst (λ zs. IsAllowed (ApplyBinop o) (Value right ∷ RightSide p ∷ zs)) e h) is_left is_right)
 binop_continues o right left a b (Call ∷ xs) ys h e is_left is_right = absurd (cc)
 binop_continues o right left a b (Test ∷ xs) ys h e is_left is_right = absurd (cc)
 binop_continues o right left a b (entry_of.Body c ∷ xs) ys h e is_left is_right = absurd (cc)
 
 -- The new value of v++ and v-- is dropped.
 
-pub postfix_continues : (o : StoreOp) (v : Var) (b : Box Expr Global) (xs : List entry.Open) → ends_in_value xs ≡ true → IsAllowed Chop (Value (expr.Assign o v b) ∷ xs) →
+pub postfix_continues : (o : StoreOp) (v : Var) (b : Box Expr Global) (xs : List entry.Open) → ends_in_value xs ≡ true →
+    IsAllowed Chop (Value (expr.Assign o v b) ∷ xs) →
     Continues Chop (Value (expr.Assign o v b) ∷ xs) (Value (expr.Postfix o v) ∷ below xs)
 postfix_continues o v b [] e h = absurd (cc)
 postfix_continues o v b (Value old ∷ xs) e h =
-    let step : is_step (origin_of (expr_tree (expr.Assign o v b))) (origin_of (expr_tree old)) ≡ true = only_true _ (AValue Computed ∷ opened xs) h in
-    let is : is_step (stored v (origin_of (expr_tree b.value))) (origin_of (expr_tree old)) ≡ true = ap (λ t. is_step (origin_of t) (origin_of (expr_tree old))) (sym (tree-Assign o v b)) ∙ step in
+    let step : is_step (origin_of (expr_tree (expr.Assign o v b))) (origin_of (expr_tree old)) ≡ true =
+    only_true _ (AValue Computed ∷ opened xs) h in
+    let is : is_step (stored v (origin_of (expr_tree b.value))) (origin_of (expr_tree old)) ≡ true =
+    ap (λ t. is_step (origin_of t) (origin_of (expr_tree old))) (sym (tree-Assign o v b)) ∙ step in
     let both = step_is v (origin_of (expr_tree b.value)) (origin_of (expr_tree old)) is in
     let one : expr_tree b.value ≡ tree.Constant (pos 1) = number_is 1 (expr_tree b.value) both.0 in
     let fetched : expr_tree old ≡ tree.Variable v = fetched_is v (expr_tree old) both.1 in
@@ -240,7 +272,8 @@ call_place (heading.First c) b q k = absurd (cc)
 call_place (heading.Second c t) b q k = absurd (cc)
 call_place (heading.Loop c) b q k = absurd (cc)
 
-call_follows : (xs : List entry.Open) → IsTrue (is_some (call_done (opened xs))) → call_done (opened xs) ≡ Some (AValue Computed ∷ opened (below_call xs))
+call_follows : (xs : List entry.Open) → IsTrue (is_some (call_done (opened xs))) →
+    call_done (opened xs) ≡ Some (AValue Computed ∷ opened (below_call xs))
 call_follows [] h = absurd (cc)
 call_follows (Value e ∷ xs) h = call_follows xs h
 call_follows (RightSide p ∷ xs) h = absurd (cc)
@@ -249,33 +282,39 @@ call_follows (Test ∷ xs) h = absurd (cc)
 call_follows (entry_of.Body b ∷ xs) h = absurd (call_place b.heading (body_tree b.statements.items) (opened xs) h)
 
 call_actions : (xs : List entry.Open) → IsTrue (is_some (call_done (opened xs))) →
-    open_actions xs ≡ open_actions (below_call xs) ++ BeginCall ∷ args_actions (arguments (map expr_tree (above_call xs)))
+    open_actions xs ≡
+    open_actions (below_call xs) ++ BeginCall ∷ args_actions (arguments (map expr_tree (above_call xs)))
 call_actions [] h = absurd (cc)
 call_actions (Value e ∷ xs) h =
     rw (call_actions xs h, arguments_add (above_call xs) e)
-    (append_assoc (open_actions (below_call xs)) (BeginCall ∷ args_actions (arguments (map expr_tree (above_call xs)))) (expr_actions (expr_tree e)))
+    (append_assoc (open_actions (below_call xs)) (BeginCall ∷ args_actions (arguments (map expr_tree (above_call xs))))
+    (expr_actions (expr_tree e)))
 call_actions (RightSide p ∷ xs) h = absurd (cc)
 call_actions (Call ∷ xs) h = refl
 call_actions (Test ∷ xs) h = absurd (cc)
 call_actions (entry_of.Body b ∷ xs) h = absurd (call_place b.heading (body_tree b.statements.items) (opened xs) h)
 
-numbered_call : (f : Bool) (o : Option Opened) → IsTrue (is_some (if f then o else None)) → (f ≡ true) × IsTrue (is_some o)
+numbered_call : (f : Bool) (o : Option Opened) → IsTrue (is_some (if f then o else None)) →
+    (f ≡ true) × IsTrue (is_some o)
 numbered_call true o h = (refl, h)
 numbered_call false o h = absurd (cc)
 
-pub call_continues : (f : Callee) (es : Vec Expr Global) (xs : List entry.Open) → es.items ≡ above_call xs → IsAllowed (EndCall f) xs →
+pub call_continues : (f : Callee) (es : Vec Expr Global) (xs : List entry.Open) → es.items ≡ above_call xs →
+    IsAllowed (EndCall f) xs →
     Continues (EndCall f) xs (Value (expr.Call f es) ∷ below_call xs)
 call_continues f es xs is h =
     let both = numbered_call (is_callee_numbered f) (call_done (opened xs)) h in
     record {
       follows = rw (both.0, tree-Call f es) (call_follows xs both.1);
       adds = rw (tree-Call f es, is, call_actions xs both.1)
-          (append_assoc (open_actions (below_call xs)) (BeginCall ∷ args_actions (arguments (map expr_tree (above_call xs)))) (EndCall f ∷ []));
+          (append_assoc (open_actions (below_call xs))
+          (BeginCall ∷ args_actions (arguments (map expr_tree (above_call xs)))) (EndCall f ∷ []));
     }
 
 -- A function ends.
 
-finish_is : (v p : ℕ) (r : Bool) (o : Opened) → IsTrue (is_some (follow (EndFunction v) (InFunction p r ∷ o))) → (r ≡ true) × (o ≡ [])
+finish_is : (v p : ℕ) (r : Bool) (o : Opened) → IsTrue (is_some (follow (EndFunction v) (InFunction p r ∷ o))) →
+    (r ≡ true) × (o ≡ [])
 finish_is v p true [] h = (refl, refl)
 finish_is v p true (x ∷ o) h = absurd (cc)
 finish_is v p false o h = absurd (cc)
@@ -284,8 +323,10 @@ nothing_open : (xs : List entry.Open) → opened xs ≡ [] → xs ≡ []
 nothing_open [] h = refl
 nothing_open (x ∷ xs) h = absurd (cc)
 
-pub function_ends : (b : body_type.Body) (n p v : ℕ) (ts : Vec Statement Global) (xs : List entry.Open) → b.heading ≡ heading.Function n p → IsAllowed (EndFunction v) (entry_of.Body b ∷ xs) →
-    ts.items ≡ without_last b.statements.items → Ends v (entry_of.Body b ∷ xs) xs (record { number = n; parameters = p; variables = v; body = ts })
+pub function_ends : (b : body_type.Body) (n p v : ℕ) (ts : Vec Statement Global) (xs : List entry.Open) →
+    b.heading ≡ heading.Function n p → IsAllowed (EndFunction v) (entry_of.Body b ∷ xs) →
+    ts.items ≡ without_last b.statements.items →
+    Ends v (entry_of.Body b ∷ xs) xs (record { number = n; parameters = p; variables = v; body = ts })
 function_ends b n p v ts xs is h left =
     let ss = b.statements.items in
     let k : IsTrue (is_some (follow (EndFunction v) (InFunction p (ends_in_return false (body_tree ss)) ∷ opened xs))) =

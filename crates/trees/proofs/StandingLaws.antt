@@ -7,7 +7,7 @@ use Rattle.grammar.specs.declared.build.BuildFault.{BuildFault}
 use Rattle.grammar.specs.Actions.{Action, PushConstant, FetchVariable, StoreVariable, ApplyBinop, LogicMiddle, BeginCall, EndCall, IfTest, ElsePart, EndIf, BeginWhile, WhileTest, EndWhile, GiveBack, Chop, BeginFunction, EndFunction, instructions, code_length}
 use Rattle.grammar.specs.Building.{MayFollow, Appends, FitsWithin, IsOver}
 use Rattle.grammar.specs.Following.{Open, InFunction, AValue, BeforeRight, InCall, InBranch, InElse, BeforeTest, InTurn, Opened, Computed, few_open, follow, follow_all, then_follow, within, only_on, is_place, statement_done, call_done, is_var_numbered, is_callee_numbered}
-use Rattle.grammar.specs.Operators.{is_logic}
+use Rattle.arith.specs.Op.{is_logic}
 use Rattle.grammar.specs.Profile.{Profile, first_profile, second_profile, IsProfile}
 use Rattle.grammar.proofs.Beginnings.{beginning_follows}
 use Rattle.grammar.proofs.FollowingLaws.{follow_append}
@@ -39,7 +39,8 @@ record Next (a : Action) (o : Opened) : Type 0 where
   is : follow a o ≡ Some behind
   few : few_open behind ≡ true
 
-next_one : (a : Action) (o : Opened) (next : Option Opened) → follow a o ≡ next → IsTrue (is_some (then_follow (follow_all []) next)) → Next a o
+next_one : (a : Action) (o : Opened) (next : Option Opened) → follow a o ≡ next →
+    IsTrue (is_some (then_follow (follow_all []) next)) → Next a o
 next_one a o None e h = absurd (cc)
 next_one a o (Some p) e h = record { behind = p; is = e; few = guarded (few_open p) h }
   where
@@ -51,7 +52,8 @@ next_of : (m : Kept) (a : Action) → Fits m → MayFollow (λ p acts. Stands m 
 next_of m a fits may =
     let b : Builds m may.acts = may.stood.builds fits in
     next_one a (opened m.stack) (follow a (opened m.stack)) refl
-    (subst (λ o. IsTrue (is_some o)) (follow_append may.acts (a ∷ []) [] (opened m.stack) b.opens) (beginning_follows (may.acts ++ a ∷ []) may.begins))
+    (subst (λ o. IsTrue (is_some o)) (follow_append may.acts (a ∷ []) [] (opened m.stack) b.opens)
+    (beginning_follows (may.acts ++ a ∷ []) may.begins))
 
 pub allowed : (m : Kept) (a : Action) → Fits m → MayFollow (λ p acts. Stands m p acts) a → IsAllowed a m.stack
 allowed m a fits may = let next : Next a (opened m.stack) = next_of m a fits may in rw next.is refl
@@ -127,10 +129,12 @@ stays_open (BeginFunction number parameters) (x ∷ o) p h e = absurd (cc)
 stays_open (EndFunction variables) o p h e = absurd (cc)
 
 -- if nothing is open only a function begins
-opens_first : (a : Action) (p : Opened) → follow a [] ≡ Some p → (in_function false (a ∷ []) ≡ true) × (in_function true (a ∷ []) ≡ true)
+opens_first : (a : Action) (p : Opened) → follow a [] ≡ Some p →
+    (in_function false (a ∷ []) ≡ true) × (in_function true (a ∷ []) ≡ true)
 opens_first (BeginFunction number parameters) p e = (refl, refl)
 opens_first (FetchVariable v) p e = let no : None ≡ Some p = guarded_is (is_var_numbered v) None p e in absurd (cc)
-opens_first (EndCall callee) p e = let no : None ≡ Some p = guarded_is (is_callee_numbered callee) None p e in absurd (cc)
+opens_first (EndCall callee) p e =
+    let no : None ≡ Some p = guarded_is (is_callee_numbered callee) None p e in absurd (cc)
 opens_first a p e = absurd (cc)
 
 -- an action that ends a function leaves nothing open
@@ -151,24 +155,31 @@ action_inside a (x ∷ o) p e = by_end (in_function true (a ∷ [])) refl
     by_end true h = sym (stays_open a (x ∷ o) p h e)
     by_end false h = sym (closes a (x ∷ o) p h e)
 
-inside_cons : (b : Bool) (a : Action) (acts : List Action) → in_function b (a ∷ acts) ≡ in_function (in_function b (a ∷ [])) acts
+inside_cons : (b : Bool) (a : Action) (acts : List Action) →
+    in_function b (a ∷ acts) ≡ in_function (in_function b (a ∷ [])) acts
 inside_cons b (BeginFunction number parameters) acts = refl
 inside_cons b (EndFunction variables) acts = refl
 inside_cons b a acts = refl
 
 inside_append : (b : Bool) (xs ys : List Action) → in_function b (xs ++ ys) ≡ in_function (in_function b xs) ys
 inside_append b [] ys = refl
-inside_append b (x ∷ xs) ys = inside_cons b x (xs ++ ys) ∙ inside_append (in_function b (x ∷ [])) xs ys ∙ ap (λ c. in_function c ys) (sym (inside_cons b x xs))
+inside_append b (x ∷ xs) ys =
+    inside_cons b x (xs ++ ys) ∙ inside_append (in_function b (x ∷ [])) xs ys ∙
+    ap (λ c. in_function c ys) (sym (inside_cons b x xs))
 
 -- a function is open after actions exactly if they leave something open
-pub follow_inside : (acts : List Action) (o p : Opened) → follow_all acts o ≡ Some p → in_function (is_open o) acts ≡ is_open p
+pub follow_inside : (acts : List Action) (o p : Opened) → follow_all acts o ≡ Some p →
+    in_function (is_open o) acts ≡ is_open p
 follow_inside [] o p e = let same : o ≡ p = cc in ap is_open same
 follow_inside (a ∷ acts) o p e = next (follow a o) refl e (λ q h. follow_inside acts q p h)
   where
     next : (q : Option Opened) → follow a o ≡ q → then_follow (follow_all acts) q ≡ Some p →
-        ((q : Opened) → follow_all acts q ≡ Some p → in_function (is_open q) acts ≡ is_open p) → in_function (is_open o) (a ∷ acts) ≡ is_open p
+        ((q : Opened) → follow_all acts q ≡ Some p → in_function (is_open q) acts ≡ is_open p) →
+        in_function (is_open o) (a ∷ acts) ≡ is_open p
     next None is k again = absurd (cc)
-    next (Some q) is k again = inside_cons (is_open o) a acts ∙ ap (λ b. in_function b acts) (action_inside a o q is) ∙ again q (guarded_is (few_open q) _ p k)
+    next (Some q) is k again =
+        inside_cons (is_open o) a acts ∙ ap (λ b. in_function b acts) (action_inside a o q is) ∙
+        again q (guarded_is (few_open q) _ p k)
 
 -- The maker goes on, or has passed the limit.
 
@@ -176,22 +187,30 @@ one_next : (a : Action) (o p : Opened) → follow a o ≡ Some p → few_open p 
 one_next a o p e few = rw (e, few) refl
 
 -- within the limit the trees have the action
-pub goes_on : (m n : Kept) (a : Action) → n.profile ≡ m.profile → n.functions ≡ m.functions → Continues a m.stack n.stack → n.code ≡ min (m.code + instructions m.profile a) 65535 → n.code < m.profile.instructions →
+pub goes_on : (m n : Kept) (a : Action) → n.profile ≡ m.profile → n.functions ≡ m.functions →
+    Continues a m.stack n.stack → n.code ≡ min (m.code + instructions m.profile a) 65535 →
+    n.code < m.profile.instructions →
     MayFollow (λ p acts. Stands m p acts) a → Appends (λ p acts. Stands m p acts) (λ p acts. Stands n p acts) a
 goes_on m n a by same k counted fits may p acts s =
     let few_code = small m.profile s.known in
     let before : Fits m = omega (arith, few_code, counted, fits) in
     let b : Builds m acts = s.builds before in
     let next : Next a (opened m.stack) = next_of m a before may in
-    let few : few_open (opened n.stack) ≡ true = some_few next.behind (opened n.stack) (sym next.is ∙ k.follows) next.few in
+    let few : few_open (opened n.stack) ≡ true =
+    some_few next.behind (opened n.stack) (sym next.is ∙ k.follows) next.few in
     let limit = ap (λ (p : Profile). p.instructions) by in
     record {
       profile = s.profile ∙ sym by;
       known = subst IsProfile (sym by) s.known;
       builds = λ _. record {
-        actions = ap (λ xs. xs ++ a ∷ []) b.actions ∙ append_assoc (made_actions m.functions) (open_actions m.stack) (a ∷ []) ∙ ap (λ xs. made_actions m.functions ++ xs) k.adds ∙ ap (λ fs. made_actions fs ++ open_actions n.stack) (sym same);
-        opens = follow_append acts (a ∷ []) [] (opened m.stack) b.opens ∙ one_next a (opened m.stack) (opened n.stack) k.follows few;
-        counted = ap (λ (p : Profile). code_length p (acts ++ a ∷ [])) by ∙ omega (arith, few_code, code_length-last m.profile acts a, b.counted, counted, fits);
+        actions = ap (λ xs. xs ++ a ∷ []) b.actions ∙
+            append_assoc (made_actions m.functions) (open_actions m.stack) (a ∷ []) ∙
+            ap (λ xs. made_actions m.functions ++ xs) k.adds ∙
+            ap (λ fs. made_actions fs ++ open_actions n.stack) (sym same);
+        opens = follow_append acts (a ∷ []) [] (opened m.stack) b.opens ∙
+            one_next a (opened m.stack) (opened n.stack) k.follows few;
+        counted = ap (λ (p : Profile). code_length p (acts ++ a ∷ [])) by ∙
+            omega (arith, few_code, code_length-last m.profile acts a, b.counted, counted, fits);
       };
       passed = λ over. absurd (omega (arith, limit, over, fits));
     }
@@ -200,7 +219,9 @@ goes_on m n a by same k counted fits may p acts s =
     some_few x y e h = let same : x ≡ y = cc in subst (λ o. few_open o ≡ true) same h
 
 -- past it the code has passed the limit in a function that is still open
-passed_by : (m n : Kept) (a : Action) (acts : List Action) (p : Profile) → n.code ≡ min (m.code + instructions m.profile a) 65535 → m.profile.instructions ≤ n.code → in_function true (a ∷ []) ≡ true →
+passed_by : (m n : Kept) (a : Action) (acts : List Action) (p : Profile) →
+    n.code ≡ min (m.code + instructions m.profile a) 65535 → m.profile.instructions ≤ n.code →
+    in_function true (a ∷ []) ≡ true →
     MayFollow (λ p acts. Stands m p acts) a → Stands m p acts → Passed m.profile (acts ++ a ∷ [])
 passed_by m n a acts p counted over ends may s = by_code (nat_lt m.code m.profile.instructions) refl
   where
@@ -210,10 +231,13 @@ passed_by m n a acts p counted over ends may s = by_code (nat_lt m.code m.profil
         let before : Fits m = omega (arith, fits) in
         let b : Builds m acts = s.builds before in
         let next : Next a (opened m.stack) = next_of m a before may in
-        let opens : follow_all (acts ++ a ∷ []) [] ≡ Some next.behind = follow_append acts (a ∷ []) [] (opened m.stack) b.opens ∙ one_next a (opened m.stack) next.behind next.is next.few in
+        let opens : follow_all (acts ++ a ∷ []) [] ≡ Some next.behind =
+        follow_append acts (a ∷ []) [] (opened m.stack) b.opens ∙
+        one_next a (opened m.stack) next.behind next.is next.few in
         record {
           over = omega (arith, code_length-last m.profile acts a, b.counted, counted, over);
-          inside = follow_inside (acts ++ a ∷ []) [] next.behind opens ∙ stays_open a (opened m.stack) next.behind ends next.is;
+          inside = follow_inside (acts ++ a ∷ []) [] next.behind opens ∙
+              stays_open a (opened m.stack) next.behind ends next.is;
         }
     by_code false h =
         let past : m.profile.instructions ≤ m.code = grind (arith, nat_tests, h) in
@@ -223,7 +247,8 @@ passed_by m n a acts p counted over ends may s = by_code (nat_lt m.code m.profil
           inside = inside_append false acts (a ∷ []) ∙ ap (λ b. in_function b (a ∷ [])) q.inside ∙ ends;
         }
 
-pub stops : (m n : Kept) (a : Action) → n.profile ≡ m.profile → n.code ≡ min (m.code + instructions m.profile a) 65535 → m.profile.instructions ≤ n.code → in_function true (a ∷ []) ≡ true →
+pub stops : (m n : Kept) (a : Action) → n.profile ≡ m.profile → n.code ≡ min (m.code + instructions m.profile a) 65535 →
+    m.profile.instructions ≤ n.code → in_function true (a ∷ []) ≡ true →
     MayFollow (λ p acts. Stands m p acts) a → Appends (λ p acts. Stands m p acts) (λ p acts. Stands n p acts) a
 stops m n a by counted over ends may p acts s =
     let limit = ap (λ (p : Profile). p.instructions) by in
@@ -236,8 +261,10 @@ stops m n a by counted over ends may p acts s =
 
 -- A function ends.
 
-pub ends : (m n : Kept) (v : ℕ) (f : Function) → n.profile ≡ m.profile → Ends v m.stack n.stack f → n.functions ≡ m.functions ++ f ∷ [] → n.code ≡ min (m.code + 0) 65535 → n.code < m.profile.instructions →
-    MayFollow (λ p acts. Stands m p acts) (EndFunction v) → Appends (λ p acts. Stands m p acts) (λ p acts. Stands n p acts) (EndFunction v)
+pub ends : (m n : Kept) (v : ℕ) (f : Function) → n.profile ≡ m.profile → Ends v m.stack n.stack f →
+    n.functions ≡ m.functions ++ f ∷ [] → n.code ≡ min (m.code + 0) 65535 → n.code < m.profile.instructions →
+    MayFollow (λ p acts. Stands m p acts) (EndFunction v) →
+    Appends (λ p acts. Stands m p acts) (λ p acts. Stands n p acts) (EndFunction v)
 ends m n v f by k same counted fits may p acts s =
     let few_code = small m.profile s.known in
     let before : Fits m = omega (arith, few_code, counted, fits) in
@@ -251,8 +278,10 @@ ends m n v f by k same counted fits may p acts s =
       known = subst IsProfile (sym by) s.known;
       builds = λ _. record {
         actions = rw (same, k.nothing, functions_add m.functions f, k.actions, b.actions) (simp append_assoc refl);
-        opens = follow_append acts (EndFunction v ∷ []) [] (opened m.stack) b.opens ∙ one_next (EndFunction v) (opened m.stack) next.behind next.is next.few ∙ ap Some nothing;
-        counted = ap (λ (p : Profile). code_length p (acts ++ EndFunction v ∷ [])) by ∙ omega (arith, few_code, code_length-last m.profile acts (EndFunction v), b.counted, counted, fits);
+        opens = follow_append acts (EndFunction v ∷ []) [] (opened m.stack) b.opens ∙
+            one_next (EndFunction v) (opened m.stack) next.behind next.is next.few ∙ ap Some nothing;
+        counted = ap (λ (p : Profile). code_length p (acts ++ EndFunction v ∷ [])) by ∙
+            omega (arith, few_code, code_length-last m.profile acts (EndFunction v), b.counted, counted, fits);
       };
       passed = λ over. absurd (omega (arith, limit, over, fits));
     }
@@ -272,7 +301,8 @@ is_over m over p acts s =
     let q : Passed m.profile acts = s.passed (omega (arith, over)) in
     rw s.profile q.over
 
-pub stands_new : (m : Kept) (p : Profile) → IsProfile p → m ≡ record { profile = p; functions = []; stack = []; code = 0 } → Stands m p []
+pub stands_new : (m : Kept) (p : Profile) → IsProfile p →
+    m ≡ record { profile = p; functions = []; stack = []; code = 0 } → Stands m p []
 stands_new m p known is =
     rw is (record {
       profile = refl;
@@ -283,41 +313,67 @@ stands_new m p known is =
 
 -- What the maker's calls need: m is the maker before, q the one that has counted the action's instructions.
 
-within_limit : (m q : Kept) (a : Action) (over : Bool) → IsProfile m.profile → q.code ≡ min (m.code + instructions m.profile a) 65535 → over ≡ nat_le m.profile.instructions q.code → over ≡ false → (Fits m) × (q.code < m.profile.instructions)
+within_limit : (m q : Kept) (a : Action) (over : Bool) → IsProfile m.profile →
+    q.code ≡ min (m.code + instructions m.profile a) 65535 → over ≡ nat_le m.profile.instructions q.code →
+    over ≡ false → (Fits m) × (q.code < m.profile.instructions)
 within_limit m q a over known counted is not_over =
     let few : q.code < m.profile.instructions = grind (arith, nat_tests, is, not_over) in
     (omega (arith, small m.profile known, counted, few), few)
 
-pub stopped : (m q : Kept) (a : Action) (over : Bool) → q.profile ≡ m.profile → q.code ≡ min (m.code + instructions m.profile a) 65535 → over ≡ nat_le m.profile.instructions q.code → over ≡ true → in_function true (a ∷ []) ≡ true →
+pub stopped : (m q : Kept) (a : Action) (over : Bool) → q.profile ≡ m.profile →
+    q.code ≡ min (m.code + instructions m.profile a) 65535 → over ≡ nat_le m.profile.instructions q.code → over ≡ true →
+    in_function true (a ∷ []) ≡ true →
     MayFollow (λ p acts. Stands m p acts) a → Appends (λ p acts. Stands m p acts) (λ p acts. Stands q p acts) a
-stopped m q a over by counted is is_over ends may = stops m q a by counted (grind (arith, nat_tests, is, is_over)) ends may
+stopped m q a over by counted is is_over ends may =
+    stops m q a by counted (grind (arith, nat_tests, is, is_over)) ends may
 
-pub may_go_on : (m q : Kept) (a : Action) (over : Bool) → q.stack ≡ m.stack → q.code ≡ min (m.code + instructions m.profile a) 65535 → over ≡ nat_le m.profile.instructions q.code → over ≡ false →
+pub may_go_on : (m q : Kept) (a : Action) (over : Bool) → q.stack ≡ m.stack →
+    q.code ≡ min (m.code + instructions m.profile a) 65535 → over ≡ nat_le m.profile.instructions q.code →
+    over ≡ false →
     MayFollow (λ p acts. Stands m p acts) a → IsAllowed a q.stack
-may_go_on m q a over stack counted is not_over may = rw stack (allowed m a (within_limit m q a over may.stood.known counted is not_over).0 may)
+may_go_on m q a over stack counted is not_over may =
+    rw stack (allowed m a (within_limit m q a over may.stood.known counted is not_over).0 may)
 
-pub went_on : {A : Type 0} (m q : Kept) (xs : List entry.Open) (a : Action) (over : Bool) (r : Result A BuildFault) → q.profile ≡ m.profile → q.functions ≡ m.functions → q.stack ≡ m.stack → q.code ≡ min (m.code + instructions m.profile a) 65535 →
-    over ≡ nat_le m.profile.instructions q.code → over ≡ false → MayFollow (λ p acts. Stands m p acts) a → OnOk r (Continues a q.stack xs) →
-    OnOk r (Appends (λ p acts. Stands m p acts) (λ p acts. Stands (record { profile = q.profile; functions = q.functions; stack = xs; code = q.code }) p acts) a)
+pub went_on : {A : Type 0} (m q : Kept) (xs : List entry.Open) (a : Action) (over : Bool) (r : Result A BuildFault) →
+    q.profile ≡ m.profile → q.functions ≡ m.functions → q.stack ≡ m.stack →
+    q.code ≡ min (m.code + instructions m.profile a) 65535 →
+    over ≡ nat_le m.profile.instructions q.code → over ≡ false → MayFollow (λ p acts. Stands m p acts) a →
+    OnOk r (Continues a q.stack xs) →
+    OnOk r
+    (Appends (λ p acts. Stands m p acts)
+    (λ p acts. Stands (record { profile = q.profile; functions = q.functions; stack = xs; code = q.code }) p
+    acts) a)
 went_on m q xs a over r by functions stack counted is not_over may told =
     on_ok_weaker r
-    (λ k. goes_on m (record { profile = q.profile; functions = q.functions; stack = xs; code = q.code }) a by functions (subst (λ ys. Continues a ys xs) stack k) counted (within_limit m q a over may.stood.known counted is not_over).1 may)
+    (λ k. goes_on m (record { profile = q.profile; functions = q.functions; stack = xs; code = q.code }) a by functions
+    (subst (λ ys. Continues a ys xs) stack k) counted
+    (within_limit m q a over may.stood.known counted is not_over).1 may)
     told
 
-pub over_at_end : (m q : Kept) (over : Bool) → q.code ≡ min (m.code + 0) 65535 → over ≡ nat_le m.profile.instructions q.code → over ≡ true → IsOver (λ p acts. Stands m p acts)
+pub over_at_end : (m q : Kept) (over : Bool) → q.code ≡ min (m.code + 0) 65535 →
+    over ≡ nat_le m.profile.instructions q.code → over ≡ true → IsOver (λ p acts. Stands m p acts)
 over_at_end m q over counted is passed =
     let many : m.profile.instructions ≤ q.code = grind (arith, nat_tests, is, passed) in
     is_over m (omega (arith, counted, many))
 
-pub fits_at_end : (m q : Kept) (over : Bool) → IsProfile m.profile → q.code ≡ min (m.code + 0) 65535 → over ≡ nat_le m.profile.instructions q.code → over ≡ false → FitsWithin (λ p acts. Stands m p acts)
+pub fits_at_end : (m q : Kept) (over : Bool) → IsProfile m.profile → q.code ≡ min (m.code + 0) 65535 →
+    over ≡ nat_le m.profile.instructions q.code → over ≡ false → FitsWithin (λ p acts. Stands m p acts)
 fits_at_end m q over known counted is passed =
     let few : q.code < m.profile.instructions = grind (arith, nat_tests, is, passed) in
     fits_within m (omega (arith, small m.profile known, counted, few))
 
-pub ended : {A : Type 0} (m q : Kept) (fs : List Function) (xs : List entry.Open) (v : ℕ) (f : Function) (over : Bool) (r : Result A BuildFault) → q.profile ≡ m.profile → q.functions ≡ m.functions → q.stack ≡ m.stack → q.code ≡ min (m.code + 0) 65535 →
-    over ≡ nat_le m.profile.instructions q.code → over ≡ false → MayFollow (λ p acts. Stands m p acts) (EndFunction v) → Ends v q.stack xs f → OnOk r (fs ≡ q.functions ++ f ∷ []) →
-    OnOk r (Appends (λ p acts. Stands m p acts) (λ p acts. Stands (record { profile = q.profile; functions = fs; stack = xs; code = q.code }) p acts) (EndFunction v))
+pub ended : {A : Type 0} (m q : Kept) (fs : List Function) (xs : List entry.Open) (v : ℕ) (f : Function) (over : Bool)
+    (r : Result A BuildFault) → q.profile ≡ m.profile → q.functions ≡ m.functions → q.stack ≡ m.stack →
+    q.code ≡ min (m.code + 0) 65535 →
+    over ≡ nat_le m.profile.instructions q.code → over ≡ false → MayFollow (λ p acts. Stands m p acts) (EndFunction v) →
+    Ends v q.stack xs f → OnOk r (fs ≡ q.functions ++ f ∷ []) →
+    OnOk r
+    (Appends (λ p acts. Stands m p acts)
+    (λ p acts. Stands (record { profile = q.profile; functions = fs; stack = xs; code = q.code }) p acts)
+    (EndFunction v))
 ended m q fs xs v f over r by functions stack counted is not_over may ends_at longer =
     on_ok_weaker r
-    (λ k. ends m (record { profile = q.profile; functions = fs; stack = xs; code = q.code }) v f by (subst (λ ys. Ends v ys xs f) stack ends_at) (k ∙ ap (λ gs. gs ++ f ∷ []) functions) counted (within_limit m q (EndFunction v) over may.stood.known counted is not_over).1 may)
+    (λ k. ends m (record { profile = q.profile; functions = fs; stack = xs; code = q.code }) v f by
+    (subst (λ ys. Ends v ys xs f) stack ends_at) (k ∙ ap (λ gs. gs ++ f ∷ []) functions) counted
+    (within_limit m q (EndFunction v) over may.stood.known counted is not_over).1 may)
     longer

@@ -11,7 +11,7 @@ use std::process::Abort;
 
 /// A robot: its leg, and the sum of all that hurt it.
 #[derive(Clone, Copy, Default)]
-struct Robot {
+struct PlainRobot {
     origin_x: i64,
     origin_y: i64,
     heading: i32,
@@ -22,7 +22,7 @@ struct Robot {
     hurts: i64,
 }
 
-impl Robot {
+impl PlainRobot {
     fn is_alive(&self) -> bool {
         self.hurts < 100
     }
@@ -44,9 +44,9 @@ impl Robot {
     }
 
     /// Begins a new leg at the present place.
-    fn starting(self) -> Robot {
+    fn starting(self) -> PlainRobot {
         let (origin_x, origin_y) = self.place();
-        Robot {
+        PlainRobot {
             origin_x,
             origin_y,
             distance: 0,
@@ -55,13 +55,13 @@ impl Robot {
     }
 
     /// Returns it as it tried to move, or put back where it is if it touched others.
-    fn moved(self, tried: Robot, touched: i64) -> Robot {
+    fn moved(self, tried: PlainRobot, touched: i64) -> PlainRobot {
         if touched == 0 {
             return tried;
         }
         let (origin_x, origin_y) = self.place();
         let hurts = tried.hurts.wrapping_add(touched.wrapping_mul(2));
-        Robot {
+        PlainRobot {
             origin_x,
             origin_y,
             distance: 0,
@@ -73,8 +73,8 @@ impl Robot {
     }
 
     /// Stops at the present place, hurt by so much more.
-    fn resting(self, hurt: i64) -> Robot {
-        Robot {
+    fn resting(self, hurt: i64) -> PlainRobot {
+        PlainRobot {
             speed: 0,
             wanted_speed: 0,
             hurts: self.hurts.wrapping_add(hurt),
@@ -82,37 +82,37 @@ impl Robot {
         }
     }
 
-    fn steered(self) -> Robot {
+    fn steered(self) -> PlainRobot {
         if self.wanted_heading == self.heading {
             self
         } else if self.speed <= 50 {
-            Robot {
+            PlainRobot {
                 heading: self.wanted_heading,
                 ..self.starting()
             }
         } else {
-            Robot {
+            PlainRobot {
                 wanted_speed: 0,
                 ..self
             }
         }
     }
 
-    fn sped(self) -> Robot {
+    fn sped(self) -> PlainRobot {
         let step = self.wanted_speed.wrapping_sub(self.speed).clamp(-10, 10);
-        Robot {
+        PlainRobot {
             speed: self.speed.wrapping_add(step),
             ..self
         }
     }
 
     /// Moves on by heading, speed, distance and walls, as if there were no other robots.
-    fn tried(self) -> Robot {
+    fn tried(self) -> PlainRobot {
         if !self.is_alive() {
             return self;
         }
         let moved = self.steered().sped();
-        let moved = Robot {
+        let moved = PlainRobot {
             distance: moved.distance.wrapping_add(moved.speed),
             ..moved
         };
@@ -146,22 +146,22 @@ struct Shot {
 /// Four robots, of which those that don't play are dead.
 #[derive(Drop)]
 struct Field {
-    robots: [Robot; 4],
+    robots: [PlainRobot; 4],
     shots: ArrayVec<Shot, 1024>,
     updates: i64,
 }
 
 impl Field {
     fn of(places: &[(u16, u16)]) -> Field {
-        let mut robots = [Robot {
+        let mut robots = [PlainRobot {
             hurts: 100,
-            ..Robot::default()
+            ..PlainRobot::default()
         }; 4];
         for (robot, &(x, y)) in robots.iter_mut().zip(places) {
-            *robot = Robot {
+            *robot = PlainRobot {
                 origin_x: i64::from(x),
                 origin_y: i64::from(y),
-                ..Robot::default()
+                ..PlainRobot::default()
             };
         }
         Field {
@@ -216,7 +216,7 @@ impl Field {
         for i in 0..4 {
             let moved = before[i].moved(tries[i], touches(&before, &tries, i));
             let hurts = moved.hurts.wrapping_add(self.burst_at(moved.place()));
-            self.robots[i] = Robot { hurts, ..moved };
+            self.robots[i] = PlainRobot { hurts, ..moved };
         }
     }
 
@@ -246,7 +246,7 @@ fn ring(square: i64) -> i64 {
 }
 
 /// Returns how many others a robot collides with.
-fn touches(before: &[Robot; 4], tries: &[Robot; 4], i: usize) -> i64
+fn touches(before: &[PlainRobot; 4], tries: &[PlainRobot; 4], i: usize) -> i64
     requires { i < 4 }
 {
     let mut touched = 0i64;
@@ -259,7 +259,7 @@ fn touches(before: &[Robot; 4], tries: &[Robot; 4], i: usize) -> i64
 }
 
 /// Reports whether two robots collide, each given as it was and as it would be.
-fn collide(a: (Robot, Robot), b: (Robot, Robot)) -> bool {
+fn collide(a: (PlainRobot, PlainRobot), b: (PlainRobot, PlainRobot)) -> bool {
     let old = (a.0.place(), b.0.place());
     let new = (a.1.place(), b.1.place());
     let near_x = new.0.0.wrapping_sub(new.1.0).wrapping_abs() < 10;

@@ -10,8 +10,11 @@ loop-i-preserved c =
     let movers = c.args.movers.now in
     let i = c.loop-i.i in
     let m = c.index-movers-i.result in
-    let after = subst (λ (ms : List Mover). All (λ other. is_close m other ≡ false) ms) (take_rest movers (i + 1)) (c.is_near.ensures c.if-is_near.false) in
+    let after =
+    subst (λ (ms : List Mover). All (λ other. is_close m other ≡ false) ms) (take_rest movers (i + 1))
+    (c.is_near.ensures c.if-is_near.false) in
     apart_more movers i m c.loop-i-test.true c.index-movers-i.is c.loop-i.invariant after
 
 pub returns : goal.returns
-returns c = λ e i inside. untouched c.args.movers.now i inside (λ a b less last. c.loop-i.invariant a b (omega arith) less last)
+returns c =
+    λ e i inside. untouched c.args.movers.now i inside (λ a b less last. c.loop-i.invariant a b (omega arith) less last)

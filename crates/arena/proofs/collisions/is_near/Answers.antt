@@ -9,7 +9,8 @@ pub loop-other-preserved : goal.loop-other-preserved
 loop-other-preserved c =
     let Far : Mover → Type 0 = λ other. is_close c.args.mover.now other ≡ false in
     let here : Far c.other-item.result = sym c.is_close.ensures ∙ c.if-is_close.false in
-    All-more Far c.args.others.now c.loop-other.other-index c.other-item.result c.loop-other-test.true c.loop-other.invariant (subst Far c.other-item.is here)
+    All-more Far c.args.others.now c.loop-other.other-index c.other-item.result c.loop-other-test.true
+    c.loop-other.invariant (subst Far c.other-item.is here)
 
 pub returns : goal.returns
 returns c = λ e.

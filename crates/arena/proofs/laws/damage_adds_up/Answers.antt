@@ -6,4 +6,6 @@ use Rattle.arena.proofs.laws.damage_adds_up.Goals as goal
 
 pub returns : goal.returns
 returns c = λ f s.
-    adds_up f (subst (λ (n : ℕ). All (λ s. s.owner < n) f.shots) (c.keeps_slots.ensures ∙ manned c.args.arena.now f s) s.missiles.owned)
+    adds_up f
+    (subst (λ (n : ℕ). All (λ s. s.owner < n) f.shots) (c.keeps_slots.ensures ∙ manned c.args.arena.now f s)
+    s.missiles.owned)

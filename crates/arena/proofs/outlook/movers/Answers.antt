@@ -8,6 +8,8 @@ use Rattle.arena.proofs.outlook.movers.Goals as goal
 pub loop-robot-preserved : goal.loop-robot-preserved
 loop-robot-preserved c = record {
   count = omega arith;
-  movers = λ rs e. pushed_map body_of mover c.args.robots.now rs _ _ c.loop-robot.robot-index c.robot-item.result _ no_robot e c.loop-robot-test.true c.robot-item.is
+  movers =
+      λ rs e. pushed_map body_of mover c.args.robots.now rs _ _ c.loop-robot.robot-index c.robot-item.result _ no_robot
+      e c.loop-robot-test.true c.robot-item.is
       (λ at. c.mover.ensures _ at) (c.loop-robot.invariant.movers rs e) c.push.ensures.items;
 }

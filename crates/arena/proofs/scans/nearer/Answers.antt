@@ -7,7 +7,8 @@ use Rattle.arena.proofs.scans.nearer.Goals as goal
 pub returns-then-not-is_nearer-clause-value : goal.returns-then-not-is_nearer-clause-value
 returns-then-not-is_nearer-clause-value c = λ a b e o.
     let square = c.square_to-square.ensures.value a b e o in
-    either_way (sees a c.args.degree c.args.resolution b) _ c.args.so_far (sym (ap (nearer c.args.so_far) square) ∙ c.is_nearer.ensures.farther c.if-not-is_nearer.true)
+    either_way (sees a c.args.degree c.args.resolution b) _ c.args.so_far
+    (sym (ap (nearer c.args.so_far) square) ∙ c.is_nearer.ensures.farther c.if-not-is_nearer.true)
 
 pub returns-then-not-sees-clause-value : goal.returns-then-not-sees-clause-value
 returns-then-not-sees-clause-value c = λ a b e o.

@@ -17,7 +17,8 @@ loop-other-preserved c = record {
       let inside : c.loop-other.other-index < length rs = omega arith in
       let other = mapped_is body_of _ rs _ _ no_robot o c.loop-other-test.true c.other-item.is in
       c.nearer-nearest.ensures.value a _ e other ∙
-      one_more (square_to a) (sees a c.args.degree c.args.resolution) c.args.so_far rs c.loop-other.other-index no_robot c.loop-other.nearest inside (c.loop-other.invariant.nearest a rs e o);
+      one_more (square_to a) (sees a c.args.degree c.args.resolution) c.args.so_far rs c.loop-other.other-index no_robot
+      c.loop-other.nearest inside (c.loop-other.invariant.nearest a rs e o);
 }
 
 pub returns-clause-nearest : goal.returns-clause-nearest

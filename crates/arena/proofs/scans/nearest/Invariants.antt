@@ -11,5 +11,6 @@ abbrev pub invariant-loop-other : goal.invariant-loop-other
 invariant-loop-other l = record {
   most : l.nearest ≤ 2000000;
   nearest : (a : Robot) (rs : List Robot) → l.from ≡ body_of a → l.others ≡ map body_of rs →
-      l.nearest ≡ fold nearer l.so_far (map (square_to a) (filter (sees a l.degree l.resolution) (take l.other-index rs)));
+      l.nearest ≡
+      fold nearer l.so_far (map (square_to a) (filter (sees a l.degree l.resolution) (take l.other-index rs)));
 }

@@ -4,4 +4,9 @@ use Rattle.arena.proofs.scans.square_to.Goals as goal
 
 pub returns-clause-most : goal.returns-clause-most
 returns-clause-most c =
-    omega (arith, square_fits _ _ _ _ c.metres_x.ensures.most c.metres_y.ensures.most c.metres_x-2.ensures.most c.metres_y-2.ensures.most, c.square-square.ensures)
+    omega (
+      arith,
+      square_fits _ _ _ _ c.metres_x.ensures.most c.metres_y.ensures.most c.metres_x-2.ensures.most
+          c.metres_y-2.ensures.most,
+      c.square-square.ensures,
+    )

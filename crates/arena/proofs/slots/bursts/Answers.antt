@@ -6,10 +6,14 @@ use Rattle.arena.proofs.slots.bursts.Goals as goal
 pub loop-robot-preserved : goal.loop-robot-preserved
 loop-robot-preserved c = record {
   room = omega (arith, c.add_bursts.ensures.most, c.loop-robot.invariant.room);
-  bursts = robot_more c.args.update c.args.slots.now c.loop-robot.robot c.index-slots-robot.result c.loop-robot.bursts.items c.add_bursts.new.bursts.items c.loop-robot-test.true c.index-slots-robot.is c.loop-robot.invariant.bursts c.add_bursts.ensures.bursts;
+  bursts = robot_more c.args.update c.args.slots.now c.loop-robot.robot c.index-slots-robot.result
+      c.loop-robot.bursts.items c.add_bursts.new.bursts.items c.loop-robot-test.true c.index-slots-robot.is
+      c.loop-robot.invariant.bursts c.add_bursts.ensures.bursts;
 }
 
 pub returns : goal.returns
 returns c = λ updates shots holds.
     let all : c.loop-robot.robot ≡ length c.args.slots.now = omega arith in
-    c.loop-robot.invariant.bursts ∙ ap (λ n. flat_map (slot_bursts c.args.update c.args.slots.now) (range_with_len 0 n)) all ∙ all_bursts c.args.update updates c.args.slots.now shots holds
+    c.loop-robot.invariant.bursts ∙
+    ap (λ n. flat_map (slot_bursts c.args.update c.args.slots.now) (range_with_len 0 n)) all ∙
+    all_bursts c.args.update updates c.args.slots.now shots holds

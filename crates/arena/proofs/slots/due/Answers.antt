@@ -7,7 +7,10 @@ use Rattle.arena.proofs.slots.due.Goals as goal
 pub loop-own-preserved : goal.loop-own-preserved
 loop-own-preserved c = record {
   room = omega (arith, c.add_due.ensures.most, c.loop-own.invariant.room);
-  harms = λ x y. due_more c.args.update x y c.args.slots.now c.loop-own.own-index c.own-item.result c.loop-own.due.items c.add_due.new.due.items c.loop-own-test.true c.own-item.is (c.loop-own.invariant.harms x y) c.add_due.ensures.due;
+  harms =
+      λ x y. due_more c.args.update x y c.args.slots.now c.loop-own.own-index c.own-item.result c.loop-own.due.items
+      c.add_due.new.due.items c.loop-own-test.true c.own-item.is (c.loop-own.invariant.harms x y)
+      c.add_due.ensures.due;
 }
 
 pub returns : goal.returns

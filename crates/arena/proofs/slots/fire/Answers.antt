@@ -8,5 +8,8 @@ use Rattle.arena.proofs.slots.fire.Goals as goal
 pub returns-clause-shots : goal.returns-clause-shots
 returns-clause-shots c = λ updates shots flies holds.
     let own = inside_is c.args.slots.now c.args.robot [] c.index-slots-robot.result c.requires.inside in
-    subst (λ own. HoldsShots updates (set c.args.slots.now c.args.robot own) (shots ++ shot_of c.args.robot c.args.missile ∷ [])) (ap (λ ms. ms ++ c.args.missile ∷ []) own ∙ sym c.add.ensures)
+    subst
+    (λ own. HoldsShots updates (set c.args.slots.now c.args.robot own)
+    (shots ++ shot_of c.args.robot c.args.missile ∷ []))
+    (ap (λ ms. ms ++ c.args.missile ∷ []) own ∙ sym c.add.ensures)
     (holds_fired updates c.args.slots.now shots c.args.robot c.args.missile c.requires.inside flies holds)

@@ -5,6 +5,7 @@ use Rattle.arena.proofs.slots.land.Given as goal
 abbrev pub invariant-loop-own : goal.invariant-loop-own
 invariant-loop-own l = record {
   size : length l.own-items ≡ length l.initial.own-items;
-  landed : (i : ℕ) → i < l.own-index → get_or l.own-items i [] ≡ filter (λ m. nat_lt l.update m.burst) (get_or l.initial.own-items i []);
+  landed : (i : ℕ) → i < l.own-index →
+      get_or l.own-items i [] ≡ filter (λ m. nat_lt l.update m.burst) (get_or l.initial.own-items i []);
   rest : (i : ℕ) → l.own-index ≤ i → get_or l.own-items i [] ≡ get_or l.initial.own-items i [];
 }

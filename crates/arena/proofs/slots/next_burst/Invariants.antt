@@ -1,5 +1,5 @@
 use Rattle.std.proofs.Common.{take}
-use Rattle.arena.specs.Rest.{NoneBefore}
+use Rattle.arena.specs.Still.{NoneBefore}
 use Rattle.arena.proofs.slots.next_burst.Given as goal
 
 -- none so far bursts before

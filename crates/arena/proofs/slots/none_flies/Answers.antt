@@ -9,7 +9,8 @@ pub loop-own-preserved : goal.loop-own-preserved
 loop-own-preserved c =
     let Empty : List Missile → Type 0 = λ s. s ≡ [] in
     let here : Empty c.own-item.result = c.is_empty.ensures c.if-not-is_empty.false in
-    All-more Empty c.args.slots.now c.loop-own.own-index c.own-item.result c.loop-own-test.true c.loop-own.invariant (subst Empty c.own-item.is here)
+    All-more Empty c.args.slots.now c.loop-own.own-index c.own-item.result c.loop-own-test.true c.loop-own.invariant
+    (subst Empty c.own-item.is here)
 
 pub returns : goal.returns
 returns c = λ e.

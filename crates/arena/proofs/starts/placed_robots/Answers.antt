@@ -25,14 +25,19 @@ loop-place-preserved c = record {
       let y = simp to_z-of_z at c.coordinate-in-loop-place.ensures.value in
       let body = rw (x, y) at c.standing.ensures.body in
       c.push.ensures.items ∙ ap (λ (l : List Body). l ++ c.standing.result ∷ []) c.loop-place.invariant.robots ∙
-      ap (λ (b : Body). map (λ place. body_of (robot_at_place place)) (take c.loop-place.place-index items) ++ b ∷ []) body ∙
-      sym (map_more (λ place. body_of (robot_at_place place)) items c.loop-place.place-index (pos 0, pos 0) c.loop-place-test.true);
-  still = rw c.push.ensures.items (All-push (λ (b : Body). IsWithin 0 b.track) _ _ c.loop-place.invariant.still c.standing.ensures.still);
+      ap (λ (b : Body). map (λ place. body_of (robot_at_place place)) (take c.loop-place.place-index items) ++ b ∷ [])
+      body ∙
+      sym
+      (map_more (λ place. body_of (robot_at_place place)) items c.loop-place.place-index (pos 0, pos 0)
+      c.loop-place-test.true);
+  still = rw c.push.ensures.items
+      (All-push (λ (b : Body). IsWithin 0 b.track) _ _ c.loop-place.invariant.still c.standing.ensures.still);
 }
 
 pub returns-clause-robots : goal.returns-clause-robots
 unfolding placed
 returns-clause-robots c = λ seed number.
     let all = take_all c.loop-place.place-index c.as_slice-place-items.result.now c.loop-place-test.false in
-    c.loop-place.invariant.robots ∙ ap (map (λ place. body_of (robot_at_place place))) (all ∙ c.as_slice-place-items.ensures.value) ∙
+    c.loop-place.invariant.robots ∙
+    ap (map (λ place. body_of (robot_at_place place))) (all ∙ c.as_slice-place-items.ensures.value) ∙
     sym (map-map body_of robot_at_place c.args.places.now.items)

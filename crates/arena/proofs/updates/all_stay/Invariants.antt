@@ -1,6 +1,6 @@
 use Rattle.std.proofs.Common.{take}
 use Rattle.std.specs.List.{All}
-use Rattle.arena.specs.Rest.{Stays}
+use Rattle.arena.specs.Still.{Stays}
 use Rattle.arena.proofs.updates.all_stay.Given as goal
 
 -- all so far stay

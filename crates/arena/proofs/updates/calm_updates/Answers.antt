@@ -12,8 +12,11 @@ loop-i-preserved c =
     let i = c.loop-i.i in
     let m = c.index-robots-i.result in
     let next = c.least_gap-least.result in
-    let after = subst (λ (bs : List Body). All (λ (other : Body). next ≤ gap m.track other.track) bs) (take_rest robots (i + 1)) c.least_gap-least.ensures.least in
-    gaps_more robots i m c.loop-i.least next c.least_gap-least.ensures.less c.loop-i-test.true c.index-robots-i.is c.loop-i.invariant after
+    let after =
+    subst (λ (bs : List Body). All (λ (other : Body). next ≤ gap m.track other.track) bs) (take_rest robots (i + 1))
+    c.least_gap-least.ensures.least in
+    gaps_more robots i m c.loop-i.least next c.least_gap-least.ensures.less c.loop-i-test.true c.index-robots-i.is
+    c.loop-i.invariant after
 
 pub returns : goal.returns
 returns c = record { gaps = λ a b less last some. omega (arith, c.loop-i.invariant a b (omega arith) less last) }

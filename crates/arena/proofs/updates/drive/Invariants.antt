@@ -12,7 +12,10 @@ abbrev pub invariant-loop-robot : goal.invariant-loop-robot
 invariant-loop-robot l = record {
   size : length l.robot-items ≡ length l.initial.robot-items;
   rest : (k : ℕ) → l.robot-index ≤ k → get_or l.robot-items k none ≡ get_or l.initial.robot-items k none;
-  ahead : (rs : List Robot) → l.initial.robot-items ≡ map body_of rs → (k : ℕ) → k < l.robot-index → get_or l.robot-items k none ≡ ahead (get_or rs k no_robot);
-  nearby : (k : ℕ) → k < l.robot-index → IsNearby (get_or l.initial.robot-items k none).track (get_or l.robot-items k none).track;
-  way : (way : ℕ) → All (λ (b : Body). IsWithin way b.track) l.initial.robot-items → (k : ℕ) → k < l.robot-index → IsWithin (way + 10000000) (get_or l.robot-items k none).track;
+  ahead : (rs : List Robot) → l.initial.robot-items ≡ map body_of rs → (k : ℕ) → k < l.robot-index →
+      get_or l.robot-items k none ≡ ahead (get_or rs k no_robot);
+  nearby : (k : ℕ) → k < l.robot-index →
+      IsNearby (get_or l.initial.robot-items k none).track (get_or l.robot-items k none).track;
+  way : (way : ℕ) → All (λ (b : Body). IsWithin way b.track) l.initial.robot-items → (k : ℕ) → k < l.robot-index →
+      IsWithin (way + 10000000) (get_or l.robot-items k none).track;
 }

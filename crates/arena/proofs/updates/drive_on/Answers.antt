@@ -18,18 +18,25 @@ loop-robot-preserved c =
     let old = c.robot-item.result in
     let new = c.drive_on.new.self in
     let inside : i < length items = omega (arith, c.loop-robot-test.true, inv.size) in
-    let was : old ≡ get_or c.args.robots.now i none = get_or_read items i old inside c.robot-item.is none ∙ inv.rest i (omega arith) in
+    let was : old ≡ get_or c.args.robots.now i none =
+    get_or_read items i old inside c.robot-item.is none ∙ inv.rest i (omega arith) in
     record {
       size = length-set items i new ∙ inv.size;
       count = omega arith;
       rest = others_stay items c.args.robots.now i new inv.rest;
       ahead = λ rs e. one_more (λ k b. b ≡ ahead (get_or rs k no_robot)) items i new inside (inv.ahead rs e)
-          (c.drive_on.ensures.ahead (get_or rs i no_robot) (sym c.robot-item.is ∙ was ∙ ap (λ l. get_or l i none) e ∙ bodies_at rs i));
-      movers = λ rs e. pushed_map body_of mover c.args.robots.now rs _ _ i old _ no_robot e c.loop-robot-test.true (was ∙ inside_is c.args.robots.now i none old c.loop-robot-test.true)
+          (c.drive_on.ensures.ahead (get_or rs i no_robot)
+          (sym c.robot-item.is ∙ was ∙ ap (λ l. get_or l i none) e ∙ bodies_at rs i));
+      movers =
+          λ rs e. pushed_map body_of mover c.args.robots.now rs _ _ i old _ no_robot e c.loop-robot-test.true
+          (was ∙ inside_is c.args.robots.now i none old c.loop-robot-test.true)
           (λ at. c.drive_on.ensures.mover _ (sym c.robot-item.is ∙ at)) (inv.movers rs e) c.push.ensures.items;
       way = λ way h.
-          let here : IsWithin way (get_or items i old).track = subst (λ (b : Body). IsWithin way b.track) (sym (sym c.robot-item.is ∙ was)) (h i none c.loop-robot-test.true) in
-          one_more (λ k (b : Body). IsWithin (way + 10000000) b.track) items i new inside (inv.way way h) (omega (arith, here.0, c.drive_on.ensures.east), omega (arith, here.1, c.drive_on.ensures.north));
+          let here : IsWithin way (get_or items i old).track =
+          subst (λ (b : Body). IsWithin way b.track) (sym (sym c.robot-item.is ∙ was))
+          (h i none c.loop-robot-test.true) in
+          one_more (λ k (b : Body). IsWithin (way + 10000000) b.track) items i new inside (inv.way way h)
+          (omega (arith, here.0, c.drive_on.ensures.east), omega (arith, here.1, c.drive_on.ensures.north));
     }
 
 pub returns-clause-ahead : goal.returns-clause-ahead
@@ -41,4 +48,5 @@ returns-clause-ahead c = λ rs e.
 pub returns-clause-way : goal.returns-clause-way
 returns-clause-way c = λ way h k d l.
     let inv = c.loop-robot.invariant in
-    subst (λ (b : Body). IsWithin (way + 10000000) b.track) (inside_is c.loop-robot.robot-items k none d l) (inv.way way h k (omega (arith, l, inv.size)))
+    subst (λ (b : Body). IsWithin (way + 10000000) b.track) (inside_is c.loop-robot.robot-items k none d l)
+    (inv.way way h k (omega (arith, l, inv.size)))

@@ -13,7 +13,10 @@ invariant-loop-robot l = record {
   size : length l.robot-items ≡ length l.initial.robot-items;
   count : length l.movers.items ≡ l.robot-index;
   rest : (k : ℕ) → l.robot-index ≤ k → get_or l.robot-items k none ≡ get_or l.initial.robot-items k none;
-  ahead : (rs : List Robot) → l.initial.robot-items ≡ map body_of rs → (k : ℕ) → k < l.robot-index → get_or l.robot-items k none ≡ ahead (get_or rs k no_robot);
-  movers : (rs : List Robot) → l.initial.robot-items ≡ map body_of rs → l.movers.items ≡ map mover (take l.robot-index rs);
-  way : (way : ℕ) → All (λ (b : Body). IsWithin way b.track) l.initial.robot-items → (k : ℕ) → k < l.robot-index → IsWithin (way + 10000000) (get_or l.robot-items k none).track;
+  ahead : (rs : List Robot) → l.initial.robot-items ≡ map body_of rs → (k : ℕ) → k < l.robot-index →
+      get_or l.robot-items k none ≡ ahead (get_or rs k no_robot);
+  movers : (rs : List Robot) → l.initial.robot-items ≡ map body_of rs →
+      l.movers.items ≡ map mover (take l.robot-index rs);
+  way : (way : ℕ) → All (λ (b : Body). IsWithin way b.track) l.initial.robot-items → (k : ℕ) → k < l.robot-index →
+      IsWithin (way + 10000000) (get_or l.robot-items k none).track;
 }

@@ -18,20 +18,27 @@ loop-i-preserved c =
     let new = c.finished.result in
     let inside : i < length robots = omega arith in
     let first : i < length c.args.robots.now = omega (arith, inside, inv.size) in
-    let was : old ≡ get_or c.args.robots.now i none = get_or_read robots i old inside c.index-robots-i.is none ∙ inv.rest i (omega arith) in
+    let was : old ≡ get_or c.args.robots.now i none =
+    get_or_read robots i old inside c.index-robots-i.is none ∙ inv.rest i (omega arith) in
     record {
       size = length-set robots i new ∙ inv.size;
       rest = others_stay robots c.args.robots.now i new inv.rest;
       robots = λ f u e m holds.
           let within : i < length f.robots = omega (arith, first, ap length e, length-map f.robots ahead) in
-          let body = sym c.index-robots-i.is ∙ was ∙ ap (λ l. get_or l i none) e ∙ get_or-map ahead f.robots i no_robot none within in
-          let seen = mapped_is mover _ f.robots _ _ no_robot m (omega (arith, first, c.requires.count)) c.index-movers-i.is in
+          let body =
+          sym c.index-robots-i.is ∙ was ∙ ap (λ l. get_or l i none) e ∙
+          get_or-map ahead f.robots i no_robot none within in
+          let seen =
+          mapped_is mover _ f.robots _ _ no_robot m (omega (arith, first, c.requires.count)) c.index-movers-i.is in
           let touched = c.touches-touched.ensures.value ∙ ap (λ l. touches l i) m in
           one_more (λ k b. b ≡ after_at f k) robots i new inside (inv.robots f u e m holds)
-          (c.finished.ensures.robot (get_or f.robots i no_robot) f.updates f.shots u holds body seen ∙ at_is f i _ _ u touched);
+          (c.finished.ensures.robot (get_or f.robots i no_robot) f.updates f.shots u holds body seen ∙
+          at_is f i _ _ u touched);
       way = λ way h.
-          let here : IsWithin way (get_or robots i old).track = subst (λ (b : Body). IsWithin way b.track) (sym (sym c.index-robots-i.is ∙ was)) (h i none first) in
-          one_more (λ k (b : Body). IsWithin way b.track) robots i new inside (inv.way way h) (c.finished.ensures.way way here);
+          let here : IsWithin way (get_or robots i old).track =
+          subst (λ (b : Body). IsWithin way b.track) (sym (sym c.index-robots-i.is ∙ was)) (h i none first) in
+          one_more (λ k (b : Body). IsWithin way b.track) robots i new inside (inv.way way h)
+          (c.finished.ensures.way way here);
     }
 
 pub returns-clause-robots : goal.returns-clause-robots
@@ -42,4 +49,5 @@ returns-clause-robots c = λ f u e m holds.
 
 pub returns-clause-way : goal.returns-clause-way
 returns-clause-way c = λ way h k d l.
-    subst (λ (b : Body). IsWithin way b.track) (inside_is c.loop-i.robots k none d l) (c.loop-i.invariant.way way h k (omega (arith, l)))
+    subst (λ (b : Body). IsWithin way b.track) (inside_is c.loop-i.robots k none d l)
+    (c.loop-i.invariant.way way h k (omega (arith, l)))

@@ -14,7 +14,9 @@ abbrev pub invariant-loop-i : goal.invariant-loop-i
 invariant-loop-i l = record {
   size : length l.robots ≡ length l.initial.robots;
   rest : (k : ℕ) → l.i ≤ k → get_or l.robots k none ≡ get_or l.initial.robots k none;
-  robots : (f : Field) → l.update ≡ f.updates + 1 → l.initial.robots ≡ map ahead f.robots → l.movers ≡ map mover f.robots → HoldsShots f.updates l.missiles f.shots →
+  robots : (f : Field) → l.update ≡ f.updates + 1 → l.initial.robots ≡ map ahead f.robots →
+      l.movers ≡ map mover f.robots → HoldsShots f.updates l.missiles f.shots →
       (k : ℕ) → k < l.i → get_or l.robots k none ≡ after_at f k;
-  way : (way : ℕ) → All (λ (b : Body). IsWithin way b.track) l.initial.robots → (k : ℕ) → k < l.i → IsWithin way (get_or l.robots k none).track;
+  way : (way : ℕ) → All (λ (b : Body). IsWithin way b.track) l.initial.robots → (k : ℕ) → k < l.i →
+      IsWithin way (get_or l.robots k none).track;
 }

@@ -16,7 +16,9 @@ pub returns-clause-robot : goal.returns-clause-robot
 unfolding mover ahead
 returns-clause-robot c = λ r updates shots u holds e m.
     let live : is_alive r ≡ true = sym (c.is_live.ensures ∙ ap (λ (m : Mover). m.live) m) ∙ c.if-not-is_live.false in
-    let leg = c.settled-motion.ensures.leg r e m live in
+    let leg = c.motion_after-motion.ensures.leg r e m live in
     let burst = rw (c.x.ensures.value, c.y.ensures.value) at (c.damage_at-bursts.ensures.shots updates shots u holds) in
     let walled = c.damage.ensures.value ∙ ap (λ (b : Body). b.damage) e in
-    c.new.ensures ∙ alive_is r c.settled-motion.result c.args.update shots c.args.touched c.damage.result c.damage_at-bursts.result c.worn.result live leg walled burst c.worn.ensures.value
+    c.new.ensures ∙
+    alive_is r c.motion_after-motion.result c.args.update shots c.args.touched c.damage.result
+    c.damage_at-bursts.result c.worn.result live leg walled burst c.worn.ensures.value

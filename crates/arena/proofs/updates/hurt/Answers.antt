@@ -19,26 +19,37 @@ loop-robot-preserved c =
     let old = c.robot-item.result in
     let new = c.hurt.new.self in
     let inside : i < length items = omega (arith, c.loop-robot-test.true, inv.size) in
-    let was : old ≡ get_or c.args.robots.now i none = get_or_read items i old inside c.robot-item.is none ∙ inv.rest i (omega arith) in
+    let was : old ≡ get_or c.args.robots.now i none =
+    get_or_read items i old inside c.robot-item.is none ∙ inv.rest i (omega arith) in
     let there : get_or items i old ≡ get_or c.args.robots.now i none = sym c.robot-item.is ∙ was in
     record {
       size = length-set items i new ∙ inv.size;
       rest = others_stay items c.args.robots.now i new inv.rest;
       robots = λ f u e holds untouched.
-          let first : i < length f.robots = omega (arith, c.loop-robot-test.true, ap length e, length-map f.robots ahead) in
-          let body : get_or items i old ≡ ahead (get_or f.robots i no_robot) = there ∙ ap (λ l. get_or l i none) e ∙ get_or-map ahead f.robots i no_robot none first in
-          let harms = c.harm_by-bursts.ensures.value ∙ ap (λ ms. sum (map (harm c.x.result c.y.result) ms)) c.as_slice.ensures.value ∙ c.due-due.ensures.shots f.updates f.shots c.x.result c.y.result u holds in
+          let first : i < length f.robots =
+          omega (arith, c.loop-robot-test.true, ap length e, length-map f.robots ahead) in
+          let body : get_or items i old ≡ ahead (get_or f.robots i no_robot) =
+          there ∙ ap (λ l. get_or l i none) e ∙ get_or-map ahead f.robots i no_robot none first in
+          let harms =
+          c.harm_by-bursts.ensures.value ∙
+          ap (λ ms. sum (map (harm c.x.result c.y.result) ms)) c.as_slice.ensures.value ∙
+          c.due-due.ensures.shots f.updates f.shots c.x.result c.y.result u holds in
           let burst = rw (c.x.ensures.value, c.y.ensures.value) at harms in
           one_more (λ k b. b ≡ after_at f k) items i new inside (inv.robots f u e holds untouched)
-          (c.hurt.ensures ∙ hurt_at (get_or f.robots i no_robot) _ c.args.update f.shots _ body burst ∙ at_is f i _ 0 u (sym (untouched i first)));
-      places = one_more (λ k (b : Body). IsAtPlace (get_or c.args.robots.now k none).track b.track) items i new inside inv.places
+          (c.hurt.ensures ∙ hurt_at (get_or f.robots i no_robot) _ c.args.update f.shots _ body burst ∙
+          at_is f i _ 0 u (sym (untouched i first)));
+      places =
+          one_more (λ k (b : Body). IsAtPlace (get_or c.args.robots.now k none).track b.track) items i new inside
+          inv.places
           (record {
             on_x = ap (λ (b : Body). b.track.x) c.hurt.ensures ∙ ap (λ (b : Body). b.track.x) there;
             on_y = ap (λ (b : Body). b.track.y) c.hurt.ensures ∙ ap (λ (b : Body). b.track.y) there;
           });
       way = λ way h.
-          let here : IsWithin way (get_or items i old).track = subst (λ (b : Body). IsWithin way b.track) (sym there) (h i none c.loop-robot-test.true) in
-          one_more (λ k (b : Body). IsWithin way b.track) items i new inside (inv.way way h) (subst (λ (b : Body). IsWithin way b.track) (sym c.hurt.ensures) here);
+          let here : IsWithin way (get_or items i old).track =
+          subst (λ (b : Body). IsWithin way b.track) (sym there) (h i none c.loop-robot-test.true) in
+          one_more (λ k (b : Body). IsWithin way b.track) items i new inside (inv.way way h)
+          (subst (λ (b : Body). IsWithin way b.track) (sym c.hurt.ensures) here);
     }
 
 pub returns-clause-robots : goal.returns-clause-robots
@@ -53,4 +64,5 @@ returns-clause-places c = λ k l. c.loop-robot.invariant.places k (omega arith)
 pub returns-clause-way : goal.returns-clause-way
 returns-clause-way c = λ way h k d l.
     let inv = c.loop-robot.invariant in
-    subst (λ (b : Body). IsWithin way b.track) (inside_is c.loop-robot.robot-items k none d l) (inv.way way h k (omega (arith, l, inv.size)))
+    subst (λ (b : Body). IsWithin way b.track) (inside_is c.loop-robot.robot-items k none d l)
+    (inv.way way h k (omega (arith, l, inv.size)))

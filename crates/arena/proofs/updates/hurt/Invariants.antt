@@ -15,8 +15,12 @@ abbrev pub invariant-loop-robot : goal.invariant-loop-robot
 invariant-loop-robot l = record {
   size : length l.robot-items ≡ length l.initial.robot-items;
   rest : (k : ℕ) → l.robot-index ≤ k → get_or l.robot-items k none ≡ get_or l.initial.robot-items k none;
-  robots : (f : Field) → l.update ≡ f.updates + 1 → l.initial.robot-items ≡ map ahead f.robots → HoldsShots f.updates l.missiles f.shots →
-      ((i : ℕ) → i < length f.robots → touches (map mover f.robots) i ≡ 0) → (k : ℕ) → k < l.robot-index → get_or l.robot-items k none ≡ after_at f k;
-  places : (k : ℕ) → k < l.robot-index → IsAtPlace (get_or l.initial.robot-items k none).track (get_or l.robot-items k none).track;
-  way : (way : ℕ) → All (λ (b : Body). IsWithin way b.track) l.initial.robot-items → (k : ℕ) → k < l.robot-index → IsWithin way (get_or l.robot-items k none).track;
+  robots : (f : Field) → l.update ≡ f.updates + 1 → l.initial.robot-items ≡ map ahead f.robots →
+      HoldsShots f.updates l.missiles f.shots →
+      ((i : ℕ) → i < length f.robots → touches (map mover f.robots) i ≡ 0) → (k : ℕ) → k < l.robot-index →
+      get_or l.robot-items k none ≡ after_at f k;
+  places : (k : ℕ) → k < l.robot-index →
+      IsAtPlace (get_or l.initial.robot-items k none).track (get_or l.robot-items k none).track;
+  way : (way : ℕ) → All (λ (b : Body). IsWithin way b.track) l.initial.robot-items → (k : ℕ) → k < l.robot-index →
+      IsWithin way (get_or l.robot-items k none).track;
 }

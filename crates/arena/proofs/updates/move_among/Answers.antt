@@ -8,9 +8,14 @@ use Rattle.arena.proofs.updates.move_among.Goals as goal
 pub returns-then-not-any_near-clause-robots : goal.returns-then-not-any_near-clause-robots
 returns-then-not-any_near-clause-robots c = λ f u e holds.
     let movers = c.as_slice.ensures.value ∙ c.drive_on-movers.ensures.movers f.robots e in
-    let touched = subst (λ (ms : List Mover). (i : ℕ) → i < length ms → touches ms i ≡ 0) movers (c.any_near.ensures c.if-not-any_near.true) in
-    let none : (x y : ℕ) → sum (bursts (f.updates + 1) f.shots x y) ≡ 0 = λ x y. subst (λ n. sum (bursts n f.shots x y) ≡ 0) u (c.is_quiet.ensures c.if-is_quiet.true f.updates f.shots x y u holds) in
-    c.drive_on-movers.ensures.ahead f.robots e ∙ ahead_of_all f (λ i l. touched i (omega (arith, l, length-map f.robots mover))) none
+    let touched =
+    subst (λ (ms : List Mover). (i : ℕ) → i < length ms → touches ms i ≡ 0) movers
+    (c.any_near.ensures c.if-not-any_near.true) in
+    let none : (x y : ℕ) → sum (bursts (f.updates + 1) f.shots x y) ≡ 0 =
+    λ x y. subst (λ n. sum (bursts n f.shots x y) ≡ 0) u
+    (c.is_quiet.ensures c.if-is_quiet.true f.updates f.shots x y u holds) in
+    c.drive_on-movers.ensures.ahead f.robots e ∙
+    ahead_of_all f (λ i l. touched i (omega (arith, l, length-map f.robots mover))) none
 
 pub returns-clause-way : goal.returns-clause-way
 returns-clause-way c = λ way h. c.finish.ensures.way (way + 10000000) (c.drive_on-movers.ensures.way way h)

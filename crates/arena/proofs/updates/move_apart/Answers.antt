@@ -10,7 +10,8 @@ pub returns-then-not-is_quiet-clause-robots : goal.returns-then-not-is_quiet-cla
 returns-then-not-is_quiet-clause-robots c = λ f u e holds.
     let there = c.drive.ensures.ahead f.robots e in
     let size = ap length e ∙ length-map f.robots body_of in
-    c.hurt.ensures.robots f u there holds (calm f c.args.robots.now c.drive.new.robots size there c.drive.ensures.nearby c.requires.far)
+    c.hurt.ensures.robots f u there holds
+    (calm f c.args.robots.now c.drive.new.robots size there c.drive.ensures.nearby c.requires.far)
 
 pub returns-then-not-is_quiet-clause-way : goal.returns-then-not-is_quiet-clause-way
 returns-then-not-is_quiet-clause-way c = λ way h. c.hurt.ensures.way (way + 10000000) (c.drive.ensures.way way h)
@@ -20,7 +21,9 @@ returns-else-not-is_quiet-clause-robots c = λ f u e holds.
     let there = c.drive.ensures.ahead f.robots e in
     let size = ap length e ∙ length-map f.robots body_of in
     let untouched = calm f c.args.robots.now c.drive.new.robots size there c.drive.ensures.nearby c.requires.far in
-    let none : (x y : ℕ) → sum (bursts (f.updates + 1) f.shots x y) ≡ 0 = λ x y. subst (λ n. sum (bursts n f.shots x y) ≡ 0) u (c.is_quiet.ensures c.if-not-is_quiet.false f.updates f.shots x y u holds) in
+    let none : (x y : ℕ) → sum (bursts (f.updates + 1) f.shots x y) ≡ 0 =
+    λ x y. subst (λ n. sum (bursts n f.shots x y) ≡ 0) u
+    (c.is_quiet.ensures c.if-not-is_quiet.false f.updates f.shots x y u holds) in
     there ∙ ahead_of_all f untouched none
 
 pub returns-then-not-is_quiet-clause-nearby : goal.returns-then-not-is_quiet-clause-nearby

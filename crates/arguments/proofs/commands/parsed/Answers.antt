@@ -7,12 +7,14 @@ use Rattle.arguments.proofs.commands.parsed.Goals as goal
 pub returns-in-Ok-try_get_matches_from_mut-clause-rows :
     goal.returns-in-Ok-try_get_matches_from_mut-clause-rows
 returns-in-Ok-try_get_matches_from_mut-clause-rows c =
-    (c.in-Ok-try_get_matches_from_mut.ensures.ok.2 (ap is_simple c.in-Ok.ensures ∙ simple)).0 ∙ ap₂ matches_of c.in-Ok.ensures refl
+    (c.in-Ok-try_get_matches_from_mut.ensures.ok.2 (ap is_simple c.in-Ok.ensures ∙ simple)).0 ∙
+    ap₂ matches_of c.in-Ok.ensures refl
 
 pub returns-in-Ok-try_get_matches_from_mut-clause-ok :
     goal.returns-in-Ok-try_get_matches_from_mut-clause-ok
 returns-in-Ok-try_get_matches_from_mut-clause-ok c =
-    ap₂ fault_of (sym c.in-Ok.ensures) refl ∙ c.in-Ok-try_get_matches_from_mut.ensures.kinds (ap is_simple_and_free c.in-Ok.ensures ∙ free)
+    ap₂ fault_of (sym c.in-Ok.ensures) refl ∙
+    c.in-Ok-try_get_matches_from_mut.ensures.kinds (ap is_simple_and_free c.in-Ok.ensures ∙ free)
 
 pub returns-in-Ok-try_get_matches_from_mut-clause-files :
     goal.returns-in-Ok-try_get_matches_from_mut-clause-files
@@ -29,5 +31,6 @@ returns-clause-refused c =
     let kinds = c.in-Err.ensures.kinds (ap is_simple_and_free c.in-Ok.ensures ∙ free) in
     elim c.fault_by.ensures.either [
       | inl memory ↦ inl memory
-      | inr usage ↦ inr (usage.0, λ none. some_kind _ c.in-Err.error kinds usage.1 (ap₂ fault_of c.in-Ok.ensures refl ∙ none))
+      | inr usage ↦ inr
+          (usage.0, λ none. some_kind _ c.in-Err.error kinds usage.1 (ap₂ fault_of c.in-Ok.ensures refl ∙ none))
     ]

@@ -8,31 +8,46 @@ use Rattle.arith.proofs.BearingLemmas.{IsFirstGreatest, first_of_chunk, none_in_
 use Rattle.arith.proofs.bearings.bearing.Goals as goal
 
 -- the numbers that the calls were given are those of the caller
-found : (c : goal.In-Some) → IsFirstGreatest (reach_of c.args.dx c.args.dy) 360 (8 * c.loop-chunk.chunk + c.in-Some.lane)
+found : (c : goal.In-Some) →
+    IsFirstGreatest (reach_of c.args.dx c.args.dy) 360 (8 * c.loop-chunk.chunk + c.in-Some.lane)
 found c =
     let most = c.furthest_reach-furthest.result in
     let fits : FitsSigned w32 most = search (rules, c.furthest_reach-furthest.type_inv) in
-    let is : IsGreatest (reaches c.args.dx c.args.dy) most = rw (to_z-of_z w32 c.args.dx c.ranges.dx, to_z-of_z w32 c.args.dy c.ranges.dy) at c.furthest_reach-furthest.ensures in
-    let before = rw (to_z-of_z w32 c.args.dx c.ranges.dx, to_z-of_z w32 c.args.dy c.ranges.dy, to_z-of_z w32 most fits) at c.loop-chunk.invariant in
-    let lane = rw (to_z-of_z w32 c.args.dx c.ranges.dx, to_z-of_z w32 c.args.dy c.ranges.dy, to_z-of_z w32 most fits) at c.in-Some.ensures in
+    let is : IsGreatest (reaches c.args.dx c.args.dy) most =
+    rw (to_z-of_z w32 c.args.dx c.ranges.dx, to_z-of_z w32 c.args.dy c.ranges.dy) at c.furthest_reach-furthest.ensures
+    in
+    let before =
+    rw (to_z-of_z w32 c.args.dx c.ranges.dx, to_z-of_z w32 c.args.dy c.ranges.dy, to_z-of_z w32 most fits) at
+    c.loop-chunk.invariant in
+    let lane =
+    rw (to_z-of_z w32 c.args.dx c.ranges.dx, to_z-of_z w32 c.args.dy c.ranges.dy, to_z-of_z w32 most fits) at
+    c.in-Some.ensures in
     first_of_chunk c.args.dx c.args.dy most c.loop-chunk.chunk c.in-Some.lane c.loop-chunk-test.true is before lane
 
 pub overflow_add-result : goal.overflow_add-result
 overflow_add-result c = let within = (found c).within in search (rules, within)
 
 pub returns-in-Some-clause-furthest : goal.returns-in-Some-clause-furthest
-returns-in-Some-clause-furthest c = bearing_is_first c.args.dx c.args.dy (8 * c.loop-chunk.chunk + c.in-Some.lane) (found c)
+returns-in-Some-clause-furthest c =
+    bearing_is_first c.args.dx c.args.dy (8 * c.loop-chunk.chunk + c.in-Some.lane) (found c)
 
 pub returns-in-Some-clause-value : goal.returns-in-Some-clause-value
-returns-in-Some-clause-value c = bearing_of_is_first c.args.dx c.args.dy (8 * c.loop-chunk.chunk + c.in-Some.lane) (found c)
+returns-in-Some-clause-value c =
+    bearing_of_is_first c.args.dx c.args.dy (8 * c.loop-chunk.chunk + c.in-Some.lane) (found c)
 
 pub loop-chunk-preserved : goal.loop-chunk-preserved
 loop-chunk-preserved c =
     let most = c.furthest_reach-furthest.result in
     let fits : FitsSigned w32 most = search (rules, c.furthest_reach-furthest.type_inv) in
-    let is : IsGreatest (reaches c.args.dx c.args.dy) most = rw (to_z-of_z w32 c.args.dx c.ranges.dx, to_z-of_z w32 c.args.dy c.ranges.dy) at c.furthest_reach-furthest.ensures in
-    let before = rw (to_z-of_z w32 c.args.dx c.ranges.dx, to_z-of_z w32 c.args.dy c.ranges.dy, to_z-of_z w32 most fits) at c.loop-chunk.invariant in
-    let none = rw (to_z-of_z w32 c.args.dx c.ranges.dx, to_z-of_z w32 c.args.dy c.ranges.dy, to_z-of_z w32 most fits) at c.in_default.ensures in
+    let is : IsGreatest (reaches c.args.dx c.args.dy) most =
+    rw (to_z-of_z w32 c.args.dx c.ranges.dx, to_z-of_z w32 c.args.dy c.ranges.dy) at c.furthest_reach-furthest.ensures
+    in
+    let before =
+    rw (to_z-of_z w32 c.args.dx c.ranges.dx, to_z-of_z w32 c.args.dy c.ranges.dy, to_z-of_z w32 most fits) at
+    c.loop-chunk.invariant in
+    let none =
+    rw (to_z-of_z w32 c.args.dx c.ranges.dx, to_z-of_z w32 c.args.dy c.ranges.dy, to_z-of_z w32 most fits) at
+    c.in_default.ensures in
     rw (to_z-of_z w32 c.args.dx c.ranges.dx, to_z-of_z w32 c.args.dy c.ranges.dy, to_z-of_z w32 most fits)
     (none_in_chunk c.args.dx c.args.dy most c.loop-chunk.chunk c.loop-chunk-test.true is before none)
 
@@ -41,8 +56,12 @@ past_all : (c : goal.After-loop-chunk) → ⊥
 past_all c =
     let most = c.furthest_reach-furthest.result in
     let fits : FitsSigned w32 most = search (rules, c.furthest_reach-furthest.type_inv) in
-    let is : IsGreatest (reaches c.args.dx c.args.dy) most = rw (to_z-of_z w32 c.args.dx c.ranges.dx, to_z-of_z w32 c.args.dy c.ranges.dy) at c.furthest_reach-furthest.ensures in
-    let before = rw (to_z-of_z w32 c.args.dx c.ranges.dx, to_z-of_z w32 c.args.dy c.ranges.dy, to_z-of_z w32 most fits) at c.loop-chunk.invariant in
+    let is : IsGreatest (reaches c.args.dx c.args.dy) most =
+    rw (to_z-of_z w32 c.args.dx c.ranges.dx, to_z-of_z w32 c.args.dy c.ranges.dy) at c.furthest_reach-furthest.ensures
+    in
+    let before =
+    rw (to_z-of_z w32 c.args.dx c.ranges.dx, to_z-of_z w32 c.args.dy c.ranges.dy, to_z-of_z w32 most fits) at
+    c.loop-chunk.invariant in
     some_reaches c.args.dx c.args.dy most is (λ degree l. before degree (omega arith))
 
 pub returns-clause-furthest : goal.returns-clause-furthest

@@ -6,4 +6,6 @@ use Rattle.arith.proofs.bearings.chunk_reaches.Goals as goal
 pub returns : goal.returns
 returns c =
     let near = c.requires in
-    chunk_reaches_are c.args.dx c.args.dy near.dx_in_field near.dy_in_field c.ranges.dx c.ranges.dy (8 * c.args.chunk) (omega arith) c.round_entries-cosines.result c.round_entries-sines.result c.round_entries-cosines.ensures c.round_entries-sines.ensures
+    chunk_reaches_are c.args.dx c.args.dy near.dx_in_field near.dy_in_field c.ranges.dx c.ranges.dy (8 * c.args.chunk)
+    (omega arith) c.round_entries-cosines.result c.round_entries-sines.result c.round_entries-cosines.ensures
+    c.round_entries-sines.ensures

@@ -12,23 +12,29 @@ pub loop-chunk-init : goal.loop-chunk-init
 loop-chunk-init c =
     let near = c.requires in
     let xs = c.chunk_reaches-most.result in
-    let are : xs ≡ map (reach_of c.args.dx c.args.dy) (range_with_len (8 * 0) 8) = rw (to_z-of_z w32 c.args.dx c.ranges.dx, to_z-of_z w32 c.args.dy c.ranges.dy) at c.chunk_reaches-most.ensures in
+    let are : xs ≡ map (reach_of c.args.dx c.args.dy) (range_with_len (8 * 0) 8) =
+    rw (to_z-of_z w32 c.args.dx c.ranges.dx, to_z-of_z w32 c.args.dy c.ranges.dy) at c.chunk_reaches-most.ensures in
     let fit = reaches_fit c.args.dx c.args.dy near.dx_in_field near.dy_in_field (8 * 0) (omega arith) xs are in
-    rw (to_z-of_z w32 c.args.dx c.ranges.dx, to_z-of_z w32 c.args.dy c.ranges.dy, lanes_and_back xs fit.0) (most_at_first c.args.dx c.args.dy xs are)
+    rw (to_z-of_z w32 c.args.dx c.ranges.dx, to_z-of_z w32 c.args.dy c.ranges.dy, lanes_and_back xs fit.0)
+    (most_at_first c.args.dx c.args.dy xs are)
 
 pub loop-chunk-preserved : goal.loop-chunk-preserved
 loop-chunk-preserved c =
     let near = c.requires in
     let xs = c.chunk_reaches.result in
     let chunk = c.loop-chunk.chunk in
-    let are : xs ≡ map (reach_of c.args.dx c.args.dy) (range_with_len (8 * chunk) 8) = rw (to_z-of_z w32 c.args.dx c.ranges.dx, to_z-of_z w32 c.args.dy c.ranges.dy) at c.chunk_reaches.ensures in
+    let are : xs ≡ map (reach_of c.args.dx c.args.dy) (range_with_len (8 * chunk) 8) =
+    rw (to_z-of_z w32 c.args.dx c.ranges.dx, to_z-of_z w32 c.args.dy c.ranges.dy) at c.chunk_reaches.ensures in
     let fit = reaches_fit c.args.dx c.args.dy near.dx_in_field near.dy_in_field (8 * chunk) (omega arith) xs are in
-    let so_far = rw (to_z-of_z w32 c.args.dx c.ranges.dx, to_z-of_z w32 c.args.dy c.ranges.dy) at c.loop-chunk.invariant in
+    let so_far =
+    rw (to_z-of_z w32 c.args.dx c.ranges.dx, to_z-of_z w32 c.args.dy c.ranges.dy) at c.loop-chunk.invariant in
     rw (to_z-of_z w32 c.args.dx c.ranges.dx, to_z-of_z w32 c.args.dy c.ranges.dy, max_lanes c.loop-chunk.most xs fit.0)
     (most_of_more c.args.dx c.args.dy (map (to_z w32) c.loop-chunk.most) xs chunk so_far are)
 
 pub returns : goal.returns
 returns c =
-    let so_far = rw (to_z-of_z w32 c.args.dx c.ranges.dx, to_z-of_z w32 c.args.dy c.ranges.dy) at c.loop-chunk.invariant in
+    let so_far =
+    rw (to_z-of_z w32 c.args.dx c.ranges.dx, to_z-of_z w32 c.args.dy c.ranges.dy) at c.loop-chunk.invariant in
     rw (to_z-of_z w32 c.greatest.result (search (rules, c.greatest.type_inv)))
-    (most_of_all c.args.dx c.args.dy (map (to_z w32) c.loop-chunk.most) c.loop-chunk.chunk c.greatest.result (omega arith) so_far c.greatest.ensures)
+    (most_of_all c.args.dx c.args.dy (map (to_z w32) c.loop-chunk.most) c.loop-chunk.chunk c.greatest.result
+    (omega arith) so_far c.greatest.ensures)

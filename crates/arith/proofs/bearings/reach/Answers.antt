@@ -13,5 +13,7 @@ returns c =
     let sine_fits : FitsSigned w32 c.sine_at.result = search rules in
     let east = part_fits c.args.dx c.cosine_at.result c.requires.dx_in_field c.cosine_at.ensures.within_scale in
     let north = part_fits c.args.dy c.sine_at.result c.requires.dy_in_field c.sine_at.ensures.within_scale in
-    let sum = reach_fits c.args.dx c.args.dy c.cosine_at.result c.sine_at.result c.requires.dx_in_field c.cosine_at.ensures.within_scale c.requires.dy_in_field c.sine_at.ensures.within_scale in
+    let sum =
+    reach_fits c.args.dx c.args.dy c.cosine_at.result c.sine_at.result c.requires.dx_in_field
+    c.cosine_at.ensures.within_scale c.requires.dy_in_field c.sine_at.ensures.within_scale in
     simp to_z-of_z (rw (c.cosine_at.ensures.value, c.sine_at.ensures.value) refl)

@@ -11,6 +11,29 @@ use Rattle.arith.specs.Root.{root_by_quarters, root_of}
 use Rattle.arith.specs.Bearing.{reach_of, first_greatest, reaches, bearing_of}
 use Rattle.arith.proofs.laws.known_values.Goals as goal
 
+pub returns-clause-each : goal.returns-clause-each
+unfolding value_of int_wrap
+returns-clause-each c = record {
+  or = (refl, refl, refl, refl);
+  and = (refl, refl, refl, refl);
+  bit_or = (refl, refl, refl, refl);
+  bit_xor = (refl, refl, refl, refl);
+  bit_and = (refl, refl, refl, refl);
+  equal = (refl, refl, refl, refl);
+  not_equal = (refl, refl, refl, refl);
+  less = (refl, refl, refl, refl);
+  greater = (refl, refl, refl, refl);
+  less_or_equal = (refl, refl, refl, refl);
+  greater_or_equal = (refl, refl, refl, refl);
+  shift_left = (refl, refl, refl, refl);
+  shift_right = (refl, refl, refl, refl);
+  add = (refl, refl, refl, refl);
+  subtract = (refl, refl, refl, refl);
+  multiply = (refl, refl, refl, refl);
+  divide = (refl, refl, refl, refl);
+  remainder = (refl, refl, refl, refl);
+}
+
 pub returns-clause-operators : goal.returns-clause-operators
 unfolding value_of int_wrap
 returns-clause-operators c = record {

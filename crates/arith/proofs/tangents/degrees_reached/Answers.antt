@@ -12,4 +12,8 @@ returns-clause-value c =
     let fits : FitsSigned w32 c.from.result = search rules in
     to_z-of_z w32 c.from.result fits
     ∙ here
-    ∙ ap pos (sym (reached_is c.args.size c.halves.reached (omega (arith, one, inv.most)) inv.reached (λ less. rw one at (inv.missed (omega (arith, one, less))))))
+    ∙
+    ap pos
+    (sym
+    (reached_is c.args.size c.halves.reached (omega (arith, one, inv.most)) inv.reached
+    (λ less. rw one at (inv.missed (omega (arith, one, less))))))

@@ -11,11 +11,13 @@ returns-clause-battle c = λ p files are.
     let robots = robots_of p files in
     let codes = paired c.args.programs.now in
     let each = robots_are c.args.programs.now p files are in
-    let reached : HasReached c.begin.new.runners codes c.new-arena.result (opening (length robots) c.args.seed c.args.number) =
+    let reached : HasReached c.begin.new.runners codes c.new-arena.result
+    (opening (length robots) c.args.seed c.args.number) =
     opening_reached c.begin.new.runners codes c.new-arena.result robots _ c.args.seed c.args.number each
     c.robots-robots.ensures.robots (rw c.from.ensures at c.new-arena.ensures.stands) c.begin.ensures.begins in
     let ended = c.play-cycles.ensures.stage robots _ each reached in
-    let all : c.robots-robots.result ≡ length robots = c.robots-robots.ensures.robots ∙ sym (robots_length codes robots each) in
+    let all : c.robots-robots.result ≡ length robots =
+    c.robots-robots.ensures.robots ∙ sym (robots_length codes robots each) in
     c.new.ensures
     ∙ battle_is robots c.args.seed c.args.number c.args.limit _ _ (c.play-cycles.ensures.cycles robots _ each reached)
     (rw all at (c.damages.ensures.damages _ ended.field))

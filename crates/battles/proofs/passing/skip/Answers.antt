@@ -1,24 +1,33 @@
-use Rattle.std.proofs.Common.{◌≡◌, ap, arith}
+use Rattle.std.proofs.Common.{◌≡◌, length, ap, ◌∙◌, arith}
 use Rattle.battles.specs.Battle.{Stage}
 use Rattle.arena.specs.Field.{live_count}
+use Rattle.arena.specs.Ground.{Ground}
 use Rattle.battles.proofs.Skipping.{skips, skips_alive, skips_none}
 use Rattle.battles.proofs.passing.skip.Goals as goal
 
 pub returns-then-not-is_still-clause-stage : goal.returns-then-not-is_still-clause-stage
-returns-then-not-is_still-clause-stage c = λ codes robots s are reached. rw (skips_none robots s) reached
-
-pub returns-then-not-is_still-clause-alive : goal.returns-then-not-is_still-clause-alive
-returns-then-not-is_still-clause-alive c = λ codes robots s are reached n within.
-    let none : n ≡ 0 = omega arith in
-    rw none (ap (λ (t : Stage). live_count t.field) (skips_none robots s))
+returns-then-not-is_still-clause-stage c = λ codes robots s are reached. record {
+  reached = rw (skips_none robots s) reached;
+  alive = λ n within.
+      let none : n ≡ 0 = omega arith in
+      rw none (ap (λ (t : Stage). live_count t.field) (skips_none robots s));
+}
 
 pub returns-clause-stage : goal.returns-clause-stage
-returns-clause-stage c = λ codes robots s are reached.
-    rw c.rest.ensures.value
-    (skips codes robots c.args.runners.now c.go_on.new.runners c.args.arena.now s c.windows_ahead-windows.result are reached
-    (c.is_still.ensures c.if-not-is_still.false) c.windows_ahead-windows.ensures.ahead (c.go_on.ensures.stage codes robots s are reached))
+returns-clause-stage c = λ codes robots s are reached. record {
+  reached = rw c.update_times.ensures.value
+      (skips codes robots c.args.runners.now c.go_on.new.runners c.args.arena.now s c.windows_ahead-windows.result are
+      reached
+      (c.is_still.ensures c.if-not-is_still.false) c.windows_ahead-windows.ensures.ahead
+      (c.go_on.ensures.stage codes robots s are reached));
+  alive = λ n within.
+      skips_alive codes robots c.args.runners.now c.args.arena.now s c.windows_ahead-windows.result n are reached
+      (c.is_still.ensures c.if-not-is_still.false) c.windows_ahead-windows.ensures.ahead within;
+}
 
-pub returns-clause-alive : goal.returns-clause-alive
-returns-clause-alive c = λ codes robots s are reached n within.
-    skips_alive codes robots c.args.runners.now c.args.arena.now s c.windows_ahead-windows.result n are reached
-    (c.is_still.ensures c.if-not-is_still.false) c.windows_ahead-windows.ensures.ahead within
+pub returns-clause-manned : goal.returns-clause-manned
+returns-clause-manned c = λ codes manned. record {
+  few = manned.few;
+  fits = c.go_on.ensures.fits codes manned.fits;
+  robots = ap (λ (g : Ground). length g.robots) c.update_times.ensures.value ∙ manned.robots;
+}

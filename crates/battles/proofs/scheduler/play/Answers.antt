@@ -1,4 +1,4 @@
-use Rattle.std.proofs.Common.{◌≡◌, ◌<◌, ◌≤◌, ◌+◌, ◌/◌, ◌*◌, List, length, sym, ap, ◌∙◌, arith}
+use Rattle.std.proofs.Common.{◌≡◌, ◌<◌, ◌≤◌, ◌+◌, ◌/◌, ◌*◌, List, sym, ap, ◌∙◌, arith}
 use Rattle.std.specs.Prelude.{nat_le}
 use Rattle.arena.specs.Field.{live_count}
 use Rattle.battles.specs.Battle.{Behaviour, Stage, stage_after}
@@ -6,7 +6,7 @@ use Rattle.battles.specs.Carrying.{AreRobotsOf, HasReached}
 use Rattle.battles.specs.Pairing.{paired}
 use Rattle.battles.proofs.Cycles.{stage_none, first_begins}
 use Rattle.battles.proofs.Spans.{stage_segment, stage_segments, stage_rest, first_decided, first_undecided, first_skipped, first_limit}
-use Rattle.battles.proofs.Stages.{fits_length}
+use Rattle.battles.proofs.Manned.{have_places}
 use Rattle.battles.proofs.scheduler.play.Goals as goal
 
 pub loop-number-init : goal.loop-number-init
@@ -14,7 +14,6 @@ loop-number-init c = record {
   within = omega arith;
   manned = c.requires.manned;
   updates = c.requires.updates;
-  fits = c.requires.fits;
   stage = λ robots s are reached. rw stage_none reached;
   cycles = λ robots s are reached. first_begins robots s c.args.limit;
 }
@@ -22,23 +21,18 @@ loop-number-init c = record {
 pub returns-then-segment-clause-stage : goal.returns-then-segment-clause-stage
 returns-then-segment-clause-stage c = λ robots s are reached.
     rw (stage_segment robots s c.loop-number.number)
-    (c.segment.ensures.stage robots _ are (c.loop-number.invariant.stage robots s are reached))
+    (c.segment.ensures.stage robots _ are (c.loop-number.invariant.stage robots s are reached)).reached
 
 pub returns-then-segment-clause-cycles : goal.returns-then-segment-clause-cycles
 returns-then-segment-clause-cycles c = λ robots s are reached.
     let within : c.loop-number.number < c.args.limit / 15 = c.loop-number-test.true in
     let now = c.loop-number.invariant.stage robots s are reached in
     first_decided robots s c.loop-number.number c.args.limit _ (omega arith)
-    (c.loop-number.invariant.cycles robots s are reached) (sym (c.if-segment.ensures.decided robots _ are now))
+    (c.loop-number.invariant.cycles robots s are reached) (sym (c.if-segment.ensures.stage robots _ are now).decided)
 
-pub skip-number-requires-clause-manned : goal.skip-number-requires-clause-manned
-skip-number-requires-clause-manned c =
-    c.segment.ensures.manned ∙ sym (fits_length c.segment.new.runners (paired c.args.programs.now) c.segment.ensures.fits)
-
-pub skip-number-requires-clause-few : goal.skip-number-requires-clause-few
-skip-number-requires-clause-few c =
-    let few : length (paired c.args.programs.now) ≤ 4 = c.requires.few in
-    omega (arith, few, fits_length c.segment.new.runners (paired c.args.programs.now) c.segment.ensures.fits)
+pub skip-number-requires-clause-places : goal.skip-number-requires-clause-places
+skip-number-requires-clause-places c =
+    have_places (paired c.args.programs.now) c.segment.new.runners c.segment.new.arena c.segment.ensures.manned
 
 pub loop-number-preserved : goal.loop-number-preserved
 loop-number-preserved c =
@@ -47,25 +41,30 @@ loop-number-preserved c =
     let n = c.loop-number.number in
     let k = c.skip-number.result in
     let most : n + 1 + k ≤ c.args.limit / 15 = omega (arith, c.skip-number.ensures.most) in
-    let segmented : (robots : List Behaviour) (s : Stage) → AreRobotsOf codes robots → HasReached c.args.runners.now codes c.args.arena.now s
+    let segmented : (robots : List Behaviour) (s : Stage) → AreRobotsOf codes robots →
+    HasReached c.args.runners.now codes c.args.arena.now s
     → HasReached c.segment.new.runners codes c.segment.new.arena (stage_after robots s (15 * (n + 1))) =
     λ robots s are reached.
-    rw (stage_segment robots s n) (c.segment.ensures.stage robots _ are (c.loop-number.invariant.stage robots s are reached)) in
+    rw (stage_segment robots s n)
+    (c.segment.ensures.stage robots _ are (c.loop-number.invariant.stage robots s are reached)).reached in
     record {
       within = most;
-      manned = c.skip-number.ensures.manned ∙ c.segment.ensures.manned;
-      updates = omega (arith, c.skip-number.ensures.updates, c.segment.ensures.updates, c.loop-number.invariant.updates);
-      fits = c.skip-number.ensures.fits codes c.segment.ensures.fits;
+      manned = c.skip-number.ensures.manned codes c.segment.ensures.manned;
+      updates = omega
+          (arith, c.skip-number.ensures.updates, c.segment.ensures.updates, c.loop-number.invariant.updates);
       stage = λ robots s are reached.
           rw (stage_segments robots s (n + 1) k)
-          (c.skip-number.ensures.stage codes robots _ are (segmented robots s are reached));
+          (c.skip-number.ensures.stage codes robots _ are (segmented robots s are reached)).reached;
       cycles = λ robots s are reached.
           let now = c.loop-number.invariant.stage robots s are reached in
-          let undecided = sym (c.if-segment.ensures.decided robots _ are now) in
-          let next = first_undecided robots s n c.args.limit _ (omega arith) (c.loop-number.invariant.cycles robots s are reached) undecided in
+          let undecided = sym (c.if-segment.ensures.stage robots _ are now).decided in
+          let next =
+          first_undecided robots s n c.args.limit _ (omega arith)
+          (c.loop-number.invariant.cycles robots s are reached) undecided in
           let few = λ (t : Stage). nat_le (live_count t.field) 1 in
           first_skipped robots s (n + 1) k c.args.limit _ (omega arith) next
-          (λ j low. ap (λ count. nat_le count 1) (c.skip-number.ensures.alive codes robots _ are (segmented robots s are reached) j low)
+          (λ j low. ap (λ count. nat_le count 1)
+          ((c.skip-number.ensures.stage codes robots _ are (segmented robots s are reached)).alive j low)
           ∙ ap few (stage_segment robots s n) ∙ undecided);
     }
 

@@ -1,24 +1,19 @@
-use Rattle.std.proofs.Common.{◌≤◌, List, length, leb, ap, sym, ◌∙◌, arith}
+use Rattle.std.proofs.Common.{List, leb, ap}
 use Rattle.battles.specs.Battle.{Behaviour, Stage}
 use Rattle.battles.specs.Carrying.{AreRobotsOf, HasReached}
 use Rattle.battles.specs.Pairing.{paired}
 use Rattle.battles.proofs.Cycles.{updated_reached}
-use Rattle.battles.proofs.Stages.{fits_length}
+use Rattle.battles.proofs.Manned.{have_places}
 use Rattle.battles.specs.Windows.{rounds, segment}
 use Rattle.battles.proofs.scheduler.segment.Goals as goal
 use Rattle.battles.proofs.scheduler.segment.Goals.{then-not-pass, else-not-pass}
 
-pub pass-requires-clause-manned : goal.pass-requires-clause-manned
-pass-requires-clause-manned c =
-    c.requires.manned ∙ sym (fits_length c.args.runners.now (paired c.args.programs.now) c.requires.fits)
-
-pub pass-requires-clause-few : goal.pass-requires-clause-few
-pass-requires-clause-few c =
-    let few : length (paired c.args.programs.now) ≤ 4 = c.requires.few in
-    omega (arith, few, fits_length c.args.runners.now (paired c.args.programs.now) c.requires.fits)
+pub pass-requires : goal.pass-requires
+pass-requires c = have_places (paired c.args.programs.now) c.args.runners.now c.args.arena.now c.requires.manned
 
 -- the cycles up to the update
-turned : (c : goal.After-live_count) (robots : List Behaviour) (s : Stage) → AreRobotsOf (paired c.args.programs.now) robots
+turned : (c : goal.After-live_count) (robots : List Behaviour) (s : Stage) →
+    AreRobotsOf (paired c.args.programs.now) robots
     → HasReached c.args.runners.now (paired c.args.programs.now) c.args.arena.now s
     → HasReached c.if-not-pass.runners (paired c.args.programs.now) c.if-not-pass.arena (rounds robots 15 s)
 turned c robots s are reached = elim c.if-not-pass.branch [
@@ -26,17 +21,16 @@ turned c robots s are reached = elim c.if-not-pass.branch [
       rw (w.runners-is, w.arena-is)
       (w.window.ensures.stage robots s are (rw (c.pass.ensures.stays w.if-not-pass.true) reached))
   | else-not-pass w ↦
-      rw (w.runners-is, w.arena-is) (c.pass.ensures.stage w.if-not-pass.false (paired c.args.programs.now) robots s are reached)
+      rw (w.runners-is, w.arena-is)
+      (c.pass.ensures.stage w.if-not-pass.false (paired c.args.programs.now) robots s are reached)
 ]
 
 pub returns-clause-stage : goal.returns-clause-stage
 unfolding segment
 returns-clause-stage c = λ robots s are reached.
     let now = turned c robots s are reached in
-    updated_reached _ (paired c.args.programs.now) _ _ (rounds robots 15 s) now (c.update.ensures.stands _ now.field)
-
-pub returns-clause-decided : goal.returns-clause-decided
-unfolding segment
-returns-clause-decided c = λ robots s are reached.
-    let now = turned c robots s are reached in
-    ap (λ n. leb n 1) (c.live_count.ensures _ (c.update.ensures.stands _ now.field))
+    record {
+      reached = updated_reached _ (paired c.args.programs.now) _ _ (rounds robots 15 s) now
+          (c.update.ensures.stands _ now.field);
+      decided = ap (λ n. leb n 1) (c.live_count.ensures _ (c.update.ensures.stands _ now.field));
+    }

@@ -1,8 +1,5 @@
-use Rattle.code.proofs.KnownPrograms.{choices, listings, operators, restarts, values, wants}
+use Rattle.code.proofs.KnownPrograms.{choices, restarts, values, wants}
 use Rattle.code.proofs.known.known_programs.Goals as goal
-
-pub returns-clause-listings : goal.returns-clause-listings
-returns-clause-listings c = listings
 
 pub returns-clause-wants : goal.returns-clause-wants
 returns-clause-wants c = wants
@@ -12,9 +9,6 @@ returns-clause-choices c = choices
 
 pub returns-clause-values : goal.returns-clause-values
 returns-clause-values c = values
-
-pub returns-clause-operators : goal.returns-clause-operators
-returns-clause-operators c = operators
 
 pub returns-clause-restarts : goal.returns-clause-restarts
 returns-clause-restarts c = restarts

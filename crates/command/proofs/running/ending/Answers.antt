@@ -12,8 +12,13 @@ returns-clause-ends g c =
     let known : map g.D.File.Feed.to_come c.as_mut_slice.result.now ≡ map holds c.in-Ok.settings.words =
     ap (map g.D.File.Feed.to_come) c.as_mut_slice.ensures.value
     ∙ (c.in-Ok-open_files.ensures.contents
-    ∙ (sym (map-map holds (λ (word : Bor (List ℕ)). word.now) c.words.result.now) ∙ ap (map holds) c.words.ensures.value)) in
+    ∙
+    (sym (map-map holds (λ (word : Bor (List ℕ)). word.now) c.words.result.now) ∙
+    ap (map holds) c.words.ensures.value)) in
     let each : EachShows g.D.File.Feed.account fails c.in-Ok.settings.words c.as_mut_slice.result.now =
     rw (c.as_mut_slice.ensures.value, sym c.words.ensures.value) c.in-Ok-open_files.ensures.shows in
-    ends_by_run (files holds (g.D.Opener.opens c.args.disk.now) (g.D.Opener.refuses c.args.disk.now) fails) _ c.in-Ok.settings _ _ c.run_files.result _ _ _ _
-    c.in-Ok.ensures.answer known (λ word. shown g.D.File.Feed.account fails c.in-Ok.settings.words c.as_mut_slice.result.now _ word each) c.run_files.ensures.ran
+    ends_by_run (files holds (g.D.Opener.opens c.args.disk.now) (g.D.Opener.refuses c.args.disk.now) fails) _
+    c.in-Ok.settings _ _ c.run_files.result _ _ _ _
+    c.in-Ok.ensures.answer known
+    (λ word. shown g.D.File.Feed.account fails c.in-Ok.settings.words c.as_mut_slice.result.now _ word each)
+    c.run_files.ensures.ran

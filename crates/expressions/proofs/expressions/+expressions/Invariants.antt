@@ -44,7 +44,8 @@ decreases-arguments g l = (64 - l.depth) * 64 + 61
 
 abbrev pub invariant-levels-loop-binary : goal.invariant-levels-loop-binary
 invariant-levels-loop-binary g l = record {
-  climbs : Climbs (g.B.Build.stands l.fn.build) (g.B.Build.stands l.build) l.depth l.level l.fn.parser.place l.parser.place;
+  climbs : Climbs (g.B.Build.stands l.fn.build) (g.B.Build.stands l.build) l.depth l.level l.fn.parser.place
+      l.parser.place;
   kept : WentOn l.fn.parser l.parser;
 }
 
@@ -53,7 +54,8 @@ decreases-levels-loop-binary g l = to_go l.parser
 
 abbrev pub invariant-arguments-loop-parser : goal.invariant-arguments-loop-parser
 invariant-arguments-loop-parser g l = record {
-  parsed : AddsArgs (g.B.Build.stands l.fn.build) (g.B.Build.stands l.build) l.depth (Part Arguments ∷ []) (Part MoreArguments ∷ []) l.fn.parser.place l.parser.place;
+  parsed : AddsArgs (g.B.Build.stands l.fn.build) (g.B.Build.stands l.build) l.depth (Part Arguments ∷ [])
+      (Part MoreArguments ∷ []) l.fn.parser.place l.parser.place;
   kept : StayedOrWentOn l.fn.parser l.parser;
 }
 

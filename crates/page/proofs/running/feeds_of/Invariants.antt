@@ -5,5 +5,7 @@ use Rattle.page.proofs.running.feeds_of.Given as goal
 
 -- the sources of the robots so far
 abbrev pub invariant-loop-robot : goal.invariant-loop-robot
-invariant-loop-robot l = (map (λ feed. Some feed.rest.now) l.feeds.items ≡ map (λ robot. Some (source_bytes robot)) (take l.robot-index l.robots))
+invariant-loop-robot l =
+    (map (λ feed. Some feed.rest.now) l.feeds.items ≡
+    map (λ robot. Some (source_bytes robot)) (take l.robot-index l.robots))
     × All (λ feed. feed.ended ≡ false) l.feeds.items

@@ -4,7 +4,9 @@ use Rattle.page.proofs.running.run_robots.Goals as goal
 
 pub returns-clause-runs : goal.returns-clause-runs
 returns-clause-runs c =
-    by_robots c.args.order.now c.args.robots.now c.in_ok-settings.settings (map (λ (word : Bor (List ℕ)). word.now) c.as_slice.result.now) _
+    by_robots c.args.order.now c.args.robots.now c.in_ok-settings.settings
+    (map (λ (word : Bor (List ℕ)). word.now) c.as_slice.result.now) _
     c.run_feeds.result c.clear.new.self c.clear-2.new.self c.run_feeds.new.text c.run_feeds.new.faults
-    c.in_ok-settings.ensures.value (rw c.as_slice.ensures.value c.in_ok-words.ensures.names) (rw c.as_mut_slice.ensures.value c.in_ok-feeds.ensures.bytes)
+    c.in_ok-settings.ensures.value (rw c.as_slice.ensures.value c.in_ok-words.ensures.names)
+    (rw c.as_mut_slice.ensures.value c.in_ok-feeds.ensures.bytes)
     c.clear.ensures.text c.clear-2.ensures.text c.run_feeds.ensures.output

@@ -10,22 +10,31 @@ use Rattle.parser.proofs.files.part.Goals as goal
 
 pub returns-in_err-function-clause-reads : goal.returns-in_err-function-clause-reads
 returns-in_err-function-clause-reads g c =
-    let named : c.args.parser.now.place.position.reading.next.token ≡ token.Name c.in-Name.field-0 = ap (λ (l : LocatedToken). l.token) (sym c.peek-else-is_word.ensures.value) ∙ c.in-Name.is in
+    let named : c.args.parser.now.place.position.reading.next.token ≡ token.Name c.in-Name.field-0 =
+    ap (λ (l : LocatedToken). l.token) (sym c.peek-else-is_word.ensures.value) ∙ c.in-Name.is in
     let p = err_from_is_err_and c.from_residual-in_err-function.result c.from_residual-in_err-function.ensures.1 in
-    rw (p.1, p.2) (function_refused _ (g.B.Build.stands c.args.build.now) _ at_source _ c.in_err-function.field-0.0 _ (source_named (g.B.Build.stands c.args.build.now) _ c.in-Name.field-0 named) c.in_err-function.ensures.reads)
+    rw (p.1, p.2)
+    (function_refused _ (g.B.Build.stands c.args.build.now) _ at_source _ c.in_err-function.field-0.0 _
+    (source_named (g.B.Build.stands c.args.build.now) _ c.in-Name.field-0 named) c.in_err-function.ensures.reads)
 
 pub returns-in_default : goal.returns-in_default
 returns-in_default g c =
     let sound : is_fault c.args.parser.now.place.position.reading.next.token ≡ false = cc in
     let other : is_word word.Type c.args.parser.now.place.position.reading.next.token ≡ false = cc in
     record {
-      reads = rw c.misfit.ensures (source_misfits (g.B.Build.stands c.args.build.now) _ _ c.requires.ready.near sound c.requires.more other
-          (λ name same. c.in_default.not-Name name (ap (λ (l : LocatedToken). l.token) c.peek-else-is_word.ensures.value ∙ same)));
-      closed = tt;
+      reads =
+          rw c.misfit.ensures (source_misfits (g.B.Build.stands c.args.build.now) _ _ c.requires.at.ready.near sound
+          c.requires.at.is other
+          (λ name same. c.in_default.not-Name name
+          (ap (λ (l : LocatedToken). l.token) c.peek-else-is_word.ensures.value ∙ same)));
       kept = rw c.misfit.ensures (record { device = refl; account = refl; took = record { rest = λ total h. h } });
     }
 
 pub returns-in_ok-function-clause-reads : goal.returns-in_ok-function-clause-reads
 returns-in_ok-function-clause-reads g c =
-    let named : c.args.parser.now.place.position.reading.next.token ≡ token.Name c.in-Name.field-0 = ap (λ (l : LocatedToken). l.token) (sym c.peek-else-is_word.ensures.value) ∙ c.in-Name.is in
-    function_read (g.B.Build.stands c.args.build.now) (g.B.Build.stands c.function.new.build) at_source _ _ (source_named (g.B.Build.stands c.args.build.now) _ c.in-Name.field-0 named) c.in_ok-function.ensures.reads
+    let named : c.args.parser.now.place.position.reading.next.token ≡ token.Name c.in-Name.field-0 =
+    ap (λ (l : LocatedToken). l.token) (sym c.peek-else-is_word.ensures.value) ∙ c.in-Name.is in (
+      function_read (g.B.Build.stands c.args.build.now) (g.B.Build.stands c.function.new.build) at_source _ _
+          (source_named (g.B.Build.stands c.args.build.now) _ c.in-Name.field-0 named) c.in_ok-function.ensures.reads.0,
+      c.in_ok-function.ensures.reads.1,
+    )

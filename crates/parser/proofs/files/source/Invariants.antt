@@ -7,7 +7,8 @@ use Rattle.parser.proofs.files.source.Given as goal
 
 abbrev pub invariant-loop-parser : goal.invariant-loop-parser
 invariant-loop-parser g l = record {
-  reads : ReadsOn (g.B.Build.stands l.fn.build) (g.B.Build.stands l.build) at_source at_source l.fn.parser.place l.parser.place;
+  reads : ReadsOn (g.B.Build.stands l.fn.build) (g.B.Build.stands l.build) at_source at_source l.fn.parser.place
+      l.parser.place;
   stands : StandsOpen (g.B.Build.stands l.build) [];
   kept : StayedOrWentOn l.fn.parser l.parser;
 }

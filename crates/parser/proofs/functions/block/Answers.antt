@@ -17,51 +17,70 @@ pub returns-then-not-is_punctuator-clause-parses : goal.returns-then-not-is_punc
 returns-then-not-is_punctuator-clause-parses g c =
     let sound : is_fault c.args.parser.now.place.position.reading.next.token ≡ false = cc in
     let misses : is_punctuator punctuator.OpenCurly c.args.parser.now.place.position.reading.next.token ≡ false = cc in
-    rw c.misfit.ensures (brace_misfits _ _ c.requires.ready.near sound misses)
+    rw c.misfit.ensures (record {
+      refused = brace_misfits _ _ c.requires.at.ready.near sound misses;
+      grown = λ device. absurd (cc);
+    })
 
 pub returns-in_err-advance-clause-parses : goal.returns-in_err-advance-clause-parses
 returns-in_err-advance-clause-parses g c =
     let is : is_punctuator punctuator.OpenCurly c.args.parser.now.place.position.reading.next.token ≡ true = cc in
     let p = err_from_is_err_and c.from_residual.result c.from_residual.ensures.1 in
-    rw (p.1, p.2) (refused_map _ _ _ ⊥ _ c.in_err-advance.field-0.0 (brace_stops c.args.parser.now.place.position.reading c.args.parser.now.place.position.scope _ is) (λ never. absurd never) c.in_err-advance.ensures.consumes)
+    rw (p.1, p.2) (record {
+      refused = refused_map _ _ _ ⊥ _ c.in_err-advance.field-0.0
+          (brace_stops c.args.parser.now.place.position.reading c.args.parser.now.place.position.scope _ is)
+          (λ never. absurd never) c.in_err-advance.ensures.consumes;
+      grown = λ device. grown_nothing _;
+    })
 
 pub returns-in_err-declarations-clause-parses : goal.returns-in_err-declarations-clause-parses
 returns-in_err-declarations-clause-parses g c =
     let is : is_punctuator punctuator.OpenCurly c.args.parser.now.place.position.reading.next.token ≡ true = cc in
-    let p = err_from_is_err_and c.from_residual-in_err-declarations.result c.from_residual-in_err-declarations.ensures.1 in
-    let opened = block_opened c.args.parser.now.place.position.reading c.args.parser.now.place.position.scope _ _ is c.in_ok-advance.ensures.kept.ready.sound c.in_ok-advance.ensures.consumes in
-    rw (p.1, p.2) (exit _ 0 1 (Part FunctionBlock ∷ []) (Part Declarations ∷ []) (Part Statements ∷ at_brace) [] [] (ABody Done ∷ []) _ _ ⊥ _ c.in_err-declarations.field-0.0 opened (λ stack same. ap (λ n. n + 1) same) (λ never. absurd never)
-    (refused_map _ (λ d. (depth : ℕ) → FailsAt depth (Part Declarations ∷ []) [] c.advance.new.self.place d) (FailsAt 1 (Part Declarations ∷ []) [] c.advance.new.self.place) ⊥ ⊥ c.in_err-declarations.field-0.0 (λ d fails. fails 1) (λ same. same) c.in_err-declarations.ensures.matches))
+    let p =
+    err_from_is_err_and c.from_residual-in_err-declarations.result c.from_residual-in_err-declarations.ensures.1 in
+    let opened =
+    block_opened c.args.parser.now.place.position.reading c.args.parser.now.place.position.scope _ _ is
+    c.in_ok-advance.ensures.kept.ready.sound c.in_ok-advance.ensures.consumes in
+    rw (p.1, p.2) (record {
+      refused =
+          exit _ 0 1 (Part FunctionBlock ∷ []) (Part Declarations ∷ []) (Part Statements ∷ at_brace) [] []
+          (ABody Done ∷ []) _ _ ⊥ _ c.in_err-declarations.field-0.0 opened (λ stack same. ap (λ n. n + 1) same)
+          (λ never. absurd never)
+          (refused_map _ (λ d. (depth : ℕ) → FailsAt depth (Part Declarations ∷ []) [] c.advance.new.self.place d)
+          (FailsAt 1 (Part Declarations ∷ []) [] c.advance.new.self.place) ⊥ ⊥ c.in_err-declarations.field-0.0
+          (λ d fails. fails 1) (λ same. same) c.in_err-declarations.ensures.matches);
+      grown = λ device. grown_nothing _;
+    })
 
 pub returns-in_err-statements-clause-parses : goal.returns-in_err-statements-clause-parses
 returns-in_err-statements-clause-parses g c =
     let is : is_punctuator punctuator.OpenCurly c.args.parser.now.place.position.reading.next.token ≡ true = cc in
     let p = err_from_is_err_and c.from_residual-in_err-statements.result c.from_residual-in_err-statements.ensures.1 in
-    let opened = block_opened c.args.parser.now.place.position.reading c.args.parser.now.place.position.scope _ _ is c.in_ok-advance.ensures.kept.ready.sound c.in_ok-advance.ensures.consumes in
-    rw (p.1, p.2) (exit _ 0 1 (Part FunctionBlock ∷ []) (Part Statements ∷ []) at_brace [] (ABody Done ∷ []) [] _ _ _ _ c.in_err-statements.field-0.0 (block_declared _ _ _ opened (c.in_ok-declarations.ensures.matches 1)) (λ stack same. ap (λ n. n + 1) same) (λ same. same)
-    (refused_map _ (FailsBody 1 (Part Statements ∷ []) c.declarations.new.parser.place) (FailsAt 1 (Part Statements ∷ []) (ABody Done ∷ []) c.declarations.new.parser.place) _ _ c.in_err-statements.field-0.0 (λ d fails. fails Done) (λ same. same) c.in_err-statements.ensures.parses))
+    let opened =
+    block_opened c.args.parser.now.place.position.reading c.args.parser.now.place.position.scope _ _ is
+    c.in_ok-advance.ensures.kept.ready.sound c.in_ok-advance.ensures.consumes in
+    rw (p.1, p.2) (record {
+      refused =
+          exit _ 0 1 (Part FunctionBlock ∷ []) (Part Statements ∷ []) at_brace [] (ABody Done ∷ []) [] _ _ _ _
+          c.in_err-statements.field-0.0 (block_declared _ _ _ opened (c.in_ok-declarations.ensures.matches 1))
+          (λ stack same. ap (λ n. n + 1) same) (λ same. same)
+          (refused_map _ (FailsBody 1 (Part Statements ∷ []) c.declarations.new.parser.place)
+          (FailsAt 1 (Part Statements ∷ []) (ABody Done ∷ []) c.declarations.new.parser.place) _ _
+          c.in_err-statements.field-0.0 (λ d fails. fails Done) (λ same. same)
+          c.in_err-statements.ensures.parses.refused);
+      grown = c.in_err-statements.ensures.parses.grown;
+    })
 
 pub returns-clause-parses : goal.returns-clause-parses
 returns-clause-parses g c =
     let is : is_punctuator punctuator.OpenCurly c.args.parser.now.place.position.reading.next.token ≡ true = cc in
-    let opened = block_opened c.args.parser.now.place.position.reading c.args.parser.now.place.position.scope _ _ is c.in_ok-advance.ensures.kept.ready.sound c.in_ok-advance.ensures.consumes in
-    block_adds _ _ _ _ _ _ c.in_ok-advance.ensures.consumes.scope opened (c.in_ok-declarations.ensures.matches 1) c.in_ok-statements.ensures.parses
+    let opened =
+    block_opened c.args.parser.now.place.position.reading c.args.parser.now.place.position.scope _ _ is
+    c.in_ok-advance.ensures.kept.ready.sound c.in_ok-advance.ensures.consumes in
+    block_adds _ _ _ _ _ _ c.in_ok-advance.ensures.consumes.scope opened (c.in_ok-declarations.ensures.matches 1)
+    c.in_ok-statements.ensures.parses.0 c.in_ok-statements.ensures.parses.1
 
 pub returns-clause-kept : goal.returns-clause-kept
 returns-clause-kept g c =
-    on_then _ _ _ c.in_ok-advance.ensures.kept (kept_then _ _ _ c.in_ok-declarations.ensures.kept c.in_ok-statements.ensures.kept)
-
-pub returns-in_err-advance-clause-grown : goal.returns-in_err-advance-clause-grown
-returns-in_err-advance-clause-grown g c =
-    let p = err_from_is_err_and c.from_residual.result c.from_residual.ensures.1 in
-    rw (p.1, p.2) (λ device. grown_nothing _)
-
-pub returns-in_err-declarations-clause-grown : goal.returns-in_err-declarations-clause-grown
-returns-in_err-declarations-clause-grown g c =
-    let p = err_from_is_err_and c.from_residual-in_err-declarations.result c.from_residual-in_err-declarations.ensures.1 in
-    rw (p.1, p.2) (λ device. grown_nothing _)
-
-pub returns-in_err-statements-clause-grown : goal.returns-in_err-statements-clause-grown
-returns-in_err-statements-clause-grown g c =
-    let p = err_from_is_err_and c.from_residual-in_err-statements.result c.from_residual-in_err-statements.ensures.1 in
-    rw (p.1, p.2) c.in_err-statements.ensures.grown
+    on_then _ _ _ c.in_ok-advance.ensures.kept
+    (kept_then _ _ _ c.in_ok-declarations.ensures.kept c.in_ok-statements.ensures.kept)

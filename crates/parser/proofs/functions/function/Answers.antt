@@ -1,4 +1,4 @@
-use Rattle.std.proofs.Common.{◌≡◌, ℕ, [], ◌∷◌, false, sym, ◌∙◌, arith}
+use Rattle.std.proofs.Common.{◌≡◌, ℕ, [], ◌∷◌, sym, ◌∙◌, arith}
 use Rattle.std.proofs.lemmas.Result.{err_from_is_err_and}
 use Rattle.parsing.specs.Declarations.{heading_items}
 use Rattle.parsing.specs.Segment.{FailsAt}
@@ -11,82 +11,114 @@ use Rattle.parser.proofs.Closing.{begun, closed, has_place, may_begin, may_end}
 use Rattle.parser.proofs.functions.function.Goals as goal
 
 pub begin_function-requires : goal.begin_function-requires
-begin_function-requires g c = record { follows = may_begin _ c.in_ok-number.number c.parameters.result c.requires.closed c.in_ok-number.ensures.begun.few c.parameters.ensures.most }
+begin_function-requires g c =
+    record {
+      follows =
+          may_begin _ c.in_ok-number.number c.parameters.result c.requires.at.builder c.in_ok-number.ensures.begun.few
+          c.parameters.ensures.most;
+    }
 
-pub block-requires-clause-open : goal.block-requires-clause-open
-block-requires-clause-open g c =
-    has_place _ c.parameters.result (begun _ _ c.in_ok-number.number c.parameters.result c.requires.closed c.in_ok-number.ensures.begun.few c.parameters.ensures.most c.in_ok-begin_function.ensures.ok)
+pub block-requires : goal.block-requires
+block-requires g c = record {
+  at = record {
+    builder = has_place _ c.parameters.result
+        (begun _ _ c.in_ok-number.number c.parameters.result c.requires.at.builder c.in_ok-number.ensures.begun.few
+        c.parameters.ensures.most c.in_ok-begin_function.ensures.ok);
+    ready = c.in_ok-number.ensures.kept.ready;
+    is = tt;
+  };
+}
 
 pub returns-in_err-number-clause-reads : goal.returns-in_err-number-clause-reads
 returns-in_err-number-clause-reads g c =
     let p = err_from_is_err_and c.from_residual.result c.from_residual.ensures.1 in
     rw (p.1, p.2) (heading_refused _ (g.B.Build.stands c.args.build.now) _ c.in_err-number.field-0.0 _
-    (refused_map _ (λ d. (depth : ℕ) → FailsAt depth heading_items [] c.args.parser.now.place d) (FailsAt 0 heading_items [] c.args.parser.now.place) ⊥ ⊥ c.in_err-number.field-0.0 (λ d fails. fails 0) (λ same. same) c.in_err-number.ensures.matches))
+    (refused_map _ (λ d. (depth : ℕ) → FailsAt depth heading_items [] c.args.parser.now.place d)
+    (FailsAt 0 heading_items [] c.args.parser.now.place) ⊥ ⊥ c.in_err-number.field-0.0 (λ d fails. fails 0)
+    (λ same. same) c.in_err-number.ensures.matches))
 
 pub returns-in_err-begin_function-clause-reads : goal.returns-in_err-begin_function-clause-reads
 returns-in_err-begin_function-clause-reads g c =
-    let p = err_from_is_err_and c.from_residual-in_err-begin_function.result c.from_residual-in_err-begin_function.ensures.1 in
+    let p =
+    err_from_is_err_and c.from_residual-in_err-begin_function.result c.from_residual-in_err-begin_function.ensures.1
+    in
     rw (p.1, p.2) (
       refuses c.in_err-begin_function.field-0.0 _ c.in_err-begin_function.ensures.memory,
-      definition_halts (g.B.Build.stands c.args.build.now) _ (Part FunctionBlock ∷ []) [] _ _ _ (headed _ _ (c.in_ok-number.ensures.matches 0)) c.in_ok-number.ensures.kept.ready.near,
+      definition_halts (g.B.Build.stands c.args.build.now) _ (Part FunctionBlock ∷ []) [] _ _ _
+          (headed _ _ (c.in_ok-number.ensures.matches 0)) c.in_ok-number.ensures.kept.ready.near,
     )
 
 pub returns-in_err-block-clause-reads : goal.returns-in_err-block-clause-reads
 returns-in_err-block-clause-reads g c =
     let p = err_from_is_err_and c.from_residual-in_err-block.result c.from_residual-in_err-block.ensures.1 in
-    rw (p.1, p.2) (block_refused _ (g.B.Build.stands c.args.build.now) (g.B.Build.stands c.begin_function.new.self) _ _ _ c.in_ok-number.number c.parameters.result c.in_err-block.field-0.0 _ (c.in_ok-number.ensures.matches 0)
-    c.in_ok-begin_function.ensures.ok c.in_err-block.ensures.grown c.in_err-block.ensures.parses)
+    rw (p.1, p.2) (block_refused _ (g.B.Build.stands c.args.build.now) (g.B.Build.stands c.begin_function.new.self) _ _
+    _ c.in_ok-number.number c.parameters.result c.in_err-block.field-0.0 _ (c.in_ok-number.ensures.matches 0)
+    c.in_ok-begin_function.ensures.ok c.in_err-block.ensures.parses.grown c.in_err-block.ensures.parses.refused)
 
 pub close-requires : goal.close-requires
 close-requires g c =
-    let same : c.block.new.parser.place.position.scope.current.parameters ≡ c.parameters.result = c.in_ok-block.ensures.parses.kept.parameters ∙ sym c.parameters.ensures.count in
+    let same : c.block.new.parser.place.position.scope.current.parameters ≡ c.parameters.result =
+    c.in_ok-block.ensures.parses.kept.parameters ∙ sym c.parameters.ensures.count in
     record {
       «open» = may_end _ _ c.parameters.result c.variables.result c.in_ok-block.ensures.parses.tree
-          (begun _ _ c.in_ok-number.number c.parameters.result c.requires.closed c.in_ok-number.ensures.begun.few c.parameters.ensures.most c.in_ok-begin_function.ensures.ok)
-          c.in_ok-block.ensures.parses.added c.in_ok-block.ensures.parses.numbered c.in_ok-block.ensures.parses.narrow (omega (arith, same, c.variables.ensures.first)) c.variables.ensures.most;
+          (begun _ _ c.in_ok-number.number c.parameters.result c.requires.at.builder c.in_ok-number.ensures.begun.few
+          c.parameters.ensures.most c.in_ok-begin_function.ensures.ok)
+          c.in_ok-block.ensures.parses.added c.in_ok-block.ensures.parses.numbered c.in_ok-block.ensures.parses.narrow
+          (omega (arith, same, c.variables.ensures.first)) c.variables.ensures.most;
     }
 
 pub returns-in_err-close-clause-reads : goal.returns-in_err-close-clause-reads
 returns-in_err-close-clause-reads g c =
     let p = err_from_is_err_and c.from_residual-in_err-close.result c.from_residual-in_err-close.ensures.1 in
-    rw (p.1, p.2) (too_much_refused _ _ _ _ _ _ _ _ c.in_ok-number.number c.parameters.result c.in_err-close.field-0.0 _ c.in_ok-block.ensures.kept.ready.near (c.in_ok-number.ensures.matches 0) c.in_ok-block.ensures.parses c.in_ok-begin_function.ensures.ok
-    (closing_sound _ c.in_ok-block.ensures.closed) c.in_ok-block.ensures.closed c.in_err-close.ensures.refused)
+    rw (p.1, p.2) (too_much_refused _ _ _ _ _ _ _ _ c.in_ok-number.number c.parameters.result c.in_err-close.field-0.0 _
+    c.in_ok-block.ensures.kept.ready.near (c.in_ok-number.ensures.matches 0) c.in_ok-block.ensures.parses
+    c.in_ok-begin_function.ensures.ok
+    (closing_sound _ c.in_ok-block.ensures.parses.closed) c.in_ok-block.ensures.parses.closed
+    c.in_err-close.ensures.ends)
 
 pub returns-in_err-expect-clause-reads : goal.returns-in_err-expect-clause-reads
 returns-in_err-expect-clause-reads g c =
     let p = err_from_is_err_and c.from_residual-in_err-expect.result c.from_residual-in_err-expect.ensures.1 in
-    rw (p.1, p.2) (brace_refused _ _ _ _ _ _ _ _ _ c.in_ok-number.number c.parameters.result c.variables.result c.in_err-expect.field-0.0 _ (c.in_ok-number.ensures.matches 0) c.in_ok-block.ensures.parses
+    rw (p.1, p.2) (brace_refused _ _ _ _ _ _ _ _ _ c.in_ok-number.number c.parameters.result c.variables.result
+    c.in_err-expect.field-0.0 _ (c.in_ok-number.ensures.matches 0) c.in_ok-block.ensures.parses
     (record {
       number = c.in_ok-block.ensures.parses.kept.number ∙ c.in_ok-number.ensures.begun.is;
       parameters = c.in_ok-block.ensures.parses.kept.parameters ∙ sym c.parameters.ensures.count;
       variables = sym c.variables.ensures.count;
     })
-    (ended _ _ c.end_definition.ensures) c.in_ok-begin_function.ensures.ok c.in_ok-close.ensures.closed
-    (closing_sound _ c.in_ok-block.ensures.closed) c.in_err-expect.ensures.matches)
+    (ended _ _ c.end_definition.ensures) c.in_ok-begin_function.ensures.ok c.in_ok-close.ensures.ends
+    (closing_sound _ c.in_ok-block.ensures.parses.closed) c.in_err-expect.ensures.matches)
 
 pub returns-clause-reads : goal.returns-clause-reads
 returns-clause-reads g c =
-    function_advances _ _ _ _ _ _ _ _ _ c.in_ok-number.number c.parameters.result c.variables.result (c.in_ok-number.ensures.matches 0) c.in_ok-block.ensures.parses
-    (record {
-      number = c.in_ok-block.ensures.parses.kept.number ∙ c.in_ok-number.ensures.begun.is;
-      parameters = c.in_ok-block.ensures.parses.kept.parameters ∙ sym c.parameters.ensures.count;
-      variables = sym c.variables.ensures.count;
-    })
-    (ended _ _ c.end_definition.ensures) c.in_ok-begin_function.ensures.ok c.in_ok-close.ensures.closed
-    c.in_ok-expect.ensures.matches (closing_sound _ c.in_ok-block.ensures.closed) c.in_ok-expect.ensures.kept.ready.sound
-
-pub returns-clause-closed : goal.returns-clause-closed
-returns-clause-closed g c =
-    let same : c.block.new.parser.place.position.scope.current.parameters ≡ c.parameters.result = c.in_ok-block.ensures.parses.kept.parameters ∙ sym c.parameters.ensures.count in
-    closed (g.B.Build.stands c.args.build.now) (g.B.Build.stands c.close.new.build) c.in_ok-number.number c.parameters.result c.variables.result c.in_ok-block.ensures.parses.tree c.requires.closed c.in_ok-number.ensures.begun.few (omega (arith, same, c.variables.ensures.first)) c.variables.ensures.most
-    c.in_ok-block.ensures.parses.numbered c.in_ok-block.ensures.parses.narrow
-    (told_function (g.B.Build.stands c.args.build.now) (g.B.Build.stands c.begin_function.new.self) (g.B.Build.stands c.block.new.build) (g.B.Build.stands c.close.new.build) c.in_ok-number.number c.parameters.result c.variables.result c.in_ok-block.ensures.parses.tree c.in_ok-begin_function.ensures.ok c.in_ok-block.ensures.parses.added c.in_ok-close.ensures.closed.added)
+    let same : c.block.new.parser.place.position.scope.current.parameters ≡ c.parameters.result =
+    c.in_ok-block.ensures.parses.kept.parameters ∙ sym c.parameters.ensures.count in (
+      function_advances _ _ _ _ _ _ _ _ _ c.in_ok-number.number c.parameters.result c.variables.result
+          (c.in_ok-number.ensures.matches 0) c.in_ok-block.ensures.parses
+          (record {
+            number = c.in_ok-block.ensures.parses.kept.number ∙ c.in_ok-number.ensures.begun.is;
+            parameters = c.in_ok-block.ensures.parses.kept.parameters ∙ sym c.parameters.ensures.count;
+            variables = sym c.variables.ensures.count;
+          })
+          (ended _ _ c.end_definition.ensures) c.in_ok-begin_function.ensures.ok c.in_ok-close.ensures.ends
+          c.in_ok-expect.ensures.matches (closing_sound _ c.in_ok-block.ensures.parses.closed)
+          c.in_ok-expect.ensures.kept.ready.sound,
+      closed (g.B.Build.stands c.args.build.now) (g.B.Build.stands c.close.new.build) c.in_ok-number.number
+          c.parameters.result c.variables.result c.in_ok-block.ensures.parses.tree c.requires.at.builder
+          c.in_ok-number.ensures.begun.few (omega (arith, same, c.variables.ensures.first)) c.variables.ensures.most
+          c.in_ok-block.ensures.parses.numbered c.in_ok-block.ensures.parses.narrow
+          (told_function (g.B.Build.stands c.args.build.now) (g.B.Build.stands c.begin_function.new.self)
+          (g.B.Build.stands c.block.new.build) (g.B.Build.stands c.close.new.build) c.in_ok-number.number
+          c.parameters.result c.variables.result c.in_ok-block.ensures.parses.tree
+          c.in_ok-begin_function.ensures.ok c.in_ok-block.ensures.parses.added c.in_ok-close.ensures.ends.added),
+    )
 
 pub returns-clause-kept : goal.returns-clause-kept
 returns-clause-kept g c =
     on_then _ _ _ c.in_ok-number.ensures.kept
     (kept_then _ _ _ (on _ _ c.in_ok-block.ensures.kept)
-    (kept_then _ _ _ (renamed _ _ c.in_ok-block.ensures.kept.ready c.end_definition.ensures) (on _ _ c.in_ok-expect.ensures.kept)))
+    (kept_then _ _ _ (renamed _ _ c.in_ok-block.ensures.kept.ready c.end_definition.ensures)
+    (on _ _ c.in_ok-expect.ensures.kept)))
 
 pub expect-requires : goal.expect-requires
 expect-requires g c = record { ready = (renamed _ _ c.in_ok-block.ensures.kept.ready c.end_definition.ensures).ready }
@@ -94,12 +126,14 @@ expect-requires g c = record { ready = (renamed _ _ c.in_ok-block.ensures.kept.r
 pub returns-in_err-close-clause-kept : goal.returns-in_err-close-clause-kept
 returns-in_err-close-clause-kept g c =
     let p = err_from_is_err_and c.from_residual-in_err-close.result c.from_residual-in_err-close.ensures.1 in
-    rw (p.1, p.2) (stopped_then c.in_err-close.field-0.0 _ _ c.block.new.parser (kept_then _ _ _ (on _ _ c.in_ok-number.ensures.kept) (on _ _ c.in_ok-block.ensures.kept))
-    (short c.in_err-close.field-0.0 c.block.new.parser c.in_err-close.ensures.device))
+    rw (p.1, p.2) (stopped_then c.in_err-close.field-0.0 _ _ c.block.new.parser
+    (kept_then _ _ _ (on _ _ c.in_ok-number.ensures.kept) (on _ _ c.in_ok-block.ensures.kept))
+    (short c.in_err-close.field-0.0 c.block.new.parser _ _ _ c.in_err-close.ensures.ends))
 
 pub returns-in_err-expect-clause-kept : goal.returns-in_err-expect-clause-kept
 returns-in_err-expect-clause-kept g c =
     let p = err_from_is_err_and c.from_residual-in_err-expect.result c.from_residual-in_err-expect.ensures.1 in
     rw (p.1, p.2) (stopped_then c.in_err-expect.field-0.0 _ _ _
-    (kept_then _ _ _ (kept_then _ _ _ (on _ _ c.in_ok-number.ensures.kept) (on _ _ c.in_ok-block.ensures.kept)) (renamed _ _ c.in_ok-block.ensures.kept.ready c.end_definition.ensures))
+    (kept_then _ _ _ (kept_then _ _ _ (on _ _ c.in_ok-number.ensures.kept) (on _ _ c.in_ok-block.ensures.kept))
+    (renamed _ _ c.in_ok-block.ensures.kept.ready c.end_definition.ensures))
     c.in_err-expect.ensures.kept)

@@ -9,7 +9,9 @@ use Rattle.parsing.proofs.lists.more_names.Given as goal
 
 abbrev pub invariant-loop-declared : goal.invariant-loop-declared
 invariant-loop-declared g l = record {
-  matches : (depth : ℕ) → Derives depth (Part (More (role_of l.declared)) ∷ []) (Part (More (role_of l.declared)) ∷ []) [] [] l.fn.parser.place l.parser.place;
+  matches : (depth : ℕ) →
+      Derives depth (Part (More (role_of l.declared)) ∷ []) (Part (More (role_of l.declared)) ∷ []) [] []
+      l.fn.parser.place l.parser.place;
   stays : StaysAt l.declared (scope_of l.fn.parser) (scope_of l.parser);
   kept : StayedOrWentOn l.fn.parser l.parser;
 }

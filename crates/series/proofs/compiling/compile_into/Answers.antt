@@ -11,22 +11,26 @@ pub compile_file-requires-clause-count : goal.compile_file-requires-clause-count
 compile_file-requires-clause-count g c =
     let within : c.loop-file.file < length c.args.feeds.now = omega arith in
     rw (feed_here c.args.feeds.now c.loop-file.feeds c.loop-file.file c.index-feeds-file.result c.loop-file.invariant.0)
-    (All-get_or (λ feed. (g.F.Feed.account feed).failures < 2 ^ 64 - 1) c.args.feeds.now c.loop-file.file c.index-feeds-file.result within c.requires.feeds)
+    (All-get_or (λ feed. (g.F.Feed.account feed).failures < 2 ^ 64 - 1) c.args.feeds.now c.loop-file.file
+    c.index-feeds-file.result within c.requires.feeds)
 
 pub compile_file-requires-clause-not_ended : goal.compile_file-requires-clause-not_ended
 compile_file-requires-clause-not_ended g c =
     let within : c.loop-file.file < length c.args.feeds.now = omega arith in
     rw (feed_here c.args.feeds.now c.loop-file.feeds c.loop-file.file c.index-feeds-file.result c.loop-file.invariant.0)
-    (All-get_or (λ feed. g.F.Feed.ended feed ≡ false) c.args.feeds.now c.loop-file.file c.index-feeds-file.result within c.requires.not_ended)
+    (All-get_or (λ feed. g.F.Feed.ended feed ≡ false) c.args.feeds.now c.loop-file.file c.index-feeds-file.result
+    within c.requires.not_ended)
 
 pub returns-in-Err-put-clause-output : goal.returns-in-Err-put-clause-output
 returns-in-Err-put-clause-output g c = λ sources are.
     let within : c.loop-file.file < length c.args.feeds.now = omega arith in
     let Named : List (List ℕ) → Type 0 = λ words. AreSources sources words (map g.F.Feed.to_come c.args.feeds.now) in
-    let named : Named (map (λ word. word.now) c.words-words.result.now) = subst Named (sym c.words-words.ensures.value) are in
+    let named : Named (map (λ word. word.now) c.words-words.result.now) =
+    subst Named (sym c.words-words.ensures.value) are in
     let in_words : c.loop-file.file < length c.words-words.result.now =
     omega (arith, ap length c.words-words.ensures.value, length-map c.words-words.result.now (λ word. word.now)) in
-    let in_sources : c.loop-file.file < length sources = omega (arith, length_sources sources c.args.settings.now.words _ are) in
+    let in_sources : c.loop-file.file < length sources =
+    omega (arith, length_sources sources c.args.settings.now.words _ are) in
     let told = told_here g.F.Feed.to_come c.args.feeds.now c.loop-file.feeds sources c.args.settings.now.words
     c.loop-file.file c.index-feeds-file.result are c.requires.files within c.loop-file.invariant.0 in
     pieces_cut c.args.settings.now.mode c.args.settings.now.profile sources c.loop-file.file _ _ _ _ in_sources
@@ -34,7 +38,8 @@ returns-in-Err-put-clause-output g c = λ sources are.
     (rw (
       c.loop-file.invariant.2,
       c.profile-profile.ensures.value,
-      name_here (λ word. word.now) c.words-words.result.now sources _ c.loop-file.file _ c.as_bytes.result.now c.name_of-name.result.now
+      name_here (λ word. word.now) c.words-words.result.now sources _ c.loop-file.file _ c.as_bytes.result.now
+          c.name_of-name.result.now
           named in_words c.as_bytes.ensures.value c.name_of-name.ensures,
     ) at ((rw c.in-Err-put.is at c.in-Ok.ensures.output) _ told))
 
@@ -43,8 +48,10 @@ returns-in-Err-put-clause-read g c = record {
   count = c.loop-file.file + 1;
   reads = reads_first g.F.Feed.to_come c.args.settings.now.profile c.args.feeds.now _ (c.loop-file.file + 1)
       (rest_more c.args.feeds.now c.loop-file.feeds c.loop-file.file c.compile_file.new.feed c.loop-file.invariant.0)
-      (reads_more g.F.Feed.to_come c.args.settings.now.profile c.args.feeds.now c.loop-file.feeds c.loop-file.file c.index-feeds-file.result c.compile_file.new.feed
-      (omega arith) c.loop-file.invariant.0 c.loop-file.invariant.5 (rw c.profile-profile.ensures.value at c.in-Ok.ensures.taken));
+      (reads_more g.F.Feed.to_come c.args.settings.now.profile c.args.feeds.now c.loop-file.feeds c.loop-file.file
+      c.index-feeds-file.result c.compile_file.new.feed
+      (omega arith) c.loop-file.invariant.0 c.loop-file.invariant.5
+      (rw c.profile-profile.ensures.value at c.in-Ok.ensures.taken));
   puts = λ sources are.
       let told = told_here g.F.Feed.to_come c.args.feeds.now c.loop-file.feeds sources c.args.settings.now.words
       c.loop-file.file c.index-feeds-file.result are c.requires.files (omega arith) c.loop-file.invariant.0 in
@@ -54,46 +61,59 @@ returns-in-Err-put-clause-read g c = record {
 
 pub returns-in-Err-clause-read : goal.returns-in-Err-clause-read
 returns-in-Err-clause-read g c =
-    fails_at g.F.Feed.to_come c.args.settings.now.profile c.args.feeds.now c.loop-file.feeds c.loop-file.file c.index-feeds-file.result c.compile_file.new.feed
-    (omega arith) c.loop-file.invariant.0 c.loop-file.invariant.5 (rw c.profile-profile.ensures.value at c.in-Err.ensures.stopped)
+    fails_at g.F.Feed.to_come c.args.settings.now.profile c.args.feeds.now c.loop-file.feeds c.loop-file.file
+    c.index-feeds-file.result c.compile_file.new.feed
+    (omega arith) c.loop-file.invariant.0 c.loop-file.invariant.5
+    (rw c.profile-profile.ensures.value at c.in-Err.ensures.stopped)
 
 pub loop-file-preserved : goal.loop-file-preserved
 loop-file-preserved g c = (
   rest_more c.args.feeds.now c.loop-file.feeds c.loop-file.file c.compile_file.new.feed c.loop-file.invariant.0,
   rw (
-    none_failed g.F.Feed.account c.loop-file.feeds c.loop-file.file c.index-feeds-file.result c.compile_file.new.feed c.in-Ok.ensures.count,
+    none_failed g.F.Feed.account c.loop-file.feeds c.loop-file.file c.index-feeds-file.result c.compile_file.new.feed
+        c.in-Ok.ensures.count,
     (rw c.in-Ok-put.is at c.in-Ok.ensures.failures).0,
     (rw c.in-Ok-put.is at c.in-Ok.ensures.failures).1,
   ) c.loop-file.invariant.1,
   c.compile_file.ensures.mode ∙ c.loop-file.invariant.2,
   rw c.both-status.ensures
-      (manned_with c.loop-file.status c.in-Ok-put.compiled c.loop-file.file _ _ (rw c.in-Ok-put.is at c.in-Ok.ensures.manned) c.loop-file.invariant.3),
+      (manned_with c.loop-file.status c.in-Ok-put.compiled c.loop-file.file _ _
+      (rw c.in-Ok-put.is at c.in-Ok.ensures.manned) c.loop-file.invariant.3),
   λ sources are.
       let within : c.loop-file.file < length c.args.feeds.now = omega arith in
       let Named : List (List ℕ) → Type 0 = λ words. AreSources sources words (map g.F.Feed.to_come c.args.feeds.now) in
-      let named : Named (map (λ word. word.now) c.words-words.result.now) = subst Named (sym c.words-words.ensures.value) are in
+      let named : Named (map (λ word. word.now) c.words-words.result.now) =
+      subst Named (sym c.words-words.ensures.value) are in
       let in_words : c.loop-file.file < length c.words-words.result.now =
       omega (arith, ap length c.words-words.ensures.value, length-map c.words-words.result.now (λ word. word.now)) in
-      let in_sources : c.loop-file.file < length sources = omega (arith, length_sources sources c.args.settings.now.words _ are) in
+      let in_sources : c.loop-file.file < length sources =
+      omega (arith, length_sources sources c.args.settings.now.words _ are) in
       let told = told_here g.F.Feed.to_come c.args.feeds.now c.loop-file.feeds sources c.args.settings.now.words
       c.loop-file.file c.index-feeds-file.result are c.requires.files within c.loop-file.invariant.0 in (
-        pieces_more c.args.settings.now.mode c.args.settings.now.profile sources c.loop-file.file _ _ _ _ in_sources (c.loop-file.invariant.4 sources are).0 refl
+        pieces_more c.args.settings.now.mode c.args.settings.now.profile sources c.loop-file.file _ _ _ _ in_sources
+            (c.loop-file.invariant.4 sources are).0 refl
             (rw (
               c.loop-file.invariant.2,
               c.profile-profile.ensures.value,
-              name_here (λ word. word.now) c.words-words.result.now sources _ c.loop-file.file _ c.as_bytes.result.now c.name_of-name.result.now
+              name_here (λ word. word.now) c.words-words.result.now sources _ c.loop-file.file _ c.as_bytes.result.now
+                  c.name_of-name.result.now
                   named in_words c.as_bytes.ensures.value c.name_of-name.ensures,
             ) at ((rw c.in-Ok-put.is at c.in-Ok.ensures.output) _ told)),
         c.both-status.ensures
-            ∙ status_more c.args.settings.now.profile sources c.loop-file.file c.loop-file.status c.in-Ok-put.compiled in_sources (c.loop-file.invariant.4 sources are).1
+            ∙
+            status_more c.args.settings.now.profile sources c.loop-file.file c.loop-file.status c.in-Ok-put.compiled
+            in_sources (c.loop-file.invariant.4 sources are).1
             (rw c.profile-profile.ensures.value at ((rw c.in-Ok-put.is at c.in-Ok.ensures.status) _ told)),
         rw c.both-status.ensures
-            (kept_with c.args.settings.now.profile sources c.loop-file.file c.loop-file.status c.in-Ok-put.compiled _ _ in_sources (c.loop-file.invariant.4 sources are).2
+            (kept_with c.args.settings.now.profile sources c.loop-file.file c.loop-file.status c.in-Ok-put.compiled _ _
+            in_sources (c.loop-file.invariant.4 sources are).2
             (rw c.profile-profile.ensures.value at ((rw c.in-Ok-put.is at c.in-Ok.ensures.status) _ told))
             (rw c.profile-profile.ensures.value at ((rw c.in-Ok-put.is at c.in-Ok.ensures.kept) _ told))),
       ),
-  reads_more g.F.Feed.to_come c.args.settings.now.profile c.args.feeds.now c.loop-file.feeds c.loop-file.file c.index-feeds-file.result c.compile_file.new.feed
-      (omega arith) c.loop-file.invariant.0 c.loop-file.invariant.5 (rw c.profile-profile.ensures.value at c.in-Ok.ensures.taken),
+  reads_more g.F.Feed.to_come c.args.settings.now.profile c.args.feeds.now c.loop-file.feeds c.loop-file.file
+      c.index-feeds-file.result c.compile_file.new.feed
+      (omega arith) c.loop-file.invariant.0 c.loop-file.invariant.5
+      (rw c.profile-profile.ensures.value at c.in-Ok.ensures.taken),
   rw c.profile-profile.ensures.value at c.compile_file.ensures.profile,
 )
 
@@ -105,11 +125,15 @@ returns-in-Err-clause-failures g c =
     let within : c.loop-file.file < length c.args.feeds.now = omega arith in (
       rw (length-map c.args.feeds.now g.F.Feed.account) within,
       rw (c.in-Err.ensures.quiet.0, c.in-Err.ensures.quiet.1)
-          (read_failed g.F.Feed.account c.args.feeds.now c.loop-file.feeds c.loop-file.file _ _ _ _ c.index-feeds-file.result c.compile_file.new.feed
-          c.loop-file.invariant.1 (same_length c.args.feeds.now c.loop-file.feeds c.loop-file.file within c.loop-file.invariant.0) c.in-Err.ensures.count),
+          (read_failed g.F.Feed.account c.args.feeds.now c.loop-file.feeds c.loop-file.file _ _ _ _
+          c.index-feeds-file.result c.compile_file.new.feed
+          c.loop-file.invariant.1
+          (same_length c.args.feeds.now c.loop-file.feeds c.loop-file.file within c.loop-file.invariant.0)
+          c.in-Err.ensures.count),
     )
 
 pub returns-in-Err-put-clause-failures : goal.returns-in-Err-put-clause-failures
 returns-in-Err-put-clause-failures g c =
-    write_failed g.F.Feed.account c.args.feeds.now c.loop-file.feeds c.loop-file.file _ _ _ _ _ _ c.index-feeds-file.result c.compile_file.new.feed
+    write_failed g.F.Feed.account c.args.feeds.now c.loop-file.feeds c.loop-file.file _ _ _ _ _ _
+    c.index-feeds-file.result c.compile_file.new.feed
     c.loop-file.invariant.1 c.in-Ok.ensures.count (rw c.in-Err-put.is at c.in-Ok.ensures.failures)

@@ -21,9 +21,13 @@ invariant-loop-file g l =
     × (g.K.TakesPrograms.mode l.keeper ≡ l.settings.mode)
     × IfSome (g.K.TakesPrograms.kept l.keeper) (λ kept. IsManned l.status l.file kept)
     × ((sources : List Source) → AreSources sources l.settings.words (map g.F.Feed.to_come l.fn.feeds)
-    → Writes (taken (g.O.Sink.portions l.fn.out) (g.E.Sink.portions l.fn.err)) (taken (g.O.Sink.portions l.out) (g.E.Sink.portions l.err))
+    →
+    Writes (taken (g.O.Sink.portions l.fn.out) (g.E.Sink.portions l.fn.err))
+    (taken (g.O.Sink.portions l.out) (g.E.Sink.portions l.err))
     (compiling l.settings.mode l.settings.profile (take l.file sources))
     × (l.status ≡ status_of (files_of l.settings.profile (take l.file sources)))
-    × IfSome (g.K.TakesPrograms.kept l.keeper) (λ kept. kept_by l.status kept ≡ codes_of l.settings.profile (take l.file sources)))
+    ×
+    IfSome (g.K.TakesPrograms.kept l.keeper)
+    (λ kept. kept_by l.status kept ≡ codes_of l.settings.profile (take l.file sources)))
     × TakesOfFirst l.settings.profile (map g.F.Feed.to_come l.fn.feeds) (map g.F.Feed.to_come l.feeds) l.file
     × IfSome (g.K.TakesPrograms.kept l.keeper) (λ kept. AreOfProfile l.settings.profile kept)

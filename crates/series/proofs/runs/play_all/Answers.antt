@@ -16,16 +16,20 @@ loop-preserved g c =
       standing = rw (standing, step) at c.in_default.ensures.after;
       calm = (rw standing at c.in_default.ensures.count) refl ∙ c.loop.invariant.calm;
       writes = λ files faults are.
-          report_written settings files c.loop.counter (settings.first + c.loop.counter) _ _ _ faults refl (c.loop.invariant.writes files faults are)
-          (rw (next_report settings files c.loop.counter left) at ((rw standing at c.in_default.ensures.text) refl files are)).0;
+          report_written settings files c.loop.counter (settings.first + c.loop.counter) _ _ _ faults refl
+          (c.loop.invariant.writes files faults are)
+          (rw (next_report settings files c.loop.counter left) at
+          ((rw standing at c.in_default.ensures.text) refl files are)).0;
     }
 
 pub returns-in-Err-Write-clause-output : goal.returns-in-Err-Write-clause-output
 returns-in-Err-Write-clause-output g c = λ files faults are.
     let settings : Setup = c.args.settings.now in
     let left : c.loop.counter < settings.matches = omega (arith, c.matches-end.ensures.value) in
-    report_cut settings files c.loop.counter (settings.first + c.loop.counter) _ _ _ faults refl left (c.loop.invariant.writes files faults are)
-    (rw (next_report settings files c.loop.counter left) at ((rw c.loop.invariant.standing at c.in-Err-Write.ensures.text) refl files are)).0
+    report_cut settings files c.loop.counter (settings.first + c.loop.counter) _ _ _ faults refl left
+    (c.loop.invariant.writes files faults are)
+    (rw (next_report settings files c.loop.counter left) at
+    ((rw c.loop.invariant.standing at c.in-Err-Write.ensures.text) refl files are)).0
 
 pub returns-in-Ok-clause-output : goal.returns-in-Ok-clause-output
 returns-in-Ok-clause-output g c = λ files faults are.

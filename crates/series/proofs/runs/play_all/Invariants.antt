@@ -12,5 +12,7 @@ invariant-loop g l = record {
   standing : l.series ≡ record { setup = l.fn.settings; codes = l.programs; played = l.counter; failed = false };
   calm : g.O.Sink.failures l.out ≡ g.O.Sink.failures l.fn.out;
   writes : (files : List File) (faults : Portions) → AreCodesOf l.programs l.fn.settings.profile files
-      → Writes (taken (g.O.Sink.portions l.fn.out) faults) (taken (g.O.Sink.portions l.out) faults) (reports l.fn.settings files l.counter);
+      →
+      Writes (taken (g.O.Sink.portions l.fn.out) faults) (taken (g.O.Sink.portions l.out) faults)
+      (reports l.fn.settings files l.counter);
 }

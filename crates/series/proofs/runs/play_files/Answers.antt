@@ -12,12 +12,15 @@ pub returns-in-Ok-Done-clause-output : goal.returns-in-Ok-Done-clause-output
 returns-in-Ok-Done-clause-output g c = λ sources are.
     let compiles = rw c.in-Ok-Done.field-0-is at (c.in-Ok-Done.ensures.output sources are) in
     let codes = rw c.in-Ok-Done.field-0-is at (c.in-Ok-Done.ensures.kept sources are) in
-    let kept = kept_codes c.resolved_files.ensures c.args.settings.now.profile sources c.compile_into.new.keeper.programs codes in
+    let kept =
+    kept_codes c.resolved_files.ensures c.args.settings.now.profile sources c.compile_into.new.keeper.programs codes
+    in
     plays_run c.args.settings.now sources kept.0 _ _ _ c.play_all.result c.requires.matches
     kept.1 compiles.0 (c.play_all.ensures.output kept.0 _ kept.2) c.play_all.ensures.answer
 
 pub returns-in-Err-clause-output : goal.returns-in-Err-clause-output
-returns-in-Err-clause-output g c = λ sources are. stops_run c.args.settings.now sources c.in-Err.fault _ _ (c.in-Err.ensures.output sources are)
+returns-in-Err-clause-output g c =
+    λ sources are. stops_run c.args.settings.now sources c.in-Err.fault _ _ (c.in-Err.ensures.output sources are)
 
 pub returns-in-Ok-Done-clause-read : goal.returns-in-Ok-Done-clause-read
 returns-in-Ok-Done-clause-read g c =
@@ -26,10 +29,12 @@ returns-in-Ok-Done-clause-read g c =
     let before = taken (g.O.Sink.portions c.args.out.now) (g.E.Sink.portions c.args.err.now) in
     let compiled = taken (g.O.Sink.portions c.compile_into.new.out) (g.E.Sink.portions c.compile_into.new.err) in
     let after = taken (g.O.Sink.portions c.play_all.new.out) (g.E.Sink.portions c.compile_into.new.err) in
-    reads_played setup c.play_all.result told (map g.F.Feed.to_come c.compile_into.new.feeds) before after c.in-Ok-Done.ensures.read c.play_all.ensures.answer
+    reads_played setup c.play_all.result told (map g.F.Feed.to_come c.compile_into.new.feeds) before after
+    c.in-Ok-Done.ensures.read c.play_all.ensures.answer
     (λ failed sources are.
     let compiles = rw c.in-Ok-Done.field-0-is at (c.in-Ok-Done.ensures.output sources are) in
     let codes = rw c.in-Ok-Done.field-0-is at (c.in-Ok-Done.ensures.kept sources are) in
     let kept = kept_codes c.resolved_files.ensures setup.profile sources c.compile_into.new.keeper.programs codes in
-    cut_behind setup.mode setup.profile sources (length told - 1) before compiled after (playing setup kept.0) compiles.0
+    cut_behind setup.mode setup.profile sources (length told - 1) before compiled after (playing setup kept.0)
+    compiles.0
     (rw failed at (c.play_all.ensures.output kept.0 (g.E.Sink.portions c.compile_into.new.err) kept.2)))

@@ -18,10 +18,17 @@ pub loop-robot-preserved : goal.loop-robot-preserved
 loop-robot-preserved g c =
     let names : List (List ℕ) = robot_names (map (λ word. word.now) c.args.words.now) in
     let scores : ℕ → Score = score_at c.args.tally.now in
-    let score : get_or c.tally.inside.scores c.loop-robot.robot no_score ≡ scores c.loop-robot.robot = ap (λ t. score_at t c.loop-robot.robot) c.tally.view_is in
+    let score : get_or c.tally.inside.scores c.loop-robot.robot no_score ≡ scores c.loop-robot.robot =
+    ap (λ t. score_at t c.loop-robot.robot) c.tally.view_is in
     let there : c.loop-robot.robot < length names =
-    omega (arith, length_robot_names (λ word. word.now) c.args.words.now, robots_there c.args.words.now c.requires.some, c.max-robot-end.ensures) in
-    let within : c.loop-robot.robot < length (score_lines names scores) = omega (arith, length_score_lines names scores) in (
+    omega (
+      arith,
+      length_robot_names (λ word. word.now) c.args.words.now,
+      robots_there c.args.words.now c.requires.some,
+      c.max-robot-end.ensures,
+    ) in
+    let within : c.loop-robot.robot < length (score_lines names scores) =
+    omega (arith, length_score_lines names scores) in (
       c.add_score.ensures.countable,
       λ before n text so_far.
           rw (
@@ -36,7 +43,13 @@ returns g c =
     let names : List (List ℕ) = robot_names (map (λ word. word.now) c.args.words.now) in
     let scores : ℕ → Score = score_at c.args.tally.now in
     let past : length (score_lines names scores) ≤ c.loop-robot.robot =
-    omega (arith, length_score_lines names scores, length_robot_names (λ word. word.now) c.args.words.now, robots_there c.args.words.now c.requires.some, c.max-robot-end.ensures) in
+    omega (
+      arith,
+      length_score_lines names scores,
+      length_robot_names (λ word. word.now) c.args.words.now,
+      robots_there c.args.words.now c.requires.some,
+      c.max-robot-end.ensures,
+    ) in
     record {
       countable = c.loop-robot.invariant.0;
       text = rw (take_all c.loop-robot.robot (score_lines names scores) past) at c.loop-robot.invariant.1;

@@ -12,7 +12,8 @@ finish-requires c =
       told = record {
         resolved = file.resolved;
         stands =
-            c.in-Ok-replay.ensures.ok c.first-profile.result (actions file.file) (file.built c.first-profile.result c.new-trees.ensures) c.first-profile.result [] c.new-maker.ensures;
+            c.in-Ok-replay.ensures.ok c.first-profile.result (actions file.file)
+            (file.built c.first-profile.result c.new-trees.ensures) c.first-profile.result [] c.new-maker.ensures;
         named = file.named;
         main = file.main;
       };

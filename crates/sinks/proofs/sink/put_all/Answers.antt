@@ -6,5 +6,6 @@ pub loop-rest-preserved : goal.loop-rest-preserved
 loop-rest-preserved g c = (
   one_more _ _ _ _ c.loop-rest.rest.now c.in_ok-n.n c.loop-rest.invariant.0 c.in_ok-n.ensures.taken,
   search rules,
-  one_call _ _ _ _ c.loop-rest.rest.now c.in_ok-n.n c.loop-rest.invariant.2 (search rules) c.in_ok-n.ensures.whole c.in_ok-n.ensures.taken,
+  one_call _ _ _ _ c.loop-rest.rest.now c.in_ok-n.n c.loop-rest.invariant.2 (search rules) c.in_ok-n.ensures.whole
+      c.in_ok-n.ensures.taken,
 )

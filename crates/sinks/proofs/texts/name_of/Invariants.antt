@@ -3,7 +3,8 @@ use Rattle.sinks.proofs.texts.name_of.Given as goal
 
 -- no byte from here on is a `/`
 abbrev pub invariant-loop-start : goal.invariant-loop-start
-invariant-loop-start l = (l.start ≤ length l.word) × ((k : ℕ) → l.start ≤ k → k < length l.word → get_or l.word k 0 ≡ 47 → ⊥)
+invariant-loop-start l =
+    (l.start ≤ length l.word) × ((k : ℕ) → l.start ≤ k → k < length l.word → get_or l.word k 0 ≡ 47 → ⊥)
 
 abbrev pub decreases-loop-start : goal.decreases-loop-start
 decreases-loop-start l = l.start

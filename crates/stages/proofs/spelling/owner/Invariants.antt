@@ -5,7 +5,8 @@ use Rattle.stages.proofs.spelling.owner.Given as goal
 abbrev pub invariant-loop-number : goal.invariant-loop-number
 invariant-loop-number l = record {
   last : IfSome l.last (λ n. (n < l.number) × (get_or l.addresses n 0 ≡ l.least) × (l.least ≤ l.address));
-  greatest : (other : ℕ) → other < l.number → get_or l.addresses other 0 ≤ l.address → get_or l.addresses other 0 ≤ l.least;
+  greatest : (other : ℕ) → other < l.number → get_or l.addresses other 0 ≤ l.address →
+      get_or l.addresses other 0 ≤ l.least;
   none : (other : ℕ) → l.last ≡ None → other < l.number → l.address < get_or l.addresses other 0;
   first : l.last ≡ None → l.least ≡ 0;
 }

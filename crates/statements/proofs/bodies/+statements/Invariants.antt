@@ -26,7 +26,8 @@ decreases-statements g l = (MOST_LEVELS - l.depth) * 16 + 4
 
 abbrev pub invariant-statements-loop-parser : goal.invariant-statements-loop-parser
 invariant-statements-loop-parser g l = record {
-  parses : AddsBody (g.B.Build.stands l.fn.build) (g.B.Build.stands l.build) l.depth (Part Statements ∷ []) (Part Statements ∷ []) l.fn.parser.place l.parser.place;
+  parses : AddsBody (g.B.Build.stands l.fn.build) (g.B.Build.stands l.build) l.depth (Part Statements ∷ [])
+      (Part Statements ∷ []) l.fn.parser.place l.parser.place;
   kept : StayedOrWentOn l.fn.parser l.parser;
 }
 

@@ -11,7 +11,7 @@ use Rattle.statements.proofs.SimpleLaws.{back_adds, back_fails, zero_adds}
 use Rattle.statements.proofs.bodies.back.Goals as goal
 
 pub constant-requires : goal.constant-requires
-constant-requires g c = record { follows = may_push _ (room c.args.depth 1) c.requires.open }
+constant-requires g c = record { follows = may_push _ (room c.args.depth 1) c.requires.at.builder }
 
 pub returns-then-is_punctuator-clause-parses : goal.returns-then-is_punctuator-clause-parses
 returns-then-is_punctuator-clause-parses g c =
@@ -24,7 +24,11 @@ returns-in_err-expression-clause-parses g c =
     let sound : is_fault c.args.parser.now.place.position.reading.next.token ≡ false = cc in
     let other : is_punctuator punctuator.Semicolon c.args.parser.now.place.position.reading.next.token ≡ false = cc in
     let p = err_from_is_err_and c.from_residual-in_err-expression.result c.from_residual-in_err-expression.ensures.1 in
-    rw (p.1, p.2) (refused_map _ _ _ _ _ c.in_err-expression.field-0.0 (back_fails _ c.args.depth sound other) (λ same. same) c.in_err-expression.ensures.parses)
+    rw (p.1, p.2) (record {
+      refused = refused_map _ _ _ _ _ c.in_err-expression.field-0.0 (back_fails _ c.args.depth sound other)
+          (λ same. same) c.in_err-expression.ensures.parses.refused;
+      grown = c.in_err-expression.ensures.parses.grown;
+    })
 
 pub returns-clause-parses : goal.returns-clause-parses
 returns-clause-parses g c =
@@ -33,21 +37,18 @@ returns-clause-parses g c =
     back_adds _ _ _ _ c.args.depth sound other c.in_ok-expression.ensures.parses
 
 pub returns-then-is_punctuator-clause-kept : goal.returns-then-is_punctuator-clause-kept
-returns-then-is_punctuator-clause-kept g c = stays_ready c.args.parser.now c.requires.ready
+returns-then-is_punctuator-clause-kept g c = stays_ready c.args.parser.now c.requires.at.ready
 
 pub returns-clause-kept : goal.returns-clause-kept
 returns-clause-kept g c = on _ _ c.in_ok-expression.ensures.kept
 
--- What the builder was told where the device failed.
-
-pub returns-in_err-expression-clause-grown : goal.returns-in_err-expression-clause-grown
-returns-in_err-expression-clause-grown g c =
-    let p = err_from_is_err_and c.from_residual-in_err-expression.result c.from_residual-in_err-expression.ensures.1 in
-    rw (p.1, p.2) (c.in_err-expression.ensures.grown)
-
--- Where the builder was refused memory.
-
 pub returns-in_err-constant-clause-parses : goal.returns-in_err-constant-clause-parses
 returns-in_err-constant-clause-parses g c =
     let p = err_from_is_err_and c.from_residual.result c.from_residual.ensures.1 in
-    rw (p.1, p.2) (refuses c.in_err-constant.field-0.0 _ c.in_err-constant.ensures.memory, halts_here _ (Part Back ∷ []) [] _ _ c.requires.ready.near)
+    rw (p.1, p.2) (record {
+      refused = (
+        refuses c.in_err-constant.field-0.0 _ c.in_err-constant.ensures.memory,
+        halts_here _ (Part Back ∷ []) [] _ _ c.requires.at.ready.near,
+      );
+      grown = λ device. absurd (cc);
+    })

@@ -3,9 +3,11 @@ use Rattle.code.specs.Told.{Stands}
 use Rattle.parser.specs.Files.{IsFile}
 use Rattle.tools.proofs.compiling.compile.Goals as goal
 
-pub finish-requires : goal.finish-requires
-finish-requires g c =
-    let f : IsFile (λ p acts. Stands c.new-maker.result p acts) (λ p acts. Stands c.parse.new.build p acts) (g.F.Feed.to_come c.args.feed.now) c.in-Ok.names = search rules in
+pub finish-program-requires : goal.finish-program-requires
+finish-program-requires g c =
+    let f : IsFile (λ p acts. Stands c.new-maker.result p acts) (λ p acts. Stands c.parse.new.build p acts)
+    (g.F.Feed.to_come c.args.feed.now) c.in-Ok.names =
+    search rules in
     record {
       profile = _;
       file = f.file;

@@ -15,35 +15,50 @@ pub tell_expr-tell_expr-requires : goal.tell_expr-tell_expr-requires
 tell_expr-tell_expr-requires g t c κs within =
     let at = g.B.Build.stands in
     let whole = subst (MayFollowAll (at c.args.build.now)) (actions-Binary _ _ _ _ c.in-Binary.is) c.requires in
-    let may : MayFollowAll (at c.args.build.now) (expr_actions (expr_tree c.deref.result.now)) = rw c.deref.ensures (may_front _ _ _ whole) in
+    let may : MayFollowAll (at c.args.build.now) (expr_actions (expr_tree c.deref.result.now)) =
+    rw c.deref.ensures (may_front _ _ _ whole) in
     (grind (arith, the_lemmas), (within, may))
 
 pub tell_expr-tell_middle-requires : goal.tell_expr-tell_middle-requires
 tell_expr-tell_middle-requires g t c =
     let at = g.B.Build.stands in
     let whole = subst (MayFollowAll (at c.args.build.now)) (actions-Binary _ _ _ _ c.in-Binary.is) c.requires in
-    let left : AppendsAll (at c.args.build.now) (at c.tell_expr.new.build) (expr_actions (expr_tree c.in-Binary.left.value)) = rw c.deref.ensures at c.in_ok-tell_expr-in-Binary.ensures.ok in
+    let left : AppendsAll (at c.args.build.now) (at c.tell_expr.new.build)
+    (expr_actions (expr_tree c.in-Binary.left.value)) =
+    rw c.deref.ensures at c.in_ok-tell_expr-in-Binary.ensures.ok in
     may_front _ _ _ (may_then _ (at c.tell_expr.new.build) _ _ left whole)
 
 pub tell_expr-tell_expr-requires-in-Binary : goal.tell_expr-tell_expr-requires-in-Binary
 tell_expr-tell_expr-requires-in-Binary g t c κs within =
     let at = g.B.Build.stands in
     let whole = subst (MayFollowAll (at c.args.build.now)) (actions-Binary _ _ _ _ c.in-Binary.is) c.requires in
-    let left : AppendsAll (at c.args.build.now) (at c.tell_expr.new.build) (expr_actions (expr_tree c.in-Binary.left.value)) = rw c.deref.ensures at c.in_ok-tell_expr-in-Binary.ensures.ok in
-    let rest = may_then _ (at c.tell_middle.new.build) (middle c.in-Binary.op) _ c.in_ok-tell_middle-in-Binary.ensures.ok (may_then _ (at c.tell_expr.new.build) _ _ left whole) in
-    let may : MayFollowAll (at c.tell_middle.new.build) (expr_actions (expr_tree c.deref-in-Binary.result.now)) = rw c.deref-in-Binary.ensures (may_front _ _ _ rest) in
+    let left : AppendsAll (at c.args.build.now) (at c.tell_expr.new.build)
+    (expr_actions (expr_tree c.in-Binary.left.value)) =
+    rw c.deref.ensures at c.in_ok-tell_expr-in-Binary.ensures.ok in
+    let rest =
+    may_then _ (at c.tell_middle.new.build) (middle c.in-Binary.op) _ c.in_ok-tell_middle-in-Binary.ensures.ok
+    (may_then _ (at c.tell_expr.new.build) _ _ left whole) in
+    let may : MayFollowAll (at c.tell_middle.new.build) (expr_actions (expr_tree c.deref-in-Binary.result.now)) =
+    rw c.deref-in-Binary.ensures (may_front _ _ _ rest) in
     (grind (arith, the_lemmas), (within, may))
 
 pub tell_expr-binop-requires : goal.tell_expr-binop-requires
 tell_expr-binop-requires g t c =
     let at = g.B.Build.stands in
     let whole = subst (MayFollowAll (at c.args.build.now)) (actions-Binary _ _ _ _ c.in-Binary.is) c.requires in
-    let left : AppendsAll (at c.args.build.now) (at c.tell_expr.new.build) (expr_actions (expr_tree c.in-Binary.left.value)) = rw c.deref.ensures at c.in_ok-tell_expr-in-Binary.ensures.ok in
-    let right : AppendsAll (at c.tell_middle.new.build) (at c.tell_expr-in-Binary.new.build) (expr_actions (expr_tree c.in-Binary.right.value)) = rw c.deref-in-Binary.ensures at c.in_ok-tell_expr-in-Binary-2.ensures.ok in
-    let rest = may_then _ (at c.tell_middle.new.build) (middle c.in-Binary.op) _ c.in_ok-tell_middle-in-Binary.ensures.ok (may_then _ (at c.tell_expr.new.build) _ _ left whole) in
+    let left : AppendsAll (at c.args.build.now) (at c.tell_expr.new.build)
+    (expr_actions (expr_tree c.in-Binary.left.value)) =
+    rw c.deref.ensures at c.in_ok-tell_expr-in-Binary.ensures.ok in
+    let right : AppendsAll (at c.tell_middle.new.build) (at c.tell_expr-in-Binary.new.build)
+    (expr_actions (expr_tree c.in-Binary.right.value)) =
+    rw c.deref-in-Binary.ensures at c.in_ok-tell_expr-in-Binary-2.ensures.ok in
+    let rest =
+    may_then _ (at c.tell_middle.new.build) (middle c.in-Binary.op) _ c.in_ok-tell_middle-in-Binary.ensures.ok
+    (may_then _ (at c.tell_expr.new.build) _ _ left whole) in
     record { follows = may_first _ _ _ (may_then _ (at c.tell_expr-in-Binary.new.build) _ _ right rest) }
 
-pub tell_expr-returns-in_ok-tell_expr-in-Binary-2-clause-ok : goal.tell_expr-returns-in_ok-tell_expr-in-Binary-2-clause-ok
+pub tell_expr-returns-in_ok-tell_expr-in-Binary-2-clause-ok :
+    goal.tell_expr-returns-in_ok-tell_expr-in-Binary-2-clause-ok
 tell_expr-returns-in_ok-tell_expr-in-Binary-2-clause-ok g t c =
     let at = g.B.Build.stands in
     let first = at c.args.build.now in
@@ -51,10 +66,14 @@ tell_expr-returns-in_ok-tell_expr-in-Binary-2-clause-ok g t c =
     let third = at c.tell_middle.new.build in
     let fourth = at c.tell_expr-in-Binary.new.build in
     let last = at c.binop.new.self in
-    let left : AppendsAll first second (expr_actions (expr_tree c.in-Binary.left.value)) = rw c.deref.ensures at c.in_ok-tell_expr-in-Binary.ensures.ok in
-    let right : AppendsAll third fourth (expr_actions (expr_tree c.in-Binary.right.value)) = rw c.deref-in-Binary.ensures at c.in_ok-tell_expr-in-Binary-2.ensures.ok in
+    let left : AppendsAll first second (expr_actions (expr_tree c.in-Binary.left.value)) =
+    rw c.deref.ensures at c.in_ok-tell_expr-in-Binary.ensures.ok in
+    let right : AppendsAll third fourth (expr_actions (expr_tree c.in-Binary.right.value)) =
+    rw c.deref-in-Binary.ensures at c.in_ok-tell_expr-in-Binary-2.ensures.ok in
     on_ok_weaker _ (λ applied. subst (AppendsAll first last) (sym (actions-Binary _ _ _ _ c.in-Binary.is))
-    (appends_both first second last _ _ left (appends_both second third last _ _ c.in_ok-tell_middle-in-Binary.ensures.ok (appends_both third fourth last _ _ right applied)))) c.binop.ensures.ok
+    (appends_both first second last _ _ left
+    (appends_both second third last _ _ c.in_ok-tell_middle-in-Binary.ensures.ok
+    (appends_both third fourth last _ _ right applied)))) c.binop.ensures.ok
 
 -- Assignments.
 
@@ -62,14 +81,17 @@ pub tell_expr-tell_expr-requires-in-Assign : goal.tell_expr-tell_expr-requires-i
 tell_expr-tell_expr-requires-in-Assign g t c κs within =
     let at = g.B.Build.stands in
     let whole = subst (MayFollowAll (at c.args.build.now)) (actions-Assign _ _ _ _ c.in-Assign.is) c.requires in
-    let may : MayFollowAll (at c.args.build.now) (expr_actions (expr_tree c.deref-in-Assign.result.now)) = rw c.deref-in-Assign.ensures (may_front _ _ _ whole) in
+    let may : MayFollowAll (at c.args.build.now) (expr_actions (expr_tree c.deref-in-Assign.result.now)) =
+    rw c.deref-in-Assign.ensures (may_front _ _ _ whole) in
     (grind (arith, the_lemmas), (within, may))
 
 pub tell_expr-store-requires : goal.tell_expr-store-requires
 tell_expr-store-requires g t c =
     let at = g.B.Build.stands in
     let whole = subst (MayFollowAll (at c.args.build.now)) (actions-Assign _ _ _ _ c.in-Assign.is) c.requires in
-    let right : AppendsAll (at c.args.build.now) (at c.tell_expr-in-Assign.new.build) (expr_actions (expr_tree c.in-Assign.right.value)) = rw c.deref-in-Assign.ensures at c.in_ok-tell_expr-in-Assign.ensures.ok in
+    let right : AppendsAll (at c.args.build.now) (at c.tell_expr-in-Assign.new.build)
+    (expr_actions (expr_tree c.in-Assign.right.value)) =
+    rw c.deref-in-Assign.ensures at c.in_ok-tell_expr-in-Assign.ensures.ok in
     record { follows = may_first _ _ _ (may_then _ (at c.tell_expr-in-Assign.new.build) _ _ right whole) }
 
 pub tell_expr-returns-in_ok-tell_expr-in-Assign-clause-ok : goal.tell_expr-returns-in_ok-tell_expr-in-Assign-clause-ok
@@ -77,42 +99,56 @@ tell_expr-returns-in_ok-tell_expr-in-Assign-clause-ok g t c =
     let at = g.B.Build.stands in
     let first = at c.args.build.now in
     let last = at c.store.new.self in
-    let right : AppendsAll first (at c.tell_expr-in-Assign.new.build) (expr_actions (expr_tree c.in-Assign.right.value)) = rw c.deref-in-Assign.ensures at c.in_ok-tell_expr-in-Assign.ensures.ok in
-    on_ok_weaker _ (λ stored. subst (AppendsAll first last) (sym (actions-Assign _ _ _ _ c.in-Assign.is)) (appends_both first (at c.tell_expr-in-Assign.new.build) last _ _ right stored)) c.store.ensures.ok
+    let right : AppendsAll first (at c.tell_expr-in-Assign.new.build) (expr_actions (expr_tree c.in-Assign.right.value))
+    =
+    rw c.deref-in-Assign.ensures at c.in_ok-tell_expr-in-Assign.ensures.ok in
+    on_ok_weaker _
+    (λ stored. subst (AppendsAll first last) (sym (actions-Assign _ _ _ _ c.in-Assign.is))
+    (appends_both first (at c.tell_expr-in-Assign.new.build) last _ _ right stored)) c.store.ensures.ok
 
 -- Calls.
 
 pub tell_expr-begin_call-requires : goal.tell_expr-begin_call-requires
 tell_expr-begin_call-requires g t c =
     let at = g.B.Build.stands in
-    record { follows = may_first _ _ _ (subst (MayFollowAll (at c.args.build.now)) (actions-Call _ _ _ c.in-Call.is) c.requires) }
+    record {
+      follows =
+          may_first _ _ _ (subst (MayFollowAll (at c.args.build.now)) (actions-Call _ _ _ c.in-Call.is) c.requires);
+    }
 
 pub tell_expr-tell_arguments-requires : goal.tell_expr-tell_arguments-requires
 tell_expr-tell_arguments-requires g t c κs within =
     let at = g.B.Build.stands in
     let whole = subst (MayFollowAll (at c.args.build.now)) (actions-Call _ _ _ c.in-Call.is) c.requires in
     let rest = may_next _ (at c.begin_call.new.self) BeginCall _ c.in_ok-begin_call-in-Call.ensures.ok whole in
-    let may : MayFollowAll (at c.begin_call.new.self) (args_actions (arguments (map expr_tree c.deref-in-Call.result.now))) = rw c.deref-in-Call.ensures.value (may_front _ _ _ rest) in
+    let may : MayFollowAll (at c.begin_call.new.self)
+    (args_actions (arguments (map expr_tree c.deref-in-Call.result.now))) =
+    rw c.deref-in-Call.ensures.value (may_front _ _ _ rest) in
     (grind (arith, the_lemmas), (within, may))
 
 pub tell_expr-end_call-requires : goal.tell_expr-end_call-requires
 tell_expr-end_call-requires g t c =
     let at = g.B.Build.stands in
     let whole = subst (MayFollowAll (at c.args.build.now)) (actions-Call _ _ _ c.in-Call.is) c.requires in
-    let told : AppendsAll (at c.begin_call.new.self) (at c.tell_arguments.new.build) (args_actions (arguments (map expr_tree c.in-Call.arguments.items))) = rw c.deref-in-Call.ensures.value at c.in_ok-tell_arguments-in-Call.ensures.ok in
+    let told : AppendsAll (at c.begin_call.new.self) (at c.tell_arguments.new.build)
+    (args_actions (arguments (map expr_tree c.in-Call.arguments.items))) =
+    rw c.deref-in-Call.ensures.value at c.in_ok-tell_arguments-in-Call.ensures.ok in
     let rest = may_next _ (at c.begin_call.new.self) BeginCall _ c.in_ok-begin_call-in-Call.ensures.ok whole in
     record { follows = may_first _ _ _ (may_then _ (at c.tell_arguments.new.build) _ _ told rest) }
 
-pub tell_expr-returns-in_ok-tell_arguments-in-Call-clause-ok : goal.tell_expr-returns-in_ok-tell_arguments-in-Call-clause-ok
+pub tell_expr-returns-in_ok-tell_arguments-in-Call-clause-ok :
+    goal.tell_expr-returns-in_ok-tell_arguments-in-Call-clause-ok
 tell_expr-returns-in_ok-tell_arguments-in-Call-clause-ok g t c =
     let at = g.B.Build.stands in
     let first = at c.args.build.now in
     let second = at c.begin_call.new.self in
     let third = at c.tell_arguments.new.build in
     let last = at c.end_call.new.self in
-    let told : AppendsAll second third (args_actions (arguments (map expr_tree c.in-Call.arguments.items))) = rw c.deref-in-Call.ensures.value at c.in_ok-tell_arguments-in-Call.ensures.ok in
+    let told : AppendsAll second third (args_actions (arguments (map expr_tree c.in-Call.arguments.items))) =
+    rw c.deref-in-Call.ensures.value at c.in_ok-tell_arguments-in-Call.ensures.ok in
     on_ok_weaker _ (λ ended. subst (AppendsAll first last) (sym (actions-Call _ _ _ c.in-Call.is))
-    (appends_both first second last (BeginCall ∷ []) _ c.in_ok-begin_call-in-Call.ensures.ok (appends_both second third last _ (EndCall c.in-Call.callee ∷ []) told ended))) c.end_call.ensures.ok
+    (appends_both first second last (BeginCall ∷ []) _ c.in_ok-begin_call-in-Call.ensures.ok
+    (appends_both second third last _ (EndCall c.in-Call.callee ∷ []) told ended))) c.end_call.ensures.ok
 
 -- Arguments.
 
@@ -123,17 +159,22 @@ pub tell_arguments-tell_expr-requires : goal.tell_arguments-tell_expr-requires
 tell_arguments-tell_expr-requires g t c κs within =
     let at = g.B.Build.stands in
     let may : MayFollowAll (at c.loop-expr.build) (expr_actions (expr_tree c.expr-item.result)) =
-    argument_may (at c.args.build.now) (at c.loop-expr.build) c.loop-expr.expr-index c.args.exprs.now c.expr-item.result c.loop-expr-test.true c.expr-item.is c.loop-expr.invariant c.requires
+    argument_may (at c.args.build.now) (at c.loop-expr.build) c.loop-expr.expr-index c.args.exprs.now c.expr-item.result
+    c.loop-expr-test.true c.expr-item.is c.loop-expr.invariant c.requires
     in
     (grind (arith, the_lemmas), (within, may))
 
 pub tell_arguments-loop-expr-preserved : goal.tell_arguments-loop-expr-preserved
 tell_arguments-loop-expr-preserved g t c =
     let at = g.B.Build.stands in
-    arguments_more (at c.args.build.now) (at c.loop-expr.build) (at c.tell_expr.new.build) c.loop-expr.expr-index c.args.exprs.now c.expr-item.result c.loop-expr-test.true c.expr-item.is c.loop-expr.invariant c.in_ok-tell_expr.ensures.ok
+    arguments_more (at c.args.build.now) (at c.loop-expr.build) (at c.tell_expr.new.build) c.loop-expr.expr-index
+    c.args.exprs.now c.expr-item.result c.loop-expr-test.true c.expr-item.is c.loop-expr.invariant
+    c.in_ok-tell_expr.ensures.ok
 
 pub tell_arguments-returns-clause-ok : goal.tell_arguments-returns-clause-ok
 tell_arguments-returns-clause-ok g t c =
     let at = g.B.Build.stands in
-    let all : take c.loop-expr.expr-index c.args.exprs.now ≡ c.args.exprs.now = take_all c.loop-expr.expr-index c.args.exprs.now (omega arith) in
-    subst (λ es. AppendsAll (at c.args.build.now) (at c.loop-expr.build) (args_actions (arguments (map expr_tree es)))) all c.loop-expr.invariant
+    let all : take c.loop-expr.expr-index c.args.exprs.now ≡ c.args.exprs.now =
+    take_all c.loop-expr.expr-index c.args.exprs.now (omega arith) in
+    subst (λ es. AppendsAll (at c.args.build.now) (at c.loop-expr.build) (args_actions (arguments (map expr_tree es))))
+    all c.loop-expr.invariant

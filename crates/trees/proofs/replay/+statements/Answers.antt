@@ -13,78 +13,131 @@ use Rattle.grammar.proofs.StandingLaws.{appends_both, appends_none, may_first, m
 
 pub tell_statement-tell_test-requires : goal.tell_statement-tell_test-requires
 tell_statement-tell_test-requires g t c =
-    may_front _ _ _ (subst (MayFollowAll (g.B.Build.stands c.args.build.now)) (actions-IfStatement _ _ _ c.in-IfStatement.is) c.requires)
+    may_front _ _ _
+    (subst (MayFollowAll (g.B.Build.stands c.args.build.now)) (actions-IfStatement _ _ _ c.in-IfStatement.is)
+    c.requires)
 
 pub tell_statement-tell_statements-requires : goal.tell_statement-tell_statements-requires
 tell_statement-tell_statements-requires g t c κs within =
     let at = g.B.Build.stands in
     let whole = subst (MayFollowAll (at c.args.build.now)) (actions-IfStatement _ _ _ c.in-IfStatement.is) c.requires in
-    let rest = may_then _ (at c.tell_test.new.build) (expr_actions (expr_tree c.in-IfStatement.condition) ++ IfTest ∷ []) _ c.in_ok-tell_test-in-IfStatement.ensures.ok whole in
-    let may : MayFollowAll (at c.tell_test.new.build) (body_actions (body_tree c.deref.result.now)) = rw c.deref.ensures.value (may_front _ _ _ rest) in
+    let rest =
+    may_then _ (at c.tell_test.new.build) (expr_actions (expr_tree c.in-IfStatement.condition) ++ IfTest ∷ []) _
+    c.in_ok-tell_test-in-IfStatement.ensures.ok whole in
+    let may : MayFollowAll (at c.tell_test.new.build) (body_actions (body_tree c.deref.result.now)) =
+    rw c.deref.ensures.value (may_front _ _ _ rest) in
     (grind (arith, the_lemmas), (within, may))
 
 pub tell_statement-end_if-requires : goal.tell_statement-end_if-requires
 tell_statement-end_if-requires g t c =
     let at = g.B.Build.stands in
     let whole = subst (MayFollowAll (at c.args.build.now)) (actions-IfStatement _ _ _ c.in-IfStatement.is) c.requires in
-    let rest = may_then _ (at c.tell_test.new.build) (expr_actions (expr_tree c.in-IfStatement.condition) ++ IfTest ∷ []) _ c.in_ok-tell_test-in-IfStatement.ensures.ok whole in
-    let told : AppendsAll (at c.tell_test.new.build) (at c.tell_statements.new.build) (body_actions (body_tree c.in-IfStatement.branch.items)) = rw c.deref.ensures.value at c.in_ok-tell_statements-in-IfStatement.ensures.ok in
+    let rest =
+    may_then _ (at c.tell_test.new.build) (expr_actions (expr_tree c.in-IfStatement.condition) ++ IfTest ∷ []) _
+    c.in_ok-tell_test-in-IfStatement.ensures.ok whole in
+    let told : AppendsAll (at c.tell_test.new.build) (at c.tell_statements.new.build)
+    (body_actions (body_tree c.in-IfStatement.branch.items)) =
+    rw c.deref.ensures.value at c.in_ok-tell_statements-in-IfStatement.ensures.ok in
     record { follows = may_first _ _ _ (may_then _ (at c.tell_statements.new.build) _ _ told rest) }
 
-pub tell_statement-returns-in_ok-tell_statements-in-IfStatement-clause-ok : goal.tell_statement-returns-in_ok-tell_statements-in-IfStatement-clause-ok
+pub tell_statement-returns-in_ok-tell_statements-in-IfStatement-clause-ok :
+    goal.tell_statement-returns-in_ok-tell_statements-in-IfStatement-clause-ok
 tell_statement-returns-in_ok-tell_statements-in-IfStatement-clause-ok g t c =
     let at = g.B.Build.stands in
     let first = at c.args.build.now in
     let second = at c.tell_test.new.build in
     let third = at c.tell_statements.new.build in
     let last = at c.end_if.new.self in
-    let told : AppendsAll second third (body_actions (body_tree c.in-IfStatement.branch.items)) = rw c.deref.ensures.value at c.in_ok-tell_statements-in-IfStatement.ensures.ok in
+    let told : AppendsAll second third (body_actions (body_tree c.in-IfStatement.branch.items)) =
+    rw c.deref.ensures.value at c.in_ok-tell_statements-in-IfStatement.ensures.ok in
     on_ok_weaker _ (λ ended. subst (AppendsAll first last) (sym (actions-IfStatement _ _ _ c.in-IfStatement.is))
-    (appends_both first second last _ _ c.in_ok-tell_test-in-IfStatement.ensures.ok (appends_both second third last _ (EndIf ∷ []) told ended))) c.end_if.ensures.ok
+    (appends_both first second last _ _ c.in_ok-tell_test-in-IfStatement.ensures.ok
+    (appends_both second third last _ (EndIf ∷ []) told ended))) c.end_if.ensures.ok
 
 -- Ifs with both branches.
 
 pub tell_statement-tell_test-requires-in-IfElseStatement : goal.tell_statement-tell_test-requires-in-IfElseStatement
 tell_statement-tell_test-requires-in-IfElseStatement g t c =
-    may_front _ _ _ (subst (MayFollowAll (g.B.Build.stands c.args.build.now)) (actions-IfElseStatement _ _ _ _ c.in-IfElseStatement.is) c.requires)
+    may_front _ _ _
+    (subst (MayFollowAll (g.B.Build.stands c.args.build.now))
+    (actions-IfElseStatement _ _ _ _ c.in-IfElseStatement.is) c.requires)
 
-pub tell_statement-tell_statements-requires-in-IfElseStatement : goal.tell_statement-tell_statements-requires-in-IfElseStatement
+pub tell_statement-tell_statements-requires-in-IfElseStatement :
+    goal.tell_statement-tell_statements-requires-in-IfElseStatement
 tell_statement-tell_statements-requires-in-IfElseStatement g t c κs within =
     let at = g.B.Build.stands in
-    let whole = subst (MayFollowAll (at c.args.build.now)) (actions-IfElseStatement _ _ _ _ c.in-IfElseStatement.is) c.requires in
-    let rest = may_then _ (at c.tell_test-in-IfElseStatement.new.build) (expr_actions (expr_tree c.in-IfElseStatement.condition) ++ IfTest ∷ []) _ c.in_ok-tell_test-in-IfElseStatement.ensures.ok whole in
-    let may : MayFollowAll (at c.tell_test-in-IfElseStatement.new.build) (body_actions (body_tree c.deref-in-IfElseStatement.result.now)) = rw c.deref-in-IfElseStatement.ensures.value (may_front _ _ _ rest) in
+    let whole =
+    subst (MayFollowAll (at c.args.build.now)) (actions-IfElseStatement _ _ _ _ c.in-IfElseStatement.is) c.requires in
+    let rest =
+    may_then _ (at c.tell_test-in-IfElseStatement.new.build)
+    (expr_actions (expr_tree c.in-IfElseStatement.condition) ++ IfTest ∷ []) _
+    c.in_ok-tell_test-in-IfElseStatement.ensures.ok whole in
+    let may : MayFollowAll (at c.tell_test-in-IfElseStatement.new.build)
+    (body_actions (body_tree c.deref-in-IfElseStatement.result.now)) =
+    rw c.deref-in-IfElseStatement.ensures.value (may_front _ _ _ rest) in
     (grind (arith, the_lemmas), (within, may))
 
 pub tell_statement-else_part-requires : goal.tell_statement-else_part-requires
 tell_statement-else_part-requires g t c =
     let at = g.B.Build.stands in
-    let whole = subst (MayFollowAll (at c.args.build.now)) (actions-IfElseStatement _ _ _ _ c.in-IfElseStatement.is) c.requires in
-    let rest = may_then _ (at c.tell_test-in-IfElseStatement.new.build) (expr_actions (expr_tree c.in-IfElseStatement.condition) ++ IfTest ∷ []) _ c.in_ok-tell_test-in-IfElseStatement.ensures.ok whole in
-    let one : AppendsAll (at c.tell_test-in-IfElseStatement.new.build) (at c.tell_statements-in-IfElseStatement.new.build) (body_actions (body_tree c.in-IfElseStatement.first.items)) = rw c.deref-in-IfElseStatement.ensures.value at c.in_ok-tell_statements-in-IfElseStatement.ensures.ok in
+    let whole =
+    subst (MayFollowAll (at c.args.build.now)) (actions-IfElseStatement _ _ _ _ c.in-IfElseStatement.is) c.requires in
+    let rest =
+    may_then _ (at c.tell_test-in-IfElseStatement.new.build)
+    (expr_actions (expr_tree c.in-IfElseStatement.condition) ++ IfTest ∷ []) _
+    c.in_ok-tell_test-in-IfElseStatement.ensures.ok whole in
+    let one : AppendsAll (at c.tell_test-in-IfElseStatement.new.build)
+    (at c.tell_statements-in-IfElseStatement.new.build)
+    (body_actions (body_tree c.in-IfElseStatement.first.items)) =
+    rw c.deref-in-IfElseStatement.ensures.value at c.in_ok-tell_statements-in-IfElseStatement.ensures.ok in
     record { follows = may_first _ _ _ (may_then _ (at c.tell_statements-in-IfElseStatement.new.build) _ _ one rest) }
 
-pub tell_statement-tell_statements-requires-in-IfElseStatement-2 : goal.tell_statement-tell_statements-requires-in-IfElseStatement-2
+pub tell_statement-tell_statements-requires-in-IfElseStatement-2 :
+    goal.tell_statement-tell_statements-requires-in-IfElseStatement-2
 tell_statement-tell_statements-requires-in-IfElseStatement-2 g t c κs within =
     let at = g.B.Build.stands in
-    let whole = subst (MayFollowAll (at c.args.build.now)) (actions-IfElseStatement _ _ _ _ c.in-IfElseStatement.is) c.requires in
-    let rest = may_then _ (at c.tell_test-in-IfElseStatement.new.build) (expr_actions (expr_tree c.in-IfElseStatement.condition) ++ IfTest ∷ []) _ c.in_ok-tell_test-in-IfElseStatement.ensures.ok whole in
-    let one : AppendsAll (at c.tell_test-in-IfElseStatement.new.build) (at c.tell_statements-in-IfElseStatement.new.build) (body_actions (body_tree c.in-IfElseStatement.first.items)) = rw c.deref-in-IfElseStatement.ensures.value at c.in_ok-tell_statements-in-IfElseStatement.ensures.ok in
-    let other = may_next _ (at c.else_part.new.self) ElsePart _ c.in_ok-else_part-in-IfElseStatement.ensures.ok (may_then _ (at c.tell_statements-in-IfElseStatement.new.build) _ _ one rest) in
-    let may : MayFollowAll (at c.else_part.new.self) (body_actions (body_tree c.deref-in-IfElseStatement-2.result.now)) = rw c.deref-in-IfElseStatement-2.ensures.value (may_front _ _ _ other) in
+    let whole =
+    subst (MayFollowAll (at c.args.build.now)) (actions-IfElseStatement _ _ _ _ c.in-IfElseStatement.is) c.requires in
+    let rest =
+    may_then _ (at c.tell_test-in-IfElseStatement.new.build)
+    (expr_actions (expr_tree c.in-IfElseStatement.condition) ++ IfTest ∷ []) _
+    c.in_ok-tell_test-in-IfElseStatement.ensures.ok whole in
+    let one : AppendsAll (at c.tell_test-in-IfElseStatement.new.build)
+    (at c.tell_statements-in-IfElseStatement.new.build)
+    (body_actions (body_tree c.in-IfElseStatement.first.items)) =
+    rw c.deref-in-IfElseStatement.ensures.value at c.in_ok-tell_statements-in-IfElseStatement.ensures.ok in
+    let other =
+    may_next _ (at c.else_part.new.self) ElsePart _ c.in_ok-else_part-in-IfElseStatement.ensures.ok
+    (may_then _ (at c.tell_statements-in-IfElseStatement.new.build) _ _ one rest) in
+    let may : MayFollowAll (at c.else_part.new.self) (body_actions (body_tree c.deref-in-IfElseStatement-2.result.now))
+    =
+    rw c.deref-in-IfElseStatement-2.ensures.value (may_front _ _ _ other) in
     (grind (arith, the_lemmas), (within, may))
 
 pub tell_statement-end_if-requires-in-IfElseStatement : goal.tell_statement-end_if-requires-in-IfElseStatement
 tell_statement-end_if-requires-in-IfElseStatement g t c =
     let at = g.B.Build.stands in
-    let whole = subst (MayFollowAll (at c.args.build.now)) (actions-IfElseStatement _ _ _ _ c.in-IfElseStatement.is) c.requires in
-    let rest = may_then _ (at c.tell_test-in-IfElseStatement.new.build) (expr_actions (expr_tree c.in-IfElseStatement.condition) ++ IfTest ∷ []) _ c.in_ok-tell_test-in-IfElseStatement.ensures.ok whole in
-    let one : AppendsAll (at c.tell_test-in-IfElseStatement.new.build) (at c.tell_statements-in-IfElseStatement.new.build) (body_actions (body_tree c.in-IfElseStatement.first.items)) = rw c.deref-in-IfElseStatement.ensures.value at c.in_ok-tell_statements-in-IfElseStatement.ensures.ok in
-    let other = may_next _ (at c.else_part.new.self) ElsePart _ c.in_ok-else_part-in-IfElseStatement.ensures.ok (may_then _ (at c.tell_statements-in-IfElseStatement.new.build) _ _ one rest) in
-    let two : AppendsAll (at c.else_part.new.self) (at c.tell_statements-in-IfElseStatement-2.new.build) (body_actions (body_tree c.in-IfElseStatement.second.items)) = rw c.deref-in-IfElseStatement-2.ensures.value at c.in_ok-tell_statements-in-IfElseStatement-2.ensures.ok in
-    record { follows = may_first _ _ _ (may_then _ (at c.tell_statements-in-IfElseStatement-2.new.build) _ _ two other) }
+    let whole =
+    subst (MayFollowAll (at c.args.build.now)) (actions-IfElseStatement _ _ _ _ c.in-IfElseStatement.is) c.requires in
+    let rest =
+    may_then _ (at c.tell_test-in-IfElseStatement.new.build)
+    (expr_actions (expr_tree c.in-IfElseStatement.condition) ++ IfTest ∷ []) _
+    c.in_ok-tell_test-in-IfElseStatement.ensures.ok whole in
+    let one : AppendsAll (at c.tell_test-in-IfElseStatement.new.build)
+    (at c.tell_statements-in-IfElseStatement.new.build)
+    (body_actions (body_tree c.in-IfElseStatement.first.items)) =
+    rw c.deref-in-IfElseStatement.ensures.value at c.in_ok-tell_statements-in-IfElseStatement.ensures.ok in
+    let other =
+    may_next _ (at c.else_part.new.self) ElsePart _ c.in_ok-else_part-in-IfElseStatement.ensures.ok
+    (may_then _ (at c.tell_statements-in-IfElseStatement.new.build) _ _ one rest) in
+    let two : AppendsAll (at c.else_part.new.self) (at c.tell_statements-in-IfElseStatement-2.new.build)
+    (body_actions (body_tree c.in-IfElseStatement.second.items)) =
+    rw c.deref-in-IfElseStatement-2.ensures.value at c.in_ok-tell_statements-in-IfElseStatement-2.ensures.ok in
+    record
+    { follows = may_first _ _ _ (may_then _ (at c.tell_statements-in-IfElseStatement-2.new.build) _ _ two other) }
 
-pub tell_statement-returns-in_ok-tell_statements-in-IfElseStatement-2-clause-ok : goal.tell_statement-returns-in_ok-tell_statements-in-IfElseStatement-2-clause-ok
+pub tell_statement-returns-in_ok-tell_statements-in-IfElseStatement-2-clause-ok :
+    goal.tell_statement-returns-in_ok-tell_statements-in-IfElseStatement-2-clause-ok
 tell_statement-returns-in_ok-tell_statements-in-IfElseStatement-2-clause-ok g t c =
     let at = g.B.Build.stands in
     let first = at c.args.build.now in
@@ -93,44 +146,65 @@ tell_statement-returns-in_ok-tell_statements-in-IfElseStatement-2-clause-ok g t 
     let fourth = at c.else_part.new.self in
     let fifth = at c.tell_statements-in-IfElseStatement-2.new.build in
     let last = at c.end_if-in-IfElseStatement.new.self in
-    let one : AppendsAll (at c.tell_test-in-IfElseStatement.new.build) (at c.tell_statements-in-IfElseStatement.new.build) (body_actions (body_tree c.in-IfElseStatement.first.items)) = rw c.deref-in-IfElseStatement.ensures.value at c.in_ok-tell_statements-in-IfElseStatement.ensures.ok in
-    let two : AppendsAll (at c.else_part.new.self) (at c.tell_statements-in-IfElseStatement-2.new.build) (body_actions (body_tree c.in-IfElseStatement.second.items)) = rw c.deref-in-IfElseStatement-2.ensures.value at c.in_ok-tell_statements-in-IfElseStatement-2.ensures.ok in
-    on_ok_weaker _ (λ ended. subst (AppendsAll first last) (sym (actions-IfElseStatement _ _ _ _ c.in-IfElseStatement.is))
-    (appends_both first second last _ _ c.in_ok-tell_test-in-IfElseStatement.ensures.ok (appends_both second third last _ _ one
-    (appends_both third fourth last (ElsePart ∷ []) _ c.in_ok-else_part-in-IfElseStatement.ensures.ok (appends_both fourth fifth last _ (EndIf ∷ []) two ended))))) c.end_if-in-IfElseStatement.ensures.ok
+    let one : AppendsAll (at c.tell_test-in-IfElseStatement.new.build)
+    (at c.tell_statements-in-IfElseStatement.new.build)
+    (body_actions (body_tree c.in-IfElseStatement.first.items)) =
+    rw c.deref-in-IfElseStatement.ensures.value at c.in_ok-tell_statements-in-IfElseStatement.ensures.ok in
+    let two : AppendsAll (at c.else_part.new.self) (at c.tell_statements-in-IfElseStatement-2.new.build)
+    (body_actions (body_tree c.in-IfElseStatement.second.items)) =
+    rw c.deref-in-IfElseStatement-2.ensures.value at c.in_ok-tell_statements-in-IfElseStatement-2.ensures.ok in
+    on_ok_weaker _ (λ ended. subst (AppendsAll first last)
+    (sym (actions-IfElseStatement _ _ _ _ c.in-IfElseStatement.is))
+    (appends_both first second last _ _ c.in_ok-tell_test-in-IfElseStatement.ensures.ok (appends_both second third last
+    _ _ one
+    (appends_both third fourth last (ElsePart ∷ []) _ c.in_ok-else_part-in-IfElseStatement.ensures.ok
+    (appends_both fourth fifth last _ (EndIf ∷ []) two ended))))) c.end_if-in-IfElseStatement.ensures.ok
 
 -- Loops.
 
 pub tell_statement-tell_loop_test-requires : goal.tell_statement-tell_loop_test-requires
 tell_statement-tell_loop_test-requires g t c =
-    may_front _ _ _ (subst (MayFollowAll (g.B.Build.stands c.args.build.now)) (actions-While _ _ _ c.in-While.is) c.requires)
+    may_front _ _ _
+    (subst (MayFollowAll (g.B.Build.stands c.args.build.now)) (actions-While _ _ _ c.in-While.is) c.requires)
 
 pub tell_statement-tell_statements-requires-in-While : goal.tell_statement-tell_statements-requires-in-While
 tell_statement-tell_statements-requires-in-While g t c κs within =
     let at = g.B.Build.stands in
     let whole = subst (MayFollowAll (at c.args.build.now)) (actions-While _ _ _ c.in-While.is) c.requires in
-    let rest = may_then _ (at c.tell_loop_test.new.build) (BeginWhile ∷ (expr_actions (expr_tree c.in-While.condition) ++ WhileTest ∷ [])) _ c.in_ok-tell_loop_test-in-While.ensures.ok whole in
-    let may : MayFollowAll (at c.tell_loop_test.new.build) (body_actions (body_tree c.deref-in-While.result.now)) = rw c.deref-in-While.ensures.value (may_front _ _ _ rest) in
+    let rest =
+    may_then _ (at c.tell_loop_test.new.build)
+    (BeginWhile ∷ (expr_actions (expr_tree c.in-While.condition) ++ WhileTest ∷ [])) _
+    c.in_ok-tell_loop_test-in-While.ensures.ok whole in
+    let may : MayFollowAll (at c.tell_loop_test.new.build) (body_actions (body_tree c.deref-in-While.result.now)) =
+    rw c.deref-in-While.ensures.value (may_front _ _ _ rest) in
     (grind (arith, the_lemmas), (within, may))
 
 pub tell_statement-end_while-requires : goal.tell_statement-end_while-requires
 tell_statement-end_while-requires g t c =
     let at = g.B.Build.stands in
     let whole = subst (MayFollowAll (at c.args.build.now)) (actions-While _ _ _ c.in-While.is) c.requires in
-    let rest = may_then _ (at c.tell_loop_test.new.build) (BeginWhile ∷ (expr_actions (expr_tree c.in-While.condition) ++ WhileTest ∷ [])) _ c.in_ok-tell_loop_test-in-While.ensures.ok whole in
-    let told : AppendsAll (at c.tell_loop_test.new.build) (at c.tell_statements-in-While.new.build) (body_actions (body_tree c.in-While.body.items)) = rw c.deref-in-While.ensures.value at c.in_ok-tell_statements-in-While.ensures.ok in
+    let rest =
+    may_then _ (at c.tell_loop_test.new.build)
+    (BeginWhile ∷ (expr_actions (expr_tree c.in-While.condition) ++ WhileTest ∷ [])) _
+    c.in_ok-tell_loop_test-in-While.ensures.ok whole in
+    let told : AppendsAll (at c.tell_loop_test.new.build) (at c.tell_statements-in-While.new.build)
+    (body_actions (body_tree c.in-While.body.items)) =
+    rw c.deref-in-While.ensures.value at c.in_ok-tell_statements-in-While.ensures.ok in
     record { follows = may_first _ _ _ (may_then _ (at c.tell_statements-in-While.new.build) _ _ told rest) }
 
-pub tell_statement-returns-in_ok-tell_statements-in-While-clause-ok : goal.tell_statement-returns-in_ok-tell_statements-in-While-clause-ok
+pub tell_statement-returns-in_ok-tell_statements-in-While-clause-ok :
+    goal.tell_statement-returns-in_ok-tell_statements-in-While-clause-ok
 tell_statement-returns-in_ok-tell_statements-in-While-clause-ok g t c =
     let at = g.B.Build.stands in
     let first = at c.args.build.now in
     let second = at c.tell_loop_test.new.build in
     let third = at c.tell_statements-in-While.new.build in
     let last = at c.end_while.new.self in
-    let told : AppendsAll second third (body_actions (body_tree c.in-While.body.items)) = rw c.deref-in-While.ensures.value at c.in_ok-tell_statements-in-While.ensures.ok in
+    let told : AppendsAll second third (body_actions (body_tree c.in-While.body.items)) =
+    rw c.deref-in-While.ensures.value at c.in_ok-tell_statements-in-While.ensures.ok in
     on_ok_weaker _ (λ ended. subst (AppendsAll first last) (sym (actions-While _ _ _ c.in-While.is))
-    (appends_both first second last _ _ c.in_ok-tell_loop_test-in-While.ensures.ok (appends_both second third last _ (EndWhile ∷ []) told ended))) c.end_while.ensures.ok
+    (appends_both first second last _ _ c.in_ok-tell_loop_test-in-While.ensures.ok
+    (appends_both second third last _ (EndWhile ∷ []) told ended))) c.end_while.ensures.ok
 
 -- Rows of statements.
 
@@ -140,16 +214,23 @@ tell_statements-loop-statement-init g t c = appends_none (g.B.Build.stands c.arg
 pub tell_statements-tell_statement-requires : goal.tell_statements-tell_statement-requires
 tell_statements-tell_statement-requires g t c κs within =
     let at = g.B.Build.stands in
-    let may = statement_may (at c.args.build.now) (at c.loop-statement.build) c.loop-statement.statement-index c.args.statements.now c.statement-item.result c.loop-statement-test.true c.statement-item.is c.loop-statement.invariant c.requires in
+    let may =
+    statement_may (at c.args.build.now) (at c.loop-statement.build) c.loop-statement.statement-index
+    c.args.statements.now c.statement-item.result c.loop-statement-test.true c.statement-item.is
+    c.loop-statement.invariant c.requires in
     (grind (arith, the_lemmas), (within, may))
 
 pub tell_statements-loop-statement-preserved : goal.tell_statements-loop-statement-preserved
 tell_statements-loop-statement-preserved g t c =
     let at = g.B.Build.stands in
-    statements_more (at c.args.build.now) (at c.loop-statement.build) (at c.tell_statement.new.build) c.loop-statement.statement-index c.args.statements.now c.statement-item.result c.loop-statement-test.true c.statement-item.is c.loop-statement.invariant c.in_ok-tell_statement.ensures.ok
+    statements_more (at c.args.build.now) (at c.loop-statement.build) (at c.tell_statement.new.build)
+    c.loop-statement.statement-index c.args.statements.now c.statement-item.result c.loop-statement-test.true
+    c.statement-item.is c.loop-statement.invariant c.in_ok-tell_statement.ensures.ok
 
 pub tell_statements-returns-clause-ok : goal.tell_statements-returns-clause-ok
 tell_statements-returns-clause-ok g t c =
     let at = g.B.Build.stands in
-    let all : take c.loop-statement.statement-index c.args.statements.now ≡ c.args.statements.now = take_all c.loop-statement.statement-index c.args.statements.now (omega arith) in
-    subst (λ ss. AppendsAll (at c.args.build.now) (at c.loop-statement.build) (body_actions (body_tree ss))) all c.loop-statement.invariant
+    let all : take c.loop-statement.statement-index c.args.statements.now ≡ c.args.statements.now =
+    take_all c.loop-statement.statement-index c.args.statements.now (omega arith) in
+    subst (λ ss. AppendsAll (at c.args.build.now) (at c.loop-statement.build) (body_actions (body_tree ss))) all
+    c.loop-statement.invariant

@@ -6,4 +6,5 @@ use Rattle.trees.proofs.replay.+statements.Given as goal
 
 abbrev pub invariant-tell_statements-loop-statement : goal.invariant-tell_statements-loop-statement
 invariant-tell_statements-loop-statement g l =
-    AppendsAll (g.B.Build.stands l.fn.build) (g.B.Build.stands l.build) (body_actions (body_tree (take l.statement-index l.statements)))
+    AppendsAll (g.B.Build.stands l.fn.build) (g.B.Build.stands l.build)
+    (body_actions (body_tree (take l.statement-index l.statements)))

@@ -11,9 +11,16 @@ tell_expr-requires g c = may_front _ _ (Chop ∷ []) c.requires
 pub chop-requires : goal.chop-requires
 chop-requires g c =
     let at = g.B.Build.stands in
-    record { follows = may_first _ _ _ (may_then (at c.args.build.now) (at c.tell_expr.new.build) (expr_actions (expr_tree c.args.expr.now)) _ c.in_ok-tell_expr.ensures.ok c.requires) }
+    record {
+      follows =
+          may_first _ _ _
+          (may_then (at c.args.build.now) (at c.tell_expr.new.build) (expr_actions (expr_tree c.args.expr.now)) _
+          c.in_ok-tell_expr.ensures.ok c.requires);
+    }
 
 pub returns-clause-ok : goal.returns-clause-ok
 returns-clause-ok g c =
     let at = g.B.Build.stands in
-    on_ok_weaker _ (appends_both (at c.args.build.now) (at c.tell_expr.new.build) (at c.chop.new.self) (expr_actions (expr_tree c.args.expr.now)) (Chop ∷ []) c.in_ok-tell_expr.ensures.ok) c.chop.ensures.ok
+    on_ok_weaker _
+    (appends_both (at c.args.build.now) (at c.tell_expr.new.build) (at c.chop.new.self)
+    (expr_actions (expr_tree c.args.expr.now)) (Chop ∷ []) c.in_ok-tell_expr.ensures.ok) c.chop.ensures.ok

@@ -15,25 +15,42 @@ pub tell_statements-requires : goal.tell_statements-requires
 tell_statements-requires g c =
     let at = g.B.Build.stands in
     let whole = subst (MayFollowAll (at c.args.build.now)) (actions-Function c.args.function.now) c.requires in
-    let inside = may_next _ (at c.begin_function.new.self) (BeginFunction c.args.function.now.number c.args.function.now.parameters) _ c.in_ok-begin_function.ensures.ok whole in
+    let inside =
+    may_next _ (at c.begin_function.new.self)
+    (BeginFunction c.args.function.now.number c.args.function.now.parameters) _ c.in_ok-begin_function.ensures.ok
+    whole in
     rw c.deref.ensures.value (may_front _ _ _ inside)
 
 pub tell_last_return-requires : goal.tell_last_return-requires
 tell_last_return-requires g c =
     let at = g.B.Build.stands in
     let whole = subst (MayFollowAll (at c.args.build.now)) (actions-Function c.args.function.now) c.requires in
-    let inside = may_next _ (at c.begin_function.new.self) (BeginFunction c.args.function.now.number c.args.function.now.parameters) _ c.in_ok-begin_function.ensures.ok whole in
-    let told : AppendsAll (at c.begin_function.new.self) (at c.tell_statements.new.build) (body_actions (body_tree c.args.function.now.body.items)) = rw c.deref.ensures.value at c.in_ok-tell_statements.ensures.ok in
+    let inside =
+    may_next _ (at c.begin_function.new.self)
+    (BeginFunction c.args.function.now.number c.args.function.now.parameters) _ c.in_ok-begin_function.ensures.ok
+    whole in
+    let told : AppendsAll (at c.begin_function.new.self) (at c.tell_statements.new.build)
+    (body_actions (body_tree c.args.function.now.body.items)) =
+    rw c.deref.ensures.value at c.in_ok-tell_statements.ensures.ok in
     may_front _ last_return _ (may_then _ (at c.tell_statements.new.build) _ _ told inside)
 
 pub end_function-requires : goal.end_function-requires
 end_function-requires g c =
     let at = g.B.Build.stands in
     let whole = subst (MayFollowAll (at c.args.build.now)) (actions-Function c.args.function.now) c.requires in
-    let inside = may_next _ (at c.begin_function.new.self) (BeginFunction c.args.function.now.number c.args.function.now.parameters) _ c.in_ok-begin_function.ensures.ok whole in
-    let told : AppendsAll (at c.begin_function.new.self) (at c.tell_statements.new.build) (body_actions (body_tree c.args.function.now.body.items)) = rw c.deref.ensures.value at c.in_ok-tell_statements.ensures.ok in
+    let inside =
+    may_next _ (at c.begin_function.new.self)
+    (BeginFunction c.args.function.now.number c.args.function.now.parameters) _ c.in_ok-begin_function.ensures.ok
+    whole in
+    let told : AppendsAll (at c.begin_function.new.self) (at c.tell_statements.new.build)
+    (body_actions (body_tree c.args.function.now.body.items)) =
+    rw c.deref.ensures.value at c.in_ok-tell_statements.ensures.ok in
     let end = may_then _ (at c.tell_statements.new.build) _ _ told inside in
-    record { follows = may_first _ _ _ (may_then _ (at c.tell_last_return.new.build) last_return _ c.in_ok-tell_last_return.ensures.ok end) }
+    record {
+      follows =
+          may_first _ _ _
+          (may_then _ (at c.tell_last_return.new.build) last_return _ c.in_ok-tell_last_return.ensures.ok end);
+    }
 
 pub returns-clause-ok : goal.returns-clause-ok
 returns-clause-ok g c =
@@ -43,10 +60,13 @@ returns-clause-ok g c =
     let third = at c.tell_statements.new.build in
     let fourth = at c.tell_last_return.new.build in
     let last = at c.end_function.new.self in
-    let told : AppendsAll second third (body_actions (body_tree c.args.function.now.body.items)) = rw c.deref.ensures.value at c.in_ok-tell_statements.ensures.ok in
+    let told : AppendsAll second third (body_actions (body_tree c.args.function.now.body.items)) =
+    rw c.deref.ensures.value at c.in_ok-tell_statements.ensures.ok in
     on_ok_weaker _ (λ ended. subst (AppendsAll first last) (sym (actions-Function c.args.function.now))
-    (appends_both first second last (BeginFunction c.args.function.now.number c.args.function.now.parameters ∷ []) _ c.in_ok-begin_function.ensures.ok (appends_both second third last _ _ told
-    (appends_both third fourth last last_return (EndFunction c.args.function.now.variables ∷ []) c.in_ok-tell_last_return.ensures.ok ended)))) c.end_function.ensures.ok
+    (appends_both first second last (BeginFunction c.args.function.now.number c.args.function.now.parameters ∷ []) _
+    c.in_ok-begin_function.ensures.ok (appends_both second third last _ _ told
+    (appends_both third fourth last last_return (EndFunction c.args.function.now.variables ∷ [])
+    c.in_ok-tell_last_return.ensures.ok ended)))) c.end_function.ensures.ok
 
 pub returns-clause-full : goal.returns-clause-full
 returns-clause-full g c =
@@ -55,7 +75,10 @@ returns-clause-full g c =
     let second = at c.begin_function.new.self in
     let third = at c.tell_statements.new.build in
     let fourth = at c.tell_last_return.new.build in
-    let told : AppendsAll second third (body_actions (body_tree c.args.function.now.body.items)) = rw c.deref.ensures.value at c.in_ok-tell_statements.ensures.ok in
+    let told : AppendsAll second third (body_actions (body_tree c.args.function.now.body.items)) =
+    rw c.deref.ensures.value at c.in_ok-tell_statements.ensures.ok in
     λ full. subst (IsOverWith first) (sym (actions-Function c.args.function.now))
-    (over_then first second (BeginFunction c.args.function.now.number c.args.function.now.parameters ∷ []) _ c.in_ok-begin_function.ensures.ok (over_then second third _ _ told
-    (over_then third fourth last_return _ c.in_ok-tell_last_return.ensures.ok (over_finish fourth c.args.function.now.variables (c.end_function.ensures.full full)))))
+    (over_then first second (BeginFunction c.args.function.now.number c.args.function.now.parameters ∷ []) _
+    c.in_ok-begin_function.ensures.ok (over_then second third _ _ told
+    (over_then third fourth last_return _ c.in_ok-tell_last_return.ensures.ok
+    (over_finish fourth c.args.function.now.variables (c.end_function.ensures.full full)))))

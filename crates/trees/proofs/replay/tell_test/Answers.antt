@@ -11,9 +11,17 @@ tell_expr-requires g c = may_front _ _ (IfTest ∷ []) c.requires
 pub if_test-requires : goal.if_test-requires
 if_test-requires g c =
     let at = g.B.Build.stands in
-    record { follows = may_first _ _ _ (may_then (at c.args.build.now) (at c.tell_expr.new.build) (expr_actions (expr_tree c.args.condition.now)) _ c.in_ok-tell_expr.ensures.ok c.requires) }
+    record {
+      follows =
+          may_first _ _ _
+          (may_then (at c.args.build.now) (at c.tell_expr.new.build)
+          (expr_actions (expr_tree c.args.condition.now)) _ c.in_ok-tell_expr.ensures.ok c.requires);
+    }
 
 pub returns-clause-ok : goal.returns-clause-ok
 returns-clause-ok g c =
     let at = g.B.Build.stands in
-    on_ok_weaker _ (appends_both (at c.args.build.now) (at c.tell_expr.new.build) (at c.if_test.new.self) (expr_actions (expr_tree c.args.condition.now)) (IfTest ∷ []) c.in_ok-tell_expr.ensures.ok) c.if_test.ensures.ok
+    on_ok_weaker _
+    (appends_both (at c.args.build.now) (at c.tell_expr.new.build) (at c.if_test.new.self)
+    (expr_actions (expr_tree c.args.condition.now)) (IfTest ∷ []) c.in_ok-tell_expr.ensures.ok)
+    c.if_test.ensures.ok

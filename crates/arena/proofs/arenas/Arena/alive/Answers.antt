@@ -9,4 +9,5 @@ returns-clause-lives c = c.is_alive.ensures ∙ ap (λ (b : Body). nat_lt b.dama
 
 pub returns-clause-stands : goal.returns-clause-stands
 unfolding is_live is_alive body_of
-returns-clause-stands c = λ f s. c.is_alive.ensures ∙ ap (λ (b : Body). nat_lt b.damage 100) (c.robot.ensures.stands f s)
+returns-clause-stands c =
+    λ f s. c.is_alive.ensures ∙ ap (λ (b : Body). nat_lt b.damage 100) (c.robot.ensures.stands f s)

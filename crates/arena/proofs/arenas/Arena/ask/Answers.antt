@@ -73,7 +73,9 @@ pub returns-in-Damage-clause-reply : goal.returns-in-Damage-clause-reply
 unfolding answer argument body_of
 returns-in-Damage-clause-reply c = λ f s.
     let fits : FitsSigned w32 c.from.result = search rules in
-    rw c.in-Damage.is (simp to_z-of_z (c.from.ensures ∙ ap pos (c.damage.ensures.value ∙ ap (λ (b : Body). b.damage) (c.robot.ensures.stands f s))))
+    rw c.in-Damage.is
+    (simp to_z-of_z
+    (c.from.ensures ∙ ap pos (c.damage.ensures.value ∙ ap (λ (b : Body). b.damage) (c.robot.ensures.stands f s))))
 
 pub returns-in-Damage-clause-stands : goal.returns-in-Damage-clause-stands
 unfolding answer
@@ -83,7 +85,10 @@ pub returns-in-Speed-clause-reply : goal.returns-in-Speed-clause-reply
 unfolding answer argument body_of track_of
 returns-in-Speed-clause-reply c = λ f s.
     let fits : FitsSigned w32 c.from-in-Speed.result = search rules in
-    rw c.in-Speed.is (simp to_z-of_z (c.from-in-Speed.ensures ∙ ap pos (c.speed.ensures.value ∙ ap (λ (b : Body). b.track.speed) (c.robot-in-Speed.ensures.stands f s))))
+    rw c.in-Speed.is
+    (simp to_z-of_z
+    (c.from-in-Speed.ensures ∙
+    ap pos (c.speed.ensures.value ∙ ap (λ (b : Body). b.track.speed) (c.robot-in-Speed.ensures.stands f s))))
 
 pub returns-in-Speed-clause-stands : goal.returns-in-Speed-clause-stands
 unfolding answer
@@ -93,7 +98,11 @@ pub returns-in-LocX-clause-reply : goal.returns-in-LocX-clause-reply
 unfolding answer argument body_of track_of metres_x
 returns-in-LocX-clause-reply c = λ f s.
     let fits : FitsSigned w32 c.from-in-LocX.result = search rules in
-    rw c.in-LocX.is (simp to_z-of_z (c.from-in-LocX.ensures ∙ ap (λ (n : ℕ). pos (n / 10)) (c.x.ensures.value ∙ ap (λ (b : Body). b.track.x) (c.robot-in-LocX.ensures.stands f s))))
+    rw c.in-LocX.is
+    (simp to_z-of_z
+    (c.from-in-LocX.ensures ∙
+    ap (λ (n : ℕ). pos (n / 10))
+    (c.x.ensures.value ∙ ap (λ (b : Body). b.track.x) (c.robot-in-LocX.ensures.stands f s))))
 
 pub returns-in-LocX-clause-stands : goal.returns-in-LocX-clause-stands
 unfolding answer
@@ -103,7 +112,11 @@ pub returns-in-LocY-clause-reply : goal.returns-in-LocY-clause-reply
 unfolding answer argument body_of track_of metres_y
 returns-in-LocY-clause-reply c = λ f s.
     let fits : FitsSigned w32 c.from-in-LocY.result = search rules in
-    rw c.in-LocY.is (simp to_z-of_z (c.from-in-LocY.ensures ∙ ap (λ (n : ℕ). pos (n / 10)) (c.y.ensures.value ∙ ap (λ (b : Body). b.track.y) (c.robot-in-LocY.ensures.stands f s))))
+    rw c.in-LocY.is
+    (simp to_z-of_z
+    (c.from-in-LocY.ensures ∙
+    ap (λ (n : ℕ). pos (n / 10))
+    (c.y.ensures.value ∙ ap (λ (b : Body). b.track.y) (c.robot-in-LocY.ensures.stands f s))))
 
 pub returns-in-LocY-clause-stands : goal.returns-in-LocY-clause-stands
 unfolding answer
@@ -114,13 +127,22 @@ unfolding answer argument
 returns-in-Rand-clause-reply c = λ f s.
     let first : FitsSigned w32 (get_or c.args.arguments 0 (pos 0)) = search rules in
     let fits : FitsSigned w32 c.random_number.result = search rules in
-    rw c.in-Rand.is (simp to_z-of_z (simp to_z-of_z at (c.random_number.ensures.value f (ap (λ (g : Ground). g.random) c.self.view_is ∙ s.random))))
+    rw c.in-Rand.is
+    (simp to_z-of_z
+    (simp to_z-of_z at
+    (c.random_number.ensures.value f (ap (λ (g : Ground). g.random) c.self.view_is ∙ s.random))))
 
 pub returns-in-Rand-clause-stands : goal.returns-in-Rand-clause-stands
 unfolding answer argument
 returns-in-Rand-clause-stands c = λ f s.
     let now : StandsFor (the_view c.self.inside) f = rw c.self.view_is s in
-    rw c.in-Rand.is (record { updates = now.updates; robots = now.robots; missiles = now.missiles; random = c.random_number.ensures.next _ _ _ now.random })
+    rw c.in-Rand.is
+    (record {
+      updates = now.updates;
+      robots = now.robots;
+      missiles = now.missiles;
+      random = c.random_number.ensures.next _ _ _ now.random;
+    })
 
 pub returns-in-Sqrt-clause-reply : goal.returns-in-Sqrt-clause-reply
 unfolding answer argument

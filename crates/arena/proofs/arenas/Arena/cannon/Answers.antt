@@ -36,5 +36,12 @@ returns-clause-stands c = λ f s.
     let range_fits = c.ranges.range in
     let now : StandsFor (the_view c.self.inside) f = rw c.self.view_is s in
     let free = sym (c.may_fire.ensures.shots f.updates f.shots now.missiles) ∙ c.if-not-may_fire.false in
-    let missile = simp (c.place-x.ensures.x f s, c.place-x.ensures.y f s, c.norm_degree.ensures.value, c.clamped-range.ensures.value, to_z-of_z) at c.new-missile.ensures in
+    let missile =
+    simp (
+      c.place-x.ensures.x f s,
+      c.place-x.ensures.y f s,
+      c.norm_degree.ensures.value,
+      c.clamped-range.ensures.value,
+      to_z-of_z,
+    ) at c.new-missile.ensures in
     fires (the_view c.self.inside) f _ _ _ c.fire.new.self c.new-missile.result now free missile c.fire.ensures.shots

@@ -19,14 +19,23 @@ invariant_of-self c =
     let inside : c.args.robot < length items = omega (arith, ap length robots) in
     let P : Body → Type 0 = λ b. IsWithin (10000000 * c.self.inside.updates) b.track in
     let same = c.robot.ensures.value ∙ ap (λ l. get_or l c.args.robot (body_of no_robot)) (sym robots) in
-    let old : P c.robot.result.now = subst P (sym same) (All-get_or P items c.args.robot (body_of no_robot) inside i.3) in
+    let old : P c.robot.result.now =
+    subst P (sym same) (All-get_or P items c.args.robot (body_of no_robot) inside i.3) in
     let way = c.wanting-wanting.ensures.way in
     let new : P c.wanting-wanting.result = rw (way.0, way.1) old in
     let size = length-set items c.args.robot c.wanting-wanting.result in
-    let place = subst (λ (b : Body). IsAtPlace b.track c.wanting-wanting.result.track) same c.wanting-wanting.ensures.place in
+    let place =
+    subst (λ (b : Body). IsAtPlace b.track c.wanting-wanting.result.track) same c.wanting-wanting.ensures.place in
     let far = far_set c.self.inside.calm items c.args.robot c.wanting-wanting.result inside place i.6 in
-    rw (put_is items c.deref_mut.result.now c.args.robot c.wanting-wanting.result c.deref_mut.ensures.value)
-    (i.0, i.1 ∙ sym size, omega (arith, size), All-set P items c.args.robot c.wanting-wanting.result new i.3, i.4, λ e. absurd (cc), far)
+    rw (put_is items c.deref_mut.result.now c.args.robot c.wanting-wanting.result c.deref_mut.ensures.value) (
+      i.0,
+      i.1 ∙ sym size,
+      omega (arith, size),
+      All-set P items c.args.robot c.wanting-wanting.result new i.3,
+      i.4,
+      λ e. absurd (cc),
+      far,
+    )
 
 pub returns-clause-stands : goal.returns-clause-stands
 returns-clause-stands c = λ f s.
@@ -34,6 +43,8 @@ returns-clause-stands c = λ f s.
     let speed_fits = c.ranges.speed in
     let items = c.self.inside.robots.items in
     let now : StandsFor (the_view c.self.inside) f = rw c.self.view_is s in
-    let body = simp (c.norm_degree.ensures.value, c.clamped-speed.ensures.value, to_z-of_z) at (c.wanting-wanting.ensures.robot (robot_at f c.args.robot) (c.robot.ensures.stands f s)) in
+    let body =
+    simp (c.norm_degree.ensures.value, c.clamped-speed.ensures.value, to_z-of_z) at
+    (c.wanting-wanting.ensures.robot (robot_at f c.args.robot) (c.robot.ensures.stands f s)) in
     rw (put_is items c.deref_mut.result.now c.args.robot c.wanting-wanting.result c.deref_mut.ensures.value)
     (directs (the_view c.self.inside) f c.args.robot _ _ c.wanting-wanting.result now body)

@@ -10,8 +10,11 @@ pub returns : goal.returns
 unfolding due
 returns c = λ f s.
     let slots = c.missiles.result.now in
-    let held : HoldsShots f.updates slots f.shots = subst (λ (slots : List (List Missile)). HoldsShots f.updates slots f.shots) (sym c.missiles.ensures.value) s.missiles in
+    let held : HoldsShots f.updates slots f.shots =
+    subst (λ (slots : List (List Missile)). HoldsShots f.updates slots f.shots) (sym c.missiles.ensures.value)
+    s.missiles in
     let update : c.next_update.result ≡ f.updates + 1 = c.next_update.ensures ∙ ap (λ n. n + 1) s.updates in
     let count : length slots ≡ length f.robots = c.missiles.ensures.count ∙ manned c.args.self.now f s in
-    c.bursts.ensures f.updates f.shots held ∙ ap (λ u. flat_map (own_bursts u f.updates f.shots) (range_with_len 0 (length slots))) update
+    c.bursts.ensures f.updates f.shots held ∙
+    ap (λ u. flat_map (own_bursts u f.updates f.shots) (range_with_len 0 (length slots))) update
     ∙ ap (λ n. flat_map (own_bursts (f.updates + 1) f.updates f.shots) (range_with_len 0 n)) count

@@ -8,4 +8,6 @@ use Rattle.arena.proofs.arenas.Arena.live_count.Goals as goal
 pub returns : goal.returns
 unfolding live_count
 returns c = λ f s.
-    c.living.ensures ∙ ap (count_by (λ (b : Body). nat_lt b.damage 100)) (c.as_slice.ensures.value ∙ ap (λ (g : Ground). g.robots) c.self.view_is ∙ s.robots) ∙ living f.robots
+    c.living.ensures ∙
+    ap (count_by (λ (b : Body). nat_lt b.damage 100))
+    (c.as_slice.ensures.value ∙ ap (λ (g : Ground). g.robots) c.self.view_is ∙ s.robots) ∙ living f.robots

@@ -10,8 +10,12 @@ unfolding meets
 returns-then-a-b c = λ f s.
     let a = c.mover.ensures (robot_at f c.args.a) (c.robot.ensures.stands f s) in
     let b = c.mover-then-a-b.ensures (robot_at f c.args.b) (c.robot-then-a-b.ensures.stands f s) in
-    c.collides.ensures ∙ ap (λ m. collides m c.mover-then-a-b.result) a ∙ ap (λ m. collides (mover (robot_at f c.args.a)) m) b
-    ∙ sym (ap (λ t. not t && collides (mover (robot_at f c.args.a)) (mover (robot_at f c.args.b))) (ne_eqb c.args.a c.args.b c.if-a-b.true))
+    c.collides.ensures ∙ ap (λ m. collides m c.mover-then-a-b.result) a ∙
+    ap (λ m. collides (mover (robot_at f c.args.a)) m) b
+    ∙
+    sym
+    (ap (λ t. not t && collides (mover (robot_at f c.args.a)) (mover (robot_at f c.args.b)))
+    (ne_eqb c.args.a c.args.b c.if-a-b.true))
 
 pub returns-else-a-b : goal.returns-else-a-b
 unfolding meets

@@ -8,5 +8,5 @@ returns-clause-stands c = record {
   updates = refl;
   robots = c.placed_robots.ensures.robots c.args.seed c.args.number;
   missiles = c.none.ensures.none;
-  random = c.begun.ensures;
+  random = c.generator.ensures;
 }

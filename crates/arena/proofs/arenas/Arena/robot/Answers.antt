@@ -7,5 +7,6 @@ use Rattle.arena.proofs.arenas.Arena.robot.Goals as goal
 
 pub returns-clause-stands : goal.returns-clause-stands
 returns-clause-stands c = λ f s.
-    let v : c.index-deref-robot.result ≡ slice_index_or c.args.self.now.robots c.args.robot (body_of no_robot) = grind (arith, common_steps) in
+    let v : c.index-deref-robot.result ≡ slice_index_or c.args.self.now.robots c.args.robot (body_of no_robot) =
+    grind (arith, common_steps) in
     v ∙ body_at c.args.self.now f c.args.robot s

@@ -9,5 +9,6 @@ returns c = λ f s.
     let fd = c.ranges.degree in
     let fr = c.ranges.resolution in
     let ff : FitsSigned w32 c.from.result = search rules in
-    let h = simp (c.norm_degree.ensures.value, c.clamped-resolution.ensures.value, to_z-of_z) at (c.scan.ensures f robots) in
+    let h =
+    simp (c.norm_degree.ensures.value, c.clamped-resolution.ensures.value, to_z-of_z) at (c.scan.ensures f robots) in
     simp to_z-of_z (c.from.ensures ∙ ap pos h)

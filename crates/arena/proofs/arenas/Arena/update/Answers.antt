@@ -2,12 +2,13 @@ use Rattle.std.proofs.Common.{◌≡◌, ◌+◌, ◌*◌, List, sym, ap, subst,
 use Rattle.arena.specs.Ground.{Body, Missile, Ground}
 use Rattle.arena.specs.Standing.{HoldsShots, StandsFor}
 use Rattle.arena.specs.contracts.arenas.Arena.{the_view}
-use Rattle.arena.specs.Rest.{IsStill}
+use Rattle.arena.specs.Still.{IsStill}
 use Rattle.arena.proofs.Represents.{refill_is, updates}
 use Rattle.arena.proofs.Still.{only_counts}
 use Rattle.arena.proofs.arenas.Arena.update.Goals as goal
 
-still : {robots bodies : List Body} {slots held : List (List Missile)} → robots ≡ bodies → slots ≡ held → IsStill robots slots → IsStill bodies held
+still : {robots bodies : List Body} {slots held : List (List Missile)} → robots ≡ bodies → slots ≡ held →
+    IsStill robots slots → IsStill bodies held
 still e f s = rw (sym e, sym f) s
 
 pub returns-then-self-clause-stands : goal.returns-then-self-clause-stands
@@ -19,7 +20,8 @@ pub invariant_of-self-2 : goal.invariant_of-self-2
 invariant_of-self-2 c =
     let i = c.self.invariant in
     let len = c.move_on-self-inside.auto.robots ∙ ap length c.as_mut_slice.ensures.value in
-    let way = c.move_on-self-inside.ensures.way (10000000 * c.self.inside.updates) (rw c.as_mut_slice.ensures.value i.3) in
+    let way =
+    c.move_on-self-inside.ensures.way (10000000 * c.self.inside.updates) (rw c.as_mut_slice.ensures.value i.3) in
     let more : 10000000 * (c.self.inside.updates + 1) ≡ 10000000 * c.self.inside.updates + 10000000 = omega arith in
     let refilled = refill_is c.self.inside.robots.items c.move_on-self-inside.new.robots len in
     rw refilled (
@@ -39,6 +41,13 @@ returns-clause-stands c = λ f s.
     let len = c.move_on-self-inside.auto.robots ∙ ap length c.as_mut_slice.ensures.value in
     let robots = c.move_on-self-inside.ensures.robots f next (c.as_mut_slice.ensures.value ∙ now.robots) now.missiles in
     let missiles = c.land.ensures.shots f.updates f.shots next now.missiles in
-    let held : HoldsShots (f.updates + 1) c.land.new.self f.shots = subst (λ n. HoldsShots n c.land.new.self f.shots) next missiles in
+    let held : HoldsShots (f.updates + 1) c.land.new.self f.shots =
+    subst (λ n. HoldsShots n c.land.new.self f.shots) next missiles in
     rw (refill_is c.self.inside.robots.items c.move_on-self-inside.new.robots len)
-    (updates (the_view c.self.inside) (record { updates = c.self.inside.updates + 1; robots = c.move_on-self-inside.new.robots; slots = c.land.new.self; random = c.self.inside.random }) f now refl refl robots held)
+    (updates (the_view c.self.inside)
+    (record {
+      updates = c.self.inside.updates + 1;
+      robots = c.move_on-self-inside.new.robots;
+      slots = c.land.new.self;
+      random = c.self.inside.random;
+    }) f now refl refl robots held)

@@ -1,6 +1,6 @@
 use Rattle.std.proofs.Common.{◌≤◌, List, ap, subst, sym, ◌∙◌, length, arith}
 use Rattle.arena.specs.Ground.{Missile}
-use Rattle.arena.specs.Rest.{NoneBefore}
+use Rattle.arena.specs.Still.{NoneBefore}
 use Rattle.arena.specs.Standing.{HoldsShots}
 use Rattle.arena.proofs.Represents.{refill_is}
 use Rattle.arena.proofs.SlotLaws.{sooner_all}
@@ -13,11 +13,16 @@ invariant_of-self c =
     let len = c.fire.auto.slots ∙ ap length c.as_mut_slice.ensures.value in
     let low : next ≤ c.self.inside.next = omega (arith, c.min-self-inside.ensures) in
     let burst : next ≤ c.args.missile.burst = omega (arith, c.min-self-inside.ensures, c.burst.ensures) in
-    let before : NoneBefore next c.as_mut_slice.result.now = subst (λ (slots : List (List Missile)). NoneBefore next slots) (sym c.as_mut_slice.ensures.value) (sooner_all c.self.inside.next next c.self.inside.slots.items low i.1) in
-    rw (refill_is c.self.inside.slots.items c.fire.new.slots len) (omega (arith, len, i.0), c.fire.ensures.next next burst before)
+    let before : NoneBefore next c.as_mut_slice.result.now =
+    subst (λ (slots : List (List Missile)). NoneBefore next slots) (sym c.as_mut_slice.ensures.value)
+    (sooner_all c.self.inside.next next c.self.inside.slots.items low i.1) in
+    rw (refill_is c.self.inside.slots.items c.fire.new.slots len)
+    (omega (arith, len, i.0), c.fire.ensures.next next burst before)
 
 pub returns-clause-shots : goal.returns-clause-shots
 returns-clause-shots c = λ updates shots flies holds.
     let len = c.fire.auto.slots ∙ ap length c.as_mut_slice.ensures.value in
-    let held : HoldsShots updates c.as_mut_slice.result.now shots = subst (λ (slots : List (List Missile)). HoldsShots updates slots shots) (sym (c.as_mut_slice.ensures.value ∙ c.self.view_is)) holds in
+    let held : HoldsShots updates c.as_mut_slice.result.now shots =
+    subst (λ (slots : List (List Missile)). HoldsShots updates slots shots)
+    (sym (c.as_mut_slice.ensures.value ∙ c.self.view_is)) holds in
     rw (refill_is c.self.inside.slots.items c.fire.new.slots len) (c.fire.ensures.shots updates shots flies held)

@@ -10,7 +10,8 @@ unfolding driven tried
 returns-clause-motion c = λ leg e.
     let course : c.if-changes.self ≡ track_of (sped (steered leg)) = elim c.if-changes.branch [
       | then-changes w ↦ w.self-is ∙ w.sped.ensures.leg (steered leg) (w.steered.ensures.leg leg e)
-      | else-changes w ↦ w.self-is ∙ keeps_course _ leg e (c.changes.ensures w.if-changes.false).0 (c.changes.ensures w.if-changes.false).1
+      | else-changes w ↦ w.self-is ∙
+          keeps_course _ leg e (c.changes.ensures w.if-changes.false).0 (c.changes.ensures w.if-changes.false).1
     ] in
     c.advance.ensures.motion (sped (steered leg)) course
 
@@ -19,6 +20,7 @@ unfolding tried
 returns-clause-walled c = λ leg e.
     let course : c.if-changes.self ≡ track_of (sped (steered leg)) = elim c.if-changes.branch [
       | then-changes w ↦ w.self-is ∙ w.sped.ensures.leg (steered leg) (w.steered.ensures.leg leg e)
-      | else-changes w ↦ w.self-is ∙ keeps_course _ leg e (c.changes.ensures w.if-changes.false).0 (c.changes.ensures w.if-changes.false).1
+      | else-changes w ↦ w.self-is ∙
+          keeps_course _ leg e (c.changes.ensures w.if-changes.false).0 (c.changes.ensures w.if-changes.false).1
     ] in
     c.advance.ensures.walled (sped (steered leg)) course

@@ -1,6 +1,6 @@
 use Rattle.std.proofs.Common.{◌≡◌, subst, arith}
 use Rattle.std.proofs.lemmas.Bool.Decides.{nat_tests}
-use Rattle.arena.specs.Rest.{Rests}
+use Rattle.arena.specs.Still.{Rests}
 use Rattle.arena.proofs.motion.Motion.rests.Goals as goal
 use Rattle.arena.proofs.motion.Motion.rests.Goals.{then-self-eq0, else-self-eq0}
 
@@ -12,6 +12,14 @@ returns-then-self-eq0-2 c = λ e.
     elim c.if-self-eq0.branch [
       | then-self-eq0 w ↦
           let wants : c.self.inside.wanted_speed ≡ 0 = grind (arith, nat_tests, w.value-is, known) in
-          subst Rests c.self.view_is (record { stands = w.if-self-eq0.true; wants_none = wants; heads = heads; leads_x = i.8; leads_y = i.9; inside = (i.2, i.3) })
+          subst Rests c.self.view_is
+          (record {
+            stands = w.if-self-eq0.true;
+            wants_none = wants;
+            heads = heads;
+            leads_x = i.8;
+            leads_y = i.9;
+            inside = (i.2, i.3);
+          })
       | else-self-eq0 w ↦ absurd (w.if-self-eq0.false (grind (arith, nat_tests, w.value-is, known)))
     ]

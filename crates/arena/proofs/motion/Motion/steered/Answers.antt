@@ -12,7 +12,10 @@ pub returns-then-self-le-TURNING_SPEED-clause-leg : goal.returns-then-self-le-TU
 returns-then-self-le-TURNING_SPEED-clause-leg c = λ leg e.
     let inside = c.self-then-self-le-TURNING_SPEED in
     let same = ap (λ (t : Track). t.wanted_heading) (inside.view_is ∙ sym c.self.view_is) in
-    let h = turns_is _ _ leg _ (c.self.view_is ∙ e) (c.begun-then-self-le-TURNING_SPEED.view_is ∙ c.begun.ensures.leg leg e) c.if-self.false c.if-self-le-TURNING_SPEED.true same in
+    let h =
+    turns_is _ _ leg _ (c.self.view_is ∙ e)
+    (c.leg_anew-then-self-le-TURNING_SPEED.view_is ∙ c.leg_anew.ensures.leg leg e) c.if-self.false
+    c.if-self-le-TURNING_SPEED.true same in
     grind (arith, to_z-of_z)
 
 pub returns-else-self-le-TURNING_SPEED-clause-leg : goal.returns-else-self-le-TURNING_SPEED-clause-leg

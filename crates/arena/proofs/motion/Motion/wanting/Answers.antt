@@ -4,4 +4,5 @@ use Rattle.arena.proofs.Tracks.{wanting_is}
 use Rattle.arena.proofs.motion.Motion.wanting.Goals as goal
 
 pub returns-clause-leg : goal.returns-clause-leg
-returns-clause-leg c = λ leg e. let h = wanting_is c.args.self leg c.args.degree c.args.speed e in grind (arith, to_z-of_z)
+returns-clause-leg c =
+    λ leg e. let h = wanting_is c.args.self leg c.args.degree c.args.speed e in grind (arith, to_z-of_z)

@@ -7,11 +7,14 @@ use Rattle.arena.proofs.robots.Robot.meets_wall.Goals as goal
 pub returns-then-is_alive : goal.returns-then-is_alive
 unfolding body_of is_alive
 returns-then-is_alive c = λ robot e.
-    let live : is_alive robot ≡ true = sym (c.is_alive.ensures ∙ ap (λ (b : Body). nat_lt b.damage 100) e) ∙ c.if-is_alive.true in
-    c.drive_on.ensures.walled robot.leg (ap (λ (b : Body). b.track) (c.self.view_is ∙ e)) ∙ sym (ap (λ t. t && hits_wall (tried robot.leg)) live)
+    let live : is_alive robot ≡ true =
+    sym (c.is_alive.ensures ∙ ap (λ (b : Body). nat_lt b.damage 100) e) ∙ c.if-is_alive.true in
+    c.drive_on.ensures.walled robot.leg (ap (λ (b : Body). b.track) (c.self.view_is ∙ e)) ∙
+    sym (ap (λ t. t && hits_wall (tried robot.leg)) live)
 
 pub returns-else-is_alive : goal.returns-else-is_alive
 unfolding body_of is_alive
 returns-else-is_alive c = λ robot e.
-    let dead : is_alive robot ≡ false = sym (c.is_alive.ensures ∙ ap (λ (b : Body). nat_lt b.damage 100) e) ∙ c.if-is_alive.false in
+    let dead : is_alive robot ≡ false =
+    sym (c.is_alive.ensures ∙ ap (λ (b : Body). nat_lt b.damage 100) e) ∙ c.if-is_alive.false in
     c.if-is_alive.false ∙ sym (ap (λ t. t && hits_wall (tried robot.leg)) dead)

@@ -1,7 +1,7 @@
 use Rattle.std.proofs.Common.{◌≡◌, inl, inr, ap, subst, arith}
 use Rattle.std.proofs.lemmas.Bool.Decides.{nat_tests}
 use Rattle.arena.specs.Ground.{Body}
-use Rattle.arena.specs.Rest.{Rests}
+use Rattle.arena.specs.Still.{Rests}
 use Rattle.arena.proofs.robots.Robot.stays.Goals as goal
 
 pub returns-then-not-is_alive : goal.returns-then-not-is_alive

@@ -6,7 +6,8 @@ use Rattle.arena.proofs.slots.Slots.all_fly.Goals as goal
 
 pub loop-missile-preserved : goal.loop-missile-preserved
 loop-missile-preserved c =
-    flies_more c.args.update c.as_slice-missile-items.result.now c.loop-missile.missile-index c.missile-item.result c.loop-missile-test.true c.missile-item.is (sym c.flies.ensures ∙ c.if-not-flies.false) c.loop-missile.invariant
+    flies_more c.args.update c.as_slice-missile-items.result.now c.loop-missile.missile-index c.missile-item.result
+    c.loop-missile-test.true c.missile-item.is (sym c.flies.ensures ∙ c.if-not-flies.false) c.loop-missile.invariant
 
 pub returns : goal.returns
 returns c = λ e.

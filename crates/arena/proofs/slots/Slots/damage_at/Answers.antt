@@ -12,7 +12,9 @@ pub loop-missile-preserved : goal.loop-missile-preserved
 loop-missile-preserved c = record {
   most = omega arith;
   bursts = λ owner.
-      let more = one_more owner c.args.update c.args.x c.args.y c.as_slice-missile-items.result.now c.loop-missile.missile-index c.missile-item.result c.loop-missile-test.true c.missile-item.is in
+      let more =
+      one_more owner c.args.update c.args.x c.args.y c.as_slice-missile-items.result.now c.loop-missile.missile-index
+      c.missile-item.result c.loop-missile-test.true c.missile-item.is in
       let before = c.loop-missile.invariant.bursts owner in
       let here = c.damage_at-damage.ensures.bursts owner in
       omega arith;

@@ -33,10 +33,13 @@ returns-clause-stands c trace stands =
     let asks = asking code m i c.requires.asks.0 c.requires.asks.1 c.opcode-opcode.ensures.here c.requires.asks.2 in
     let done =
     c.answer.ensures code asks.1.0
-    ∙ ap (λ (reply : ℤ). done_with code reply m (Some (Fcall (callee.Intrinsic asks.1.0)))) (to_z-of_z w32 c.args.reply c.ranges.reply)
+    ∙
+    ap (λ (reply : ℤ). done_with code reply m (Some (Fcall (callee.Intrinsic asks.1.0))))
+    (to_z-of_z w32 c.args.reply c.ranges.reply)
     ∙ ap (λ (i : Instr). done_with code c.args.reply m (Some i)) (sym asks.1.1)
     in
-    advances m (state_at c.answer.result c.answer.new.self) code i c.args.reply c.opcode-opcode.ensures.here asks.0 done trace stands
+    advances m (state_at c.answer.result c.answer.new.self) code i c.args.reply c.opcode-opcode.ensures.here asks.0 done
+    trace stands
 
 pub returns-clause-fits : goal.returns-clause-fits
 returns-clause-fits c = record {

@@ -4,4 +4,5 @@ use Rattle.code.proofs.ProgramLaws.{main_is_known}
 use Rattle.code.proofs.program.Program.main.Goals as goal
 
 pub returns-clause-known : goal.returns-clause-known
-returns-clause-known c = omega (arith, main_is_known _ c.self.invariant.1, ap (λ (code : ObjectCode). length code.names.functions) c.self.view_is)
+returns-clause-known c =
+    omega (arith, main_is_known _ c.self.invariant.1, ap (λ (code : ObjectCode). length code.functions) c.self.view_is)

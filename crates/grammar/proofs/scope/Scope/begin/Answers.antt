@@ -7,7 +7,9 @@ use Rattle.grammar.proofs.scope.Scope.begin.Goals as goal
 -- src/scope.rt:275:9
 pub push-requires : goal.push-requires
 push-requires c =
-    let room = room_begun c.self.inside.pools.functions c.self.inside.lines.items c.self.inside.begun.items c.args.number c.self.invariant.0 within new in
+    let room =
+    room_begun c.self.inside.pools.functions c.self.inside.lines.items c.self.inside.begun.items c.args.number
+    c.self.invariant.0 within new in
     search (rules, room)
   where
     within : c.args.number < length c.self.inside.pools.functions
@@ -20,7 +22,8 @@ push-requires c =
 pub invariant_of-self : goal.invariant_of-self
 invariant_of-self c = (
   subst (λ begun. IsKept c.self.inside.pools.functions c.self.inside.lines.items begun) (sym c.push.ensures.items)
-      (kept_begun c.self.inside.pools.functions c.self.inside.lines.items c.self.inside.begun.items c.args.number c.self.invariant.0 within new),
+      (kept_begun c.self.inside.pools.functions c.self.inside.lines.items c.self.inside.begun.items c.args.number
+      c.self.invariant.0 within new),
   c.self.invariant.1,
 )
   where

@@ -5,7 +5,9 @@ use Rattle.grammar.proofs.scope.Scope.number_for.Goals as goal
 
 -- src/scope.rt:195:5
 pub returns-clause-known : goal.returns-clause-known
-returns-clause-known c = called_new c.args.name.now c.args.line c.args.self.now c.add_function.new.self c.requires.own unknown small c.add_function.ensures.names
+returns-clause-known c =
+    called_new c.args.name.now c.args.line c.args.self.now c.add_function.new.self c.requires.own unknown small
+    c.add_function.ensures.names
   where
     unknown : function_number c.args.name.now c.args.self.now ≡ None
     unknown = search rules

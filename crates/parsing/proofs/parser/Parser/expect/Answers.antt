@@ -16,10 +16,14 @@ returns-in_err-advance-clause-matches g c =
     let sound : is_fault c.args.self.now.place.position.reading.next.token ≡ false = cc in
     let fits : is_punctuator c.args.punctuator c.args.self.now.place.position.reading.next.token ≡ true = cc in
     let p = err_from_is_err_and c.from_residual.result c.from_residual.ensures.1 in
-    rw (p.1, p.2) (refused_map _ _ _ ⊥ ⊥ c.in_err-advance.field-0.0 (punctuator_stops c.args.self.now.place.position.reading c.args.self.now.place.position.scope _ c.args.punctuator sound fits) (λ same. same) c.in_err-advance.ensures.consumes)
+    rw (p.1, p.2)
+    (refused_map _ _ _ ⊥ ⊥ c.in_err-advance.field-0.0
+    (punctuator_stops c.args.self.now.place.position.reading c.args.self.now.place.position.scope _
+    c.args.punctuator sound fits) (λ same. same) c.in_err-advance.ensures.consumes)
 
 pub returns-clause-matches : goal.returns-clause-matches
 returns-clause-matches g c =
     let sound : is_fault c.args.self.now.place.position.reading.next.token ≡ false = cc in
     let fits : is_punctuator c.args.punctuator c.args.self.now.place.position.reading.next.token ≡ true = cc in
-    punctuator_derives c.args.self.now.place.position.reading c.args.self.now.place.position.scope _ _ c.args.punctuator sound fits c.in_ok-advance.ensures.consumes
+    punctuator_derives c.args.self.now.place.position.reading c.args.self.now.place.position.scope _ _ c.args.punctuator
+    sound fits c.in_ok-advance.ensures.consumes

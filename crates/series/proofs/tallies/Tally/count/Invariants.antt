@@ -10,7 +10,11 @@ invariant-loop-robot l = record {
   matches : l.self-inside.matches ≡ l.fn.self.matches + 1;
   survivors : l.survivors ≡ survivors l.outcome;
   four : length l.self-inside.scores ≡ 4;
-  adds : (k : ℕ) → k < 4 → (get_or l.fn.self.scores k no_score).won + (get_or l.fn.self.scores k no_score).tied + (get_or l.fn.self.scores k no_score).lost ≡ l.fn.self.matches;
-  done : (k : ℕ) → k < l.robot → get_or l.self-inside.scores k no_score ≡ with_match (get_or l.fn.self.scores k no_score) (alive l.outcome k) l.survivors;
+  adds : (k : ℕ) → k < 4 →
+      (get_or l.fn.self.scores k no_score).won + (get_or l.fn.self.scores k no_score).tied +
+      (get_or l.fn.self.scores k no_score).lost ≡ l.fn.self.matches;
+  done : (k : ℕ) → k < l.robot →
+      get_or l.self-inside.scores k no_score ≡
+      with_match (get_or l.fn.self.scores k no_score) (alive l.outcome k) l.survivors;
   left : (k : ℕ) → l.robot ≤ k → get_or l.self-inside.scores k no_score ≡ get_or l.fn.self.scores k no_score;
 }

@@ -11,7 +11,12 @@ returns-else-not-self-clause-text g c = λ before n text so_far.
     elim c.if-bytes-remaining_capacity.branch [
       | then-bytes-remaining_capacity w ↦
           let long : page_bytes < length c.args.self.now.page + length c.args.bytes.now =
-          omega (arith, w.if-bytes-remaining_capacity.true, c.remaining_capacity.ensures, ap (λ p. length p.page) c.self.view_is) in
+          omega (
+            arith,
+            w.if-bytes-remaining_capacity.true,
+            c.remaining_capacity.ensures,
+            ap (λ p. length p.page) c.self.view_is,
+          ) in
           nothing_more c.if-bytes-remaining_capacity.self text c.args.bytes.now
           (rw (w.self-is, w.sink-is) (w.turn.ensures.text before n text so_far.puts)) failed
           (too_long c.args.self.now text c.args.bytes.now so_far long)

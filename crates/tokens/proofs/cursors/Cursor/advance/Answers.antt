@@ -10,8 +10,10 @@ returns-in_ok-read-clause-steps g c =
     let not_last : is_last s.next.token ≡ false = ap (λ r. is_last r.next.token) c.self.view_is ∙ c.requires.not_last in
     let read = c.in_ok-read.ensures in
     rw (← c.self.view_is) (record {
-      tokens = shown-advanced s.next s.after c.read.new.here c.read.new.self.window s.lexer.window _ _ not_last read.tokens;
-      progress = remaining-advanced s.next s.after c.read.new.here c.read.new.self.window s.lexer.window not_last (sym c.if-not-is_last.ensures) read.read.progress read.kept.within;
+      tokens = shown-advanced s.next s.after c.read.new.here c.read.new.self.window s.lexer.window _ _ not_last
+          read.tokens;
+      progress = remaining-advanced s.next s.after c.read.new.here c.read.new.self.window s.lexer.window not_last
+          (sym c.if-not-is_last.ensures) read.read.progress read.kept.within;
       near = search rules;
     })
 
@@ -21,7 +23,8 @@ returns-else-not-is_last-clause-steps g c =
     let not_last : is_last s.next.token ≡ false = ap (λ r. is_last r.next.token) c.self.view_is ∙ c.requires.not_last in
     rw (← c.self.view_is) (record {
       tokens = search rules;
-      progress = remaining-ended s.next s.after s.after s.lexer.window s.lexer.window not_last (sym c.if-not-is_last.ensures);
+      progress = remaining-ended s.next s.after s.after s.lexer.window s.lexer.window not_last
+          (sym c.if-not-is_last.ensures);
       near = search rules;
     })
 
@@ -29,4 +32,7 @@ pub returns-in_err-read-clause-stopped : goal.returns-in_err-read-clause-stopped
 returns-in_err-read-clause-stopped g c =
     let s = c.self.inside in
     let not_last : is_last s.next.token ≡ false = ap (λ r. is_last r.next.token) c.self.view_is ∙ c.requires.not_last in
-    on_err-from c.from_residual.result (rw (← c.self.view_is) (advanced-stopped c.read.new.self.window.taken s.next s.after s.lexer.window _ not_last (sym c.if-not-is_last.ensures) c.in_err-read.ensures.stopped.within))
+    on_err-from c.from_residual.result
+    (rw (← c.self.view_is)
+    (advanced-stopped c.read.new.self.window.taken s.next s.after s.lexer.window _ not_last
+    (sym c.if-not-is_last.ensures) c.in_err-read.ensures.stopped.within))

@@ -11,10 +11,19 @@ use Rattle.tokens.proofs.cursors.Cursor.open.Goals.{then-not-is_last+in_ok-read-
 pub returns-clause-opens : goal.returns-clause-opens
 returns-clause-opens g c =
     let next = c.read.new.here in
-    let first = c.in_ok-read.ensures.tokens ∙ ap (λ h. to_read located_tokens h (g.F.Feed.to_come c.args.feed.now)) c.new-lexer.ensures ∙ shown-opened (g.F.Feed.to_come c.args.feed.now) in
-    let tells = elim c.if-not-is_last.branch as (λ w. shown (record { next = next; after = c.if-not-is_last.after; behind = c.if-not-is_last.lexer.window }) (g.F.Feed.to_come c.if-not-is_last.feed) ≡ option_map tokens (g.F.Feed.to_come c.args.feed.now)) [
-      | else-not-is_last w ↦ rw (w.feed-is, w.lexer-is, w.after-is) (shown-last next next _ _ (sym w.if-not-is_last.ensures) ∙ first)
-      | then-not-is_last+in_ok-read-2 w ↦ rw (w.feed-is, w.lexer-is, w.after-is) (shown-read next w.read-then-not-is_last.new.here _ _ _ _ w.in_ok-read-2.ensures.tokens ∙ first)
+    let first =
+    c.in_ok-read.ensures.tokens ∙
+    ap (λ h. to_read located_tokens h (g.F.Feed.to_come c.args.feed.now)) c.new-lexer.ensures ∙
+    shown-opened (g.F.Feed.to_come c.args.feed.now) in
+    let tells =
+    elim c.if-not-is_last.branch as
+    (λ w.
+    shown (record { next = next; after = c.if-not-is_last.after; behind = c.if-not-is_last.lexer.window })
+    (g.F.Feed.to_come c.if-not-is_last.feed) ≡ option_map tokens (g.F.Feed.to_come c.args.feed.now)) [
+      | else-not-is_last w ↦ rw (w.feed-is, w.lexer-is, w.after-is)
+          (shown-last next next _ _ (sym w.if-not-is_last.ensures) ∙ first)
+      | then-not-is_last+in_ok-read-2 w ↦ rw (w.feed-is, w.lexer-is, w.after-is)
+          (shown-read next w.read-then-not-is_last.new.here _ _ _ _ w.in_ok-read-2.ensures.tokens ∙ first)
     ] in
     record {
       tokens = tells;
@@ -30,7 +39,8 @@ returns-in_err-read-clause-stopped g c = on_err-from c.from_residual.result (λ 
     let read = c.in_err-read.ensures in (
       c.read.new.self.window.taken,
       read.kept.took.rest (Some bytes) (e ∙ ap (λ h. option_map (drop h.taken) (Some bytes)) (sym c.new-lexer.ensures)),
-      opened-stopped bytes c.read.new.self.window.taken c.new-lexer.result.window _ c.new-lexer.ensures e read.stopped.within,
+      opened-stopped bytes c.read.new.self.window.taken c.new-lexer.result.window _ c.new-lexer.ensures e
+          read.stopped.within,
     ))
 
 pub returns-in_err-read-2-clause-stopped : goal.returns-in_err-read-2-clause-stopped
@@ -38,6 +48,9 @@ returns-in_err-read-2-clause-stopped g c = on_err-from c.from_residual-in_err-re
     let first = c.in_ok-read.ensures in
     let read = c.in_err-read-2.ensures in (
       c.read-then-not-is_last.new.self.window.taken,
-      (TakesBytes-then first.kept.took read.kept.took).rest (Some bytes) (e ∙ ap (λ h. option_map (drop h.taken) (Some bytes)) (sym c.new-lexer.ensures)),
-      second-stopped bytes c.read-then-not-is_last.new.self.window.taken c.read.new.here c.new-lexer.result.window c.read.new.self.window _ _ c.new-lexer.ensures e (sym c.if-not-is_last.ensures) first.tokens read.stopped.within,
+      (TakesBytes-then first.kept.took read.kept.took).rest (Some bytes)
+          (e ∙ ap (λ h. option_map (drop h.taken) (Some bytes)) (sym c.new-lexer.ensures)),
+      second-stopped bytes c.read-then-not-is_last.new.self.window.taken c.read.new.here c.new-lexer.result.window
+          c.read.new.self.window _ _ c.new-lexer.ensures e (sym c.if-not-is_last.ensures) first.tokens
+          read.stopped.within,
     ))

@@ -11,10 +11,13 @@ pub loop-b-preserved : goal.loop-b-preserved
 loop-b-preserved g c =
     let now = in_constant c.loop-b.value in
     let seen = c.in_ok-b.ensures in
-    let value : c.min-value.result ≡ min (10 * c.loop-b.value + (c.in-Some.b - 48)) 2147483648 = c.min-value.ensures ∙ ap (λ d. min (10 * c.loop-b.value + d) 2147483648) c.from.ensures in
+    let value : c.min-value.result ≡ min (10 * c.loop-b.value + (c.in-Some.b - 48)) 2147483648 =
+    c.min-value.ensures ∙ ap (λ d. min (10 * c.loop-b.value + d) 2147483648) c.from.ensures in
     record {
       tokens = ap (λ v. to_read (in_constant v) c.pass.new.self (g.F.Feed.to_come c.peek.new.feed)) value
-          ∙ to_read-pass _ now _ _ _ _ c.in-Some.b c.pass.ensures.value seen.next.first c.in-Some.is (constant-takes c.loop-b.value c.in-Some.b (sym c.if-is_digit.ensures))
+          ∙
+          to_read-pass _ now _ _ _ _ c.in-Some.b c.pass.ensures.value seen.next.first c.in-Some.is
+          (constant-takes c.loop-b.value c.in-Some.b (sym c.if-is_digit.ensures))
           ∙ to_read-seen now _ _ _ _ seen.seen ∙ c.loop-b.invariant.tokens;
       bounded = omega (arith, value);
       took = TakesBytes-pass c.pass.ensures.kept.taken (TakesBytes-then c.loop-b.invariant.took seen.kept.took);
@@ -32,7 +35,8 @@ returns-in_default-clause-tokens g c =
       | in_default-via-in-Some+else-is_digit w ↦ subst (StopsAt is_digit) (sym w.in-Some.is) (sym w.if-is_digit.ensures)
       | in_default-via-in_default w ↦ subst (StopsAt is_digit) (sym w.in_default.is) tt
     ] in
-    run-stops is_digit (constant_going_on c.loop-b.value) c.ending.result c.constant_token.result _ _ _ seen.next.ready seen.next.first stops (λ _. c.ending.ensures) c.constant_token.ensures.token
+    run-stops is_digit (constant_going_on c.loop-b.value) c.ending.result c.constant_token.result _ _ _ seen.next.ready
+    seen.next.first stops (λ _. c.ending.ensures) c.constant_token.ensures.token
     ∙ to_read-seen now _ _ _ _ seen.seen ∙ c.loop-b.invariant.tokens
     ∙ ap (λ v. to_read (in_constant v) c.args.self.now.window (g.F.Feed.to_come c.args.feed.now)) c.from-value.ensures
 
@@ -40,14 +44,19 @@ pub returns-in_err-b-clause-stopped : goal.returns-in_err-b-clause-stopped
 returns-in_err-b-clause-stopped g c =
     let seen = c.in_err-b.ensures in
     let now = in_constant c.loop-b.value in
-    let chain = c.loop-b.invariant.tokens ∙ ap (λ v. to_read (in_constant v) c.args.self.now.window (g.F.Feed.to_come c.args.feed.now)) c.from-value.ensures in
+    let chain =
+    c.loop-b.invariant.tokens ∙
+    ap (λ v. to_read (in_constant v) c.args.self.now.window (g.F.Feed.to_come c.args.feed.now)) c.from-value.ensures
+    in
     on_err-from c.from_residual.result (record {
       within = stops-from now (in_constant (c.args.first - 48)) _ _ c.peek.new.self _ _ chain
-          (stops now (in_run-ends is_digit (constant_going_on c.loop-b.value) (constant-undecided c.loop-b.value)) c.loop-b.self.window c.peek.new.self _ seen.failed seen.place.place);
+          (stops now (in_run-ends is_digit (constant_going_on c.loop-b.value) (constant-undecided c.loop-b.value))
+          c.loop-b.self.window c.peek.new.self _ seen.failed seen.place.place);
       unread = c.loop-b.invariant.here;
     })
 
 pub returns-in_err-b-clause-kept : goal.returns-in_err-b-clause-kept
 returns-in_err-b-clause-kept g c =
     let now = c.loop-b.invariant in
-    then-fails c.from_residual.result _ c.from_residual.ensures.1 _ _ _ _ _ _ _ _ _ _ now.took now.forward now.count c.in_err-b.ensures.kept
+    then-fails c.from_residual.result _ c.from_residual.ensures.1 _ _ _ _ _ _ _ _ _ _ now.took now.forward now.count
+    c.in_err-b.ensures.kept

@@ -5,9 +5,11 @@ use Rattle.tokens.proofs.lexer.Lexer.constant_in_pieces.Given as goal
 
 abbrev pub invariant-loop-b : goal.invariant-loop-b
 invariant-loop-b g l = record {
-  tokens : to_read (in_constant l.value) l.self.window (g.F.Feed.to_come l.feed) ≡ to_read (in_constant l.initial.value) l.initial.self.window (g.F.Feed.to_come l.initial.feed);
+  tokens : to_read (in_constant l.value) l.self.window (g.F.Feed.to_come l.feed) ≡
+      to_read (in_constant l.initial.value) l.initial.self.window (g.F.Feed.to_come l.initial.feed);
   bounded : l.value ≤ 2147483648;
-  took : TakesBytes l.initial.self.window.taken l.self.window.taken (g.F.Feed.to_come l.initial.feed) (g.F.Feed.to_come l.feed);
+  took : TakesBytes l.initial.self.window.taken l.self.window.taken (g.F.Feed.to_come l.initial.feed)
+      (g.F.Feed.to_come l.feed);
   forward : l.initial.self.window.place ≤ l.self.window.place;
   count : g.F.Feed.account l.feed ≡ g.F.Feed.account l.initial.feed;
   here : l.here ≡ l.initial.here;

@@ -10,7 +10,10 @@ returns-in-Some-clause-tokens g c =
     let here = c.args.self.now.window in
     let told = g.F.Feed.to_come c.args.feed.now in
     let name = c.of_byte.result in
-    let stops : StopsAt is_name_byte c.first.result = subst (StopsAt is_name_byte) (sym c.in-Some.is) (sym c.if-not-is_name_byte.ensures) in
-    run-stops is_name_byte (name_going_on name false) c.end_name.new.here (name_going_on name false []) here told c.first.result
-    (is-at_hand here c.in-Some.b (sym c.in-Some.is ∙ c.first.ensures.value)) c.first.ensures.value stops (λ _. c.end_name.ensures.value) refl
+    let stops : StopsAt is_name_byte c.first.result =
+    subst (StopsAt is_name_byte) (sym c.in-Some.is) (sym c.if-not-is_name_byte.ensures) in
+    run-stops is_name_byte (name_going_on name false) c.end_name.new.here (name_going_on name false []) here told
+    c.first.result
+    (is-at_hand here c.in-Some.b (sym c.in-Some.is ∙ c.first.ensures.value)) c.first.ensures.value stops
+    (λ _. c.end_name.ensures.value) refl
     ∙ ap (λ name. to_read (in_name name false) here told) c.of_byte.ensures

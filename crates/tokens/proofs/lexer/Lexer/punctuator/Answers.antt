@@ -10,7 +10,9 @@ loop-next-preserved g c =
     let now = in_punctuator c.loop-next.punctuator in
     let seen = c.in_ok-next.ensures in
     record {
-      tokens = punctuator-passes c.loop-next.punctuator c.in-Some.longer _ _ _ c.in_ok-next.next c.pass.ensures.value seen.next.first (sym c.in-Some.ensures)
+      tokens =
+          punctuator-passes c.loop-next.punctuator c.in-Some.longer _ _ _ c.in_ok-next.next c.pass.ensures.value
+          seen.next.first (sym c.in-Some.ensures)
           ∙ to_read-seen now _ _ _ _ seen.seen ∙ c.loop-next.invariant.tokens;
       took = TakesBytes-pass c.pass.ensures.kept.taken (TakesBytes-then c.loop-next.invariant.took seen.kept.took);
       forward = omega (arith, seen.place.place);
@@ -23,7 +25,8 @@ pub returns-in-None-clause-tokens : goal.returns-in-None-clause-tokens
 returns-in-None-clause-tokens g c =
     let now = in_punctuator c.loop-next.punctuator in
     let seen = c.in_ok-next.ensures in
-    punctuator-stops c.loop-next.punctuator c.ending.result _ _ c.in_ok-next.next seen.next.ready seen.next.first (sym c.in-None.ensures) (λ _. c.ending.ensures)
+    punctuator-stops c.loop-next.punctuator c.ending.result _ _ c.in_ok-next.next seen.next.ready seen.next.first
+    (sym c.in-None.ensures) (λ _. c.ending.ensures)
     ∙ to_read-seen now _ _ _ _ seen.seen ∙ c.loop-next.invariant.tokens
 
 pub returns-in_err-next-clause-stopped : goal.returns-in_err-next-clause-stopped
@@ -32,11 +35,13 @@ returns-in_err-next-clause-stopped g c =
     let now = in_punctuator c.loop-next.punctuator in
     on_err-from c.from_residual.result (record {
       within = stops-from now (in_punctuator c.args.punctuator) _ _ c.peek.new.self _ _ c.loop-next.invariant.tokens
-          (stops now (in_punctuator-ends c.loop-next.punctuator) c.loop-next.self.window c.peek.new.self _ seen.failed seen.place.place);
+          (stops now (in_punctuator-ends c.loop-next.punctuator) c.loop-next.self.window c.peek.new.self _ seen.failed
+          seen.place.place);
       unread = c.loop-next.invariant.here;
     })
 
 pub returns-in_err-next-clause-kept : goal.returns-in_err-next-clause-kept
 returns-in_err-next-clause-kept g c =
     let now = c.loop-next.invariant in
-    then-fails c.from_residual.result _ c.from_residual.ensures.1 _ _ _ _ _ _ _ _ _ _ now.took now.forward now.count c.in_err-next.ensures.kept
+    then-fails c.from_residual.result _ c.from_residual.ensures.1 _ _ _ _ _ _ _ _ _ _ now.took now.forward now.count
+    c.in_err-next.ensures.kept

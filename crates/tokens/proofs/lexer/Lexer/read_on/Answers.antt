@@ -25,7 +25,8 @@ pub returns-in-None-clause-read : goal.returns-in-None-clause-read
 returns-in-None-clause-read g c =
     let here = c.skip_blanks.new.self.window in
     let end = c.put_end.ensures in
-    let last : is_last c.put_end.new.here.token ≡ true = ap (λ x. is_last x.token) (end.value []) ∙ last-is_last variant.End here.line (ahead here []) refl in
+    let last : is_last c.put_end.new.here.token ≡ true =
+    ap (λ x. is_last x.token) (end.value []) ∙ last-is_last variant.End here.line (ahead here []) refl in
     record {
       progress = λ e. absurd cc;
       reached = end.reached;
@@ -37,8 +38,12 @@ loop-self-preserved g c =
     let blanks = c.in_ok-skip_blanks.ensures in
     let slash = c.in_ok-slash-in-Some-eq47.ensures in
     record {
-      tokens = to_read-here located_tokens (after_slash false c.slash.new.here) c.slash.new.self.window _ (λ to_come. refl)
-          ∙ ap (λ found. to_read (after_slash found c.slash.new.here) c.slash.new.self.window (g.F.Feed.to_come c.slash.new.feed)) (sym c.if-branch.false)
+      tokens =
+          to_read-here located_tokens (after_slash false c.slash.new.here) c.slash.new.self.window _ (λ to_come. refl)
+          ∙
+          ap
+          (λ found. to_read (after_slash found c.slash.new.here) c.slash.new.self.window
+          (g.F.Feed.to_come c.slash.new.feed)) (sym c.if-branch.false)
           ∙ slash.past.tokens ∙ blanks.tokens ∙ c.loop-self.invariant.tokens;
       took = TakesBytes-then (TakesBytes-then c.loop-self.invariant.took blanks.kept.took) slash.kept.took;
       forward = omega (arith, blanks.kept.forward, slash.forward);
@@ -50,7 +55,8 @@ loop-self-preserved g c =
 pub returns-in_err-skip_blanks-clause-kept : goal.returns-in_err-skip_blanks-clause-kept
 returns-in_err-skip_blanks-clause-kept g c =
     let now = c.loop-self.invariant in
-    then-fails c.from_residual.result _ c.from_residual.ensures.1 _ _ _ _ _ _ _ _ _ _ now.took now.forward now.count c.in_err-skip_blanks.ensures.kept
+    then-fails c.from_residual.result _ c.from_residual.ensures.1 _ _ _ _ _ _ _ _ _ _ now.took now.forward now.count
+    c.in_err-skip_blanks.ensures.kept
 
 pub put_end-requires : goal.put_end-requires
 put_end-requires g c =
@@ -61,28 +67,36 @@ pub returns-in_err-slash-in-Some-eq47-clause-kept : goal.returns-in_err-slash-in
 returns-in_err-slash-in-Some-eq47-clause-kept g c =
     let now = c.loop-self.invariant in
     let blanks = c.in_ok-skip_blanks.ensures.kept in
-    then-fails c.from_residual-in_err-slash-in-Some-eq47.result _ c.from_residual-in_err-slash-in-Some-eq47.ensures.1 _ c.skip_blanks.new.self.window _ _ _ _ _ _ _ _ (TakesBytes-then now.took blanks.took) (omega (arith, now.forward, blanks.forward)) (blanks.count ∙ now.count) c.in_err-slash-in-Some-eq47.ensures.kept
+    then-fails c.from_residual-in_err-slash-in-Some-eq47.result _ c.from_residual-in_err-slash-in-Some-eq47.ensures.1 _
+    c.skip_blanks.new.self.window _ _ _ _ _ _ _ _ (TakesBytes-then now.took blanks.took)
+    (omega (arith, now.forward, blanks.forward)) (blanks.count ∙ now.count) c.in_err-slash-in-Some-eq47.ensures.kept
 
 pub returns-in-Some-clause-kept : goal.returns-in-Some-clause-kept
 returns-in-Some-clause-kept g c =
     let now = c.loop-self.invariant in
     let blanks = c.in_ok-skip_blanks.ensures.kept in
-    then-asks c.token.result _ c.skip_blanks.new.self.window _ _ _ _ _ _ _ _ (TakesBytes-then now.took blanks.took) (omega (arith, now.forward, blanks.forward)) (blanks.count ∙ now.count) c.token.ensures.kept
+    then-asks c.token.result _ c.skip_blanks.new.self.window _ _ _ _ _ _ _ _ (TakesBytes-then now.took blanks.took)
+    (omega (arith, now.forward, blanks.forward)) (blanks.count ∙ now.count) c.token.ensures.kept
 
 pub returns-in_err-skip_blanks-clause-stopped : goal.returns-in_err-skip_blanks-clause-stopped
 returns-in_err-skip_blanks-clause-stopped g c =
     let now = c.loop-self.invariant in
     on_err-from c.from_residual.result (record {
-      within = stops-from located_tokens located_tokens _ _ c.skip_blanks.new.self.window _ _ now.tokens c.in_err-skip_blanks.ensures.stopped;
+      within = stops-from located_tokens located_tokens _ _ c.skip_blanks.new.self.window _ _ now.tokens
+          c.in_err-skip_blanks.ensures.stopped;
       unread = now.here;
     })
 
 pub returns-in_err-slash-in-Some-eq47-clause-stopped : goal.returns-in_err-slash-in-Some-eq47-clause-stopped
 returns-in_err-slash-in-Some-eq47-clause-stopped g c =
     let now = c.loop-self.invariant in
-    on_err-from c.from_residual-in_err-slash-in-Some-eq47.result (fails-from located_tokens located_tokens _ _ c.slash.new.self.window _ _ (c.in_ok-skip_blanks.ensures.tokens ∙ now.tokens) now.here c.in_err-slash-in-Some-eq47.ensures.stopped)
+    on_err-from c.from_residual-in_err-slash-in-Some-eq47.result
+    (fails-from located_tokens located_tokens _ _ c.slash.new.self.window _ _
+    (c.in_ok-skip_blanks.ensures.tokens ∙ now.tokens) now.here c.in_err-slash-in-Some-eq47.ensures.stopped)
 
 pub returns-in-Some-clause-stopped : goal.returns-in-Some-clause-stopped
 returns-in-Some-clause-stopped g c =
     let now = c.loop-self.invariant in
-    on_err_weaker c.token.result (fails-from located_tokens located_tokens _ _ c.token.new.self.window _ _ (c.in_ok-skip_blanks.ensures.tokens ∙ now.tokens) now.here) c.token.ensures.stopped
+    on_err_weaker c.token.result
+    (fails-from located_tokens located_tokens _ _ c.token.new.self.window _ _
+    (c.in_ok-skip_blanks.ensures.tokens ∙ now.tokens) now.here) c.token.ensures.stopped

@@ -6,8 +6,10 @@ use Rattle.tokens.proofs.lexer.Lexer.read_on.Given as goal
 
 abbrev pub invariant-loop-self : goal.invariant-loop-self
 invariant-loop-self g l = record {
-  tokens : to_read located_tokens l.self.window (g.F.Feed.to_come l.feed) ≡ to_read located_tokens l.initial.self.window (g.F.Feed.to_come l.initial.feed);
-  took : TakesBytes l.initial.self.window.taken l.self.window.taken (g.F.Feed.to_come l.initial.feed) (g.F.Feed.to_come l.feed);
+  tokens : to_read located_tokens l.self.window (g.F.Feed.to_come l.feed) ≡
+      to_read located_tokens l.initial.self.window (g.F.Feed.to_come l.initial.feed);
+  took : TakesBytes l.initial.self.window.taken l.self.window.taken (g.F.Feed.to_come l.initial.feed)
+      (g.F.Feed.to_come l.feed);
   forward : l.initial.self.window.place ≤ l.self.window.place;
   count : g.F.Feed.account l.feed ≡ g.F.Feed.account l.initial.feed;
   here : l.here ≡ l.initial.here;

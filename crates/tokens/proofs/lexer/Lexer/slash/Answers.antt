@@ -15,9 +15,13 @@ returns-then-ne-clause-past g c =
     let line = c.line-line.result in
     let seen = c.in_ok-peek.ensures in
     record {
-      tokens = c.in_ok-punctuator.ensures.tokens ∙ slash-stays line _ _ _ seen.next.ready seen.next.first (not_true _ c.if-ne.ensures)
+      tokens =
+          c.in_ok-punctuator.ensures.tokens ∙
+          slash-stays line _ _ _ seen.next.ready seen.next.first (not_true _ c.if-ne.ensures)
           ∙ to_read-seen (in_slash line) _ _ _ _ seen.seen
-          ∙ to_read-pass_line (in_slash line) located_tokens _ _ _ 47 line c.pass.ensures.value c.requires.slash c.line-line.ensures (slash-begins line);
+          ∙
+          to_read-pass_line (in_slash line) located_tokens _ _ _ 47 line c.pass.ensures.value c.requires.slash
+          c.line-line.ensures (slash-begins line);
       token = λ _. c.in_ok-punctuator.ensures.found;
       unread = λ e. absurd cc;
     }
@@ -27,12 +31,21 @@ returns-then-branch-clause-past g c =
     let line = c.line-line.result in
     let seen = c.in_ok-peek.ensures in
     record {
-      tokens = to_read-here (after_slash false c.args.here.now) (after_comment true line) c.skip_comment.new.self.window _ (λ to_come. refl)
-          ∙ ap (λ closed. to_read (after_comment closed line) c.skip_comment.new.self.window (g.F.Feed.to_come c.skip_comment.new.feed)) (sym c.if-branch.true)
+      tokens =
+          to_read-here (after_slash false c.args.here.now) (after_comment true line) c.skip_comment.new.self.window _
+          (λ to_come. refl)
+          ∙
+          ap
+          (λ closed. to_read (after_comment closed line) c.skip_comment.new.self.window
+          (g.F.Feed.to_come c.skip_comment.new.feed)) (sym c.if-branch.true)
           ∙ c.in_ok-skip_comment.ensures.tokens line
-          ∙ to_read-pass (in_comment line) (in_slash line) _ _ _ _ 42 c.pass-2.ensures.value seen.next.first (star-found _ (not_false _ c.if-ne.ensures)) (star-begins line)
+          ∙
+          to_read-pass (in_comment line) (in_slash line) _ _ _ _ 42 c.pass-2.ensures.value seen.next.first
+          (star-found _ (not_false _ c.if-ne.ensures)) (star-begins line)
           ∙ to_read-seen (in_slash line) _ _ _ _ seen.seen
-          ∙ to_read-pass_line (in_slash line) located_tokens _ _ _ 47 line c.pass.ensures.value c.requires.slash c.line-line.ensures (slash-begins line);
+          ∙
+          to_read-pass_line (in_slash line) located_tokens _ _ _ 47 line c.pass.ensures.value c.requires.slash
+          c.line-line.ensures (slash-begins line);
       token = λ e. absurd cc;
       unread = λ _. refl;
     }
@@ -42,16 +55,28 @@ returns-else-branch-clause-past g c =
     let line = c.line-line.result in
     let seen = c.in_ok-peek.ensures in
     record {
-      tokens = to_read-here (after_slash true c.put_open_comment.new.here) (after_comment false line) c.skip_comment.new.self.window _ (λ to_come.
-          let a = ahead c.skip_comment.new.self.window to_come in ap (λ x. followed x a) (c.put_open_comment.ensures.value to_come) ∙ last-followed (variant.Fault CommentNotClosed) line a refl)
-          ∙ ap (λ closed. to_read (after_comment closed line) c.skip_comment.new.self.window (g.F.Feed.to_come c.skip_comment.new.feed)) (sym c.if-branch.false)
+      tokens =
+          to_read-here (after_slash true c.put_open_comment.new.here) (after_comment false line)
+          c.skip_comment.new.self.window _ (λ to_come.
+          let a = ahead c.skip_comment.new.self.window to_come in
+          ap (λ x. followed x a) (c.put_open_comment.ensures.value to_come) ∙
+          last-followed (variant.Fault CommentNotClosed) line a refl)
+          ∙
+          ap
+          (λ closed. to_read (after_comment closed line) c.skip_comment.new.self.window
+          (g.F.Feed.to_come c.skip_comment.new.feed)) (sym c.if-branch.false)
           ∙ c.in_ok-skip_comment.ensures.tokens line
-          ∙ to_read-pass (in_comment line) (in_slash line) _ _ _ _ 42 c.pass-2.ensures.value seen.next.first (star-found _ (not_false _ c.if-ne.ensures)) (star-begins line)
+          ∙
+          to_read-pass (in_comment line) (in_slash line) _ _ _ _ 42 c.pass-2.ensures.value seen.next.first
+          (star-found _ (not_false _ c.if-ne.ensures)) (star-begins line)
           ∙ to_read-seen (in_slash line) _ _ _ _ seen.seen
-          ∙ to_read-pass_line (in_slash line) located_tokens _ _ _ 47 line c.pass.ensures.value c.requires.slash c.line-line.ensures (slash-begins line);
+          ∙
+          to_read-pass_line (in_slash line) located_tokens _ _ _ 47 line c.pass.ensures.value c.requires.slash
+          c.line-line.ensures (slash-begins line);
       token = λ _. record {
         reached = c.put_open_comment.ensures.reached;
-        fits = rw (c.put_open_comment.ensures.value []) (last-fits (variant.Fault CommentNotClosed) line (ahead c.skip_comment.new.self.window []) tt);
+        fits = rw (c.put_open_comment.ensures.value [])
+            (last-fits (variant.Fault CommentNotClosed) line (ahead c.skip_comment.new.self.window []) tt);
       };
       unread = λ e. absurd cc;
     }
@@ -62,7 +87,8 @@ returns-in_err-peek-clause-stopped g c =
     let seen = c.in_err-peek.ensures in
     on_err-from c.from_residual.result (record {
       within = stops-from (in_slash line) located_tokens _ _ c.peek.new.self _ _
-          (to_read-pass_line (in_slash line) located_tokens _ _ _ 47 line c.pass.ensures.value c.requires.slash c.line-line.ensures (slash-begins line))
+          (to_read-pass_line (in_slash line) located_tokens _ _ _ 47 line c.pass.ensures.value c.requires.slash
+          c.line-line.ensures (slash-begins line))
           (stops (in_slash line) (in_slash-ends line) c.pass.new.self c.peek.new.self _ seen.failed seen.place.place);
       unread = refl;
     })
@@ -71,10 +97,13 @@ pub returns-in_err-punctuator-clause-stopped : goal.returns-in_err-punctuator-cl
 returns-in_err-punctuator-clause-stopped g c =
     let line = c.line-line.result in
     let seen = c.in_ok-peek.ensures in
-    on_err-from c.from_residual-in_err-punctuator.result (fails-from (in_punctuator Slash) located_tokens _ _ c.punctuator.new.self.window _ _
+    on_err-from c.from_residual-in_err-punctuator.result (fails-from (in_punctuator Slash) located_tokens _ _
+    c.punctuator.new.self.window _ _
     (slash-stays line _ _ _ seen.next.ready seen.next.first (not_true _ c.if-ne.ensures)
     ∙ to_read-seen (in_slash line) _ _ _ _ seen.seen
-    ∙ to_read-pass_line (in_slash line) located_tokens _ _ _ 47 line c.pass.ensures.value c.requires.slash c.line-line.ensures (slash-begins line))
+    ∙
+    to_read-pass_line (in_slash line) located_tokens _ _ _ 47 line c.pass.ensures.value c.requires.slash
+    c.line-line.ensures (slash-begins line))
     refl c.in_err-punctuator.ensures.stopped)
 
 pub returns-in_err-skip_comment-clause-stopped : goal.returns-in_err-skip_comment-clause-stopped
@@ -83,9 +112,12 @@ returns-in_err-skip_comment-clause-stopped g c =
     let seen = c.in_ok-peek.ensures in
     on_err-from c.from_residual-in_err-skip_comment.result (record {
       within = stops-from (in_comment line) located_tokens _ _ c.skip_comment.new.self.window _ _
-          (to_read-pass (in_comment line) (in_slash line) _ _ _ _ 42 c.pass-2.ensures.value seen.next.first (star-found _ (not_false _ c.if-ne.ensures)) (star-begins line)
+          (to_read-pass (in_comment line) (in_slash line) _ _ _ _ 42 c.pass-2.ensures.value seen.next.first
+          (star-found _ (not_false _ c.if-ne.ensures)) (star-begins line)
           ∙ to_read-seen (in_slash line) _ _ _ _ seen.seen
-          ∙ to_read-pass_line (in_slash line) located_tokens _ _ _ 47 line c.pass.ensures.value c.requires.slash c.line-line.ensures (slash-begins line))
+          ∙
+          to_read-pass_line (in_slash line) located_tokens _ _ _ 47 line c.pass.ensures.value c.requires.slash
+          c.line-line.ensures (slash-begins line))
           (c.in_err-skip_comment.ensures.stopped line);
       unread = refl;
     })
@@ -94,11 +126,16 @@ pub returns-in_err-punctuator-clause-kept : goal.returns-in_err-punctuator-claus
 returns-in_err-punctuator-clause-kept g c =
     let passed = c.pass.ensures in
     let seen = c.in_ok-peek.ensures.kept in
-    then-fails c.from_residual-in_err-punctuator.result _ c.from_residual-in_err-punctuator.ensures.1 _ c.peek.new.self _ _ _ _ _ _ _ _ (TakesBytes-from passed.kept.taken seen.took) (omega (arith, passed.forward, seen.forward)) seen.count c.in_err-punctuator.ensures.kept
+    then-fails c.from_residual-in_err-punctuator.result _ c.from_residual-in_err-punctuator.ensures.1 _ c.peek.new.self
+    _ _ _ _ _ _ _ _ (TakesBytes-from passed.kept.taken seen.took) (omega (arith, passed.forward, seen.forward))
+    seen.count c.in_err-punctuator.ensures.kept
 
 pub returns-in_err-skip_comment-clause-kept : goal.returns-in_err-skip_comment-clause-kept
 returns-in_err-skip_comment-clause-kept g c =
     let passed = c.pass.ensures in
     let seen = c.in_ok-peek.ensures.kept in
     let again = c.pass-2.ensures in
-    then-fails c.from_residual-in_err-skip_comment.result _ c.from_residual-in_err-skip_comment.ensures.1 _ c.pass-2.new.self _ _ _ _ _ _ _ _ (TakesBytes-pass again.kept.taken (TakesBytes-from passed.kept.taken seen.took)) (omega (arith, passed.forward, seen.forward, again.forward)) seen.count c.in_err-skip_comment.ensures.kept
+    then-fails c.from_residual-in_err-skip_comment.result _ c.from_residual-in_err-skip_comment.ensures.1 _
+    c.pass-2.new.self _ _ _ _ _ _ _ _
+    (TakesBytes-pass again.kept.taken (TakesBytes-from passed.kept.taken seen.took))
+    (omega (arith, passed.forward, seen.forward, again.forward)) seen.count c.in_err-skip_comment.ensures.kept

@@ -17,51 +17,87 @@ use Rattle.tokens.proofs.lexer.Lexer.token.Goals as goal
 pub returns-then-is_letter-clause-tokens : goal.returns-then-is_letter-clause-tokens
 returns-then-is_letter-clause-tokens g c =
     let b = c.args.first in
-    let begins = to_read-pass (in_name (b ∷ []) false) located_tokens _ _ (g.F.Feed.to_come c.args.feed.now) (Some b) b c.pass.ensures.value (sym c.requires.begins.first) refl (name-begins b c.requires.begins.no_blank (sym c.if-is_letter.ensures)) in
+    let begins =
+    to_read-pass (in_name (b ∷ []) false) located_tokens _ _ (g.F.Feed.to_come c.args.feed.now) (Some b) b
+    c.pass.ensures.value (sym c.requires.begins.first) refl
+    (name-begins b c.requires.begins.no_blank (sym c.if-is_letter.ensures)) in
     on_ok_weaker c.name.result (λ h. h ∙ begins) c.name.ensures.tokens
 
 pub returns-then-is_digit-clause-tokens : goal.returns-then-is_digit-clause-tokens
 returns-then-is_digit-clause-tokens g c =
     let b = c.args.first in
-    let begins = to_read-pass (in_constant (b - 48)) located_tokens _ _ (g.F.Feed.to_come c.args.feed.now) (Some b) b c.pass.ensures.value (sym c.requires.begins.first) refl (constant-begins b c.requires.begins.no_blank (sym c.if-is_letter.ensures) (sym c.if-is_digit.ensures)) in
+    let begins =
+    to_read-pass (in_constant (b - 48)) located_tokens _ _ (g.F.Feed.to_come c.args.feed.now) (Some b) b
+    c.pass.ensures.value (sym c.requires.begins.first) refl
+    (constant-begins b c.requires.begins.no_blank (sym c.if-is_letter.ensures) (sym c.if-is_digit.ensures)) in
     on_ok_weaker c.constant.result (λ h. h ∙ begins) c.constant.ensures.tokens
 
 pub returns-else-ends_before-clause-tokens : goal.returns-else-ends_before-clause-tokens
 returns-else-ends_before-clause-tokens g c =
     let b = c.args.first in
-    let begins = to_read-pass (in_punctuator c.in-Some-of_byte.punctuator) located_tokens _ _ (g.F.Feed.to_come c.args.feed.now) (Some b) b c.pass.ensures.value (sym c.requires.begins.first) refl (other-begins c.in-Some-of_byte.punctuator b c.requires.begins.no_blank (sym c.if-is_letter.ensures) (sym c.if-is_digit.ensures) c.requires.begins.no_slash (sym c.in-Some-of_byte.ensures)) in
+    let begins =
+    to_read-pass (in_punctuator c.in-Some-of_byte.punctuator) located_tokens _ _ (g.F.Feed.to_come c.args.feed.now)
+    (Some b) b c.pass.ensures.value (sym c.requires.begins.first) refl
+    (other-begins c.in-Some-of_byte.punctuator b c.requires.begins.no_blank (sym c.if-is_letter.ensures)
+    (sym c.if-is_digit.ensures) c.requires.begins.no_slash (sym c.in-Some-of_byte.ensures)) in
     on_ok_weaker c.punctuator.result (λ h. h ∙ begins) c.punctuator.ensures.tokens
 
 pub returns-then-ends_before-clause-tokens : goal.returns-then-ends_before-clause-tokens
 returns-then-ends_before-clause-tokens g c =
     let b = c.args.first in
-    punctuator-ends_before c.in-Some-of_byte.punctuator c.ending-then-ends_before.result c.pass.new.self _ _ c.first.ensures.value (c.ends_before.ensures c.if-ends_before.true) (λ _. c.ending-then-ends_before.ensures)
-    ∙ to_read-pass (in_punctuator c.in-Some-of_byte.punctuator) located_tokens _ _ (g.F.Feed.to_come c.args.feed.now) (Some b) b c.pass.ensures.value (sym c.requires.begins.first) refl (other-begins c.in-Some-of_byte.punctuator b c.requires.begins.no_blank (sym c.if-is_letter.ensures) (sym c.if-is_digit.ensures) c.requires.begins.no_slash (sym c.in-Some-of_byte.ensures))
+    punctuator-ends_before c.in-Some-of_byte.punctuator c.ending-then-ends_before.result c.pass.new.self _ _
+    c.first.ensures.value (c.ends_before.ensures c.if-ends_before.true) (λ _. c.ending-then-ends_before.ensures)
+    ∙
+    to_read-pass (in_punctuator c.in-Some-of_byte.punctuator) located_tokens _ _ (g.F.Feed.to_come c.args.feed.now)
+    (Some b) b c.pass.ensures.value (sym c.requires.begins.first) refl
+    (other-begins c.in-Some-of_byte.punctuator b c.requires.begins.no_blank (sym c.if-is_letter.ensures)
+    (sym c.if-is_digit.ensures) c.requires.begins.no_slash (sym c.in-Some-of_byte.ensures))
 
 pub returns-in_default-of_byte-clause-tokens : goal.returns-in_default-of_byte-clause-tokens
 returns-in_default-of_byte-clause-tokens g c =
     let b = c.args.first in
     let bad : Ahead → List LocatedToken = λ a. followed (ending (variant.Fault BadCharacter) a) a in
-    to_read-here (followed c.ending-in_default-of_byte.result) bad c.pass.new.self _ (λ to_come. ap (λ x. followed x (ahead c.pass.new.self to_come)) c.ending-in_default-of_byte.ensures)
-    ∙ to_read-pass bad located_tokens _ _ (g.F.Feed.to_come c.args.feed.now) (Some b) b c.pass.ensures.value (sym c.requires.begins.first) refl (bad-begins b c.requires.begins.no_blank (sym c.if-is_letter.ensures) (sym c.if-is_digit.ensures) c.requires.begins.no_slash (sym c.in_default-of_byte.ensures))
+    to_read-here (followed c.ending-in_default-of_byte.result) bad c.pass.new.self _
+    (λ to_come. ap (λ x. followed x (ahead c.pass.new.self to_come)) c.ending-in_default-of_byte.ensures)
+    ∙
+    to_read-pass bad located_tokens _ _ (g.F.Feed.to_come c.args.feed.now) (Some b) b c.pass.ensures.value
+    (sym c.requires.begins.first) refl
+    (bad-begins b c.requires.begins.no_blank (sym c.if-is_letter.ensures) (sym c.if-is_digit.ensures)
+    c.requires.begins.no_slash (sym c.in_default-of_byte.ensures))
 
 pub returns-then-is_letter-clause-stopped : goal.returns-then-is_letter-clause-stopped
 returns-then-is_letter-clause-stopped g c =
     let b = c.args.first in
-    let begins = to_read-pass (in_name (b ∷ []) false) located_tokens _ _ (g.F.Feed.to_come c.args.feed.now) (Some b) b c.pass.ensures.value (sym c.requires.begins.first) refl (name-begins b c.requires.begins.no_blank (sym c.if-is_letter.ensures)) in
-    on_err_weaker c.name.result (fails-from (in_name (b ∷ []) false) located_tokens _ _ c.name.new.self.window _ _ begins refl) c.name.ensures.stopped
+    let begins =
+    to_read-pass (in_name (b ∷ []) false) located_tokens _ _ (g.F.Feed.to_come c.args.feed.now) (Some b) b
+    c.pass.ensures.value (sym c.requires.begins.first) refl
+    (name-begins b c.requires.begins.no_blank (sym c.if-is_letter.ensures)) in
+    on_err_weaker c.name.result
+    (fails-from (in_name (b ∷ []) false) located_tokens _ _ c.name.new.self.window _ _ begins refl)
+    c.name.ensures.stopped
 
 pub returns-then-is_digit-clause-stopped : goal.returns-then-is_digit-clause-stopped
 returns-then-is_digit-clause-stopped g c =
     let b = c.args.first in
-    let begins = to_read-pass (in_constant (b - 48)) located_tokens _ _ (g.F.Feed.to_come c.args.feed.now) (Some b) b c.pass.ensures.value (sym c.requires.begins.first) refl (constant-begins b c.requires.begins.no_blank (sym c.if-is_letter.ensures) (sym c.if-is_digit.ensures)) in
-    on_err_weaker c.constant.result (fails-from (in_constant (b - 48)) located_tokens _ _ c.constant.new.self.window _ _ begins refl) c.constant.ensures.stopped
+    let begins =
+    to_read-pass (in_constant (b - 48)) located_tokens _ _ (g.F.Feed.to_come c.args.feed.now) (Some b) b
+    c.pass.ensures.value (sym c.requires.begins.first) refl
+    (constant-begins b c.requires.begins.no_blank (sym c.if-is_letter.ensures) (sym c.if-is_digit.ensures)) in
+    on_err_weaker c.constant.result
+    (fails-from (in_constant (b - 48)) located_tokens _ _ c.constant.new.self.window _ _ begins refl)
+    c.constant.ensures.stopped
 
 pub returns-else-ends_before-clause-stopped : goal.returns-else-ends_before-clause-stopped
 returns-else-ends_before-clause-stopped g c =
     let b = c.args.first in
-    let begins = to_read-pass (in_punctuator c.in-Some-of_byte.punctuator) located_tokens _ _ (g.F.Feed.to_come c.args.feed.now) (Some b) b c.pass.ensures.value (sym c.requires.begins.first) refl (other-begins c.in-Some-of_byte.punctuator b c.requires.begins.no_blank (sym c.if-is_letter.ensures) (sym c.if-is_digit.ensures) c.requires.begins.no_slash (sym c.in-Some-of_byte.ensures)) in
-    on_err_weaker c.punctuator.result (fails-from (in_punctuator c.in-Some-of_byte.punctuator) located_tokens _ _ c.punctuator.new.self.window _ _ begins refl) c.punctuator.ensures.stopped
+    let begins =
+    to_read-pass (in_punctuator c.in-Some-of_byte.punctuator) located_tokens _ _ (g.F.Feed.to_come c.args.feed.now)
+    (Some b) b c.pass.ensures.value (sym c.requires.begins.first) refl
+    (other-begins c.in-Some-of_byte.punctuator b c.requires.begins.no_blank (sym c.if-is_letter.ensures)
+    (sym c.if-is_digit.ensures) c.requires.begins.no_slash (sym c.in-Some-of_byte.ensures)) in
+    on_err_weaker c.punctuator.result
+    (fails-from (in_punctuator c.in-Some-of_byte.punctuator) located_tokens _ _ c.punctuator.new.self.window _ _
+    begins refl) c.punctuator.ensures.stopped
 
 pub returns-in-Some-clause-tokens : goal.returns-in-Some-clause-tokens
 returns-in-Some-clause-tokens g c =
@@ -69,4 +105,8 @@ returns-in-Some-clause-tokens g c =
     let punctuator = c.in-Some.punctuator in
     let whole = c.in-Some.ensures in
     punctuator-whole punctuator c.ending.result c.pass.new.self _ whole.ends (λ _. c.ending.ensures)
-    ∙ to_read-pass (in_punctuator punctuator) located_tokens _ _ (g.F.Feed.to_come c.args.feed.now) (Some b) b c.pass.ensures.value (sym c.requires.begins.first) refl (other-begins punctuator b c.requires.begins.no_blank (sym c.if-is_letter.ensures) (no-digit b punctuator c.ranges.first.fits whole.is) c.requires.begins.no_slash whole.is)
+    ∙
+    to_read-pass (in_punctuator punctuator) located_tokens _ _ (g.F.Feed.to_come c.args.feed.now) (Some b) b
+    c.pass.ensures.value (sym c.requires.begins.first) refl
+    (other-begins punctuator b c.requires.begins.no_blank (sym c.if-is_letter.ensures)
+    (no-digit b punctuator c.ranges.first.fits whole.is) c.requires.begins.no_slash whole.is)

@@ -15,4 +15,5 @@ returns-clause-bits c =
     let v = c.args.block in
     let long = c.fits-block.0 in
     bits_are (λ b. not (is_blank b)) _ v long c.fits-block.1
-    (zip2_of_maps _ (λ x. x) (λ x. get_or (take 16 BLANKS) (bit_and x 15) 0) v (sym (map-id v)) (looked_up BLANKS (take 16 BLANKS) v long refl)) refl
+    (zip2_of_maps _ (λ x. x) (λ x. get_or (take 16 BLANKS) (bit_and x 15) 0) v (sym (map-id v))
+    (looked_up BLANKS (take 16 BLANKS) v long refl)) refl

@@ -19,4 +19,7 @@ pub returns-clause-value : goal.returns-clause-value
 returns-clause-value c =
     let s = c.self.inside in
     let e = c.run_before-count.ensures in
-    rw (← c.self.view_is) (run-passed is_blank s.line s.start s.taken s.next s.filled c.run_before-count.result.0 c.run_before-count.result.1 s.beyond s.bytes (e.count ∙ turned_twice is_blank (between s.next s.filled s.bytes)) e.lines)
+    rw (← c.self.view_is)
+    (run-passed is_blank s.line s.start s.taken s.next s.filled c.run_before-count.result.0
+    c.run_before-count.result.1 s.beyond s.bytes
+    (e.count ∙ turned_twice is_blank (between s.next s.filled s.bytes)) e.lines)

@@ -6,4 +6,6 @@ pub returns-clause-value : goal.returns-clause-value
 returns-clause-value c =
     let s = c.self.inside in
     let e = c.run_before-count.ensures in
-    rw (← c.self.view_is) (run-passed (λ b. not (eqb b 42)) s.line s.start s.taken s.next s.filled c.run_before-count.result.0 c.run_before-count.result.1 s.beyond s.bytes e.count e.lines)
+    rw (← c.self.view_is)
+    (run-passed (λ b. not (eqb b 42)) s.line s.start s.taken s.next s.filled c.run_before-count.result.0
+    c.run_before-count.result.1 s.beyond s.bytes e.count e.lines)

@@ -5,4 +5,5 @@ use Rattle.trees.proofs.maker.TreeMaker.replay.Given as goal
 
 abbrev pub invariant-loop-function : goal.invariant-loop-function
 invariant-loop-function g l =
-    AppendsAll (g.B.Build.stands l.fn.build) (g.B.Build.stands l.build) (made_actions (take l.function-index l.self.functions))
+    AppendsAll (g.B.Build.stands l.fn.build) (g.B.Build.stands l.build)
+    (made_actions (take l.function-index l.self.functions))

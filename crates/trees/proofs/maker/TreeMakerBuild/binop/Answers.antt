@@ -7,17 +7,41 @@ use Rattle.trees.proofs.maker.TreeMakerBuild.binop.Goals as goal
 pub returns-then-passes-clause-ok : goal.returns-then-passes-clause-ok
 returns-then-passes-clause-ok c =
     let counted = c.passes.ensures in
-    stopped c.args.self.now c.passes.new.self (ApplyBinop c.args.op) c.passes.result counted.profile (counted.code ∙ (ap (λ (n : ℕ). min (c.args.self.now.code + n) 65535) (c.end_length-instructions.ensures ∙ ap (λ (k : Kept). instructions k.profile (ApplyBinop c.args.op)) c.self.view_is))) counted.passes c.if-passes.true refl c.requires.follows
+    stopped c.args.self.now c.passes.new.self (ApplyBinop c.args.op) c.passes.result counted.profile
+    (counted.code ∙
+    (ap (λ (n : ℕ). min (c.args.self.now.code + n) 65535)
+    (c.end_length-instructions.ensures ∙
+    ap (λ (k : Kept). instructions k.profile (ApplyBinop c.args.op)) c.self.view_is))) counted.passes
+    c.if-passes.true refl c.requires.follows
 
 pub binop-requires : goal.binop-requires
 binop-requires c =
     let counted = c.passes.ensures in
     rw (ap (λ (k : Kept). k.stack) c.self-2.view_is)
-    (may_go_on c.args.self.now c.passes.new.self (ApplyBinop c.args.op) c.passes.result counted.stack (counted.code ∙ (ap (λ (n : ℕ). min (c.args.self.now.code + n) 65535) (c.end_length-instructions.ensures ∙ ap (λ (k : Kept). instructions k.profile (ApplyBinop c.args.op)) c.self.view_is))) counted.passes c.if-passes.false c.requires.follows)
+    (may_go_on c.args.self.now c.passes.new.self (ApplyBinop c.args.op) c.passes.result counted.stack
+    (counted.code ∙
+    (ap (λ (n : ℕ). min (c.args.self.now.code + n) 65535)
+    (c.end_length-instructions.ensures ∙
+    ap (λ (k : Kept). instructions k.profile (ApplyBinop c.args.op)) c.self.view_is))) counted.passes
+    c.if-passes.false c.requires.follows)
 
 pub returns-clause-ok : goal.returns-clause-ok
 returns-clause-ok c =
     let counted = c.passes.ensures in
-    let inside : Kept = record { profile = c.self-2.inside.profile; functions = c.self-2.inside.functions.items; stack = c.self-2.inside.stack; code = c.self-2.inside.code } in
-    went_on c.args.self.now inside c.binop.new.self (ApplyBinop c.args.op) c.passes.result c.binop.result (ap (λ (k : Kept). k.profile) c.self-2.view_is ∙ counted.profile) (ap (λ (k : Kept). k.functions) c.self-2.view_is ∙ counted.functions) (ap (λ (k : Kept). k.stack) c.self-2.view_is ∙ counted.stack) (ap (λ (k : Kept). k.code) c.self-2.view_is ∙ counted.code ∙ (ap (λ (n : ℕ). min (c.args.self.now.code + n) 65535) (c.end_length-instructions.ensures ∙ ap (λ (k : Kept). instructions k.profile (ApplyBinop c.args.op)) c.self.view_is)))
-    (rw (ap (λ (k : Kept). k.code) c.self-2.view_is) counted.passes) c.if-passes.false c.requires.follows c.binop.ensures.ok
+    let inside : Kept =
+    record {
+      profile = c.self-2.inside.profile;
+      functions = c.self-2.inside.functions.items;
+      stack = c.self-2.inside.stack;
+      code = c.self-2.inside.code;
+    } in
+    went_on c.args.self.now inside c.binop.new.self (ApplyBinop c.args.op) c.passes.result c.binop.result
+    (ap (λ (k : Kept). k.profile) c.self-2.view_is ∙ counted.profile)
+    (ap (λ (k : Kept). k.functions) c.self-2.view_is ∙ counted.functions)
+    (ap (λ (k : Kept). k.stack) c.self-2.view_is ∙ counted.stack)
+    (ap (λ (k : Kept). k.code) c.self-2.view_is ∙ counted.code ∙
+    (ap (λ (n : ℕ). min (c.args.self.now.code + n) 65535)
+    (c.end_length-instructions.ensures ∙
+    ap (λ (k : Kept). instructions k.profile (ApplyBinop c.args.op)) c.self.view_is)))
+    (rw (ap (λ (k : Kept). k.code) c.self-2.view_is) counted.passes) c.if-passes.false c.requires.follows
+    c.binop.ensures.ok

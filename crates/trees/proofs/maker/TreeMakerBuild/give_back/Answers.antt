@@ -7,17 +7,30 @@ use Rattle.trees.proofs.maker.TreeMakerBuild.give_back.Goals as goal
 pub returns-then-passes-clause-ok : goal.returns-then-passes-clause-ok
 returns-then-passes-clause-ok c =
     let counted = c.passes.ensures in
-    stopped c.args.self.now c.passes.new.self GiveBack c.passes.result counted.profile counted.code counted.passes c.if-passes.true refl c.requires.follows
+    stopped c.args.self.now c.passes.new.self GiveBack c.passes.result counted.profile counted.code counted.passes
+    c.if-passes.true refl c.requires.follows
 
 pub give_back-requires : goal.give_back-requires
 give_back-requires c =
     let counted = c.passes.ensures in
     rw (ap (λ (k : Kept). k.stack) c.self.view_is)
-    (may_go_on c.args.self.now c.passes.new.self GiveBack c.passes.result counted.stack counted.code counted.passes c.if-passes.false c.requires.follows)
+    (may_go_on c.args.self.now c.passes.new.self GiveBack c.passes.result counted.stack counted.code counted.passes
+    c.if-passes.false c.requires.follows)
 
 pub returns-clause-ok : goal.returns-clause-ok
 returns-clause-ok c =
     let counted = c.passes.ensures in
-    let inside : Kept = record { profile = c.self.inside.profile; functions = c.self.inside.functions.items; stack = c.self.inside.stack; code = c.self.inside.code } in
-    went_on c.args.self.now inside c.give_back.new.self GiveBack c.passes.result c.give_back.result (ap (λ (k : Kept). k.profile) c.self.view_is ∙ counted.profile) (ap (λ (k : Kept). k.functions) c.self.view_is ∙ counted.functions) (ap (λ (k : Kept). k.stack) c.self.view_is ∙ counted.stack) (ap (λ (k : Kept). k.code) c.self.view_is ∙ counted.code)
-    (rw (ap (λ (k : Kept). k.code) c.self.view_is) counted.passes) c.if-passes.false c.requires.follows c.give_back.ensures.ok
+    let inside : Kept =
+    record {
+      profile = c.self.inside.profile;
+      functions = c.self.inside.functions.items;
+      stack = c.self.inside.stack;
+      code = c.self.inside.code;
+    } in
+    went_on c.args.self.now inside c.give_back.new.self GiveBack c.passes.result c.give_back.result
+    (ap (λ (k : Kept). k.profile) c.self.view_is ∙ counted.profile)
+    (ap (λ (k : Kept). k.functions) c.self.view_is ∙ counted.functions)
+    (ap (λ (k : Kept). k.stack) c.self.view_is ∙ counted.stack)
+    (ap (λ (k : Kept). k.code) c.self.view_is ∙ counted.code)
+    (rw (ap (λ (k : Kept). k.code) c.self.view_is) counted.passes) c.if-passes.false c.requires.follows
+    c.give_back.ensures.ok

@@ -8,7 +8,8 @@ use Rattle.trees.proofs.stack.Stack.binop.Goals as goal
 
 pub left_side-left-requires : goal.left_side-left-requires
 left_side-left-requires c =
-    left_allowed c.args.op c.value-right.result c.value-right.new.self (subst (λ xs. IsAllowed (ApplyBinop c.args.op) xs) c.value-right.ensures c.requires)
+    left_allowed c.args.op c.value-right.result c.value-right.new.self
+    (subst (λ xs. IsAllowed (ApplyBinop c.args.op) xs) c.value-right.ensures c.requires)
 
 pub returns-clause-ok : goal.returns-clause-ok
 returns-clause-ok c =
@@ -20,5 +21,6 @@ returns-clause-ok c =
     rw was
     (on_ok_weaker c.push.result
     (λ is. subst (λ ys. Continues (ApplyBinop op) (Value c.value-right.result ∷ c.value-right.new.self) ys) (sym is)
-    (binop_continues op c.value-right.result c.left_side-left.result c.in_ok-left.left c.in_ok-right.right c.value-right.new.self c.left_side-left.new.self allowed c.left_side-left.ensures left.ok right.ok))
+    (binop_continues op c.value-right.result c.left_side-left.result c.in_ok-left.left c.in_ok-right.right
+    c.value-right.new.self c.left_side-left.new.self allowed c.left_side-left.ensures left.ok right.ok))
     c.push.ensures.ok)

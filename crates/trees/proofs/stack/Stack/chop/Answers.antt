@@ -9,7 +9,8 @@ use Rattle.trees.proofs.stack.Stack.chop.Goals as goal
 
 pub returns-then-not-ends_in_value-clause-ok : goal.returns-then-not-ends_in_value-clause-ok
 returns-then-not-ends_in_value-clause-ok c =
-    rw c.value-value.ensures (on_ok_weaker c.add.result (alone_continues c.value-value.result c.value-value.new.self _) c.add.ensures.ok)
+    rw c.value-value.ensures
+    (on_ok_weaker c.add.result (alone_continues c.value-value.result c.value-value.new.self _) c.add.ensures.ok)
 
 pub returns-clause-ok : goal.returns-clause-ok
 returns-clause-ok c =
@@ -20,6 +21,7 @@ returns-clause-ok c =
     let was = c.value-value.ensures ∙ ap (λ e. Value e ∷ xs) c.in-Assign.is in
     rw was
     (on_ok_weaker c.push.result
-    (λ is. subst (λ ys. Continues Chop (Value step ∷ xs) ys) (sym (is ∙ ap (λ ys. Value (Postfix op v) ∷ ys) c.leave.ensures))
+    (λ is. subst (λ ys. Continues Chop (Value step ∷ xs) ys)
+    (sym (is ∙ ap (λ ys. Value (Postfix op v) ∷ ys) c.leave.ensures))
     (postfix_continues op v c.in-Assign.field-2 xs (cc) (subst (λ ys. IsAllowed Chop ys) was c.requires)))
     c.push.ensures.ok)

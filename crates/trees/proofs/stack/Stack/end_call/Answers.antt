@@ -12,6 +12,7 @@ returns-clause-ok c =
     let made = c.in_ok-arguments.ensures in
     let call = Value (Call c.args.callee c.in_ok-arguments.arguments) in
     on_ok_weaker c.push.result
-    (λ is. subst (λ ys. Continues (EndCall c.args.callee) c.args.self.now ys) (sym (is ∙ ap (λ ys. call ∷ ys) made.below))
+    (λ is. subst (λ ys. Continues (EndCall c.args.callee) c.args.self.now ys)
+    (sym (is ∙ ap (λ ys. call ∷ ys) made.below))
     (call_continues c.args.callee c.in_ok-arguments.arguments c.args.self.now made.arguments c.requires))
     c.push.ensures.ok

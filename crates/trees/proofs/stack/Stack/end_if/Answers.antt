@@ -4,9 +4,14 @@ use Rattle.trees.proofs.stack.Stack.end_if.Goals as goal
 
 pub returns-in-First-clause-ok : goal.returns-in-First-clause-ok
 returns-in-First-clause-ok c =
-    rw c.body-heading.ensures (on_ok_weaker c.add.result (when_continues c.body-heading.result c.in-First.condition c.body-heading.new.self _ c.in-First.is) c.add.ensures.ok)
+    rw c.body-heading.ensures
+    (on_ok_weaker c.add.result
+    (when_continues c.body-heading.result c.in-First.condition c.body-heading.new.self _ c.in-First.is)
+    c.add.ensures.ok)
 
 pub returns-in-Second-clause-ok : goal.returns-in-Second-clause-ok
 returns-in-Second-clause-ok c =
     rw c.body-heading.ensures
-    (on_ok_weaker c.add-in-Second.result (choose_continues c.body-heading.result c.in-Second.condition c.in-Second.first c.body-heading.new.self _ c.in-Second.is) c.add-in-Second.ensures.ok)
+    (on_ok_weaker c.add-in-Second.result
+    (choose_continues c.body-heading.result c.in-Second.condition c.in-Second.first c.body-heading.new.self _
+    c.in-Second.is) c.add-in-Second.ensures.ok)

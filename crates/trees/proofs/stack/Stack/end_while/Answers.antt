@@ -4,4 +4,7 @@ use Rattle.trees.proofs.stack.Stack.end_while.Goals as goal
 
 pub returns-clause-ok : goal.returns-clause-ok
 returns-clause-ok c =
-    rw c.body-heading.ensures (on_ok_weaker c.add.result (while_continues c.body-heading.result c.in-Loop.condition c.body-heading.new.self _ c.in-Loop.is) c.add.ensures.ok)
+    rw c.body-heading.ensures
+    (on_ok_weaker c.add.result
+    (while_continues c.body-heading.result c.in-Loop.condition c.body-heading.new.self _ c.in-Loop.is)
+    c.add.ensures.ok)

@@ -1,0 +1,98 @@
+//! The turns of a window, which are numbered in the order of the cycles and the robots: which one of each robot is next.
+
+ghost use Rattle.std.specs.Prelude.{◌≡◌, ℕ, ◌+◌, ◌*◌, ◌%◌, ◌<◌, ◌≤◌, ◌^◌, true, slice_index_or, slice_set};
+ghost use Rattle.battles.specs.Windows.{AreTurnNumbers, OthersArePast};
+
+use settings::FILES_MAX;
+use std::marker::Model;
+
+/// How many numbers the turns of one cycle have. Robots that aren't there have one each too.
+pub(crate) const CYCLE_TURNS: u32 = FILES_MAX as u32;
+
+/// The number of each robot's next turn. That of robot `r` in cycle `c` has the number `CYCLE_TURNS * c + r`.
+#[derive(Drop)]
+pub(crate) struct NextTurns {
+    next: [u32; FILES_MAX],
+}
+
+impl Model for NextTurns {
+    ghost use Rattle.std.specs.Prelude.{ℕ, List};
+    ghost use Rattle.battles.specs.Windows.{AreTurnNumbers};
+
+    ghost Value = { List ℕ };
+
+    ghost view = { λ s. s.next };
+
+    ghost invariant = { λ s. AreTurnNumbers s.next };
+}
+
+impl NextTurns {
+    /// Makes the first turns of so many robots in a window of so many cycles. Robots that aren't there have no turn in
+    /// it.
+    #[inline(always)]
+    pub(crate) fn new(robots: usize, cycles: u32) -> NextTurns
+        requires { cycles ≤ 1000 }
+        ensures turn_numbers { AreTurnNumbers result }
+        ensures first { (i : ℕ) → i < robots → i < 4 → slice_index_or result i 0 ≡ i }
+        ensures past { (i : ℕ) → robots ≤ i → i < 4 → CYCLE_TURNS * cycles ≤ slice_index_or result i 0 }
+    {
+        NextTurns {
+            next: [
+                first_of(0, robots, cycles),
+                first_of(1, robots, cycles),
+                first_of(2, robots, cycles),
+                first_of(3, robots, cycles),
+            ],
+        }
+    }
+
+    /// Returns the least of the numbers: that of the turn that is next.
+    #[inline(always)]
+    pub(crate) fn first(&self) -> u32
+        ensures least { (i : ℕ) → i < 4 → result ≤ slice_index_or self.now i 0 }
+        ensures turn_numbers { AreTurnNumbers self.now }
+        ensures own { slice_index_or self.now (result % CYCLE_TURNS) 0 ≡ result }
+    {
+        let low = self.next[0].min(self.next[1]);
+        let high = self.next[2].min(self.next[3]);
+        low.min(high)
+    }
+
+    /// Reports whether all robots but this one are past the turns before that of a number.
+    #[inline(always)]
+    pub(crate) fn others_are_past(&self, robot: usize, end: u32) -> bool
+        requires { robot < 4 }
+        ensures { result ≡ true → OthersArePast end robot self.now }
+    {
+        (robot == 0 || end <= self.next[0])
+            && (robot == 1 || end <= self.next[1])
+            && (robot == 2 || end <= self.next[2])
+            && (robot == 3 || end <= self.next[3])
+    }
+
+    /// Lets a robot go on by so many cycles.
+    #[inline(always)]
+    pub(crate) fn pass(&mut self, robot: usize, cycles: u32)
+        requires inside { robot < 4 }
+        requires small { slice_index_or self.old robot 0 + CYCLE_TURNS * cycles < 2 ^ 32 }
+        ensures { self.new ≡ slice_set self.old robot (slice_index_or self.old robot 0 + CYCLE_TURNS * cycles) }
+    {
+        self.next[robot] += CYCLE_TURNS * cycles;
+    }
+}
+
+/// Returns the number of a robot's first turn.
+#[inline(always)]
+fn first_of(robot: u8, robots: usize, cycles: u32) -> u32
+    requires small { cycles ≤ 1000 }
+    requires inside { robot < 4 }
+    ensures own { result % CYCLE_TURNS ≡ robot }
+    ensures first { robot < robots → result ≡ robot }
+    ensures past { robots ≤ robot → CYCLE_TURNS * cycles ≤ result }
+{
+    if usize::from(robot) < robots {
+        u32::from(robot)
+    } else {
+        CYCLE_TURNS * cycles + u32::from(robot)
+    }
+}

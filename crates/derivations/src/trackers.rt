@@ -1,0 +1,152 @@
+//! Trackers: the derivation of a source token by token, in memory of fixed size.
+
+use crate::addresses::{MOST_PLACES, Place};
+use crate::emissions::{Emission, Origin};
+use crate::locations::Located;
+use crate::scheme::emitted;
+use crate::steps::{Move, decided};
+use crate::symbols::{Item, Production, Symbol};
+use arrayvec::ArrayVec;
+use grammar::Profile;
+
+/// The most items that are pending. A source that compiles has fewer: each of its 64 levels has at most 30, three for each
+/// level of operators.
+pub(crate) const MOST_PENDING: usize = 2048;
+
+/// An item that is still to be matched or done, and the places of the token at which its production was chosen and of the
+/// one after that.
+#[derive(Clone, Copy, Default)]
+struct Pending {
+    item: Item,
+    chosen: Place,
+    after_chosen: Place,
+}
+
+/// Follows the derivation of a source, and keeps the place of each instruction that it makes.
+#[derive(Drop)]
+pub(crate) struct Tracker {
+    profile: Profile,
+    stack: ArrayVec<Pending, MOST_PENDING>,
+    passed: Place,
+    places: ArrayVec<Place, MOST_PLACES>,
+}
+
+impl Tracker {
+    /// Starts the derivation of a file.
+    pub(crate) fn start(profile: Profile) -> Tracker {
+        let mut stack = ArrayVec::new();
+        let _ = stack.try_push(Pending {
+            item: Item::Part(Symbol::Source),
+            chosen: Place::default(),
+            after_chosen: Place::default(),
+        });
+        Tracker {
+            profile,
+            stack,
+            passed: Place::default(),
+            places: ArrayVec::new(),
+        }
+    }
+
+    /// Returns the places of the instructions so far.
+    pub(crate) fn into_places(self) -> ArrayVec<Place, MOST_PLACES> {
+        self.places
+    }
+
+    /// Does all steps up to the one that passes the next token. Answers whether that token fits, and there is room.
+    pub(crate) fn pass(&mut self, next: &Located, after: &Located) -> bool {
+        for _ in 0..u64::MAX {
+            let Some(front) = self.stack.last().copied() else {
+                return false;
+            };
+            if !self.emit(&front, next) {
+                return false;
+            }
+            match decided(front.item, &next.token, &after.token) {
+                Move::Misfit => return false,
+                Move::Replace(production) => {
+                    if !self.replace(&production, place_of(next), place_of(after)) {
+                        return false;
+                    }
+                }
+                Move::Pass(tokens) => {
+                    let _ = self.stack.pop();
+                    if tokens > 0 {
+                        self.passed = place_of(next);
+                        return true;
+                    }
+                }
+            }
+        }
+        false
+    }
+
+    /// Keeps the places of the instructions that the next step makes. Answers whether there was room.
+    fn emit(&mut self, front: &Pending, next: &Located) -> bool {
+        let emission = emitted(front.item, &next.token, self.behind());
+        let place = self.origin(&emission, front, place_of(next));
+        for action in emission.actions() {
+            if !self.keep(action.instructions(self.profile), place) {
+                return false;
+            }
+        }
+        true
+    }
+
+    /// Returns the two items after the one in front.
+    fn behind(&self) -> [Option<Item>; 2] {
+        let mut items = self
+            .stack
+            .as_slice()
+            .iter()
+            .rev()
+            .skip(1)
+            .map(|pending| pending.item);
+        let first = items.next();
+        [first, items.next()]
+    }
+
+    /// Returns the place that an emission of the item in front comes from.
+    fn origin(&self, emission: &Emission, front: &Pending, next: Place) -> Place {
+        match emission.origin() {
+            Origin::Chosen => front.chosen,
+            Origin::AfterChosen => front.after_chosen,
+            Origin::Passed => self.passed,
+            Origin::Next => next,
+        }
+    }
+
+    /// Keeps the place of so many instructions. Answers whether there was room.
+    fn keep(&mut self, count: usize, place: Place) -> bool {
+        for _ in 0..count {
+            if self.places.try_push(place).is_err() {
+                return false;
+            }
+        }
+        true
+    }
+
+    /// Replaces the item in front by a production. Answers whether there was room.
+    fn replace(&mut self, production: &Production, chosen: Place, after_chosen: Place) -> bool {
+        let _ = self.stack.pop();
+        for item in production.items().iter().rev() {
+            let pending = Pending {
+                item: *item,
+                chosen,
+                after_chosen,
+            };
+            if self.stack.try_push(pending).is_err() {
+                return false;
+            }
+        }
+        true
+    }
+}
+
+/// Returns where a token begins.
+pub(crate) fn place_of(token: &Located) -> Place {
+    Place {
+        line: token.line,
+        column: token.column,
+    }
+}

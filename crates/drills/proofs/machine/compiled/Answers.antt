@@ -1,0 +1,15 @@
+use Rattle.std.proofs.Common.{rules, Some}
+use Rattle.code.specs.Told.{Stands}
+use Rattle.parser.specs.Files.{IsFile}
+use Rattle.drills.proofs.machine.compiled.Goals as goal
+
+pub finish-requires : goal.finish-requires
+finish-requires c =
+    let f : IsFile (λ p acts. Stands c.new-maker.result p acts) (λ p acts. Stands c.parse.new.build p acts)
+    (Some c.new.result.to_come) c.in_ok-names.names =
+    search rules in
+    record {
+      profile = _;
+      file = f.file;
+      told = record { resolved = f.resolved; stands = f.built _ c.new-maker.ensures; named = f.named; main = f.main };
+    }

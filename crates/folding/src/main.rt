@@ -1,0 +1,54 @@
+//! An example of the library: lists the code of a robot with each operator on constants worked out.
+#![tactic(auto)]
+
+mod folder;
+mod folds;
+mod listing;
+#[cfg(test)]
+mod tests;
+
+use crate::folder::Folder;
+use crate::folds::Folds;
+use crate::listing::folded;
+use code::{Maker, Profile, Program};
+use grammar::{Diagnostic, ParseFault};
+use parser::parse;
+use std::io::{ErrorKind, Write};
+use std::{env, fs, io};
+use tokens::{DeviceFault, Pieces, WINDOW};
+use tools::{Compiled, compile};
+
+fn main(rt: HostRuntime) -> io::Result<()> {
+    let Some(word) = env::args(&rt)?.nth(1) else {
+        return Err(ErrorKind::InvalidInput.into());
+    };
+    let source = fs::read(&rt, word.as_str())?;
+    match compiled(source.as_slice(), Profile::first()) {
+        Ok((program, folds)) => {
+            let Ok(text) = folded(rt.alloc(), program.instructions(), &folds) else {
+                return Err(ErrorKind::OutOfMemory.into());
+            };
+            rt.stdout().write_all(text.as_bytes())
+        }
+        Err(ParseFault::Source(Diagnostic { line, code })) => {
+            println!(rt; "line {line}: {}", code.text())
+        }
+        Err(_) => Err(ErrorKind::OutOfMemory.into()),
+    }
+}
+
+/// Compiles a source by a profile, and finds what can be folded in its code.
+fn compiled(source: &[u8], profile: Profile) -> Result<(Program, Folds), ParseFault> {
+    match compile(profile, &mut Pieces::new(source, WINDOW)) {
+        Ok(Ok(Compiled { program, .. })) => Ok((program, folds_of(source, profile)?)),
+        Ok(Err(diagnostic)) => Err(ParseFault::Source(diagnostic)),
+        Err(DeviceFault) => Err(ParseFault::Device),
+    }
+}
+
+/// Finds what can be folded in the code of a source.
+fn folds_of(source: &[u8], profile: Profile) -> Result<Folds, ParseFault> {
+    let mut folder = Folder::around(Maker::new(profile), profile);
+    let _ = parse(&mut Pieces::new(source, WINDOW), &mut folder)?;
+    Ok(folder.into_folds())
+}

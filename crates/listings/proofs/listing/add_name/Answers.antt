@@ -1,0 +1,14 @@
+use Rattle.std.proofs.Common.{append_assoc}
+use Rattle.listings.specs.Listing.{name_line}
+use Rattle.listings.proofs.listing.add_name.Goals as goal
+
+pub returns-clause-text : goal.returns-clause-text
+unfolding name_line
+returns-clause-text g c = λ before n text so_far.
+    simp append_assoc
+    (simp append_assoc at
+    (c.push-2.ensures.text before n _
+    (rw c.as_bytes.ensures.value at
+    (c.add-2.ensures.text before n _
+    (c.push.ensures.text before n _
+    (c.number.ensures.text before n _ (c.add.ensures.text before n text so_far)))))))

@@ -1,0 +1,113 @@
+//! How instructions are spelled.
+
+ghost use Rattle.std.specs.Prelude.{◌≡◌, ◌+◌, ◌-◌, ◌^◌, ◌<◌, ◌≤◌, [], ◌++◌, IfOk, length};
+ghost use Rattle.std.specs.Fmt.{signed_decimal};
+ghost use Rattle.sinks.specs.Draft.{Adds, MayFail};
+ghost use Rattle.listings.specs.Spelling.{callee_text, instr_text, variable_text};
+
+use code::Instr;
+use grammar::{Callee, Var, operator_punctuator, store_punctuator};
+use sinks::{DeviceFault, Pen, Recorder, Sink};
+use std::alloc::{AllocError, Global};
+
+/// Returns an instruction as a listing has it, without its address.
+pub fn instruction_text(alloc: Global, instr: Instr) -> Result<Vec<u8>, AllocError>
+    ensures { IfOk result (λ text. text.items ≡ instr_text instr) }
+{
+    let mut sink = Recorder::new(alloc);
+    let mut pen = Pen::new();
+    add_instruction(&mut pen, &mut sink, instr);
+    match pen.done(&mut sink) {
+        Ok(()) => sink.joined(),
+        Err(DeviceFault) => Err(AllocError),
+    }
+}
+
+/// Adds an instruction: its word, and its operand if it has one.
+pub(crate) fn add_instruction<S: Sink>(pen: &mut Pen, sink: &mut S, instr: Instr)
+    requires { MayFail pen.old (S.failures sink.old) }
+    ensures countable { MayFail pen.new (S.failures sink.new) }
+    ensures text { Adds (S.portions sink.old) (S.failures sink.old) pen.old (S.portions sink.new)
+        (S.failures sink.new) pen.new (instr_text instr) }
+{
+    match instr {
+        Instr::Fetch(variable) => {
+            pen.add(sink, b"FETCH ");
+            add_variable(pen, sink, variable);
+        }
+        Instr::Store(variable, op) => {
+            pen.add(sink, b"STORE ");
+            add_variable(pen, sink, variable);
+            pen.push(sink, b' ');
+            pen.add(sink, store_punctuator(op).as_bytes());
+        }
+        Instr::Const(value) => {
+            pen.add(sink, b"CONST ");
+            add_value(pen, sink, value);
+        }
+        Instr::Binop(op) => {
+            pen.add(sink, b"BINOP ");
+            pen.add(sink, operator_punctuator(op).as_bytes());
+        }
+        Instr::Fcall(callee) => {
+            pen.add(sink, b"FCALL ");
+            add_callee(pen, sink, callee);
+        }
+        Instr::Retsub => pen.add(sink, b"RETSUB"),
+        Instr::Branch(to) => {
+            pen.add(sink, b"BRANCH ");
+            pen.number(sink, u32::from(to));
+        }
+        Instr::Chop => pen.add(sink, b"CHOP"),
+        Instr::Frame => pen.add(sink, b"FRAME"),
+        Instr::Truth => pen.add(sink, b"TRUTH"),
+        Instr::Nop => pen.add(sink, b"NOP"),
+    }
+}
+
+/// Adds a variable: E and its number, or L and its number.
+fn add_variable<S: Sink>(pen: &mut Pen, sink: &mut S, variable: Var)
+    requires { MayFail pen.old (S.failures sink.old) }
+    ensures countable { MayFail pen.new (S.failures sink.new) }
+    ensures text { Adds (S.portions sink.old) (S.failures sink.old) pen.old (S.portions sink.new)
+        (S.failures sink.new) pen.new (variable_text variable) }
+{
+    match variable {
+        Var::External(number) => {
+            pen.push(sink, b'E');
+            pen.number(sink, u32::from(number));
+        }
+        Var::Local(number) => {
+            pen.push(sink, b'L');
+            pen.number(sink, u32::from(number));
+        }
+    }
+}
+
+/// Adds a constant.
+fn add_value<S: Sink>(pen: &mut Pen, sink: &mut S, value: i32)
+    requires { MayFail pen.old (S.failures sink.old) }
+    ensures countable { MayFail pen.new (S.failures sink.new) }
+    ensures text { Adds (S.portions sink.old) (S.failures sink.old) pen.old (S.portions sink.new)
+        (S.failures sink.new) pen.new (signed_decimal value) }
+{
+    if value < 0 {
+        pen.push(sink, b'-');
+        pen.number(sink, value.unsigned_abs());
+    } else {
+        pen.number(sink, value.unsigned_abs());
+    }
+}
+
+/// Adds a function's number, or an intrinsic's name.
+fn add_callee<S: Sink>(pen: &mut Pen, sink: &mut S, callee: Callee)
+    requires { MayFail pen.old (S.failures sink.old) }
+    ensures countable { MayFail pen.new (S.failures sink.new) }
+    ensures text { Adds (S.portions sink.old) (S.failures sink.old) pen.old (S.portions sink.new)
+        (S.failures sink.new) pen.new (callee_text callee) }
+{
+    match callee {
+        Callee::Function(number) => pen.number(sink, u32::from(number)),
+        Callee::Intrinsic(intrinsic) => pen.add(sink, intrinsic.name().as_bytes()),
+    }
+}

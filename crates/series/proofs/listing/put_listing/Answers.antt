@@ -1,9 +1,0 @@
-use Rattle.series.proofs.listing.put_listing.Goals as goal
-
-pub returns : goal.returns
-returns g c =
-    c.done.ensures _ _ _
-    (c.add_lines.ensures.text _ _ _
-    (c.add-3.ensures.text _ _ _
-    (c.add-2.ensures.text _ _ _
-    (c.add.ensures.text _ _ _ (c.new-pen.ensures.text _ _)))))

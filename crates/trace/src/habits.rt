@@ -1,0 +1,140 @@
+//! What a robot does again and again: its calls, the directions that they were for, and where it waited.
+
+use crate::items::Items;
+use crate::notes::Note;
+use crate::tallies::{Calls, Deed, INTRINSICS, Tally};
+use code::{Intrinsic, Program};
+use findings::{DIRECTION_DEGREES, DIRECTIONS, Streak};
+use std::alloc::AllocError;
+
+/// A streak is told if it took this part of a robot's cycles.
+const TOLD_PART: u64 = 10;
+
+/// What is told by directions, with the words for it.
+const DEEDS: [(Deed, &str); 3] = [
+    (Deed::Sees, "saw"),
+    (Deed::Shoots, "shot"),
+    (Deed::Drives, "drove"),
+];
+
+/// Adds the longest streak of calls from one place, if it took much of the robot's time.
+pub fn add_streak(
+    text: &mut String,
+    tally: &Tally,
+    note: &Note,
+    program: &Program,
+) -> Result<(), AllocError> {
+    let Some(streak) = tally.longest else {
+        return Ok(());
+    };
+    let cycles = u64::from(streak.cycles());
+    if streak.count == 1 || cycles < tally.cycles() / TOLD_PART {
+        return Ok(());
+    }
+    let mut items = Items::new("in a row");
+    items.begin(text)?;
+    add_place(text, &streak, note, program)?;
+    items.begin(text)?;
+    write!(text, "cycles {} to {}", streak.first.cycle, streak.last)?;
+    items.begin(text)?;
+    add_replies(text, "reply ", Some([streak.least, streak.most]))?;
+    items.end(text)
+}
+
+/// Adds how many calls a streak has, of what, and where.
+fn add_place(
+    text: &mut String,
+    streak: &Streak,
+    note: &Note,
+    program: &Program,
+) -> Result<(), AllocError> {
+    let (count, name, address) = (
+        streak.count,
+        streak.first.intrinsic.name(),
+        streak.first.address,
+    );
+    let (line, function) = (note.line(address), note.function(program, address));
+    write!(text, "{count} {name} in line {line} of {function}")
+}
+
+/// Adds a robot's calls of intrinsic functions.
+pub fn add_calls(text: &mut String, tally: &Tally) -> Result<(), AllocError> {
+    let mut items = Items::new("calls");
+    for intrinsic in INTRINSICS {
+        let calls = tally.calls_of(intrinsic);
+        if calls.all > 0 {
+            items.begin(text)?;
+            write!(text, "{} {}", calls.all, intrinsic.name())?;
+            add_answers(text, intrinsic, &calls)?;
+        }
+    }
+    items.end(text)
+}
+
+/// Adds what the field answered calls of a function.
+fn add_answers(text: &mut String, intrinsic: Intrinsic, calls: &Calls) -> Result<(), AllocError> {
+    match intrinsic {
+        Intrinsic::Drive => return Ok(()),
+        Intrinsic::Cannon => write!(text, " ({} refused", calls.zero)?,
+        Intrinsic::Scan => {
+            write!(text, " ({} saw nobody", calls.zero)?;
+            add_replies(text, ", else ", calls.replies)?;
+        }
+        _ => add_replies(text, " (", calls.replies)?,
+    }
+    text.push(')')
+}
+
+/// Adds the least and the greatest reply after some words, one if they are the same: nothing if there are none.
+fn add_replies(
+    text: &mut String,
+    before: &str,
+    replies: Option<[i32; 2]>,
+) -> Result<(), AllocError> {
+    let Some(span) = replies else {
+        return Ok(());
+    };
+    let [least, most] = span;
+    write!(text, "{before}{least}")?;
+    if least < most {
+        write!(text, " to {most}")?;
+    }
+    Ok(())
+}
+
+/// Adds how often a robot saw others, shot and asked to drive in each direction.
+pub fn add_directions(text: &mut String, tally: &Tally) -> Result<(), AllocError> {
+    let mut has_head = false;
+    for (deed, name) in DEEDS {
+        let Some(counts) = tally.deeds.get(deed as usize) else {
+            continue;
+        };
+        if counts.iter().all(|count| *count == 0) {
+            continue;
+        }
+        if !has_head {
+            add_degrees(text)?;
+            has_head = true;
+        }
+        add_counts(text, name, counts)?;
+    }
+    Ok(())
+}
+
+/// Adds the degrees of the directions.
+fn add_degrees(text: &mut String) -> Result<(), AllocError> {
+    text.push_str("   degrees    ")?;
+    for direction in 0..DIRECTIONS {
+        write!(text, "{:>7}", direction * DIRECTION_DEGREES)?;
+    }
+    text.push('\n')
+}
+
+/// Adds a count for each direction.
+fn add_counts(text: &mut String, name: &str, counts: &[u64]) -> Result<(), AllocError> {
+    write!(text, "     {name:<9}")?;
+    for count in counts {
+        write!(text, "{count:>7}")?;
+    }
+    text.push('\n')
+}

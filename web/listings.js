@@ -1,0 +1,90 @@
+// The listing of a robot's code beside its source: each instruction with its address and its line.
+
+const INSTRUCTION = /^([ \d]{5}) (.*)$/;
+
+/** Returns the lines of instructions by their addresses, of the places that the module lists. */
+export function linesOf(places) {
+    const [, ...rows] = places.trimEnd().split("\n");
+    return rows.map(row => Number(row.split("\t")[3]));
+}
+
+/** The listing as a list, from which one goes to the source's lines. */
+export class Listing {
+    /** Fills a list box; `goTo` is called with the line of the row that is chosen. */
+    constructor(box, goTo) {
+        this.box = box;
+        this.goTo = goTo;
+        this.rows = [];
+        this.chosen = null;
+        box.addEventListener("click", event => this.choose(event.target.closest("[role=option]"), true));
+        box.addEventListener("keydown", event => this.press(event));
+    }
+
+    /** Shows a listing, whose instructions come from these lines. */
+    show(text, lines) {
+        this.rows = text.trimEnd().split("\n").slice(1).map((row, at) => this.row(row, at, lines));
+        this.box.replaceChildren(...this.rows);
+        this.chosen = null;
+        this.box.removeAttribute("aria-activedescendant");
+    }
+
+    row(text, at, lines) {
+        const row = Object.assign(document.createElement("div"), {id: `row-${at}`, role: "option", ariaSelected: "false"});
+        const [, address, instruction] = INSTRUCTION.exec(text) ?? [null, "", text.trim()];
+        const line = lines[Number(address)] ?? "";
+        const parts = address ? {line, address, instruction} : {instruction};
+        row.append(...Object.entries(parts).map(([name, value]) =>
+            Object.assign(document.createElement("span"), {className: name, textContent: value})));
+        row.classList.toggle("heading", !address);
+        if (address && line) {
+            row.dataset.line = line;
+            row.ariaLabel = `line ${line}, address ${address.trim()}: ${instruction}`;
+        }
+        return row;
+    }
+
+    /** Marks the rows of a line of the source, and shows them. */
+    mark(line) {
+        const rows = this.rows.filter(row => row.classList.toggle("marked", row.dataset.line === String(line)));
+        if (rows.length) {
+            this.scrollTo(rows[0], rows.at(-1));
+        }
+    }
+
+    /** Scrolls the list, and nothing else, until the rows from one to another are seen. */
+    scrollTo(first, last = first) {
+        const {box} = this;
+        const isAbove = first.offsetTop < box.scrollTop;
+        if (isAbove || last.offsetTop + last.offsetHeight > box.scrollTop + box.clientHeight) {
+            box.scrollTop = first.offsetTop - box.clientHeight / 3;
+        }
+    }
+
+    choose(row, goes) {
+        if (!row) {
+            return;
+        }
+        this.chosen?.setAttribute("aria-selected", "false");
+        this.chosen = row;
+        row.setAttribute("aria-selected", "true");
+        this.box.setAttribute("aria-activedescendant", row.id);
+        this.scrollTo(row);
+        if (goes && row.dataset.line) {
+            this.goTo(Number(row.dataset.line));
+        }
+    }
+
+    /** The arrow keys choose a row, and Enter goes to its line. */
+    press(event) {
+        const step = {ArrowDown: 1, ArrowUp: -1}[event.key];
+        if (step) {
+            event.preventDefault();
+            const at = this.chosen ? this.rows.indexOf(this.chosen) + step : 0;
+            this.choose(this.rows[at], false);
+        } else if (event.key === "Enter" && !event.ctrlKey && !event.metaKey) {
+            // the source takes the focus, and must not get the key too
+            event.preventDefault();
+            this.choose(this.chosen, true);
+        }
+    }
+}
