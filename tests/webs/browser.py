@@ -24,7 +24,7 @@ DEBIAN = "/usr/lib/python3/dist-packages"
 WIDTHS = (360, 1200)
 
 
-def lacking() -> str:
+def lacking(_folder: str) -> str:
     """What is lacking for these tests. Debian's modules are found by another Python too."""
     if not importlib.util.find_spec("selenium") and os.path.isdir(DEBIAN):
         sys.path.append(DEBIAN)

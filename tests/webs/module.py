@@ -20,25 +20,32 @@ STILL = ("still.r", b"main(){}")
 MOST_SEED = 2**64 - 1
 SECONDS = 120
 MOST_BYTES = 400_000
+CALLS = 1000
+EXPORTS = ["__heap_base", "film", "memory", "order_bytes", "robot_bytes", "run", "sheet_bytes"]
 TOKEN = re.compile(rb"[A-Za-z_]\w*|\d+|<<=|>>=|\+\+|--|&&|\|\||[-+*/%&|^<>=!]=|<<|>>|[^\s\x1a]")
 # tokens that are no constants, but make some
 MADE_CONSTANTS = ("-", "!", "~", "++", "--", "else", "while", ";", "}", "&&", "||")
 STEPS = {"++": "+=", "--": "-="}
 
 
-def node() -> list[str]:
-    """Node with 64-bit memories; an old one needs a word for them, which a new one doesn't know."""
+def node(folder: str) -> list[str]:
+    """A Node that takes the module; an old one needs a word for 64-bit memories, which a new one doesn't know."""
     path = shutil.which("node") or ""
-    probe = "process.exit(WebAssembly.validate(new Uint8Array([0,97,115,109,1,0,0,0,5,3,1,4,0])) ? 0 : 1)"
     for words in ([path], [path, WIDE]) if path else ():
-        if not subprocess.run([*words, "-e", probe], capture_output=True, check=False).returncode:
+        ran = subprocess.run([*words, *script_and_module(folder, "engine.mjs")], input=b"[]", capture_output=True, check=False, timeout=SECONDS)
+        if not ran.returncode:
             return words
     return []
 
 
-def lacking() -> str:
+def script_and_module(folder: str, name: str) -> list[str]:
+    """The words by which Node runs a script of this folder on the module."""
+    return [os.path.join(HERE, name), os.path.join(folder, "crobots.wasm")]
+
+
+def lacking(folder: str) -> str:
     """What is lacking for these tests."""
-    return "" if node() else "there is no Node with 64-bit memories"
+    return "" if node(folder) else "there is no Node that takes a module with 64-bit memories"
 
 
 def job(battle: Battle) -> dict[str, Any]:
@@ -50,7 +57,7 @@ def job(battle: Battle) -> dict[str, Any]:
 
 def answers(folder: str, battles: list[Battle]) -> list[tuple[int, bytes, bytes]]:
     """What the module answers."""
-    words = [*node(), os.path.join(HERE, "engine.mjs"), os.path.join(folder, "crobots.wasm")]
+    words = [*node(folder), *script_and_module(folder, "engine.mjs")]
     jobs = json.dumps([job(battle) for battle in battles])
     ran = subprocess.run(words, input=jobs, capture_output=True, text=True, check=True, timeout=SECONDS)
     return [(it["ending"], base64.b64decode(it["text"]), base64.b64decode(it["faults"])) for it in json.loads(ran.stdout)]
@@ -196,6 +203,19 @@ def places(crobots: str, stages: str, folder: str) -> list[str]:
     return wrong
 
 
+def any_blocks(folder: str) -> list[str]:
+    """Whatever stands in the blocks, a call answers with a code; beyond the memory it ends. Nothing comes from the host."""
+    words = [*node(folder), *script_and_module(folder, "blocks.mjs"), str(CALLS), "1"]
+    ran = subprocess.run(words, capture_output=True, text=True, check=False, timeout=SECONDS)
+    if ran.returncode:
+        return [ran.stderr[-500:]]
+    told = json.loads(ran.stdout)
+    wrong = [f"imports: {told['imports']}"] if told["imports"] else []
+    wrong += [] if sorted(told["exports"]) == EXPORTS else [f"exports: {told['exports']}"]
+    wrong += [] if set(told["codes"]) >= {"0", "1", "2"} and set(told["codes"]) <= {"0", "1", "2", "4"} else [f"codes: {told['codes']}"]
+    return wrong + ([] if told["ends"] == ["ended"] * 3 else [f"outside of the memory: {told['ends']}"])
+
+
 def size(folder: str) -> list[str]:
     """The module is small enough to be loaded at once."""
     count = os.path.getsize(os.path.join(folder, "crobots.wasm"))
@@ -205,6 +225,7 @@ def size(folder: str) -> list[str]:
 def results(crobots: str, stages: str, folder: str) -> Iterator[tuple[str, list[str]]]:
     """The tests' names, and what is wrong."""
     yield "size", size(folder)
+    yield "blocks of any bytes", any_blocks(folder)
     yield "samples", compared(crobots, folder, sample_battles())
     yield "vectors", compared(crobots, folder, vectors("listings", "faults", "battles", "profiles"))
     yield "random robots", compared(crobots, folder, random_battles(100))

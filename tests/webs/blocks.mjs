@@ -1,0 +1,83 @@
+// blocks.mjs MODULE COUNT SEED: calls the module alone, so many times, with blocks whose numbers and bytes may be anything.
+//
+// It writes what the module imports and exports, how often each code was answered, and what calls by addresses outside of
+// the memory ended with, in JSON. The calls have no long match: a limit is small, or too great.
+import {Engine, moduleOf} from "./loaded.mjs";
+
+const [path, count, seed] = process.argv.slice(2);
+const bytes = moduleOf(path);
+const engine = await Engine.load(bytes);
+const ROBOT_BYTES = (engine.text - engine.robots) / 4;
+const SOURCE = new TextEncoder().encode("main(){ while (1) { cannon(rand(360), 99); drive(rand(360), 50); } }\x1a");
+const MOST = 2 ** 32 - 1;
+const SIZES = [0, 1, 68, 69, 255, 256, 1048576, 1048577, 1048578, MOST];
+const ORDERS = {mode: [0, 1, 1, 2, MOST], matches: [0, 1, 2, 1000001, MOST], limit: [0, 1, 15, 400, 1000000001, MOST],
+    profile: [0, 1, 2, 3, MOST], first: [0, 1, 1000000, 1000001, MOST], skipped: [0, 1, MOST]};
+
+let state = Number(seed) * 2 + 1;
+
+/** A random number below a limit. */
+function below(limit) {
+    state = Math.imul(state, 1664525) + 1013904223 >>> 0;
+    return (state >>> 8) % limit;
+}
+
+const oneOf = list => list[below(list.length)];
+
+/** Fills bytes at an address with random ones. */
+function spoil(at, size) {
+    const view = new Uint8Array(engine.memory.buffer, at, size);
+    view.forEach((_, n) => { view[n] = below(256); });
+}
+
+/** Fills the order: mostly with good numbers, so that much of it is run. */
+function putOrder() {
+    const view = new DataView(engine.memory.buffer, engine.order, 32);
+    spoil(engine.order, 32);
+    Object.values(ORDERS).forEach((several, n) => view.setUint32(8 + 4 * n, below(8) ? several[1] : oneOf(several), true));
+}
+
+/** Fills a robot: with a source, and maybe bytes of any kind over it, and sizes of any kind. */
+function putRobot(number) {
+    const at = engine.robots + number * ROBOT_BYTES;
+    const view = new DataView(engine.memory.buffer, at, 8);
+    view.setUint32(0, below(4) ? 3 : oneOf(SIZES), true);
+    view.setUint32(4, below(3) ? SOURCE.length : oneOf(SIZES), true);
+    new Uint8Array(engine.memory.buffer, at + 8).fill(65, 0, 255);
+    new Uint8Array(engine.memory.buffer, at + 8 + 255).set(SOURCE);
+    if (!below(4)) {
+        spoil(at + 8, 255 + below(90));
+    }
+}
+
+/** Makes a call by such blocks, and counts its code. */
+function call(codes) {
+    putOrder();
+    [0, 1, 2, 3].forEach(putRobot);
+    for (const sheet of [engine.text, engine.faults]) {
+        spoil(sheet, 16 + 512);
+    }
+    const robots = below(6) ? 1 + below(4) : 0;
+    const addresses = [engine.order, engine.robots, robots, engine.text, engine.faults].map(BigInt);
+    const code = engine.exports[oneOf(["run", "film"])](...addresses);
+    codes[code] = (codes[code] ?? 0) + 1;
+}
+
+/** What a call ends with whose blocks are at such an address, by a module of its own. */
+async function outside(address) {
+    const {exports} = await Engine.load(bytes);
+    try {
+        exports.run(address, address, 1n, address, address);
+        return "answered";
+    } catch (fault) {
+        return fault.constructor === WebAssembly.RuntimeError ? "ended" : String(fault);
+    }
+}
+
+const codes = {};
+for (let n = 0; n < Number(count); n++) {
+    call(codes);
+}
+const module = await WebAssembly.compile(bytes);
+const ends = await Promise.all([BigInt(engine.memory.buffer.byteLength), 1n << 62n, (1n << 64n) - 9n].map(outside));
+console.log(JSON.stringify({imports: WebAssembly.Module.imports(module), exports: WebAssembly.Module.exports(module).map(it => it.name), codes, ends}));
