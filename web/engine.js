@@ -32,10 +32,10 @@ const decoder = new TextDecoder();
 /** A wish that the engine can't be asked. */
 export class WishError extends Error {}
 
-/** Returns whether this browser has 64-bit memories. */
+/** Returns whether this browser has 64-bit memories, and tables, which come with them. */
 export function hasWideMemories() {
-    // the smallest module with such a memory: its header, and a memory of no page
-    const bytes = new Uint8Array([0, 97, 115, 109, 1, 0, 0, 0, 5, 3, 1, 4, 0]);
+    // the smallest module with both: its header, a table of no entry, and a memory of no page
+    const bytes = new Uint8Array([0, 97, 115, 109, 1, 0, 0, 0, 4, 4, 1, 112, 4, 0, 5, 3, 1, 4, 0]);
     return typeof WebAssembly === "object" && WebAssembly.validate(bytes);
 }
 

@@ -27,9 +27,14 @@ export async function fragmentOf(battle) {
     return MARK + toText(await bytesOf(packed));
 }
 
+/** Returns whether a fragment is one that is to carry a battle. */
+export function isBattle(fragment) {
+    return fragment.startsWith(MARK);
+}
+
 /** Returns the battle that a fragment carries, or null if it carries none. */
 export async function battleOf(fragment) {
-    if (!fragment.startsWith(MARK)) {
+    if (!isBattle(fragment)) {
         return null;
     }
     try {

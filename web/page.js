@@ -1,13 +1,14 @@
 // The page: robots and settings that are edited, runs by the engine, and what they gave.
 import {Ending, Limits, hasWideMemories} from "./engine.js";
 import {makeEditor} from "./editor.js";
-import {battleOf, checked, fragmentOf, toBytes} from "./links.js";
+import {battleOf, checked, fragmentOf, isBattle, toBytes} from "./links.js";
 import {Listing, linesOf} from "./listings.js";
 import {jumpTo, showFilm} from "./replays.js";
 
 const KEPT = "crobots";
 const COMPILE_AFTER = 250;
-const LACKING = "This browser lacks WebAssembly with 64-bit memories. Chrome and Edge have them from version 133, Firefox from version 134.";
+const LACKING = "This page needs WebAssembly with 64-bit memories, which Chrome and Edge have from version 133, and Firefox from version 134.";
+const BROKEN = "The link carries no battle that can be read, so this is another one.";
 const FIRST_BATTLE = ["hunter.r", "sniper.r"];
 const NEW_ROBOT = "main() {\n  while (1) {\n    drive(0, 0);\n  }\n}\n";
 
@@ -62,7 +63,11 @@ class Battle {
         this.settings = settings;
     }
 
+    /** Keeps the battle after a change. A link that the page was opened by has another one from then on, and is left. */
     keep() {
+        if (isBattle(location.hash)) {
+            history.replaceState(null, "", location.href.split("#")[0]);
+        }
         try {
             localStorage.setItem(KEPT, JSON.stringify(this));
         } catch {
@@ -98,6 +103,7 @@ class Page {
         byId("sample").append(new Option("choose one", ""), ...this.samples.map(({name}) => new Option(name)));
         byId("sample").addEventListener("change", event => this.takeSample(event.target.value));
         byId("name").addEventListener("input", event => this.rename(event.target.value));
+        byId("add").addEventListener("click", () => this.add());
         byId("remove").addEventListener("click", () => this.remove());
         this.editor.onChange(() => this.edited());
         this.editor.onMove(line => this.listing.mark(line));
@@ -125,14 +131,11 @@ class Page {
         return this.battle.robots[this.shown];
     }
 
-    /** Shows a tab for each robot, and one that adds a robot. */
+    /** Shows a tab for each robot. */
     showTabs() {
         const tabs = this.battle.robots.map((robot, at) => this.tab(robot, at));
-        const add = Object.assign(document.createElement("button"), {type: "button", id: "add", textContent: "Add a robot"});
-        add.disabled = tabs.length === Limits.robots;
-        add.addEventListener("click", () => this.add());
         byId("tabs").replaceChildren(...tabs);
-        byId("tabs").append(add);
+        byId("add").disabled = tabs.length === Limits.robots;
         byId("remove").disabled = tabs.length === 1;
     }
 
@@ -232,7 +235,8 @@ class Page {
     async compile() {
         const at = this.shown;
         const {source} = this.robot;
-        const ask = call => this.answered(this.compiler.call(call, this.battle.settings, [{name: "robot", source}]));
+        const {profile} = this.battle.settings;
+        const ask = call => this.answered(this.compiler.call(call, {profile}, [{name: "robot", source}]));
         const [{ending, text, faults}, places] = await Promise.all([ask("list"), ask("places")]);
         if (at !== this.shown || source !== this.robot.source) {
             return;
@@ -339,7 +343,7 @@ class Page {
     }
 
     async copyLink() {
-        location.hash = await fragmentOf(this.battle);
+        history.replaceState(null, "", await fragmentOf(this.battle));
         try {
             await navigator.clipboard.writeText(location.href);
             this.say("The link is copied.");
@@ -369,15 +373,24 @@ async function begin() {
     byId("listing").open = matchMedia("(min-width: 40rem)").matches;
     byId("main").hidden = false;
     byId("replay").hidden = !player;
+    const isBroken = isBattle(location.hash) && !await battleOf(location.hash);
     const page = new Page(newCaller, robots, await makeEditor(byId("source"), editor), await firstBattle(robots));
-    window.addEventListener("hashchange", async () => {
-        const battle = await battleOf(location.hash);
-        if (battle) {
-            Object.assign(page.battle, battle);
-            page.showSettings();
-            page.showRobot(0);
-        }
-    });
+    if (isBroken) {
+        page.say(BROKEN, true);
+    }
+    window.addEventListener("hashchange", () => follow(page));
+}
+
+/** Shows the battle of a link that is followed in the open page. */
+async function follow(page) {
+    const battle = await battleOf(location.hash);
+    if (battle) {
+        Object.assign(page.battle, battle);
+        page.showSettings();
+        page.showRobot(0);
+    } else if (isBattle(location.hash)) {
+        page.say(BROKEN, true);
+    }
 }
 
 begin();

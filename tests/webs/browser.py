@@ -9,6 +9,7 @@ import http.server
 import importlib.util
 import json
 import os
+import re
 import shutil
 import sys
 import tempfile
@@ -117,6 +118,11 @@ class Page:
         """The text of an element."""
         return self.js("return document.getElementById(arguments[0]).textContent", name)
 
+    def set(self, name: str, value: str) -> None:
+        """Writes a value into a field."""
+        self.js("const it = document.getElementById(arguments[0]); it.value = arguments[1];"
+                "it.dispatchEvent(new Event('input', {bubbles: true}))", name, value)
+
     def run(self) -> str:
         """Runs the battle; returns the report."""
         self.js("document.getElementById('said').textContent = ''; document.getElementById('run').click()")
@@ -205,10 +211,40 @@ def links(page: Page, crobots: str) -> list[str]:
     page.open(link)
     wanted = battle.told(crobots)[1].decode()
     wrong = [] if page.run() == wanted else ["the link shows another battle"]
-    page.js("const it = document.getElementById('limit'); it.value = 4000; it.dispatchEvent(new Event('input', {bubbles: true}))")
-    page.open()
+    page.set("limit", "4000")
+    page.driver.refresh()
+    page.wait("return document.getElementById('diagnostic')?.textContent")
     battle.settings.limit = 4_000
     return wrong + ([] if page.run() == battle.told(crobots)[1].decode() else ["the battle was not kept"])
+
+
+def second_tab(page: Page) -> list[str]:
+    """A link is made without a change to what is seen; one that can't be read is told of, at the begin and later."""
+    page.show(Battle(samples()[:2]))
+    page.js("document.getElementById('tab-1').click(); document.getElementById('link').click()")
+    page.wait("return document.getElementById('said').textContent.startsWith('The link')")
+    shown = page.js("return document.querySelector('[role=tab][aria-selected=true]').id")
+    wrong = [] if shown == "tab-1" else [f"after a link is made the robot shown is that of {shown}"]
+    cut = page.js("return location.hash")[:-9]
+    page.js("document.getElementById('said').textContent = ''; location.hash = arguments[0]", cut)
+    page.wait("return document.getElementById('said').textContent")
+    said = [page.text("said")]
+    page.open(cut)
+    page.wait("return document.getElementById('said').textContent")
+    return wrong + [it for it in [*said, page.text("said")] if not it.startswith("The link carries no battle")]
+
+
+def unset(page: Page) -> list[str]:
+    """A setting that is being written, and is none yet, is nothing to a robot that is compiled."""
+    page.show(Battle(samples()[:2]))
+    wrong = []
+    for name in ("matches", "limit", "seed", "first"):
+        page.set(name, "")
+        page.js("document.getElementById('diagnostic').textContent = ''; document.getElementById('tab-1').click()")
+        page.wait("return document.getElementById('diagnostic').textContent")
+        wrong += [] if page.text("diagnostic") == "No fault." else [f"without {name}: {page.text('diagnostic')}"]
+        page.set(name, "1")
+    return wrong
 
 
 def watched(page: Page, crobots: str) -> list[str]:
@@ -361,7 +397,8 @@ def older(page: Page) -> list[str]:
     page.wait("return document.getElementById('lacking').textContent")
     seen = page.js("return [document.getElementById('lacking').innerText, document.getElementById('main').hidden]")
     page.driver.execute_cdp_cmd("Page.removeScriptToEvaluateOnNewDocument", hide)
-    return [] if seen[0].startswith("This browser lacks WebAssembly with 64-bit memories.") and seen[1] else [f"{seen}"]
+    is_sentence = re.fullmatch(r"This page needs [^.]* Chrome and Edge have from version \d+, and Firefox from version \d+\.", seen[0])
+    return [] if is_sentence and seen[1] else [f"{seen}"]
 
 
 def plain(page: Page, folder: str) -> list[str]:
@@ -423,6 +460,8 @@ def results(crobots: str, _stages: str, folder: str) -> Iterator[tuple[str, list
         yield "hostile sources", alive(page, crobots)
         yield "listing", listing(page)
         yield "links", links(page, crobots)
+        yield "a link from the second tab", second_tab(page)
+        yield "settings that are none", unset(page)
         yield "watched matches", watched(page, crobots)
         yield "a stopped series", stopped(page, crobots)
         yield "widths", widths(page)
