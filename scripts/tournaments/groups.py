@@ -25,6 +25,11 @@ def count(settings: Settings) -> int:
     return sum(settings.sample or math.comb(settings.robots, size) for size in settings.sizes)
 
 
+def least(robots: int, size: int) -> int:
+    """How few groups have each robot in one."""
+    return -(-robots // size)
+
+
 def drawn(robots: int, size: int, many: int, seed: int) -> list[Group]:
     """Draws so many different groups, in which each robot is equally often, but for one time.
 

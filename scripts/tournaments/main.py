@@ -12,9 +12,9 @@ from typing import Callable
 
 from . import plans, robots, tables, words
 from .faults import FILE, Fault
-from .groups import drawn
+from .groups import drawn, least
 from .merging import Merger, against, records
-from .playing import Stopped
+from .playing import Stopped, heeded, stop
 from .records import Record
 from .robots import Robot
 from .sessions import session
@@ -43,11 +43,12 @@ class Results:
         if given.long:
             return tables.long(self._records, names, settings.seed)
         weights = dict(zip(SIZE_NAMES, given.by_size)) if given.by_size else None
-        table = standings(self._tally, names, Scoring(given.points[0], given.points[1], weights))
+        scoring = Scoring(given.points[0], given.points[1], weights)
+        table = standings(self._tally, names, scoring)
         if given.matrix:
             return tables.matrix(table, faced(self._tally, len(names)))
         if given.json:
-            return tables.everything(settings, given.points, among, table, faced(self._tally, len(names)), self._records)
+            return tables.everything(settings, scoring, among, table, faced(self._tally, len(names)), self._records)
         if given.csv:
             return tables.comma_separated(tables.rows(table, bool(weights)))
         return tables.table(table, bool(weights))
@@ -88,12 +89,20 @@ def merged(given: argparse.Namespace) -> str:
     return results.text(merger.settings, merger.robots())
 
 
+def sampled(settings: Settings) -> None:
+    """Refuses a sample that can't be drawn, or that leaves a robot out."""
+    size = settings.sizes[0]
+    if settings.sample < least(settings.robots, size):
+        raise Fault(f"{settings.robots} robots need at least {least(settings.robots, size)} groups of {size}")
+    drawn(settings.robots, size, settings.sample, settings.seed)
+
+
 def planned(given: argparse.Namespace, program: str) -> plans.Plan:
     """The plan of the words; the robots compile."""
     among = robots.read(given.robots)
     settings = Settings(given.matches, given.cycles, given.seed, given.profile, len(among), sizes(given), given.sample)
     if given.sample:
-        drawn(settings.robots, settings.sizes[0], settings.sample, settings.seed)
+        sampled(settings)
     robots.compiled(program, given.profile, among)
     most = given.piece or plans.busy(settings, given.jobs)
     if given.plan:
@@ -122,6 +131,8 @@ def run(does: Callable[[str, list[str]], None], command: list[str]) -> int:
     """Runs a script with its command line, the script's own path first; answers its status."""
     name = os.path.basename(command[0])
     signal.signal(signal.SIGPIPE, signal.SIG_DFL)
+    for number in heeded():
+        signal.signal(number, stop)
     for stream in (sys.stdout, sys.stderr):
         if isinstance(stream, io.TextIOWrapper):
             stream.reconfigure(errors="surrogateescape")
@@ -132,9 +143,8 @@ def run(does: Callable[[str, list[str]], None], command: list[str]) -> int:
         print(f"{name}: {why}", file=sys.stderr)
         return why.status
     except Stopped as why:
+        print(f"{name}: {why}", file=sys.stderr)
         return 128 + why.number
-    except KeyboardInterrupt:
-        return 128 + signal.SIGINT
     except OSError as why:
         print(f"{name}: cannot write: {why.strerror}", file=sys.stderr)
         os.dup2(os.open(os.devnull, os.O_WRONLY), 1)

@@ -54,6 +54,8 @@ class Merger:
         said = [it.text(self._robots) for it in (missing, twice) if it.count]
         if self._runs:
             said.append(f"{len(self._runs)} groups are not of this tournament")
+        if not said and len(self._robots) < self.settings.robots:
+            said.append(f"only {len(self._robots)} of {self.settings.robots} robots are in its groups")
         return "; ".join(said)
 
 

@@ -9,7 +9,7 @@ import shlex
 import signal
 from dataclasses import dataclass, field
 from types import FrameType
-from typing import Generator, Iterable, Iterator
+from typing import Callable, Generator, Iterable, Iterator, NoReturn
 
 from .faults import FAULTY, PROGRAM, Fault
 from .records import Record
@@ -23,9 +23,18 @@ CHUNK = 1 << 16
 class Stopped(Exception):
     """A signal asked the tournament to end."""
 
-    def __init__(self, number: int) -> None:
-        super().__init__(signal.Signals(number).name)
+    def __init__(self, number: int, said: str = "stopped while no series was played") -> None:
+        super().__init__(said)
         self.number = number
+
+
+def stop(number: int, _: FrameType | None) -> NoReturn:
+    raise Stopped(number)
+
+
+def heeded() -> list[int]:
+    """The signals that ask for the end, but for those that are ignored."""
+    return [number for number in ENDING if signal.getsignal(number) != signal.SIG_IGN]
 
 
 class Watch:
@@ -46,8 +55,7 @@ class Watch:
 def watch() -> Iterator[Watch]:
     """Takes the signals that aren't ignored, until what is done inside has ended."""
     it = Watch()
-    heeded = [number for number in ENDING if signal.getsignal(number) != signal.SIG_IGN]
-    before = {number: signal.signal(number, it.take) for number in heeded}
+    before = {number: signal.signal(number, it.take) for number in heeded()}
     try:
         yield it
     finally:
@@ -75,20 +83,20 @@ class Player:
         self._selector = selectors.DefaultSelector()
         self._running: dict[int, Child] = {}
 
-    def play(self, planned: Iterable[Record], watch: Watch) -> Generator[Record, None, None]:
-        """Plays the series of these records, and gives each with its results when it ends."""
+    def play(self, planned: Iterable[Record], glance: Callable[[], None]) -> Generator[Record, None, None]:
+        """Plays the series of these records, and gives each with its results when it ends. It glances often."""
         left = iter(planned)
         try:
             while self._start(left) or self._running:
                 for key, _ in self._selector.select(GLANCE):
                     ended = self._read(key.fd)
-                    watch.check()
+                    glance()
                     if ended:
                         # the next series plays while this one is looked at
                         self._start(left)
                         yield finished(*ended)
-                        watch.check()
-                watch.check()
+                        glance()
+                glance()
         finally:
             self._end()
 
@@ -106,7 +114,10 @@ class Player:
     def _spawn(self, record: Record) -> None:
         series = record.series
         words = [self._program, *record.settings.options(series.first, series.count), *(robot.path for robot in record.robots)]
-        output, writing = os.pipe()
+        try:
+            output, writing = os.pipe()
+        except OSError as why:
+            raise Fault(f"{len(self._running) + 1} series at a time can't be run: {why.strerror}", PROGRAM) from why
         actions = [(os.POSIX_SPAWN_OPEN, 0, os.devnull, os.O_RDONLY, 0), (os.POSIX_SPAWN_DUP2, writing, 1), (os.POSIX_SPAWN_DUP2, writing, 2)]
         try:
             process = os.posix_spawn(self._program, words, self._environment, file_actions=actions, setsigdef=[signal.SIGPIPE])

@@ -28,16 +28,23 @@ class Progress:
         """Counts a series that ended."""
         self.done += 1
         self.matches += matches
+        self.glance()
+
+    def glance(self) -> None:
+        """Says how far it is, if it is time."""
         now = self._clock()
         if not self._quiet and now - self._said >= (EACH_TERMINAL if self._terminal else EACH_LOG):
             self._said = now
             self._say(self.line(now))
 
     def line(self, now: float) -> str:
-        """Series done and left, matches a second, the time that it will take."""
+        """Series done and left, and once a series ended the matches a second and the time that it will take."""
         taken = max(now - self._begun, 1e-9)
-        left = taken * (self.series - self.done) / max(self.done, 1)
-        return f"{self.done} of {self.series} series, {self.series - self.done} left, {self.matches / taken:.1f} matches a second, {duration(left)} to go"
+        counted = f"{self.done} of {self.series} series, {self.series - self.done} left"
+        if not self.done:
+            return counted
+        left = taken * (self.series - self.done) / self.done
+        return f"{counted}, {self.matches / taken:.1f} matches a second, {duration(left)} to go"
 
     def _say(self, line: str) -> None:
         self._stream.write(f"\r{line.ljust(self._width)}" if self._terminal else f"{self._script}: {line}\n")

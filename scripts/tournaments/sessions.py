@@ -27,11 +27,10 @@ def session(given: argparse.Namespace, program: str, plan: Plan, add: Adds) -> N
         progress = Progress(series, given.quiet, given.script)
         try:
             play(Player(program, given.jobs), missing(plan, kept, add), kept, add, progress)
-        except Stopped:
+        except Stopped as why:
             progress.clear()
             where = f"; {given.journal} has what was played" if given.journal else ""
-            tell(f"stopped: {progress.done} of {series} series were played, {progress.matches} matches{where}")
-            raise
+            raise Stopped(why.number, f"stopped: {progress.done} of {series} series were played, {progress.matches} matches{where}") from why
         progress.clear()
 
 
@@ -46,7 +45,12 @@ def missing(plan: Plan, kept: Journal, add: Adds) -> Iterator[Record]:
 
 def play(player: Player, left: Iterator[Record], kept: Journal, add: Adds, progress: Progress) -> None:
     """Plays these series, or as many as a signal allows."""
-    with watch() as stop, closing(player.play(left, stop)) as ended:
+
+    def glance() -> None:
+        stop.check()
+        progress.glance()
+
+    with watch() as stop, closing(player.play(left, glance)) as ended:
         for record in ended:
             kept.add(record)
             add(record)

@@ -12,7 +12,7 @@ from typing import Any, Iterable, Iterator
 from .records import Match, Record
 from .robots import Robot
 from .settings import Group, Settings
-from .standings import SIZE_NAMES, Faced, Standing
+from .standings import SIZE_NAMES, Faced, Scoring, Standing
 
 RESULTS = {"w": "won", "t": "tied", "l": "lost"}
 CLOSE = "close"
@@ -95,13 +95,14 @@ def long(records: list[Record], names: list[str], seed: int) -> str:
     return comma_separated(found)
 
 
-def everything(settings: Settings, points: tuple[Decimal, Decimal], robots: list[Robot], standings: list[Standing], faced: list[list[Faced | None]], records: list[Record]) -> str:
+def everything(settings: Settings, scoring: Scoring, robots: list[Robot], standings: list[Standing], faced: list[list[Faced | None]], records: list[Record]) -> str:
     """All of it as JSON."""
     names = {it.robot: it.name for it in standings}
     said: dict[str, Any] = {
         "settings": {
             "matches": settings.matches, "cycles": settings.cycles, "seed": settings.seed, "profile": settings.profile, "sizes": settings.sizes,
-            "sample": settings.sample, "points": {"won": float(points[0]), "tied": float(points[1])},
+            "sample": settings.sample, "points": {"won": float(scoring.won), "tied": float(scoring.tied)},
+            "weights": scoring.weights and {SIZE_NAMES[size]: float(weight) for size, weight in scoring.weights.items()},
         },
         "robots": [{"name": names[at], "file": it.path, "sha256": it.sha256} for at, it in enumerate(robots)],
         "table": [standing(it) for it in standings],
