@@ -83,7 +83,7 @@ def merged(given: argparse.Namespace) -> str:
         results.add(record)
     if merger.settings is None:
         raise Fault("there are no records to merge")
-    wrong = (against(given.against, merger.series) if given.against else "") or merger.wrong()
+    wrong = (against(given.against, merger) if given.against else "") or merger.wrong()
     if wrong:
         raise Fault(wrong)
     return results.text(merger.settings, merger.robots())

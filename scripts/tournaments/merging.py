@@ -27,6 +27,12 @@ class Merger:
 
     def take(self, record: Record, place: str) -> None:
         """Takes a record of the same tournament."""
+        self.check(record, place)
+        self._runs.setdefault(record.series.group, []).append((record.series.first, record.series.last))
+        self.series[record.series] += 1
+
+    def check(self, record: Record, place: str) -> None:
+        """Refuses a record of another tournament or of other robots, also one that was not played."""
         if self.settings is None:
             self.settings = record.settings
         elif self.settings != record.settings:
@@ -36,8 +42,6 @@ class Merger:
             if known != robot:
                 said = "other bytes" if known.path == robot.path else f"the name {robot.path}"
                 raise Fault(f"{place} is of other robots: {known.path} has {said} there")
-        self._runs.setdefault(record.series.group, []).append((record.series.first, record.series.last))
-        self.series[record.series] += 1
 
     def robots(self) -> list[Robot]:
         """The robots in their order, when all matches are there."""
@@ -122,21 +126,22 @@ def records(files: list[str]) -> Iterator[tuple[Record, str]]:
                 yield record, place
 
 
-def numbered(path: str) -> dict[Series, list[int]]:
-    """The series of a plan, each with the numbers of its lines."""
+def numbered(path: str, merger: Merger) -> dict[Series, list[int]]:
+    """The series of a plan of what is merged, each with the numbers of its lines."""
     found: dict[Series, list[int]] = {}
     with opened(path) as lines:
         for number, line in enumerate(lines, 1):
             record = planned(line)
             if record is None:
                 raise Fault(f"line {number} of {path} is no line of a plan", FILE)
+            merger.check(record, f"line {number} of {path}")
             found.setdefault(record.series, []).append(number)
     return found
 
 
-def against(path: str, series: Counter[Series]) -> str:
+def against(path: str, merger: Merger) -> str:
     """Which lines of a plan were not played, or more than once, or what was played that no line has."""
-    plan = numbered(path)
+    plan, series = numbered(path, merger), merger.series
     missing = [number for it, numbers in plan.items() for number in numbers if it not in series]
     twice = [numbers[0] for it, numbers in plan.items() if series[it] > len(numbers)]
     strange = sum(it not in plan for it in series)

@@ -13,7 +13,7 @@ from . import settings as setting
 from .robots import Robot
 from .settings import Group, Settings
 
-HEAD = re.compile(rf"series {setting.PATTERN} group=(\d+(?:,\d+)+) first=(\d+) count=(\d+) sha256=([0-9a-f,]+) files=(\S+)")
+HEAD = re.compile(rf"series {setting.PATTERN} group=(\d+(?:,\d+)+) first=(\d+) count=(\d+) sha256=([0-9a-f,]+) files=([^\s']+)")
 RESULT = r"\d+(?::\d{1,3})+"
 RESULTS = re.compile(rf" results=({RESULT}(?:,{RESULT})*)")
 
