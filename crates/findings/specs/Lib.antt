@@ -1,4 +1,3 @@
-pub mod Span
 pub mod Purposes
 pub mod Runs
 pub mod Directions

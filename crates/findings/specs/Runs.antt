@@ -1,7 +1,20 @@
 -- Runs: the straight, even pieces of a robot's way.
-use Rattle.std.specs.Prelude.{pos, ◌-ℤ◌, unsigned_abs, Bool, nat_eq, nat_le, ◌&&◌}
+use Rattle.std.specs.Prelude.{ℕ, pos, ◌-ℤ◌, unsigned_abs, Bool, nat_eq, nat_le, ◌&&◌}
+use Rattle.arena.specs.Field.{Robot, damage_of}
+use Rattle.arena.specs.Leg.{place_x, place_y}
 use Rattle.findings.specs.declared.runs.Stance.{Stance}
 use Rattle.findings.specs.declared.runs.Step.{Step}
+
+-- how a robot of a field is after the update of a cycle
+abbrev pub stance_of : ℕ → Robot → Stance
+stance_of cycle robot = record {
+  cycle = cycle;
+  x = place_x robot.leg;
+  y = place_y robot.leg;
+  heading = robot.leg.heading;
+  speed = robot.leg.speed;
+  damage = damage_of robot;
+}
 
 -- all is the same but the cycle and the place
 abbrev pub is_alike : Stance → Stance → Bool

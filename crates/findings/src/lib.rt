@@ -5,14 +5,14 @@ mod counts;
 mod directions;
 mod hurts;
 mod runs;
+mod seen;
 mod shares;
-mod spans;
 mod streaks;
 
 pub use counts::{function_at, largest};
 pub use directions::{DIRECTION_DEGREES, DIRECTIONS, direction_of};
 pub use hurts::{Loss, MOST_LOSSES, Source, losses};
 pub use runs::{News, Run, Stance, Step};
+pub use seen::Seen;
 pub use shares::{Purpose, Shares, percent, purpose_of};
-pub use spans::Span;
 pub use streaks::{Call, Streak};

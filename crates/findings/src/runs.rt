@@ -1,7 +1,11 @@
 //! Runs: straight, even pieces of a robot's way. A film has the ends of each alone.
 
-ghost use Rattle.std.specs.Prelude.{◌≡◌, Some, None, true, false};
-ghost use Rattle.findings.specs.Runs.{is_alike, is_even, step_of};
+ghost use Rattle.std.specs.Prelude.{◌≡◌, ◌<◌, Some, None, true, false, length};
+ghost use Rattle.arena.specs.Field.{Field, robot_at};
+ghost use Rattle.arena.specs.Standing.{StandsFor};
+ghost use Rattle.findings.specs.Runs.{is_alike, is_even, stance_of, step_of};
+
+use arena::Arena;
 
 /// What a film has of a robot after an update.
 #[derive(Clone, Copy, Debug, PartialEq, Eq, Drop)]
@@ -21,6 +25,23 @@ pub struct Stance {
 }
 
 impl Stance {
+    /// Returns how a robot is after the update of a cycle.
+    pub fn of(cycle: u32, robot: usize, arena: &Arena) -> Stance
+        requires { robot < length arena.now.robots }
+        ensures cycle { result.cycle ≡ cycle }
+        ensures stands { (f : Field) → StandsFor arena.now f → result ≡ stance_of cycle (robot_at f robot) }
+    {
+        let (x, y) = arena.place(robot);
+        Stance {
+            cycle,
+            x,
+            y,
+            heading: arena.heading(robot),
+            speed: arena.speed(robot),
+            damage: arena.damage(robot),
+        }
+    }
+
     /// Reports whether all but the cycle and the place is the same.
     fn is_alike(&self, other: &Stance) -> bool
         ensures { result ≡ is_alike self.now other.now }

@@ -81,19 +81,14 @@ impl<'a> Request<'a> {
 
 /// Returns the form that options ask for, which have to ask for exactly one.
 fn form_of(options: &Options<'_>) -> Result<Form, Fault> {
-    let mut found = None;
-    if options.has("run") {
-        found = Some(Form::Run(number_of(options, "run", 1, MOST_CYCLES, 1)? as u32));
-    }
-    for (name, form) in FLAGS {
-        if options.has(name) {
-            if found.is_some() {
-                return Err(Fault::Usage);
-            }
-            found = Some(form);
+    match options.only(&FLAGS)? {
+        Some(_) if options.has("run") => Err(Fault::Usage),
+        Some(form) => Ok(form),
+        None if options.has("run") => {
+            Ok(Form::Run(number_of(options, "run", 1, MOST_CYCLES, 1)? as u32))
         }
+        None => Err(Fault::Usage),
     }
-    found.ok_or(Fault::Usage)
 }
 
 /// Returns the replies that options list, with commas between them.

@@ -28,38 +28,38 @@ use crate::origins::Origins;
 use crate::pages::page;
 use crate::token_rows::token_rows;
 use std::alloc::Global;
-use std::io::Write;
 use std::process::ExitCode;
-use tools::{Fault, ended, name_of, read_options, source_of, tell_diagnostic, words};
+use tools::{Fault, Frame, Options, Work, name_of, source_of, tell_diagnostic, write_text};
 
-/// The program's name, as its lines begin.
-const NAME: &str = "stages";
+/// The program's name, its line of wrong usage, and its options.
+const FRAME: Frame = Frame {
+    name: "stages",
+    usage: "usage: stages (--tokens | --tree | --dot | --code | --html | --run CYCLES [--replies LIST]) [-pPROFILE] FILE",
+    known: &[&OPTIONS],
+};
 
-/// The line of wrong usage.
-const USAGE: &str =
-    "usage: stages (--tokens | --tree | --dot | --code | --html | --run CYCLES [--replies LIST]) [-pPROFILE] FILE";
-
+/// Shows what the command line asks for, and returns the status.
 fn main(rt: HostRuntime) -> ExitCode {
-    ended(&rt, NAME, USAGE, run(&rt))
+    FRAME.run(&rt, &Stages)
 }
 
-/// Reads the words and the source, and writes the text that was asked for at once when it is whole.
-fn run(rt: &HostRuntime) -> Result<(), Fault> {
-    let words = words(rt)?;
-    let options = read_options(rt.alloc(), words.as_slice(), &OPTIONS)?;
-    let request = Request::read(rt.alloc(), &options)?;
-    let source = source_of(rt, NAME, request.file)?;
-    let text = match shown(rt.alloc(), &request, source.as_slice()) {
-        Ok(text) => text,
-        Err(CompileFault::Source(diagnostic)) => {
-            tell_diagnostic(rt, request.file, &diagnostic);
-            return Err(Fault::Source);
+/// The work of this program.
+struct Stages;
+
+impl Work for Stages {
+    /// Reads the source, and writes the text that was asked for at once when it is whole.
+    fn work(&self, rt: &HostRuntime, options: &Options<'_>) -> Result<(), Fault> {
+        let request = Request::read(rt.alloc(), options)?;
+        let source = source_of(rt, FRAME.name, request.file)?;
+        match shown(rt.alloc(), &request, source.as_slice()) {
+            Ok(text) => write_text(rt, text.as_str()),
+            Err(CompileFault::Source(diagnostic)) => {
+                tell_diagnostic(rt, request.file, &diagnostic);
+                Err(Fault::Source)
+            }
+            Err(CompileFault::Memory) => Err(Fault::Memory),
         }
-        Err(CompileFault::Memory) => return Err(Fault::Memory),
-    };
-    rt.stdout()
-        .write_all(text.as_bytes())
-        .map_err(|_| Fault::Write)
+    }
 }
 
 /// Returns the text of a source that is asked for. A source with a fault has none.

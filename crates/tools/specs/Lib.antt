@@ -1,1 +1,2 @@
 pub mod Wish
+pub mod Span

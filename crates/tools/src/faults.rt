@@ -3,7 +3,6 @@
 ghost use Rattle.std.specs.Prelude.{◌≡◌};
 
 use std::alloc::AllocError;
-use std::process::ExitCode;
 
 /// Why a program has no result. The statuses are those of crobots.
 #[derive(Clone, Copy, Debug, PartialEq, Eq)]
@@ -48,19 +47,4 @@ impl Fault {
             Fault::Memory => 5,
         }
     }
-}
-
-/// Ends a program of this name and with this line of usage: writes the line on standard error that its fault has, and
-/// returns its status, 0 if there is no fault.
-pub fn ended(rt: &HostRuntime, program: &str, usage: &str, done: Result<(), Fault>) -> ExitCode {
-    let Err(fault) = done else {
-        return ExitCode::SUCCESS;
-    };
-    let _ = match fault {
-        Fault::Source | Fault::Read => Ok(()),
-        Fault::Usage => eprintln!(rt; "{usage}"),
-        Fault::Write => eprintln!(rt; "{program}: cannot write"),
-        Fault::Memory => eprintln!(rt; "{program}: out of memory"),
-    };
-    ExitCode::from(fault.status())
 }

@@ -1,21 +1,24 @@
-//! What the programs beside the main one share: words and options, files and their programs, statuses, and output in
-//! large pieces.
+//! What the programs beside the main one share: the frame of words, options and statuses, files and their
+//! programs, the match that is asked for, and output in large pieces.
 #![tactic(auto)]
 
 mod command_line;
 mod compiling;
 mod faults;
 mod feeds;
+mod frames;
 mod options;
 mod outputs;
+mod spans;
 mod wishes;
 
-pub use command_line::words;
 pub use compiling::{Compiled, compile, name_of, programs, tell_diagnostic};
-pub use faults::{Fault, ended};
+pub use faults::Fault;
 pub use feeds::{FileFeed, opened, source_of};
+pub use frames::{Frame, Work};
 pub use options::{Known, Options, read_options};
-pub use outputs::Output;
+pub use outputs::{Output, write_text};
+pub use spans::{SPAN_OPTIONS, Span};
 pub use wishes::{MATCH_OPTIONS, Wish, number_of, profile};
 
 #[cfg(test)]

@@ -47,6 +47,21 @@ impl<'a> Options<'a> {
         Some(given.value)
     }
 
+    /// Returns which of these options was given, by what stands beside its name: none if none was. Two of them are wrong
+    /// usage.
+    pub fn only<T: Copy>(&self, choices: &[(&str, T)]) -> Result<Option<T>, Fault> {
+        let mut found = None;
+        for (name, choice) in choices {
+            if self.has(name) {
+                if found.is_some() {
+                    return Err(Fault::Usage);
+                }
+                found = Some(*choice);
+            }
+        }
+        Ok(found)
+    }
+
     /// Returns the files, in order.
     pub fn files(&self) -> &[&'a str] {
         self.files.as_slice()
@@ -63,13 +78,13 @@ impl<'a> Options<'a> {
     }
 }
 
-/// Reads the words after the program's name: options that are known, and files, in any order. After `--` each word is a
+/// Reads the words after the program's name: options of these lists, and files, in any order. After `--` each word is a
 /// file. Wrong usage is: an option that isn't known, one that is given twice, a value that is missing, one that is given
 /// to an option without values, and the word `-`.
 pub fn read_options<'a>(
     alloc: Global,
     words: &'a [String],
-    known: &[Known],
+    known: &[&'static [Known]],
 ) -> Result<Options<'a>, Fault> {
     let mut options = Options {
         given: Vec::new(alloc),
@@ -101,7 +116,7 @@ impl<'a> Options<'a> {
     fn take(
         &mut self,
         word: &'a str,
-        known: &[Known],
+        known: &[&'static [Known]],
         expected: Expected,
     ) -> Result<Expected, Fault> {
         match expected {
@@ -119,13 +134,14 @@ impl<'a> Options<'a> {
     }
 
     /// Takes the word of an option. Returns what the next one may be.
-    fn take_option(&mut self, word: &'a str, known: &[Known]) -> Result<Expected, Fault> {
+    fn take_option(
+        &mut self,
+        word: &'a str,
+        known: &[&'static [Known]],
+    ) -> Result<Expected, Fault> {
         let (name, value) = parted(word).ok_or(Fault::Usage)?;
-        let option = known
-            .iter()
-            .find(|option| option.name() == name)
-            .ok_or(Fault::Usage)?;
-        match (*option, value) {
+        let option = known_by(known, name).ok_or(Fault::Usage)?;
+        match (option, value) {
             (Known::Valued(name), None) => return Ok(Expected::Value(name)),
             (Known::Valued(name), Some(value)) => self.keep(name, value)?,
             (Known::Flag(name), None) => self.keep(name, "")?,
@@ -133,6 +149,18 @@ impl<'a> Options<'a> {
         }
         Ok(Expected::Any)
     }
+}
+
+/// Returns the option of this name, if one of these lists has it.
+fn known_by(known: &[&'static [Known]], name: &str) -> Option<Known> {
+    for options in known {
+        for option in *options {
+            if option.name() == name {
+                return Some(*option);
+            }
+        }
+    }
+    None
 }
 
 /// Parts the word of an option into its name and the value that is attached: `-kVALUE` or `--name=VALUE`.

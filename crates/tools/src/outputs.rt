@@ -36,8 +36,15 @@ impl Output {
 
     /// Writes the text that is kept.
     pub fn finish(&mut self, rt: &HostRuntime) -> Result<(), Fault> {
-        let written = rt.stdout().write_all(self.kept.as_bytes());
+        let written = write_text(rt, self.kept.as_str());
         self.kept.clear();
-        written.map_err(|_| Fault::Write)
+        written
     }
+}
+
+/// Writes a text on standard output.
+pub fn write_text(rt: &HostRuntime, text: &str) -> Result<(), Fault> {
+    rt.stdout()
+        .write_all(text.as_bytes())
+        .map_err(|_| Fault::Write)
 }

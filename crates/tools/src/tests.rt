@@ -6,11 +6,10 @@ use std::process::Abort;
 use std::test::Fail;
 
 /// The options of a made-up program.
-const KNOWN: [Known; 4] = [
-    Known::Valued("k"),
-    Known::Valued("p"),
-    Known::Valued("robot"),
-    Known::Flag("sum"),
+const KNOWN: [&[Known]; 3] = [
+    &[Known::Valued("k"), Known::Valued("p")],
+    &SPAN_OPTIONS,
+    &[Known::Flag("sum"), Known::Flag("steps")],
 ];
 
 /// Splits a line into words.
@@ -95,5 +94,57 @@ fn files(rt: HostRuntime) -> Result<(), Fail> {
     };
     assert_eq!(&rt; options.files(), ["a.r", "b.r", "--sum"].as_slice());
     assert_eq!(&rt; options.has("sum"), false);
+    Ok(())
+}
+
+/// Reads the span that a line of words asks for of two robots: none if it is wrong usage.
+fn span(alloc: Global, line: &str) -> Result<Option<Span>, Fail> {
+    let words = split(alloc, line)?;
+    let Ok(options) = read_options(alloc, words.as_slice(), &KNOWN) else {
+        return Err(Fail::from("wrong usage"));
+    };
+    Ok(Span::read(&options, 2).ok())
+}
+
+#[test]
+fn spans(rt: HostRuntime) -> Result<(), Fail> {
+    let alloc = rt.alloc();
+    let whole = Span {
+        robot: None,
+        from: 0,
+        to: 1_000_000_000,
+    };
+    assert_eq!(&rt; span(alloc, "a.r")?, Some(whole));
+    let part = Span {
+        robot: Some(1),
+        from: 15,
+        to: 30,
+    };
+    assert_eq!(&rt; span(alloc, "a.r --robot 2 --from 15 --to 30")?, Some(part));
+    for line in [
+        "--robot 0",
+        "--robot 3",
+        "--from 2 --to 1",
+        "--to 1000000001",
+    ] {
+        assert_eq!(&rt; span(alloc, line)?, None);
+    }
+    Ok(())
+}
+
+#[test]
+fn choices(rt: HostRuntime) -> Result<(), Fail> {
+    let alloc = rt.alloc();
+    for (line, wanted) in [
+        ("a.r", Ok(None)),
+        ("a.r --steps", Ok(Some(2))),
+        ("--sum --steps", Err(Fault::Usage)),
+    ] {
+        let words = split(alloc, line)?;
+        let Ok(options) = read_options(alloc, words.as_slice(), &KNOWN) else {
+            return Err(Fail::from("wrong usage"));
+        };
+        assert_eq!(&rt; options.only(&[("sum", 1), ("steps", 2)]), wanted);
+    }
     Ok(())
 }

@@ -1,45 +1,34 @@
 //! Questions: a row for each call of an intrinsic function.
 
-ghost use Rattle.std.specs.Prelude.{◌≤◌, length};
-
 use crate::notes::{Note, place_of};
 use crate::requests::Request;
 use crate::rows::Rows;
-use arena::{Arena, MOST_ROBOTS};
-use findings::Span;
-use playing::{Pilot, Question, Turn, Watcher, play};
+use crate::tellers::Teller;
+use arena::Arena;
+use playing::{Pilot, Question, Turn, Watcher};
 use std::alloc::AllocError;
-use tools::Fault;
+use tools::{Fault, Span};
 
 /// The names of the columns.
 const COLUMNS: &str = "cycle\trobot\tfunction\tline\tcall\treply";
 
-/// Plays a match, and writes its questions.
-pub fn write_asks(
-    rt: &HostRuntime,
-    request: &Request<'_>,
-    notes: &[Note],
-    pilots: &mut [Pilot<'_>],
-) -> Result<(), Fault>
-    requires some { 2 ≤ length pilots.old }
-    requires most { length pilots.old ≤ MOST_ROBOTS }
-{
-    let mut asks = Asks {
-        rows: Rows::new(rt, COLUMNS),
-        span: request.span,
-        notes,
-    };
-    let wish = &request.wish;
-    let _ = play(pilots, &mut asks, wish.seed(), wish.number(), wish.limit());
-    asks.rows.finish()
-}
-
 /// What writes questions as they are asked.
 #[derive(Drop)]
-struct Asks<'a> {
+pub struct Asks<'a> {
     rows: Rows<'a>,
     span: Span,
     notes: &'a [Note],
+}
+
+impl<'a> Asks<'a> {
+    /// Makes the questions of a match that was not begun.
+    pub fn new(rt: &'a HostRuntime, request: &Request<'_>, notes: &'a [Note]) -> Asks<'a> {
+        Asks {
+            rows: Rows::new(rt, COLUMNS),
+            span: request.span,
+            notes,
+        }
+    }
 }
 
 impl Watcher for Asks<'_> {
@@ -56,6 +45,17 @@ impl Watcher for Asks<'_> {
 
     fn wants_more(&self) -> bool {
         self.rows.are_fine()
+    }
+}
+
+impl Teller for Asks<'_> {
+    fn finish(
+        self,
+        _request: &Request<'_>,
+        _cycles: u32,
+        _pilots: &[Pilot<'_>],
+    ) -> Result<(), Fault> {
+        self.rows.finish()
     }
 }
 

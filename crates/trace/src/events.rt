@@ -1,45 +1,23 @@
 //! Events of a match, and films of it: events with the robots' ways and scans beside them.
 
-ghost use Rattle.std.specs.Prelude.{◌<◌, ◌≤◌, length};
+ghost use Rattle.std.specs.Prelude.{◌<◌, length};
 
 use crate::notes::{Note, note_of, place_of};
 use crate::requests::Request;
 use crate::rows::{Field, Rows};
+use crate::tellers::Teller;
 use arena::{Arena, MOST_ROBOTS};
 use code::{Cause, Intrinsic};
-use findings::{Loss, Run, Source, Span, Stance, losses};
-use playing::{Pilot, Question, Turn, UPDATE_CYCLES, Watcher, play};
-use tools::Fault;
+use findings::{Loss, Seen, Source, Stance, losses};
+use playing::{Pilot, Question, Turn, Watcher};
+use tools::{Fault, Span};
 
 /// The names of the columns.
 const COLUMNS: &str = "cycle\trobot\tkind\ta\tb\tc\td\te";
 
-/// Plays a match, and writes its events: for a film with the robots' names, ways and scans.
-pub fn write_events(
-    rt: &HostRuntime,
-    request: &Request<'_>,
-    notes: &[Note],
-    pilots: &mut [Pilot<'_>],
-) -> Result<(), Fault>
-    requires some { 2 ≤ length pilots.old }
-    requires most { length pilots.old ≤ MOST_ROBOTS }
-{
-    let mut events = Events::new(rt, request, notes);
-    let wish = &request.wish;
-    let cycles = play(
-        pilots,
-        &mut events,
-        wish.seed(),
-        wish.number(),
-        wish.limit(),
-    );
-    events.end(cycles);
-    events.rows.finish()
-}
-
-/// What writes events as they happen.
+/// What writes events as they happen: for a film with the robots' names, ways and scans.
 #[derive(Drop)]
-struct Events<'a> {
+pub struct Events<'a> {
     rows: Rows<'a>,
     span: Span,
     notes: &'a [Note],
@@ -48,18 +26,9 @@ struct Events<'a> {
     robots: usize,
 }
 
-/// What was seen of a robot.
-#[derive(Clone, Copy, Default, Drop)]
-struct Seen {
-    run: Run,
-    has_scanned: bool,
-    is_dead: bool,
-    damage: u8,
-}
-
 impl<'a> Events<'a> {
     /// Makes the events of a match that was not begun.
-    fn new(rt: &'a HostRuntime, request: &Request<'_>, notes: &'a [Note]) -> Events<'a> {
+    pub fn new(rt: &'a HostRuntime, request: &Request<'_>, notes: &'a [Note]) -> Events<'a> {
         Events {
             rows: Rows::new(rt, COLUMNS),
             span: request.span,
@@ -119,10 +88,9 @@ impl<'a> Events<'a> {
         let Some(seen) = self.seen.get_mut(turn.robot) else {
             return;
         };
-        if !self.is_film || seen.has_scanned {
+        if !self.is_film || !seen.scan() {
             return;
         }
-        seen.has_scanned = true;
         let [degree, resolution] = question.arguments;
         let fields = [
             Field::Number(i64::from(degree)),
@@ -169,16 +137,13 @@ impl<'a> Events<'a> {
     fn look(&mut self, cycle: u32, arena: &Arena) {
         for robot in 0..self.robots.min(arena.robot_count()) {
             if let Some(seen) = self.seen.get_mut(robot) {
-                seen.has_scanned = false;
-                seen.damage = arena.damage(robot);
-                let died = !seen.is_dead && !arena.alive(robot);
-                seen.is_dead |= died;
+                let died = seen.look(arena.damage(robot), arena.alive(robot));
                 if died {
                     self.tell(cycle, robot, "death", &[]);
                 }
             }
             if self.is_film && self.span.has(cycle, robot) {
-                self.follow(robot, stance_of(cycle, robot, arena));
+                self.follow(robot, Stance::of(cycle, robot, arena));
             }
         }
         self.rows.pass();
@@ -264,6 +229,18 @@ impl Watcher for Events<'_> {
     }
 }
 
+impl Teller for Events<'_> {
+    fn finish(
+        mut self,
+        _request: &Request<'_>,
+        cycles: u32,
+        _pilots: &[Pilot<'_>],
+    ) -> Result<(), Fault> {
+        self.end(cycles);
+        self.rows.finish()
+    }
+}
+
 /// Returns the word of a cause.
 pub fn word_of(cause: Cause) -> &'static str {
     match cause {
@@ -276,21 +253,6 @@ pub fn word_of(cause: Cause) -> &'static str {
 /// Returns the field of a robot's number, which counts from 1.
 fn number_of(robot: usize) -> Field<'static> {
     Field::Number(robot.min(MOST_ROBOTS) as i64 + 1)
-}
-
-/// Returns where a robot is, and how.
-fn stance_of(cycle: u32, robot: usize, arena: &Arena) -> Stance
-    requires { robot < length arena.now.robots }
-{
-    let (x, y) = arena.place(robot);
-    Stance {
-        cycle,
-        x,
-        y,
-        heading: arena.heading(robot),
-        speed: arena.speed(robot),
-        damage: arena.damage(robot),
-    }
 }
 
 /// Returns the fields of where a robot is.

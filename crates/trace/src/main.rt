@@ -1,6 +1,8 @@
 //! Plays one match, and tells what happened in it: sums, events, questions, steps, or a film.
 #![tactic(auto)]
 
+ghost use Rattle.std.specs.Prelude.{◌≤◌, length};
+
 mod asks;
 mod events;
 mod habits;
@@ -13,42 +15,64 @@ mod rows;
 mod steps;
 mod sums;
 mod tallies;
+mod tellers;
 
-use crate::asks::write_asks;
-use crate::events::write_events;
-use crate::notes::compiled;
-use crate::requests::{Form, KNOWN, Request};
-use crate::steps::write_steps;
-use crate::sums::write_sums;
-use playing::pilots;
+use crate::asks::Asks;
+use crate::events::Events;
+use crate::notes::{Note, compiled};
+use crate::requests::{FORM_OPTIONS, Form, Request};
+use crate::steps::Steps;
+use crate::sums::Sums;
+use crate::tellers::tell;
+use arena::MOST_ROBOTS;
+use playing::{Pilot, pilots};
 use std::process::ExitCode;
-use tools::{Fault, ended, read_options, words};
+use tools::{Fault, Frame, MATCH_OPTIONS, Options, SPAN_OPTIONS, Work};
 
-/// The program's name, as its lines begin.
-const NAME: &str = "trace";
+/// The program's name, its line of wrong usage, and its options.
+const FRAME: Frame = Frame {
+    name: "trace",
+    usage: "usage: trace [-kMATCH] [-lCYCLES] [-sSEED] [-pPROFILE] [--robot N] [--from CYCLE] [--to CYCLE] [--sum | --events | --asks | --steps | --film] FILE..",
+    known: &[&MATCH_OPTIONS, &SPAN_OPTIONS, &FORM_OPTIONS],
+};
 
-/// The line of wrong usage.
-const USAGE: &str =
-    "usage: trace [-kMATCH] [-lCYCLES] [-sSEED] [-pPROFILE] [--robot N] [--from CYCLE] [--to CYCLE] [--sum | --events | --asks | --steps | --film] FILE..";
-
+/// Tells of the match that the command line asks for, and returns the status.
 fn main(rt: HostRuntime) -> ExitCode {
-    ended(&rt, NAME, USAGE, run(&rt))
+    FRAME.run(&rt, &Trace)
 }
 
-/// Reads the words, compiles the files, plays the match, and writes what was asked for. The lines about sources are
-/// written.
-fn run(rt: &HostRuntime) -> Result<(), Fault> {
-    let words = words(rt)?;
-    let options = read_options(rt.alloc(), words.as_slice(), &KNOWN)?;
-    let request = Request::read(&options)?;
-    let sources = compiled(rt, NAME, &request.wish)?;
-    let notes = sources.notes.as_slice();
-    let mut pilots = pilots(rt.alloc(), sources.programs.as_slice())?;
-    let pilots = pilots.as_mut_slice();
+/// The work of this program.
+struct Trace;
+
+impl Work for Trace {
+    /// Compiles the files, plays the match, and writes what was asked for.
+    fn work(&self, rt: &HostRuntime, options: &Options<'_>) -> Result<(), Fault> {
+        let request = Request::read(options)?;
+        let sources = compiled(rt, FRAME.name, &request.wish)?;
+        let mut pilots = pilots(rt.alloc(), sources.programs.as_slice())?;
+        told(
+            rt,
+            &request,
+            sources.notes.as_slice(),
+            pilots.as_mut_slice(),
+        )
+    }
+}
+
+/// Plays the match before what tells it in the form that is asked for.
+fn told(
+    rt: &HostRuntime,
+    request: &Request<'_>,
+    notes: &[Note],
+    pilots: &mut [Pilot<'_>],
+) -> Result<(), Fault>
+    requires some { 2 ≤ length pilots.old }
+    requires most { length pilots.old ≤ MOST_ROBOTS }
+{
     match request.form {
-        Form::Sum => write_sums(rt, &request, notes, pilots),
-        Form::Events | Form::Film => write_events(rt, &request, notes, pilots),
-        Form::Asks => write_asks(rt, &request, notes, pilots),
-        Form::Steps => write_steps(rt, &request, pilots),
+        Form::Sum => tell(Sums::new(rt, request, notes, pilots)?, request, pilots),
+        Form::Events | Form::Film => tell(Events::new(rt, request, notes), request, pilots),
+        Form::Asks => tell(Asks::new(rt, request, notes), request, pilots),
+        Form::Steps => tell(Steps::new(rt, request), request, pilots),
     }
 }

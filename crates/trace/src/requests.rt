@@ -1,18 +1,9 @@
 //! What is asked for: a match, a form, and a span of it.
 
-use findings::Span;
-use settings::CYCLES_MAX;
-use tools::{Fault, Known, Options, Wish, number_of};
+use tools::{Fault, Known, Options, Span, Wish};
 
-/// The options: those of a match, of a span, and of forms.
-pub const KNOWN: [Known; 12] = [
-    Known::Valued("k"),
-    Known::Valued("l"),
-    Known::Valued("s"),
-    Known::Valued("p"),
-    Known::Valued("robot"),
-    Known::Valued("from"),
-    Known::Valued("to"),
+/// The options that a form is asked for by.
+pub const FORM_OPTIONS: [Known; 5] = [
     Known::Flag("sum"),
     Known::Flag("events"),
     Known::Flag("asks"),
@@ -56,11 +47,11 @@ pub struct Request<'a> {
 }
 
 impl<'a> Request<'a> {
-    /// Reads what options ask for.
+    /// Reads what options ask for: a match, a span of it, and a form, sums by default. Two forms are wrong usage.
     pub fn read(options: &Options<'a>) -> Result<Request<'a>, Fault> {
         let wish = Wish::read(options)?;
-        let form = form_of(options)?;
-        let span = span_of(options, wish.files().len().max(2))?;
+        let form = options.only(&FORMS)?.unwrap_or(Form::Sum);
+        let span = Span::read(options, wish.files().len().max(2))?;
         Ok(Request { wish, form, span })
     }
 
@@ -68,34 +59,4 @@ impl<'a> Request<'a> {
     pub fn is_film(&self) -> bool {
         self.form == Form::Film
     }
-}
-
-/// Reads the form, sums by default. Two forms are wrong usage.
-fn form_of(options: &Options<'_>) -> Result<Form, Fault> {
-    let mut found = None;
-    for (name, form) in FORMS {
-        if options.has(name) {
-            if found.is_some() {
-                return Err(Fault::Usage);
-            }
-            found = Some(form);
-        }
-    }
-    Ok(found.unwrap_or(Form::Sum))
-}
-
-/// Reads the span: one of so many robots, or all, and all cycles by default.
-fn span_of(options: &Options<'_>, robots: usize) -> Result<Span, Fault> {
-    let last = u64::from(CYCLES_MAX);
-    let from = number_of(options, "from", 0, last, 0)? as u32;
-    let to = number_of(options, "to", 0, last, last)? as u32;
-    if to < from {
-        return Err(Fault::Usage);
-    }
-    let robot = match number_of(options, "robot", 0, robots as u64, 0)? {
-        0 if options.has("robot") => return Err(Fault::Usage),
-        0 => None,
-        number => Some(number as usize - 1),
-    };
-    Ok(Span { robot, from, to })
 }

@@ -1,44 +1,33 @@
 //! Steps: a row for each cycle, with the instruction and the stack before it.
 
-ghost use Rattle.std.specs.Prelude.{◌≤◌, length};
-
 use crate::requests::Request;
 use crate::rows::Rows;
-use arena::MOST_ROBOTS;
+use crate::tellers::Teller;
 use code::Program;
-use findings::Span;
 use listings::instruction_text;
-use playing::{Pilot, Turn, Watcher, play};
+use playing::{Pilot, Turn, Watcher};
 use std::alloc::AllocError;
 use std::str;
-use tools::Fault;
+use tools::{Fault, Span};
 
 /// The names of the columns.
 const COLUMNS: &str = "cycle\trobot\taddress\tinstruction\tstack";
 
-/// Plays a match, and writes its steps.
-pub fn write_steps(
-    rt: &HostRuntime,
-    request: &Request<'_>,
-    pilots: &mut [Pilot<'_>],
-) -> Result<(), Fault>
-    requires some { 2 ≤ length pilots.old }
-    requires most { length pilots.old ≤ MOST_ROBOTS }
-{
-    let mut steps = Steps {
-        rows: Rows::new(rt, COLUMNS),
-        span: request.span,
-    };
-    let wish = &request.wish;
-    let _ = play(pilots, &mut steps, wish.seed(), wish.number(), wish.limit());
-    steps.rows.finish()
-}
-
 /// What writes steps as they are done.
 #[derive(Drop)]
-struct Steps<'a> {
+pub struct Steps<'a> {
     rows: Rows<'a>,
     span: Span,
+}
+
+impl<'a> Steps<'a> {
+    /// Makes the steps of a match that was not begun.
+    pub fn new(rt: &'a HostRuntime, request: &Request<'_>) -> Steps<'a> {
+        Steps {
+            rows: Rows::new(rt, COLUMNS),
+            span: request.span,
+        }
+    }
 }
 
 impl Watcher for Steps<'_> {
@@ -53,6 +42,17 @@ impl Watcher for Steps<'_> {
 
     fn wants_more(&self) -> bool {
         self.rows.are_fine()
+    }
+}
+
+impl Teller for Steps<'_> {
+    fn finish(
+        self,
+        _request: &Request<'_>,
+        _cycles: u32,
+        _pilots: &[Pilot<'_>],
+    ) -> Result<(), Fault> {
+        self.rows.finish()
     }
 }
 

@@ -1,61 +1,48 @@
 //! Sums of a match: what each robot did and suffered, and where its time went.
 
-ghost use Rattle.std.specs.Prelude.{◌<◌, ◌≤◌, length};
+ghost use Rattle.std.specs.Prelude.{◌<◌, length};
 
 use crate::notes::Note;
 use crate::reports::add_report;
 use crate::requests::Request;
 use crate::tallies::Tally;
-use arena::{Arena, MOST_ROBOTS};
+use crate::tellers::Teller;
+use arena::Arena;
 use code::Cause;
-use findings::{Source, Span, losses};
-use playing::{Pilot, Question, Turn, Watcher, play};
-use std::io::Write;
-use tools::Fault;
+use findings::{Source, losses};
+use playing::{Pilot, Question, Turn, Watcher};
+use tools::{Fault, Span, write_text};
 
-/// Plays a match, and writes its sums at once when it is over.
-pub fn write_sums(
-    rt: &HostRuntime,
-    request: &Request<'_>,
-    notes: &[Note],
-    pilots: &mut [Pilot<'_>],
-) -> Result<(), Fault>
-    requires some { 2 ≤ length pilots.old }
-    requires most { length pilots.old ≤ MOST_ROBOTS }
-{
-    let mut tallies = Vec::new(rt.alloc());
-    for pilot in pilots.iter() {
-        let tally = Tally::new(rt.alloc(), pilot.program().instructions().len())?;
-        tallies.push(tally).map_err(|_| Fault::Memory)?;
-    }
-    let mut sums = Sums {
-        span: request.span,
-        tallies,
-    };
-    let wish = &request.wish;
-    let cycles = play(pilots, &mut sums, wish.seed(), wish.number(), wish.limit());
-    let mut text = String::new(rt.alloc());
-    add_report(
-        &mut text,
-        request,
-        cycles,
-        notes,
-        pilots,
-        sums.tallies.as_slice(),
-    )?;
-    rt.stdout()
-        .write_all(text.as_bytes())
-        .map_err(|_| Fault::Write)
-}
-
-/// What counts.
+/// What counts. The sums are written at once when the match is over.
 #[derive(Drop)]
-struct Sums {
+pub struct Sums<'a> {
+    rt: &'a HostRuntime,
     span: Span,
+    notes: &'a [Note],
     tallies: Vec<Tally>,
 }
 
-impl Sums {
+impl<'a> Sums<'a> {
+    /// Makes the sums of a match that was not begun, between these pilots.
+    pub fn new(
+        rt: &'a HostRuntime,
+        request: &Request<'_>,
+        notes: &'a [Note],
+        pilots: &[Pilot<'_>],
+    ) -> Result<Sums<'a>, Fault> {
+        let mut tallies = Vec::new(rt.alloc());
+        for pilot in pilots {
+            let tally = Tally::new(rt.alloc(), pilot.program().instructions().len())?;
+            tallies.push(tally).map_err(|_| Fault::Memory)?;
+        }
+        Ok(Sums {
+            rt,
+            span: request.span,
+            notes,
+            tallies,
+        })
+    }
+
     /// Returns the tally of a robot, if it is looked at in a cycle.
     fn tally(&mut self, cycle: u32, robot: usize) -> Option<&mut Tally> {
         if self.span.has(cycle, robot) {
@@ -96,7 +83,7 @@ impl Sums {
     }
 }
 
-impl Watcher for Sums {
+impl Watcher for Sums<'_> {
     fn turn(&mut self, turn: Turn, pilot: &Pilot<'_>) {
         if let Some(tally) = self.tally(turn.cycle, turn.robot) {
             tally.pass(pilot.machine().address());
@@ -129,5 +116,20 @@ impl Watcher for Sums {
                 tally.see(cycle, arena.damage(robot), arena.alive(robot));
             }
         }
+    }
+}
+
+impl Teller for Sums<'_> {
+    fn finish(self, request: &Request<'_>, cycles: u32, pilots: &[Pilot<'_>]) -> Result<(), Fault> {
+        let mut text = String::new(self.rt.alloc());
+        add_report(
+            &mut text,
+            request,
+            cycles,
+            self.notes,
+            pilots,
+            self.tallies.as_slice(),
+        )?;
+        write_text(self.rt, text.as_str())
     }
 }

@@ -30,8 +30,8 @@ pub struct Period {
 impl Period {
     /// Returns the updates of a match that are drawn.
     pub fn of(view: View, recording: &Recording) -> Period {
-        let last = recording.updates().min(view.to / UPDATE_CYCLES);
-        let first = view.from.div_ceil(UPDATE_CYCLES).min(last);
+        let last = recording.updates().min(view.span.to / UPDATE_CYCLES);
+        let first = view.span.from.div_ceil(UPDATE_CYCLES).min(last);
         Period { first, last }
     }
 

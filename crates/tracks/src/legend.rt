@@ -48,7 +48,7 @@ pub fn add_legend(
 
 /// Adds which cycles and which robot are drawn, if not all.
 fn add_view(text: &mut String, view: View, cycles: u32) -> Result<(), AllocError> {
-    let (from, to) = (view.from.min(cycles), view.to.min(cycles));
+    let (from, to) = (view.span.from.min(cycles), view.span.to.min(cycles));
     if view.is_whole(cycles) {
         return Ok(());
     }
@@ -56,7 +56,7 @@ fn add_view(text: &mut String, view: View, cycles: u32) -> Result<(), AllocError
         text,
         "<text x=\"1080\" y=\"94\" font-size=\"14\">drawn: cycles {from} to {to}"
     )?;
-    if let Some(robot) = view.robot {
+    if let Some(robot) = view.span.robot {
         write!(text, ", robot {}", robot.saturating_add(1))?;
     }
     if !view.has_shots {

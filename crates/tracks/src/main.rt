@@ -14,39 +14,39 @@ mod strip;
 
 use crate::matches::{Recording, record};
 use crate::picture::drawn;
-use crate::requests::{KNOWN, Request};
+use crate::requests::{Request, VIEW_OPTIONS};
 use playing::pilots;
-use std::io::Write;
 use std::process::ExitCode;
-use tools::{Fault, ended, programs, read_options, words};
+use tools::{Fault, Frame, MATCH_OPTIONS, Options, SPAN_OPTIONS, Work, programs, write_text};
 
-/// The program's name, as its lines begin.
-const NAME: &str = "tracks";
+/// The program's name, its line of wrong usage, and its options.
+const FRAME: Frame = Frame {
+    name: "tracks",
+    usage: "usage: tracks [-kMATCH] [-lCYCLES] [-sSEED] [-pPROFILE] [--robot N] [--from CYCLE] [--to CYCLE] [--no-shots] FILE.. > match.svg",
+    known: &[&MATCH_OPTIONS, &SPAN_OPTIONS, &VIEW_OPTIONS],
+};
 
-/// The line of wrong usage.
-const USAGE: &str =
-    "usage: tracks [-kMATCH] [-lCYCLES] [-sSEED] [-pPROFILE] [--robot N] [--from CYCLE] [--to CYCLE] [--no-shots] FILE.. > match.svg";
-
+/// Draws the match that the command line asks for, and returns the status.
 fn main(rt: HostRuntime) -> ExitCode {
-    ended(&rt, NAME, USAGE, run(&rt))
+    FRAME.run(&rt, &Tracks)
 }
 
-/// Reads the words, plays the match, and writes its picture at once when it is whole. The lines about sources are
-/// written.
-fn run(rt: &HostRuntime) -> Result<(), Fault> {
-    let words = words(rt)?;
-    let options = read_options(rt.alloc(), words.as_slice(), &KNOWN)?;
-    let request = Request::read(&options)?;
-    let recording = recorded(rt, &request)?;
-    let picture = drawn(rt.alloc(), &request, &recording)?;
-    rt.stdout()
-        .write_all(picture.as_bytes())
-        .map_err(|_| Fault::Write)
+/// The work of this program.
+struct Tracks;
+
+impl Work for Tracks {
+    /// Plays the match, and writes its picture at once when it is whole.
+    fn work(&self, rt: &HostRuntime, options: &Options<'_>) -> Result<(), Fault> {
+        let request = Request::read(options)?;
+        let recording = recorded(rt, &request)?;
+        let picture = drawn(rt.alloc(), &request, &recording)?;
+        write_text(rt, picture.as_str())
+    }
 }
 
 /// Compiles the files and plays the match.
 fn recorded(rt: &HostRuntime, request: &Request<'_>) -> Result<Recording, Fault> {
-    let programs = programs(rt, NAME, &request.wish)?;
+    let programs = programs(rt, FRAME.name, &request.wish)?;
     let mut pilots = pilots(rt.alloc(), programs.as_slice())?;
     Ok(record(pilots.as_mut_slice(), &request.wish, request.view))
 }

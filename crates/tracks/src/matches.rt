@@ -158,10 +158,10 @@ impl Recorder {
             if let Some(track) = self.tracks.as_mut_slice().get_mut(robot) {
                 track.suffer(arena.damage(robot), update);
                 let place = Place::of(arena, robot);
-                if cycle <= self.view.to {
+                if cycle <= self.view.span.to {
                     track.end = place;
                 }
-                if self.view.has(cycle) {
+                if self.view.span.has_cycle(cycle) {
                     track.pass(place, update);
                 }
             }
@@ -190,9 +190,7 @@ impl Watcher for Recorder {
     }
 
     fn asked(&mut self, turn: Turn, _pilot: &Pilot<'_>, question: Question, arena: &Arena) {
-        let is_drawn = self.view.has_shots
-            && self.view.shows(turn.robot)
-            && self.view.has(turn.cycle);
+        let is_drawn = self.view.has_shots && self.view.span.has(turn.cycle, turn.robot);
         if is_drawn && question.intrinsic == Intrinsic::Cannon && question.reply == 1 {
             let updates = turn.cycle.saturating_sub(1) / UPDATE_CYCLES;
             let from = Place::of(arena, turn.robot);

@@ -52,7 +52,7 @@ fn add_tracks(
 ) -> Result<(), AllocError> {
     let wish: &Wish<'_> = &request.wish;
     for robot in 0..recording.tracks.len() {
-        if request.view.shows(robot) {
+        if request.view.span.has_robot(robot) {
             let track = &recording.tracks.as_slice()[robot];
             add_track(text, robot, name_of(wish.file_of(robot)), track, period)?;
         }
@@ -69,7 +69,7 @@ fn add_ends(
 ) -> Result<(), AllocError> {
     text.push_str(ENDS)?;
     for robot in 0..recording.tracks.len() {
-        if view.shows(robot) {
+        if view.span.has_robot(robot) {
             add_end(text, robot, &recording.tracks.as_slice()[robot], period)?;
         }
     }

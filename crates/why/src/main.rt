@@ -4,38 +4,39 @@
 use explanations::{add_explanation, add_warnings, compile};
 use grammar::{ParseFault, Profile};
 use std::process::ExitCode;
-use tools::{Fault, Known, Options, Output, ended, profile, read_options, source_of, words};
+use tools::{Fault, Frame, Known, Options, Output, Work, profile, source_of};
 
-/// The program's name, as its lines begin.
-const NAME: &str = "why";
+/// The program's name, its line of wrong usage, and its options.
+const FRAME: Frame = Frame {
+    name: "why",
+    usage: "usage: why [-pPROFILE] [--lint [--strict]] FILE..",
+    known: &[&[
+        Known::Valued("p"),
+        Known::Flag("lint"),
+        Known::Flag("strict"),
+    ]],
+};
 
-/// The line of wrong usage.
-const USAGE: &str = "usage: why [-pPROFILE] [--lint [--strict]] FILE..";
-
-/// The options.
-const OPTIONS: [Known; 3] = [
-    Known::Valued("p"),
-    Known::Flag("lint"),
-    Known::Flag("strict"),
-];
-
+/// Explains the files that the command line names, and returns the status.
 fn main(rt: HostRuntime) -> ExitCode {
-    ended(&rt, NAME, USAGE, run(&rt))
+    FRAME.run(&rt, &Why)
 }
 
-/// Reads the words, and explains the files one after the other. What is known of the files before one that can't be read
-/// is written.
-fn run(rt: &HostRuntime) -> Result<(), Fault> {
-    let words = words(rt)?;
-    let options = read_options(rt.alloc(), words.as_slice(), &OPTIONS)?;
-    let wish = Wish::read(&options)?;
-    let mut output = Output::new(rt.alloc());
-    let explained = explain_all(rt, &mut output, &wish, options.files());
-    output.finish(rt)?;
-    match explained {
-        Ok(false) => Ok(()),
-        Ok(true) => Err(Fault::Source),
-        Err(fault) => Err(fault),
+/// The work of this program.
+struct Why;
+
+impl Work for Why {
+    /// Explains the files one after the other. What is known of the files before one that can't be read is written.
+    fn work(&self, rt: &HostRuntime, options: &Options<'_>) -> Result<(), Fault> {
+        let wish = Wish::read(options)?;
+        let mut output = Output::new(rt.alloc());
+        let explained = explain_all(rt, &mut output, &wish, options.files());
+        output.finish(rt)?;
+        match explained {
+            Ok(false) => Ok(()),
+            Ok(true) => Err(Fault::Source),
+            Err(fault) => Err(fault),
+        }
     }
 }
 
@@ -79,7 +80,7 @@ fn explain_all(
 
 /// Explains a file. Reports whether it has a fault, or a warning where warnings count.
 fn explain(rt: &HostRuntime, output: &mut Output, wish: &Wish, path: &str) -> Result<bool, Fault> {
-    let (bytes, alloc) = (source_of(rt, NAME, path)?, rt.alloc());
+    let (bytes, alloc) = (source_of(rt, FRAME.name, path)?, rt.alloc());
     let (text, source) = (output.text(), bytes.as_slice());
     match compile(source, wish.profile) {
         Ok(()) if wish.lint => {

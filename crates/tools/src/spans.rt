@@ -1,0 +1,89 @@
+//! Spans: which robots and which cycles are looked at.
+
+ghost use Rattle.std.specs.Prelude.{◌≡◌, ◌≤◌, ◌↔◌, IfOk, IsTrue, None};
+ghost use Rattle.tools.specs.Span.{IsOfRobot, IsOfRobots};
+
+use crate::faults::Fault;
+use crate::options::{Known, Options};
+use crate::wishes::number_of;
+use settings::CYCLES_MAX;
+
+/// The options that a span is asked for by: the only robot, the first cycle, the last cycle.
+pub const SPAN_OPTIONS: [Known; 3] = [
+    Known::Valued("robot"),
+    Known::Valued("from"),
+    Known::Valued("to"),
+];
+
+/// A span of cycles of one robot, or of all.
+#[derive(Clone, Copy, Debug, PartialEq, Eq, Drop)]
+pub struct Span {
+    /// The robot's number, from 0: all robots if there is none.
+    pub robot: Option<usize>,
+    /// The first cycle.
+    pub from: u32,
+    /// The last cycle.
+    pub to: u32,
+}
+
+impl Span {
+    /// Reads the span that options ask for of so many robots: `--robot`, its number, from 1, by default all robots;
+    /// `--from` and `--to`, the first and the last cycle, 0 to 1,000,000,000, by default all cycles. Other values, and a
+    /// last cycle before the first one, are wrong usage.
+    pub fn read(options: &Options<'_>, robots: usize) -> Result<Span, Fault>
+        ensures robot { IfOk result (λ span. IsOfRobots span.robot robots) }
+        ensures cycles { IfOk result (λ span. span.from ≤ span.to) }
+        ensures most { IfOk result (λ span. span.to ≤ CYCLES_MAX) }
+    {
+        let last = u64::from(CYCLES_MAX);
+        let from = number_of(options, "from", 0, last, 0)? as u32;
+        let to = number_of(options, "to", 0, last, last)? as u32;
+        if to < from {
+            return Err(Fault::Usage);
+        }
+        let robot = robot_of(options, robots)?;
+        Ok(Span { robot, from, to })
+    }
+
+    /// Reports whether a robot is looked at.
+    pub fn has_robot(&self, robot: usize) -> bool
+        ensures { IsTrue result ↔ IsOfRobot self.now.robot robot }
+    {
+        match self.robot {
+            Some(only) => only == robot,
+            None => true,
+        }
+    }
+
+    /// Reports whether a cycle is looked at.
+    pub fn has_cycle(&self, cycle: u32) -> bool
+        ensures { IsTrue result ↔ ((self.now.from ≤ cycle) × (cycle ≤ self.now.to)) }
+    {
+        self.from <= cycle && cycle <= self.to
+    }
+
+    /// Reports whether a robot is looked at in a cycle.
+    pub fn has(&self, cycle: u32, robot: usize) -> bool
+        ensures { IsTrue result ↔ (IsOfRobot self.now.robot robot × (self.now.from ≤ cycle) × (cycle ≤ self.now.to)) }
+    {
+        self.has_robot(robot) && self.has_cycle(cycle)
+    }
+
+    /// Reports whether all robots are looked at, and each of so many cycles.
+    pub fn is_whole(&self, cycles: u32) -> bool
+        ensures { IsTrue result ↔ ((self.now.robot ≡ None) × (self.now.from ≡ 0) × (cycles ≤ self.now.to)) }
+    {
+        self.robot.is_none() && self.from == 0 && self.to >= cycles
+    }
+}
+
+/// Reads the number of the only robot that is looked at, from 1 to so many, if one is asked for.
+fn robot_of(options: &Options<'_>, robots: usize) -> Result<Option<usize>, Fault>
+    ensures { IfOk result (λ robot. IsOfRobots robot robots) }
+{
+    match number_of(options, "robot", 0, robots as u64, 0)? {
+        0 if options.has("robot") => Err(Fault::Usage),
+        0 => Ok(None),
+        number => Ok(Some(number as usize - 1)),
+    }
+}

@@ -1,0 +1,35 @@
+//! What tells a match, and the match that is played before it.
+
+ghost use Rattle.std.specs.Prelude.{◌≤◌, length};
+
+use crate::requests::Request;
+use arena::MOST_ROBOTS;
+use playing::{Pilot, Watcher, play};
+use tools::Fault;
+
+/// What tells a match as it is played.
+pub trait Teller: Watcher {
+    /// Tells what is left after the last cycle of the match that was asked for, and writes all that isn't written yet. These
+    /// pilots played it.
+    fn finish(self, request: &Request<'_>, cycles: u32, pilots: &[Pilot<'_>]) -> Result<(), Fault>;
+}
+
+/// Plays the match that is asked for, and writes what is told of it.
+pub fn tell<T: Teller>(
+    mut teller: T,
+    request: &Request<'_>,
+    pilots: &mut [Pilot<'_>],
+) -> Result<(), Fault>
+    requires some { 2 ≤ length pilots.old }
+    requires most { length pilots.old ≤ MOST_ROBOTS }
+{
+    let wish = &request.wish;
+    let cycles = play(
+        pilots,
+        &mut teller,
+        wish.seed(),
+        wish.number(),
+        wish.limit(),
+    );
+    teller.finish(request, cycles, pilots)
+}
