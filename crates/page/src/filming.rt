@@ -29,9 +29,6 @@ pub fn film_robots(
 ) -> Option<Result<Status, RunFault>> {
     film.clear();
     faults.clear();
-    if robots.is_empty() {
-        return None;
-    }
     let words = words_of(robots)?;
     let settings = order.settings(words.as_slice())?;
     let mut feeds = feeds_of(robots)?;

@@ -8,7 +8,7 @@ use arena::{Arena, MOST_ROBOTS};
 use arrayvec::ArrayVec;
 use code::{Cause, Intrinsic};
 use derivations::Places;
-use findings::{Loss, Run, Source, Stance, function_at, losses};
+use findings::{Loss, Seen, Source, Stance, function_at, losses};
 use grammar::MOST_NAMES;
 use playing::{Pilot, Question, Turn, Watcher};
 use series::{RunFault, Status};
@@ -19,15 +19,6 @@ pub(crate) const COLUMNS: &[u8] = b"cycle\trobot\tkind\ta\tb\tc\td\te\n";
 
 /// The names of the functions of a file, by number.
 pub(crate) type Functions = ArrayVec<Name, MOST_NAMES>;
-
-/// What was seen of a robot.
-#[derive(Clone, Copy, Default)]
-struct Seen {
-    run: Run,
-    has_scanned: bool,
-    is_dead: bool,
-    damage: u8,
-}
 
 /// What writes a film on a sheet as its match is played. A full sheet takes no more of it.
 #[derive(Drop)]
@@ -129,10 +120,9 @@ impl<'a> Film<'a> {
         let Some(seen) = self.seen.get_mut(turn.robot) else {
             return;
         };
-        if seen.has_scanned {
+        if !seen.scan() {
             return;
         }
-        seen.has_scanned = true;
         let [degree, resolution] = question.arguments;
         let fields = [
             Field::Number(degree),
@@ -176,7 +166,7 @@ impl<'a> Film<'a> {
     /// Looks at the robots after an update, or at the begin.
     fn look(&mut self, cycle: u32, arena: &Arena) {
         for robot in 0..self.robots.min(arena.robot_count()) {
-            let stance = stance_of(cycle, robot, arena);
+            let stance = Stance::of(cycle, robot, arena);
             self.follow(robot, stance, arena.alive(robot));
         }
     }
@@ -186,10 +176,7 @@ impl<'a> Film<'a> {
         let Some(seen) = self.seen.get_mut(robot) else {
             return;
         };
-        seen.has_scanned = false;
-        seen.damage = stance.damage;
-        let died = !seen.is_dead && !is_alive;
-        seen.is_dead |= died;
+        let died = seen.look(stance.damage, is_alive);
         let news = seen.run.go_on(stance);
         if died {
             self.tell(stance.cycle, robot, b"death", &[]);
@@ -268,19 +255,4 @@ fn word_of(cause: Cause) -> &'static [u8] {
 /// Returns the field of a robot's number, which counts from 1.
 fn number_of(robot: usize) -> Field<'static> {
     Field::Number((robot % 100) as i32 + 1)
-}
-
-/// Returns where a robot is, and how.
-fn stance_of(cycle: u32, robot: usize, arena: &Arena) -> Stance
-    requires { robot < length arena.now.robots }
-{
-    let (x, y) = arena.place(robot);
-    Stance {
-        cycle,
-        x,
-        y,
-        heading: arena.heading(robot),
-        speed: arena.speed(robot),
-        damage: arena.damage(robot),
-    }
 }

@@ -32,20 +32,22 @@ pub fn run_robots(
 {
     text.clear();
     faults.clear();
-    if robots.is_empty() {
-        return None;
-    }
     let words = words_of(robots)?;
     let settings = order.settings(words.as_slice())?;
     let mut feeds = feeds_of(robots)?;
     Some(run_feeds(&settings, feeds.as_mut_slice(), text, faults))
 }
 
-/// Returns the names of at most four robots, if they are texts.
+/// Returns the names of one to four robots, if they are texts.
 pub(crate) fn words_of(robots: &[RobotFile]) -> Option<ArrayVec<&str, FILES_MAX>>
     ensures names { IfSome result (λ words. map (λ word. word.now) words.items ≡ map name_bytes robots.now) }
-    ensures accepted { All (λ robot. IsUtf8 (name_bytes robot)) robots.now → length robots.now ≤ FILES_MAX → IsSome result }
+    ensures some { IfSome result (λ words. 1 ≤ length words.items) }
+    ensures accepted { All (λ robot. IsUtf8 (name_bytes robot)) robots.now → 1 ≤ length robots.now
+        → length robots.now ≤ FILES_MAX → IsSome result }
 {
+    if robots.is_empty() {
+        return None;
+    }
     let mut words = ArrayVec::new();
     for robot in robots {
         words.try_push(robot.name()?).ok()?;
