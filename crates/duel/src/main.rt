@@ -7,6 +7,7 @@ mod duel;
 use crate::duel::duel;
 use std::io;
 
+/// Plays the duel, and prints what happens in it.
 fn main(rt: HostRuntime) -> io::Result<()> {
     duel(&rt)
 }

@@ -18,6 +18,7 @@ use std::{env, fs, io};
 use tokens::{DeviceFault, Pieces, WINDOW};
 use tools::{Compiled, compile};
 
+/// Lists the folded code of the file that the command line names, or writes its first fault.
 fn main(rt: HostRuntime) -> io::Result<()> {
     let Some(word) = env::args(&rt)?.nth(1) else {
         return Err(ErrorKind::InvalidInput.into());
