@@ -21,4 +21,7 @@ pub mod Stacks
 pub mod Closing
 pub mod Machines
 pub mod Coasting
+pub mod Alone
+pub mod Joined
+pub mod Turns
 pub mod KnownPrograms

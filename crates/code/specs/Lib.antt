@@ -9,6 +9,7 @@ pub mod Told
 pub mod Finishing
 pub mod Places
 pub mod Opcodes
+pub mod Running
 pub mod Standing
 pub mod Codes
 pub mod Laws

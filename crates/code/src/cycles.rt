@@ -80,11 +80,13 @@ impl Cells {
         let mut left = most;
         while left > 0 {
             let opcode = self.opcode(program, place);
-            match self.step(program, room, place, opcode) {
-                Some(next) => place = next,
+            match self.step(program, room, left, place, opcode) {
+                Some(turn) => {
+                    place = turn.place;
+                    left -= turn.cycles;
+                }
                 None => break,
             }
-            left -= 1;
         }
         Coast { place, left }
     }

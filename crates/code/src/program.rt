@@ -1,9 +1,10 @@
 //! The program of a file: its code, without names.
 
-ghost use Rattle.std.specs.Prelude.{◌≡◌, ◌<◌, ◌≤◌, length};
+ghost use Rattle.std.specs.Prelude.{◌≡◌, ◌<◌, ◌≤◌, Some, length, map, slice_get};
 ghost use Rattle.grammar.specs.Profile.{IsProfile};
 ghost use Rattle.code.specs.Finishing.{IsOfSomeFile};
 ghost use Rattle.code.specs.Machine.{address_at, counts_at};
+ghost use Rattle.code.specs.Opcodes.{AreCoded, IsCodedAt, instr_in};
 
 use crate::counts::Counts;
 use crate::limits::{MOST_FRAMES, MOST_INSTRUCTIONS, MOST_WORDS};
@@ -24,8 +25,9 @@ pub struct Program {
 }
 
 impl Model for Program {
-    ghost use Rattle.std.specs.Prelude.{◌≤◌};
+    ghost use Rattle.std.specs.Prelude.{◌≤◌, map};
     ghost use Rattle.code.specs.Generation.{ObjectCode};
+    ghost use Rattle.code.specs.Opcodes.{AreCoded, instr_in};
     ghost use Rattle.code.specs.Finishing.{IsOfSomeFile};
     ghost use Rattle.grammar.specs.Profile.{IsProfile};
     ghost use Rattle.grammar.specs.declared.pools.TheConstants.{MOST_NAMES};
@@ -34,7 +36,7 @@ impl Model for Program {
 
     ghost view = { λ p. record {
       profile = p.profile;
-      instructions = p.code.items;
+      instructions = map instr_in p.code.items;
       addresses = p.addresses.items;
       functions = p.functions.items;
       externals = p.externals;
@@ -44,13 +46,14 @@ impl Model for Program {
     ghost invariant = { λ p. IsProfile p.profile
         × IsOfSomeFile (record {
           profile = p.profile;
-          instructions = p.code.items;
+          instructions = map instr_in p.code.items;
           addresses = p.addresses.items;
           functions = p.functions.items;
           externals = p.externals;
           main = p.main;
         })
-        × (p.externals ≤ MOST_NAMES) };
+        × (p.externals ≤ MOST_NAMES)
+        × AreCoded (map instr_in p.code.items) p.code.items };
 }
 
 impl Program {
@@ -84,13 +87,25 @@ impl Program {
     /// Returns the instructions: the address of each is its place.
     #[inline(always)]
     pub fn instructions(&self) -> &[Coded]
-        ensures code { result.now ≡ self.now.instructions }
+        ensures code { map instr_in result.now ≡ self.now.instructions }
+        ensures coded { AreCoded self.now.instructions result.now }
         ensures most { length result.now ≤ MOST_INSTRUCTIONS }
         ensures limit { length result.now ≤ self.now.profile.instructions }
         ensures file { IsOfSomeFile self.now }
         ensures known { IsProfile self.now.profile }
     {
         self.code.as_slice()
+    }
+
+    /// Returns the instruction at an address, with those that are run together with it.
+    #[inline(always)]
+    pub(crate) fn coded(&self, at: usize) -> &Coded
+        requires { at < length self.now.instructions }
+        ensures here { slice_get self.now.instructions at ≡ Some (instr_in result.now) }
+        ensures coded { IsCodedAt self.now.instructions at result.now.opcode }
+    {
+        let code = self.instructions();
+        &code[at]
     }
 
     /// Returns the address of each function, by number.

@@ -1,8 +1,9 @@
 //! The listing of a program, line by line.
 
-ghost use Rattle.std.specs.Prelude.{◌≡◌, ◌+◌, ◌-◌, ◌^◌, ◌<◌, ◌≤◌, [], ◌++◌, get_or, length};
+ghost use Rattle.std.specs.Prelude.{◌≡◌, ◌+◌, ◌-◌, ◌^◌, ◌<◌, ◌≤◌, [], ◌++◌, get_or, length, map};
 ghost use Rattle.sinks.specs.Draft.{Adds, MayFail};
 ghost use Rattle.sinks.specs.Portions.{Puts};
+ghost use Rattle.code.specs.Opcodes.{instr_in};
 ghost use Rattle.listings.specs.Listing.{code_lines, externals_lines, function_lines, instr_line, listing_of, name_line, numbered};
 
 use crate::instructions::add_instruction;
@@ -124,7 +125,7 @@ fn add_code<S: Sink>(pen: &mut Pen, sink: &mut S, instrs: &[Coded])
     requires countable { MayFail pen.old (S.failures sink.old) }
     ensures countable { MayFail pen.new (S.failures sink.new) }
     ensures text { Adds (S.portions sink.old) (S.failures sink.old) pen.old (S.portions sink.new)
-        (S.failures sink.new) pen.new (code_lines instrs.now) }
+        (S.failures sink.new) pen.new (code_lines (map instr_in instrs.now)) }
 {
     pen.add(sink, b"Code ");
     pen.number(sink, instrs.len() as u32);
@@ -138,7 +139,7 @@ fn add_lines<S: Sink>(pen: &mut Pen, sink: &mut S, instrs: &[Coded])
     requires countable { MayFail pen.old (S.failures sink.old) }
     ensures countable { MayFail pen.new (S.failures sink.new) }
     ensures text { Adds (S.portions sink.old) (S.failures sink.old) pen.old (S.portions sink.new)
-        (S.failures sink.new) pen.new (numbered instr_line 0 instrs.now) }
+        (S.failures sink.new) pen.new (numbered (λ n coded. instr_line n (instr_in coded)) 0 instrs.now) }
 {
     for (at, coded) in instrs.iter().enumerate() {
         add_line(pen, sink, at as u32, coded.instr());

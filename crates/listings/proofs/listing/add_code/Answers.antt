@@ -1,12 +1,12 @@
-use Rattle.std.proofs.Common.{append_assoc}
-use Rattle.listings.specs.Listing.{code_lines}
+use Rattle.std.proofs.Common.{append_assoc, sym}
+use Rattle.listings.proofs.Texts.{code_lines_of}
 use Rattle.listings.proofs.listing.add_code.Goals as goal
 
 pub returns-clause-text : goal.returns-clause-text
-unfolding code_lines
 returns-clause-text g c = λ before n text so_far.
-    simp append_assoc
+    rw (sym (code_lines_of c.args.instrs.now))
+    (simp append_assoc
     (simp append_assoc at
     (c.add_lines.ensures.text before n _
     (c.push.ensures.text before n _
-    (c.number.ensures.text before n _ (c.add.ensures.text before n text so_far)))))
+    (c.number.ensures.text before n _ (c.add.ensures.text before n text so_far))))))

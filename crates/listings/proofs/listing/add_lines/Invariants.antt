@@ -1,4 +1,5 @@
 use Rattle.std.proofs.Common.{take}
+use Rattle.code.specs.Opcodes.{instr_in}
 use Rattle.listings.specs.Listing.{instr_line, numbered}
 use Rattle.sinks.specs.Draft.{MayFail, Adds}
 use Rattle.listings.proofs.listing.add_lines.Given as goal
@@ -8,4 +9,5 @@ abbrev pub invariant-loop-at : goal.invariant-loop-at
 invariant-loop-at g l =
     MayFail l.pen (g.S.Sink.failures l.sink)
     × Adds (g.S.Sink.portions l.fn.sink) (g.S.Sink.failures l.fn.sink) l.fn.pen
-    (g.S.Sink.portions l.sink) (g.S.Sink.failures l.sink) l.pen (numbered instr_line 0 (take l.at l.instrs))
+    (g.S.Sink.portions l.sink) (g.S.Sink.failures l.sink) l.pen
+    (numbered (λ n coded. instr_line n (instr_in coded)) 0 (take l.at l.instrs))
