@@ -1,10 +1,9 @@
 -- Addresses that are open stand in a list with the last opened at its end.
-use Rattle.std.specs.Prelude.{ℕ, suc, ◌-◌, ◌≡◌, ◌<◌, ◌≤◌, List, [], ◌∷◌, ◌++◌, length, take, reverse, slice_get, slice_set, get_or, Option, unwrap_or}
+use Rattle.std.specs.Prelude.{ℕ, suc, ◌-◌, ◌≡◌, ◌<◌, List, [], ◌∷◌, ◌++◌, length, take, reverse, slice_get, get_or, Option, unwrap_or}
 use Rattle.std.proofs.Common.{refl, sym, ap, ◌∙◌, arith}
-use Rattle.std.proofs.lemmas.List.{reverse-append, length-reverse, set_past}
+use Rattle.std.proofs.lemmas.List.{reverse-append, length-reverse}
 use Rattle.std.proofs.lemmas.Option.{slice_get-get_or}
 use Rattle.std.proofs.Math.Seq.{take-suc, take-length}
-use Rattle.code.specs.declared.instr.Instr.{Instr}
 use Rattle.code.specs.Making.{first_of, rest_of}
 
 pub count_is : (xs : List ℕ) → length (reverse xs) ≡ length xs
@@ -39,7 +38,3 @@ first_is (x ∷ xs) =
 pub rest_is : (xs : List ℕ) → reverse (take (length xs - 1) xs) ≡ rest_of (reverse xs)
 rest_is [] = refl
 rest_is (x ∷ xs) = let some : 0 < length (x ∷ xs) = omega arith in sym (ap rest_of (turned (x ∷ xs) some))
-
--- past the end nothing is written
-pub led_nowhere : (code : List Instr) (at : ℕ) (i : Instr) → length code ≤ at → slice_set code at i ≡ code
-led_nowhere code at i past = set_past code at i past

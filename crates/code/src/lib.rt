@@ -7,6 +7,7 @@ mod counts;
 mod cycles;
 mod frame;
 mod instr;
+mod instrs;
 mod joining;
 mod known;
 mod laws;
