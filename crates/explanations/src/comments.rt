@@ -1,26 +1,67 @@
-//! Comments that go further than they were meant to.
+//! Comments that go further than they were meant to, or less far.
+
+/// A comment.
+#[derive(Clone, Copy)]
+struct Comment<'a> {
+    /// The line on which it begins.
+    line: u32,
+    /// What follows its `/*`, up to its end.
+    inside: &'a [u8],
+    /// What follows it.
+    behind: &'a [u8],
+}
 
 /// Returns the line on which a comment begins that has a name in it, and after the name the begin of another comment: it
 /// was hardly meant to go so far.
 pub fn swallowed(source: &[u8], name: &[u8]) -> Option<u32> {
-    let mut line = 1u32;
-    let mut rest = source;
+    let (mut line, mut rest) = (1u32, source);
     for _ in 0..source.len() {
-        let Some(inside) = after(rest, b"/*") else {
-            return None;
-        };
-        line = line.saturating_add(lines_before(rest, inside));
-        let end = after(inside, b"*/").unwrap_or(&[]);
-        let comment = inside
-            .get(..inside.len().saturating_sub(end.len()))
-            .unwrap_or(inside);
-        if after(comment, name).is_some_and(|behind| after(behind, b"/*").is_some()) {
-            return Some(line);
+        let comment = first_comment(rest, line)?;
+        if after(comment.inside, name).is_some_and(|behind| after(behind, b"/*").is_some()) {
+            return Some(comment.line);
         }
-        line = line.saturating_add(lines_before(inside, end));
-        rest = end;
+        line = comment.line.saturating_add(line_ends(comment.inside));
+        rest = comment.behind;
     }
     None
+}
+
+/// Returns the line on which a comment begins that has the begin of another one in it, if a place stands between the end
+/// of that comment and a further `*/`: it was hardly meant to end so early.
+pub fn nested(source: &[u8], at: usize) -> Option<u32> {
+    let (mut line, mut rest) = (1u32, source);
+    for _ in 0..source.len() {
+        let comment = first_comment(rest, line)?;
+        if at < source.len().saturating_sub(comment.behind.len()) {
+            return None;
+        }
+        if after(comment.inside, b"/*").is_some() && is_before_end(source, &comment, at) {
+            return Some(comment.line);
+        }
+        line = comment.line.saturating_add(line_ends(comment.inside));
+        rest = comment.behind;
+    }
+    None
+}
+
+/// Reports whether a `*/` follows a comment without a `/*` between, and a place stands before the end of that `*/`.
+fn is_before_end(source: &[u8], comment: &Comment<'_>, at: usize) -> bool {
+    let Some(rest) = after(comment.behind, b"*/") else {
+        return false;
+    };
+    let between = before(comment.behind, rest);
+    after(between, b"/*").is_none() && at < source.len().saturating_sub(rest.len())
+}
+
+/// Returns the first comment of a text that begins on this line.
+fn first_comment(text: &[u8], line: u32) -> Option<Comment<'_>> {
+    let open = after(text, b"/*")?;
+    let behind = after(open, b"*/").unwrap_or(&[]);
+    Some(Comment {
+        line: line.saturating_add(line_ends(before(text, open))),
+        inside: before(open, behind),
+        behind,
+    })
 }
 
 /// Returns what follows the first place at which some bytes stand.
@@ -34,11 +75,14 @@ fn after<'a>(text: &'a [u8], wanted: &[u8]) -> Option<&'a [u8]> {
     None
 }
 
-/// Counts the line ends of a text before its last part.
-fn lines_before(text: &[u8], part: &[u8]) -> u32 {
-    let before = text
-        .get(..text.len().saturating_sub(part.len()))
-        .unwrap_or(&[]);
-    let count = before.iter().filter(|byte| **byte == b'\n').count();
+/// Returns a text without its last part.
+fn before<'a>(text: &'a [u8], part: &[u8]) -> &'a [u8] {
+    text.get(..text.len().saturating_sub(part.len()))
+        .unwrap_or(&[])
+}
+
+/// Counts the line ends of a text.
+fn line_ends(text: &[u8]) -> u32 {
+    let count = text.iter().filter(|byte| **byte == b'\n').count();
     u32::try_from(count).unwrap_or(u32::MAX)
 }

@@ -1,6 +1,7 @@
 //! What a fault of a source is explained by.
 
 use crate::carets::add_marked;
+use crate::comments::nested;
 use crate::hints::{Hint, hint_on};
 use crate::misnamed::add_misnamed;
 use crate::reserved::{on_character, on_word};
@@ -104,8 +105,12 @@ fn add_misfit(
     Ok(())
 }
 
-/// Returns the hint on what was met: words and characters that aren't known have their own.
+/// Returns the hint on what was met: words and characters that aren't known have their own, but for a comment that was
+/// meant to go on.
 fn hint_for(found: &Found<'_>, scene: &Scene<'_>) -> Option<Hint> {
+    if let Some(line) = nested(found.source, start_of(found)) {
+        return Some(Hint::Nested(line));
+    }
     match found.code {
         Code::ReservedWord => {
             let words = on_word(found.source, found.tokens.get(found.index)?)?;
@@ -159,6 +164,14 @@ fn add_limit(text: &mut String, found: &Found<'_>) -> Result<(), AllocError> {
         }
     }
     text.push_str("\n")
+}
+
+/// Returns where the fault's token begins.
+pub fn start_of(found: &Found<'_>) -> usize {
+    match found.tokens.get(found.index) {
+        Some(located) => located.start,
+        None => 0,
+    }
 }
 
 /// Returns how many bytes the fault's token has.

@@ -49,18 +49,35 @@ pub fn warn_of_unreached(lint: &mut Lint<'_>) -> Result<(), AllocError> {
     Ok(())
 }
 
-/// Warns of loops whose condition has variables, and none that the loop may change.
+/// Warns of loops whose condition can't change, but for constants that say that the loop is to go on forever.
 pub fn warn_of_conditions(lint: &mut Lint<'_>) -> Result<(), AllocError> {
     for index in 0..lint.nodes().all().len() {
-        if is_fixed(lint.nodes(), index) {
+        if let Some(words) = on_condition(lint.nodes(), index) {
             let token = lint.nodes().get(index).map(|node| node.token).unwrap_or(0);
-            lint.tell(
-                token,
-                "the condition of this loop can't change: nothing in it sets its variables",
-            )?;
+            lint.tell(token, words)?;
         }
     }
     Ok(())
+}
+
+/// Returns what is said of the condition of the node of an index, if that is a loop whose condition can't change.
+fn on_condition(nodes: &Nodes, index: usize) -> Option<&'static str> {
+    let node = nodes.get(index)?;
+    if node.kind != Kind::While {
+        return None;
+    }
+    let asks = nodes.within(node.first, node.middle).iter().any(|below| matches!(
+        below.kind,
+        Kind::Fetch(_) | Kind::Call(..)
+    ));
+    match condition_of(nodes, index)?.value {
+        Some(0) => Some("the condition of this loop is always 0: its body never runs"),
+        Some(_) if asks => Some("the condition of this loop is never 0, whatever it asks"),
+        None if is_fixed(nodes, index) => Some(
+            "the condition of this loop can't change: nothing in it sets its variables",
+        ),
+        _ => None,
+    }
 }
 
 /// Reports whether the node of an index is a loop whose condition has variables and can't change.

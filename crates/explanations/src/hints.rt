@@ -1,5 +1,6 @@
 //! Hints on tokens that don't fit: what beginners mean by them.
 
+use crate::functions::{on_heads, on_inner_functions, on_outer_calls, on_the_outside};
 use crate::lookalikes::{Lookalike, meant_by};
 use crate::misnamed::is_intrinsic;
 use crate::scenes::Scene;
@@ -18,6 +19,8 @@ pub enum Hint {
     Lacks(u32, &'static str),
     /// The block that begins on a line isn't closed.
     Unclosed(u32),
+    /// The comment that begins on a line ended earlier than was meant.
+    Nested(u32),
     /// A hexadecimal number, with its value if it isn't too large.
     Hexadecimal(Option<u32>),
     /// A name is spelled nearly as this word, or this word is written for it here.
@@ -33,6 +36,10 @@ impl Hint {
             Hint::Unclosed(line) => write!(
                 text,
                 "the block that begins on line {line} isn't closed: a `}}` is missing"
+            ),
+            Hint::Nested(line) => write!(
+                text,
+                "comments don't nest: the one that begins on line {line} ends at its first `*/`"
             ),
             Hint::Hexadecimal(Some(value)) => write!(
                 text,
@@ -50,6 +57,8 @@ impl Hint {
 pub fn hint_on(scene: &Scene<'_>) -> Option<Hint> {
     on_comments(scene)
         .or(on_numbers(scene))
+        .or(on_inner_functions(scene))
+        .or(on_outer_calls(scene))
         .or(on_declarations(scene))
         .or(on_declared_names(scene))
         .or(on_operators(scene))
@@ -209,7 +218,8 @@ fn on_operators(scene: &Scene<'_>) -> Option<Hint> {
     None
 }
 
-/// Returns the hint on a name that is written for a word: the one before, the one met, or that of the statement.
+/// Returns the hint on a name that is written for a word: the one before, the one met, or that of the statement. A name that
+/// stands at several places is no misspelled word.
 fn on_names(scene: &Scene<'_>) -> Option<Hint> {
     let names = [
         scene.index.saturating_sub(1),
@@ -219,9 +229,11 @@ fn on_names(scene: &Scene<'_>) -> Option<Hint> {
     for index in names {
         if let Some(name) = scene.name(index) {
             match meant_by(name.as_bytes()) {
-                Some(Lookalike::Word(word)) => return Some(Hint::Meant(word)),
+                Some(Lookalike::Word(word)) if scene.is_lone(&name) => {
+                    return Some(Hint::Meant(word));
+                }
                 Some(Lookalike::Foreign(text)) => return Some(Hint::Text(text)),
-                None => {}
+                _ => {}
             }
         }
     }
@@ -240,58 +252,6 @@ fn on_calls(scene: &Scene<'_>) -> Option<Hint> {
 /// Reports whether a token is a name or a number.
 fn begins_value(token: &Token) -> bool {
     matches!(token, Token::Name(_) | Token::Constant(_))
-}
-
-/// Returns the hint on the heads of functions.
-fn on_heads(scene: &Scene<'_>) -> Option<Hint> {
-    if scene.is_mark(Punctuator::OpenCurly)
-        && scene.is_outside()
-        && scene.wants(Punctuator::OpenRound)
-    {
-        return Some(Hint::Text("a function has brackets behind its name: `main() {`"));
-    }
-    if scene.is_mark(Punctuator::Semicolon) && scene.is_behind_head() {
-        return Some(Hint::Text(
-            "no `;` stands behind the head of a function; one that is defined further down needs no declaration",
-        ));
-    }
-    if scene.is_mark(Punctuator::OpenCurly)
-        && scene.wants(Punctuator::Semicolon)
-        && is_head(scene)
-    {
-        return Some(Hint::Text(
-            "a function can't begin inside another one: a `}` may be missing above",
-        ));
-    }
-    None
-}
-
-/// Reports whether the tokens before look like a function's head: a name, and brackets behind it.
-fn is_head(scene: &Scene<'_>) -> bool {
-    let chosen_at = scene.chosen_at();
-    let next = scene.token(chosen_at.saturating_add(1));
-    scene.follows_mark(Punctuator::CloseRound)
-        && scene.name(chosen_at).is_some()
-        && next == Token::Punctuator(Punctuator::OpenRound)
-}
-
-/// Returns the hint on what stands outside functions.
-fn on_the_outside(scene: &Scene<'_>) -> Option<Hint> {
-    if !scene.is_outside() {
-        return None;
-    }
-    if scene.is_mark(Punctuator::CloseCurly) {
-        return Some(Hint::Text("this `}` closes nothing: there is one too many, here or above"));
-    }
-    if scene.is_mark(Punctuator::Semicolon) && scene.follows_mark(Punctuator::CloseCurly) {
-        return Some(Hint::Text("no `;` stands behind the `}` of a function"));
-    }
-    if scene.wants(Punctuator::OpenRound) || scene.fits(&Token::End) {
-        return Some(Hint::Text(
-            "outside functions stand declarations and functions alone: a `}` above may be one too many",
-        ));
-    }
-    None
 }
 
 /// Returns the hint on conditions and branches.

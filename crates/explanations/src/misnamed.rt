@@ -1,7 +1,10 @@
 //! Faults of names: which name it is, and which one may be meant.
 
-use crate::comments::swallowed;
-use crate::explaining::{Found, add_met};
+use crate::comments::{nested, swallowed};
+use crate::explaining::{Found, add_met, start_of};
+use crate::functions::STRAY_CALL;
+use crate::heads::{is_behind_block, is_call};
+use crate::hints::Hint;
 use crate::lookalikes::{Lookalike, meant_by};
 use crate::spelling::{is_near, is_same_but_for_case};
 use crate::told::text_of;
@@ -54,6 +57,10 @@ pub fn add_misnamed(
     add_met(text, found)?;
     let name = name_at(found.tokens, found.index).unwrap_or(Name::new());
     text.push_str("  hint: ")?;
+    if let Some(hint) = on_stray_code(found) {
+        hint.add(text)?;
+        return text.push_str("\n");
+    }
     match found.code {
         Code::FunctionDefinedTwice => add_first(text, found.tokens, defined, &name)?,
         Code::IntrinsicRedefined => {
@@ -64,6 +71,36 @@ pub fn add_misnamed(
         _ => add_main(text, found, defined)?,
     }
     text.push_str("\n")
+}
+
+/// Returns the hint on a name that was hardly meant to be defined: it stands in a comment that has ended, or a call stands
+/// outside of functions.
+fn on_stray_code(found: &Found<'_>) -> Option<Hint> {
+    if matches!(found.code, Code::FunctionNotDefined | Code::NoMainFunction) {
+        return None;
+    }
+    if let Some(line) = nested(found.source, start_of(found)) {
+        return Some(Hint::Nested(line));
+    }
+    let name = head_of(found);
+    if !is_call(found.tokens, name) {
+        return None;
+    }
+    Some(Hint::Text(if is_behind_block(found.tokens, name) {
+        STRAY_CALL
+    } else {
+        "a call stands inside of a function"
+    }))
+}
+
+/// Returns the index of the name of the function whose head has the fault.
+fn head_of(found: &Found<'_>) -> usize {
+    let open = Token::Punctuator(Punctuator::OpenRound);
+    let before = found.tokens.get(..found.index).unwrap_or(&[]);
+    match before.iter().rposition(|located| located.token == open) {
+        Some(place) if found.code == Code::BadParameterDeclaration => place.saturating_sub(1),
+        _ => found.index,
+    }
 }
 
 /// Returns the name of the token of an index.

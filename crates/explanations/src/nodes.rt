@@ -1,5 +1,6 @@
 //! The nodes of a source's trees in one list: each after those below it, which stand together.
 
+use crate::constants::operated;
 use crate::walks::{Event, Meaning, Walk};
 use derivations::{Located, SemanticAction};
 use grammar::{Callee, Op, Profile, StoreOp, Var};
@@ -49,6 +50,8 @@ pub struct Node {
     pub ends: bool,
     /// Whether it is never reached itself.
     pub is_dead: bool,
+    /// Its value, if that is known before the robot runs.
+    pub value: Option<i32>,
 }
 
 impl Node {
@@ -62,6 +65,7 @@ impl Node {
             is_used: true,
             ends: kind == Kind::Return,
             is_dead: false,
+            value: None,
         }
     }
 }
@@ -114,6 +118,7 @@ pub struct Nodes {
     list: Vec<Node>,
     bodies: Vec<Body>,
     unreached: Vec<usize>,
+    externals: Vec<usize>,
     roots: Vec<Root>,
     variables: Vec<Var>,
     calls: Vec<Open>,
@@ -128,7 +133,7 @@ pub fn nodes_of(alloc: Global, tokens: &[Located], profile: Profile) -> Result<N
         match walk.step()? {
             Event::Passed => {}
             Event::Named { token, meaning } => nodes.name(token, meaning)?,
-            Event::Number { token, value } => nodes.leaf(Kind::Constant(value), token)?,
+            Event::Number { token, value } => nodes.constant(value, token)?,
             Event::Made {
                 action,
                 chosen_at,
@@ -147,6 +152,7 @@ impl Nodes {
             list: Vec::new(alloc),
             bodies: Vec::new(alloc),
             unreached: Vec::new(alloc),
+            externals: Vec::new(alloc),
             roots: Vec::new(alloc),
             variables: Vec::new(alloc),
             calls: Vec::new(alloc),
@@ -187,6 +193,11 @@ impl Nodes {
         self.unreached.as_slice()
     }
 
+    /// Returns the names of the file's variables, by the indices of their tokens.
+    pub fn externals(&self) -> &[usize] {
+        self.externals.as_slice()
+    }
+
     /// Takes a name.
     fn name(&mut self, token: usize, meaning: Meaning) -> Result<(), AllocError> {
         match meaning {
@@ -199,6 +210,7 @@ impl Nodes {
             Meaning::Parameter => {
                 self.begun.parameters = self.begun.parameters.saturating_add(1);
             }
+            Meaning::External => self.externals.push(token)?,
             Meaning::Declares => {}
         }
         Ok(())
@@ -227,16 +239,13 @@ impl Nodes {
         match action {
             SemanticAction::Operate(op) => self.binary(op, chosen_at),
             SemanticAction::Negate | SemanticAction::Not | SemanticAction::Complement => {
-                self.above(Kind::Sign, chosen_at, true)
+                self.sign(action, chosen_at)
             }
             SemanticAction::Fetch => {
                 let var = self.variable();
                 self.leaf(Kind::Fetch(var), chosen_at)
             }
-            SemanticAction::Store(op) => {
-                let var = self.variable();
-                self.above(Kind::Store(var, op), chosen_at, true)
-            }
+            SemanticAction::Store(op) => self.store(op, chosen_at),
             SemanticAction::StepBefore(_) => self.step(chosen_at.saturating_add(1)),
             SemanticAction::StepBehind(_) => self.step(chosen_at),
             SemanticAction::Pass => {
@@ -249,7 +258,7 @@ impl Nodes {
             SemanticAction::Decide => self.decide(),
             SemanticAction::DecideElse => self.decide_else(),
             SemanticAction::Repeat => self.repeat(),
-            SemanticAction::Zero => self.leaf(Kind::Constant(0), token),
+            SemanticAction::Zero => self.constant(0, token),
             SemanticAction::GiveBack => self.above(Kind::Return, chosen_at, true),
             SemanticAction::Define => self.define(token),
         }
@@ -269,6 +278,58 @@ impl Nodes {
         self.add(Node::new(kind, token, here, here))
     }
 
+    /// Adds the node of a constant.
+    fn constant(&mut self, value: u32, token: usize) -> Result<(), AllocError> {
+        self.leaf(Kind::Constant(value), token)?;
+        self.know(i32::try_from(value).ok());
+        Ok(())
+    }
+
+    /// Notes the value of the last node, if it is known.
+    fn know(&mut self, value: Option<i32>) {
+        if let Some(node) = self.list.last_mut() {
+            node.value = value;
+        }
+    }
+
+    /// Returns the value of the last root, if it is known.
+    fn last_value(&self) -> Option<i32> {
+        match self.roots.last() {
+            Some(Root::Node(index)) => self.value_of(*index),
+            _ => None,
+        }
+    }
+
+    /// Returns the value of the node of an index, if it is known.
+    fn value_of(&self, index: usize) -> Option<i32> {
+        self.list.get(index)?.value
+    }
+
+    /// Adds the node of a sign.
+    fn sign(&mut self, action: SemanticAction, token: usize) -> Result<(), AllocError> {
+        let operand = self.last_value();
+        let value = match action {
+            SemanticAction::Negate => operated(Op::Subtract, Some(0), operand),
+            SemanticAction::Not => operated(Op::Equal, operand, Some(0)),
+            _ => operated(Op::BitXor, operand, Some(-1)),
+        };
+        self.above(Kind::Sign, token, true)?;
+        self.know(value);
+        Ok(())
+    }
+
+    /// Adds the node of an assignment, whose value is the one that it sets.
+    fn store(&mut self, op: StoreOp, token: usize) -> Result<(), AllocError> {
+        let var = self.variable();
+        let value = match op {
+            StoreOp::Set => self.last_value(),
+            _ => None,
+        };
+        self.above(Kind::Store(var, op), token, true)?;
+        self.know(value);
+        Ok(())
+    }
+
     /// Adds a node above the last root, and notes whether it uses its value.
     fn above(&mut self, kind: Kind, token: usize, is_used: bool) -> Result<(), AllocError> {
         let below = self.take_node();
@@ -284,7 +345,10 @@ impl Nodes {
         let right = self.take_node();
         let left = self.take_node();
         let (first, middle) = (self.first_of(left), self.first_of(right));
-        self.add(Node::new(Kind::Binary(op), token, first, middle))
+        let value = operated(op, self.value_of(left), self.value_of(right));
+        self.add(Node::new(Kind::Binary(op), token, first, middle))?;
+        self.know(value);
+        Ok(())
     }
 
     /// Adds the node of `++` or `--`.
@@ -313,30 +377,46 @@ impl Nodes {
         self.add(Node::new(Kind::Call(callee, arguments), token, first, first))
     }
 
-    /// Adds the node of an `if` without `else`.
+    /// Adds the node of an `if` without `else`. Its body doesn't run if its condition is known to be 0.
     fn decide(&mut self) -> Result<(), AllocError> {
         let end = self.list.len();
         let body = self.take_body(end)?;
-        self.add_branch(Kind::If, body, false)
+        let value = self.last_value();
+        if value == Some(0) {
+            self.kill(body.first, end);
+        }
+        self.add_branch(Kind::If, body, body.ends && is_true(value))
     }
 
-    /// Adds the node of an `if` with `else`.
+    /// Adds the node of an `if` with `else`. One of its bodies doesn't run if its condition is known.
     fn decide_else(&mut self) -> Result<(), AllocError> {
         let end = self.list.len();
         let otherwise = self.take_body(end)?;
         let body = self.take_body(otherwise.first)?;
-        self.add_branch(Kind::If, body, body.ends && otherwise.ends)
+        let ends = match self.last_value() {
+            Some(0) => {
+                self.kill(body.first, otherwise.first);
+                otherwise.ends
+            }
+            Some(_) => {
+                self.kill(otherwise.first, end);
+                body.ends
+            }
+            None => body.ends && otherwise.ends,
+        };
+        self.add_branch(Kind::If, body, ends)
     }
 
-    /// Adds the node of a `while`. What follows it isn't reached if its condition is a constant that isn't 0.
+    /// Adds the node of a `while`. What follows it isn't reached if its condition is known and isn't 0, and its body doesn't
+    /// run if it is known to be 0.
     fn repeat(&mut self) -> Result<(), AllocError> {
         let end = self.list.len();
         let body = self.take_body(end)?;
-        let ends = match self.list.get(body.first.saturating_sub(1)) {
-            Some(condition) => matches!(condition.kind, Kind::Constant(1..)),
-            None => false,
-        };
-        self.add_branch(Kind::While, body, ends)
+        let value = self.last_value();
+        if value == Some(0) {
+            self.kill(body.first, end);
+        }
+        self.add_branch(Kind::While, body, is_true(value))
     }
 
     /// Adds the node of an `if` or a `while`, above its condition.
@@ -401,12 +481,17 @@ impl Nodes {
             return Ok(());
         };
         self.unreached.push(statement)?;
-        for index in self.first_of(statement)..end {
+        self.kill(self.first_of(statement), end);
+        Ok(())
+    }
+
+    /// Notes that the nodes from an index on are never reached, up to another one.
+    fn kill(&mut self, first: usize, end: usize) {
+        for index in first..end {
             if let Some(node) = self.list.get_mut(index) {
                 node.is_dead = true;
             }
         }
-        Ok(())
     }
 
     /// Takes the last root, which is a node, and returns its index.
@@ -429,4 +514,9 @@ impl Nodes {
     fn variable(&mut self) -> Var {
         self.variables.pop().unwrap_or(Var::Local(0))
     }
+}
+
+/// Reports whether a value is known, and isn't 0.
+fn is_true(value: Option<i32>) -> bool {
+    value.is_some_and(|value| value != 0)
 }

@@ -135,6 +135,15 @@ impl<'a> Scene<'a> {
         }
     }
 
+    /// Reports whether a name stands at no more than one place.
+    pub fn is_lone(&self, name: &Name) -> bool {
+        let same = self
+            .tokens
+            .iter()
+            .filter(|located| located.token == Token::Name(*name));
+        same.count() < 2
+    }
+
     /// Returns the line of the token of an index.
     pub fn line(&self, index: usize) -> u32 {
         match self.tokens.get(index) {
@@ -145,10 +154,17 @@ impl<'a> Scene<'a> {
 
     /// Returns the index of the opening brace of the innermost open block.
     pub fn open_block(&self) -> Option<usize> {
-        let mut closing = self.stack.iter().rev().filter(|pending| {
-            pending.item == Item::Exactly(Punctuator::CloseCurly)
-        });
-        Some(closing.next()?.chosen_at)
+        self.pending_at(Item::Exactly(Punctuator::CloseCurly))
+    }
+
+    /// Returns the index of the token at which the innermost item of a kind was chosen, of those still to match.
+    pub fn pending_at(&self, item: Item) -> Option<usize> {
+        let mut pending = self
+            .stack
+            .iter()
+            .rev()
+            .filter(|pending| pending.item == item);
+        Some(pending.next()?.chosen_at)
     }
 
     /// Reports whether the head of a function was just derived.

@@ -1,13 +1,14 @@
-//! Warnings about statements without effect, and about `=` in conditions.
+//! Warnings about statements without effect, empty ones behind an `if`, and `=` in conditions.
 
+use crate::heads::behind_brackets;
 use crate::nodes::{Kind, Node, Nodes};
 use crate::warnings::Lint;
 use derivations::Located;
-use grammar::StoreOp;
+use grammar::{Callee, Intrinsic, StoreOp};
 use std::alloc::AllocError;
-use tokens::{Punctuator, Token};
+use tokens::{Punctuator, Token, Word};
 
-/// Warns of statements that neither call nor set anything.
+/// Warns of statements that set nothing, and call nothing that does more than answer.
 pub fn warn_of_no_effect(lint: &mut Lint<'_>) -> Result<(), AllocError> {
     for index in 0..lint.nodes().all().len() {
         if let Some(node) = lint.nodes().get(index).copied() {
@@ -20,9 +21,47 @@ pub fn warn_of_no_effect(lint: &mut Lint<'_>) -> Result<(), AllocError> {
     Ok(())
 }
 
-/// Reports whether a node calls or sets something.
-pub fn has_effect(node: &Node) -> bool {
-    matches!(node.kind, Kind::Call(..) | Kind::Store(..) | Kind::Step(_))
+/// Reports whether a node sets something, or calls what does more than answer.
+fn has_effect(node: &Node) -> bool {
+    match node.kind {
+        Kind::Store(..) | Kind::Step(_) | Kind::Call(Callee::Function(_), _) => true,
+        Kind::Call(Callee::Intrinsic(intrinsic), _) => acts(intrinsic),
+        _ => false,
+    }
+}
+
+/// Reports whether an intrinsic function does more than answer. `rand` takes one of the random numbers, which are in a row.
+fn acts(intrinsic: Intrinsic) -> bool {
+    matches!(
+        intrinsic,
+        Intrinsic::Cannon | Intrinsic::Drive | Intrinsic::Rand
+    )
+}
+
+/// Warns of each `if` without `else` whose only statement is a `;` behind the condition.
+pub fn warn_of_empty_bodies(lint: &mut Lint<'_>) -> Result<(), AllocError> {
+    for index in 0..lint.nodes().all().len() {
+        if let Some(semicolon) = empty_body(lint, index) {
+            lint.tell(
+                semicolon,
+                "the `if` ends with this `;`: what follows it is always done",
+            )?;
+        }
+    }
+    Ok(())
+}
+
+/// Returns the index of the `;` that is the whole body of the `if` of a node's index, if it has no `else`.
+fn empty_body(lint: &Lint<'_>, index: usize) -> Option<usize> {
+    let node = lint.nodes().get(index)?;
+    if node.kind != Kind::If {
+        return None;
+    }
+    let tokens = lint.tokens();
+    let body = behind_brackets(tokens, node.token)?;
+    let is_empty = tokens.get(body)?.token == Token::Punctuator(Punctuator::Semicolon);
+    let is_last = tokens.get(body.saturating_add(1))?.token != Token::Word(Word::Else);
+    (is_empty && is_last).then_some(body)
 }
 
 /// Warns of conditions that are an assignment, if no further brackets say that it is meant.

@@ -5,7 +5,6 @@ use crate::nodes::{Body, Kind, Node};
 use crate::spelling::is_same_but_for_case;
 use crate::told::text_of;
 use crate::warnings::Lint;
-use derivations::Located;
 use grammar::{MOST_NAMES, StoreOp, Var};
 use std::alloc::AllocError;
 use tokens::Name;
@@ -64,7 +63,7 @@ fn warn_of(
     };
     let mut text = lint.text();
     write!(text, "`{}` {words}", text_of(&name))?;
-    if let Some(other) = meant(lint.tokens(), uses, &name) {
+    if let Some(other) = meant(lint, uses, token, &name) {
         write!(text, "; perhaps `{}` is meant", text_of(&other))?;
     } else if is_intrinsic(&name) {
         write!(text, "; perhaps `{}()` is meant", text_of(&name))?;
@@ -80,11 +79,14 @@ fn is_truth(name: &Name) -> bool {
     is_same_but_for_case(bytes, b"true") || is_same_but_for_case(bytes, b"false")
 }
 
-/// Returns the name of another variable of the function that may be meant by this one.
-fn meant(tokens: &[Located], uses: &[Use; MOST_NAMES], name: &Name) -> Option<Name> {
-    let mut names = uses
-        .iter()
-        .filter_map(|own| name_at(tokens, own.read.or(own.set)?));
+/// Returns the name of another variable that may be meant by the one of a token: of the function, or else of the file if it
+/// is declared before that token.
+fn meant(lint: &Lint<'_>, uses: &[Use; MOST_NAMES], token: usize, name: &Name) -> Option<Name> {
+    let locals = uses.iter().filter_map(|own| own.read.or(own.set));
+    let externals = lint.nodes().externals().iter().copied();
+    let mut names = locals
+        .chain(externals.filter(|external| *external < token))
+        .filter_map(|index| name_at(lint.tokens(), index));
     names.find(|other| other != name && may_mean(name.as_bytes(), other.as_bytes()))
 }
 

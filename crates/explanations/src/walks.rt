@@ -19,8 +19,10 @@ pub enum Meaning {
     Begins(u8),
     /// The next parameter of a list.
     Parameter,
-    /// A variable is declared.
+    /// A variable of a function is declared.
     Declares,
+    /// A variable of the file is declared.
+    External,
 }
 
 /// What a step of a walk came upon.
@@ -158,7 +160,7 @@ impl<'a> Walk<'a> {
             Role::Parameter => self.scope.parameter(name).map(|_| Meaning::Parameter),
             Role::Typed => self.scope.typed(name).map(|_| Meaning::Declares),
             Role::Local => self.scope.local(name).map(|_| Meaning::Declares),
-            Role::External => self.scope.external(name).map(|_| Meaning::Declares),
+            Role::External => self.scope.external(name).map(|_| Meaning::External),
         }
     }
 

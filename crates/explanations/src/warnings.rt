@@ -3,7 +3,7 @@
 use crate::calls::{warn_of_arguments, warn_of_recursion, warn_of_right_sides};
 use crate::flow::{warn_of_conditions, warn_of_main, warn_of_unreached};
 use crate::nodes::{Nodes, nodes_of};
-use crate::values::{warn_of_assignments, warn_of_no_effect};
+use crate::values::{warn_of_assignments, warn_of_empty_bodies, warn_of_no_effect};
 use crate::variables::warn_of_variables;
 use derivations::{Located, locate};
 use grammar::Profile;
@@ -58,6 +58,7 @@ impl<'a> Lint<'a> {
         warn_of_variables(self)?;
         warn_of_arguments(self)?;
         warn_of_no_effect(self)?;
+        warn_of_empty_bodies(self)?;
         warn_of_assignments(self)?;
         if !profile.short_circuit() {
             warn_of_right_sides(self)?;

@@ -5,8 +5,8 @@ use Rattle.findings.specs.declared.streaks.Call.{Call}
 use Rattle.findings.specs.declared.streaks.Streak.{Streak}
 
 -- a streak of one call
-abbrev pub begun : Call → Streak
-begun call = record {
+abbrev pub streak_of : Call → Streak
+streak_of call = record {
   first = call;
   last = call.cycle;
   count = 1;
@@ -15,8 +15,8 @@ begun call = record {
 }
 
 -- a streak with one call more
-abbrev pub followed : Streak → Call → Streak
-followed streak call = record streak {
+abbrev pub with_call : Streak → Call → Streak
+with_call streak call = record streak {
   last = call.cycle;
   count = streak.count + 1;
   least = int_min streak.least call.reply;

@@ -1,7 +1,7 @@
 //! Streaks: a loop that waits for something calls the same function from the same place, again and again.
 
 ghost use Rattle.std.specs.Prelude.{◌≡◌, ◌+◌, ◌-◌, ◌^◌, ◌<◌, true, false, nat_eq};
-ghost use Rattle.findings.specs.Streaks.{begun, followed};
+ghost use Rattle.findings.specs.Streaks.{streak_of, with_call};
 
 use grammar::Intrinsic;
 
@@ -36,7 +36,7 @@ pub struct Streak {
 impl Streak {
     /// Begins a streak with a call.
     pub fn new(call: Call) -> Streak
-        ensures { result ≡ begun call }
+        ensures { result ≡ streak_of call }
     {
         Streak {
             first: call,
@@ -50,7 +50,7 @@ impl Streak {
     /// Takes the next call, if it is from the same address. Reports whether it is.
     pub fn take(&mut self, call: Call) -> bool
         ensures taken { result ≡ nat_eq call.address self.old.first.address }
-        ensures goes_on { result ≡ true → self.old.count < 2 ^ 32 - 1 → self.new ≡ followed self.old call }
+        ensures goes_on { result ≡ true → self.old.count < 2 ^ 32 - 1 → self.new ≡ with_call self.old call }
         ensures other { result ≡ false → self.new ≡ self.old }
     {
         if call.address != self.first.address {

@@ -1,0 +1,65 @@
+//! Hints on functions: one that begins inside another one, their heads, and what stands outside of them.
+
+use crate::heads::{is_behind_block, is_call, is_head};
+use crate::hints::Hint;
+use crate::lookalikes::meant_by;
+use crate::scenes::Scene;
+use derivations::{Item, Symbol};
+use tokens::{Punctuator, Token};
+
+/// Returns the hint on a function that begins where a block is still open.
+pub fn on_inner_functions(scene: &Scene<'_>) -> Option<Hint> {
+    let begin = scene.pending_at(Item::Exactly(Punctuator::Semicolon))?;
+    let is_misspelled = scene.name(begin).is_some_and(|name| scene.is_lone(&name)
+        && meant_by(name.as_bytes()).is_some());
+    if scene.is_outside() || is_misspelled || !is_head(scene.tokens, begin) {
+        return None;
+    }
+    Some(Hint::Text("a function can't begin inside another one: a `}` may be missing above"))
+}
+
+/// Returns the hint on a call behind the last function.
+pub fn on_outer_calls(scene: &Scene<'_>) -> Option<Hint> {
+    let name = scene.pending_at(Item::Part(Symbol::FunctionBlock))?;
+    let lacks_block = scene.is_behind_head() && !scene.is_mark(Punctuator::Semicolon);
+    let is_stray = is_behind_block(scene.tokens, name) && is_call(scene.tokens, name);
+    (is_stray && !lacks_block).then_some(Hint::Text(STRAY_CALL))
+}
+
+/// What is said of a call outside of functions, behind the last of them.
+pub const STRAY_CALL: &str = "a call stands inside of a function: a `}` above may be one too many";
+
+/// Returns the hint on the heads of functions.
+pub fn on_heads(scene: &Scene<'_>) -> Option<Hint> {
+    if scene.is_mark(Punctuator::OpenCurly)
+        && scene.is_outside()
+        && scene.wants(Punctuator::OpenRound)
+    {
+        return Some(Hint::Text("a function has brackets behind its name: `main() {`"));
+    }
+    if scene.is_mark(Punctuator::Semicolon) && scene.is_behind_head() {
+        return Some(Hint::Text(
+            "no `;` stands behind the head of a function; one that is defined further down needs no declaration",
+        ));
+    }
+    None
+}
+
+/// Returns the hint on what stands outside functions.
+pub fn on_the_outside(scene: &Scene<'_>) -> Option<Hint> {
+    if !scene.is_outside() {
+        return None;
+    }
+    if scene.is_mark(Punctuator::CloseCurly) {
+        return Some(Hint::Text("this `}` closes nothing: there is one too many, here or above"));
+    }
+    if scene.is_mark(Punctuator::Semicolon) && scene.follows_mark(Punctuator::CloseCurly) {
+        return Some(Hint::Text("no `;` stands behind the `}` of a function"));
+    }
+    if scene.wants(Punctuator::OpenRound) || scene.fits(&Token::End) {
+        return Some(Hint::Text(
+            "outside functions stand declarations and functions alone: a `}` above may be one too many",
+        ));
+    }
+    None
+}
