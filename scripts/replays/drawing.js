@@ -325,14 +325,15 @@ class DamageDrawing {
   }
 
   /**
-   * Draws the damage of a match's robots over its cycles, with a line at this cycle. It needs of a match: its `cycles`;
+   * Draws the damage of a match's robots over its cycles, with a line at this cycle. It needs of a match: its `cycles`,
+   * and the `first` of them that is shown if that isn't 0;
    * of each of its `robots` the number, and the columns `cycle` and `percent` of its damage; the columns `cycle` and
    * `robot` of its `restarts`; and `damageOf`.
    */
   draw(match, cycle) {
     const { context, width, height } = prepared(this.canvas);
     if (width < LEAST_SIDE) return;
-    Object.assign(this, { context, match, left: 44, right: width - 34, top: 12, bottom: height - 26 });
+    Object.assign(this, { context, match, first: match.first ?? 0, left: 44, right: width - 34, top: 12, bottom: height - 26 });
     this.#ground();
     this.#restarts();
     match.robots.forEach((robot) => this.#steps(robot, cycle));
@@ -343,11 +344,11 @@ class DamageDrawing {
   /** The cycle at a column of the canvas. */
   cycleAt(column) {
     const part = (column - this.left) / (this.right - this.left);
-    return Math.round(Math.max(0, Math.min(1, part)) * this.match.cycles);
+    return this.first + Math.round(Math.max(0, Math.min(1, part)) * (this.match.cycles - this.first));
   }
 
   #x(cycle) {
-    return this.left + (this.right - this.left) * cycle / Math.max(1, this.match.cycles);
+    return this.left + (this.right - this.left) * (cycle - this.first) / Math.max(1, this.match.cycles - this.first);
   }
 
   #y(percent) {
@@ -373,8 +374,8 @@ class DamageDrawing {
     }
     context.textAlign = "center";
     context.textBaseline = "top";
-    const step = roundStep(match.cycles, Math.max(2, (this.right - this.left) / 75));
-    for (let cycle = 0; cycle <= match.cycles; cycle += step) {
+    const step = roundStep(match.cycles - this.first, Math.max(2, (this.right - this.left) / 75));
+    for (let cycle = Math.ceil(this.first / step) * step; cycle <= match.cycles; cycle += step) {
       context.fillText(cycle.toLocaleString("en"), this.#x(cycle), this.bottom + 7);
     }
   }
@@ -382,7 +383,7 @@ class DamageDrawing {
   /** A tick for each restart, above the line of no damage; at most one a column. */
   #restarts() {
     const { context, match } = this, { cycle: cycles, robot: robots } = match.restarts;
-    const column = match.cycles / (this.right - this.left);
+    const column = (match.cycles - this.first) / (this.right - this.left);
     for (let at = 0; at < cycles.length; at = indexAfter(cycles, cycles[at] + column)) {
       context.fillStyle = this.colours.robots[robots[at] - 1];
       context.fillRect(Math.round(this.#x(cycles[at])), this.bottom - 6, 1.5, 6);
@@ -392,10 +393,10 @@ class DamageDrawing {
   /** The damage of a robot, faint after the present cycle. */
   #steps({ number, damage }, now) {
     const { context } = this;
-    for (const [from, to, alpha] of [[now, this.match.cycles, 0.38], [0, now, 1]]) {
+    for (const [from, to, alpha] of [[now, this.match.cycles, 0.38], [this.first, now, 1]]) {
       context.save();
       context.beginPath();
-      context.rect(this.#x(from) - (from ? 0 : 2), 0, this.#x(to) - this.#x(from) + 2, this.bottom + 4);
+      context.rect(this.#x(from) - (from > this.first ? 0 : 2), 0, this.#x(to) - this.#x(from) + 2, this.bottom + 4);
       context.clip();
       context.globalAlpha = alpha;
       context.strokeStyle = this.colours.robots[number - 1];
@@ -403,8 +404,8 @@ class DamageDrawing {
       context.lineJoin = "round";
       context.beginPath();
       const lift = 1.2 * (number - 1);
-      let row = this.#y(0) - lift;
-      context.moveTo(this.#x(0), row);
+      let row = this.#y(damage.percent[0] ?? 0) - lift;
+      context.moveTo(this.#x(this.first), row);
       damage.cycle.forEach((cycle, at) => {
         context.lineTo(this.#x(cycle), row);
         row = this.#y(damage.percent[at]) - lift;

@@ -9,7 +9,7 @@ import math
 from dataclasses import dataclass, field
 from typing import Iterable
 
-from .faults import UNWRITTEN, Fault
+from .faults import UNWRITTEN, USAGE, Fault
 
 HEADER = "cycle robot kind a b c d e".split()
 FIELD = 9999
@@ -17,6 +17,7 @@ MOST_RANGE = 700
 MOST_RESOLUTION = 10
 CYCLES_OF_UPDATE = 15
 TENTHS_OF_UPDATE = 500
+DEADLY = 100
 SHOT, COLLISION, WALL = range(3)
 
 
@@ -72,7 +73,10 @@ class Film:
         self.hurts: list[tuple[int, int, int, int, int]] = []
         # cycle, robot, cause, function, line
         self.restarts: list[tuple[int, int, str, str, int]] = []
+        # the cycles that the film has, and whether the match goes on after them
+        self.first = 0
         self.cycles = 0
+        self.is_cut = False
         self._flying: dict[int, list[Shot]] = {}
         self._harms: dict[tuple[int, int, int, int], int] = {}
         self._ended: set[int] = set()
@@ -87,12 +91,19 @@ class Film:
                 known = self._take(fields + [""] * (len(HEADER) - len(fields)))
             if not known:
                 raise Fault(f"line {number} of the film can't be read", UNWRITTEN)
+        self._judge()
+        self.first = min(robot.places[0][0] for robot in self.robots)
+        for shot in self.shots:
+            shot.harm = self._harms.get((shot.burst, shot.robot, shot.to_x, shot.to_y), 0)
+
+    def _judge(self) -> None:
+        """Looks whether the film is whole."""
+        if self.robots and not self._ended and not any(robot.places for robot in self.robots):
+            raise Fault("the match has none of these cycles", USAGE)
         if not self.robots or len(self._ended) != len(self.robots):
             raise Fault("the film has no end", UNWRITTEN)
         if not all(robot.places for robot in self.robots):
             raise Fault("the film has no place of a robot", UNWRITTEN)
-        for shot in self.shots:
-            shot.harm = self._harms.get((shot.burst, shot.robot, shot.to_x, shot.to_y), 0)
 
     def _take(self, fields: list[str]) -> bool:
         """Takes a line; reports whether it is one of a film."""
@@ -119,6 +130,8 @@ class Film:
         x, y, heading, speed, damage = map(int, values[:5])
         self._robot(robot).places.append((cycle, x, y, heading, speed))
         self._robot(robot).take_damage(cycle, damage)
+        if damage >= DEADLY and self._robot(robot).death is None:
+            self._robot(robot).death = cycle
 
     def _take_scan(self, cycle: int, robot: int, values: list[str]) -> None:
         degree, resolution, reply = map(int, values[:3])
@@ -134,14 +147,23 @@ class Film:
         """A shot that was refused is not shown."""
 
     def _take_burst(self, cycle: int, robot: int, values: list[str]) -> None:
-        """The burst is that of the robot's missile from which it is least expected to differ."""
+        """The burst is that of the robot's missile from which it is least expected to differ.
+
+        If the film begins within the match, the missile may have been fired before it: then the burst alone is shown."""
         x, y = map(int, values[:2])
         flying = self._flying.get(robot, [])
         shot = min(flying, key=lambda it: (abs(it.burst - cycle), abs(it.to_x - x) + abs(it.to_y - y)), default=None)
+        if self._begins_late(robot) and (shot is None or shot.burst != cycle):
+            self.shots.append(Shot(robot, cycle, x, y, cycle, x, y))
+            return
         if shot is None:
             raise ValueError("no missile is in the air")
         flying.remove(shot)
         shot.burst, shot.to_x, shot.to_y = cycle, x, y
+
+    def _begins_late(self, robot: int) -> bool:
+        """Whether the film has no place of a robot at the begin of the match."""
+        return all(cycle > 0 for cycle, *_ in self._robot(robot).places[:1])
 
     def _take_hurt(self, cycle: int, robot: int, values: list[str]) -> None:
         damage, by, x, y = map(int, values[:4])
@@ -170,3 +192,7 @@ class Film:
         self._robot(robot).take_damage(cycle, int(values[0]))
         self._ended.add(robot)
         self.cycles = max(self.cycles, cycle)
+
+    def _take_stop(self, cycle: int, robot: int, values: list[str]) -> None:
+        self._take_end(cycle, robot, values)
+        self.is_cut = True

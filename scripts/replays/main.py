@@ -15,7 +15,9 @@ from .films import Film
 from .pages import page
 
 NAME = "replay"
-USAGE_LINE = f"usage: {NAME} [-kMATCH] [-lCYCLES] [-sSEED] [-pPROFILE] FILE.. > match.html"
+USAGE_LINE = f"usage: {NAME} [-kMATCH] [-lCYCLES] [-sSEED] [-pPROFILE] [--from CYCLE] [--to CYCLE] FILE.. > match.html"
+# The long options that it takes.
+LONG = ("--from", "--to")
 
 
 def program() -> str:
@@ -27,6 +29,11 @@ def program() -> str:
     if not found:
         raise Fault("crobots-trace is not there, or is no program; README.md says how it is built", USAGE)
     return found
+
+
+def is_known(word: str) -> bool:
+    """Whether a word is no long option that only `trace` takes."""
+    return not word.startswith("--") or word.split("=")[0] in LONG
 
 
 def number_of(words: list[str]) -> int:
@@ -83,7 +90,7 @@ def run(words: list[str]) -> int:
     if isinstance(sys.stderr, io.TextIOWrapper):
         sys.stderr.reconfigure(errors="surrogateescape")
     try:
-        if not words or any(word.startswith("--") for word in words):
+        if not words or not all(map(is_known, words)):
             raise Fault("", USAGE)
         write(page(filmed(program(), words), number_of(words)))
     except Fault as why:

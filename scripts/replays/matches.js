@@ -38,7 +38,9 @@ function mixed(from, to, part) {
 class Match {
   /** A match of what a page keeps of it. */
   constructor(kept) {
+    this.first = kept.first ?? 0;
     this.cycles = kept.cycles;
+    this.isCut = kept.isCut ?? false;
     this.robots = kept.robots.map((robot, at) => ({
       number: at + 1, name: robot.name, death: robot.death,
       path: decoded(robot.path, "cycle", "x", "y"),
@@ -118,7 +120,7 @@ class Match {
 
   /** The places of a robot in its last updates, the oldest first, each with its age from 0 to 1. */
   #trail(path, cycle, place) {
-    const from = Math.max(0, cycle - TRAIL);
+    const from = Math.max(this.first, cycle - TRAIL);
     const first = countAtMost(path.cycle, from), end = countAtMost(path.cycle, cycle);
     const trail = [{ ...this.#place(path, from), age: (cycle - from) / TRAIL }];
     for (let at = first; at < end; at++) {
@@ -182,7 +184,7 @@ class Match {
       if (death !== null) rows.push([death, number, () => "is dead"]);
     }
     for (const { number, death } of this.robots) {
-      if (death === null) rows.push([this.cycles, number, () => `is alive at the end, with damage ${this.damageOf(number, this.cycles)}%`]);
+      if (death === null) rows.push([this.cycles, number, () => `is alive ${this.isCut ? "then" : "at the end"}, with damage ${this.damageOf(number, this.cycles)}%`]);
     }
     rows.sort((a, b) => a[0] - b[0]);
     return { cycle: rows.map((row) => row[0]), robot: rows.map((row) => row[1]), text: rows.map((row) => row[2]) };

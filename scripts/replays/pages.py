@@ -53,7 +53,12 @@ def kept(film: Film) -> dict[str, Any]:
         "hurts": columns("cycle robot kind damage by", film.hurts),
         "restarts": columns("cycle robot why", [(it[0], it[1], places[it[2:]]) for it in film.restarts]),
         "whys": whys,
-    }
+    } | part_of(film)
+
+
+def part_of(film: Film) -> dict[str, Any]:
+    """What the page keeps besides of a film that isn't whole: its first cycle, and whether the match goes on after it."""
+    return {"first": film.first, "isCut": film.is_cut} if film.first or film.is_cut else {}
 
 
 def listed(names: list[str]) -> str:

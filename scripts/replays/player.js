@@ -99,8 +99,9 @@ class Events {
     });
     if (!count) {
       this.rows[0].hidden = false;
-      this.rows[0].dataset.cycle = "0";
-      this.rows[0].replaceChildren(made("span", "cycle", "0"), made("span", "", "the match begins"));
+      const { first } = this.match;
+      this.rows[0].dataset.cycle = `${first}`;
+      this.rows[0].replaceChildren(made("span", "cycle", shown(first)), made("span", "", first ? "the replay begins" : "the match begins"));
     }
   }
 
@@ -119,7 +120,7 @@ class Speaker {
   constructor(region, match) {
     this.region = region;
     this.match = match;
-    this.cycle = 0;
+    this.cycle = match.first;
     this.saidAt = -Infinity;
   }
 
@@ -134,8 +135,13 @@ class Speaker {
     this.saidAt = now;
     const texts = [];
     for (let index = Math.max(from, to - 4); index < to; index++) texts.push(this.#text(this.match.event(index)));
-    if (cycle >= this.match.cycles) texts.unshift(`The match ends after ${this.match.cycles} cycles.`);
+    if (cycle >= this.match.cycles) texts.unshift(this.#end());
     this.region.textContent = texts.join(" ");
+  }
+
+  #end() {
+    const { isCut, cycles } = this.match;
+    return isCut ? `The replay ends at cycle ${cycles}.` : `The match ends after ${cycles} cycles.`;
   }
 
   #text({ cycle, robot, text }) {
@@ -146,7 +152,7 @@ class Speaker {
 class Player {
   constructor(match) {
     this.match = match;
-    this.cycle = 0;
+    this.cycle = match.first;
     this.isPlaying = false;
     this.speed = this.#fittingSpeed();
     const colours = coloursOf(document.documentElement);
@@ -164,7 +170,7 @@ class Player {
 
   /** Goes to a cycle, and shows it. */
   seek(cycle) {
-    this.cycle = Math.max(0, Math.min(this.match.cycles, cycle));
+    this.cycle = this.#within(cycle);
     this.speaker.follow(this.cycle, true);
     this.show();
   }
@@ -173,7 +179,7 @@ class Player {
   toggle() {
     this.isPlaying = !this.isPlaying;
     if (this.isPlaying) {
-      if (this.cycle >= this.match.cycles) this.cycle = 0;
+      if (this.cycle >= this.match.cycles) this.cycle = this.match.first;
       this.before = performance.now();
       requestAnimationFrame((now) => this.#frame(now));
     }
@@ -213,7 +219,7 @@ class Player {
 
   /** The speed at which the match is neither over at once nor too long; that of 300 cycles a second if it can be. */
   #fittingSpeed() {
-    const seconds = (at) => this.match.cycles / SPEEDS[at];
+    const seconds = (at) => (this.match.cycles - this.match.first) / SPEEDS[at];
     let at = SPEEDS.indexOf(300);
     while (at < SPEEDS.length - 1 && seconds(at) > LONGEST_SHOW) at++;
     while (at > 0 && seconds(at) < SHORTEST_SHOW) at--;
@@ -223,6 +229,7 @@ class Player {
   /** The limits of the controls. */
   #limits() {
     SPEEDS.forEach((speed, at) => element("speed").add(new Option(`${shown(speed)} cycles/s`, `${at}`)));
+    element("slider").min = `${this.match.first}`;
     element("slider").max = `${this.match.cycles}`;
   }
 
@@ -247,7 +254,12 @@ class Player {
 
   /** Goes to the cycle of an address that ends with one, such as #4035. */
   #follow(hash) {
-    if (/^#\d+$/.test(hash)) this.cycle = Math.min(this.match.cycles, Number(hash.slice(1)));
+    if (/^#\d+$/.test(hash)) this.cycle = this.#within(Number(hash.slice(1)));
+  }
+
+  /** The nearest cycle that the page has. */
+  #within(cycle) {
+    return Math.max(this.match.first, Math.min(this.match.cycles, cycle));
   }
 
   #faster(by) {
@@ -266,12 +278,12 @@ class Player {
     const { match, cycle } = this, update = Math.floor(cycle / UPDATE) * UPDATE;
     return {
       "play-pause": () => this.toggle(),
-      "to-start": () => this.seek(0),
+      "to-start": () => this.seek(match.first),
       "to-end": () => this.#step(match.cycles),
       "update-after": () => this.#step(update + UPDATE),
       "update-before": () => this.#step(update < cycle ? update : update - UPDATE),
       "hit-after": () => this.#step(match.hitAfter(cycle) ?? match.cycles),
-      "hit-before": () => this.#step(match.hitBefore(cycle) ?? 0),
+      "hit-before": () => this.#step(match.hitBefore(cycle) ?? match.first),
       "cycle-after": () => this.#step(Math.floor(cycle) + 1),
       "cycle-before": () => this.#step(Math.ceil(cycle) - 1),
       "restart-after": () => this.#step(match.restartAfter(cycle) ?? match.cycles),

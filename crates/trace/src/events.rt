@@ -133,20 +133,29 @@ impl<'a> Events<'a> {
         }
     }
 
-    /// Looks at the robots after an update, or at the begin.
+    /// Looks at the robots after an update, or at the begin, up to the last cycle that is looked at.
     fn look(&mut self, cycle: u32, arena: &Arena) {
-        for robot in 0..self.robots.min(arena.robot_count()) {
-            if let Some(seen) = self.seen.get_mut(robot) {
-                let died = seen.look(arena.damage(robot), arena.alive(robot));
-                if died {
-                    self.tell(cycle, robot, "death", &[]);
-                }
-            }
-            if self.is_film && self.span.has(cycle, robot) {
-                self.follow(robot, Stance::of(cycle, robot, arena));
+        if cycle <= self.span.to {
+            for robot in 0..self.robots.min(arena.robot_count()) {
+                self.look_at(cycle, robot, arena);
             }
         }
         self.rows.pass();
+    }
+
+    /// Looks at a robot after an update, or at the begin.
+    fn look_at(&mut self, cycle: u32, robot: usize, arena: &Arena)
+        requires { robot < length arena.now.robots }
+    {
+        if let Some(seen) = self.seen.get_mut(robot) {
+            let died = seen.look(arena.damage(robot), arena.alive(robot));
+            if died {
+                self.tell(cycle, robot, "death", &[]);
+            }
+        }
+        if self.is_film && self.span.has(cycle, robot) {
+            self.follow(robot, Stance::of(cycle, robot, arena));
+        }
     }
 
     /// Writes what has to be told of where a robot is.
@@ -165,7 +174,8 @@ impl<'a> Events<'a> {
         }
     }
 
-    /// Writes where the robots' ways end, and their damages after the last cycle.
+    /// Writes where the robots' ways end, and their damages after the last cycle of the match. Those of a film that ends
+    /// before it are another kind.
     fn end(&mut self, cycle: u32) {
         for robot in 0..self.robots {
             if let Some(seen) = self.seen.get(robot)
@@ -175,10 +185,19 @@ impl<'a> Events<'a> {
                     .event_before(end.cycle, robot, "at", &fields_of(&end));
             }
         }
+        if self.is_film && self.span.to < cycle {
+            self.tell_damages(self.span.to, "stop");
+        } else {
+            self.tell_damages(cycle, "end");
+        }
+    }
+
+    /// Writes the robots' damages after a cycle, as this kind.
+    fn tell_damages(&mut self, cycle: u32, kind: &str) {
         for robot in 0..self.robots {
             if let Some(seen) = self.seen.get(robot) {
                 let damage = Field::Number(i64::from(seen.damage));
-                self.tell(cycle, robot, "end", &[damage]);
+                self.tell(cycle, robot, kind, &[damage]);
             }
         }
     }

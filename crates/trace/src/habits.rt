@@ -10,6 +10,9 @@ use std::alloc::AllocError;
 /// A streak is told if it took this part of a robot's cycles.
 const TOLD_PART: u64 = 10;
 
+/// The least count that is told in thousands.
+const LEAST_THOUSANDS: u64 = 10_000_000;
+
 /// What is told by directions, with the words for it.
 const DEEDS: [(Deed, &str); 3] = [
     (Deed::Sees, "saw"),
@@ -31,13 +34,11 @@ pub fn add_streak(
     if streak.count == 1 || cycles < tally.cycles() / TOLD_PART {
         return Ok(());
     }
-    let mut items = Items::new("in a row");
-    items.begin(text)?;
-    add_place(text, &streak, note, program)?;
-    items.begin(text)?;
-    write!(text, "cycles {} to {}", streak.first.cycle, streak.last)?;
-    items.begin(text)?;
-    add_replies(text, "reply ", Some([streak.least, streak.most]))?;
+    let mut items = Items::new("in a row", text);
+    add_place(items.begin()?, &streak, note, program)?;
+    let item = items.begin()?;
+    write!(item, "cycles {} to {}", streak.first.cycle, streak.last)?;
+    add_replies(items.begin()?, "reply ", Some([streak.least, streak.most]))?;
     items.end(text)
 }
 
@@ -59,13 +60,13 @@ fn add_place(
 
 /// Adds a robot's calls of intrinsic functions.
 pub fn add_calls(text: &mut String, tally: &Tally) -> Result<(), AllocError> {
-    let mut items = Items::new("calls");
+    let mut items = Items::new("calls", text);
     for intrinsic in INTRINSICS {
         let calls = tally.calls_of(intrinsic);
         if calls.all > 0 {
-            items.begin(text)?;
-            write!(text, "{} {}", calls.all, intrinsic.name())?;
-            add_answers(text, intrinsic, &calls)?;
+            let item = items.begin()?;
+            write!(item, "{} {}", calls.all, intrinsic.name())?;
+            add_answers(item, intrinsic, &calls)?;
         }
     }
     items.end(text)
@@ -125,7 +126,7 @@ pub fn add_directions(text: &mut String, tally: &Tally) -> Result<(), AllocError
 fn add_degrees(text: &mut String) -> Result<(), AllocError> {
     text.push_str("   degrees    ")?;
     for direction in 0..DIRECTIONS {
-        write!(text, "{:>7}", direction * DIRECTION_DEGREES)?;
+        write!(text, "{:>8}", direction * DIRECTION_DEGREES)?;
     }
     text.push('\n')
 }
@@ -134,7 +135,16 @@ fn add_degrees(text: &mut String) -> Result<(), AllocError> {
 fn add_counts(text: &mut String, name: &str, counts: &[u64]) -> Result<(), AllocError> {
     write!(text, "     {name:<9}")?;
     for count in counts {
-        write!(text, "{count:>7}")?;
+        add_count(text, *count)?;
     }
     text.push('\n')
+}
+
+/// Adds a count after a blank at least, in eight columns: in thousands if it has no room else.
+fn add_count(text: &mut String, count: u64) -> Result<(), AllocError> {
+    if count < LEAST_THOUSANDS {
+        write!(text, "{count:>8}")
+    } else {
+        write!(text, "{:>7}k", count / 1000)
+    }
 }

@@ -1,7 +1,7 @@
 //! The report of a match's sums.
 
 use crate::habits::{add_calls, add_directions, add_streak};
-use crate::items::Items;
+use crate::items::{Items, MOST_COLUMNS};
 use crate::notes::{Note, note_of, plain};
 use crate::requests::Request;
 use crate::restarts::add_restarts;
@@ -15,8 +15,8 @@ use std::str;
 /// How many lines of a source are told.
 const MOST_TOLD: usize = 10;
 
-/// How many characters of a line of a source are told.
-const TEXT_CHARACTERS: usize = 60;
+/// How many characters stand before the text of a line of a source.
+const TEXT_COLUMN: usize = 26;
 
 /// Adds the report: the match and how each robot ended, as crobots has it, and then each robot that is looked at.
 pub fn add_report(
@@ -90,46 +90,41 @@ fn add_robot(
 
 /// Adds what was taken from a robot, and by what.
 fn add_losses(text: &mut String, robot: usize, tally: &Tally) -> Result<(), AllocError> {
-    let mut items = Items::new("lost");
+    let mut items = Items::new("lost", text);
     for (by, percent) in tally.shots.iter().enumerate() {
         let number = by.saturating_add(1);
         if *percent == 0 {
             continue;
         }
-        items.begin(text)?;
+        let item = items.begin()?;
         if by == robot {
-            write!(text, "{percent}% by its own shots")?;
+            write!(item, "{percent}% by its own shots")?;
         } else {
-            write!(text, "{percent}% by shots of {number}")?;
+            write!(item, "{percent}% by shots of {number}")?;
         }
     }
-    add_share(text, &mut items, tally.walls, "by walls")?;
-    add_share(text, &mut items, tally.collisions, "by collisions")?;
+    add_share(&mut items, tally.walls, "by walls")?;
+    add_share(&mut items, tally.collisions, "by collisions")?;
     items.end(text)
 }
 
 /// Adds a share of damage, if there is any.
-fn add_share(
-    text: &mut String,
-    items: &mut Items,
-    percent: u64,
-    how: &str,
-) -> Result<(), AllocError> {
+fn add_share(items: &mut Items, percent: u64, how: &str) -> Result<(), AllocError> {
     if percent == 0 {
         return Ok(());
     }
-    items.begin(text)?;
-    write!(text, "{percent}% {how}")
+    let item = items.begin()?;
+    write!(item, "{percent}% {how}")
 }
 
 /// Adds what a robot's shots took from others.
 fn add_taken(text: &mut String, tally: &Tally) -> Result<(), AllocError> {
-    let mut items = Items::new("took");
+    let mut items = Items::new("took", text);
     for (from, percent) in tally.taken.iter().enumerate() {
         let number = from.saturating_add(1);
         if *percent > 0 {
-            items.begin(text)?;
-            write!(text, "{percent}% from {number}")?;
+            let item = items.begin()?;
+            write!(item, "{percent}% from {number}")?;
         }
     }
     items.end(text)
@@ -137,45 +132,75 @@ fn add_taken(text: &mut String, tally: &Tally) -> Result<(), AllocError> {
 
 /// Adds a robot's shots.
 fn add_shots(text: &mut String, tally: &Tally) -> Result<(), AllocError> {
-    let mut items = Items::new("shots");
+    let mut items = Items::new("shots", text);
     let calls = tally.calls_of(Intrinsic::Cannon);
     if calls.all > 0 {
-        let fired = calls.all.saturating_sub(calls.zero);
-        let (zero, bursts, hits) = (calls.zero, tally.bursts, tally.hits);
-        items.begin(text)?;
-        write!(
-            text,
-            "{fired} fired, {zero} refused, {bursts} burst, {hits} hit another robot"
-        )?;
+        add_part(&mut items, calls.all.saturating_sub(calls.zero), "fired")?;
+        add_part(&mut items, calls.zero, "refused")?;
+        add_part(&mut items, tally.bursts, "burst")?;
+        add_part(&mut items, tally.hits, "hit another robot")?;
     }
     items.end(text)
+}
+
+/// Adds how many of a robot's shots did what.
+fn add_part(items: &mut Items, count: u64, what: &str) -> Result<(), AllocError> {
+    let item = items.begin()?;
+    write!(item, "{count} {what}")
 }
 
 /// Adds what a robot's cycles were for.
 fn add_time(text: &mut String, tally: &Tally) -> Result<(), AllocError> {
     let shares = &tally.shares;
     let all = tally.cycles();
-    let mut items = Items::new("time");
-    items.begin(text)?;
+    let others = [
+        (shares.scanning, "to scan"),
+        (shares.shooting, "to shoot"),
+        (shares.sums.saturating_add(shares.open_cycles), "else"),
+    ];
+    let mut items = Items::new("time", text);
+    let item = items.begin()?;
     write!(
-        text,
-        "{all} cycles: {}% to move, {}% to scan, {}% to shoot, {}% else",
-        percent(shares.moving, all),
-        percent(shares.scanning, all),
-        percent(shares.shooting, all),
-        percent(shares.sums.saturating_add(shares.open_cycles), all)
+        item,
+        "{all} cycles: {}% to move",
+        percent(shares.moving, all)
     )?;
+    for (cycles, what) in others {
+        let item = items.begin()?;
+        write!(item, "{}% {what}", percent(cycles, all))?;
+    }
     items.end(text)
 }
 
-/// Adds the share of each function in a robot's cycles.
+/// Adds the cycles of each function, and their share in all of the robot's.
 fn add_functions(
     text: &mut String,
     tally: &Tally,
     note: &Note,
     program: &Program,
 ) -> Result<(), AllocError> {
-    let mut items = Items::new("functions");
+    let mut items = Items::new("functions", text);
+    let mut counts = cycles_by_function(text, tally, program)?;
+    let all = tally.cycles();
+    for _ in program.addresses() {
+        let Some(number) = largest(counts.as_slice()) else {
+            break;
+        };
+        let cycles = counts.get(number).copied().unwrap_or(0);
+        let (name, share) = (note.function_name(number), percent(cycles, all));
+        let item = items.begin()?;
+        write!(item, "{cycles} {name} ({share}%)")?;
+        clear(counts.as_mut_slice(), number);
+    }
+    items.end(text)
+}
+
+/// Returns the cycles of each function of a program.
+fn cycles_by_function(
+    text: &String,
+    tally: &Tally,
+    program: &Program,
+) -> Result<Vec<u64>, AllocError> {
     let mut counts = Vec::new(*text.allocator());
     for _ in program.addresses() {
         counts.push(0)?;
@@ -184,22 +209,7 @@ fn add_functions(
         let number = function_at(program.addresses(), address);
         add(counts.as_mut_slice(), number, spot.cycles);
     }
-    let all = tally.cycles();
-    for _ in program.addresses() {
-        let Some(number) = largest(counts.as_slice()) else {
-            break;
-        };
-        items.begin(text)?;
-        let share = share(counts.as_slice(), number, all);
-        write!(text, "{share}% {}", note.function_name(number))?;
-        clear(counts.as_mut_slice(), number);
-    }
-    items.end(text)
-}
-
-/// Returns the count of this number in percent of all.
-fn share(counts: &[u64], number: usize, all: u64) -> u64 {
-    percent(counts.get(number).copied().unwrap_or(0), all)
+    Ok(counts)
 }
 
 /// Adds the lines that took most cycles.
@@ -254,7 +264,7 @@ fn position(lines: &[u32], line: u32) -> usize {
 /// Adds the begin of a line of a source, without the blanks before it.
 fn add_source(text: &mut String, bytes: &[u8]) -> Result<(), AllocError> {
     let line = plain(*text.allocator(), bytes)?;
-    for c in line.trim().chars().take(TEXT_CHARACTERS) {
+    for c in line.trim().chars().take(MOST_COLUMNS - TEXT_COLUMN) {
         text.push(c)?;
     }
     text.push('\n')

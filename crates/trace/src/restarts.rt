@@ -2,9 +2,9 @@
 
 use crate::items::Items;
 use crate::notes::Note;
-use crate::tallies::{Tally, clear};
+use crate::tallies::{Tally, add, clear};
 use code::{Cause, Frame, Program};
-use findings::largest;
+use findings::{function_at, largest};
 use std::alloc::AllocError;
 
 /// How many places of restarts are told.
@@ -48,33 +48,76 @@ fn calls_to(frames: &[Frame], back: u16) -> usize {
     calls
 }
 
-/// Adds where and why a robot restarted, the most frequent places first.
+/// Adds where and why a robot restarted, the most frequent places first. Those in one line of a function for one cause are
+/// one.
 pub fn add_restarts(
     text: &mut String,
     tally: &Tally,
     note: &Note,
     program: &Program,
 ) -> Result<(), AllocError> {
-    let mut items = Items::new("restarts");
-    let mut counts = Vec::new(*text.allocator());
-    for spot in tally.spots.as_slice() {
-        counts.push(spot.restarts)?;
-    }
+    let mut items = Items::new("restarts", text);
+    let mut counts = restarts_by_place(text, tally, note, program)?;
     for _ in 0..MOST_TOLD {
         let Some(address) = largest(counts.as_slice()) else {
             break;
         };
-        items.begin(text)?;
-        add_restart(text, address, tally, note, program)?;
+        let count = counts.get(address).copied().unwrap_or(0);
+        add_restart(items.begin()?, address, count, tally, note, program)?;
         clear(counts.as_mut_slice(), address);
     }
     items.end(text)
 }
 
-/// Adds the restarts at an address.
-fn add_restart(
-    text: &mut String,
+/// Returns how often a robot restarted at each address: what is alike counts for the first address of it.
+fn restarts_by_place(
+    text: &String,
+    tally: &Tally,
+    note: &Note,
+    program: &Program,
+) -> Result<Vec<u64>, AllocError> {
+    let mut counts = Vec::new(*text.allocator());
+    for (address, spot) in tally.spots.iter().enumerate() {
+        counts.push(0)?;
+        if spot.restarts > 0 {
+            let first = first_alike(address, tally, note, program);
+            add(counts.as_mut_slice(), first, spot.restarts);
+        }
+    }
+    Ok(counts)
+}
+
+/// Returns the first address at which the robot restarted for the same cause in the same line and function.
+fn first_alike(address: usize, tally: &Tally, note: &Note, program: &Program) -> usize {
+    let here = place_and_cause(address, tally, note, program);
+    for before in 0..address {
+        if place_and_cause(before, tally, note, program) == here {
+            return before;
+        }
+    }
+    address
+}
+
+/// Returns the line and the function of an address, and why the robot restarted there, if it did.
+fn place_and_cause(
     address: usize,
+    tally: &Tally,
+    note: &Note,
+    program: &Program,
+) -> (u32, usize, Option<Cause>) {
+    let cause = match tally.spots.get(address) {
+        Some(spot) => spot.cause,
+        None => None,
+    };
+    let function = function_at(program.addresses(), address);
+    (note.line(address), function, cause)
+}
+
+/// Adds so many restarts at an address.
+fn add_restart(
+    item: &mut String,
+    address: usize,
+    count: u64,
     tally: &Tally,
     note: &Note,
     program: &Program,
@@ -82,35 +125,35 @@ fn add_restart(
     let Some(spot) = tally.spots.get(address) else {
         return Ok(());
     };
-    let (count, why) = (spot.restarts, reason(spot.cause));
+    let why = reason(spot.cause);
     let (line, function) = (note.line(address), note.function(program, address));
-    write!(text, "{count} in line {line} of {function}: {why}")?;
+    write!(item, "{count} in line {line} of {function}: {why}")?;
     match spot.crowd {
-        Some(crowd) => add_crowd(text, spot.cause, &crowd, note),
+        Some(crowd) => add_crowd(item, spot.cause, &crowd, note),
         None => Ok(()),
     }
 }
 
 /// Adds how many of the open calls were from one line.
 fn add_crowd(
-    text: &mut String,
+    item: &mut String,
     cause: Option<Cause>,
     crowd: &Crowd,
     note: &Note,
 ) -> Result<(), AllocError> {
     let (calls, line) = (crowd.calls, note.line(crowd.address));
     if cause == Some(Cause::Frames) {
-        write!(text, ", {calls} of them from line {line}")
+        write!(item, ", {calls} from line {line}")
     } else {
-        write!(text, ", with {calls} open calls from line {line}")
+        write!(item, ", {calls} calls open from line {line}")
     }
 }
 
 /// Returns the words for the cause of a restart.
 fn reason(cause: Option<Cause>) -> &'static str {
     match cause {
-        Some(Cause::Words) => "the stack was full",
-        Some(Cause::Frames) => "too many calls were open",
+        Some(Cause::Words) => "stack full",
+        Some(Cause::Frames) => "too many calls open",
         Some(Cause::Returned) => "main returned",
         None => "",
     }

@@ -11,8 +11,8 @@ use trails::{Path, Place, column, row, step_of};
 /// The number of pieces of a path that differ in opacity.
 const PIECES: usize = 16;
 
-/// The most marks of time on a path.
-const MOST_MARKS: u32 = 20;
+/// The most marks of time on a path: those of a match with the default limit.
+const MOST_MARKS: u32 = 50;
 
 /// The fewest cycles between two marks of time.
 const LEAST_STEP: u32 = 10_000;
