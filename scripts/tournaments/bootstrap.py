@@ -25,8 +25,8 @@ POISSON = list(itertools.accumulate(math.exp(-1) / math.factorial(k) for k in ra
 
 def drawn(index: int) -> Packed:
     """Draws how often a match counts in each round."""
-    source = random.Random(f"{SEED} {index}")
-    return int.from_bytes(LAYOUT.pack(*(bisect.bisect(POISSON, source.random()) for _ in range(ROUNDS))), "little")
+    chance = random.Random(f"{SEED} {index}").random
+    return int.from_bytes(LAYOUT.pack(*[bisect.bisect(POISSON, chance()) for _ in range(ROUNDS)]), "little")
 
 
 def unpacked(sums: Packed) -> tuple[int, ...]:

@@ -124,6 +124,7 @@ def dashless(path: str) -> str:
 def challenge(name: str, arguments: list[str]) -> None:
     """Does what the words ask for."""
     given = words.challenge(name).parse_intermixed_args(arguments)
+    words.settle(given)
     both = [given.new, given.old]
     field = [path for path in given.field if os.path.abspath(path) not in {os.path.abspath(it) for it in both}]
     if not field:

@@ -57,7 +57,7 @@ class Results:
 def sizes(given: argparse.Namespace) -> tuple[int, ...]:
     """The sizes that are played: those with a weight, or one."""
     if not given.by_size:
-        return (given.size or 2,)
+        return (given.size,)
     return tuple(size for size, weight in zip(SIZE_NAMES, given.by_size) if weight > Decimal(0))
 
 
@@ -67,12 +67,28 @@ def check(given: argparse.Namespace) -> None:
         raise Fault("--by-size plays all groups of the sizes that have a weight, so it needs one, and no --size or --sample")
     if given.merge and (given.plan or given.journal):
         raise Fault("--merge reads what was played, so it takes no --plan and no --journal")
+    if given.merge and words.settings_given(given):
+        raise Fault(f"--merge reads the settings from the records, so it takes no {', '.join(words.settings_given(given))}")
     if given.plan and given.journal:
         raise Fault("--plan plays nothing, so it takes no --journal")
     if given.against and not given.merge:
         raise Fault("--against goes with --merge")
-    if not given.merge and len(given.robots) < max(sizes(given)):
-        raise Fault(f"matches of {max(sizes(given))} need at least {max(sizes(given))} robots")
+
+
+def enough(given: argparse.Namespace) -> None:
+    """Refuses too few robots."""
+    size = max(sizes(given))
+    if len(given.robots) < size:
+        raise Fault(f"matches of {size} need at least {size} robots")
+
+
+def weighed(given: argparse.Namespace, settings: Settings) -> None:
+    """Refuses weights that aren't those of the sizes that were played, and points of several sizes without weights."""
+    theirs = ",".join(map(str, settings.sizes))
+    if given.by_size and sizes(given) != settings.sizes:
+        raise Fault(f"the records are of size {theirs}, but --by-size has weights for size {','.join(map(str, sizes(given)))}")
+    if len(settings.sizes) > 1 and not (given.by_size or given.matrix or given.long):
+        raise Fault(f"the records are of size {theirs}, so their points need --by-size")
 
 
 def merged(given: argparse.Namespace) -> str:
@@ -86,6 +102,7 @@ def merged(given: argparse.Namespace) -> str:
     wrong = (against(given.against, merger) if given.against else "") or merger.wrong()
     if wrong:
         raise Fault(wrong)
+    weighed(given, merger.settings)
     return results.text(merger.settings, merger.robots())
 
 
@@ -117,6 +134,8 @@ def tournament(name: str, arguments: list[str]) -> None:
     if given.merge:
         sys.stdout.write(merged(given))
         return
+    words.settle(given)
+    enough(given)
     program = robots.program(given.crobots)
     plan = planned(given, program)
     if given.plan:

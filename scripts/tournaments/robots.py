@@ -82,5 +82,7 @@ def diagnosed(crobots: str, profile: int, path: str) -> int:
         ran = subprocess.run([crobots, "-c", f"-p{profile}", "--", path], stdin=subprocess.DEVNULL, stdout=subprocess.DEVNULL, stderr=subprocess.PIPE, check=False)
     except OSError as why:
         raise Fault(f"{crobots} can't be run: {why.strerror}", PROGRAM) from why
+    if ran.returncode and not ran.stderr:
+        raise Fault(f"{crobots} -c -p{profile} -- {path} ended with status {ran.returncode} and said nothing", PROGRAM)
     sys.stderr.write(ran.stderr.decode(errors="surrogateescape"))
     return ran.returncode

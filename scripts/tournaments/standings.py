@@ -50,7 +50,7 @@ def standings(tally: Tally, names: list[str], scoring: Scoring) -> list[Standing
     for place, it in enumerate(sorted(unranked, key=lambda it: (-it.points, it.name)), 1):
         above = found[-1] if found else None
         rank = above.rank if above and above.points == it.points else place
-        close = above is not None and above.rating.low <= it.rating.high and it.rating.low <= above.rating.high
+        close = above is not None and above.rating.meets(it.rating)
         found.append(Standing(rank, it.robot, it.name, it.score, it.by_size, it.points, it.rating, close))
     return found
 

@@ -12,6 +12,22 @@ from .faults import Fault
 
 MATCHES_MAX, CYCLES_MAX, SEED_MAX = 1_000_000, 1_000_000_000, 2**64 - 1
 
+# The settings of matches that weren't given: what each is then.
+DEFAULTS = {"matches": 100, "cycles": 500_000, "seed": 1, "profile": 1, "size": 2, "sample": 0}
+WORDS = {"matches": "-m", "cycles": "-l", "seed": "-s", "profile": "-p", "size": "--size", "sample": "--sample", "piece": "--piece"}
+
+
+def settle(given: argparse.Namespace) -> None:
+    """Fills in the settings that weren't given."""
+    for name, value in DEFAULTS.items():
+        if getattr(given, name, None) is None:
+            setattr(given, name, value)
+
+
+def settings_given(given: argparse.Namespace) -> list[str]:
+    """The words of the settings that were given."""
+    return [word for name, word in WORDS.items() if getattr(given, name) is not None]
+
 
 def within(least: int, most: int) -> Callable[[str], int]:
     """Reads a whole number within limits."""
@@ -46,10 +62,10 @@ def common(name: str, does: str) -> Parser:
     it = Parser(prog=name, description=does, allow_abbrev=False)
     it.set_defaults(script=name)
     it.add_argument("-j", dest="jobs", metavar="JOBS", type=within(1, 1024), default=os.cpu_count() or 1, help="series at a time (default: the processors)")
-    it.add_argument("-m", dest="matches", metavar="MATCHES", type=within(1, MATCHES_MAX), default=100, help="matches of each group (default 100)")
-    it.add_argument("-l", dest="cycles", metavar="CYCLES", type=within(1, CYCLES_MAX), default=500_000, help="cycles of a match (default 500000)")
-    it.add_argument("-s", dest="seed", metavar="SEED", type=within(0, SEED_MAX), default=1, help="seed (default 1)")
-    it.add_argument("-p", dest="profile", metavar="PROFILE", type=within(1, 2), default=1, help="language profile, 1 or 2 (default 1)")
+    it.add_argument("-m", dest="matches", metavar="MATCHES", type=within(1, MATCHES_MAX), help="matches of each group (default 100)")
+    it.add_argument("-l", dest="cycles", metavar="CYCLES", type=within(1, CYCLES_MAX), help="cycles of a match (default 500000)")
+    it.add_argument("-s", dest="seed", metavar="SEED", type=within(0, SEED_MAX), help="seed (default 1)")
+    it.add_argument("-p", dest="profile", metavar="PROFILE", type=within(1, 2), help="language profile, 1 or 2 (default 1)")
     it.add_argument("--points", metavar="WIN,TIE", type=decimals(2), default=[Decimal(3), Decimal(1)], help="what a win and a tie count (default 3,1)")
     it.add_argument("--journal", metavar="FILE", help="keep what was played in this file, and go on from it")
     it.add_argument("--quiet", action="store_true", help="don't say how far it is")
@@ -63,7 +79,7 @@ def tournament(name: str) -> Parser:
     it = common(name, "Plays every pair of robots (or every three, or four), and prints a table.")
     it.add_argument("--size", metavar="2|3|4", type=within(2, 4), help="robots of a match (default 2)")
     it.add_argument("--by-size", metavar="A,B,C", type=decimals(3), help="play pairs, threes and fours, and add up their points a match with these weights")
-    it.add_argument("--sample", metavar="N", type=within(1, 10_000_000), default=0, help="play only N groups, in which each robot is equally often")
+    it.add_argument("--sample", metavar="N", type=within(1, 10_000_000), help="play only N groups, in which each robot is equally often")
     it.add_argument("--piece", metavar="MATCHES", type=within(1, MATCHES_MAX), help="most matches of one series (default: so that all processors are busy)")
     it.add_argument("--plan", action="store_true", help="print the command lines of all series, one a line, and play nothing")
     it.add_argument("--merge", action="store_true", help="read what such command lines wrote from files, or from standard input")
