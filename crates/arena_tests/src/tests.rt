@@ -14,7 +14,7 @@ mod plain;
 pub fn arena_of(places: &[(u16, u16)]) -> Arena
     requires some { 2 ≤ length places.now }
     requires most { length places.now ≤ MOST_ROBOTS }
-    ensures begun { result.updates ≡ 0 }
+    ensures updates { result.updates ≡ 0 }
     ensures manned { length result.robots ≡ length places.now }
 {
     let mut list = ArrayVec::new();

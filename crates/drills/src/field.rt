@@ -81,7 +81,7 @@ fn order(arena: &mut Arena, robot: usize, is_east: bool)
 
 /// Places four robots, each in a corner of its own, none within the reach of another's bursts.
 fn far_apart() -> Arena
-    ensures begun { result.updates ≡ 0 }
+    ensures updates { result.updates ≡ 0 }
     ensures robots { length result.robots ≡ MOST_ROBOTS }
 {
     Arena::placed(
@@ -93,7 +93,7 @@ fn far_apart() -> Arena
 
 /// Places four robots nearly on one line: the first one sees the three others.
 fn in_a_row() -> Arena
-    ensures begun { result.updates ≡ 0 }
+    ensures updates { result.updates ≡ 0 }
     ensures robots { length result.robots ≡ MOST_ROBOTS }
 {
     Arena::placed(

@@ -1,6 +1,6 @@
 //! The loop of a match.
 
-ghost use Rattle.std.specs.Prelude.{◌≡◌, ◌+◌, ◌≤◌, ◌<◌, length};
+ghost use Rattle.std.specs.Prelude.{◌≡◌, ◌⊎◌, ◌+◌, ◌*◌, ◌/◌, ◌≤◌, ◌<◌, length};
 ghost use Rattle.arena.specs.Ground.{most_updates};
 
 use crate::pilot::Pilot;
@@ -23,7 +23,8 @@ pub fn play<W: Watcher>(
     requires some { 2 ≤ length pilots.old }
     requires most { length pilots.old ≤ MOST_ROBOTS }
     requires limit { limit ≤ CYCLES_MAX }
-    ensures { result ≤ limit }
+    ensures limit { result ≤ limit }
+    ensures ends { (result ≡ limit) ⊎ (result ≡ result / UPDATE_CYCLES * UPDATE_CYCLES) }
 {
     let mut arena = Arena::new(seed, u64::from(number), pilots.len());
     watcher.begins(&arena);
@@ -33,9 +34,12 @@ pub fn play<W: Watcher>(
 /// Runs cycles until at most one robot lives, or the limit is reached. Returns how many they were.
 fn run<W: Watcher>(pilots: &mut [Pilot<'_>], arena: &mut Arena, watcher: &mut W, limit: u32) -> u32
     requires manned { length arena.old.robots ≡ length pilots.old }
-    requires begun { arena.old.updates ≡ 0 }
+    requires updates { arena.old.updates ≡ 0 }
     requires limit { limit ≤ CYCLES_MAX }
-    ensures { result ≤ limit }
+    ensures limit { result ≤ limit }
+    ensures ends { (result ≡ limit) ⊎ (result ≡ result / UPDATE_CYCLES * UPDATE_CYCLES) }
+    // There was one update for each 15 of these cycles.
+    ensures updates { arena.new.updates ≡ result / UPDATE_CYCLES }
 {
     for before in 0..limit {
         let cycle = before + 1;

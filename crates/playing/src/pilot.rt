@@ -1,7 +1,10 @@
 //! Pilots: a robot's program with the machine that runs it.
 
-ghost use Rattle.std.specs.Prelude.{◌≡◌, ◌==◌, ◌<◌, ◌≤◌, if◌then◌else◌, IfOk, length};
-ghost use Rattle.code.specs.Standing.{FitsProgram};
+ghost use Rattle.std.specs.Prelude.{◌≡◌, ◌==◌, ◌<◌, ◌≤◌, if◌then◌else◌, ℤ, List, [], IfOk, false, length, true};
+ghost use Rattle.arena.specs.Ground.{lives};
+ghost use Rattle.code.specs.Machine.{want_code};
+ghost use Rattle.code.specs.Standing.{FitsProgram, IsReached};
+ghost use Rattle.playing.specs.Pilot.{TakesTurn};
 
 use crate::watcher::{Question, Turn, Watcher};
 use arena::Arena;
@@ -54,11 +57,16 @@ impl<'a> Pilot<'a> {
         &self.machine
     }
 
-    /// Runs one cycle before a watcher. A dead robot does nothing.
+    /// Runs one cycle before a watcher, which sees it and changes nothing. A dead robot does nothing.
     pub fn turn<W: Watcher>(&mut self, turn: Turn, arena: &mut Arena, watcher: &mut W)
         requires inside { turn.robot < length arena.old.robots }
         requires cycle { turn.cycle ≤ CYCLES_MAX }
         ensures program { self.new.code ≡ self.old.code }
+        ensures dead { lives arena.old turn.robot ≡ false → (self.new ≡ self.old) × (arena.new ≡ arena.old) }
+        ensures lives { lives arena.old turn.robot ≡ true → (trace : List ℤ)
+            → IsReached self.old.state self.old.code trace
+            → TakesTurn self.old.code turn.robot trace (want_code self.old.code trace) self.new.state
+            arena.old arena.new }
         ensures manned { length arena.new.robots ≡ length arena.old.robots }
         ensures updates { arena.new.updates ≡ arena.old.updates }
     {
@@ -84,7 +92,8 @@ impl<'a> Pilot<'a> {
 
     /// Restarts the machine, and tells the watcher why.
     fn restart<W: Watcher>(&mut self, turn: Turn, watcher: &mut W)
-        ensures { self.new.code ≡ self.old.code }
+        ensures program { self.new.code ≡ self.old.code }
+        ensures restarts { IsReached self.new.state self.old.code [] }
     {
         if let Some(cause) = self.machine.cause(self.program) {
             watcher.restarts(turn, self, cause);

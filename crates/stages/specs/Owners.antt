@@ -4,6 +4,6 @@ use Rattle.std.specs.Prelude.{ℕ, ◌<◌, ◌≤◌, List, length, get_or}
 -- it begins at the address or before, and none that does so begins later
 pub record Owns (begins : List ℕ) (address : ℕ) (number : ℕ) : Type 0 where
   pub known : number < length begins
-  pub begun : get_or begins number 0 ≤ address
+  pub before : get_or begins number 0 ≤ address
   pub last : (other : ℕ) → other < length begins → get_or begins other 0 ≤ address →
       get_or begins other 0 ≤ get_or begins number 0

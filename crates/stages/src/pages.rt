@@ -4,7 +4,7 @@ ghost use Rattle.std.specs.Prelude.{◌<◌};
 
 use crate::looks::{BEFORE_CODE, BEFORE_NAME, BEFORE_SOURCE, BEFORE_TITLE, LOOK, TAIL};
 use crate::origins::Origins;
-use crate::spelling::{begun_at, instruction_at, name_at};
+use crate::spelling::{beginning_at, instruction_at, name_at};
 use crate::texts::{ascii, lines_of, shown, text_of};
 use std::alloc::{AllocError, Global};
 use tools::Compiled;
@@ -89,7 +89,7 @@ fn add_number(text: &mut String, origins: &Origins, number: u32) -> Result<(), A
 
 /// Adds the name of the function that begins at an address, if one does.
 fn add_begin(text: &mut String, made: &Compiled, address: usize) -> Result<(), AllocError> {
-    let Some(number) = begun_at(made.program.addresses(), address) else {
+    let Some(number) = beginning_at(made.program.addresses(), address) else {
         return Ok(());
     };
     let Some(function) = made.names.functions().get(number) else {

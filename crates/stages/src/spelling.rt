@@ -57,7 +57,7 @@ fn variable_at(made: &Compiled, address: usize, variable: Var) -> Option<&str> {
 }
 
 /// Returns the number of the function that begins at an address.
-pub fn begun_at(addresses: &[u16], address: usize) -> Option<usize> {
+pub fn beginning_at(addresses: &[u16], address: usize) -> Option<usize> {
     addresses
         .iter()
         .position(|begin| usize::from(*begin) == address)

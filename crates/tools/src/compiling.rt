@@ -1,6 +1,8 @@
 //! The programs of files.
 
-ghost use Rattle.std.specs.Prelude.{◌≡◌, ◌-◌, ◌<◌, ◌≤◌, ◌^◌, IfOk, false, length};
+ghost use Rattle.std.specs.Prelude.{◌≡◌, ◌-◌, ◌<◌, ◌≤◌, ◌^◌, ℕ, List, Some, IfOk, false, length};
+ghost use Rattle.tokens.specs.Feed.{Counts};
+ghost use Rattle.tools.specs.Compiling.{CompilesTo};
 
 use crate::faults::Fault;
 use crate::feeds::{FileFeed, opened};
@@ -55,6 +57,9 @@ pub fn compile<F: Feed>(
 ) -> Result<Result<Compiled, Diagnostic>, DeviceFault>
     requires count { (F.account feed.old).failures < 2 ^ 64 - 1 }
     requires not_ended { F.ended feed.old ≡ false }
+    ensures compiles { IfOk result (λ answer. (bytes : List ℕ) → F.to_come feed.old ≡ Some bytes
+        → CompilesTo profile bytes answer) }
+    ensures count { Counts result (F.account feed.old) (F.account feed.new) }
 {
     let mut maker = Maker::new(profile);
     match parse(feed, &mut maker) {
