@@ -2,7 +2,7 @@
 
 ghost use Rattle.std.specs.Prelude.{◌≡◌, ◌⊎◌, ℕ, ◌+◌, ◌-◌, ◌^◌, ◌<◌, ◌≤◌, List, [], ◌∷◌, map, length, false, IsErr, IfOk, IfErr, All};
 ghost use Rattle.series.specs.Pieces.{taken};
-ghost use Rattle.series.specs.Failures.{failures};
+ghost use Rattle.series.specs.Failures.{AreReady, failures};
 ghost use Rattle.arguments.specs.Asked.{asked};
 ghost use Rattle.command.specs.Endings.{Accounts};
 ghost use Rattle.command.specs.Files.{EachShows, HasFailed, files, real_files};
@@ -129,11 +129,8 @@ fn run_files<'a, F: Feed, O: Sink, E: Sink>(
     out: &mut O,
     err: &mut E,
 ) -> Ending<'a>
-    requires files { length feeds.old ≡ length settings.now.words }
-    requires feeds { All (λ feed. (F.account feed).failures < 2 ^ 64 - 1) feeds.old }
-    requires not_ended { All (λ feed. F.ended feed ≡ false) feeds.old }
-    requires text { O.failures out.old < 2 ^ 64 - 1 }
-    requires faults { E.failures err.old < 2 ^ 64 - 1 }
+    requires ready { AreReady F.account F.ended (length settings.now.words) feeds.old
+        (O.failures out.old) (E.failures err.old) }
     ensures ran { RunsTo (HasFailed settings.now.words (map F.account feeds.old) (map F.account feeds.new))
         settings.now (map F.to_come feeds.old) result
         (taken (O.portions out.old) (E.portions err.old)) (taken (O.portions out.new) (E.portions err.new))

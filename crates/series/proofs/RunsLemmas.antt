@@ -1,5 +1,7 @@
 -- A run's feeds and sources, file by file.
 use Rattle.std.proofs.Common.{◌≡◌, ◌⊎◌, ℕ, ◌+◌, ◌<◌, List, [], ◌∷◌, length, drop, get_or, map, Option, Some, refl, sym, ap, ◌∙◌, subst, inl, inr, add-zero, add-one, set, zero, suc, arith}
+use Rattle.std.specs.Prelude.{All}
+use Rattle.std.proofs.lemmas.List.Elements.{All-push}
 use Rattle.std.proofs.lemmas.List.{get_or-map, get_or-drop, drop-set-lt, length-map, map-set}
 use Rattle.std.proofs.Math.Seq.{map-set_same}
 use Rattle.series.specs.Compiling.{Source}
@@ -27,6 +29,10 @@ word_here sources words told file are within =
     rw (sym are.named) (get_or-map (λ (s : Source). s.word) sources file no_source [] in_sources)
 
 module _ {X : Type 0} where
+  -- what holds of one holds of all
+  pub all_of_one : (P : X → Type 0) (x : X) → P x → All P (x ∷ [])
+  all_of_one P x one = All-push P [] x (λ k d below. absurd (omega (arith, below))) one
+
   -- a feed that is not yet read
   pub feed_here : (start feeds : List X) (file : ℕ) (x : X) → drop file feeds ≡ drop file start →
       get_or feeds file x ≡ get_or start file x

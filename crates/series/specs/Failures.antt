@@ -1,6 +1,7 @@
 -- Which devices failed, and how often.
-use Rattle.std.specs.Prelude.{◌≡◌, ◌⊎◌, ℕ, ◌+◌, ◌<◌, List, Result, MatchResult, length, slice_index_or, slice_set}
-use Rattle.tokens.specs.Feed.{Account, failed_again}
+use Rattle.std.specs.Prelude.{◌≡◌, ◌⊎◌, ℕ, ◌+◌, ◌-◌, ◌^◌, ◌<◌, Bool, false, List, Result, MatchResult, All, IfOk, length, slice_index_or, slice_set}
+use Rattle.tokens.specs.declared.devices.DeviceFault.{DeviceFault}
+use Rattle.tokens.specs.Feed.{Account, Counts, failed_again}
 use Rattle.series.specs.declared.endings.RunFault.{RunFault}
 use Rattle.series.specs.declared.endings.RunFault.TheVariants as fault
 
@@ -46,3 +47,19 @@ abbrev pub CountsSinks : {T E : Type 0} → Result T E → ℕ → ℕ → ℕ �
 CountsSinks result text faults later_text later_faults = MatchResult result
     (λ _. (later_text ≡ text) × (later_faults ≡ faults))
     (λ _. ((later_text ≡ text + 1) × (later_faults ≡ faults)) ⊎ ((later_text ≡ text) × (later_faults ≡ faults + 1)))
+
+-- There are so many feeds, none of which has ended, and a further failure of each can be counted. So can one of each
+-- sink, of which that of texts has failed n times and that of faults m times.
+pub record AreReady {F : Type 0} (account : F → Account) (ended : F → Bool) (count : ℕ) (given : List F)
+    (n m : ℕ) : Type 0 where
+  pub files : length given ≡ count
+  pub feeds : All (λ feed. (account feed).failures < 2 ^ 64 - 1) given
+  pub not_ended : All (λ feed. ended feed ≡ false) given
+  pub text : n < 2 ^ 64 - 1
+  pub faults : m < 2 ^ 64 - 1
+
+-- of one file's devices none failed, or the feed once if the file was not read, or a sink once if not all was put
+pub record CountsFile {T E : Type 0} (result : Result (Result T E) DeviceFault) (account later_account : Account)
+    (text faults later_text later_faults : ℕ) : Type 0 where
+  pub feed : Counts result account later_account
+  pub sinks : IfOk result (λ put. CountsSinks put text faults later_text later_faults)

@@ -1,7 +1,11 @@
 -- Which programs are kept of the files so far, and whether each file was good.
-use Rattle.std.specs.Prelude.{◌≡◌, ℕ, ◌+◌, List, [], ◌∷◌, ◌++◌, Option, Some, None, Result, Ok, Err, length, option_map}
+use Rattle.std.specs.Prelude.{◌≡◌, ℕ, ◌+◌, ◌<◌, List, [], ◌∷◌, ◌++◌, Option, Some, None, Result, Ok, Err, IfOk, IfSome, length, option_map}
+use Rattle.battles.specs.Programs.{AreOfProfile}
+use Rattle.grammar.specs.Profile.{Profile}
 use Rattle.grammar.specs.declared.diagnostics.Diagnostic.{Diagnostic}
 use Rattle.code.specs.Generation.{ObjectCode}
+use Rattle.settings.specs.declared.settings.Mode.{Mode}
+use Rattle.settings.specs.Limits.{files_max}
 use Rattle.series.specs.declared.endings.Status.{Status}
 use Rattle.series.specs.declared.endings.Status.TheVariants.{Done, Faulty}
 
@@ -42,3 +46,27 @@ status_by (Err d) = Faulty
 abbrev pub both : Status → Status → Status
 both Done second = second
 both Faulty second = Faulty
+
+-- a keeper has room for one more program, and those that it kept are of this profile
+pub record CanKeep (profile : Profile) (kept : Option (List ObjectCode)) : Type 0 where
+  pub room : IfSome kept (λ codes. length codes < files_max)
+  pub alike : IfSome kept (λ codes. AreOfProfile profile codes)
+
+-- a keeper has this mode, and has kept nothing
+pub record IsNewKeeper (asked mode : Mode) (kept : Option (List ObjectCode)) : Type 0 where
+  pub same_mode : mode ≡ asked
+  pub none : IfSome kept (λ codes. codes ≡ [])
+
+-- after one file a keeper has the mode that it had, its programs are of this profile, and of a good file there is one
+-- more
+pub record KeepsOn {E F : Type 0} (profile : Profile) (result : Result (Result Status E) F) (mode later_mode : Mode)
+    (kept later : Option (List ObjectCode)) : Type 0 where
+  pub same_mode : later_mode ≡ mode
+  pub alike : IfSome later (λ codes. AreOfProfile profile codes)
+  pub manned : IfOk result (λ put. IfOk put (λ status. KeepsMore status kept later))
+
+-- after all files a keeper's programs are of this profile, and if all files are good there is one for each
+pub record KeepsAll {F : Type 0} (profile : Profile) (count : ℕ) (result : Result Status F)
+    (kept : Option (List ObjectCode)) : Type 0 where
+  pub alike : IfSome kept (λ codes. AreOfProfile profile codes)
+  pub manned : IfOk result (λ status. status ≡ Done → IfSome kept (λ codes. length codes ≡ count))

@@ -18,6 +18,11 @@ TakesOf profile told later more = (bytes : List ℕ) → told ≡ Some bytes →
 abbrev pub MayLeaveUndecided : Profile → (told later : Option (List ℕ)) → Type 0
 MayLeaveUndecided profile told later = (bytes : List ℕ) → told ≡ Some bytes → LeavesUndecided profile bytes later
 
+-- what was taken of a file that was read, or whose read failed
+abbrev pub ReadsFile : {T E : Type 0} → Profile → Result T E → (told later : Option (List ℕ)) → Type 0
+ReadsFile profile result told later = MatchResult result (λ _. TakesOf profile told later window_bytes)
+    (λ _. MayLeaveUndecided profile told later)
+
 -- of each of the first files a window of 4,096 bytes at most was taken past what decides it
 abbrev pub TakesOfFirst : Profile → (told later : List (Option (List ℕ))) → ℕ → Type 0
 TakesOfFirst profile told later count = (file : ℕ) → file < count

@@ -1,10 +1,15 @@
 -- What compiling leaves: what the sinks took, and the programs.
-use Rattle.std.specs.Prelude.{◌≡◌, ℕ, List, Option, Some, Result, MatchResult, map, take}
+use Rattle.std.specs.Prelude.{◌≡◌, ℕ, List, Option, Some, Result, MatchResult, IfOk, IfSome, map, take}
+use Rattle.grammar.specs.Compiled.{compiled}
+use Rattle.grammar.specs.Profile.{Profile}
 use Rattle.code.specs.Generation.{ObjectCode}
+use Rattle.settings.specs.declared.settings.Mode.{Mode}
 use Rattle.settings.specs.Setup.{Setup}
 use Rattle.series.specs.declared.endings.RunFault.{RunFault}
 use Rattle.series.specs.declared.endings.RunFault.TheVariants as fault
-use Rattle.series.specs.Compiling.{Source, codes_of, compiling}
+use Rattle.series.specs.declared.endings.Status.{Status}
+use Rattle.series.specs.Compiling.{Source, codes_of, compiled_code, compiling, files_of, pieces_of, status_of}
+use Rattle.series.specs.Keeping.{and_compiled, kept_by, status_by}
 use Rattle.series.specs.Pieces.{Piece, Taken, Writes, Begins}
 
 -- the sources have these words, and their bytes are known
@@ -35,3 +40,17 @@ Compiles setup sources result before after =
 abbrev pub PutsPieces : {T E : Type 0} → Result T E → Taken → Taken → List Piece → Type 0
 PutsPieces result before after pieces = MatchResult result (λ _. Writes before after pieces)
     (λ _. Begins before after pieces)
+
+-- A file of these bytes was compiled: the sinks took what that gives, or a beginning of it. If they took all of it, the
+-- status and what is kept then are those of the file.
+pub record CompilesFile {E : Type 0} (mode : Mode) (profile : Profile) (name bytes : List ℕ) (put : Result Status E)
+    (kept later : Option (List ObjectCode)) (before after : Taken) : Type 0 where
+  pub output : PutsPieces put before after (pieces_of mode profile name (compiled profile bytes))
+  pub status : IfOk put (λ status. status ≡ status_by (compiled_code profile bytes))
+  pub keeps : IfOk put (λ status. later ≡ and_compiled kept (compiled_code profile bytes))
+
+-- These sources were compiled: the sinks took what that gives, the status is theirs, and what is kept are their codes.
+pub record CompilesAll (setup : Setup) (sources : List Source) (result : Result Status RunFault)
+    (kept : Option (List ObjectCode)) (before after : Taken) : Type 0 where
+  pub output : CompilesTo (status_of (files_of setup.profile sources)) setup sources result before after
+  pub codes : IfOk result (λ status. IfSome kept (λ programs. kept_by status programs ≡ codes_of setup.profile sources))

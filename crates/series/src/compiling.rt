@@ -1,23 +1,19 @@
 //! Files are compiled: each good one's program is taken, and each faulty one's diagnostic put.
 
-ghost use Rattle.std.specs.Prelude.{◌≡◌, ℕ, ◌+◌, ◌-◌, ◌^◌, ◌<◌, ◌≤◌, List, [], Some, false, length, map, All, IfOk, IfSome, OnOk, OnErr};
-ghost use Rattle.battles.specs.Programs.{AreOfProfile};
-ghost use Rattle.grammar.specs.Compiled.{compiled};
-ghost use Rattle.tokens.specs.ReadLimits.{window_bytes};
-ghost use Rattle.tokens.specs.Feed.{Counts};
-ghost use Rattle.series.specs.Compiling.{Source, codes_of, compiled_code, files_of, pieces_of, status_of};
-ghost use Rattle.series.specs.Failures.{Accounts, CountsSinks, failures};
+ghost use Rattle.std.specs.Prelude.{◌≡◌, ℕ, ◌+◌, ◌-◌, ◌^◌, ◌<◌, ◌≤◌, List, [], ◌∷◌, Some, length, map, MatchResult};
+ghost use Rattle.series.specs.Compiling.{Source};
+ghost use Rattle.series.specs.Failures.{Accounts, AreReady, CountsFile, failures};
 ghost use Rattle.series.specs.Pieces.{taken};
-ghost use Rattle.series.specs.Reading.{MayLeaveUndecided, Reads, TakesOf};
-ghost use Rattle.series.specs.Keeping.{KeepsMore, and_compiled, both, kept_by, status_by};
-ghost use Rattle.series.specs.Runs.{AreSources, CompilesTo, PutsPieces};
+ghost use Rattle.series.specs.Reading.{Reads, ReadsFile};
+ghost use Rattle.series.specs.Keeping.{CanKeep, IsNewKeeper, KeepsAll, KeepsOn, both};
+ghost use Rattle.series.specs.Runs.{AreSources, CompilesAll, CompilesFile};
 
 use crate::endings::{RunFault, Status};
 use crate::keeping::TakesPrograms;
 use code::Maker;
 use grammar::{Diagnostic, ParseFault, Profile};
 use parser::parse;
-use settings::{FILES_MAX, Settings};
+use settings::Settings;
 use sinks::{Sink, name_of, put_diagnostic};
 use tokens::{DeviceFault, Feed};
 
@@ -29,22 +25,13 @@ pub(crate) fn compile_into<K: TakesPrograms, F: Feed, O: Sink, E: Sink>(
     out: &mut O,
     err: &mut E,
 ) -> Result<Status, RunFault>
-    requires none { IfSome (K.kept keeper.old) (λ kept. kept ≡ []) }
-    requires mode { K.mode keeper.old ≡ settings.now.mode }
-    requires files { length feeds.old ≡ length settings.now.words }
-    requires feeds { All (λ feed. (F.account feed).failures < 2 ^ 64 - 1) feeds.old }
-    requires not_ended { All (λ feed. F.ended feed ≡ false) feeds.old }
-    requires text { O.failures out.old < 2 ^ 64 - 1 }
-    requires faults { E.failures err.old < 2 ^ 64 - 1 }
+    requires new { IsNewKeeper settings.now.mode (K.mode keeper.old) (K.kept keeper.old) }
+    requires ready { AreReady F.account F.ended (length settings.now.words) feeds.old
+        (O.failures out.old) (E.failures err.old) }
     ensures output { (sources : List Source) → AreSources sources settings.now.words (map F.to_come feeds.old)
-        → CompilesTo (status_of (files_of settings.now.profile sources)) settings.now sources result
+        → CompilesAll settings.now sources result (K.kept keeper.new)
         (taken (O.portions out.old) (E.portions err.old)) (taken (O.portions out.new) (E.portions err.new)) }
-    ensures kept { IfOk result (λ status. (sources : List Source)
-        → AreSources sources settings.now.words (map F.to_come feeds.old)
-        → IfSome (K.kept keeper.new) (λ kept. kept_by status kept ≡ codes_of settings.now.profile sources)) }
-    ensures manned { IfOk result (λ status. status ≡ Status.Done
-        → IfSome (K.kept keeper.new) (λ kept. length kept ≡ length settings.now.words)) }
-    ensures profile { IfSome (K.kept keeper.new) (λ kept. AreOfProfile settings.now.profile kept) }
+    ensures keeps { KeepsAll settings.now.profile (length settings.now.words) result (K.kept keeper.new) }
     ensures read { Reads settings.now result (map F.to_come feeds.old) (map F.to_come feeds.new)
         (taken (O.portions out.old) (E.portions err.old)) (taken (O.portions out.new) (E.portions err.new)) }
     ensures failures { Accounts result
@@ -91,30 +78,18 @@ fn compile_file<K: TakesPrograms, F: Feed, O: Sink, E: Sink>(
     out: &mut O,
     err: &mut E,
 ) -> Result<Result<Status, DeviceFault>, DeviceFault>
-    requires room { IfSome (K.kept keeper.old) (λ kept. length kept < FILES_MAX) }
-    requires profile { IfSome (K.kept keeper.old) (λ kept. AreOfProfile profile kept) }
-    requires count { (F.account feed.old).failures < 2 ^ 64 - 1 }
-    requires not_ended { F.ended feed.old ≡ false }
-    requires text { O.failures out.old < 2 ^ 64 - 1 }
-    requires faults { E.failures err.old < 2 ^ 64 - 1 }
-    ensures output { IfOk result (λ put. (bytes : List ℕ) → F.to_come feed.old ≡ Some bytes
-        → PutsPieces put (taken (O.portions out.old) (E.portions err.old))
-        (taken (O.portions out.new) (E.portions err.new))
-        (pieces_of (K.mode keeper.old) profile name.now (compiled profile bytes))) }
-    ensures status { IfOk result (λ put. (bytes : List ℕ) → F.to_come feed.old ≡ Some bytes
-        → IfOk put (λ status. status ≡ status_by (compiled_code profile bytes))) }
-    ensures kept { IfOk result (λ put. (bytes : List ℕ) → F.to_come feed.old ≡ Some bytes → IfOk put (λ status.
-        K.kept keeper.new ≡ and_compiled (K.kept keeper.old) (compiled_code profile bytes))) }
-    ensures manned { IfOk result (λ put. IfOk put (λ status.
-        KeepsMore status (K.kept keeper.old) (K.kept keeper.new))) }
-    ensures profile { IfSome (K.kept keeper.new) (λ kept. AreOfProfile profile kept) }
-    ensures mode { K.mode keeper.new ≡ K.mode keeper.old }
-    ensures quiet { OnErr result ((out.new ≡ out.old) × (err.new ≡ err.old)) }
-    ensures failures { IfOk result (λ put. CountsSinks put (O.failures out.old) (E.failures err.old)
-        (O.failures out.new) (E.failures err.new)) }
-    ensures taken { OnOk result (TakesOf profile (F.to_come feed.old) (F.to_come feed.new) window_bytes) }
-    ensures stopped { OnErr result (MayLeaveUndecided profile (F.to_come feed.old) (F.to_come feed.new)) }
-    ensures count { Counts result (F.account feed.old) (F.account feed.new) }
+    requires keeps { CanKeep profile (K.kept keeper.old) }
+    requires ready { AreReady F.account F.ended 1 (feed.old ∷ []) (O.failures out.old) (E.failures err.old) }
+    // If the file was not read nothing was put.
+    ensures output { MatchResult result (λ put. (bytes : List ℕ) → F.to_come feed.old ≡ Some bytes
+        → CompilesFile (K.mode keeper.old) profile name.now bytes put (K.kept keeper.old) (K.kept keeper.new)
+        (taken (O.portions out.old) (E.portions err.old)) (taken (O.portions out.new) (E.portions err.new)))
+        (λ _. (out.new ≡ out.old) × (err.new ≡ err.old)) }
+    ensures keeps { KeepsOn profile result (K.mode keeper.old) (K.mode keeper.new)
+        (K.kept keeper.old) (K.kept keeper.new) }
+    ensures read { ReadsFile profile result (F.to_come feed.old) (F.to_come feed.new) }
+    ensures failures { CountsFile result (F.account feed.old) (F.account feed.new)
+        (O.failures out.old) (E.failures err.old) (O.failures out.new) (E.failures err.new) }
 {
     let mut maker = Maker::new(profile);
     match parse(feed, &mut maker) {

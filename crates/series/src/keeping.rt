@@ -1,12 +1,11 @@
 //! What becomes of the program of a good file: it is kept with those of the other files, or let go.
 
-ghost use Rattle.std.specs.Prelude.{◌≡◌, ◌-◌, ◌^◌, ◌<◌, List, [], Option, Some, None, length, IfSome};
-ghost use Rattle.battles.specs.Programs.{AreOfProfile};
+ghost use Rattle.std.specs.Prelude.{◌≡◌, ◌-◌, ◌^◌, ◌<◌, List, [], Option, Some, None};
 ghost use Rattle.code.specs.Generation.{ObjectCode};
 ghost use Rattle.series.specs.Failures.{CountsSink};
 ghost use Rattle.series.specs.Compiling.{listed, listing_piece};
 ghost use Rattle.series.specs.Pieces.{taken};
-ghost use Rattle.series.specs.Keeping.{and_program};
+ghost use Rattle.series.specs.Keeping.{CanKeep, and_program};
 ghost use Rattle.series.specs.Runs.{PutsPieces};
 ghost use Rattle.settings.specs.declared.settings.Mode.{Mode};
 ghost use Rattle.settings.specs.declared.settings.Mode.TheVariants.{Listing};
@@ -16,7 +15,7 @@ use battles::Programs;
 use code::Program;
 use grammar::Pools;
 use listings::put_listing;
-use settings::{FILES_MAX, Mode};
+use settings::Mode;
 use sinks::Sink;
 use tokens::DeviceFault;
 
@@ -36,8 +35,7 @@ pub(crate) trait TakesPrograms {
         program: Program,
         out: &mut S,
     ) -> Result<(), DeviceFault>
-        requires room { IfSome (kept self.old) (λ kept. length kept < FILES_MAX) }
-        requires alike { IfSome (kept self.old) (λ kept. AreOfProfile program.profile kept) }
+        requires keeps { CanKeep program.profile (kept self.old) }
         requires countable { S.failures out.old < 2 ^ 64 - 1 }
         ensures mode { mode self.new ≡ mode self.old }
         ensures kept { kept self.new ≡ and_program (kept self.old) program }

@@ -1,11 +1,11 @@
 //! Runs: files are compiled, and listed or sent to matches.
 
-ghost use Rattle.std.specs.Prelude.{◌≡◌, ◌-◌, ◌^◌, ◌<◌, List, false, length, map, All, MatchResult, IfOk, IfSome};
+ghost use Rattle.std.specs.Prelude.{◌≡◌, ◌-◌, ◌^◌, ◌<◌, List, length, map, MatchResult, IfOk, IfSome};
 ghost use Rattle.battles.specs.Programs.{AreOfProfile};
 ghost use Rattle.code.specs.Codes.{AreCodesOf};
 ghost use Rattle.grammar.specs.Tree.{File};
 ghost use Rattle.series.specs.Compiling.{Source};
-ghost use Rattle.series.specs.Failures.{Accounts, CountsSink, failures};
+ghost use Rattle.series.specs.Failures.{Accounts, AreReady, CountsSink, failures};
 ghost use Rattle.series.specs.Output.{Runs};
 ghost use Rattle.series.specs.Pieces.{taken};
 ghost use Rattle.series.specs.Playing.{playing};
@@ -38,11 +38,8 @@ pub fn run<F: Feed, O: Sink, E: Sink>(
     out: &mut O,
     err: &mut E,
 ) -> Result<Status, RunFault>
-    requires files { length feeds.old ≡ length settings.now.words }
-    requires feeds { All (λ feed. (F.account feed).failures < 2 ^ 64 - 1) feeds.old }
-    requires not_ended { All (λ feed. F.ended feed ≡ false) feeds.old }
-    requires text { O.failures out.old < 2 ^ 64 - 1 }
-    requires faults { E.failures err.old < 2 ^ 64 - 1 }
+    requires ready { AreReady F.account F.ended (length settings.now.words) feeds.old
+        (O.failures out.old) (E.failures err.old) }
     ensures output { (sources : List Source) → AreSources sources settings.now.words (map F.to_come feeds.old)
         → Runs settings.now sources result (taken (O.portions out.old) (E.portions err.old))
         (taken (O.portions out.new) (E.portions err.new)) }
@@ -69,11 +66,8 @@ fn play_files<F: Feed, O: Sink, E: Sink>(
     err: &mut E,
 ) -> Result<Status, RunFault>
     requires matches { settings.now.mode ≡ Matches }
-    requires files { length feeds.old ≡ length settings.now.words }
-    requires feeds { All (λ feed. (F.account feed).failures < 2 ^ 64 - 1) feeds.old }
-    requires not_ended { All (λ feed. F.ended feed ≡ false) feeds.old }
-    requires text { O.failures out.old < 2 ^ 64 - 1 }
-    requires faults { E.failures err.old < 2 ^ 64 - 1 }
+    requires ready { AreReady F.account F.ended (length settings.now.words) feeds.old
+        (O.failures out.old) (E.failures err.old) }
     ensures output { (sources : List Source) → AreSources sources settings.now.words (map F.to_come feeds.old)
         → Runs settings.now sources result (taken (O.portions out.old) (E.portions err.old))
         (taken (O.portions out.new) (E.portions err.new)) }
@@ -128,11 +122,8 @@ pub fn compile_files<F: Feed, O: Sink, E: Sink>(
     out: &mut O,
     err: &mut E,
 ) -> Result<Option<Programs>, RunFault>
-    requires files { length feeds.old ≡ length settings.now.words }
-    requires feeds { All (λ feed. (F.account feed).failures < 2 ^ 64 - 1) feeds.old }
-    requires not_ended { All (λ feed. F.ended feed ≡ false) feeds.old }
-    requires text { O.failures out.old < 2 ^ 64 - 1 }
-    requires faults { E.failures err.old < 2 ^ 64 - 1 }
+    requires ready { AreReady F.account F.ended (length settings.now.words) feeds.old
+        (O.failures out.old) (E.failures err.old) }
     ensures output { (sources : List Source) → AreSources sources settings.now.words (map F.to_come feeds.old)
         → Compiles settings.now sources result (taken (O.portions out.old) (E.portions err.old))
         (taken (O.portions out.new) (E.portions err.new)) }

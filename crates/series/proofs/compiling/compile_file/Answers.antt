@@ -1,4 +1,4 @@
-use Rattle.std.proofs.Common.{◌∙◌, refl, rules}
+use Rattle.std.proofs.Common.{◌∙◌, refl, rules, arith}
 use Rattle.code.specs.Told.{Stands}
 use Rattle.parser.specs.Files.{IsFile}
 use Rattle.series.proofs.FileLemmas.{alike, alike_more, diagnostic_cut, diagnostic_put, faulty_kept, faulty_more, faulty_status, good_code, good_cut, good_kept, good_more, good_put, good_status}
@@ -15,159 +15,223 @@ finish-requires g c =
       told = record { resolved = f.resolved; stands = f.built _ c.new-maker.ensures; named = f.named; main = f.main };
     }
 
-pub take-requires-clause-alike : goal.take-requires-clause-alike
-take-requires-clause-alike g c =
-    let made = c.in-Ok.ensures.file in
-    let code =
-    c.finish.ensures c.args.profile made.file
-    (record
-    { resolved = made.resolved; stands = made.built _ c.new-maker.ensures; named = made.named; main = made.main })
-    in
-    alike c.args.profile made.file c.finish.result _ code c.requires.profile
+pub take-requires-clause-keeps : goal.take-requires-clause-keeps
+take-requires-clause-keeps g c =
+    record {
+      room = c.requires.keeps.room;
+      alike = (
+          let made = c.in-Ok.ensures.file in
+          let code =
+          c.finish.ensures c.args.profile made.file
+          (record
+          { resolved = made.resolved; stands = made.built _ c.new-maker.ensures; named = made.named; main = made.main })
+          in
+          alike c.args.profile made.file c.finish.result _ code c.requires.keeps.alike
+          );
+    }
+
+pub parse-requires-clause-ready : goal.parse-requires-clause-ready
+parse-requires-clause-ready g c =
+    record {
+      countable = c.requires.ready.feeds 0 c.args.feed.now (omega arith);
+      not_ended = c.requires.ready.not_ended 0 c.args.feed.now (omega arith);
+    }
 
 pub returns-in-Ok-take-clause-output : goal.returns-in-Ok-take-clause-output
-returns-in-Ok-take-clause-output g c = λ bytes told.
-    let made = c.in-Ok.ensures.file in
-    let is = made.is bytes told c.args.profile c.new-maker.ensures in
-    let code =
-    c.finish.ensures c.args.profile made.file
-    (record
-    { resolved = made.resolved; stands = made.built _ c.new-maker.ensures; named = made.named; main = made.main })
-    in
-    good_put (g.K.TakesPrograms.mode c.args.keeper.now) c.args.profile c.args.name.now bytes made.file _ c.finish.result
-    _ _ is made.named code (c.in-Ok-take.ensures.output (g.E.Sink.portions c.args.err.now))
+returns-in-Ok-take-clause-output g c =
+    λ bytes told. record {
+      output = (
+          let made = c.in-Ok.ensures.file in
+          let is = made.is bytes told c.args.profile c.new-maker.ensures in
+          let code =
+          c.finish.ensures c.args.profile made.file
+          (record
+          { resolved = made.resolved; stands = made.built _ c.new-maker.ensures; named = made.named; main = made.main })
+          in
+          good_put (g.K.TakesPrograms.mode c.args.keeper.now) c.args.profile c.args.name.now bytes made.file _
+          c.finish.result
+          _ _ is made.named code (c.in-Ok-take.ensures.output (g.E.Sink.portions c.args.err.now))
+          );
+      status = (
+          let made = c.in-Ok.ensures.file in
+          let is = made.is bytes told c.args.profile c.new-maker.ensures in
+          let code =
+          c.finish.ensures c.args.profile made.file
+          (record
+          { resolved = made.resolved; stands = made.built _ c.new-maker.ensures; named = made.named; main = made.main })
+          in
+          good_status c.args.profile bytes c.finish.result
+          (good_code c.args.profile bytes made.file c.finish.result is code)
+          );
+      keeps = (
+          let made = c.in-Ok.ensures.file in
+          let is = made.is bytes told c.args.profile c.new-maker.ensures in
+          let code =
+          c.finish.ensures c.args.profile made.file
+          (record
+          { resolved = made.resolved; stands = made.built _ c.new-maker.ensures; named = made.named; main = made.main })
+          in
+          good_kept c.args.profile bytes c.finish.result _ _
+          (good_code c.args.profile bytes made.file c.finish.result is code) c.in-Ok-take.ensures.kept
+          );
+    }
 
 pub returns-in-Err-clause-output : goal.returns-in-Err-clause-output
-returns-in-Err-clause-output g c = λ bytes told.
-    let made = c.in-Ok.ensures.file in
-    let is = made.is bytes told c.args.profile c.new-maker.ensures in
-    let code =
-    c.finish.ensures c.args.profile made.file
-    (record
-    { resolved = made.resolved; stands = made.built _ c.new-maker.ensures; named = made.named; main = made.main })
-    in
-    good_cut (g.K.TakesPrograms.mode c.args.keeper.now) c.args.profile c.args.name.now bytes made.file _ c.finish.result
-    _ _ is made.named code (c.in-Err.ensures.output (g.E.Sink.portions c.args.err.now))
+returns-in-Err-clause-output g c =
+    λ bytes told. record {
+      output = (
+          let made = c.in-Ok.ensures.file in
+          let is = made.is bytes told c.args.profile c.new-maker.ensures in
+          let code =
+          c.finish.ensures c.args.profile made.file
+          (record
+          { resolved = made.resolved; stands = made.built _ c.new-maker.ensures; named = made.named; main = made.main })
+          in
+          good_cut (g.K.TakesPrograms.mode c.args.keeper.now) c.args.profile c.args.name.now bytes made.file _
+          c.finish.result
+          _ _ is made.named code (c.in-Err.ensures.output (g.E.Sink.portions c.args.err.now))
+          );
+      status = tt;
+      keeps = tt;
+    }
 
-pub returns-in-Ok-take-clause-status : goal.returns-in-Ok-take-clause-status
-returns-in-Ok-take-clause-status g c = λ bytes told.
-    let made = c.in-Ok.ensures.file in
-    let is = made.is bytes told c.args.profile c.new-maker.ensures in
-    let code =
-    c.finish.ensures c.args.profile made.file
-    (record
-    { resolved = made.resolved; stands = made.built _ c.new-maker.ensures; named = made.named; main = made.main })
-    in
-    good_status c.args.profile bytes c.finish.result (good_code c.args.profile bytes made.file c.finish.result is code)
+pub returns-in-Ok-take-clause-keeps : goal.returns-in-Ok-take-clause-keeps
+returns-in-Ok-take-clause-keeps g c =
+    record {
+      same_mode = c.in-Ok-take.ensures.mode;
+      alike = (
+          let made = c.in-Ok.ensures.file in
+          let code =
+          c.finish.ensures c.args.profile made.file
+          (record
+          { resolved = made.resolved; stands = made.built _ c.new-maker.ensures; named = made.named; main = made.main })
+          in
+          alike_more c.args.profile made.file c.finish.result _ _ code c.requires.keeps.alike c.in-Ok-take.ensures.kept
+          );
+      manned = good_more c.finish.result _ _ c.in-Ok-take.ensures.kept;
+    }
 
-pub returns-in-Ok-take-clause-kept : goal.returns-in-Ok-take-clause-kept
-returns-in-Ok-take-clause-kept g c = λ bytes told.
-    let made = c.in-Ok.ensures.file in
-    let is = made.is bytes told c.args.profile c.new-maker.ensures in
-    let code =
-    c.finish.ensures c.args.profile made.file
-    (record
-    { resolved = made.resolved; stands = made.built _ c.new-maker.ensures; named = made.named; main = made.main })
-    in
-    good_kept c.args.profile bytes c.finish.result _ _
-    (good_code c.args.profile bytes made.file c.finish.result is code) c.in-Ok-take.ensures.kept
+pub returns-in-Err-clause-keeps : goal.returns-in-Err-clause-keeps
+returns-in-Err-clause-keeps g c =
+    record {
+      same_mode = c.in-Err.ensures.mode;
+      alike = (
+          let made = c.in-Ok.ensures.file in
+          let code =
+          c.finish.ensures c.args.profile made.file
+          (record
+          { resolved = made.resolved; stands = made.built _ c.new-maker.ensures; named = made.named; main = made.main })
+          in
+          alike_more c.args.profile made.file c.finish.result _ _ code c.requires.keeps.alike c.in-Err.ensures.kept
+          );
+      manned = tt;
+    }
 
-pub returns-in-Ok-take-clause-manned : goal.returns-in-Ok-take-clause-manned
-returns-in-Ok-take-clause-manned g c = good_more c.finish.result _ _ c.in-Ok-take.ensures.kept
+pub returns-in-Ok-take-clause-read : goal.returns-in-Ok-take-clause-read
+returns-in-Ok-take-clause-read g c =
+    λ bytes told. c.in-Ok.ensures.taken bytes told c.args.profile c.new-maker.ensures
 
-pub returns-in-Ok-take-clause-profile : goal.returns-in-Ok-take-clause-profile
-returns-in-Ok-take-clause-profile g c =
-    let made = c.in-Ok.ensures.file in
-    let code =
-    c.finish.ensures c.args.profile made.file
-    (record
-    { resolved = made.resolved; stands = made.built _ c.new-maker.ensures; named = made.named; main = made.main })
-    in
-    alike_more c.args.profile made.file c.finish.result _ _ code c.requires.profile c.in-Ok-take.ensures.kept
+pub returns-in-Err-clause-read : goal.returns-in-Err-clause-read
+returns-in-Err-clause-read g c =
+    λ bytes told. c.in-Ok.ensures.taken bytes told c.args.profile c.new-maker.ensures
 
-pub returns-in-Err-clause-profile : goal.returns-in-Err-clause-profile
-returns-in-Err-clause-profile g c =
-    let made = c.in-Ok.ensures.file in
-    let code =
-    c.finish.ensures c.args.profile made.file
-    (record
-    { resolved = made.resolved; stands = made.built _ c.new-maker.ensures; named = made.named; main = made.main })
-    in
-    alike_more c.args.profile made.file c.finish.result _ _ code c.requires.profile c.in-Err.ensures.kept
+pub returns-in-Ok-take-clause-failures : goal.returns-in-Ok-take-clause-failures
+returns-in-Ok-take-clause-failures g c =
+    record { feed = c.in-Ok.ensures.counted; sinks = search rules }
 
-pub returns-in-Ok-take-clause-taken : goal.returns-in-Ok-take-clause-taken
-returns-in-Ok-take-clause-taken g c = λ bytes told. c.in-Ok.ensures.taken bytes told c.args.profile c.new-maker.ensures
-
-pub returns-in-Err-clause-taken : goal.returns-in-Err-clause-taken
-returns-in-Err-clause-taken g c = λ bytes told. c.in-Ok.ensures.taken bytes told c.args.profile c.new-maker.ensures
-
-pub returns-in-Ok-take-clause-count : goal.returns-in-Ok-take-clause-count
-returns-in-Ok-take-clause-count g c = c.in-Ok.ensures.counted
-
-pub returns-in-Err-clause-count : goal.returns-in-Err-clause-count
-returns-in-Err-clause-count g c = c.in-Ok.ensures.counted
+pub returns-in-Err-clause-failures : goal.returns-in-Err-clause-failures
+returns-in-Err-clause-failures g c =
+    record { feed = c.in-Ok.ensures.counted; sinks = search rules }
 
 pub returns-in-Ok-put_diagnostic-clause-output : goal.returns-in-Ok-put_diagnostic-clause-output
-returns-in-Ok-put_diagnostic-clause-output g c = λ bytes told.
-    let fails =
-    (rw c.in-Err-Source.field-0-is at (rw c.in-Err-Source.is at c.parse.ensures.refused)) bytes told c.args.profile
-    c.new-maker.ensures in
-    diagnostic_put (g.K.TakesPrograms.mode c.args.keeper.now) c.args.profile c.args.name.now bytes
-    c.in-Err-Source.field-0-0 c.as_bytes.result.now _ _ _ fails
-    (c.as_bytes.ensures.value ∙ (rw c.in-Err-Source.field-0-is at c.text.ensures))
-    (rw c.in-Err-Source.field-0-is at c.in-Ok-put_diagnostic.ensures.0)
-
-pub returns-in-Ok-put_diagnostic-clause-taken : goal.returns-in-Ok-put_diagnostic-clause-taken
-returns-in-Ok-put_diagnostic-clause-taken g c =
-    λ bytes told. (rw c.in-Err-Source.field-0-is at (rw c.in-Err-Source.is at c.parse.ensures.taken)) bytes told
-    c.args.profile c.new-maker.ensures
-
-pub returns-in-Ok-put_diagnostic-clause-count : goal.returns-in-Ok-put_diagnostic-clause-count
-returns-in-Ok-put_diagnostic-clause-count g c =
-    rw c.in-Err-Source.field-0-is at (rw c.in-Err-Source.is at c.parse.ensures.counted)
+returns-in-Ok-put_diagnostic-clause-output g c =
+    λ bytes told. record {
+      output = (
+          let fails =
+          (rw c.in-Err-Source.field-0-is at (rw c.in-Err-Source.is at c.parse.ensures.refused)) bytes told
+          c.args.profile
+          c.new-maker.ensures in
+          diagnostic_put (g.K.TakesPrograms.mode c.args.keeper.now) c.args.profile c.args.name.now bytes
+          c.in-Err-Source.field-0-0 c.as_bytes.result.now _ _ _ fails
+          (c.as_bytes.ensures.value ∙ (rw c.in-Err-Source.field-0-is at c.text.ensures))
+          (rw c.in-Err-Source.field-0-is at c.in-Ok-put_diagnostic.ensures.0)
+          );
+      status = (
+          faulty_status c.args.profile bytes c.in-Err-Source.field-0-0
+          ((rw c.in-Err-Source.field-0-is at (rw c.in-Err-Source.is at c.parse.ensures.refused)) bytes told
+          c.args.profile
+          c.new-maker.ensures)
+          );
+      keeps = (
+          faulty_kept c.args.profile bytes c.in-Err-Source.field-0-0 _
+          ((rw c.in-Err-Source.field-0-is at (rw c.in-Err-Source.is at c.parse.ensures.refused)) bytes told
+          c.args.profile
+          c.new-maker.ensures)
+          );
+    }
 
 pub returns-in-Err-put_diagnostic-clause-output : goal.returns-in-Err-put_diagnostic-clause-output
-returns-in-Err-put_diagnostic-clause-output g c = λ bytes told.
-    let fails =
-    (rw c.in-Err-Source.field-0-is at (rw c.in-Err-Source.is at c.parse.ensures.refused)) bytes told c.args.profile
-    c.new-maker.ensures in
-    diagnostic_cut (g.K.TakesPrograms.mode c.args.keeper.now) c.args.profile c.args.name.now bytes
-    c.in-Err-Source.field-0-0 c.as_bytes.result.now _ _ _ fails
-    (c.as_bytes.ensures.value ∙ (rw c.in-Err-Source.field-0-is at c.text.ensures))
-    (rw c.in-Err-Source.field-0-is at c.in-Err-put_diagnostic.ensures.0)
+returns-in-Err-put_diagnostic-clause-output g c =
+    λ bytes told. record {
+      output = (
+          let fails =
+          (rw c.in-Err-Source.field-0-is at (rw c.in-Err-Source.is at c.parse.ensures.refused)) bytes told
+          c.args.profile
+          c.new-maker.ensures in
+          diagnostic_cut (g.K.TakesPrograms.mode c.args.keeper.now) c.args.profile c.args.name.now bytes
+          c.in-Err-Source.field-0-0 c.as_bytes.result.now _ _ _ fails
+          (c.as_bytes.ensures.value ∙ (rw c.in-Err-Source.field-0-is at c.text.ensures))
+          (rw c.in-Err-Source.field-0-is at c.in-Err-put_diagnostic.ensures.0)
+          );
+      status = tt;
+      keeps = tt;
+    }
 
-pub returns-in-Err-put_diagnostic-clause-taken : goal.returns-in-Err-put_diagnostic-clause-taken
-returns-in-Err-put_diagnostic-clause-taken g c =
+pub returns-in-Ok-put_diagnostic-clause-keeps : goal.returns-in-Ok-put_diagnostic-clause-keeps
+returns-in-Ok-put_diagnostic-clause-keeps g c =
+    record { same_mode = refl; alike = c.requires.keeps.alike; manned = faulty_more _ }
+
+pub returns-in-Err-put_diagnostic-clause-keeps : goal.returns-in-Err-put_diagnostic-clause-keeps
+returns-in-Err-put_diagnostic-clause-keeps g c =
+    record { same_mode = refl; alike = c.requires.keeps.alike; manned = tt }
+
+pub returns-in-Ok-put_diagnostic-clause-read : goal.returns-in-Ok-put_diagnostic-clause-read
+returns-in-Ok-put_diagnostic-clause-read g c =
     λ bytes told. (rw c.in-Err-Source.field-0-is at (rw c.in-Err-Source.is at c.parse.ensures.taken)) bytes told
     c.args.profile c.new-maker.ensures
 
-pub returns-in-Err-put_diagnostic-clause-count : goal.returns-in-Err-put_diagnostic-clause-count
-returns-in-Err-put_diagnostic-clause-count g c =
-    rw c.in-Err-Source.field-0-is at (rw c.in-Err-Source.is at c.parse.ensures.counted)
+pub returns-in-Err-put_diagnostic-clause-read : goal.returns-in-Err-put_diagnostic-clause-read
+returns-in-Err-put_diagnostic-clause-read g c =
+    λ bytes told. (rw c.in-Err-Source.field-0-is at (rw c.in-Err-Source.is at c.parse.ensures.taken)) bytes told
+    c.args.profile c.new-maker.ensures
 
-pub returns-in-Ok-put_diagnostic-clause-kept : goal.returns-in-Ok-put_diagnostic-clause-kept
-returns-in-Ok-put_diagnostic-clause-kept g c =
-    λ bytes told. faulty_kept c.args.profile bytes c.in-Err-Source.field-0-0 _
-    ((rw c.in-Err-Source.field-0-is at (rw c.in-Err-Source.is at c.parse.ensures.refused)) bytes told c.args.profile
-    c.new-maker.ensures)
+pub returns-in-Ok-put_diagnostic-clause-failures : goal.returns-in-Ok-put_diagnostic-clause-failures
+returns-in-Ok-put_diagnostic-clause-failures g c =
+    record {
+      feed = rw c.in-Err-Source.field-0-is at (rw c.in-Err-Source.is at c.parse.ensures.counted);
+      sinks = search rules;
+    }
 
-pub returns-in-Err-Device-clause-stopped : goal.returns-in-Err-Device-clause-stopped
-returns-in-Err-Device-clause-stopped g c =
+pub returns-in-Err-put_diagnostic-clause-failures : goal.returns-in-Err-put_diagnostic-clause-failures
+returns-in-Err-put_diagnostic-clause-failures g c =
+    record {
+      feed = rw c.in-Err-Source.field-0-is at (rw c.in-Err-Source.is at c.parse.ensures.counted);
+      sinks = search rules;
+    }
+
+pub returns-in-Err-Device-clause-output : goal.returns-in-Err-Device-clause-output
+returns-in-Err-Device-clause-output g c =
+    (refl, refl)
+
+pub returns-in-Err-Device-clause-keeps : goal.returns-in-Err-Device-clause-keeps
+returns-in-Err-Device-clause-keeps g c =
+    record { same_mode = refl; alike = c.requires.keeps.alike; manned = tt }
+
+pub returns-in-Err-Device-clause-read : goal.returns-in-Err-Device-clause-read
+returns-in-Err-Device-clause-read g c =
     λ bytes told. (rw c.in-Err-Device.field-0-is at (rw c.in-Err-Device.is at c.parse.ensures.taken)) bytes told
     c.args.profile c.new-maker.ensures
 
-pub returns-in-Err-Device-clause-count : goal.returns-in-Err-Device-clause-count
-returns-in-Err-Device-clause-count g c =
-    rw c.in-Err-Device.field-0-is at (rw c.in-Err-Device.is at c.parse.ensures.counted)
-
-pub returns-in-Err-Device-clause-quiet : goal.returns-in-Err-Device-clause-quiet
-returns-in-Err-Device-clause-quiet g c = (refl, refl)
-
-pub returns-in-Ok-put_diagnostic-clause-status : goal.returns-in-Ok-put_diagnostic-clause-status
-returns-in-Ok-put_diagnostic-clause-status g c =
-    λ bytes told. faulty_status c.args.profile bytes c.in-Err-Source.field-0-0
-    ((rw c.in-Err-Source.field-0-is at (rw c.in-Err-Source.is at c.parse.ensures.refused)) bytes told c.args.profile
-    c.new-maker.ensures)
-
-pub returns-in-Ok-put_diagnostic-clause-manned : goal.returns-in-Ok-put_diagnostic-clause-manned
-returns-in-Ok-put_diagnostic-clause-manned g c = faulty_more _
+pub returns-in-Err-Device-clause-failures : goal.returns-in-Err-Device-clause-failures
+returns-in-Err-Device-clause-failures g c =
+    record { feed = rw c.in-Err-Device.field-0-is at (rw c.in-Err-Device.is at c.parse.ensures.counted); sinks = tt }

@@ -1,47 +1,11 @@
-use Rattle.std.proofs.Common.{false, ◌≡◌, ◌+◌, ◌<◌, ◌^◌, ◌-◌, ◌∙◌, sym, subst, ap, List, ℕ, length, map, refl, arith}
+use Rattle.std.proofs.Common.{false, ◌≡◌, ◌+◌, ◌<◌, ◌^◌, ◌-◌, ◌∙◌, sym, subst, ap, List, ℕ, length, map, refl, rules, arith}
 use Rattle.std.proofs.lemmas.List.{length-map}
 use Rattle.std.proofs.lemmas.List.Elements.{All-get_or}
 use Rattle.series.specs.Runs.{AreSources}
 use Rattle.series.proofs.CompilingLemmas.{kept_with, manned_with, pieces_more, pieces_cut, status_more}
 use Rattle.series.proofs.ReadingLemmas.{cut_at, fails_at, reads_first, reads_more, same_length}
-use Rattle.series.proofs.RunsLemmas.{feed_here, told_here, name_here, length_sources, none_failed, read_failed, rest_more, write_failed}
+use Rattle.series.proofs.RunsLemmas.{all_of_one, feed_here, told_here, name_here, length_sources, none_failed, read_failed, rest_more, write_failed}
 use Rattle.series.proofs.compiling.compile_into.Goals as goal
-
-pub compile_file-requires-clause-count : goal.compile_file-requires-clause-count
-compile_file-requires-clause-count g c =
-    let within : c.loop-file.file < length c.args.feeds.now = omega arith in
-    rw (feed_here c.args.feeds.now c.loop-file.feeds c.loop-file.file c.index-feeds-file.result c.loop-file.invariant.0)
-    (All-get_or (λ feed. (g.F.Feed.account feed).failures < 2 ^ 64 - 1) c.args.feeds.now c.loop-file.file
-    c.index-feeds-file.result within c.requires.feeds)
-
-pub compile_file-requires-clause-not_ended : goal.compile_file-requires-clause-not_ended
-compile_file-requires-clause-not_ended g c =
-    let within : c.loop-file.file < length c.args.feeds.now = omega arith in
-    rw (feed_here c.args.feeds.now c.loop-file.feeds c.loop-file.file c.index-feeds-file.result c.loop-file.invariant.0)
-    (All-get_or (λ feed. g.F.Feed.ended feed ≡ false) c.args.feeds.now c.loop-file.file c.index-feeds-file.result
-    within c.requires.not_ended)
-
-pub returns-in-Err-put-clause-output : goal.returns-in-Err-put-clause-output
-returns-in-Err-put-clause-output g c = λ sources are.
-    let within : c.loop-file.file < length c.args.feeds.now = omega arith in
-    let Named : List (List ℕ) → Type 0 = λ words. AreSources sources words (map g.F.Feed.to_come c.args.feeds.now) in
-    let named : Named (map (λ word. word.now) c.words-words.result.now) =
-    subst Named (sym c.words-words.ensures.value) are in
-    let in_words : c.loop-file.file < length c.words-words.result.now =
-    omega (arith, ap length c.words-words.ensures.value, length-map c.words-words.result.now (λ word. word.now)) in
-    let in_sources : c.loop-file.file < length sources =
-    omega (arith, length_sources sources c.args.settings.now.words _ are) in
-    let told = told_here g.F.Feed.to_come c.args.feeds.now c.loop-file.feeds sources c.args.settings.now.words
-    c.loop-file.file c.index-feeds-file.result are c.requires.files within c.loop-file.invariant.0 in
-    pieces_cut c.args.settings.now.mode c.args.settings.now.profile sources c.loop-file.file _ _ _ _ in_sources
-    (c.loop-file.invariant.4 sources are).0 refl
-    (rw (
-      c.loop-file.invariant.2,
-      c.profile-profile.ensures.value,
-      name_here (λ word. word.now) c.words-words.result.now sources _ c.loop-file.file _ c.as_bytes.result.now
-          c.name_of-name.result.now
-          named in_words c.as_bytes.ensures.value c.name_of-name.ensures,
-    ) at ((rw c.in-Err-put.is at c.in-Ok.ensures.output) _ told))
 
 pub returns-in-Err-put-clause-read : goal.returns-in-Err-put-clause-read
 returns-in-Err-put-clause-read g c = record {
@@ -51,12 +15,12 @@ returns-in-Err-put-clause-read g c = record {
       (reads_more g.F.Feed.to_come c.args.settings.now.profile c.args.feeds.now c.loop-file.feeds c.loop-file.file
       c.index-feeds-file.result c.compile_file.new.feed
       (omega arith) c.loop-file.invariant.0 c.loop-file.invariant.5
-      (rw c.profile-profile.ensures.value at c.in-Ok.ensures.taken));
+      (rw c.profile-profile.ensures.value at c.in-Ok.ensures.read));
   puts = λ sources are.
       let told = told_here g.F.Feed.to_come c.args.feeds.now c.loop-file.feeds sources c.args.settings.now.words
-      c.loop-file.file c.index-feeds-file.result are c.requires.files (omega arith) c.loop-file.invariant.0 in
+      c.loop-file.file c.index-feeds-file.result are c.requires.ready.files (omega arith) c.loop-file.invariant.0 in
       cut_at c.args.settings.now.mode c.args.settings.now.profile sources c.loop-file.file _ _ _ _
-      (c.loop-file.invariant.4 sources are).0 ((rw c.in-Err-put.is at c.in-Ok.ensures.output) _ told);
+      (c.loop-file.invariant.4 sources are).0 ((rw c.in-Err-put.is at c.in-Ok.ensures.output) _ told).output;
 }
 
 pub returns-in-Err-clause-read : goal.returns-in-Err-clause-read
@@ -64,21 +28,21 @@ returns-in-Err-clause-read g c =
     fails_at g.F.Feed.to_come c.args.settings.now.profile c.args.feeds.now c.loop-file.feeds c.loop-file.file
     c.index-feeds-file.result c.compile_file.new.feed
     (omega arith) c.loop-file.invariant.0 c.loop-file.invariant.5
-    (rw c.profile-profile.ensures.value at c.in-Err.ensures.stopped)
+    (rw c.profile-profile.ensures.value at c.in-Err.ensures.read)
 
 pub loop-file-preserved : goal.loop-file-preserved
 loop-file-preserved g c = (
   rest_more c.args.feeds.now c.loop-file.feeds c.loop-file.file c.compile_file.new.feed c.loop-file.invariant.0,
   rw (
     none_failed g.F.Feed.account c.loop-file.feeds c.loop-file.file c.index-feeds-file.result c.compile_file.new.feed
-        c.in-Ok.ensures.count,
-    (rw c.in-Ok-put.is at c.in-Ok.ensures.failures).0,
-    (rw c.in-Ok-put.is at c.in-Ok.ensures.failures).1,
+        c.in-Ok.ensures.failures.feed,
+    (rw c.in-Ok-put.is at c.in-Ok.ensures.failures.sinks).0,
+    (rw c.in-Ok-put.is at c.in-Ok.ensures.failures.sinks).1,
   ) c.loop-file.invariant.1,
-  c.compile_file.ensures.mode ∙ c.loop-file.invariant.2,
+  c.compile_file.ensures.keeps.same_mode ∙ c.loop-file.invariant.2,
   rw c.both-status.ensures
       (manned_with c.loop-file.status c.in-Ok-put.compiled c.loop-file.file _ _
-      (rw c.in-Ok-put.is at c.in-Ok.ensures.manned) c.loop-file.invariant.3),
+      (rw c.in-Ok-put.is at c.in-Ok.ensures.keeps.manned) c.loop-file.invariant.3),
   λ sources are.
       let within : c.loop-file.file < length c.args.feeds.now = omega arith in
       let Named : List (List ℕ) → Type 0 = λ words. AreSources sources words (map g.F.Feed.to_come c.args.feeds.now) in
@@ -89,7 +53,7 @@ loop-file-preserved g c = (
       let in_sources : c.loop-file.file < length sources =
       omega (arith, length_sources sources c.args.settings.now.words _ are) in
       let told = told_here g.F.Feed.to_come c.args.feeds.now c.loop-file.feeds sources c.args.settings.now.words
-      c.loop-file.file c.index-feeds-file.result are c.requires.files within c.loop-file.invariant.0 in (
+      c.loop-file.file c.index-feeds-file.result are c.requires.ready.files within c.loop-file.invariant.0 in (
         pieces_more c.args.settings.now.mode c.args.settings.now.profile sources c.loop-file.file _ _ _ _ in_sources
             (c.loop-file.invariant.4 sources are).0 refl
             (rw (
@@ -98,42 +62,96 @@ loop-file-preserved g c = (
               name_here (λ word. word.now) c.words-words.result.now sources _ c.loop-file.file _ c.as_bytes.result.now
                   c.name_of-name.result.now
                   named in_words c.as_bytes.ensures.value c.name_of-name.ensures,
-            ) at ((rw c.in-Ok-put.is at c.in-Ok.ensures.output) _ told)),
+            ) at ((rw c.in-Ok-put.is at c.in-Ok.ensures.output) _ told).output),
         c.both-status.ensures
             ∙
             status_more c.args.settings.now.profile sources c.loop-file.file c.loop-file.status c.in-Ok-put.compiled
             in_sources (c.loop-file.invariant.4 sources are).1
-            (rw c.profile-profile.ensures.value at ((rw c.in-Ok-put.is at c.in-Ok.ensures.status) _ told)),
+            (rw c.profile-profile.ensures.value at ((rw c.in-Ok-put.is at c.in-Ok.ensures.output) _ told).status),
         rw c.both-status.ensures
             (kept_with c.args.settings.now.profile sources c.loop-file.file c.loop-file.status c.in-Ok-put.compiled _ _
             in_sources (c.loop-file.invariant.4 sources are).2
-            (rw c.profile-profile.ensures.value at ((rw c.in-Ok-put.is at c.in-Ok.ensures.status) _ told))
-            (rw c.profile-profile.ensures.value at ((rw c.in-Ok-put.is at c.in-Ok.ensures.kept) _ told))),
+            (rw c.profile-profile.ensures.value at ((rw c.in-Ok-put.is at c.in-Ok.ensures.output) _ told).status)
+            (rw c.profile-profile.ensures.value at ((rw c.in-Ok-put.is at c.in-Ok.ensures.output) _ told).keeps)),
       ),
   reads_more g.F.Feed.to_come c.args.settings.now.profile c.args.feeds.now c.loop-file.feeds c.loop-file.file
       c.index-feeds-file.result c.compile_file.new.feed
       (omega arith) c.loop-file.invariant.0 c.loop-file.invariant.5
-      (rw c.profile-profile.ensures.value at c.in-Ok.ensures.taken),
-  rw c.profile-profile.ensures.value at c.compile_file.ensures.profile,
+      (rw c.profile-profile.ensures.value at c.in-Ok.ensures.read),
+  rw c.profile-profile.ensures.value at c.compile_file.ensures.keeps.alike,
 )
-
-pub compile_file-requires-clause-profile : goal.compile_file-requires-clause-profile
-compile_file-requires-clause-profile g c = rw c.profile-profile.ensures.value c.loop-file.invariant.6
 
 pub returns-in-Err-clause-failures : goal.returns-in-Err-clause-failures
 returns-in-Err-clause-failures g c =
     let within : c.loop-file.file < length c.args.feeds.now = omega arith in (
       rw (length-map c.args.feeds.now g.F.Feed.account) within,
-      rw (c.in-Err.ensures.quiet.0, c.in-Err.ensures.quiet.1)
+      rw (c.in-Err.ensures.output.0, c.in-Err.ensures.output.1)
           (read_failed g.F.Feed.account c.args.feeds.now c.loop-file.feeds c.loop-file.file _ _ _ _
           c.index-feeds-file.result c.compile_file.new.feed
           c.loop-file.invariant.1
           (same_length c.args.feeds.now c.loop-file.feeds c.loop-file.file within c.loop-file.invariant.0)
-          c.in-Err.ensures.count),
+          c.in-Err.ensures.failures.feed),
     )
 
 pub returns-in-Err-put-clause-failures : goal.returns-in-Err-put-clause-failures
 returns-in-Err-put-clause-failures g c =
     write_failed g.F.Feed.account c.args.feeds.now c.loop-file.feeds c.loop-file.file _ _ _ _ _ _
     c.index-feeds-file.result c.compile_file.new.feed
-    c.loop-file.invariant.1 c.in-Ok.ensures.count (rw c.in-Err-put.is at c.in-Ok.ensures.failures)
+    c.loop-file.invariant.1 c.in-Ok.ensures.failures.feed (rw c.in-Err-put.is at c.in-Ok.ensures.failures.sinks)
+
+pub returns-in-Err-put-clause-output : goal.returns-in-Err-put-clause-output
+returns-in-Err-put-clause-output g c =
+    λ sources are. record {
+      output = (
+          let within : c.loop-file.file < length c.args.feeds.now = omega arith in
+          let Named : List (List ℕ) → Type 0 =
+          λ words. AreSources sources words (map g.F.Feed.to_come c.args.feeds.now) in
+          let named : Named (map (λ word. word.now) c.words-words.result.now) =
+          subst Named (sym c.words-words.ensures.value) are in
+          let in_words : c.loop-file.file < length c.words-words.result.now =
+          omega (arith, ap length c.words-words.ensures.value, length-map c.words-words.result.now (λ word. word.now))
+          in
+          let in_sources : c.loop-file.file < length sources =
+          omega (arith, length_sources sources c.args.settings.now.words _ are) in
+          let told = told_here g.F.Feed.to_come c.args.feeds.now c.loop-file.feeds sources c.args.settings.now.words
+          c.loop-file.file c.index-feeds-file.result are c.requires.ready.files within c.loop-file.invariant.0 in
+          pieces_cut c.args.settings.now.mode c.args.settings.now.profile sources c.loop-file.file _ _ _ _ in_sources
+          (c.loop-file.invariant.4 sources are).0 refl
+          (rw (
+            c.loop-file.invariant.2,
+            c.profile-profile.ensures.value,
+            name_here (λ word. word.now) c.words-words.result.now sources _ c.loop-file.file _ c.as_bytes.result.now
+                c.name_of-name.result.now
+                named in_words c.as_bytes.ensures.value c.name_of-name.ensures,
+          ) at ((rw c.in-Err-put.is at c.in-Ok.ensures.output) _ told).output)
+          );
+      codes = tt;
+    }
+
+pub compile_file-requires-clause-keeps : goal.compile_file-requires-clause-keeps
+compile_file-requires-clause-keeps g c =
+    record { room = search rules; alike = rw c.profile-profile.ensures.value c.loop-file.invariant.6 }
+
+pub compile_file-requires-clause-ready : goal.compile_file-requires-clause-ready
+compile_file-requires-clause-ready g c =
+    record {
+      files = refl;
+      feeds = all_of_one (λ feed. (g.F.Feed.account feed).failures < 2 ^ 64 - 1) _ (
+          let within : c.loop-file.file < length c.args.feeds.now = omega arith in
+          rw
+          (feed_here c.args.feeds.now c.loop-file.feeds c.loop-file.file c.index-feeds-file.result
+          c.loop-file.invariant.0)
+          (All-get_or (λ feed. (g.F.Feed.account feed).failures < 2 ^ 64 - 1) c.args.feeds.now c.loop-file.file
+          c.index-feeds-file.result within c.requires.ready.feeds)
+          );
+      not_ended = all_of_one (λ feed. g.F.Feed.ended feed ≡ false) _ (
+          let within : c.loop-file.file < length c.args.feeds.now = omega arith in
+          rw
+          (feed_here c.args.feeds.now c.loop-file.feeds c.loop-file.file c.index-feeds-file.result
+          c.loop-file.invariant.0)
+          (All-get_or (λ feed. g.F.Feed.ended feed ≡ false) c.args.feeds.now c.loop-file.file c.index-feeds-file.result
+          within c.requires.ready.not_ended)
+          );
+      text = search rules;
+      faults = search rules;
+    }

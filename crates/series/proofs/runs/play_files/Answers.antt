@@ -6,12 +6,12 @@ use Rattle.series.proofs.ReadingLemmas.{cut_behind, reads_played}
 use Rattle.series.proofs.runs.play_files.Goals as goal
 
 pub play_all-requires-clause-manned : goal.play_all-requires-clause-manned
-play_all-requires-clause-manned g c = c.in-Ok-Done.ensures.manned c.in-Ok-Done.field-0-is
+play_all-requires-clause-manned g c = c.in-Ok-Done.ensures.keeps.manned c.in-Ok-Done.field-0-is
 
 pub returns-in-Ok-Done-clause-output : goal.returns-in-Ok-Done-clause-output
 returns-in-Ok-Done-clause-output g c = λ sources are.
-    let compiles = rw c.in-Ok-Done.field-0-is at (c.in-Ok-Done.ensures.output sources are) in
-    let codes = rw c.in-Ok-Done.field-0-is at (c.in-Ok-Done.ensures.kept sources are) in
+    let compiles = rw c.in-Ok-Done.field-0-is at (c.in-Ok-Done.ensures.output sources are).output in
+    let codes = rw c.in-Ok-Done.field-0-is at (c.in-Ok-Done.ensures.output sources are).codes in
     let kept =
     kept_codes c.resolved_files.ensures c.args.settings.now.profile sources c.compile_into.new.keeper.programs codes
     in
@@ -20,7 +20,7 @@ returns-in-Ok-Done-clause-output g c = λ sources are.
 
 pub returns-in-Err-clause-output : goal.returns-in-Err-clause-output
 returns-in-Err-clause-output g c =
-    λ sources are. stops_run c.args.settings.now sources c.in-Err.fault _ _ (c.in-Err.ensures.output sources are)
+    λ sources are. stops_run c.args.settings.now sources c.in-Err.fault _ _ (c.in-Err.ensures.output sources are).output
 
 pub returns-in-Ok-Done-clause-read : goal.returns-in-Ok-Done-clause-read
 returns-in-Ok-Done-clause-read g c =
@@ -32,8 +32,8 @@ returns-in-Ok-Done-clause-read g c =
     reads_played setup c.play_all.result told (map g.F.Feed.to_come c.compile_into.new.feeds) before after
     c.in-Ok-Done.ensures.read c.play_all.ensures.answer
     (λ failed sources are.
-    let compiles = rw c.in-Ok-Done.field-0-is at (c.in-Ok-Done.ensures.output sources are) in
-    let codes = rw c.in-Ok-Done.field-0-is at (c.in-Ok-Done.ensures.kept sources are) in
+    let compiles = rw c.in-Ok-Done.field-0-is at (c.in-Ok-Done.ensures.output sources are).output in
+    let codes = rw c.in-Ok-Done.field-0-is at (c.in-Ok-Done.ensures.output sources are).codes in
     let kept = kept_codes c.resolved_files.ensures setup.profile sources c.compile_into.new.keeper.programs codes in
     cut_behind setup.mode setup.profile sources (length told - 1) before compiled after (playing setup kept.0)
     compiles.0
