@@ -3,8 +3,11 @@
 // The module's calls take the addresses of blocks that this file laid out once, behind the module's own memory, and
 // never anything else. The blocks hold numbers and bytes alone, and every value of them is allowed.
 
-/** How a run ended, as the program's exit status says it; 2 means that the engine refused the order. */
-export const Ending = Object.freeze({DONE: 0, FAULTY: 1, REFUSED: 2, UNREAD: 3, FULL: 4});
+/**
+ * How a run ended, as the program's exit status says it; 2 means that the engine refused the order, and 6 that a match goes
+ * on after the windows that were filmed.
+ */
+export const Ending = Object.freeze({DONE: 0, FAULTY: 1, REFUSED: 2, UNREAD: 3, FULL: 4, GOES_ON: 6});
 
 /** The limits of a run. */
 export const Limits = Object.freeze({
@@ -107,14 +110,27 @@ export class Engine {
         return this.runIn(0, settings, robots, this.exports.film);
     }
 
-    /**
-     * Plays the first match of the settings. Returns {ending, text, faults}, whose text is its film. A film that is longer
-     * than a sheet comes in parts: the match is played anew for each. After a million rows it is cut off.
-     */
+    /** Plays the first match of the settings. Returns {ending, text, faults}, whose text is its film. */
     film(settings, robots) {
+        return this.inParts(settings, robots, this.exports.film);
+    }
+
+    /**
+     * Plays the first match of the settings up to the update `from`, and films so many `windows` of 15 cycles after it. Any
+     * numbers from 0 to 2 ** 32 - 1 will do. Returns {ending, text, faults}; the ending is GOES_ON if the match goes on.
+     */
+    windows({from, windows, ...settings}, robots) {
+        return this.inParts(settings, robots, this.exports.film_windows, from, windows);
+    }
+
+    /**
+     * Makes a film. One that is longer than a sheet comes in parts: the match is played anew for each. After a million rows
+     * it is cut off.
+     */
+    inParts(settings, robots, call, ...numbers) {
         let film = "";
         for (let skipped = 0; ; ) {
-            const {ending, text, faults} = this.runIn(1, {...settings, skipped}, robots, this.exports.film);
+            const {ending, text, faults} = this.runIn(1, {...settings, skipped}, robots, call, ...numbers);
             const rows = text.slice(text.indexOf("\n") + 1);
             film += film ? rows : text;
             skipped += countOf("\n", rows);
@@ -124,10 +140,11 @@ export class Engine {
         }
     }
 
-    runIn(mode, settings, robots, call = this.exports.run) {
+    runIn(mode, settings, robots, call = this.exports.run, ...numbers) {
         this.putOrder(mode, settings);
         this.putRobots(robots);
-        const ending = call(BigInt(this.order), BigInt(this.robots), BigInt(robots.length), BigInt(this.text), BigInt(this.faults));
+        const blocks = [this.order, this.robots, robots.length, this.text, this.faults].map(BigInt);
+        const ending = call(...blocks, ...numbers);
         return {ending, text: this.textOf(this.text), faults: this.textOf(this.faults)};
     }
 

@@ -1,14 +1,18 @@
 // Films of matches: what the module tells of a match, as the replay's page takes it.
 //
 // A film is lines of tab-separated fields: cycle, robot, kind, and up to five values. Robots count from 1. Places are in
-// tenths of a metre, angles in degrees, ranges in metres, damage and speed in percent, times in cycles.
+// tenths of a metre, angles in degrees, ranges in metres, damage and speed in percent, times in cycles. A film of some windows
+// of a match has also where the robots stand at their begin and end, and which missiles fly at their begin.
 
 const HEADER = "cycle\trobot\tkind\ta\tb\tc\td\te";
 const FIELD = 9999;
 const MOST_RANGE = 700;
 const MOST_RESOLUTION = 10;
-const UPDATE = 15;
+const DEADLY = 100;
 const TENTHS_OF_UPDATE = 500;
+/** An update follows each cycle whose number is a multiple of this. */
+export const UPDATE_CYCLES = 15;
+
 const Kind = {SHOT: 0, COLLISION: 1, WALL: 2};
 
 const between = (least, number, most) => Math.max(least, Math.min(most, number));
@@ -16,11 +20,11 @@ const between = (least, number, most) => Math.max(least, Math.min(most, number))
 /** A shot with the end that is to be expected; the film's burst, if it comes, says it better. */
 function fired(robot, cycle, [degree, range, x, y]) {
     const metres = between(0, range, MOST_RANGE);
-    const updates = Math.floor((cycle - 1) / UPDATE) + Math.max(1, Math.ceil(10 * metres / TENTHS_OF_UPDATE));
+    const updates = Math.floor((cycle - 1) / UPDATE_CYCLES) + Math.max(1, Math.ceil(10 * metres / TENTHS_OF_UPDATE));
     const angle = degree * Math.PI / 180;
     const toX = between(0, Math.round(x + 10 * metres * Math.cos(angle)), FIELD);
     const toY = between(0, Math.round(y + 10 * metres * Math.sin(angle)), FIELD);
-    return {robot, cycle, x, y, burst: updates * UPDATE, toX, toY, harm: 0};
+    return {robot, cycle, x, y, burst: updates * UPDATE_CYCLES, toX, toY, harm: 0};
 }
 
 class Film {
@@ -38,6 +42,7 @@ class Film {
             throw new Error("this is no film");
         }
         lines.forEach(line => this.take(line));
+        this.shots.sort((a, b) => a.cycle - b.cycle);
         for (const shot of this.shots) {
             shot.harm = this.harms.get(this.place(shot.burst, shot.robot, shot.toX, shot.toY)) ?? 0;
         }
@@ -73,8 +78,19 @@ class Film {
     }
 
     at(cycle, robot, [x, y, heading, speed, damage]) {
-        this.robots[robot - 1].places.push([cycle, x, y, heading, speed]);
+        const {places} = this.robots[robot - 1];
+        if (places.at(-1)?.[0] !== cycle) {
+            places.push([cycle, x, y, heading, speed]);
+        }
         this.damaged(cycle, robot, damage);
+    }
+
+    /** Where a robot is at the begin or the end of some windows; one of full damage is dead. */
+    stands(cycle, robot, values) {
+        this.at(cycle, robot, values);
+        if (values.at(-1) >= DEADLY) {
+            this.robots[robot - 1].death ??= cycle;
+        }
     }
 
     scan(cycle, robot, [degree, resolution, reply]) {
@@ -85,6 +101,11 @@ class Film {
         const shot = fired(robot, cycle, values);
         this.shots.push(shot);
         this.flying.push(shot);
+    }
+
+    /** A missile that was fired before the windows begin. */
+    flies(cycle, robot, values) {
+        this.shot(cycle, robot, values);
     }
 
     /** A burst is that of the robot's missile from which it is least expected to differ. */

@@ -2,11 +2,15 @@
 import {Ending, Limits, hasWideMemories} from "./engine.js";
 import {makeEditor} from "./editor.js";
 import {battleOf, checked, fragmentOf, isBattle, toBytes} from "./links.js";
+import {UPDATE_CYCLES} from "./films.js";
 import {Listing, linesOf} from "./listings.js";
-import {jumpTo, showFilm} from "./replays.js";
+import {goOn, jumpTo, placeIn, showFilm} from "./replays.js";
 
 const KEPT = "crobots";
 const COMPILE_AFTER = 250;
+// how many windows of 15 cycles of a match are shown while the rest is made, and after how many milliseconds
+const FIRST_WINDOWS = 1000;
+const SHOW_AFTER = 300;
 const LACKING = "This page needs WebAssembly with 64-bit memories, which Chrome and Edge have from version 133, and Firefox from version 134.";
 const BROKEN = "The link carries no battle that can be read, so this is another one.";
 const FIRST_BATTLE = ["hunter.r", "sniper.r"];
@@ -323,23 +327,64 @@ class Page {
         }
     }
 
-    /** Plays the match that is asked for, and shows it. */
+    /**
+     * Plays the match that is asked for, and shows it. If that takes long, the windows after the cycle that is asked for are
+     * shown before, and they stay if all that the page can keep of the match ends before them.
+     */
     async watch() {
-        const number = Number(byId("watched").value);
-        const {settings, robots} = this.battle;
         if (this.isRunning) {
             return;
         }
         this.busy(true);
-        const {ending, text, faults} = await this.answered(this.runner.call("film", {...settings, first: number}, robots));
-        this.busy(false);
-        if (ending === Ending.DONE || ending === Ending.FULL) {
-            const cycles = await showFilm(byId("film"), text, number, robots.map(({name}) => name));
-            jumpTo(byId("film"), byId("from").value);
-            this.say(`Match ${number} can be watched below${ending === Ending.FULL ? `, up to cycle ${cycles}` : ""}.`);
-        } else {
-            this.say(this.ended(ending, faults, 0), true);
+        const number = Number(byId("watched").value);
+        const from = Math.floor(Number(byId("from").value) / UPDATE_CYCLES);
+        const wish = {number, from, cycle: byId("from").value, robots: this.battle.robots.map(it => ({...it}))};
+        const ask = (call, more) =>
+            this.answered(this.runner.call(call, {...this.battle.settings, first: number, ...more}, wish.robots));
+        try {
+            const windows = await ask("windows", {from, windows: FIRST_WINDOWS});
+            const isAll = windows.ending === Ending.DONE && from === 0;
+            const isPart = windows.ending === Ending.DONE || windows.ending === Ending.GOES_ON;
+            await (isPart && !isAll ? this.showBoth(wish, windows, ask("film")) : this.showWhole(wish, windows));
+        } finally {
+            this.busy(false);
         }
+    }
+
+    /** Shows some windows of a match if the film of all of it takes long, and then all of it. */
+    async showBoth(wish, windows, film) {
+        // a match that ended before has nothing in these windows
+        const isThere = windows.text.includes("\tstands\t");
+        const isSlow = await Promise.race([film.then(() => false), new Promise(done => setTimeout(done, SHOW_AFTER, true))]);
+        const shown = isSlow && isThere && await this.showWindows(wish, windows);
+        const whole = await film;
+        const isMade = whole.ending === Ending.DONE || whole.ending === Ending.FULL && cyclesOf(whole.text) > Number(wish.cycle);
+        if (isMade || !isThere) {
+            await this.showWhole(wish, whole, shown ? placeIn(byId("film")) : undefined);
+        } else {
+            const cycles = shown || await this.showWindows(wish, windows);
+            this.say(`Match ${wish.number} can be watched below from cycle ${wish.from * UPDATE_CYCLES} to ${cycles}. Ask for another cycle to see more.`);
+        }
+    }
+
+    /** Shows some windows of a match. Returns its cycles up to their end. */
+    async showWindows({number, from, robots}, {ending, text}) {
+        const part = {from: from * UPDATE_CYCLES, goesOn: ending === Ending.GOES_ON};
+        const cycles = await showFilm(byId("film"), text, number, robots.map(({name}) => name), part);
+        this.say(`Match ${number} is shown below from cycle ${part.from} to ${cycles}. The rest is being played.`);
+        return cycles;
+    }
+
+    /** Shows all that there is of a match's film, at the cycle that was asked for, or where it is shown already. */
+    async showWhole({number, cycle, robots}, {ending, text, faults}, place = {cycle, isPlaying: false}) {
+        if (ending !== Ending.DONE && ending !== Ending.FULL) {
+            this.say(this.ended(ending, faults, 0), true);
+            return;
+        }
+        const goesOn = ending === Ending.FULL;
+        const cycles = await showFilm(byId("film"), text, number, robots.map(({name}) => name), {goesOn});
+        goOn(byId("film"), place);
+        this.say(`Match ${number} can be watched below${goesOn ? `, up to cycle ${cycles}` : ""}.`);
     }
 
     async copyLink() {
@@ -351,6 +396,11 @@ class Page {
             this.say("The link stands in the address bar.");
         }
     }
+}
+
+/** Returns the last cycle of a film. */
+function cyclesOf(film) {
+    return Number(film.slice(film.lastIndexOf("\n", film.length - 2) + 1).split("\t")[0]);
 }
 
 /** Returns the battle to begin with: that of the link, the one that was kept, or two samples. */

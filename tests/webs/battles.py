@@ -38,11 +38,13 @@ class Settings:
 
 @dataclass
 class Battle:
-    """Robots, by name and source, settings, and what is asked of the engine: run, list, places or film."""
+    """Robots, by name and source, settings, and what is asked of the engine: run, list, places, film or windows; of windows
+    the update after which they begin, and how many there are."""
 
     robots: list[tuple[str, bytes]]
     settings: Settings = field(default_factory=Settings)
     call: str = "run"
+    windows: tuple[int, int] = (0, 0)
 
     def told(self, crobots: str) -> tuple[int, bytes, bytes]:
         """The status, text and faults of crobots."""
@@ -76,7 +78,7 @@ class Vector(Battle):
         values = {"matches": "-m", "limit": "-l", "seed": "-s", "profile": "-p", "first": "-f"}
         given = {name: int(value) for option, value in options for name, letter in values.items() if letter == option}
         robots = [(name, kept("in", name)) for name in names]
-        return Vector(robots, Settings(**given), "list" if ("-c", "") in options else "run", (int(kept("status")), kept("stdout"), kept("stderr")))
+        return Vector(robots, Settings(**given), "list" if ("-c", "") in options else "run", answer=(int(kept("status")), kept("stdout"), kept("stderr")))
 
     def told(self, crobots: str) -> tuple[int, bytes, bytes]:
         return self.answer

@@ -11,6 +11,7 @@ const ROBOT_BYTES = (engine.text - engine.robots) / 4;
 const SOURCE = new TextEncoder().encode("main(){ while (1) { cannon(rand(360), 99); drive(rand(360), 50); } }\x1a");
 const MOST = 2 ** 32 - 1;
 const SIZES = [0, 1, 68, 69, 255, 256, 1048576, 1048577, 1048578, MOST];
+const NUMBERS = [0, 1, 2, 26, 27, 2 ** 31, MOST];
 const ORDERS = {mode: [0, 1, 1, 2, MOST], matches: [0, 1, 2, 1000001, MOST], limit: [0, 1, 15, 400, 1000000001, MOST],
     profile: [0, 1, 2, 3, MOST], first: [0, 1, 1000000, 1000001, MOST], skipped: [0, 1, MOST]};
 
@@ -59,7 +60,9 @@ function call(codes) {
     }
     const robots = below(6) ? 1 + below(4) : 0;
     const addresses = [engine.order, engine.robots, robots, engine.text, engine.faults].map(BigInt);
-    const code = engine.exports[oneOf(["run", "film"])](...addresses);
+    const name = oneOf(["run", "film", "film_windows"]);
+    const numbers = name === "film_windows" ? [oneOf(NUMBERS), oneOf(NUMBERS)] : [];
+    const code = engine.exports[name](...addresses, ...numbers);
     codes[code] = (codes[code] ?? 0) + 1;
 }
 

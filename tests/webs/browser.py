@@ -281,6 +281,21 @@ def restarts(page: Page) -> list[str]:
     return []
 
 
+def far(page: Page) -> list[str]:
+    """Of a match that is longer than a film can be, a cycle beyond that is watched by its windows, and none from before."""
+    page.show(Battle([("a.r", b"main(){}"), ("b.r", b"main(){}")], Settings(limit=2_000_000)))
+    page.watch(1, 1_500_000)
+    inside = "document.getElementById('film').contentDocument"
+    clock, said = page.js(f"return [{inside}.getElementById('clock').textContent, document.getElementById('said').textContent]")
+    page.js(f"{inside}.getElementById('to-start').click()")
+    begin = page.js(f"return {inside}.getElementById('clock').textContent")
+    page.js(f"{inside}.getElementById('to-end').click()")
+    events = page.js(f"return {inside}.getElementById('events').textContent")
+    wrong = [] if clock == begin == "cycle 1,500,000 of 1,515,000" else [f"{clock}, {begin}"]
+    wrong += [] if said.startswith("Match 1 can be watched below from cycle 1500000 to 1515000.") else [said]
+    return wrong + ([] if "is alive here" in events and "at the end" not in events else [events])
+
+
 LOOKOUT = b"""int hits;
 main()
 {
@@ -463,6 +478,7 @@ def results(crobots: str, _stages: str, folder: str) -> Iterator[tuple[str, list
         yield "a link from the second tab", second_tab(page)
         yield "settings that are none", unset(page)
         yield "watched matches", watched(page, crobots)
+        yield "a cycle beyond a film", far(page)
         yield "a stopped series", stopped(page, crobots)
         yield "widths", widths(page)
         yield "keys", keys(page)

@@ -1,6 +1,6 @@
 // engine.mjs MODULE < JOBS > ANSWERS: runs jobs by the module alone, without a browser.
 //
-// JOBS is a list in JSON: each has `call` (run, list, places or film), `settings` and `robots`, whose sources are base64. An answer
+// JOBS is a list in JSON: each has `call` (run, list, places, film or windows), `settings` and `robots`, whose sources are base64. An answer
 // has `ending`, `text` and `faults`, the last two in base64.
 import fs from "node:fs";
 import {Engine, moduleOf} from "./loaded.mjs";
@@ -12,7 +12,7 @@ function answer(job) {
     const {ending, text: film} = engine[job.call](job.settings, robots);
     const [sheet, faults] = [engine.text, engine.faults].map(it => Buffer.from(engine.bytesOf(it)));
     // a long film comes in parts, and the sheet has the last of them
-    const text = job.call === "film" ? Buffer.from(film) : sheet;
+    const text = ["film", "windows"].includes(job.call) ? Buffer.from(film) : sheet;
     return {ending, text: text.toString("base64"), faults: faults.toString("base64")};
 }
 

@@ -3,6 +3,7 @@
 from __future__ import annotations
 
 import base64
+import itertools
 import json
 import os
 import re
@@ -21,7 +22,7 @@ MOST_SEED = 2**64 - 1
 SECONDS = 120
 MOST_BYTES = 400_000
 CALLS = 1000
-EXPORTS = ["__heap_base", "film", "memory", "order_bytes", "robot_bytes", "run", "sheet_bytes"]
+EXPORTS = ["__heap_base", "film", "film_windows", "memory", "order_bytes", "robot_bytes", "run", "sheet_bytes"]
 TOKEN = re.compile(rb"[A-Za-z_]\w*|\d+|<<=|>>=|\+\+|--|&&|\|\||[-+*/%&|^<>=!]=|<<|>>|[^\s\x1a]")
 # tokens that are no constants, but make some
 MADE_CONSTANTS = ("-", "!", "~", "++", "--", "else", "while", ";", "}", "&&", "||")
@@ -50,7 +51,8 @@ def lacking(folder: str) -> str:
 
 def job(battle: Battle) -> dict[str, Any]:
     """A battle as engine.mjs takes it."""
-    settings = {**vars(battle.settings), "seed": str(battle.settings.seed)}
+    begin, count = battle.windows
+    settings = {**vars(battle.settings), "seed": str(battle.settings.seed), "from": begin, "windows": count}
     robots = [{"name": name, "source": base64.b64encode(source).decode()} for name, source in battle.robots]
     return {"call": battle.call, "settings": settings, "robots": robots}
 
@@ -134,6 +136,82 @@ def long_films(folder: str) -> list[str]:
     return []
 
 
+GOES_ON = 6
+MOST_NUMBER = 2**32 - 1
+BORDER = re.compile(rb"\d+\t\d\t(?:stands|flies)\t.*\n")
+
+
+def windows_of(battle: Battle, size: int) -> list[Battle]:
+    """The windows of a battle's first match up to its longest end, in groups of this size."""
+    updates = -(-battle.settings.limit // 15)
+    return [replace(battle, call="windows", windows=(begin, size)) for begin in range(0, updates, size)]
+
+
+def without_borders(film: bytes) -> bytes:
+    """The rows of a film of windows that the whole film has too."""
+    return BORDER.sub(b"", film.partition(b"\n")[2])
+
+
+def put_together(whole: bytes, parts: list[tuple[int, bytes, bytes]]) -> list[str]:
+    """Where films of windows, put together up to the first one that is over, are not the film of the whole match, and where
+    one ends that the next one doesn't begin."""
+    last = next(at for at, (code, _, _) in enumerate(parts) if code != GOES_ON)
+    films = [film for _, film, _ in parts[:last + 1]]
+    borders = [re.findall(rb"\d+\t\d\tstands\t.*\n", film) for film in films]
+    count = len(re.findall(rb"^0\t\d\tat", whole, re.MULTILINE))
+    wrong = [f"after {ends[-count:]} {begins[:count]}" for ends, begins in zip(borders, borders[1:]) if ends[-count:] != begins[:count]]
+    if parts[last][0] != 0 or b"".join(map(without_borders, films)) != whole.partition(b"\n")[2]:
+        wrong.append(f"code {parts[last][0]}, and rows that the whole film doesn't have")
+    return wrong
+
+
+def joined(folder: str) -> list[str]:
+    """Films of windows, put together, are the film of the whole match."""
+    drawn = [replace(it, settings=replace(it.settings, limit=2_000)) for it in sample_battles()[::12] + random_battles(12, 13)]
+    asked = [[replace(battle, call="film"), *windows_of(battle, size)] for battle, size in zip(drawn, itertools.cycle((1, 7, 40, 300)))]
+    answered = iter(answers(folder, sum(asked, [])))
+    wrong = []
+    for battles in asked:
+        whole, *parts = [next(answered) for _ in battles]
+        wrong += [f"{battles[1]}: {line}" for line in put_together(whole[1], parts)]
+    return wrong
+
+
+# it fires to the east as far as a missile flies, which takes 14 updates, and then idles
+GUNNER = ("gunner.r", b"main(){ cannon(0, 700); while (1); }")
+IDLE = ("idle.r", b"main(){ while (1); }")
+
+
+STANDS = {cycle: [(cycle, "1", "stands"), (cycle, "2", "stands")] for cycle in ("0", "195", "210", "225", "300")}
+ENDS = [(cycle, robot, kind) for robot in ("1", "2") for cycle, kind in (("300", "at"), ("300", "end"))]
+# FRAME, CONST, CONST, FCALL: the shot is in cycle 4
+FLIES = ("4", "1", "flies")
+# the codes and the rows of windows of a match of 300 cycles: cycle, robot and kind
+WINDOWS = {
+    (0, 0): (GOES_ON, STANDS["0"]),
+    (13, 0): (GOES_ON, [*STANDS["195"], FLIES]),
+    (13, 1): (GOES_ON, [*STANDS["195"], FLIES, ("210", "1", "burst"), *STANDS["210"]]),
+    (14, 0): (GOES_ON, STANDS["210"]),
+    (14, 1): (GOES_ON, [*STANDS["210"], *STANDS["225"]]),
+    (20, 0): (0, [*STANDS["300"], *ENDS]),
+    (20, 5): (0, [*STANDS["300"], *ENDS]),
+    **{(begin, count): (0, ENDS) for begin in (21, MOST_NUMBER) for count in (0, 1, MOST_NUMBER)},
+}
+
+
+def single_windows(folder: str) -> list[str]:
+    """What windows have at their borders, beyond the match's end, and by any numbers. A match of 15 cycles has one window,
+    and one of 16 cycles two."""
+    wanted = [(300, *row) for row in WINDOWS.items()] + [(15, (0, 1), (0, None)), (16, (0, 1), (GOES_ON, None)), (16, (1, 1), (0, None))]
+    asked = [Battle([GUNNER, IDLE], Settings(limit=limit), "windows", windows) for limit, windows, _ in wanted]
+    wrong = []
+    for (limit, windows, (code, rows)), (got, film, _) in zip(wanted, answers(folder, asked), strict=True):
+        told = [tuple(line.split("\t")[:3]) for line in film.decode().splitlines()[1:]]
+        if got != code or rows not in (None, told):
+            wrong.append(f"{windows} of {limit} cycles: {got} {told}, not {code} {rows}")
+    return wrong
+
+
 def placed(answer: tuple[int, bytes, bytes]) -> list[tuple[int, int]]:
     """The lines and columns of an answer to `places`, by the addresses."""
     rows = [line.split("\t") for line in answer[1].decode().splitlines()[1:]]
@@ -212,7 +290,7 @@ def any_blocks(folder: str) -> list[str]:
     told = json.loads(ran.stdout)
     wrong = [f"imports: {told['imports']}"] if told["imports"] else []
     wrong += [] if sorted(told["exports"]) == EXPORTS else [f"exports: {told['exports']}"]
-    wrong += [] if set(told["codes"]) >= {"0", "1", "2"} and set(told["codes"]) <= {"0", "1", "2", "4"} else [f"codes: {told['codes']}"]
+    wrong += [] if set(told["codes"]) >= {"0", "1", "2"} and set(told["codes"]) <= {"0", "1", "2", "4", "6"} else [f"codes: {told['codes']}"]
     return wrong + ([] if told["ends"] == ["ended"] * 3 else [f"outside of the memory: {told['ends']}"])
 
 
@@ -235,4 +313,6 @@ def results(crobots: str, stages: str, folder: str) -> Iterator[tuple[str, list[
     yield "a full sheet", full(crobots, folder)
     yield "films", films(crobots, folder)
     yield "long films", long_films(folder)
+    yield "films by windows", joined(folder)
+    yield "single windows", single_windows(folder)
     yield "places", places(crobots, stages, folder)

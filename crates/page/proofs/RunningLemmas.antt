@@ -150,13 +150,13 @@ never_failed (feed ∷ feeds) zero = refl
 never_failed (feed ∷ feeds) (suc n) = never_failed feeds n
 
 -- of devices that never fail only a sink stops a run
-pub only_writes : {X : Type 0} →
-    (olds news : List X) (ran : Result Status RunFault) (text faults later_text later_faults : ℕ)
+pub only_writes : {X A : Type 0} →
+    (olds news : List X) (ran : Result A RunFault) (text faults later_text later_faults : ℕ)
     →
     Accounts ran (failures (map (λ _. no_device) olds) text faults)
     (failures (map (λ _. no_device) news) later_text later_faults)
     → IfErr ran (λ stopped. stopped ≡ fault.Write)
-only_writes olds news (Ok status) text faults later_text later_faults accounts = tt
+only_writes olds news (Ok answer) text faults later_text later_faults accounts = tt
 only_writes olds news (Err (fault.Read file)) text faults later_text later_faults (within, is) =
     let feeds : List Account = map (λ _. no_device) olds in
     let here = ap (λ (f : Failures). get_or f.feeds file no_device) is in

@@ -1,14 +1,20 @@
 //! The calls of the module.
 
 ghost use Rattle.std.specs.Prelude.{◌≡◌};
+ghost use Rattle.page.specs.Films.{IsOfFilm, IsOfShown, IsOfWindows, film_code};
 ghost use Rattle.page.specs.Running.{IsAccepted, IsOfRun, IsOutput, code_of};
 
 use crate::filming::film_robots;
+use crate::films::Shown;
 use crate::orders::Order;
 use crate::robots::RobotFile;
 use crate::running::run_robots;
 use crate::sheets::Sheet;
+use crate::stretches::Stretch;
 use series::{RunFault, Status};
+
+/// The answer of a film after which the match goes on.
+const GOES_ON: u32 = 6;
 
 /// Runs what the order asks for over one to four robots, and writes on the two sheets, as the program crobots does: the
 /// text that it writes on standard output, and the lines about faulty sources.
@@ -36,8 +42,52 @@ pub extern "C" fn film(
     robots: &[RobotFile],
     text: &mut Sheet,
     faults: &mut Sheet,
-) -> u32 {
-    code(film_robots(order, robots, text, faults))
+) -> u32
+    ensures codes { IsOfFilm result }
+    ensures accepted { IsAccepted order.now robots.now → IsOfRun result }
+{
+    match film_code(film_robots(order, robots, None, text, faults)) {
+        GOES_ON => 0,
+        code => code,
+    }
+}
+
+/// Plays the first match that the order asks for of one to four robots up to so many updates, and films so many windows of
+/// 15 cycles after them: `from` and `windows` may be any numbers.
+///
+/// The film has the rows that that of the whole match has of these windows. Where they begin and end it has a row `stands`
+/// for each robot, and where they begin a row `flies` for each missile in the air. If the match ends within them or before,
+/// it has the rows with which the whole film ends, and the answer is 0. If the match goes on, the answer is 6. Else it is
+/// that of `film`.
+#[unsafe(no_mangle)]
+pub extern "C" fn film_windows(
+    order: &Order,
+    robots: &[RobotFile],
+    text: &mut Sheet,
+    faults: &mut Sheet,
+    from: u32,
+    windows: u32,
+) -> u32
+    ensures codes { IsOfWindows result }
+    ensures accepted { IsAccepted order.now robots.now → IsOfShown result }
+{
+    let stretch = Some(Stretch { from, windows });
+    film_code(film_robots(order, robots, stretch, text, faults))
+}
+
+/// Returns the number that stands for what a film shows, if it was made.
+fn film_code(ran: Option<Result<Shown, RunFault>>) -> u32
+    ensures { result ≡ film_code ran }
+{
+    match ran {
+        Some(Ok(Shown::Over)) => 0,
+        Some(Ok(Shown::Faulty)) => 1,
+        Some(Ok(Shown::GoesOn)) => GOES_ON,
+        None => 2,
+        Some(Err(RunFault::Read(_))) => 3,
+        Some(Err(RunFault::Write)) => 4,
+        Some(Err(RunFault::Memory)) => 5,
+    }
 }
 
 /// Returns the number that stands for how a run ended, if it was run.

@@ -1,58 +1,93 @@
 //! Films of the matches of robots in memory, and where their instructions come from.
 
-ghost use Rattle.std.specs.Prelude.{◌≡◌, ◌<◌, ◌≤◌, length};
+ghost use Rattle.std.specs.Prelude.{◌≡◌, ◌<◌, ◌≤◌, All, IfErr, IfOk, IfSome, IsSome, false, length};
+ghost use Rattle.page.specs.Running.{IsAccepted};
 
-use crate::films::{Film, Functions};
+use crate::films::{Film, Functions, Shown};
 use crate::orders::Order;
 use crate::places::{places_of, tell_places};
 use crate::robots::RobotFile;
 use crate::running::{feeds_of, words_of};
 use crate::sheets::Sheet;
 use crate::sources::SourceFeed;
+use crate::stretches::Stretch;
 use arrayvec::ArrayVec;
 use code::Maker;
+use derivations::Places;
 use grammar::Profile;
 use parser::parse;
 use playing::{Pilot, play};
-use series::{FILES_MAX, Mode, Programs, RunFault, Settings, Status, compile_files};
+use series::{FILES_MAX, Mode, Programs, RunFault, Settings, compile_files};
 
-/// Plays the first match that the order asks for of one to four robots, and writes its film on a sheet; if it asks for
-/// listings, writes where their instructions come from. The other sheet takes the diagnostics of faulty sources. Both
-/// are blank before.
+/// Plays the first match that the order asks for of one to four robots, and writes on a sheet the film of a stretch of it,
+/// or of all of it; if it asks for listings, writes where their instructions come from. The other sheet takes the
+/// diagnostics of faulty sources. Both are blank before.
 ///
 /// `None` if a number of the order is not within its limits, a name is no text, or there is no robot or over four.
 pub fn film_robots(
     order: &Order,
     robots: &[RobotFile],
+    stretch: Option<Stretch>,
     film: &mut Sheet,
     faults: &mut Sheet,
-) -> Option<Result<Status, RunFault>> {
+) -> Option<Result<Shown, RunFault>>
+    ensures accepted { IsAccepted order.now robots.now → IsSome result }
+    ensures stopped { IfSome result (λ ran. IfErr ran (λ fault. fault ≡ RunFault.Write)) }
+{
     film.clear();
     faults.clear();
     let words = words_of(robots)?;
     let settings = order.settings(words.as_slice())?;
     let mut feeds = feeds_of(robots)?;
-    match compile_files(&settings, feeds.as_mut_slice(), film, faults) {
+    let functions = functions_of(settings.profile(), robots)?;
+    match compile_feeds(&settings, feeds.as_mut_slice(), film, faults) {
         Ok(Some(programs)) => {
-            let functions = functions_of(settings.profile(), robots)?;
             let places = places_of(&programs, robots);
             film.clear();
+            let (functions, places) = (functions.as_slice(), places.as_slice());
             Some(match settings.mode() {
-                Mode::Listing => tell_places(places.as_slice(), film),
+                Mode::Listing => list_places(places, film),
                 Mode::Matches => {
-                    let (functions, places) = (functions.as_slice(), places.as_slice());
-                    let film = Film::new(film, functions, places, order.skipped);
+                    let film = Film::new(film, functions, places, stretch, order.skipped);
                     film_match(&settings, &programs, film)
                 }
             })
         }
-        Ok(None) => Some(Ok(Status::Faulty)),
+        Ok(None) => Some(Ok(Shown::Faulty)),
         Err(fault) => Some(Err(fault)),
     }
 }
 
+/// Compiles these files. One sheet takes the diagnostics of faulty ones.
+fn compile_feeds(
+    settings: &Settings<'_>,
+    feeds: &mut [SourceFeed<'_>],
+    text: &mut Sheet,
+    faults: &mut Sheet,
+) -> Result<Option<Programs>, RunFault>
+    requires each { length feeds.old ≡ length settings.now.words }
+    requires not_ended { All (λ feed. feed.ended ≡ false) feeds.old }
+    requires text { text.old.failures ≡ 0 }
+    requires faults { faults.old.failures ≡ 0 }
+    ensures manned { IfOk result (λ programs. IfSome programs
+        (λ programs. length programs ≡ length settings.now.words)) }
+    ensures stopped { IfErr result (λ fault. fault ≡ RunFault.Write) }
+{
+    compile_files(settings, feeds, text, faults)
+}
+
+/// Writes the places of the instructions of each file on a blank sheet.
+fn list_places(files: &[Option<Places>], sheet: &mut Sheet) -> Result<Shown, RunFault>
+    ensures fault { IfErr result (λ fault. fault ≡ RunFault.Write) }
+{
+    tell_places(files, sheet)?;
+    Ok(Shown::Over)
+}
+
 /// Returns the names of the functions of at most four robots.
-fn functions_of(profile: Profile, robots: &[RobotFile]) -> Option<ArrayVec<Functions, FILES_MAX>> {
+fn functions_of(profile: Profile, robots: &[RobotFile]) -> Option<ArrayVec<Functions, FILES_MAX>>
+    ensures { length robots.now ≤ FILES_MAX → IsSome result }
+{
     let mut files = ArrayVec::new();
     for robot in robots {
         files.try_push(functions_in(profile, robot.source())).ok()?;
@@ -77,11 +112,12 @@ fn film_match(
     settings: &Settings<'_>,
     programs: &Programs,
     mut film: Film<'_>,
-) -> Result<Status, RunFault>
+) -> Result<Shown, RunFault>
     requires { 0 < length programs.now }
+    ensures fault { IfErr result (λ fault. fault ≡ RunFault.Write) }
 {
     let cycles = play_programs(settings, programs, &mut film);
-    film.end(cycles)
+    film.end(cycles, settings.limit())
 }
 
 /// Plays the first match of these programs before a film: one plays against itself. Returns how many cycles it had.

@@ -1,18 +1,21 @@
 //! Films of matches: what there is to see of one, row by row.
 
-ghost use Rattle.std.specs.Prelude.{◌≡◌, ◌<◌, ◌≤◌, length};
+ghost use Rattle.std.specs.Prelude.{◌≡◌, ◌<◌, ◌≤◌, IfErr, length};
 
+use crate::missiles::Missile;
 use crate::rows::{Field, Row};
 use crate::sheets::Sheet;
-use arena::{Arena, MOST_ROBOTS};
+use crate::stretches::Stretch;
+use arena::{Arena, MOST_BURSTS, MOST_ROBOTS};
 use arrayvec::ArrayVec;
 use code::{Cause, Intrinsic};
 use derivations::Places;
 use findings::{Loss, Seen, Source, Stance, function_at, losses};
 use grammar::MOST_NAMES;
-use playing::{Pilot, Question, Turn, Watcher};
-use series::{RunFault, Status};
+use playing::{Pilot, Question, Turn, UPDATE_CYCLES, Watcher};
+use series::{CYCLES_MAX, RunFault};
 use tokens::Name;
+use trails::Place;
 
 /// The first line of a film: the names of its columns.
 pub(crate) const COLUMNS: &[u8] = b"cycle\trobot\tkind\ta\tb\tc\td\te\n";
@@ -20,40 +23,83 @@ pub(crate) const COLUMNS: &[u8] = b"cycle\trobot\tkind\ta\tb\tc\td\te\n";
 /// The names of the functions of a file, by number.
 pub(crate) type Functions = ArrayVec<Name, MOST_NAMES>;
 
-/// What writes a film on a sheet as its match is played. A full sheet takes no more of it.
+/// What a film shows.
+#[derive(Clone, Copy, Debug, PartialEq, Eq, Drop)]
+pub enum Shown {
+    /// The match up to its end.
+    Over,
+    /// Windows after which the match goes on.
+    GoesOn,
+    /// Nothing: a source has a fault.
+    Faulty,
+}
+
+/// What writes a film on a sheet as its match is played: of all of it, or of a stretch. A full sheet takes no more of it.
 #[derive(Drop)]
 pub(crate) struct Film<'a> {
     sheet: &'a mut Sheet,
     functions: &'a [Functions],
     places: &'a [Option<Places>],
+    stretch: Option<Stretch>,
     skipped: u32,
     seen: [Seen; MOST_ROBOTS],
+    missiles: [Missile; MOST_BURSTS],
     robots: usize,
+    live: usize,
+    updates: u32,
 }
 
 impl<'a> Film<'a> {
-    /// Begins a film on a sheet. These are the functions of each file, and the places of its instructions. So many rows are
-    /// left out.
+    /// Begins a film of a stretch, or of a whole match, on a sheet. These are the functions of each file, and the places of
+    /// its instructions. So many rows are left out.
     pub(crate) fn new(
         sheet: &'a mut Sheet,
         functions: &'a [Functions],
         places: &'a [Option<Places>],
+        stretch: Option<Stretch>,
         skipped: u32,
-    ) -> Film<'a> {
+    ) -> Film<'a>
+        ensures { result.stretch ≡ stretch }
+    {
         sheet.add(COLUMNS);
         Film {
             sheet,
             functions,
             places,
+            stretch,
             skipped,
             seen: [Seen::default(); MOST_ROBOTS],
+            missiles: [Missile::default(); MOST_BURSTS],
             robots: 0,
+            live: 0,
+            updates: 0,
         }
     }
 
-    /// Ends the film after the last cycle: where the robots' ways end, and their damages. The error is that the sheet was
-    /// full.
-    pub(crate) fn end(mut self, cycle: u32) -> Result<Status, RunFault> {
+    /// Ends the film after the last cycle that was played, of at most so many: if the match is over, with where the robots'
+    /// ways end, and their damages. The error is that the sheet was full.
+    pub(crate) fn end(mut self, cycle: u32, limit: u32) -> Result<Shown, RunFault>
+        ensures fault { IfErr result (λ fault. fault ≡ RunFault.Write) }
+    {
+        let is_over = self.is_over(cycle, limit);
+        if is_over {
+            self.tell_ends(cycle);
+        }
+        self.sheet.ending()?;
+        Ok(if is_over { Shown::Over } else { Shown::GoesOn })
+    }
+
+    /// Reports whether the match is over, and not only the stretch. A whole film is never ended before.
+    fn is_over(&self, cycle: u32, limit: u32) -> bool {
+        match &self.stretch {
+            None => true,
+            Some(stretch) => stretch.reaches(cycle) && (self.live <= 1 || cycle >= limit),
+        }
+    }
+
+    /// Writes where the robots' ways end, and their damages.
+    fn tell_ends(&mut self, cycle: u32) {
+        self.stretch = None;
         for robot in 0..self.robots.min(MOST_ROBOTS) {
             let seen = self.seen[robot];
             if let Some(end) = seen.run.end() {
@@ -62,11 +108,25 @@ impl<'a> Film<'a> {
             let damage = Field::Number(i32::from(seen.damage));
             self.tell(cycle, robot, b"end", &[damage]);
         }
-        self.sheet.ending()
+    }
+
+    /// Reports whether what happens now is told.
+    fn is_told(&self) -> bool {
+        match &self.stretch {
+            None => true,
+            Some(stretch) => stretch.holds(self.updates),
+        }
+    }
+
+    /// Writes a row if what happens now is told.
+    fn tell(&mut self, cycle: u32, robot: usize, kind: &[u8], fields: &[Field<'_>]) {
+        if self.is_told() {
+            self.put(cycle, robot, kind, fields);
+        }
     }
 
     /// Writes a row, unless it is one of the first ones that are left out.
-    fn tell(&mut self, cycle: u32, robot: usize, kind: &[u8], fields: &[Field<'_>]) {
+    fn put(&mut self, cycle: u32, robot: usize, kind: &[u8], fields: &[Field<'_>]) {
         if self.skipped > 0 {
             self.skipped -= 1;
             return;
@@ -87,32 +147,59 @@ impl<'a> Film<'a> {
 
     /// Writes where a robot is.
     fn tell_stance(&mut self, robot: usize, stance: &Stance) {
-        let fields = [
-            Field::Number(i32::from(stance.x)),
-            Field::Number(i32::from(stance.y)),
-            Field::Number(i32::from(stance.heading)),
-            Field::Number(i32::from(stance.speed)),
-            Field::Number(i32::from(stance.damage)),
-        ];
-        self.tell(stance.cycle, robot, b"at", &fields);
+        self.tell(stance.cycle, robot, b"at", &stance_fields(stance));
     }
 
-    /// Writes what a robot that shoots is told: refused shots are left out.
+    /// Writes where the robots are at a border of the stretch, and which missiles are in the air at its begin.
+    fn tell_border(&mut self, cycle: u32, arena: &Arena) {
+        let Some(stretch) = self.stretch else {
+            return;
+        };
+        if !stretch.is_bordered(self.updates) {
+            return;
+        }
+        for robot in 0..arena.robot_count() {
+            let stance = Stance::of(cycle, robot, arena);
+            self.put(cycle, robot, b"stands", &stance_fields(&stance));
+        }
+        if self.updates == stretch.from {
+            self.tell_missiles();
+        }
+    }
+
+    /// Writes which missiles are in the air.
+    fn tell_missiles(&mut self) {
+        for slot in 0..MOST_BURSTS {
+            let missile = self.missiles[slot];
+            if missile.flies(self.updates) {
+                let fields = missile_fields(&missile);
+                self.put(missile.cycle, missile.robot, b"flies", &fields);
+            }
+        }
+    }
+
+    /// Keeps a missile that is fired, in the place of one that has burst: of each robot two are in the air at most.
+    fn keep(&mut self, missile: Missile) {
+        for slot in 0..MOST_BURSTS {
+            if !self.missiles[slot].flies(self.updates) {
+                self.missiles[slot] = missile;
+                return;
+            }
+        }
+    }
+
+    /// Keeps and writes a missile that a robot fires: refused shots are left out.
     fn shoot(&mut self, turn: Turn, question: &Question, arena: &Arena)
-        requires { turn.robot < length arena.now.robots }
+        requires inside { turn.robot < length arena.now.robots }
+        requires cycle { turn.cycle ≤ CYCLES_MAX }
     {
         if question.reply == 0 {
             return;
         }
-        let [degree, range] = question.arguments;
-        let (x, y) = arena.place(turn.robot);
-        let fields = [
-            Field::Number(degree),
-            Field::Number(range),
-            Field::Number(i32::from(x)),
-            Field::Number(i32::from(y)),
-        ];
-        self.tell(turn.cycle, turn.robot, b"shot", &fields);
+        let Turn { cycle, robot } = turn;
+        let missile = Missile::new(robot, cycle, Place::of(arena, robot), question.arguments);
+        self.tell(cycle, robot, b"shot", &missile_fields(&missile));
+        self.keep(missile);
     }
 
     /// Writes the first scan of a robot since the last update.
@@ -193,6 +280,8 @@ impl<'a> Film<'a> {
 impl Watcher for Film<'_> {
     fn begins(&mut self, arena: &Arena) {
         self.robots = arena.robot_count();
+        self.live = arena.live_count();
+        self.tell_border(0, arena);
         self.look(0, arena);
     }
 
@@ -205,6 +294,9 @@ impl Watcher for Film<'_> {
     }
 
     fn restarts(&mut self, turn: Turn, pilot: &Pilot<'_>, cause: Cause) {
+        if !self.is_told() {
+            return;
+        }
         let address = pilot.machine().address();
         let number = function_at(pilot.program().addresses(), address);
         let function = function_name(self.functions, turn.robot, number);
@@ -217,6 +309,9 @@ impl Watcher for Film<'_> {
     }
 
     fn updates(&mut self, cycle: u32, arena: &Arena) {
+        if !self.is_told() {
+            return;
+        }
         self.tell_bursts(cycle, arena);
         for robot in 0..arena.robot_count() {
             for loss in &losses(arena, robot) {
@@ -227,10 +322,17 @@ impl Watcher for Film<'_> {
 
     fn updated(&mut self, cycle: u32, arena: &Arena) {
         self.look(cycle, arena);
+        self.live = arena.live_count();
+        self.updates = cycle / UPDATE_CYCLES;
+        self.tell_border(cycle, arena);
     }
 
     fn wants_more(&self) -> bool {
-        self.sheet.failures == 0
+        let is_past = match &self.stretch {
+            None => false,
+            Some(stretch) => stretch.is_past(self.updates),
+        };
+        !is_past && self.sheet.failures == 0
     }
 }
 
@@ -241,6 +343,27 @@ fn function_name(files: &[Functions], robot: usize, number: usize) -> &[u8] {
         Some(name) => name.as_bytes(),
         None => b"?",
     }
+}
+
+/// Returns the fields of where a robot is.
+fn stance_fields(stance: &Stance) -> [Field<'static>; 5] {
+    [
+        Field::Number(i32::from(stance.x)),
+        Field::Number(i32::from(stance.y)),
+        Field::Number(i32::from(stance.heading)),
+        Field::Number(i32::from(stance.speed)),
+        Field::Number(i32::from(stance.damage)),
+    ]
+}
+
+/// Returns the fields of a missile: what it was fired with, and where.
+fn missile_fields(missile: &Missile) -> [Field<'static>; 4] {
+    [
+        Field::Number(missile.degree),
+        Field::Number(missile.range),
+        Field::Number(i32::from(missile.x)),
+        Field::Number(i32::from(missile.y)),
+    ]
 }
 
 /// Returns the word of a cause.

@@ -4,6 +4,7 @@
 mod exports;
 mod filming;
 mod films;
+mod missiles;
 mod orders;
 mod places;
 mod robots;
@@ -11,10 +12,13 @@ mod rows;
 mod running;
 mod sheets;
 mod sources;
+mod stretches;
 
-pub use exports::{film, order_bytes, robot_bytes, run, sheet_bytes};
+pub use exports::{film, film_windows, order_bytes, robot_bytes, run, sheet_bytes};
 pub use filming::film_robots;
+pub use films::Shown;
 pub use orders::Order;
 pub use robots::{NAME_MAX, RobotFile, SOURCE_MAX};
 pub use running::run_robots;
 pub use sheets::{FRAME_BYTES, FRAMES, Frame, Sheet};
+pub use stretches::Stretch;

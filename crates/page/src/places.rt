@@ -1,6 +1,6 @@
 //! The place in its source that each instruction of a robot comes from.
 
-ghost use Rattle.std.specs.Prelude.{◌≡◌, ◌≤◌, All, IfSome, length};
+ghost use Rattle.std.specs.Prelude.{◌≡◌, ◌≤◌, All, IfErr, IfSome, length};
 
 use crate::robots::RobotFile;
 use crate::rows::{Field, Row};
@@ -41,7 +41,9 @@ fn places_in(program: &Program, source: &[u8]) -> Option<Places>
 }
 
 /// Writes the places of the instructions of each file on a blank sheet, a row each.
-pub(crate) fn tell_places(files: &[Option<Places>], sheet: &mut Sheet) -> Result<Status, RunFault> {
+pub(crate) fn tell_places(files: &[Option<Places>], sheet: &mut Sheet) -> Result<Status, RunFault>
+    ensures fault { IfErr result (λ fault. fault ≡ RunFault.Write) }
+{
     sheet.add(COLUMNS);
     for (robot, file) in files.iter().enumerate() {
         if let Some(places) = file {

@@ -1,0 +1,52 @@
+//! Stretches: some windows of a match, one after another.
+
+ghost use Rattle.std.specs.Prelude.{◌≡◌, ◌+◌, ◌*◌, ◌≤◌, ◌<◌, ◌==◌, ◌&&◌, ◌||◌, nat_lt, nat_le};
+
+use playing::UPDATE_CYCLES;
+
+/// Some windows of a match, each the 15 cycles between two updates. Any numbers make a stretch: one that begins after the
+/// match's end has nothing of it.
+#[derive(Clone, Copy, Drop)]
+pub struct Stretch {
+    /// How many updates are before it.
+    pub from: u32,
+    /// How many windows it has.
+    pub windows: u32,
+}
+
+impl Stretch {
+    /// Reports whether it has the window after so many updates.
+    pub(crate) fn holds(&self, updates: u32) -> bool
+        ensures { result ≡ (nat_le self.now.from updates && nat_lt updates (self.now.from + self.now.windows)) }
+    {
+        self.from <= updates && updates - self.from < self.windows
+    }
+
+    /// Reports whether it begins or ends after so many updates.
+    pub(crate) fn is_bordered(&self, updates: u32) -> bool
+        ensures { result ≡ (updates == self.now.from || updates == self.now.from + self.now.windows) }
+    {
+        updates == self.from || u64::from(updates) == self.end()
+    }
+
+    /// Reports whether nothing of it is after so many updates.
+    pub(crate) fn is_past(&self, updates: u32) -> bool
+        ensures { result ≡ nat_le (self.now.from + self.now.windows) updates }
+    {
+        self.end() <= u64::from(updates)
+    }
+
+    /// Reports whether its end is not before the end of a cycle.
+    pub(crate) fn reaches(&self, cycle: u32) -> bool
+        ensures { result ≡ nat_le cycle ((self.now.from + self.now.windows) * UPDATE_CYCLES) }
+    {
+        u64::from(cycle) <= self.end() * u64::from(UPDATE_CYCLES)
+    }
+
+    /// Returns how many updates are before its end.
+    fn end(&self) -> u64
+        ensures { result ≡ self.now.from + self.now.windows }
+    {
+        u64::from(self.from) + u64::from(self.windows)
+    }
+}
