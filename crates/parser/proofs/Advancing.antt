@@ -11,12 +11,12 @@ use Rattle.grammar.specs.Faults.{definitions_actions, levels}
 use Rattle.grammar.specs.Grammar.{Item}
 use Rattle.grammar.specs.Parsing.{Passes, Fails}
 use Rattle.grammar.proofs.Runs.{here, then}
-use Rattle.parsing.specs.Position.{GoesOn, Place, scope_at, next_at}
-use Rattle.parsing.specs.Growing.{HasGrown}
-use Rattle.parsing.specs.Stopping.{Stop, StopsInside, stop_with}
+use Rattle.parser.specs.Position.{GoesOn, Place, scope_at, next_at}
+use Rattle.parser.specs.Growing.{HasGrown}
+use Rattle.parser.specs.Stopping.{Stop, StopsInside, stop_with}
 use Rattle.grammar.specs.Profile.{Profile}
-use Rattle.parsing.specs.Segment.{Derives, FailsAt, Refused, TakesTokens}
-use Rattle.parsing.proofs.Segments.{refused_map, told_goes, Begins, functions_back, near_told, stops_back, stops_here, told_begins}
+use Rattle.parser.specs.Segment.{Derives, FailsAt, Refused, TakesTokens}
+use Rattle.parser.proofs.Segments.{refused_map, told_goes, Begins, functions_back, near_told, stops_back, stops_here, told_begins}
 use Rattle.parser.specs.Progress.{IsTold, ReadsOn, StopsReading, StopsTelling}
 use Rattle.tokens.specs.Reading.{IsNearTo}
 

@@ -23,15 +23,15 @@ use Rattle.grammar.proofs.Firsts.{too_long}
 use Rattle.grammar.proofs.Lengths.{code_length-append}
 use Rattle.grammar.proofs.Runs.{then}
 use Rattle.grammar.proofs.Steps.{make, close}
-use Rattle.parsing.specs.Advancing.{IsReady, StayedOrWentOn, Stopped}
-use Rattle.parsing.specs.Growing.{HasGrown}
-use Rattle.parsing.specs.Position.{GoesOn, Place, Standing, next_at, scope_at, scope_of, tokens_at, with_scope}
-use Rattle.parsing.specs.Stopping.{Stop, Stops, stop_with}
+use Rattle.parser.specs.Advancing.{IsReady, StayedOrWentOn, Stopped}
+use Rattle.parser.specs.Growing.{HasGrown}
+use Rattle.parser.specs.Position.{GoesOn, Place, Standing, next_at, scope_at, scope_of, tokens_at, with_scope}
+use Rattle.parser.specs.Stopping.{Stop, Stops, stop_with}
 use Rattle.grammar.specs.Compiled.{diagnostic}
-use Rattle.parsing.specs.Segment.{Derives, DerivesItem, FailsAt, FailsItem, Refused, TakesTokens}
-use Rattle.parsing.specs.Declarations.{heading_items}
-use Rattle.parsing.proofs.Growing.{grown_behind}
-use Rattle.parsing.proofs.Segments.{Begins, fails_then, goes_begins, halts, joined, refused_map, stay, told_begins, told_goes, near_told, stops_here}
+use Rattle.parser.specs.Segment.{Derives, DerivesItem, FailsAt, FailsItem, Refused, TakesTokens}
+use Rattle.parser.specs.Declarations.{heading_items}
+use Rattle.parser.proofs.Growing.{grown_behind}
+use Rattle.parser.proofs.Segments.{Begins, fails_then, goes_begins, halts, joined, refused_map, stay, told_begins, told_goes, near_told, stops_here}
 use Rattle.parser.specs.Progress.{AddsBlock, ReadsOn, ClosesFunction, IsTooMuch, RefusesEnd, StopsReading, at_brace, at_definition, at_source}
 use Rattle.parser.proofs.Advancing.{definitions_actions-append, telling_back, telling_inside, told_alone, told_grown}
 use Rattle.tokens.specs.Reading.{IsNearTo}

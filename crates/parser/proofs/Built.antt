@@ -16,7 +16,7 @@ use Rattle.grammar.specs.Need.{built, built_in, built_of, ends_by, has_ahead, is
 use Rattle.grammar.specs.Scope.{Scope}
 use Rattle.grammar.proofs.Verdicts.{IsRest, run_rests}
 use Rattle.parser.proofs.Advancing.{definitions_actions-append}
-use Rattle.parsing.proofs.StrictEnds.{IsCut, IsCutBehind, cut_behind, tokens_cut}
+use Rattle.parser.proofs.StrictEnds.{IsCut, IsCutBehind, cut_behind, tokens_cut}
 
 -- Where three tokens behind a brace end.
 

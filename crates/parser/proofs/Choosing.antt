@@ -15,11 +15,11 @@ use Rattle.grammar.specs.Faults.{misfit_code}
 use Rattle.grammar.specs.Grammar.{Item, AName, AWord, Defined, Exactly, External, FunctionBlock, Head, More, ParameterTypes, Parameters, Part, Source, Symbol, Types, choice, is_fault, is_punctuator, is_word, enters}
 use Rattle.grammar.proofs.Firsts.{no_part}
 use Rattle.grammar.proofs.Steps.{part}
-use Rattle.parsing.specs.Position.{Place, after_at, next_at, scope_at}
-use Rattle.parsing.specs.Stopping.{stop_with}
-use Rattle.parsing.specs.Segment.{Derives, DerivesItem, FailsAt, FailsItem, Refused}
-use Rattle.parsing.proofs.Parts.{word_is}
-use Rattle.parsing.proofs.Segments.{Leads, refused_map, stand, next_behind}
+use Rattle.parser.specs.Position.{Place, after_at, next_at, scope_at}
+use Rattle.parser.specs.Stopping.{stop_with}
+use Rattle.parser.specs.Segment.{Derives, DerivesItem, FailsAt, FailsItem, Refused}
+use Rattle.parser.proofs.Parts.{word_is}
+use Rattle.parser.proofs.Segments.{Leads, refused_map, stand, next_behind}
 use Rattle.parser.specs.Progress.{ReadsOn, StopsReading, at_definition, at_source}
 use Rattle.parser.proofs.Advancing.{advances_then, leave, stops_then, segment_advances, segment_stops, reading_fails_at_next}
 use Rattle.tokens.specs.Reading.{IsNearTo}

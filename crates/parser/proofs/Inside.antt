@@ -23,13 +23,13 @@ use Rattle.grammar.proofs.Firsts.{no_part}
 use Rattle.grammar.proofs.Keeping.{inner_keeps}
 use Rattle.grammar.proofs.Runs.{then}
 use Rattle.grammar.proofs.Steps.{make, punctuator as punctuator_step, part}
-use Rattle.parsing.specs.Position.{GoesOn, Place, next_at, place, scope_at}
-use Rattle.parsing.specs.Stopping.{Stop, stop_with}
-use Rattle.parsing.specs.Segment.{Derives, FailsAt, GoesPast, StopsAt}
-use Rattle.parsing.proofs.Parts.{punctuator_is}
-use Rattle.parsing.proofs.Segments.{Leads, joined, past, stand, stops, fails_at_next}
+use Rattle.parser.specs.Position.{GoesOn, Place, next_at, place, scope_at}
+use Rattle.parser.specs.Stopping.{Stop, stop_with}
+use Rattle.parser.specs.Segment.{Derives, FailsAt, GoesPast, StopsAt}
+use Rattle.parser.proofs.Parts.{punctuator_is}
+use Rattle.parser.proofs.Segments.{Leads, joined, past, stand, stops, fails_at_next}
 use Rattle.parser.specs.Progress.{AddsBlock, at_brace}
-use Rattle.statements.specs.Statements.{AddsBody}
+use Rattle.parser.specs.Statements.{AddsBody}
 
 abbrev pub inside_items : List Item
 inside_items = Part Declarations ∷ Part Statements ∷ at_brace

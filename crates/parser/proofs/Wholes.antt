@@ -33,10 +33,10 @@ use Rattle.grammar.proofs.Steps.{last, part}
 use Rattle.grammar.proofs.Verdicts.{clean_verdict, fault_verdict}
 use Rattle.grammar.specs.Finished.{IsFinished, PassesAll}
 use Rattle.grammar.proofs.FileLaws.{finished, undefined, without_main}
-use Rattle.parsing.specs.Position.{GoesOn, Place, next_at, scope_at, tokens_at}
-use Rattle.parsing.specs.Stopping.{NoneBefore, Stop, Stops, stop_with}
-use Rattle.parsing.specs.Segment.{Refused, StopsFirst, StopsAtFirst, TakesTokens}
-use Rattle.parsing.proofs.Segments.{functions_here, near_told, none_back, none_before, stops_here, told_goes}
+use Rattle.parser.specs.Position.{GoesOn, Place, next_at, scope_at, tokens_at}
+use Rattle.parser.specs.Stopping.{NoneBefore, Stop, Stops, stop_with}
+use Rattle.parser.specs.Segment.{Refused, StopsFirst, StopsAtFirst, TakesTokens}
+use Rattle.parser.proofs.Segments.{functions_here, near_told, none_back, none_before, stops_here, told_goes}
 use Rattle.parser.specs.Files.{BuildsAhead, FailsBytes, HasBuilt, LeavesUndecided, IsFile, IsNew, IsRefused, StopsTaking, TakesNoMore, TakesUpTo}
 use Rattle.parser.specs.Progress.{ADefinition, AMain, IsComplete, IsTold, Lacks, ReadsOn, StopsReading, StopsTelling, at_source}
 use Rattle.parser.proofs.Built.{IsAmongDefined, built_by_stop}

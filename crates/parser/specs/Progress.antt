@@ -25,10 +25,10 @@ use Rattle.grammar.specs.Profile.{Profile}
 use Rattle.grammar.specs.Resolved.{InBody}
 use Rattle.grammar.specs.Scope.{Scope, function_number}
 use Rattle.grammar.specs.Tree.{Body}
-use Rattle.parsing.specs.Growing.{BreaksOff}
-use Rattle.parsing.specs.Position.{GoesOn, Place, Position, Standing, next_at, scope_at, taken_at, token_of, tokens_at}
-use Rattle.parsing.specs.Stopping.{Stop, Stops}
-use Rattle.parsing.specs.Segment.{Derives, FailsAt, Refused, TakesTokens}
+use Rattle.parser.specs.Growing.{BreaksOff}
+use Rattle.parser.specs.Position.{GoesOn, Place, Position, Standing, next_at, scope_at, taken_at, token_of, tokens_at}
+use Rattle.parser.specs.Stopping.{Stop, Stops}
+use Rattle.parser.specs.Segment.{Derives, FailsAt, Refused, TakesTokens}
 
 -- From one place between functions to another the builder was told further functions, and the derivation, which goes
 -- from these items to those, defines them. It takes the same tokens whether the device tells them or not.

@@ -5,15 +5,18 @@ ghost use Rattle.tokens.specs.Feed.{MayRead};
 ghost use Rattle.tokens.specs.declared.located_tokens.Word.TheVariants as word;
 ghost use Rattle.grammar.specs.Building.{StandsOpen};
 ghost use Rattle.grammar.specs.Grammar.{Head, Part};
-ghost use Rattle.parsing.specs.Advancing.{Advances, Anywhere, IsAt, IsNextWord, Keeps};
-ghost use Rattle.parsing.specs.Position.{scope_of};
-ghost use Rattle.parsing.specs.Segment.{Counts};
+ghost use Rattle.parser.specs.Advancing.{Advances, Anywhere, IsAt, IsNextWord, Keeps};
+ghost use Rattle.parser.specs.Position.{scope_of};
+ghost use Rattle.parser.specs.Segment.{Counts};
 ghost use Rattle.parser.specs.Files.{IsFile, IsNew, IsRefused, TakesEnough};
 ghost use Rattle.parser.specs.Progress.{HasMore, IsComplete, Lacks, ReadsParts, ReadsSource, at_source};
 
 use crate::functions::function;
+use crate::headings::externals;
+use crate::lists::type_words;
+use crate::parser::{Parser, first};
+use crate::token_predicates::{is_punctuator, is_word};
 use grammar::{Build, Code, Diagnostic, ParseFault, Pools};
-use parsing::{Parser, externals, first, is_punctuator, is_word, type_words};
 use tokens::{Feed, Punctuator, Token, Word};
 
 /// Reads a source from the device in one pass, reports its actions to the builder, and returns its names.

@@ -2,14 +2,18 @@
 
 ghost use Rattle.std.specs.Prelude.{[]};
 ghost use Rattle.grammar.specs.Building.{StandsOpen};
-ghost use Rattle.parsing.specs.Advancing.{Advances, Anywhere, IsAt};
-ghost use Rattle.parsing.specs.Position.{next_at};
-ghost use Rattle.parsing.specs.Room.{HasPlace, room};
+ghost use Rattle.parser.specs.Advancing.{Advances, Anywhere, IsAt};
+ghost use Rattle.parser.specs.Position.{next_at};
+ghost use Rattle.parser.specs.Room.{HasPlace, room};
 ghost use Rattle.parser.specs.Progress.{EndsFunction, MayEnd, ParsesBlock, ReadsParts, at_definition};
 
+use crate::headings::heading;
+use crate::lists::declarations;
+use crate::parser::Parser;
+use crate::roles::Declared;
+use crate::statements::statements;
+use crate::token_predicates::is_punctuator;
 use grammar::{Build, BuildFault, Code, ParseFault};
-use parsing::{Declared, Parser, declarations, heading, is_punctuator};
-use statements::statements;
 use tokens::{Feed, Punctuator};
 
 /// `name ( params ) pdecls block`

@@ -2,7 +2,16 @@
 //! the file or the first diagnostic.
 #![tactic(auto)]
 
+mod expressions;
 mod files;
 mod functions;
+mod headings;
+mod lists;
+mod operands;
+mod parser;
+mod roles;
+mod signs;
+mod statements;
+mod token_predicates;
 
 pub use files::parse;

@@ -3,7 +3,7 @@ use Rattle.std.proofs.lemmas.Result.{err_from_is_err_and}
 use Rattle.std.specs.Option.{option_map}
 use Rattle.tokens.specs.Tokens.{tokens}
 use Rattle.grammar.specs.Scope.{no_names}
-use Rattle.parsing.specs.Position.{scope_at, taken_at, tokens_at}
+use Rattle.parser.specs.Position.{scope_at, taken_at, tokens_at}
 use Rattle.parser.proofs.Wholes.{IsWhole, first_refused, first_taking, has_taken, lacking, lacks_taking, stopped, stops_taking, whole_file, whole_takes}
 use Rattle.parser.proofs.files.parse.Goals as goal
 

@@ -1,5 +1,5 @@
 use Rattle.std.proofs.lemmas.Result.{err_from_is_err_and}
-use Rattle.parsing.proofs.Advances.{kept_then, on, stays_ready}
+use Rattle.parser.proofs.Advances.{kept_then, on, stays_ready}
 use Rattle.parser.specs.Progress.{at_source}
 use Rattle.parser.proofs.Advancing.{advances_stay, advances_then, leave}
 use Rattle.parser.proofs.files.source.Goals as goal

@@ -1,7 +1,7 @@
 use Rattle.std.proofs.Common.{[]}
 use Rattle.grammar.specs.Building.{StandsOpen}
-use Rattle.parsing.specs.Advancing.{StayedOrWentOn}
-use Rattle.parsing.specs.Position.{to_go}
+use Rattle.parser.specs.Advancing.{StayedOrWentOn}
+use Rattle.parser.specs.Position.{to_go}
 use Rattle.parser.specs.Progress.{ReadsOn, at_source}
 use Rattle.parser.proofs.files.source.Given as goal
 

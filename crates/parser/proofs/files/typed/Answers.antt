@@ -1,5 +1,5 @@
 use Rattle.std.proofs.lemmas.Result.{err_from_is_err_and}
-use Rattle.parsing.proofs.Advances.{kept_then, on, on_then}
+use Rattle.parser.proofs.Advances.{kept_then, on, on_then}
 use Rattle.parser.specs.Progress.{at_source}
 use Rattle.parser.proofs.Advancing.{advances_then, leave}
 use Rattle.parser.proofs.Choosing.{at_head, typed_head, types_refused, word_refused}

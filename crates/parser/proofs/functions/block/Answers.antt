@@ -4,11 +4,11 @@ use Rattle.tokens.specs.declared.located_tokens.Punctuator.TheVariants as punctu
 use Rattle.grammar.specs.Derivation.{ABody}
 use Rattle.grammar.specs.Grammar.{Declarations, FunctionBlock, Part, Statements, is_fault, is_punctuator}
 use Rattle.grammar.specs.Tree.{Done}
-use Rattle.parsing.specs.Segment.{FailsAt}
-use Rattle.statements.specs.Statements.{FailsBody}
-use Rattle.parsing.proofs.Advances.{kept_then, on_then}
-use Rattle.parsing.proofs.Growing.{grown_nothing}
-use Rattle.parsing.proofs.Segments.{exit, refused_map}
+use Rattle.parser.specs.Segment.{FailsAt}
+use Rattle.parser.specs.Statements.{FailsBody}
+use Rattle.parser.proofs.Advances.{kept_then, on_then}
+use Rattle.parser.proofs.Growing.{grown_nothing}
+use Rattle.parser.proofs.Segments.{exit, refused_map}
 use Rattle.parser.specs.Progress.{at_brace}
 use Rattle.parser.proofs.Inside.{block_adds, block_declared, block_opened, brace_misfits, brace_stops}
 use Rattle.parser.proofs.functions.block.Goals as goal

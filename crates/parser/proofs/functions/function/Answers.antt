@@ -1,11 +1,11 @@
 use Rattle.std.proofs.Common.{◌≡◌, ℕ, [], ◌∷◌, sym, ◌∙◌, arith}
 use Rattle.std.proofs.lemmas.Result.{err_from_is_err_and}
-use Rattle.parsing.specs.Declarations.{heading_items}
-use Rattle.parsing.specs.Segment.{FailsAt}
+use Rattle.parser.specs.Declarations.{heading_items}
+use Rattle.parser.specs.Segment.{FailsAt}
 use Rattle.grammar.specs.Grammar.{FunctionBlock, Part}
-use Rattle.parsing.proofs.Growing.{refuses}
-use Rattle.parsing.proofs.Segments.{refused_map}
-use Rattle.parsing.proofs.Advances.{kept_then, on, on_then, stopped_then}
+use Rattle.parser.proofs.Growing.{refuses}
+use Rattle.parser.proofs.Segments.{refused_map}
+use Rattle.parser.proofs.Advances.{kept_then, on, on_then, stopped_then}
 use Rattle.parser.proofs.Blocks.{block_refused, brace_refused, closing_sound, definition_halts, ended, function_advances, headed, heading_refused, renamed, short, told_function, too_much_refused}
 use Rattle.parser.proofs.Closing.{begun, closed, has_place, may_begin, may_end}
 use Rattle.parser.proofs.functions.function.Goals as goal

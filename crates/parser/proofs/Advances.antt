@@ -1,0 +1,63 @@
+-- One call after another: what they keep.
+use Rattle.std.proofs.Common.{ℕ, refl, ◌∙◌, ap, arith, le_refl, List}
+use Rattle.std.specs.Prelude.{Option, Result, Ok, Err}
+use Rattle.tokens.specs.Window.{TakesBytes}
+use Rattle.grammar.specs.declared.diagnostics.ParseFault.{ParseFault}
+use Rattle.parser.specs.Position.{Standing}
+use Rattle.tokens.specs.Feed.{Account}
+use Rattle.parser.specs.Segment.{counted}
+use Rattle.parser.specs.Advancing.{Advances, IsReady, StayedOrWentOn, Stopped, WentOn}
+
+takes_then : (a b c : ℕ) (x y z : Option (List ℕ)) → TakesBytes a b x y → TakesBytes b c y z → TakesBytes a c x z
+takes_then a b c x y z h i = record { rest = λ total e. i.rest total (h.rest total e) }
+
+-- a parser that does nothing
+pub stays_ready : (at : Standing) → IsReady at → StayedOrWentOn at at
+stays_ready at ready =
+    record { device = refl; account = refl; took = record { rest = λ total h. h }; falls = le_refl _; ready = ready }
+
+-- a call that went on, where none was needed
+pub on : (a b : Standing) → WentOn a b → StayedOrWentOn a b
+on a b h =
+    record { device = h.device; account = h.account; took = h.took; falls = omega (arith, h.falls); ready = h.ready }
+
+pub kept_then : (a b c : Standing) → StayedOrWentOn a b → StayedOrWentOn b c → StayedOrWentOn a c
+kept_then a b c h i = record {
+  device = i.device ∙ h.device;
+  account = i.account ∙ h.account;
+  took = takes_then _ _ _ _ _ _ h.took i.took;
+  falls = omega (arith, h.falls, i.falls);
+  ready = i.ready;
+}
+
+pub on_then : (a b c : Standing) → WentOn a b → StayedOrWentOn b c → WentOn a c
+on_then a b c h i = record {
+  device = i.device ∙ h.device;
+  account = i.account ∙ h.account;
+  took = takes_then _ _ _ _ _ _ h.took i.took;
+  falls = omega (arith, h.falls, i.falls);
+  ready = i.ready;
+}
+
+pub kept_on : (a b c : Standing) → StayedOrWentOn a b → WentOn b c → WentOn a c
+kept_on a b c h i = record {
+  device = i.device ∙ h.device;
+  account = i.account ∙ h.account;
+  took = takes_then _ _ _ _ _ _ h.took i.took;
+  falls = omega (arith, h.falls, i.falls);
+  ready = i.ready;
+}
+
+-- a refusal after calls that went on
+pub stopped_then : (f : ParseFault) (a b c : Standing) → StayedOrWentOn a b → Stopped f b c → Stopped f a c
+stopped_then f a b c h i = record {
+  device = i.device ∙ h.device;
+  account = i.account ∙ ap (λ (a : Account). counted a f) h.account;
+  took = takes_then _ _ _ _ _ _ h.took i.took;
+}
+
+-- the last call's answer
+pub handed_kept : {A : Type 0} (r : Result A ParseFault) (a b c : Standing) → StayedOrWentOn a b → Advances r b c →
+    Advances r a c
+handed_kept (Ok x) a b c h i = kept_on a b c h i
+handed_kept (Err f) a b c h i = stopped_then f a b c h i

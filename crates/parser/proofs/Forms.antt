@@ -1,0 +1,139 @@
+-- Which production of a statement a token chooses.
+use Rattle.std.proofs.Common.{◌≡◌, [], ◌∷◌, refl, true, false}
+use Rattle.tokens.specs.declared.located_tokens.Punctuator.TheVariants as punctuator
+use Rattle.tokens.specs.declared.located_tokens.Token.{Token}
+use Rattle.tokens.specs.declared.located_tokens.Token.TheVariants as token
+use Rattle.tokens.specs.declared.located_tokens.Word.TheVariants as word
+use Rattle.grammar.specs.Grammar.{AWord, Back, Block, Decide, DecideElse, Declarations, ElsePart, Empty, Evaluate, Exactly, Expression, GiveBack, Item, Make, Part, Repeat, Close, Statement, Statements, Zero, is_punctuator, is_word, enters}
+use Rattle.std.specs.Prelude.{List}
+use Rattle.parser.specs.Forms.{begins_statement}
+use Rattle.parser.proofs.Parts.{Chooses, punctuator_is, word_is}
+
+-- An expression for its effect.
+
+-- a token that begins no form of its own
+pub record Evaluates (t : Token) : Type 0 where
+  pub chosen : Chooses Statement t (Part Expression ∷ Exactly punctuator.Semicolon ∷ Make Evaluate ∷ [])
+  pub shallow : (after : Token) → enters Statement t after ≡ false
+
+pub evaluates : (t : Token) → begins_statement t ≡ false → Evaluates t
+evaluates (token.Punctuator punctuator.Semicolon) plain = absurd (cc)
+evaluates (token.Punctuator punctuator.OpenCurly) plain = absurd (cc)
+evaluates (token.Punctuator m) plain = record { chosen = λ after. refl; shallow = λ after. refl }
+evaluates (token.Word word.If) plain = absurd (cc)
+evaluates (token.Word word.While) plain = absurd (cc)
+evaluates (token.Word word.Return) plain = absurd (cc)
+evaluates (token.Word w) plain = record { chosen = λ after. refl; shallow = λ after. refl }
+evaluates (token.Name name) plain = record { chosen = λ after. refl; shallow = λ after. refl }
+evaluates (token.Constant value) plain = record { chosen = λ after. refl; shallow = λ after. refl }
+evaluates token.End plain = record { chosen = λ after. refl; shallow = λ after. refl }
+evaluates (token.Fault lexical_error) plain = record { chosen = λ after. refl; shallow = λ after. refl }
+
+-- Statements, up to the closing brace.
+
+pub more_chosen : (t : Token) → is_punctuator punctuator.CloseCurly t ≡ false →
+    Chooses Statements t (Part Statement ∷ Part Statements ∷ [])
+more_chosen (token.Punctuator punctuator.CloseCurly) other = absurd (cc)
+more_chosen (token.Punctuator m) other = λ after. refl
+more_chosen (token.Name name) other = λ after. refl
+more_chosen (token.Word word) other = λ after. refl
+more_chosen (token.Constant value) other = λ after. refl
+more_chosen token.End other = λ after. refl
+more_chosen (token.Fault lexical_error) other = λ after. refl
+
+pub end_chosen : (t : Token) → is_punctuator punctuator.CloseCurly t ≡ true → Chooses Statements t []
+end_chosen t is after =
+    let at : t ≡ token.Punctuator punctuator.CloseCurly = punctuator_is punctuator.CloseCurly t is in rw at refl
+
+-- Second branches.
+
+pub else_chosen : (t : Token) → is_word word.Else t ≡ true →
+    Chooses ElsePart t (AWord word.Else ∷ Make Empty ∷ Part Statement ∷ Make DecideElse ∷ [])
+else_chosen t is after = let at : t ≡ token.Word word.Else = word_is word.Else t is in rw at refl
+
+pub no_else_chosen : (t : Token) → is_word word.Else t ≡ false → Chooses ElsePart t (Make Decide ∷ [])
+no_else_chosen (token.Word word.Else) other = absurd (cc)
+no_else_chosen (token.Word w) other = λ after. refl
+no_else_chosen (token.Punctuator m) other = λ after. refl
+no_else_chosen (token.Name name) other = λ after. refl
+no_else_chosen (token.Constant value) other = λ after. refl
+no_else_chosen token.End other = λ after. refl
+no_else_chosen (token.Fault lexical_error) other = λ after. refl
+
+-- What a return gives back.
+
+pub zero_chosen : (t : Token) → is_punctuator punctuator.Semicolon t ≡ true → Chooses Back t (Make Zero ∷ [])
+zero_chosen t is after =
+    let at : t ≡ token.Punctuator punctuator.Semicolon = punctuator_is punctuator.Semicolon t is in rw at refl
+
+pub value_chosen : (t : Token) → is_punctuator punctuator.Semicolon t ≡ false → Chooses Back t (Part Expression ∷ [])
+value_chosen (token.Punctuator punctuator.Semicolon) other = absurd (cc)
+value_chosen (token.Punctuator m) other = λ after. refl
+value_chosen (token.Name name) other = λ after. refl
+value_chosen (token.Word word) other = λ after. refl
+value_chosen (token.Constant value) other = λ after. refl
+value_chosen token.End other = λ after. refl
+value_chosen (token.Fault lexical_error) other = λ after. refl
+
+-- The forms that a punctuator or a word begins.
+
+pub empty_chosen : (t : Token) → is_punctuator punctuator.Semicolon t ≡ true →
+    Chooses Statement t (Exactly punctuator.Semicolon ∷ [])
+empty_chosen t is after =
+    let at : t ≡ token.Punctuator punctuator.Semicolon = punctuator_is punctuator.Semicolon t is in rw at refl
+
+pub empty_shallow : (t : Token) → is_punctuator punctuator.Semicolon t ≡ true → (after : Token) →
+    enters Statement t after ≡ false
+empty_shallow t is after =
+    let at : t ≡ token.Punctuator punctuator.Semicolon = punctuator_is punctuator.Semicolon t is in rw at refl
+
+-- what stands behind the opening brace of a block
+abbrev pub in_braces : List Item
+in_braces = Part Declarations ∷ Part Statements ∷ Exactly punctuator.CloseCurly ∷ Close ∷ []
+
+pub record BeginsBlock (t : Token) : Type 0 where
+  pub statement : Chooses Statement t (Part Block ∷ [])
+  pub shallow : (after : Token) → enters Statement t after ≡ false
+  pub chosen : Chooses Block t (Exactly punctuator.OpenCurly ∷ in_braces)
+  pub opened : (after : Token) → enters Block t after ≡ true
+
+pub begins_block : (t : Token) → is_punctuator punctuator.OpenCurly t ≡ true → BeginsBlock t
+begins_block t is =
+    let at : t ≡ token.Punctuator punctuator.OpenCurly = punctuator_is punctuator.OpenCurly t is in
+    record {
+      statement = λ after. rw at refl;
+      shallow = λ after. rw at refl;
+      chosen = λ after. rw at refl;
+      opened = λ after. rw at refl;
+    }
+
+-- what stands behind the condition of an `if`
+abbrev pub behind_if : List Item
+behind_if = Make Empty ∷ Part Statement ∷ Part ElsePart ∷ Close ∷ []
+
+-- of a `while`
+abbrev pub behind_while : List Item
+behind_while = Make Empty ∷ Part Statement ∷ Make Repeat ∷ Close ∷ []
+
+abbrev pub conditioned : List Item → List Item
+conditioned items = Exactly punctuator.OpenRound ∷ Part Expression ∷ Exactly punctuator.CloseRound ∷ items
+
+pub if_chosen : (t : Token) → is_word word.If t ≡ true → Chooses Statement t (AWord word.If ∷ conditioned behind_if)
+if_chosen t is after = let at : t ≡ token.Word word.If = word_is word.If t is in rw at refl
+
+pub if_enters : (t : Token) → is_word word.If t ≡ true → (after : Token) → enters Statement t after ≡ true
+if_enters t is after = let at : t ≡ token.Word word.If = word_is word.If t is in rw at refl
+
+pub while_chosen : (t : Token) → is_word word.While t ≡ true →
+    Chooses Statement t (AWord word.While ∷ conditioned behind_while)
+while_chosen t is after = let at : t ≡ token.Word word.While = word_is word.While t is in rw at refl
+
+pub while_enters : (t : Token) → is_word word.While t ≡ true → (after : Token) → enters Statement t after ≡ true
+while_enters t is after = let at : t ≡ token.Word word.While = word_is word.While t is in rw at refl
+
+pub return_chosen : (t : Token) → is_word word.Return t ≡ true →
+    Chooses Statement t (AWord word.Return ∷ Part Back ∷ Exactly punctuator.Semicolon ∷ Make GiveBack ∷ [])
+return_chosen t is after = let at : t ≡ token.Word word.Return = word_is word.Return t is in rw at refl
+
+pub return_shallow : (t : Token) → is_word word.Return t ≡ true → (after : Token) → enters Statement t after ≡ false
+return_shallow t is after = let at : t ≡ token.Word word.Return = word_is word.Return t is in rw at refl

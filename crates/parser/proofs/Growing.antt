@@ -1,0 +1,43 @@
+-- Builders that were told further actions.
+use Rattle.std.proofs.Common.{List, [], ◌++◌, sym, subst, append_assoc, append-nil}
+use Rattle.std.specs.Prelude.{Err}
+use Rattle.grammar.specs.declared.build.BuildFault.{BuildFault}
+use Rattle.grammar.specs.declared.build.BuildFault.TheVariants as fault
+use Rattle.grammar.specs.Actions.{Action}
+use Rattle.grammar.specs.Building.{Meaning, AppendsAll, Refuses}
+use Rattle.parser.specs.Growing.{HasGrown}
+
+-- a builder that was told nothing
+pub grown_nothing : (before : Meaning) → HasGrown before before
+grown_nothing before = record {
+  more = [];
+  added = λ profile acts h. subst (λ (xs : List Action). before profile xs) (sym (append-nil acts)) h;
+}
+
+-- these actions
+pub grown : (before after : Meaning) (more : List Action) → AppendsAll before after more → HasGrown before after
+grown before after more told = record { more = more; added = told }
+
+-- and further ones behind them
+pub grown_then : (before mid after : Meaning) → HasGrown before mid → HasGrown mid after → HasGrown before after
+grown_then before mid after a b = record {
+  more = a.more ++ b.more;
+  added =
+      λ profile acts h. subst (λ (xs : List Action). after profile xs) (append_assoc acts a.more b.more)
+      (b.added profile _ (a.added profile acts h));
+}
+
+-- behind these actions further ones
+pub grown_behind : (before mid after : Meaning) (more : List Action) → AppendsAll before mid more → HasGrown mid after →
+    HasGrown before after
+grown_behind before mid after more told h = grown_then before mid after (grown before mid more told) h
+
+-- A builder that was refused memory: of what it stands for nothing is known.
+
+abbrev pub unknown : Meaning
+unknown profile acts = Unit {0}
+
+-- it asks for memory
+pub refuses : (e : BuildFault) (denied : Type 0) → Refuses {A = Unit {0}} (Err e) denied → denied
+refuses fault.Memory denied h = h
+refuses fault.Full denied h = absurd h

@@ -1,0 +1,159 @@
+-- What it takes to match one item, and what happens where the next token doesn't fit.
+use Rattle.std.proofs.Common.{◌≡◌, ℕ, List, [], ◌∷◌, refl, true, false}
+use Rattle.std.specs.Prelude.{Option, Some}
+use Rattle.tokens.specs.Reading.{Reading, IsNearTo}
+use Rattle.tokens.specs.declared.located_tokens.LocatedToken.{LocatedToken}
+use Rattle.tokens.specs.declared.located_tokens.Punctuator.{Punctuator}
+use Rattle.tokens.specs.declared.located_tokens.Token.TheVariants as token
+use Rattle.tokens.specs.declared.located_tokens.Word.{Word}
+use Rattle.grammar.specs.declared.diagnostics.Code.{Code}
+use Rattle.grammar.specs.declared.diagnostics.ParseFault.{ParseFault}
+use Rattle.grammar.specs.declared.diagnostics.ParseFault.TheVariants as refusal
+use Rattle.grammar.specs.Compiled.{diagnostic}
+use Rattle.grammar.specs.Derivation.{Value, name_of_token, of_name}
+use Rattle.grammar.specs.Faults.{misfit_code}
+use Rattle.grammar.specs.Grammar.{Exactly, AWord, AName, Role, is_punctuator, is_word, is_fault}
+use Rattle.grammar.specs.Naming.{Knows, RefusesName}
+use Rattle.grammar.specs.Scope.{Scope}
+use Rattle.grammar.proofs.Firsts.{name_fails, no_punctuator, no_name, no_word}
+use Rattle.grammar.proofs.Steps.{punctuator, name, word}
+use Rattle.parser.specs.declared.roles.Declared.{Declared}
+use Rattle.parser.specs.declared.roles.Declared.TheVariants as kind
+use Rattle.parser.specs.Position.{Place, place, next_at, scope_at}
+use Rattle.parser.specs.Roles.{role_of}
+use Rattle.parser.specs.Stopping.{Stop, stop_with}
+use Rattle.parser.specs.Segment.{DerivesItem, FailsItem, GoesPast, IsNoName, Refused, StopsAt}
+use Rattle.parser.proofs.Segments.{Leads, fails_at_next, past, stops}
+
+punctuator_leads : (located_token : LocatedToken) (m : Punctuator) (depth : ℕ) (known : Scope)
+    (rest : List LocatedToken) → is_fault located_token.token ≡ false → is_punctuator m located_token.token ≡ true →
+    Leads depth (Exactly m ∷ []) [] [] [] known known (located_token ∷ rest) rest
+punctuator_leads located_token m depth known rest sound fits =
+    record {
+      passes =
+          λ profile stack values functions depths. punctuator profile m stack (located_token ∷ rest) values known
+          functions sound fits;
+    }
+
+pub punctuator_derives : (reading : Reading) (known : Scope) (more : Option (List ℕ)) (there : Place) (m : Punctuator) →
+    is_fault reading.next.token ≡ false → is_punctuator m reading.next.token ≡ true →
+    GoesPast (place (record { reading = reading; scope = known }) more) there →
+    DerivesItem (Exactly m) [] [] (place (record { reading = reading; scope = known }) more) there
+punctuator_derives reading known more there m sound fits goes depth =
+    past reading known known more there depth (Exactly m ∷ []) [] [] [] goes
+    (λ rest b. punctuator_leads reading.next m depth known rest sound fits)
+
+pub punctuator_stops : (reading : Reading) (known : Scope) (more : Option (List ℕ)) (m : Punctuator) →
+    is_fault reading.next.token ≡ false → is_punctuator m reading.next.token ≡ true → (d : Stop) →
+    StopsAt (place (record { reading = reading; scope = known }) more) d →
+    FailsItem (Exactly m) (place (record { reading = reading; scope = known }) more) d
+punctuator_stops reading known more m sound fits d stop depth =
+    stops reading known known more d depth (Exactly m ∷ []) [] [] []
+    (λ rest b. punctuator_leads reading.next m depth known rest sound fits) stop
+
+pub punctuator_misfits : {n : ℕ} (at : Place) (m : Punctuator) → IsNearTo at.position.reading n →
+    is_fault (next_at at).token ≡ false → is_punctuator m (next_at at).token ≡ false →
+    FailsItem (Exactly m) at
+    (stop_with (refusal.Source (diagnostic (next_at at).line (misfit_code (next_at at).token))) n)
+punctuator_misfits at m near sound misses depth =
+    fails_at_next depth (Exactly m ∷ []) [] at _ _ near
+    (λ tail b profile stack values functions depths. no_punctuator profile m stack (next_at at ∷ tail) values
+    (scope_at at) functions sound misses)
+
+word_leads : (located_token : LocatedToken) (w : Word) (depth : ℕ) (known : Scope) (rest : List LocatedToken) →
+    is_fault located_token.token ≡ false → is_word w located_token.token ≡ true →
+    Leads depth (AWord w ∷ []) [] [] [] known known (located_token ∷ rest) rest
+word_leads located_token w depth known rest sound fits =
+    record {
+      passes =
+          λ profile stack values functions depths. word profile w stack (located_token ∷ rest) values known functions
+          sound fits;
+    }
+
+pub word_derives : (reading : Reading) (known : Scope) (more : Option (List ℕ)) (there : Place) (w : Word) →
+    is_fault reading.next.token ≡ false → is_word w reading.next.token ≡ true →
+    GoesPast (place (record { reading = reading; scope = known }) more) there →
+    DerivesItem (AWord w) [] [] (place (record { reading = reading; scope = known }) more) there
+word_derives reading known more there w sound fits goes depth =
+    past reading known known more there depth (AWord w ∷ []) [] [] [] goes
+    (λ rest b. word_leads reading.next w depth known rest sound fits)
+
+pub word_stops : (reading : Reading) (known : Scope) (more : Option (List ℕ)) (w : Word) →
+    is_fault reading.next.token ≡ false → is_word w reading.next.token ≡ true → (d : Stop) →
+    StopsAt (place (record { reading = reading; scope = known }) more) d →
+    FailsItem (AWord w) (place (record { reading = reading; scope = known }) more) d
+word_stops reading known more w sound fits d stop depth =
+    stops reading known known more d depth (AWord w ∷ []) [] [] []
+    (λ rest b. word_leads reading.next w depth known rest sound fits) stop
+
+pub word_misfits : {n : ℕ} (at : Place) (w : Word) → IsNearTo at.position.reading n →
+    is_fault (next_at at).token ≡ false → is_word w (next_at at).token ≡ false →
+    FailsItem (AWord w) at
+    (stop_with (refusal.Source (diagnostic (next_at at).line (misfit_code (next_at at).token))) n)
+word_misfits at w near sound misses depth =
+    fails_at_next depth (AWord w ∷ []) [] at _ _ near
+    (λ tail b profile stack values functions depths. no_word profile w stack (next_at at ∷ tail) values
+    (scope_at at) functions sound misses)
+
+-- Names.
+
+name_leads : (located_token : LocatedToken) (role : Role) (bytes : List ℕ) (depth : ℕ) (known learnt : Scope)
+    (rest : List LocatedToken) → located_token.token ≡ token.Name bytes →
+    Knows role bytes located_token.line known learnt →
+    Leads depth (AName role ∷ []) [] [] (of_name role bytes known) known learnt (located_token ∷ rest) rest
+name_leads located_token role bytes depth known learnt rest is knows = record {
+  passes = λ profile stack values functions depths.
+      let found : name_of_token located_token.token ≡ Some bytes = rw is refl in
+      rw knows.behind
+      (name profile role bytes stack (located_token ∷ rest) values known functions (rw is refl) found
+      (knows.clean (located_token ∷ rest)));
+}
+
+-- a name was matched in its role
+pub name_derives : (reading : Reading) (known learnt : Scope) (more : Option (List ℕ)) (there : Place) (role : Role)
+    (bytes : List ℕ) (left : List Value) → reading.next.token ≡ token.Name bytes →
+    Knows role bytes reading.next.line known learnt → left ≡ of_name role bytes known →
+    GoesPast (place (record { reading = reading; scope = learnt }) more) there →
+    DerivesItem (AName role) [] left (place (record { reading = reading; scope = known }) more) there
+name_derives reading known learnt more there role bytes left is knows same goes depth =
+    rw same
+    (past reading known learnt more there depth (AName role ∷ []) [] [] (of_name role bytes known) goes
+    (λ rest b. name_leads reading.next role bytes depth known learnt rest is knows))
+
+-- the token behind it is a fault
+pub name_stops : (reading : Reading) (known learnt : Scope) (more : Option (List ℕ)) (role : Role) (bytes : List ℕ) →
+    reading.next.token ≡ token.Name bytes →
+    Knows role bytes reading.next.line known learnt → (d : Stop) →
+    StopsAt (place (record { reading = reading; scope = learnt }) more) d →
+    FailsItem (AName role) (place (record { reading = reading; scope = known }) more) d
+name_stops reading known learnt more role bytes is knows d stop depth =
+    stops reading known learnt more d depth (AName role ∷ []) [] [] (of_name role bytes known)
+    (λ rest b. name_leads reading.next role bytes depth known learnt rest is knows) stop
+
+-- the name has a fault in its role
+pub name_refused : {n : ℕ} (at : Place) (role : Role) (bytes : List ℕ) (c : Code) → IsNearTo at.position.reading n →
+    (next_at at).token ≡ token.Name bytes → RefusesName role bytes (scope_at at) c →
+    FailsItem (AName role) at (stop_with (refusal.Source (diagnostic (next_at at).line c)) n)
+name_refused at role bytes c near is fails depth =
+    fails_at_next depth (AName role ∷ []) [] at _ _ near
+    (λ tail b profile stack values functions depths. name_fails profile role bytes c stack (next_at at) tail values
+    (scope_at at) functions (rw is refl) (rw is refl) (fails (next_at at ∷ tail)))
+
+-- there is no name
+pub name_misfits : (n : ℕ) (at : Place) (role : Role) (f : ParseFault) → IsNearTo at.position.reading n →
+    IsNoName (next_at at) f → Refused (FailsItem (AName role) at) ⊥ n f
+name_misfits n at role f near none = rw none.is (fails)
+  where
+    fails : FailsItem (AName role) at
+        (stop_with (refusal.Source (diagnostic (next_at at).line (misfit_code (next_at at).token))) n)
+    fails depth =
+        fails_at_next depth (AName role ∷ []) [] at _ _ near
+        (λ tail b profile stack values functions depths. no_name profile role stack (next_at at ∷ tail) values
+        (scope_at at) functions none.sound none.other)
+
+-- a name that is declared makes no tree
+pub no_tree : (bytes : List ℕ) (known : Scope) (declared : Declared) → [] ≡ of_name (role_of declared) bytes known
+no_tree bytes known kind.Externals = refl
+no_tree bytes known kind.Parameters = refl
+no_tree bytes known kind.TypedParameters = refl
+no_tree bytes known kind.Locals = refl

@@ -1,0 +1,61 @@
+use Rattle.std.proofs.Common.{◌≡◌, [], ◌∷◌, refl, subst, true, false}
+use Rattle.std.proofs.lemmas.Result.{err_from_is_err_and}
+use Rattle.tokens.specs.declared.located_tokens.Punctuator.TheVariants as punctuator
+use Rattle.grammar.specs.Grammar.{AName, Exactly, More, Part, is_fault, is_punctuator}
+use Rattle.grammar.specs.Scope.{Scope}
+use Rattle.parser.specs.Defining.{StaysAt}
+use Rattle.parser.specs.Roles.{role_of}
+use Rattle.parser.proofs.Names.{stays_at_then}
+use Rattle.parser.specs.Position.{scope_of}
+use Rattle.parser.proofs.Advances.{kept_then, on}
+use Rattle.parser.proofs.ListLaws.{goes_on, leaves, more_behind, names_end, opens_on, names_more}
+use Rattle.parser.proofs.lists.more_names.Goals as goal
+
+pub returns-in_err-expect-clause-matches : goal.returns-in_err-expect-clause-matches
+returns-in_err-expect-clause-matches g c =
+    let sound : is_fault c.loop-declared.parser.place.position.reading.next.token ≡ false = cc in
+    let is : is_punctuator punctuator.Comma c.loop-declared.parser.place.position.reading.next.token ≡ true = cc in
+    let p = err_from_is_err_and c.from_residual.result c.from_residual.ensures.1 in
+    rw (p.1, p.2) (leaves _ (Part (More (role_of c.args.declared)) ∷ []) (Exactly punctuator.Comma ∷ [])
+    (AName (role_of c.args.declared) ∷ Part (More (role_of c.args.declared)) ∷ []) _ _ c.in_err-expect.field-0.0
+    (λ stack. refl)
+    (λ depth. opens_on depth _ (More (role_of c.args.declared))
+    (Exactly punctuator.Comma ∷ AName (role_of c.args.declared) ∷ Part (More (role_of c.args.declared)) ∷ []) _ _
+    sound (names_more _ _ is) (c.loop-declared.invariant.matches depth))
+    c.in_err-expect.ensures.matches)
+
+pub loop-declared-preserved : goal.loop-declared-preserved
+loop-declared-preserved g c =
+    let sound : is_fault c.loop-declared.parser.place.position.reading.next.token ≡ false = cc in
+    let is : is_punctuator punctuator.Comma c.loop-declared.parser.place.position.reading.next.token ≡ true = cc in
+    record {
+      matches =
+          λ depth. goes_on depth _ (AName (role_of c.args.declared) ∷ []) []
+          (Part (More (role_of c.args.declared)) ∷ []) _ _ _ (λ stack. refl)
+          (more_behind depth (role_of c.args.declared) _ _ _ sound is (c.loop-declared.invariant.matches depth)
+          (c.in_ok-expect.ensures.matches depth))
+          (c.in_ok-declare.ensures.matches depth);
+      stays = stays_at_then c.args.declared _ _ _ c.loop-declared.invariant.stays
+          (subst (λ (s : Scope). StaysAt c.args.declared s (scope_of c.declare.new.self)) c.in_ok-expect.ensures.scope
+          c.in_ok-declare.ensures.stays);
+      kept = kept_then _ _ _ c.loop-declared.invariant.kept
+          (kept_then _ _ _ (on _ _ c.in_ok-expect.ensures.kept) (on _ _ c.in_ok-declare.ensures.kept));
+    }
+
+pub returns-in_err-declare-clause-matches : goal.returns-in_err-declare-clause-matches
+returns-in_err-declare-clause-matches g c =
+    let sound : is_fault c.loop-declared.parser.place.position.reading.next.token ≡ false = cc in
+    let is : is_punctuator punctuator.Comma c.loop-declared.parser.place.position.reading.next.token ≡ true = cc in
+    let p = err_from_is_err_and c.from_residual-in_err-declare.result c.from_residual-in_err-declare.ensures.1 in
+    rw (p.1, p.2) (leaves _ (Part (More (role_of c.args.declared)) ∷ []) (AName (role_of c.args.declared) ∷ [])
+    (Part (More (role_of c.args.declared)) ∷ []) _ _ c.in_err-declare.field-0.0 (λ stack. refl)
+    (λ depth. more_behind depth (role_of c.args.declared) _ _ _ sound is (c.loop-declared.invariant.matches depth)
+    (c.in_ok-expect.ensures.matches depth))
+    c.in_err-declare.ensures.matches)
+
+pub returns-clause-matches : goal.returns-clause-matches
+returns-clause-matches g c depth =
+    let sound : is_fault c.loop-declared.parser.place.position.reading.next.token ≡ false = cc in
+    let other : is_punctuator punctuator.Comma c.loop-declared.parser.place.position.reading.next.token ≡ false = cc in
+    opens_on depth _ (More (role_of c.args.declared)) [] _ _ sound (names_end _ _ other)
+    (c.loop-declared.invariant.matches depth)

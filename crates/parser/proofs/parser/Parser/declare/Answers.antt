@@ -1,0 +1,50 @@
+use Rattle.std.proofs.Common.{◌≡◌, subst, sym}
+use Rattle.std.proofs.lemmas.Result.{err_from_is_err_and}
+use Rattle.tokens.specs.Reading.{IsNear}
+use Rattle.tokens.specs.declared.located_tokens.Token.TheVariants as token
+use Rattle.parser.specs.Roles.{role_of}
+use Rattle.parser.specs.Segment.{IsNoName}
+use Rattle.parser.specs.Position.{Standing}
+use Rattle.parser.proofs.Items.{name_derives, name_misfits, name_refused, name_stops, no_tree}
+use Rattle.parser.proofs.Names.{declared_stays}
+use Rattle.parser.proofs.Segments.{refused_map}
+use Rattle.parser.proofs.parser.Parser.declare.Goals as goal
+
+pub returns-in_err-name-clause-matches : goal.returns-in_err-name-clause-matches
+returns-in_err-name-clause-matches g c =
+    let p = err_from_is_err_and c.from_residual.result c.from_residual.ensures.1 in
+    rw (p.1, p.2)
+    (name_misfits _ _ (role_of c.args.declared) c.in_err-name.field-0.0 c.requires.ready.near
+    (subst (λ (p : Standing). IsNoName p.place.position.reading.next c.in_err-name.field-0.0) c.self.view_is
+    c.in_err-name.ensures.other))
+
+pub returns-in-Err-clause-matches : goal.returns-in-Err-clause-matches
+returns-in-Err-clause-matches g c =
+    let near : IsNear c.self.inside.cursor =
+    subst (λ (p : Standing). IsNear p.place.position.reading) (sym c.self.view_is) c.requires.ready.near in
+    let found : c.self.inside.cursor.next.token ≡ token.Name c.in_ok-name.name.now = c.in_ok-name.ensures.found in
+    rw (c.refusal.ensures, sym c.self.view_is)
+    (name_refused _ (role_of c.args.declared) _ c.in-Err.code near found c.in-Err.ensures.refused)
+
+pub returns-in_err-advance-clause-matches : goal.returns-in_err-advance-clause-matches
+returns-in_err-advance-clause-matches g c =
+    let found : c.self.inside.cursor.next.token ≡ token.Name c.in_ok-name.name.now = c.in_ok-name.ensures.found in
+    let p = err_from_is_err_and c.from_residual-in_err-advance.result c.from_residual-in_err-advance.ensures.1 in
+    rw (p.1, p.2, sym c.self.view_is)
+    (refused_map _ _ _ ⊥ ⊥ c.in_err-advance.field-0.0
+    (name_stops c.self.inside.cursor c.self.inside.scope _ _ (role_of c.args.declared) c.in_ok-name.name.now
+    found (c.in_default.ensures.known _)) (λ same. same) c.in_err-advance.ensures.consumes)
+
+pub returns-clause-matches : goal.returns-clause-matches
+returns-clause-matches g c =
+    let found : c.self.inside.cursor.next.token ≡ token.Name c.in_ok-name.name.now = c.in_ok-name.ensures.found in
+    rw (sym c.self.view_is)
+    (name_derives c.self.inside.cursor c.self.inside.scope _ _ _ (role_of c.args.declared) c.in_ok-name.name.now _
+    found (c.in_default.ensures.known _) (no_tree _ c.self.inside.scope c.args.declared)
+    c.in_ok-advance.ensures.consumes)
+
+pub returns-clause-stays : goal.returns-clause-stays
+returns-clause-stays g c =
+    rw (sym c.self.view_is, c.in_ok-advance.ensures.consumes.scope)
+    (declared_stays c.args.declared c.in_ok-name.name.now 0 c.self.inside.scope c.declare.new.scope
+    (c.in_default.ensures.known 0))

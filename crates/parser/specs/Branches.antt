@@ -1,0 +1,68 @@
+-- What may stand behind the first branch of an `if`: nothing, or an `else` with a second branch.
+use Rattle.std.specs.Prelude.{ℕ, ◌+◌, ◌≡◌, ◌≤◌, true, List, [], ◌∷◌, Option, Some, None, Result, Ok, Err}
+use Rattle.parser.specs.Stopping.{Stop}
+use Rattle.grammar.specs.declared.diagnostics.ParseFault.{ParseFault}
+use Rattle.grammar.specs.declared.pools.TheConstants.{MOST_NAMES}
+use Rattle.grammar.specs.Actions.{Action, ElsePart as BetweenBranches, body_actions}
+use Rattle.grammar.specs.Building.{Meaning, AppendsAll, StandsOpen}
+use Rattle.grammar.specs.Derivation.{Value, ABody, AnExpr}
+use Rattle.grammar.specs.Following.{Open, Opened, is_place, most_open, open_count}
+use Rattle.grammar.specs.Grammar.{ElsePart, Part}
+use Rattle.grammar.specs.Nesting.{body_nesting}
+use Rattle.grammar.specs.Resolved.{InBody}
+use Rattle.grammar.specs.Tree.{Body, IfElseStatement, Done, Expr, IfStatement, join}
+use Rattle.parser.specs.Position.{Place, Standing, taken_at}
+use Rattle.parser.specs.Room.{room}
+use Rattle.parser.specs.Growing.{BreaksOff}
+use Rattle.parser.specs.Segment.{Derives, FailsAt}
+
+-- the actions of a second branch, where there is one
+abbrev pub else_actions : Option Body → List Action
+else_actions None = []
+else_actions (Some t) = BetweenBranches ∷ body_actions t
+
+-- an `if` with this condition, first branch and second one
+abbrev pub decided : Expr → Body → Option Body → Body
+decided c s None = IfStatement c s Done
+decided c s (Some t) = IfElseStatement c s t Done
+
+abbrev pub IsElseNumbered : Option Body → Type 0
+IsElseNumbered None = Unit {0}
+IsElseNumbered (Some t) = InBody MOST_NAMES MOST_NAMES MOST_NAMES t
+
+abbrev pub else_nesting : Option Body → ℕ
+else_nesting None = 0
+else_nesting (Some t) = body_nesting t
+
+-- the trees of an `if` so far: its first branch, its condition, and the body that it stands in
+abbrev pub before_else : Body → Expr → Body → List Value
+before_else s c body = ABody s ∷ AnExpr c ∷ ABody body ∷ []
+
+-- The second branch was read, or there is none, whatever the `if` is so far.
+pub record AddsElse (before after : Meaning) (depth : ℕ) (here there : Place) : Type 0 where
+  pub tree : Option Body
+  pub numbered : IsElseNumbered tree
+  pub narrow : else_nesting tree ≤ room depth 1
+  pub added : AppendsAll before after (else_actions tree)
+  pub derives : (s : Body) (c : Expr) (body : Body) →
+      Derives depth (Part ElsePart ∷ []) [] (before_else s c body) (ABody (join body (decided c s tree)) ∷ [])
+      here there
+
+-- The first fault from there on, whatever the `if` is so far.
+abbrev pub FailsElse : ℕ → Place → Stop → Type 0
+FailsElse depth here d =
+    (s : Body) (c : Expr) (body : Body) → FailsAt depth (Part ElsePart ∷ []) (before_else s c body) here d
+
+-- What a parse of a second branch says by its result.
+abbrev pub ParsesElse : {A : Type 0} → Result A ParseFault → Type 0 → (before after : Meaning) → ℕ →
+    (old new : Standing) → Type 0
+ParsesElse (Ok x) denied before after depth old new = AddsElse before after depth old.place new.place
+ParsesElse (Err fault) denied before after depth old new =
+    BreaksOff (FailsElse depth old.place) denied before after (taken_at new.place) fault
+
+-- A list is stood for that leaves this open, where a statement stands, and room for so many more.
+pub record HasInside (inner : Open) (before : Meaning) (count : ℕ) : Type 0 where
+  pub opened : Opened
+  pub place : is_place opened ≡ true
+  pub stands : StandsOpen before (inner ∷ opened)
+  pub few : open_count (inner ∷ opened) + count ≤ most_open

@@ -1,0 +1,101 @@
+-- What the parse of an expression did: the builder was told the actions of a tree, and the derivation made the same
+-- tree.
+use Rattle.std.specs.Prelude.{ℕ, ◌+◌, ◌≡◌, ◌≤◌, List, [], ◌∷◌, ◌++◌, None, Result, Ok, Err}
+use Rattle.grammar.specs.declared.diagnostics.ParseFault.{ParseFault}
+use Rattle.grammar.specs.declared.names.Callee.{Callee}
+use Rattle.grammar.specs.declared.operators.Binary.{Binary as AnOperator}
+use Rattle.arith.specs.declared.operators.Op.{Op}
+use Rattle.grammar.specs.declared.pools.TheConstants.{MOST_NAMES}
+use Rattle.grammar.specs.Actions.{ApplyBinop, args_actions, expr_actions, middle}
+use Rattle.grammar.specs.Building.{Meaning, AppendsAll}
+use Rattle.grammar.specs.Derivation.{ACall, AnExpr}
+use Rattle.grammar.specs.Grammar.{Item, Arguments, Level, Part, Symbol, Tail}
+use Rattle.grammar.specs.Nesting.{args_nesting, nesting, right_side}
+use Rattle.grammar.specs.Climbing.{operator_from}
+use Rattle.grammar.specs.Resolved.{InArgs, InExpr}
+use Rattle.grammar.specs.Tree.{Args, Binary, Expr, NoMore}
+use Rattle.parser.specs.Position.{Place, Standing, taken_at, token_of}
+use Rattle.parser.specs.Room.{room}
+use Rattle.parser.specs.Stopping.{Stop}
+use Rattle.parser.specs.Growing.{BreaksOff}
+use Rattle.parser.specs.Segment.{Derives, FailsAt, FailsItem}
+
+-- An expression was read, by the items in front, of operators from a level on, with so many levels of nesting open.
+pub record AddsExpr (before after : Meaning) (depth level : ℕ) (front pending : List Item) (here there : Place)
+    : Type 0 where
+  pub tree : Expr
+  pub numbered : InExpr MOST_NAMES MOST_NAMES MOST_NAMES tree
+  pub narrow : nesting tree ≤ room depth level
+  pub added : AppendsAll before after (expr_actions tree)
+  pub derives : Derives depth front pending [] (AnExpr tree ∷ []) here there
+
+-- One further operator was read with its right side, whatever its left side is.
+pub record AddsOperand (before after : Meaning) (depth level : ℕ) (op : Op) (here there : Place) : Type 0 where
+  pub right : Expr
+  pub numbered : InExpr MOST_NAMES MOST_NAMES MOST_NAMES right
+  pub narrow : right_side op + nesting right ≤ room depth level
+  pub added : AppendsAll before after (middle op ++ (expr_actions right ++ ApplyBinop op ∷ []))
+  pub derives : (left : Expr) →
+      Derives depth (Part (Tail level) ∷ []) (Part (Tail level) ∷ []) (AnExpr left ∷ [])
+      (AnExpr (Binary op left right) ∷ []) here there
+
+-- The first fault from there on, whatever the left side is.
+abbrev pub FailsOperand : ℕ → ℕ → Place → Stop → Type 0
+FailsOperand depth level here d = (left : Expr) → FailsAt depth (Part (Tail level) ∷ []) (AnExpr left ∷ []) here d
+
+-- The arguments of a call were read, whatever it calls.
+pub record AddsArgs (before after : Meaning) (depth : ℕ) (front pending : List Item) (here there : Place) : Type 0 where
+  pub tree : Args
+  pub numbered : InArgs MOST_NAMES MOST_NAMES MOST_NAMES tree
+  pub narrow : args_nesting tree ≤ room depth 1
+  pub added : AppendsAll before after (args_actions tree)
+  pub derives : (callee : Callee) →
+      Derives depth front pending (ACall callee NoMore ∷ []) (ACall callee tree ∷ []) here there
+
+abbrev pub FailsArgs : ℕ → Place → Stop → Type 0
+FailsArgs depth here d = (callee : Callee) → FailsAt depth (Part Arguments ∷ []) (ACall callee NoMore ∷ []) here d
+
+-- What a parse of an expression says, by its result.
+
+-- An expression was read by this symbol, at a level of the operators. Or the derivation stops within it, as the refusal
+-- says.
+abbrev pub Parses : {A : Type 0} → Result A ParseFault → (denied : Type 0) (before after : Meaning) (depth level : ℕ) →
+    Symbol → (old new : Standing) → Type 0
+Parses (Ok x) denied before after depth level symbol old new =
+    AddsExpr before after depth level (Part symbol ∷ []) [] old.place new.place
+Parses (Err fault) denied before after depth level symbol old new =
+    BreaksOff (FailsAt depth (Part symbol ∷ []) [] old.place) denied before after (taken_at new.place) fault
+
+-- the same of operators from a level on, up to a token that is none of these
+abbrev pub ParsesLevels : {A : Type 0} → Result A ParseFault → (denied : Type 0) (before after : Meaning)
+    (depth level : ℕ) → (old new : Standing) → Type 0
+ParsesLevels (Ok x) denied before after depth level old new =
+    AddsExpr before after depth level (Part (Level level) ∷ []) [] old.place new.place
+    × (operator_from level (token_of new) ≡ None)
+ParsesLevels (Err fault) denied before after depth level old new =
+    BreaksOff (FailsAt depth (Part (Level level) ∷ []) [] old.place) denied before after (taken_at new.place) fault
+
+-- the same of an operand that opens no level, at any depth
+abbrev pub ParsesOperandAlone : {A : Type 0} → Result A ParseFault → (denied : Type 0) (before after : Meaning) →
+    Symbol → (old new : Standing) → Type 0
+ParsesOperandAlone (Ok x) denied before after symbol old new =
+    (depth : ℕ) → AddsExpr before after depth 11 (Part symbol ∷ []) [] old.place new.place
+ParsesOperandAlone (Err fault) denied before after symbol old new =
+    BreaksOff (FailsItem (Part symbol) old.place) denied before after (taken_at new.place) fault
+
+-- the same of an operator and its right side, which goes up to an operator that binds no tighter
+abbrev pub ParsesOperand : {A : Type 0} → Result A ParseFault → (denied : Type 0) (before after : Meaning)
+    (depth : ℕ) → AnOperator → (old new : Standing) → Type 0
+ParsesOperand (Ok x) denied before after depth b old new =
+    AddsOperand before after depth b.level b.op old.place new.place
+    × (operator_from (b.level + 1) (token_of new) ≡ None)
+ParsesOperand (Err fault) denied before after depth b old new =
+    BreaksOff (FailsOperand depth b.level old.place) denied before after (taken_at new.place) fault
+
+-- the same of a call's arguments
+abbrev pub ParsesArgs : {A : Type 0} → Result A ParseFault → (denied : Type 0) (before after : Meaning) (depth : ℕ) →
+    (old new : Standing) → Type 0
+ParsesArgs (Ok x) denied before after depth old new =
+    AddsArgs before after depth (Part Arguments ∷ []) [] old.place new.place
+ParsesArgs (Err fault) denied before after depth old new =
+    BreaksOff (FailsArgs depth old.place) denied before after (taken_at new.place) fault

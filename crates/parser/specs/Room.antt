@@ -1,0 +1,32 @@
+-- How much may still be opened where a builder stands: calls, branches, loops and right sides of && and ||.
+use Rattle.std.specs.Prelude.{ℕ, ◌+◌, ◌-◌, ◌*◌, ◌≡◌, ◌≤◌, ◌∷◌, true}
+use Rattle.grammar.specs.Building.{Meaning, StandsOpen}
+use Rattle.grammar.specs.Following.{Open, AValue, Opened, Origin, is_place, most_open, open_count}
+use Rattle.parser.specs.declared.parser.TheConstants.{MOST_LEVELS}
+
+-- the most that the operators from a level on can open, where so many levels of nesting are taken:
+-- each further level of nesting opens a call and the right sides of && and || at most
+abbrev pub room : (depth level : ℕ) → ℕ
+room depth level = 3 * (MOST_LEVELS - depth) + (3 - level)
+
+-- a list is stood for that leaves something open, and room for so many more
+pub record HasRoom (before : Meaning) (count : ℕ) : Type 0 where
+  pub outer : Open
+  pub opened : Opened
+  pub stands : StandsOpen before (outer ∷ opened)
+  pub few : open_count (outer ∷ opened) + count ≤ most_open
+
+-- the same with a value that is the left side of an operator
+pub record HasLeft (before : Meaning) (count : ℕ) : Type 0 where
+  pub origin : Origin
+  pub outer : Open
+  pub opened : Opened
+  pub stands : StandsOpen before (AValue origin ∷ outer ∷ opened)
+  pub few : open_count (outer ∷ opened) + count ≤ most_open
+
+-- the same where a statement may stand
+pub record HasPlace (before : Meaning) (count : ℕ) : Type 0 where
+  pub opened : Opened
+  pub place : is_place opened ≡ true
+  pub stands : StandsOpen before opened
+  pub few : open_count opened + count ≤ most_open

@@ -1,0 +1,48 @@
+-- What the parse of statements did: the builder was told their actions, and the derivation put them behind the body so
+-- far.
+use Rattle.std.specs.Prelude.{ℕ, ◌≤◌, List, [], ◌∷◌, Result, Ok, Err}
+use Rattle.tokens.specs.declared.located_tokens.Punctuator.TheVariants as punctuator
+use Rattle.parser.specs.Stopping.{Stop}
+use Rattle.grammar.specs.Actions.{body_actions}
+use Rattle.grammar.specs.Building.{Meaning, AppendsAll}
+use Rattle.grammar.specs.Derivation.{ABody}
+use Rattle.grammar.specs.declared.pools.TheConstants.{MOST_NAMES}
+use Rattle.grammar.specs.declared.diagnostics.ParseFault.{ParseFault}
+use Rattle.grammar.specs.Grammar.{Item, Part, Statements, Symbol}
+use Rattle.grammar.specs.Nesting.{body_nesting}
+use Rattle.grammar.specs.Resolved.{InBody}
+use Rattle.grammar.specs.Tree.{Body, join}
+use Rattle.parser.specs.Advancing.{IsNext}
+use Rattle.parser.specs.Position.{Place, Standing, taken_at}
+use Rattle.parser.specs.Room.{room}
+use Rattle.parser.specs.Growing.{BreaksOff}
+use Rattle.parser.specs.Segment.{Derives, FailsAt}
+
+-- Statements were read, by the items in front, with so many levels of nesting open, whatever the body is so far.
+pub record AddsBody (before after : Meaning) (depth : ℕ) (front pending : List Item) (here there : Place) : Type 0 where
+  pub tree : Body
+  pub numbered : InBody MOST_NAMES MOST_NAMES MOST_NAMES tree
+  pub narrow : body_nesting tree ≤ room depth 1
+  pub added : AppendsAll before after (body_actions tree)
+  pub derives : (body : Body) → Derives depth front pending (ABody body ∷ []) (ABody (join body tree) ∷ []) here there
+
+-- The first fault from there on, whatever the body is so far.
+abbrev pub FailsBody : ℕ → List Item → Place → Stop → Type 0
+FailsBody depth front here d = (body : Body) → FailsAt depth front (ABody body ∷ []) here d
+
+-- What a parse of statements says by its result: they were read, or the derivation stops within them, as the refusal
+-- says.
+abbrev pub ParsesBody : {A : Type 0} → Result A ParseFault → Type 0 → (before after : Meaning) → ℕ → Symbol →
+    (old new : Standing) → Type 0
+ParsesBody (Ok x) denied before after depth symbol old new =
+    AddsBody before after depth (Part symbol ∷ []) [] old.place new.place
+ParsesBody (Err fault) denied before after depth symbol old new =
+    BreaksOff (FailsBody depth (Part symbol ∷ []) old.place) denied before after (taken_at new.place) fault
+
+-- the same of all statements up to a closing brace
+abbrev pub ParsesStatements : {A : Type 0} → Result A ParseFault → Type 0 → (before after : Meaning) → ℕ →
+    (old new : Standing) → Type 0
+ParsesStatements (Ok x) denied before after depth old new =
+    AddsBody before after depth (Part Statements ∷ []) [] old.place new.place × IsNext punctuator.CloseCurly new
+ParsesStatements (Err fault) denied before after depth old new =
+    BreaksOff (FailsBody depth (Part Statements ∷ []) old.place) denied before after (taken_at new.place) fault

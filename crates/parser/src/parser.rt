@@ -1,0 +1,357 @@
+//! A parser's state: a cursor over the tokens of a device and the names known, with the calls that consume one token.
+
+ghost use Rattle.std.specs.Prelude.{ℕ, ◌≡◌, ◌<◌, ◌≤◌, [], ◌∷◌, length, false, true, is_some, OnOk, IfOk, IfErr};
+ghost use Rattle.tokens.specs.Reading.{Opens, beyond};
+ghost use Rattle.tokens.specs.Tokens.{FitsToken, is_last};
+ghost use Rattle.tokens.specs.Window.{KnowsEnd};
+ghost use Rattle.tokens.specs.declared.located_tokens.Token.TheVariants as token;
+ghost use Rattle.grammar.specs.Compiled.{diagnostic, main_name};
+ghost use Rattle.grammar.specs.Derivation.{ACall, AVariable, name_of_token};
+ghost use Rattle.grammar.specs.Faults.{misfit_code};
+ghost use Rattle.grammar.specs.Grammar.{AWord, AName, AnEnd, Called, Defined, Exactly, Mentioned, is_fault};
+ghost use Rattle.grammar.specs.Naming.{Knows, RefusesName, line_of_undefined};
+ghost use Rattle.grammar.specs.Resolved.{IsCallable, IsVariable};
+ghost use Rattle.grammar.specs.Scope.{end_definition, function_number, no_names};
+ghost use Rattle.grammar.specs.Tree.{NoMore};
+ghost use Rattle.parser.specs.Advancing.{IsReadable, most_failures};
+ghost use Rattle.tokens.specs.ReadLimits.{most_bytes};
+ghost use Rattle.parser.specs.Position.{with_scope};
+ghost use Rattle.parser.specs.Roles.{role_of};
+ghost use Rattle.parser.specs.Segment.{Counts, IsNoName, StopsAtFirst};
+
+use crate::roles::Declared;
+use crate::token_predicates::{is_punctuator, is_word};
+use grammar::{Callee, Code, Diagnostic, MOST_NAMES, ParseFault, Pools, Scope, Var, code_of};
+use std::marker::Model;
+use tokens::{Cursor, Feed, LocatedToken, Name, Punctuator, Token, Word};
+
+/// The most levels that may be open at once.
+pub const MOST_LEVELS: u8 = 64;
+
+/// The next tokens of a device's bytes, and the names known there. Neither the next token nor one that was consumed is
+/// a lexical error. A device that has ended is not asked again.
+///
+/// After an `Err` a parser is of no more use.
+#[derive(Drop)]
+pub struct Parser<'a, F: Feed> {
+    cursor: Cursor,
+    scope: Scope,
+    feed: &'a mut F,
+}
+
+impl<'a, F: Feed> Model for Parser<'a, F> {
+    ghost use Rattle.std.specs.Prelude.{◌≡◌, ◌≤◌, false};
+    ghost use Rattle.tokens.specs.Reading.{beyond, taken};
+    ghost use Rattle.tokens.specs.Window.{KnowsEnd};
+    ghost use Rattle.grammar.specs.Grammar.{is_fault};
+    ghost use Rattle.tokens.specs.ReadLimits.{most_bytes};
+    ghost use Rattle.parser.specs.Position.{Standing, place};
+
+    ghost Value = { Standing };
+
+    ghost view = { λ p. record {
+      place = place (record { reading = p.cursor; scope = p.scope }) (F.to_come p.feed.now);
+      account = F.account p.feed.now;
+      device = p.feed.ghost_name;
+    } };
+
+    ghost invariant = { λ p. (is_fault p.cursor.next.token ≡ false)
+        × KnowsEnd (beyond p.cursor) (F.ended p.feed.now) × (taken p.cursor ≤ most_bytes) };
+}
+
+/// Reads the first tokens of a device's bytes, for a parser.
+///
+/// # Errors
+/// `Source` if the first token is a lexical error, `Device` if the device failed.
+pub fn first<F: Feed>(feed: &mut F) -> Result<Cursor, ParseFault>
+    requires count { (F.account feed.old).failures < most_failures }
+    requires not_ended { F.ended feed.old ≡ false }
+    ensures opens { IfOk result (λ cursor.
+        Opens cursor (F.to_come feed.old) (F.to_come feed.new) (F.ended feed.new)) }
+    ensures ready { IfOk result IsReadable }
+    ensures refused { IfErr result (StopsAtFirst (F.to_come feed.old) (F.to_come feed.new)) }
+    ensures counted { Counts result (F.account feed.old) (F.account feed.new) }
+{
+    let cursor = Cursor::open(feed)?;
+    if let Token::Fault(_) = cursor.peek().token {
+        return Err(misfit(cursor.peek()));
+    }
+    Ok(cursor)
+}
+
+impl<'a, F: Feed> Parser<'a, F> {
+    ghost use Rattle.parser.specs.Advancing.{Advances, IsReady};
+    ghost use Rattle.parser.specs.Defining.{StaysAt, StaysInBody};
+    ghost use Rattle.parser.specs.Matching.{Consumes, Matches};
+    ghost use Rattle.parser.specs.Position.{Position, Standing, next_at, place, scope_of, taken_at, token_after};
+    ghost use Rattle.parser.specs.Position.{token_of};
+    ghost use Rattle.parser.specs.Segment.{BeginsDefinition};
+
+    /// Makes a parser at the first token of a device, which knows no names.
+    ///
+    /// `cursor` is what `first` gave for the same device.
+    pub fn new(cursor: Cursor, feed: &'a mut F) -> Parser<'a, F>
+        requires ready { IsReadable cursor }
+        requires known { KnowsEnd (beyond cursor) (F.ended feed.old) }
+        ensures place { result.place ≡ place (record { reading = cursor; scope = no_names }) (F.to_come feed.old) }
+        ensures account { result.account ≡ F.account feed.old }
+        ensures device { result.device ≡ feed.entry.ghost_name }
+    {
+        Parser {
+            cursor,
+            scope: Scope::new(),
+            feed,
+        }
+    }
+
+    /// Returns the next token.
+    pub fn peek(&self) -> &LocatedToken
+        ensures value { result.now ≡ next_at self.now.place }
+        ensures fits { FitsToken result.now.token }
+        ensures sound { is_fault result.now.token ≡ false }
+    {
+        self.cursor.peek()
+    }
+
+    /// Returns the token after the next one. If the next is the end, there is none, and the result says nothing.
+    pub fn after(&self) -> &Token
+        ensures value { result.now ≡ token_after self.now }
+    {
+        &self.cursor.after().token
+    }
+
+    /// Returns the refusal of the next token, which doesn't fit.
+    #[cold]
+    #[inline(never)]
+    pub fn misfit(&self) -> ParseFault
+        ensures { result ≡
+            ParseFault.Source (diagnostic (next_at self.now.place).line (misfit_code (token_of self.now))) }
+    {
+        misfit(self.cursor.peek())
+    }
+
+    /// Returns the refusal of the next token for this fault.
+    #[cold]
+    #[inline(never)]
+    pub fn refusal(&self, code: Code) -> ParseFault
+        ensures { result ≡ ParseFault.Source (diagnostic (next_at self.now.place).line code) }
+    {
+        ParseFault::Source(Diagnostic {
+            line: self.cursor.peek().line,
+            code,
+        })
+    }
+
+    /// Consumes the next token.
+    ///
+    /// # Errors
+    /// `Source` if the token after it is a lexical error, before the parser is at it; `Device` if the device failed.
+    #[inline(always)]
+    pub fn advance(&mut self) -> Result<(), ParseFault>
+        requires more { is_last (token_of self.old) ≡ false }
+        requires ready { IsReady self.old }
+        ensures consumes { Consumes result self.old self.new }
+        ensures kept { Advances result self.old self.new }
+    {
+        if let Token::Fault(_) = self.cursor.after().token {
+            return Err(misfit(self.cursor.after()));
+        }
+        self.cursor.advance(self.feed)?;
+        Ok(())
+    }
+
+    /// Consumes this punctuator, which has to be the next token.
+    pub fn expect(&mut self, punctuator: Punctuator) -> Result<(), ParseFault>
+        requires ready { IsReady self.old }
+        ensures matches { Matches result (Exactly punctuator ∷ []) (λ _. []) self.old self.new }
+        ensures scope { OnOk result (scope_of self.new ≡ scope_of self.old) }
+        ensures kept { Advances result self.old self.new }
+    {
+        if !is_punctuator(&self.peek().token, punctuator) {
+            return Err(self.misfit());
+        }
+        self.advance()?;
+        Ok(())
+    }
+
+    /// Consumes this word, which has to be the next token.
+    pub fn expect_word(&mut self, word: Word) -> Result<(), ParseFault>
+        requires ready { IsReady self.old }
+        ensures matches { Matches result (AWord word ∷ []) (λ _. []) self.old self.new }
+        ensures scope { OnOk result (scope_of self.new ≡ scope_of self.old) }
+        ensures kept { Advances result self.old self.new }
+    {
+        if !is_word(&self.peek().token, word) {
+            return Err(self.misfit());
+        }
+        self.advance()?;
+        Ok(())
+    }
+
+    /// Consumes the name of a variable that is mentioned, which has to be the next token, and returns the variable.
+    #[inline(always)]
+    pub fn mention(&mut self) -> Result<Var, ParseFault>
+        requires ready { IsReady self.old }
+        ensures matches { Matches result (AName Mentioned ∷ []) (λ v. AVariable v ∷ []) self.old self.new }
+        ensures within { IfOk result (IsVariable MOST_NAMES MOST_NAMES) }
+        ensures stays { OnOk result (StaysInBody (scope_of self.old) (scope_of self.new)) }
+        ensures kept { Advances result self.old self.new }
+    {
+        let name = name(&self.cursor)?;
+        let var = match self.scope.mention(name) {
+            Ok(var) => var,
+            Err(code) => return Err(self.refusal(code)),
+        };
+        self.advance()?;
+        Ok(var)
+    }
+
+    /// Consumes the name of a function that is called, which has to be the next token, and returns the function.
+    pub fn callee(&mut self) -> Result<Callee, ParseFault>
+        requires ready { IsReady self.old }
+        ensures matches { Matches result (AName Called ∷ []) (λ f. ACall f NoMore ∷ []) self.old self.new }
+        ensures within { IfOk result (IsCallable MOST_NAMES) }
+        ensures stays { OnOk result (StaysInBody (scope_of self.old) (scope_of self.new)) }
+        ensures kept { Advances result self.old self.new }
+    {
+        let name = name(&self.cursor)?;
+        let line = self.cursor.peek().line;
+        let callee = match self.scope.call(name, line) {
+            Ok(callee) => callee,
+            Err(code) => return Err(self.refusal(code)),
+        };
+        self.advance()?;
+        Ok(callee)
+    }
+
+    /// Consumes the name of a function whose definition begins, which has to be the next token, and returns its number.
+    pub fn define(&mut self) -> Result<u8, ParseFault>
+        requires ready { IsReady self.old }
+        ensures matches { Matches result (AName Defined ∷ []) (λ _. []) self.old self.new }
+        ensures begun { IfOk result (λ number.
+            BeginsDefinition number self.old.place.position self.new.place.position) }
+        ensures kept { Advances result self.old self.new }
+    {
+        let name = name(&self.cursor)?;
+        let line = self.cursor.peek().line;
+        let number = match self.scope.define(name, line) {
+            Ok(number) => number,
+            Err(code) => return Err(self.refusal(code)),
+        };
+        self.advance()?;
+        Ok(number)
+    }
+
+    /// Consumes a name that is declared, which has to be the next token.
+    #[inline(always)]
+    pub fn declare(&mut self, declared: Declared) -> Result<(), ParseFault>
+        requires ready { IsReady self.old }
+        ensures matches { Matches result (AName (role_of declared) ∷ []) (λ _. []) self.old self.new }
+        ensures stays { OnOk result (StaysAt declared (scope_of self.old) (scope_of self.new)) }
+        ensures kept { Advances result self.old self.new }
+    {
+        let name = name(&self.cursor)?;
+        if let Err(code) = declare(&mut self.scope, name, declared) {
+            return Err(self.refusal(code));
+        }
+        self.advance()?;
+        Ok(())
+    }
+
+    /// Returns how many parameters the function that is being defined has so far.
+    pub fn parameters(&self) -> u8
+        ensures count { result ≡ (scope_of self.now).current.parameters }
+        ensures most { result ≤ MOST_NAMES }
+    {
+        self.scope.parameters()
+    }
+
+    /// Returns how many variables it has so far, its parameters among them.
+    pub fn variables(&self) -> u8
+        ensures count { result ≡ length (scope_of self.now).current.variables }
+        ensures first { (scope_of self.now).current.parameters ≤ result }
+        ensures most { result ≤ MOST_NAMES }
+    {
+        self.scope.variables()
+    }
+
+    /// Ends the function that is being defined.
+    pub fn end_definition(&mut self)
+        ensures { self.new ≡ with_scope (end_definition (scope_of self.old)) self.old }
+    {
+        self.scope.end_definition();
+    }
+
+    /// Returns the line of the first mention of the earliest mentioned function whose definition didn't begin.
+    pub fn undefined(&self) -> Option<u32>
+        ensures { result ≡ line_of_undefined 0 (scope_of self.now).lines (scope_of self.now).begun }
+    {
+        self.scope.undefined()
+    }
+
+    /// Returns whether a function main was mentioned.
+    pub fn has_main(&self) -> bool
+        ensures { result ≡ is_some (function_number main_name (scope_of self.now)) }
+    {
+        self.scope.has_main()
+    }
+
+    /// Takes the parser apart: the names of the file, and the device.
+    pub fn into_parts(self) -> (Pools, &'a mut F)
+        ensures names { result.0 ≡
+            record { externals = (scope_of self.entry).externals; functions = (scope_of self.entry).functions } }
+        ensures device { result.1.ghost_name ≡ self.entry.device }
+        ensures to_come { F.to_come result.1.now ≡ self.entry.place.to_come }
+        ensures account { F.account result.1.now ≡ self.entry.account }
+        ensures limited { taken_at self.entry.place ≤ most_bytes }
+    {
+        let Parser { scope, feed, .. } = self;
+        (scope.into_pools(), feed)
+    }
+}
+
+/// Returns the name that the next token has to be.
+#[inline(always)]
+fn name(cursor: &Cursor) -> Result<&Name, ParseFault>
+    requires sound { is_fault cursor.now.next.token ≡ false }
+    ensures found { IfOk result (λ name. cursor.now.next.token ≡ token.Name name.now) }
+    ensures other { IfErr result (IsNoName cursor.now.next) }
+{
+    let next = cursor.peek();
+    match &next.token {
+        Token::Name(name) => Ok(name),
+        _ => Err(misfit(next)),
+    }
+}
+
+/// Declares a name in a scope.
+#[inline(always)]
+fn declare(scope: &mut Scope, name: &Name, declared: Declared) -> Result<(), Code>
+    ensures known { OnOk result ((line : ℕ) → Knows (role_of declared) name.now line scope.old scope.new) }
+    ensures refused { IfErr result (λ c. RefusesName (role_of declared) name.now scope.old c) }
+{
+    match declared {
+        Declared::Externals => scope.external(name)?,
+        Declared::Parameters => scope.parameter(name)?,
+        Declared::TypedParameters => scope.typed(name)?,
+        Declared::Locals => scope.local(name)?,
+    }
+    Ok(())
+}
+
+/// Returns the refusal of a token that doesn't fit.
+#[cold]
+#[inline(never)]
+fn misfit(located_token: &LocatedToken) -> ParseFault
+    ensures { result ≡ ParseFault.Source (diagnostic located_token.now.line (misfit_code located_token.now.token)) }
+{
+    let code = match located_token.token {
+        Token::Fault(lexical_error) => code_of(lexical_error),
+        Token::Word(Word::Refused) => Code::ReservedWord,
+        _ => Code::SyntaxError,
+    };
+    ParseFault::Source(Diagnostic {
+        line: located_token.line,
+        code,
+    })
+}

@@ -1,3 +1,0 @@
-pub mod Branches
-pub mod Forms
-pub mod Statements
