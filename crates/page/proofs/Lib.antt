@@ -1,1 +1,2 @@
 mod RunningLemmas
+mod FilmLemmas

@@ -1,14 +1,14 @@
 -- Sheets of known contents hold the output of a run.
-use Rattle.std.proofs.Common.{◌≡◌, ◌+◌, ◌∙◌, inl, inr, ℕ, zero, suc, List, [], ◌∷◌, ◌++◌, Option, Some, None, Result, Ok, Err, IfErr, IfSome, IsSome, false, get_or, map, rules, refl, sym, ap, subst, append_assoc, arith}
+use Rattle.std.proofs.Common.{◌≡◌, ◌⊎◌, ◌<◌, ◌+◌, ◌∙◌, inl, inr, ℕ, zero, suc, List, [], ◌∷◌, ◌++◌, Option, Some, None, Result, Ok, Err, IfErr, IfSome, IsSome, false, get_or, map, rules, refl, sym, ap, subst, append_assoc, arith}
 use Rattle.std.specs.List.{concat}
 use Rattle.std.proofs.lemmas.List.{append-nil, get_or-set_same}
 use Rattle.std.proofs.lemmas.List.Folds.{concat-append}
 use Rattle.std.proofs.lemmas.Simd.{map-map}
 use Rattle.settings.specs.Setup.{Setup}
 use Rattle.series.specs.Compiling.{Source}
-use Rattle.series.specs.Output.{Output, Runs}
+use Rattle.series.specs.Output.{Output}
 use Rattle.series.specs.Runs.{AreSources}
-use Rattle.series.specs.Failures.{Accounts, Failures, failures, no_device}
+use Rattle.series.specs.Failures.{Accounts, Failures, SinkFailed, failures, no_device}
 use Rattle.tokens.specs.Feed.{Account, failed_again}
 use Rattle.series.specs.Pieces.{Channel, Piece, Taken, Text, Faults, Writes, TakesOn, taken}
 use Rattle.series.specs.declared.endings.RunFault.{RunFault}
@@ -21,7 +21,7 @@ use Rattle.page.specs.declared.robots.RobotFile.{RobotFile}
 use Rattle.page.specs.declared.sheets.Sheet.{Sheet}
 use Rattle.page.specs.Orders.{setup_of}
 use Rattle.page.specs.Robots.{name_bytes, source_bytes, source_of}
-use Rattle.page.specs.Running.{Holds, IsOfRun, IsOutput, RunsRobots, blank, bytes_on, code_of, output_of, part_on, status_code}
+use Rattle.page.specs.Running.{Holds, IsFull, IsOfRun, IsOutput, RunsRobots, blank, bytes_on, code_of, output_of, part_on, status_code}
 use Rattle.page.specs.Sheets.{contents_of, told}
 
 -- two sinks of known contents
@@ -108,6 +108,17 @@ held out text faults writes =
     let lines : told faults ≡ grow.new_faults.portions = ap (λ (t : Taken). portions_in t.faults) grow.is in
     record { texts = ap concat texts ∙ grow.texts; lines = ap concat lines ∙ grow.lines }
 
+-- the lines that were put on a sheet that was blank
+pub lines_held : (pieces : List Piece) (text faults : Sheet)
+    → Writes blank (taken (contents_of text) (contents_of faults)) pieces
+    → concat (told faults) ≡ bytes_on Faults pieces
+lines_held pieces text faults writes =
+    let grow =
+    all_grow (record { portions = []; whole = false }) (record { portions = []; whole = false })
+    (taken (contents_of text) (contents_of faults)) pieces writes in
+    let lines : told faults ≡ grow.new_faults.portions = ap (λ (t : Taken). portions_in t.faults) grow.is in
+    ap concat lines ∙ grow.lines
+
 -- a run's code says what the sheets hold
 pub is_output : (order : Order) (robots : List RobotFile) (ran : Option (Result Status RunFault)) (text faults : Sheet)
     → IfSome ran (λ ran. RunsRobots order robots ran text faults) → IsOutput order robots (code_of ran) text faults
@@ -118,30 +129,24 @@ is_output order robots (Some (Err (fault.Read file))) text faults runs = λ smal
 is_output order robots (Some (Err fault.Write)) text faults runs = λ small. absurd (omega arith)
 is_output order robots (Some (Err fault.Memory)) text faults runs = λ small. absurd (omega arith)
 
--- a run over the sources of the robots, on blank sheets
-pub by_robots : (order : Order) (robots : List RobotFile) (setup : Setup) (words : List (List ℕ))
-    (known : List (Option (List ℕ)))
-    (ran : Result Status RunFault) (text faults new_text new_faults : Sheet) → setup ≡ setup_of order words
+-- what is true of all sources with the robots' names and bytes, on blank sheets, is true of those of the robots
+pub by_robots : (R : Setup → List Source → Taken → Type 0) (order : Order) (robots : List RobotFile) (setup : Setup)
+    (words : List (List ℕ)) (known : List (Option (List ℕ))) (text faults : Sheet) → setup ≡ setup_of order words
     → words ≡ map name_bytes robots → known ≡ map (λ robot. Some (source_bytes robot)) robots → told text ≡ [] →
     told faults ≡ []
     → ((sources : List Source) → AreSources sources setup.words known
-    →
-    Runs setup sources ran (taken (contents_of text) (contents_of faults))
-    (taken (contents_of new_text) (contents_of new_faults)))
-    → RunsRobots order robots ran new_text new_faults
-by_robots order robots setup words known ran text faults new_text new_faults is names bytes no_text no_faults runs =
+    → R setup sources (taken (contents_of text) (contents_of faults)))
+    → R (setup_of order (map name_bytes robots)) (map source_of robots) blank
+by_robots R order robots setup words known text faults is names bytes no_text no_faults runs =
     let whole : setup ≡ setup_of order (map name_bytes robots) = is ∙ ap (setup_of order) names in
     let named : map (λ (s : Source). s.word) (map source_of robots) ≡ setup.words =
     map-map (λ (s : Source). s.word) source_of robots ∙ sym (ap (λ (s : Setup). s.words) whole) in
     let told_bytes : map (λ (s : Source). Some s.bytes) (map source_of robots) ≡ known =
     map-map (λ (s : Source). Some s.bytes) source_of robots ∙ sym bytes in
-    let after : Taken = taken (contents_of new_text) (contents_of new_faults) in
     let before : taken (contents_of text) (contents_of faults) ≡ blank = rw (no_text, no_faults) refl in
     let all = runs (map source_of robots) (record { named = named; bytes = told_bytes }) in
-    let P : Setup → Type 0 =
-    λ s. Runs s (map source_of robots) ran (taken (contents_of text) (contents_of faults)) after in
-    let Q : Taken → Type 0 = λ b. Runs (setup_of order (map name_bytes robots)) (map source_of robots) ran b after in
-    subst Q before (subst P whole all)
+    let P : Setup → Type 0 = λ s. R s (map source_of robots) (taken (contents_of text) (contents_of faults)) in
+    subst (R (setup_of order (map name_bytes robots)) (map source_of robots)) before (subst P whole all)
 
 -- a device that never failed, at any place
 never_failed : {X : Type 0} → (feeds : List X) (n : ℕ) → get_or (map (λ _. no_device) feeds) n no_device ≡ no_device
@@ -149,13 +154,22 @@ never_failed [] n = refl
 never_failed (feed ∷ feeds) zero = refl
 never_failed (feed ∷ feeds) (suc n) = never_failed feeds n
 
--- of devices that never fail only a sink stops a run
+-- after a failed write one of the sinks has failed
+sink_failed : (before after : Failures) → SinkFailed before after → (0 < after.text) ⊎ (0 < after.faults)
+sink_failed before after (inl is) =
+    let text : after.text ≡ before.text + 1 = ap (λ (f : Failures). f.text) is in
+    inl (omega (arith, text))
+sink_failed before after (inr is) =
+    let faults : after.faults ≡ before.faults + 1 = ap (λ (f : Failures). f.faults) is in
+    inr (omega (arith, faults))
+
+-- of devices that never fail only a sink stops a run, and then one has failed
 pub only_writes : {X A : Type 0} →
     (olds news : List X) (ran : Result A RunFault) (text faults later_text later_faults : ℕ)
     →
     Accounts ran (failures (map (λ _. no_device) olds) text faults)
     (failures (map (λ _. no_device) news) later_text later_faults)
-    → IfErr ran (λ stopped. stopped ≡ fault.Write)
+    → IfErr ran (λ stopped. (stopped ≡ fault.Write) × ((0 < later_text) ⊎ (0 < later_faults)))
 only_writes olds news (Ok answer) text faults later_text later_faults accounts = tt
 only_writes olds news (Err (fault.Read file)) text faults later_text later_faults (within, is) =
     let feeds : List Account = map (λ _. no_device) olds in
@@ -164,16 +178,28 @@ only_writes olds news (Err (fault.Read file)) text faults later_text later_fault
     let counts : 0 ≡ (get_or feeds file no_device).failures + 1 =
     ap (λ (a : Account). a.failures) (sym (never_failed news file) ∙ here ∙ there) in
     absurd (omega (arith, counts))
-only_writes olds news (Err fault.Write) text faults later_text later_faults accounts = refl
+only_writes olds news (Err fault.Write) text faults later_text later_faults accounts =
+    (refl, sink_failed _ _ accounts)
 only_writes olds news (Err fault.Memory) text faults later_text later_faults accounts = absurd accounts
 
+-- a full sheet is what stopped a run
+abbrev StopsFull : {A : Type 0} → Option (Result A RunFault) → Sheet → Sheet → Type 0
+StopsFull ran text faults = IfSome ran (λ ran. IfErr ran (λ stopped. (stopped ≡ fault.Write) × IsFull text faults))
+
+-- a run whose code is 4 has left a full sheet
+pub is_full : (ran : Option (Result Status RunFault)) (text faults : Sheet) → StopsFull ran text faults
+    → code_of ran ≡ 4 → IsFull text faults
+is_full None text faults stopped is = absurd (omega (arith, is))
+is_full (Some (Ok Done)) text faults stopped is = absurd (omega (arith, is))
+is_full (Some (Ok Faulty)) text faults stopped is = absurd (omega (arith, is))
+is_full (Some (Err stop)) text faults (writes, full) is = full
+
 -- the code of a run that only a sink can have stopped
-pub is_of_run : (ran : Option (Result Status RunFault)) → IsSome ran →
-    IfSome ran (λ ran. IfErr ran (λ stopped. stopped ≡ fault.Write))
+pub is_of_run : (ran : Option (Result Status RunFault)) (text faults : Sheet) → IsSome ran → StopsFull ran text faults
     → IsOfRun (code_of ran)
-is_of_run None some stopped = absurd (cc some)
-is_of_run (Some (Ok Done)) some stopped = inl (search rules)
-is_of_run (Some (Ok Faulty)) some stopped = inl (search rules)
-is_of_run (Some (Err fault.Write)) some stopped = inr refl
-is_of_run (Some (Err (fault.Read file))) some stopped = absurd (cc stopped)
-is_of_run (Some (Err fault.Memory)) some stopped = absurd (cc stopped)
+is_of_run None text faults some stopped = absurd (cc some)
+is_of_run (Some (Ok Done)) text faults some stopped = inl (search rules)
+is_of_run (Some (Ok Faulty)) text faults some stopped = inl (search rules)
+is_of_run (Some (Err fault.Write)) text faults some stopped = inr refl
+is_of_run (Some (Err (fault.Read file))) text faults some (writes, full) = absurd (cc writes)
+is_of_run (Some (Err fault.Memory)) text faults some (writes, full) = absurd (cc writes)

@@ -1,5 +1,5 @@
 -- What a run over robots answers, and what it leaves on its sheets.
-use Rattle.std.specs.Prelude.{◌≡◌, ◌⊎◌, ◌≤◌, ℕ, All, List, [], Option, Some, None, Result, Ok, Err, IsUtf8, false, length, map}
+use Rattle.std.specs.Prelude.{◌≡◌, ◌⊎◌, ◌<◌, ◌≤◌, ℕ, All, List, [], Option, Some, None, Result, Ok, Err, IsUtf8, false, length, map}
 use Rattle.std.specs.List.{concat, flat_map}
 use Rattle.series.specs.Output.{Output, Runs, output}
 use Rattle.series.specs.Pieces.{Channel, Piece, Taken, Text, Faults, taken}
@@ -24,12 +24,16 @@ nothing = Some (record { portions = []; whole = false })
 abbrev pub blank : Taken
 blank = record { text = nothing; faults = nothing }
 
--- one to four robots, whose names are texts, and an order whose numbers are within their limits
-pub record IsAccepted (order : Order) (robots : List RobotFile) : Type 0 where
-  pub within : AreWithin order
+-- one to four robots, whose names are texts
+pub record AreNamed (robots : List RobotFile) : Type 0 where
   pub some : 1 ≤ length robots
   pub most : length robots ≤ files_max
   pub names : All (λ robot. IsUtf8 (name_bytes robot)) robots
+
+-- such robots, and an order whose numbers are within their limits
+pub record IsAccepted (order : Order) (robots : List RobotFile) : Type 0 where
+  pub within : AreWithin order
+  pub named : AreNamed robots
 
 -- what the order asks for of the robots wrote this on two sheets that were blank, and ended so
 abbrev pub RunsRobots : Order → List RobotFile → Result Status RunFault → Sheet → Sheet → Type 0
@@ -75,6 +79,10 @@ ran_code (Err stopped) = fault_code stopped
 abbrev pub code_of : Option (Result Status RunFault) → ℕ
 code_of None = 2
 code_of (Some ran) = ran_code ran
+
+-- a sheet had no room for all that was written
+abbrev pub IsFull : Sheet → Sheet → Type 0
+IsFull text faults = (0 < text.failures) ⊎ (0 < faults.failures)
 
 -- something was run: it ended, or a sheet was full
 abbrev pub IsOfRun : ℕ → Type 0

@@ -1,8 +1,8 @@
 //! The calls of the module.
 
-ghost use Rattle.std.specs.Prelude.{◌≡◌};
-ghost use Rattle.page.specs.Films.{IsOfFilm, IsOfShown, IsOfWindows, film_code};
-ghost use Rattle.page.specs.Running.{IsAccepted, IsOfRun, IsOutput, code_of};
+ghost use Rattle.std.specs.Prelude.{◌≡◌, ◌≢◌};
+ghost use Rattle.page.specs.Films.{IsFilm, IsOfFilm, IsOfShown, IsOfWindows, film_code};
+ghost use Rattle.page.specs.Running.{IsAccepted, IsFull, IsOfRun, IsOutput, code_of};
 
 use crate::filming::film_robots;
 use crate::films::Shown;
@@ -29,7 +29,9 @@ pub extern "C" fn run(
     faults: &mut Sheet,
 ) -> u32
     ensures output { IsOutput order.now robots.now result text.new faults.new }
+    ensures full { result ≡ 4 → IsFull text.new faults.new }
     ensures accepted { IsAccepted order.now robots.now → IsOfRun result }
+    ensures refused { result ≢ 2 → IsAccepted order.now robots.now }
 {
     code(run_robots(order, robots, text, faults))
 }
@@ -43,8 +45,10 @@ pub extern "C" fn film(
     text: &mut Sheet,
     faults: &mut Sheet,
 ) -> u32
+    ensures film { IsFilm order.now robots.now result text.new faults.new }
     ensures codes { IsOfFilm result }
     ensures accepted { IsAccepted order.now robots.now → IsOfRun result }
+    ensures refused { result ≢ 2 → IsAccepted order.now robots.now }
 {
     match film_code(film_robots(order, robots, None, text, faults)) {
         GOES_ON => 0,
@@ -68,8 +72,10 @@ pub extern "C" fn film_windows(
     from: u32,
     windows: u32,
 ) -> u32
+    ensures film { IsFilm order.now robots.now result text.new faults.new }
     ensures codes { IsOfWindows result }
     ensures accepted { IsAccepted order.now robots.now → IsOfShown result }
+    ensures refused { result ≢ 2 → IsAccepted order.now robots.now }
 {
     let stretch = Some(Stretch { from, windows });
     film_code(film_robots(order, robots, stretch, text, faults))

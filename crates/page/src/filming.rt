@@ -1,7 +1,12 @@
 //! Films of the matches of robots in memory, and where their instructions come from.
 
-ghost use Rattle.std.specs.Prelude.{◌≡◌, ◌<◌, ◌≤◌, All, IfErr, IfOk, IfSome, IsSome, false, length};
-ghost use Rattle.page.specs.Running.{IsAccepted};
+ghost use Rattle.std.specs.Prelude.{◌≡◌, ◌≢◌, ◌<◌, ◌≤◌, All, IfErr, IfOk, IfSome, IsSome, List, Some, false, length, map};
+ghost use Rattle.series.specs.Compiling.{Source};
+ghost use Rattle.series.specs.Pieces.{taken};
+ghost use Rattle.series.specs.Runs.{AreSources, Compiles};
+ghost use Rattle.page.specs.Films.{FilmsRobots};
+ghost use Rattle.page.specs.Running.{IsAccepted, IsFull};
+ghost use Rattle.page.specs.Sheets.{contents_of};
 
 use crate::films::{Film, Functions, Shown};
 use crate::orders::Order;
@@ -31,8 +36,9 @@ pub fn film_robots(
     film: &mut Sheet,
     faults: &mut Sheet,
 ) -> Option<Result<Shown, RunFault>>
+    ensures films { IfSome result (λ ran. FilmsRobots order.now robots.now ran film.new faults.new) }
     ensures accepted { IsAccepted order.now robots.now → IsSome result }
-    ensures stopped { IfSome result (λ ran. IfErr ran (λ fault. fault ≡ RunFault.Write)) }
+    ensures refused { IsSome result → IsAccepted order.now robots.now }
 {
     film.clear();
     faults.clear();
@@ -40,20 +46,23 @@ pub fn film_robots(
     let settings = order.settings(words.as_slice())?;
     let mut feeds = feeds_of(robots)?;
     let functions = functions_of(settings.profile(), robots)?;
-    match compile_feeds(&settings, feeds.as_mut_slice(), film, faults) {
-        Ok(Some(programs)) => {
-            let places = places_of(&programs, robots);
-            film.clear();
-            let (functions, places) = (functions.as_slice(), places.as_slice());
-            Some(match settings.mode() {
-                Mode::Listing => list_places(places, film),
-                Mode::Matches => {
-                    let film = Film::new(film, functions, places, stretch, order.skipped);
-                    film_match(&settings, &programs, film)
-                }
-            })
+    let programs = match compile_feeds(&settings, feeds.as_mut_slice(), film, faults) {
+        Ok(Some(programs)) => programs,
+        Ok(None) => return Some(Ok(Shown::Faulty)),
+        Err(fault) => return Some(Err(fault)),
+    };
+    let places = places_of(&programs, robots);
+    film.clear();
+    let (functions, places) = (functions.as_slice(), places.as_slice());
+    let shown = match settings.mode() {
+        Mode::Listing => list_places(places, film),
+        Mode::Matches => {
+            let film = Film::new(film, functions, places, stretch, order.skipped);
+            film_match(&settings, &programs, film)
         }
-        Ok(None) => Some(Ok(Shown::Faulty)),
+    };
+    match film.ending() {
+        Ok(_) => Some(Ok(shown)),
         Err(fault) => Some(Err(fault)),
     }
 }
@@ -69,19 +78,23 @@ fn compile_feeds(
     requires not_ended { All (λ feed. feed.ended ≡ false) feeds.old }
     requires text { text.old.failures ≡ 0 }
     requires faults { faults.old.failures ≡ 0 }
+    ensures output { (sources : List Source)
+        → AreSources sources settings.now.words (map (λ feed. Some feed.rest.now) feeds.old)
+        → Compiles settings.now sources result (taken (contents_of text.old) (contents_of faults.old))
+        (taken (contents_of text.new) (contents_of faults.new)) }
     ensures manned { IfOk result (λ programs. IfSome programs
         (λ programs. length programs ≡ length settings.now.words)) }
-    ensures stopped { IfErr result (λ fault. fault ≡ RunFault.Write) }
+    ensures stopped { IfErr result (λ fault. (fault ≡ RunFault.Write) × IsFull text.new faults.new) }
 {
     compile_files(settings, feeds, text, faults)
 }
 
 /// Writes the places of the instructions of each file on a blank sheet.
-fn list_places(files: &[Option<Places>], sheet: &mut Sheet) -> Result<Shown, RunFault>
-    ensures fault { IfErr result (λ fault. fault ≡ RunFault.Write) }
+fn list_places(files: &[Option<Places>], sheet: &mut Sheet) -> Shown
+    ensures { result ≡ Shown.Over }
 {
-    tell_places(files, sheet)?;
-    Ok(Shown::Over)
+    tell_places(files, sheet);
+    Shown::Over
 }
 
 /// Returns the names of the functions of at most four robots.
@@ -108,13 +121,9 @@ fn functions_in(profile: Profile, source: &[u8]) -> Functions {
 }
 
 /// Plays the first match of these programs, and writes its film.
-fn film_match(
-    settings: &Settings<'_>,
-    programs: &Programs,
-    mut film: Film<'_>,
-) -> Result<Shown, RunFault>
+fn film_match(settings: &Settings<'_>, programs: &Programs, mut film: Film<'_>) -> Shown
     requires { 0 < length programs.now }
-    ensures fault { IfErr result (λ fault. fault ≡ RunFault.Write) }
+    ensures { result ≢ Shown.Faulty }
 {
     let cycles = play_programs(settings, programs, &mut film);
     film.end(cycles, settings.limit())

@@ -1,6 +1,6 @@
 //! Films of matches: what there is to see of one, row by row.
 
-ghost use Rattle.std.specs.Prelude.{◌≡◌, ◌<◌, ◌≤◌, IfErr, length};
+ghost use Rattle.std.specs.Prelude.{◌≡◌, ◌≢◌, ◌<◌, ◌≤◌, length};
 
 use crate::missiles::Missile;
 use crate::rows::{Field, Row};
@@ -13,7 +13,7 @@ use derivations::Places;
 use findings::{Loss, Seen, Source, Stance, function_at, losses};
 use grammar::MOST_NAMES;
 use playing::{Pilot, Question, Turn, UPDATE_CYCLES, Watcher};
-use series::{CYCLES_MAX, RunFault};
+use series::CYCLES_MAX;
 use tokens::Name;
 use trails::Place;
 
@@ -77,16 +77,15 @@ impl<'a> Film<'a> {
     }
 
     /// Ends the film after the last cycle that was played, of at most so many: if the match is over, with where the robots'
-    /// ways end, and their damages. The error is that the sheet was full.
-    pub(crate) fn end(mut self, cycle: u32, limit: u32) -> Result<Shown, RunFault>
-        ensures fault { IfErr result (λ fault. fault ≡ RunFault.Write) }
+    /// ways end, and their damages.
+    pub(crate) fn end(mut self, cycle: u32, limit: u32) -> Shown
+        ensures { result ≢ Shown.Faulty }
     {
-        let is_over = self.is_over(cycle, limit);
-        if is_over {
-            self.tell_ends(cycle);
+        if !self.is_over(cycle, limit) {
+            return Shown::GoesOn;
         }
-        self.sheet.ending()?;
-        Ok(if is_over { Shown::Over } else { Shown::GoesOn })
+        self.tell_ends(cycle);
+        Shown::Over
     }
 
     /// Reports whether the match is over, and not only the stretch. A whole film is never ended before.

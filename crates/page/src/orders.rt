@@ -35,6 +35,7 @@ impl Order {
         requires some { 0 < length words.now }
         ensures value { IfSome result (λ settings. settings ≡ setup_of self.now (map (λ word. word.now) words.now)) }
         ensures accepted { AreWithin self.now → length words.now ≤ FILES_MAX → IsSome result }
+        ensures within { IsSome result → AreWithin self.now }
     {
         if !self.is_within() {
             return None;

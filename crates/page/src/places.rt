@@ -1,6 +1,6 @@
 //! The place in its source that each instruction of a robot comes from.
 
-ghost use Rattle.std.specs.Prelude.{◌≡◌, ◌≤◌, All, IfErr, IfSome, length};
+ghost use Rattle.std.specs.Prelude.{◌≡◌, ◌≤◌, All, IfSome, length};
 
 use crate::robots::RobotFile;
 use crate::rows::{Field, Row};
@@ -8,7 +8,7 @@ use crate::sheets::Sheet;
 use arrayvec::ArrayVec;
 use code::Program;
 use derivations::{Places, lines};
-use series::{FILES_MAX, Programs, RunFault, Status};
+use series::{FILES_MAX, Programs};
 
 /// The first line of a list of places: the names of its columns.
 const COLUMNS: &[u8] = b"address\trobot\tkind\tline\tcolumn\n";
@@ -41,16 +41,13 @@ fn places_in(program: &Program, source: &[u8]) -> Option<Places>
 }
 
 /// Writes the places of the instructions of each file on a blank sheet, a row each.
-pub(crate) fn tell_places(files: &[Option<Places>], sheet: &mut Sheet) -> Result<Status, RunFault>
-    ensures fault { IfErr result (λ fault. fault ≡ RunFault.Write) }
-{
+pub(crate) fn tell_places(files: &[Option<Places>], sheet: &mut Sheet) {
     sheet.add(COLUMNS);
     for (robot, file) in files.iter().enumerate() {
         if let Some(places) = file {
             tell_file(robot, places, sheet);
         }
     }
-    sheet.ending()
 }
 
 /// Writes the places of a file's instructions.

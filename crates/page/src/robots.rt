@@ -29,6 +29,7 @@ impl RobotFile {
     pub fn name(&self) -> Option<&str>
         ensures name { IfSome result (λ name. name.now ≡ name_bytes self.now) }
         ensures text { IsUtf8 (name_bytes self.now) → IsSome result }
+        ensures no_text { IsSome result → IsUtf8 (name_bytes self.now) }
     {
         let size = (self.name_size as usize).min(NAME_MAX);
         str::from_utf8(&self.name[..size]).ok()

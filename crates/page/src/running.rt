@@ -6,7 +6,7 @@ ghost use Rattle.series.specs.Output.{Runs};
 ghost use Rattle.series.specs.Pieces.{taken};
 ghost use Rattle.series.specs.Runs.{AreSources};
 ghost use Rattle.page.specs.Robots.{name_bytes, source_bytes};
-ghost use Rattle.page.specs.Running.{IsAccepted, RunsRobots};
+ghost use Rattle.page.specs.Running.{AreNamed, IsAccepted, IsFull, RunsRobots};
 ghost use Rattle.page.specs.Sheets.{contents_of};
 
 use crate::orders::Order;
@@ -28,7 +28,8 @@ pub fn run_robots(
 ) -> Option<Result<Status, RunFault>>
     ensures runs { IfSome result (λ ran. RunsRobots order.now robots.now ran text.new faults.new) }
     ensures accepted { IsAccepted order.now robots.now → IsSome result }
-    ensures stopped { IfSome result (λ ran. IfErr ran (λ fault. fault ≡ RunFault.Write)) }
+    ensures refused { IsSome result → IsAccepted order.now robots.now }
+    ensures stopped { IfSome result (λ ran. IfErr ran (λ fault. (fault ≡ RunFault.Write) × IsFull text.new faults.new)) }
 {
     text.clear();
     faults.clear();
@@ -42,8 +43,8 @@ pub fn run_robots(
 pub(crate) fn words_of(robots: &[RobotFile]) -> Option<ArrayVec<&str, FILES_MAX>>
     ensures names { IfSome result (λ words. map (λ word. word.now) words.items ≡ map name_bytes robots.now) }
     ensures some { IfSome result (λ words. 1 ≤ length words.items) }
-    ensures accepted { All (λ robot. IsUtf8 (name_bytes robot)) robots.now → 1 ≤ length robots.now
-        → length robots.now ≤ FILES_MAX → IsSome result }
+    ensures accepted { AreNamed robots.now → IsSome result }
+    ensures refused { IsSome result → AreNamed robots.now }
 {
     if robots.is_empty() {
         return None;
@@ -80,7 +81,7 @@ fn run_feeds(
     requires not_ended { All (λ feed. feed.ended ≡ false) feeds.old }
     requires text { text.old.failures ≡ 0 }
     requires faults { faults.old.failures ≡ 0 }
-    ensures stopped { IfErr result (λ fault. fault ≡ RunFault.Write) }
+    ensures stopped { IfErr result (λ fault. (fault ≡ RunFault.Write) × IsFull text.new faults.new) }
     ensures output { (sources : List Source)
         → AreSources sources settings.now.words (map (λ feed. Some feed.rest.now) feeds.old)
         → Runs settings.now sources result (taken (contents_of text.old) (contents_of faults.old))

@@ -1,6 +1,6 @@
-use Rattle.std.proofs.Common.{sym, subst, ℕ}
+use Rattle.std.proofs.Common.{sym, subst, ℕ, ◌∙◌}
 use Rattle.page.specs.Running.{IsOfRun, IsOutput}
-use Rattle.page.proofs.RunningLemmas.{is_of_run, is_output}
+use Rattle.page.proofs.RunningLemmas.{is_full, is_of_run, is_output}
 use Rattle.page.proofs.exports.run.Goals as goal
 
 pub returns-clause-output : goal.returns-clause-output
@@ -13,4 +13,10 @@ returns-clause-output c =
 pub returns-clause-accepted : goal.returns-clause-accepted
 returns-clause-accepted c accepted =
     subst (λ (n : ℕ). IsOfRun n) (sym c.code.ensures)
-    (is_of_run c.run_robots.result (c.run_robots.ensures.accepted accepted) c.run_robots.ensures.stopped)
+    (is_of_run c.run_robots.result c.run_robots.new.text c.run_robots.new.faults
+    (c.run_robots.ensures.accepted accepted) c.run_robots.ensures.stopped)
+
+pub returns-clause-full : goal.returns-clause-full
+returns-clause-full c is =
+    is_full c.run_robots.result c.run_robots.new.text c.run_robots.new.faults c.run_robots.ensures.stopped
+    (sym c.code.ensures ∙ is)
