@@ -10,7 +10,7 @@ use Rattle.grammar.specs.Tree.{File}
 use Rattle.settings.specs.declared.settings.Mode.TheVariants.{Matches}
 use Rattle.settings.specs.Setup.{Setup}
 use Rattle.series.specs.declared.endings.Status.TheVariants.{Done}
-use Rattle.series.specs.Compiling.{Source, and_file, code_or_fault, compiling, files_of, pieces_of, status_of}
+use Rattle.series.specs.Compiling.{Source, and_file, compiling, files_of, pieces_of, status_of}
 use Rattle.series.specs.Output.{output, played}
 use Rattle.series.specs.Pieces.{Piece}
 use Rattle.series.specs.Outcomes.{outcome_of, report_text, totals_text}

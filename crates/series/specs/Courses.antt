@@ -42,12 +42,6 @@ score_at tally i = get_or tally.scores i no_score
 abbrev pub IsTallyOf : Tallied → List Outcome → Type 0
 IsTallyOf tally outcomes = (i : ℕ) → i < 4 → score_at tally i ≡ score_of outcomes i
 
--- the course of a series: what it is asked to do, what was counted, and whether a write has failed
-pub record Course : Type 0 where
-  pub setup : Setup
-  pub tally : Tallied
-  pub failed : Bool
-
 -- a series: what it is asked to do, its programs, how many matches were played, and whether a write has failed
 pub record Standing : Type 0 where
   pub setup : Setup

@@ -1,7 +1,8 @@
 -- Which devices failed, and how often.
-use Rattle.std.specs.Prelude.{◌≡◌, ◌⊎◌, ℕ, ◌+◌, ◌-◌, ◌^◌, ◌<◌, Bool, false, List, Result, MatchResult, All, IfOk, length, slice_index_or, slice_set}
+use Rattle.std.specs.Prelude.{◌≡◌, ◌⊎◌, ℕ, ◌+◌, ◌-◌, ◌^◌, ◌<◌, Bool, false, true, List, Result, MatchResult, All, IfOk, is_err, length, slice_index_or, slice_set}
 use Rattle.tokens.specs.declared.devices.DeviceFault.{DeviceFault}
 use Rattle.tokens.specs.Feed.{Account, Counts, failed_again}
+use Rattle.sinks.specs.Portions.{Portions}
 use Rattle.series.specs.declared.endings.RunFault.{RunFault}
 use Rattle.series.specs.declared.endings.RunFault.TheVariants as fault
 
@@ -41,6 +42,12 @@ Accounts result before after = MatchResult result (λ _. after ≡ before) (λ f
 -- the sink failed once if the call failed, and else not
 abbrev pub CountsSink : {T E : Type 0} → Result T E → ℕ → ℕ → Type 0
 CountsSink result before after = MatchResult result (λ _. after ≡ before) (λ _. after ≡ before + 1)
+
+-- A sink fails once for all: a call that asks it fails exactly if it does. After that each call fails, and it is asked
+-- no more.
+abbrev pub FailsOnce : {T E : Type 0} → Bool → Result T E → Portions → ℕ → Portions → ℕ → Type 0
+FailsOnce false result before n after m = CountsSink result n m
+FailsOnce true result before n after m = (is_err result ≡ true) × (after ≡ before) × (m ≡ n)
 
 -- no sink failed, or one of them once
 abbrev pub CountsSinks : {T E : Type 0} → Result T E → ℕ → ℕ → ℕ → ℕ → Type 0

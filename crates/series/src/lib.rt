@@ -2,7 +2,6 @@
 #![tactic(auto)]
 
 mod compiling;
-mod courses;
 mod endings;
 mod keeping;
 mod known;

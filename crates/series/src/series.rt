@@ -1,20 +1,22 @@
-//! Series of matches.
+//! Series of matches: match after match, each report before the next match, and then the totals.
 
 ghost use Rattle.std.specs.Prelude.{◌≡◌, ℕ, ◌+◌, ◌-◌, ◌^◌, ◌<◌, ◌≤◌, List, length, is_err, nat_eq, false, true, IfOk};
 ghost use Rattle.battles.specs.Programs.{AreOfProfile};
 ghost use Rattle.code.specs.Codes.{AreCodesOf};
 ghost use Rattle.grammar.specs.Tree.{File};
 ghost use Rattle.series.specs.Courses.{IsTallyOf, next_text, played_after, step_of};
-ghost use Rattle.series.specs.Failures.{CountsSink};
+ghost use Rattle.series.specs.Failures.{FailsOnce};
 ghost use Rattle.series.specs.Outcomes.{outcomes, totals_text};
 ghost use Rattle.sinks.specs.Portions.{Puts};
 
-use crate::courses::Course;
 use crate::endings::{SeriesFault, Step};
-use battles::{Machines, Programs};
+use crate::reports::put_report;
+use crate::tallies::{Tally, put_totals};
+use battles::{Machines, Programs, battle};
 use settings::Settings;
 use sinks::Sink;
 use std::marker::Model;
+use tokens::DeviceFault;
 
 /// A series of matches between the robots of one to four programs. A single program plays against itself.
 ///
@@ -24,11 +26,13 @@ use std::marker::Model;
 pub struct Series<'a> {
     programs: &'a Programs,
     machines: Machines,
-    course: Course<'a>,
+    settings: &'a Settings<'a>,
+    tally: Tally,
+    failed: bool,
 }
 
 impl<'a> Model for Series<'a> {
-    ghost use Rattle.std.specs.Prelude.{◌≡◌, List, length};
+    ghost use Rattle.std.specs.Prelude.{◌≡◌, ◌≤◌, List, length};
     ghost use Rattle.battles.specs.Programs.{AreOfProfile};
     ghost use Rattle.code.specs.Codes.{AreCodesOf};
     ghost use Rattle.grammar.specs.Tree.{File};
@@ -38,16 +42,17 @@ impl<'a> Model for Series<'a> {
     ghost Value = { Standing };
 
     ghost view = { λ s. record {
-      setup = s.course.setup;
+      setup = s.settings.now;
       codes = s.programs.now;
-      played = s.course.tally.matches;
-      failed = s.course.failed;
+      played = s.tally.matches;
+      failed = s.failed;
     } };
 
-    ghost invariant = { λ s. (length s.programs.now ≡ length s.course.setup.words)
-        × AreOfProfile s.course.setup.profile s.programs.now
-        × ((files : List File) → AreCodesOf s.programs.now s.course.setup.profile files
-        → IsTallyOf s.course.tally (outcomes s.course.setup files s.course.tally.matches)) };
+    ghost invariant = { λ s. (length s.programs.now ≡ length s.settings.now.words)
+        × AreOfProfile s.settings.now.profile s.programs.now
+        × (s.tally.matches ≤ s.settings.now.matches)
+        × ((files : List File) → AreCodesOf s.programs.now s.settings.now.profile files
+        → IsTallyOf s.tally (outcomes s.settings.now files s.tally.matches)) };
 }
 
 impl<'a> Series<'a> {
@@ -61,7 +66,9 @@ impl<'a> Series<'a> {
         Series {
             programs,
             machines: Machines::default(),
-            course: Course::new(settings),
+            settings,
+            tally: Tally::new(),
+            failed: false,
         }
     }
 
@@ -80,12 +87,29 @@ impl<'a> Series<'a> {
             → AreCodesOf self.old.codes self.old.setup.profile files
             → Puts result (S.portions out.old) (S.failures out.old) (S.portions out.new) (S.failures out.new)
             (next_text self.old.setup files self.old.played) }
-        ensures count { self.old.failed ≡ false → CountsSink result (S.failures out.old) (S.failures out.new) }
         ensures over { IfOk result (λ step. step ≡ Step.Over → S.portions out.new ≡ S.portions out.old) }
-        ensures stopped { self.old.failed ≡ true → is_err result ≡ true
-            × (S.portions out.new ≡ S.portions out.old) × (S.failures out.new ≡ S.failures out.old) }
+        ensures fails { FailsOnce self.old.failed result
+            (S.portions out.old) (S.failures out.old) (S.portions out.new) (S.failures out.new) }
     {
-        self.course.next(self.programs, &mut self.machines, out)
+        if self.failed {
+            return Err(SeriesFault::Write);
+        }
+        if self.is_over() {
+            return Ok(Step::Over);
+        }
+        let number = self.settings.first() + self.tally.matches();
+        let (seed, limit) = (self.settings.seed(), self.settings.limit());
+        let outcome = battle(self.programs, &mut self.machines, seed, number, limit);
+        match put_report(out, number, &outcome, self.settings.words()) {
+            Ok(()) => {
+                self.tally.count(&outcome);
+                Ok(Step::Played(number))
+            }
+            Err(DeviceFault) => {
+                self.failed = true;
+                Err(SeriesFault::Write)
+            }
+        }
     }
 
     /// Writes the totals of the series, all of whose matches were played.
@@ -101,24 +125,32 @@ impl<'a> Series<'a> {
             → AreCodesOf self.old.codes self.old.setup.profile files
             → Puts result (S.portions out.old) (S.failures out.old) (S.portions out.new) (S.failures out.new)
             (totals_text self.old.setup files) }
-        ensures count { self.old.failed ≡ false → CountsSink result (S.failures out.old) (S.failures out.new) }
-        ensures stopped { self.old.failed ≡ true → is_err result ≡ true
-            × (S.portions out.new ≡ S.portions out.old) × (S.failures out.new ≡ S.failures out.old) }
+        ensures fails { FailsOnce self.old.failed result
+            (S.portions out.old) (S.failures out.old) (S.portions out.new) (S.failures out.new) }
     {
-        self.course.finish(out)
+        if self.has_failed() {
+            return Err(SeriesFault::Write);
+        }
+        match put_totals(out, &self.tally, self.settings.words()) {
+            Ok(()) => Ok(()),
+            Err(DeviceFault) => {
+                self.failed = true;
+                Err(SeriesFault::Write)
+            }
+        }
     }
 
     /// Reports whether all matches were played.
     pub fn is_over(&self) -> bool
         ensures { result ≡ nat_eq self.now.played self.now.setup.matches }
     {
-        self.course.is_over()
+        self.tally.matches() == self.settings.matches()
     }
 
     /// Reports whether a write has failed.
     pub fn has_failed(&self) -> bool
         ensures { result ≡ self.now.failed }
     {
-        self.course.has_failed()
+        self.failed
     }
 }

@@ -14,7 +14,7 @@ loop-preserved g c =
     plays settings c.loop.counter c.in_default.field-0 left (rw standing at c.in_default.ensures.step) in
     record {
       standing = rw (standing, step) at c.in_default.ensures.after;
-      calm = (rw standing at c.in_default.ensures.count) refl ∙ c.loop.invariant.calm;
+      calm = (rw standing at c.in_default.ensures.fails) ∙ c.loop.invariant.calm;
       writes = λ files faults are.
           report_written settings files c.loop.counter (settings.first + c.loop.counter) _ _ _ faults refl
           (c.loop.invariant.writes files faults are)
