@@ -1,8 +1,15 @@
 -- How the program ends.
 use Rattle.std.specs.Prelude.{◌≡◌, ◌⊎◌, ℕ, ◌+◌, List, [], ◌∷◌, ◌++◌, codes}
 use Rattle.sinks.specs.Portions.{Portions, Takes, TakesFront}
+use Rattle.std.specs.declared.io.ErrorKind.{ErrorKind}
+use Rattle.std.specs.declared.io.ErrorKind.TheVariants as kind
 use Rattle.command.specs.declared.endings.Ending.{Ending}
 use Rattle.command.specs.declared.endings.Ending.TheVariants.{Done, Faulty, WrongUsage, CannotOpen, CannotRead, CannotWrite, OutOfMemory}
+
+-- how the program ends if its words were not read: words that are no text are wrong usage
+abbrev pub unread_ending : ErrorKind → Ending
+unread_ending kind.OutOfMemory = OutOfMemory
+unread_ending _ = WrongUsage
 
 -- the exit status
 abbrev pub status_of : Ending → ℕ

@@ -1,5 +1,5 @@
 -- How the program ends, by what the words ask for, what the files hold, and which can't be opened.
-use Rattle.std.specs.Prelude.{◌≡◌, ◌⊎◌, ℕ, List, Option, Some, Result, Ok, Err, All, map, slice_get, take}
+use Rattle.std.specs.Prelude.{◌≡◌, ◌⊎◌, ◌<◌, ◌≤◌, ℕ, List, Option, Some, Result, Ok, Err, All, IsErr, map, slice_get, take}
 use Rattle.std.specs.Borrow.{Bor}
 use Rattle.series.specs.declared.endings.RunFault.{RunFault}
 use Rattle.series.specs.declared.endings.RunFault.TheVariants as fault
@@ -73,3 +73,15 @@ pub record Concludes (files : Files) (asked : Result Setup UseFault) (result : �
   pub front : TakesFront between.faults after.faults (line_of ending)
   pub whole : failed_after ≡ failed → Takes between.faults after.faults (line_of ending)
   pub status : result ≡ status_of ending
+
+-- a status is at most 5, it is 2 only of refused words, and these give no other but 5
+pub record IsStatusOf (asked : Result Setup UseFault) (status : ℕ) : Type 0 where
+  pub within : status ≤ 5
+  pub refused : IsErr asked → (status ≡ 2) ⊎ (status ≡ 5)
+  pub only_refused : status ≡ 2 → IsErr asked
+
+-- A status of 0 or 1 says that no write failed on the two channels, and 4 that one did. The counts say how often each
+-- had failed before, and has failed after.
+pub record TellsWrites (status text faults later_text later_faults : ℕ) : Type 0 where
+  pub whole : status ≤ 1 → (later_text ≡ text) × (later_faults ≡ faults)
+  pub cut : status ≡ 4 → (text < later_text) ⊎ (faults < later_faults)

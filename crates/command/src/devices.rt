@@ -1,9 +1,10 @@
 //! Real files and streams as the devices of a run.
 
 ghost use Rattle.std.specs.Prelude.{◌≡◌, ◌≢◌, ℕ, ◌+◌, ◌-◌, ◌^◌, ◌<◌, ◌≤◌, None, false, length, take, IfOk, OnOk, OnErr};
+ghost use Rattle.series.specs.Failures.{CountsSink};
 ghost use Rattle.tokens.specs.Feed.{Counts, MayRead, gives_none};
 ghost use Rattle.command.specs.Files.{real_account};
-ghost use Rattle.std.specs.Io.KnownBytes.{Appends, Consumes, IsAtEnd, Keeps};
+ghost use Rattle.command.specs.Bytes.{AddsTo, TakesFrom};
 
 use series::Sink;
 use std::io::{Read, Write};
@@ -43,11 +44,7 @@ impl<F: Read> Feed for FileFeed<F> {
         requires ready { MayRead (real_account self.old.failures) self.old.ended }
         ensures within { IfOk result (λ n. n ≤ length buf.old) }
         ensures count { Counts result (real_account self.old.failures) (real_account self.new.failures) }
-        // A file whose bytes are known has then lost those that were given, and gives none only at its end.
-        ensures given { IfOk result (λ n. Consumes (F.remaining self.old.file) (F.remaining self.new.file)
-            (take n buf.new)) }
-        ensures ends { IfOk result (λ n. n ≡ 0 → IsAtEnd (F.remaining self.new.file)) }
-        ensures kept { OnErr result (Keeps (F.remaining self.old.file) (F.remaining self.new.file)) }
+        ensures bytes { TakesFrom result buf.new (F.remaining self.old.file) (F.remaining self.new.file) }
         ensures ended { self.new.ended ≡ gives_none result }
     {
         match self.file.read(buf) {
@@ -134,12 +131,8 @@ impl<W: Write> Sink for StreamSink<W> {
         requires countable { self.old.failures < 2 ^ 64 - 1 }
         ensures some { IfOk result (λ n. 0 < n) }
         ensures front { IfOk result (λ n. n ≤ length bytes.now) }
-        ensures calm { OnOk result (self.new.failures ≡ self.old.failures) }
-        ensures counted { OnErr result (self.new.failures ≡ self.old.failures + 1) }
-        // A stream whose bytes are known holds then those that were taken.
-        ensures written { IfOk result (λ n. Appends (W.contents self.old.stream) (W.contents self.new.stream)
-            (take n bytes.now)) }
-        ensures kept { OnErr result (Keeps (W.contents self.old.stream) (W.contents self.new.stream)) }
+        ensures count { CountsSink result self.old.failures self.new.failures }
+        ensures bytes { AddsTo result bytes.now (W.contents self.old.stream) (W.contents self.new.stream) }
     {
         match self.stream.write(bytes) {
             Ok(n) if n > 0 => Ok(n),

@@ -4,9 +4,9 @@ ghost use Rattle.std.specs.Prelude.{◌≡◌, ◌≢◌, ◌⊎◌, ◌-◌, �
 ghost use Rattle.std.specs.IoError.{error_kind};
 ghost use Rattle.series.specs.Pieces.{taken};
 ghost use Rattle.arguments.specs.Asked.{asked};
-ghost use Rattle.command.specs.Endings.{IsEnded};
+ghost use Rattle.command.specs.Endings.{IsEnded, unread_ending};
 ghost use Rattle.command.specs.Files.{real_files};
-ghost use Rattle.command.specs.Whole.{Concludes};
+ghost use Rattle.command.specs.Whole.{Concludes, IsStatusOf, TellsWrites};
 
 use crate::endings::Ending;
 use crate::running::program;
@@ -28,22 +28,15 @@ pub fn program_of<R: Files + AllocGlobal, O: Sink, E: Sink>(
 ) -> u8
     requires text { O.failures out.old < 2 ^ 64 - 1 }
     requires faults { E.failures err.old < 2 ^ 64 - 2 }
-    ensures within { result ≤ 5 }
-    ensures usage { IfOk words (λ all. IsErr (asked (drop 1 (map string_bytes all.items)))
-        → (result ≡ 2) ⊎ (result ≡ 5)) }
-    ensures only_usage { IfOk words (λ all. result ≡ 2 → IsErr (asked (drop 1 (map string_bytes all.items)))) }
-    ensures whole { result ≤ 1 → (O.failures out.new ≡ O.failures out.old) × (E.failures err.new ≡ E.failures err.old) }
-    ensures write { result ≡ 4 → (O.failures out.old < O.failures out.new) ⊎ (E.failures err.old < E.failures err.new) }
+    ensures status { IfOk words (λ all. IsStatusOf (asked (drop 1 (map string_bytes all.items))) result) }
+    ensures writes { TellsWrites result (O.failures out.old) (E.failures err.old) (O.failures out.new)
+        (E.failures err.new) }
     ensures read { IfOk words (λ all. Concludes real_files (asked (drop 1 (map string_bytes all.items))) result
         (taken (O.portions out.old) (E.portions err.old)) (taken (O.portions out.new) (E.portions err.new))
         (E.failures err.old) (E.failures err.new)) }
-    ensures no_text { IfErr words (λ fault. error_kind fault ≢ ErrorKind.OutOfMemory →
-        IsEnded Ending.WrongUsage result (E.portions err.old) (E.failures err.old)
+    ensures unread { IfErr words (λ fault. (O.portions out.new ≡ O.portions out.old)
+        × IsEnded (unread_ending (error_kind fault)) result (E.portions err.old) (E.failures err.old)
         (E.portions err.new) (E.failures err.new)) }
-    ensures no_memory { IfErr words (λ fault. error_kind fault ≡ ErrorKind.OutOfMemory →
-        IsEnded Ending.OutOfMemory result (E.portions err.old) (E.failures err.old)
-        (E.portions err.new) (E.failures err.new)) }
-    ensures quiet { OnErr words (O.portions out.new ≡ O.portions out.old) }
 {
     match words {
         Ok(words) => match borrowed(rt, words.as_slice()) {
@@ -56,8 +49,7 @@ pub fn program_of<R: Files + AllocGlobal, O: Sink, E: Sink>(
 
 /// Returns how the program ends if its words were not read.
 fn unread(kind: ErrorKind) -> Ending<'static>
-    ensures no_text { kind ≢ ErrorKind.OutOfMemory → result ≡ Ending.WrongUsage }
-    ensures no_memory { kind ≡ ErrorKind.OutOfMemory → result ≡ Ending.OutOfMemory }
+    ensures { result ≡ unread_ending kind }
 {
     match kind {
         ErrorKind::OutOfMemory => Ending::OutOfMemory,

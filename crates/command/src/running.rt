@@ -6,7 +6,7 @@ ghost use Rattle.series.specs.Failures.{AreReady, failures};
 ghost use Rattle.arguments.specs.Asked.{asked};
 ghost use Rattle.command.specs.Endings.{Accounts};
 ghost use Rattle.command.specs.Files.{EachShows, HasFailed, files, real_files};
-ghost use Rattle.command.specs.Whole.{Concludes, Ends, IsNotOpened, RunsTo};
+ghost use Rattle.command.specs.Whole.{Concludes, Ends, IsNotOpened, IsStatusOf, RunsTo, TellsWrites};
 
 use crate::endings::Ending;
 use crate::openers::{Disk, OpenFault, Opener};
@@ -27,13 +27,9 @@ pub fn program<'a, R: Files + AllocGlobal, O: Sink, E: Sink>(
 ) -> u8
     requires text { O.failures out.old < 2 ^ 64 - 1 }
     requires faults { E.failures err.old < 2 ^ 64 - 2 }
-    ensures within { result ≤ 5 }
-    // Status 2 comes only of refused words, and these give no other but 5.
-    ensures usage { IsErr (asked (map (λ word. word.now) words.now)) → (result ≡ 2) ⊎ (result ≡ 5) }
-    ensures only_usage { result ≡ 2 → IsErr (asked (map (λ word. word.now) words.now)) }
-    // If the status says that all was written, no write failed.
-    ensures whole { result ≤ 1 → (O.failures out.new ≡ O.failures out.old) × (E.failures err.new ≡ E.failures err.old) }
-    ensures write { result ≡ 4 → (O.failures out.old < O.failures out.new) ⊎ (E.failures err.old < E.failures err.new) }
+    ensures status { IsStatusOf (asked (map (λ word. word.now) words.now)) result }
+    ensures writes { TellsWrites result (O.failures out.old) (E.failures err.old) (O.failures out.new)
+        (E.failures err.new) }
     ensures ended { Concludes real_files (asked (map (λ word. word.now) words.now)) result
         (taken (O.portions out.old) (E.portions err.old)) (taken (O.portions out.new) (E.portions err.new))
         (E.failures err.old) (E.failures err.new) }
@@ -51,11 +47,9 @@ pub fn program_over<'a, D: Opener, O: Sink, E: Sink>(
 ) -> u8
     requires text { O.failures out.old < 2 ^ 64 - 1 }
     requires faults { E.failures err.old < 2 ^ 64 - 2 }
-    ensures within { result ≤ 5 }
-    ensures usage { IsErr (asked (map (λ word. word.now) words.now)) → (result ≡ 2) ⊎ (result ≡ 5) }
-    ensures only_usage { result ≡ 2 → IsErr (asked (map (λ word. word.now) words.now)) }
-    ensures whole { result ≤ 1 → (O.failures out.new ≡ O.failures out.old) × (E.failures err.new ≡ E.failures err.old) }
-    ensures write { result ≡ 4 → (O.failures out.old < O.failures out.new) ⊎ (E.failures err.old < E.failures err.new) }
+    ensures status { IsStatusOf (asked (map (λ word. word.now) words.now)) result }
+    ensures writes { TellsWrites result (O.failures out.old) (E.failures err.old) (O.failures out.new)
+        (E.failures err.new) }
     ensures ended { Concludes (files (D.holds disk.now) (D.opens disk.now) (D.refuses disk.now) (D.fails disk.now))
         (asked (map (λ word. word.now) words.now)) result
         (taken (O.portions out.old) (E.portions err.old)) (taken (O.portions out.new) (E.portions err.new))
