@@ -1,5 +1,5 @@
 -- A program and the state of a machine that runs it, and what a live robot's turn does.
-use Rattle.std.specs.Prelude.{◌≡◌, ℕ, ℤ, pos, List, [], ◌∷◌, ◌++◌}
+use Rattle.std.specs.Prelude.{◌≡◌, ℕ, ℤ, pos, List, [], ◌∷◌, ◌++◌, length}
 use Rattle.arena.specs.Answer.{answer}
 use Rattle.arena.specs.Field.{Field}
 use Rattle.arena.specs.Ground.{Ground}
@@ -22,3 +22,8 @@ TakesTurn code robot trace Restart machine before after = IsReached machine code
 TakesTurn code robot trace (Ask intrinsic arguments) machine before after = (field : Field) → StandsFor before field
     → IsReached machine code (trace ++ (answer field robot intrinsic arguments).0 ∷ [])
     × StandsFor after (answer field robot intrinsic arguments).1
+
+-- a field with as many robots, after as many updates
+pub record IsOfSameUpdate (before after : Ground) : Type 0 where
+  pub manned : length after.robots ≡ length before.robots
+  pub updates : after.updates ≡ before.updates

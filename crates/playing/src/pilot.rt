@@ -4,7 +4,7 @@ ghost use Rattle.std.specs.Prelude.{◌≡◌, ◌==◌, ◌<◌, ◌≤◌, if�
 ghost use Rattle.arena.specs.Ground.{lives};
 ghost use Rattle.code.specs.Machine.{want_code};
 ghost use Rattle.code.specs.Standing.{FitsProgram, IsReached};
-ghost use Rattle.playing.specs.Pilot.{TakesTurn};
+ghost use Rattle.playing.specs.Pilot.{IsOfSameUpdate, TakesTurn};
 
 use crate::watcher::{Question, Turn, Watcher};
 use arena::Arena;
@@ -67,8 +67,7 @@ impl<'a> Pilot<'a> {
             → IsReached self.old.state self.old.code trace
             → TakesTurn self.old.code turn.robot trace (want_code self.old.code trace) self.new.state
             arena.old arena.new }
-        ensures manned { length arena.new.robots ≡ length arena.old.robots }
-        ensures updates { arena.new.updates ≡ arena.old.updates }
+        ensures field { IsOfSameUpdate arena.old arena.new }
     {
         if !arena.alive(turn.robot) {
             return;

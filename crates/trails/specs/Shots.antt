@@ -1,7 +1,27 @@
--- The last shots of a match, which of them is the oldest, and how many were fired.
-use Rattle.std.specs.Prelude.{ℕ, List}
+-- A shot, and the last shots of a match.
+use Rattle.std.specs.Prelude.{ℕ, ◌+◌, ℤ, false, List}
+use Rattle.arith.specs.Degree.{degree_of}
+use Rattle.arena.specs.Leg.{clamped}
+use Rattle.arena.specs.Shots.{aimed_x, aimed_y, flight}
+use Rattle.trails.specs.Spot.{Spot}
 use Rattle.trails.specs.declared.shots.Shot.{Shot}
 
+-- the shot of a robot after so many updates, from a place in a direction: it bursts at the range asked for, at most 700
+-- metres away, and has hurt nobody yet
+abbrev pub shot_of : ℕ → ℕ → Spot → (degree range : ℤ) → Shot
+shot_of robot updates from degree range = record {
+  robot = robot;
+  fired = updates;
+  from = from;
+  burst = updates + flight (clamped 700 range);
+  to = record {
+    x = aimed_x from.x (degree_of degree) (clamped 700 range);
+    y = aimed_y from.y (degree_of degree) (clamped 700 range);
+  };
+  hit = false;
+}
+
+-- the last shots, which of them is the oldest, and how many were fired
 pub record Kept : Type 0 where
   pub shots : List Shot
   pub oldest : ℕ

@@ -6,6 +6,7 @@ ghost use Rattle.arena.specs.Leg.{along, clamped, last_place};
 ghost use Rattle.arena.specs.Collisions.{square};
 ghost use Rattle.arena.specs.Shots.{aimed_x, aimed_y, flight, ring};
 ghost use Rattle.arena.specs.Ground.{most_updates};
+ghost use Rattle.trails.specs.Shots.{shot_of};
 
 use crate::places::Place;
 use arena::LAST_PLACE;
@@ -55,13 +56,7 @@ impl Shot {
     #[tactic(auto, unfolding(arena::specs::Shots::aimed_x, arena::specs::Shots::aimed_y))]
     pub fn new(robot: usize, updates: u32, from: Place, arguments: [i32; 2]) -> Shot
         requires { updates ≤ most_updates }
-        ensures robot { result.robot ≡ robot }
-        ensures fired { result.fired ≡ updates }
-        ensures from { result.from ≡ from }
-        ensures burst { (d r : ℤ) → arguments ≡ d ∷ r ∷ [] → result.burst ≡ updates + flight (clamped 700 r) }
-        ensures hit { result.hit ≡ false }
-        ensures x { (d r : ℤ) → arguments ≡ d ∷ r ∷ [] → result.to.x ≡ aimed_x from.x (degree_of d) (clamped 700 r) }
-        ensures y { (d r : ℤ) → arguments ≡ d ∷ r ∷ [] → result.to.y ≡ aimed_y from.y (degree_of d) (clamped 700 r) }
+        ensures { (d r : ℤ) → arguments ≡ d ∷ r ∷ [] → result ≡ shot_of robot updates from d r }
     {
         let degree = norm_degree(arguments[0]);
         let range = range(arguments[1]);
