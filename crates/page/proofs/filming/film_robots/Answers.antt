@@ -31,7 +31,7 @@ returns-in-Ok-clause-films c =
       | in-Matches w ↦ λ is. w.film_match-shown.ensures (cc (w.shown-is, is))
     ] in
     films_good c.args.order.now c.args.robots.now c.compile_feeds.result c.in-Ok-Some.programs c.compile_feeds.new.text
-        c.match-mode.film c.compile_feeds.new.faults
+    c.match-mode.film c.compile_feeds.new.faults
     c.match-mode.shown some (search rules)
     (by_robots
     (λ (setup : Setup) (sources : List Source) (before : Taken). Compiles setup sources c.compile_feeds.result before

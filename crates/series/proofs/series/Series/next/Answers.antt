@@ -26,7 +26,7 @@ invariant_of-self g c =
           let ended =
           outcome_is setup files number c.battle-outcome.result
           (rw (c.seed-seed.ensures.value, c.limit-limit.ensures.value) at
-              (c.battle-outcome.ensures.battle setup.profile files are))
+          (c.battle-outcome.ensures.battle setup.profile files are))
           in
           rw (
             c.count.ensures.matches,
@@ -54,7 +54,7 @@ returns-in-Ok-clause-text g c = λ going.
     let ended =
     outcome_is setup files number c.battle-outcome.result
     (rw (c.seed-seed.ensures.value, c.limit-limit.ensures.value) at
-        (c.battle-outcome.ensures.battle setup.profile files are))
+    (c.battle-outcome.ensures.battle setup.profile files are))
     in
     rw (← (next_is setup files c.self.inside.tally.matches number c.battle-outcome.result
     (robot_names (map (λ word. word.now) c.words.result.now))
@@ -78,7 +78,7 @@ returns-in-Err-clause-text g c = λ going.
     let ended =
     outcome_is setup files number c.battle-outcome.result
     (rw (c.seed-seed.ensures.value, c.limit-limit.ensures.value) at
-        (c.battle-outcome.ensures.battle setup.profile files are))
+    (c.battle-outcome.ensures.battle setup.profile files are))
     in
     rw (← (next_is setup files c.self.inside.tally.matches number c.battle-outcome.result
     (robot_names (map (λ word. word.now) c.words.result.now))
