@@ -1,4 +1,5 @@
 pub mod KnownFields
+pub mod Sums
 pub mod Tracks
 pub mod Touches
 pub mod Calm

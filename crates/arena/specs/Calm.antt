@@ -1,5 +1,5 @@
 -- Robots so far from each other that none of them collide in the next updates.
-use Rattle.std.specs.Prelude.{◌≡◌, ℕ, ◌+◌, ◌*◌, ◌<◌, ◌≤◌, max, List, length, slice_index_or}
+use Rattle.std.specs.Prelude.{◌≡◌, ℕ, ◌+◌, ◌*◌, ◌<◌, ◌≤◌, max, unsigned_abs, List, length, slice_index_or}
 use Rattle.std.specs.Int.{abs_diff}
 use Rattle.arena.specs.Field.{no_robot}
 use Rattle.arena.specs.Ground.{Track, Body, body_of}
@@ -21,6 +21,11 @@ pub record IsAtPlace (before after : Track) : Type 0 where
 -- how far two are from each other, on the axis on which they are further apart
 abbrev pub gap : Track → Track → ℕ
 gap a b = max (abs_diff a.x b.x) (abs_diff a.y b.y)
+
+-- the same as a difference of sums
+abbrev pub sum_gap : Track → Track → ℕ
+sum_gap a b =
+    max (abs_diff (unsigned_abs a.east) (unsigned_abs b.east)) (abs_diff (unsigned_abs a.north) (unsigned_abs b.north))
 
 -- so far from each other that for so many updates no two robots come close: less than a metre on both axes
 pub record FarFor (updates : ℕ) (bodies : List Body) : Type 0 where

@@ -1,34 +1,41 @@
--- What an arena keeps of a field: sums of the way, one number of damage for each robot, and the missiles in the air.
-use Rattle.std.specs.Prelude.{ℕ, ◌≤◌, Bool, List, nat_lt, ℤ, unsigned_abs, slice_index_or}
+-- What an arena keeps of a field: sums of each way, one number of damage for each robot, and the missiles in the air.
+use Rattle.std.specs.Prelude.{ℕ, ◌==◌, ◌&&◌, Bool, List, nat_lt, ℤ, slice_index_or}
 use Rattle.rand_pcg.specs.Lcg.{Lcg}
-use Rattle.arena.specs.Leg.{Leg, place_x, place_y, way_east, way_north}
+use Rattle.arena.specs.Leg.{Leg, place_x, place_y}
+use Rattle.arena.specs.Sums.{sum_east, sum_north, step_east, step_north}
 use Rattle.arena.specs.Field.{Shot, Robot, damage_of, no_robot}
 
--- of a leg: its origin, the way on each axis in hundred-thousandths of a tenth, and the place that they lead to
+-- of a leg: the sums, the place to which they lead, and how much they grow in an update
 pub record Track : Type 0 where
-  pub origin_x : ℕ
-  pub origin_y : ℕ
   pub east : ℤ
   pub north : ℤ
   pub x : ℕ
   pub y : ℕ
+  pub step_east : ℤ
+  pub step_north : ℤ
   pub heading : ℕ
   pub speed : ℕ
   pub wanted_heading : ℕ
   pub wanted_speed : ℕ
+  pub steady : Bool
+
+-- a robot keeps its heading and its speed
+unfoldable pub is_steady : ℕ → ℕ → ℕ → ℕ → Bool
+is_steady heading wanted_heading speed wanted_speed = (wanted_heading == heading) && (speed == wanted_speed)
 
 unfoldable pub track_of : Leg → Track
 track_of leg = record {
-  origin_x = leg.origin_x;
-  origin_y = leg.origin_y;
-  east = way_east leg;
-  north = way_north leg;
+  east = sum_east leg;
+  north = sum_north leg;
   x = place_x leg;
   y = place_y leg;
+  step_east = step_east leg;
+  step_north = step_north leg;
   heading = leg.heading;
   speed = leg.speed;
   wanted_heading = leg.wanted_heading;
   wanted_speed = leg.wanted_speed;
+  steady = is_steady leg.heading leg.wanted_heading leg.speed leg.wanted_speed;
 }
 
 -- of a robot
@@ -62,7 +69,3 @@ pub record Ground : Type 0 where
 -- a robot lives; there is none past the last
 unfoldable pub lives : Ground → ℕ → Bool
 lives g i = nat_lt (slice_index_or g.robots i (body_of no_robot)).damage 100
-
--- neither sum of the way is further from 0 than this
-abbrev pub IsWithin : ℕ → Track → Type 0
-IsWithin way track = (unsigned_abs track.east ≤ way) × (unsigned_abs track.north ≤ way)

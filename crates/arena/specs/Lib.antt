@@ -9,6 +9,7 @@ pub mod Random
 pub mod Start
 pub mod Placed
 pub mod Answer
+pub mod Sums
 pub mod Ground
 pub mod Still
 pub mod Drive

@@ -1,19 +1,16 @@
 -- When a field is still: an update then changes nothing but the number of updates. When the next missile bursts.
-use Rattle.std.specs.Prelude.{◌≡◌, ◌⊎◌, ℕ, zero, suc, ◌≤◌, List, [], pos, All}
-use Rattle.arena.specs.Leg.{last_place, along}
+use Rattle.std.specs.Prelude.{◌≡◌, ◌⊎◌, ℕ, zero, suc, ◌≤◌, List, [], All}
 use Rattle.arena.specs.Field.{Field}
+use Rattle.arena.specs.Sums.{IsInField}
 use Rattle.arena.specs.Ground.{Track, Body, Missile}
 use Rattle.arena.specs.Moved.{moved}
 
--- a robot at rest, at the place inside the field to which its leg leads: it has no speed, and wants none and no other
--- heading
+-- a robot at rest inside the field: it has no speed, and wants none and no other heading
 pub record Rests (track : Track) : Type 0 where
   pub stands : track.speed ≡ 0
   pub wants_none : track.wanted_speed ≡ 0
   pub heads : track.wanted_heading ≡ track.heading
-  pub leads_x : pos track.x ≡ along track.origin_x track.east
-  pub leads_y : pos track.y ≡ along track.origin_y track.north
-  pub inside : (track.x ≤ last_place) × (track.y ≤ last_place)
+  pub inside : IsInField track.east × IsInField track.north
 
 -- an update without bursts leaves a robot as it is: it is dead, or at rest
 abbrev pub Stays : Body → Type 0

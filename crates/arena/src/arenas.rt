@@ -1,6 +1,6 @@
 //! The arena: a field in play, what it answers to robots, and its updates.
 
-ghost use Rattle.std.specs.Prelude.{◌≡◌, ℕ, ◌+◌, ◌*◌, ◌-◌, ◌^◌, ◌<◌, ◌≤◌, true, nat_lt, ℤ, pos, All, count_by, length, slice_index_or};
+ghost use Rattle.std.specs.Prelude.{◌≡◌, ℕ, ◌+◌, ◌<◌, ◌≤◌, true, nat_lt, ℤ, pos, All, count_by, length, slice_index_or};
 ghost use Rattle.grammar.specs.declared.names.Intrinsic.TheVariants.{Scan, Cannon, Drive, Damage, Speed, LocX, LocY, Rand, Sqrt, Sin, Cos, Tan, Atan};
 ghost use Rattle.arith.specs.Degree.{degree_of};
 ghost use Rattle.arena.specs.Leg.{last_place, clamped, place_x, place_y};
@@ -11,7 +11,7 @@ ghost use Rattle.arena.specs.Scan.{scanned};
 ghost use Rattle.arena.specs.Start.{start};
 ghost use Rattle.arena.specs.Placed.{placed, IsPlace};
 ghost use Rattle.arena.specs.Answer.{answer, fired, directed, random_number};
-ghost use Rattle.arena.specs.Ground.{most_updates, Body, body_of, lives, IsWithin};
+ghost use Rattle.arena.specs.Ground.{most_updates, Body, body_of, lives};
 ghost use Rattle.arena.specs.Standing.{StandsFor};
 
 use crate::limits::MOST_ROBOTS;
@@ -51,8 +51,8 @@ pub struct Arena {
 }
 
 impl Model for Arena {
-    ghost use Rattle.std.specs.Prelude.{◌≡◌, ◌*◌, ◌≤◌, true, All, length};
-    ghost use Rattle.arena.specs.Ground.{most_updates, Body, Ground, IsWithin};
+    ghost use Rattle.std.specs.Prelude.{◌≡◌, ◌≤◌, true, All, length};
+    ghost use Rattle.arena.specs.Ground.{most_updates, Ground};
     ghost use Rattle.arena.specs.Still.{IsStill};
     ghost use Rattle.arena.specs.Calm.{FarFor};
 
@@ -66,7 +66,7 @@ impl Model for Arena {
     } };
 
     ghost invariant = { λ a. (a.updates ≤ most_updates) × (length a.missiles ≡ length a.robots.items)
-        × (length a.robots.items ≤ 4) × All (λ (b : Body). IsWithin (10000000 * a.updates) b.track) a.robots.items
+        × (length a.robots.items ≤ 4)
         × All (λ s. length s ≤ 2) a.missiles × (a.is_still ≡ true → IsStill a.robots.items a.missiles)
         × FarFor a.calm a.robots.items };
 }
@@ -243,7 +243,6 @@ impl Arena {
     pub(crate) fn robots(&self) -> &[Robot]
         ensures value { result.now ≡ self.now.robots }
         ensures most { length result.now ≤ MOST_ROBOTS }
-        ensures way { All (λ (b : Body). IsWithin (2 ^ 50 - 1) b.track) result.now }
     {
         self.robots.as_slice()
     }
@@ -260,7 +259,6 @@ impl Arena {
     pub(crate) fn robot(&self, robot: usize) -> &Robot
         requires { robot < length self.now.robots }
         ensures value { result.now ≡ slice_index_or self.now.robots robot (body_of no_robot) }
-        ensures way { IsWithin (2 ^ 50 - 1) result.now.track }
         ensures stands { (f : Field) → StandsFor self.now f → result.now ≡ body_of (robot_at f robot) }
     {
         &self.robots[robot]

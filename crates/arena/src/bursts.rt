@@ -6,7 +6,7 @@ ghost use Rattle.arena.specs.Collisions.{square};
 ghost use Rattle.arena.specs.Shots.{ring};
 
 use crate::collisions::square;
-use crate::slots::{LAST_RING, ring};
+use crate::slots::{is_far, ring};
 use std::marker::Model;
 
 /// A missile that bursts in the next update: the robot that fired it, and the place of the burst.
@@ -72,7 +72,7 @@ impl Burst {
         ensures value { result ≡ ring (square x y self.now.x self.now.y) }
         ensures most { result ≤ 10 }
     {
-        if x.abs_diff(self.x) > LAST_RING || y.abs_diff(self.y) > LAST_RING {
+        if is_far(x, self.x) || is_far(y, self.y) {
             return 0;
         }
         ring(square(x, y, self.x, self.y))

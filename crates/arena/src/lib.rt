@@ -3,6 +3,7 @@
 #![tactic(auto)]
 
 mod arenas;
+mod axes;
 mod bursts;
 mod collisions;
 mod known;
@@ -11,6 +12,7 @@ mod limits;
 mod missiles;
 mod motion;
 mod outlook;
+mod places;
 mod random;
 mod robots;
 mod scans;

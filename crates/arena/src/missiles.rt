@@ -1,6 +1,6 @@
 //! The missiles of all robots that are in the air, and the update before which none of them bursts.
 
-ghost use Rattle.std.specs.Prelude.{◌≡◌, ℕ, ◌+◌, ◌<◌, ◌≤◌, ◌++◌, ◌∷◌, [], List, All, map, flat_map, sum, true, nat_lt, length, slice_index_or};
+ghost use Rattle.std.specs.Prelude.{◌≡◌, ℕ, ◌+◌, ◌-◌, ◌^◌, ◌<◌, ◌≤◌, ◌++◌, ◌∷◌, [], List, All, map, flat_map, sum, true, false, nat_lt, length, slice_index_or};
 ghost use Rattle.std.specs.List.{range_with_len};
 ghost use Rattle.arena.specs.Leg.{last_place};
 ghost use Rattle.arena.specs.Field.{Shot};
@@ -8,6 +8,7 @@ ghost use Rattle.arena.specs.Shots.{bursts, in_air};
 ghost use Rattle.arena.specs.Ground.{shot_of};
 ghost use Rattle.arena.specs.Standing.{HoldsShots};
 ghost use Rattle.arena.specs.Due.{harm};
+ghost use Rattle.arena.specs.Still.{NoneBefore};
 ghost use Rattle.arena.specs.Outlook.{own_bursts};
 
 use crate::bursts::Burst;
@@ -50,6 +51,14 @@ impl Missiles {
             slots: no_missiles(robots),
             next: u32::MAX,
         }
+    }
+
+    /// Reports whether a missile may burst before the last update that a number can tell: a quick look before
+    /// `none_flies`.
+    pub fn may_burst(&self) -> bool
+        ensures { result ≡ false → NoneBefore (2 ^ 32 - 1) self.now }
+    {
+        self.next < u32::MAX
     }
 
     /// Reports whether no missile of any robot is in the air.
@@ -130,6 +139,17 @@ impl Missiles {
         if update < self.next {
             return;
         }
+        self.land_due(update);
+    }
+
+    /// Frees the missiles that burst in an update or before, of which there may be some.
+    #[inline(never)]
+    fn land_due(&mut self, update: u32)
+        ensures shots { (updates : ℕ) (shots : List Shot) → update ≡ updates + 1 → HoldsShots updates self.old shots
+            → HoldsShots update self.new shots }
+        ensures two { All (λ s. length s ≤ 2) self.old → All (λ s. length s ≤ 2) self.new }
+        ensures count { length self.new ≡ length self.old }
+    {
         land(self.slots.as_mut_slice(), update);
         self.next = next_burst(self.slots.as_slice());
     }

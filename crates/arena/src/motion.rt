@@ -1,20 +1,19 @@
 //! How a robot moves: its leg, with the sums of the way in place of the distance.
 
-ghost use Rattle.std.specs.Prelude.{◌≡◌, true, false, ◌+◌, ◌^◌, ◌<◌, ◌≤◌, ℤ, pos, ◌+ℤ◌, ◌*ℤ◌, unsigned_abs, ◌||◌};
-ghost use Rattle.arena.specs.Leg.{Leg, last_place, clamped, along, place_x, place_y, approached, leg_anew, steered, sped, grown, walled, is_outside, hits_wall, tried, driven};
+ghost use Rattle.std.specs.Prelude.{◌≡◌, true, ◌<◌, ◌≤◌, ◌/◌, pos, ◌*ℤ◌, unsigned_abs};
+ghost use Rattle.arith.specs.Circle.{sine_at, cosine_at};
+ghost use Rattle.arena.specs.Leg.{Leg, last_place, place_x, place_y, approached, leg_anew, steered, sped, grown, walled, hits_wall, tried, driven};
+ghost use Rattle.arena.specs.Sums.{sum_from, place_of, place_near, IsInField};
 ghost use Rattle.arena.specs.Start.{standing};
 ghost use Rattle.arena.specs.Moved.{put_back};
 ghost use Rattle.arena.specs.Answer.{wanting};
-ghost use Rattle.arena.specs.Ground.{Track, track_of};
+ghost use Rattle.arena.specs.Ground.{Track, track_of, is_steady};
 ghost use Rattle.arena.specs.Still.{Rests};
-ghost use Rattle.arena.specs.Calm.{IsNearby, IsAtPlace};
+ghost use Rattle.arena.specs.Calm.{IsNearby, IsAtPlace, gap, sum_gap};
 
-use crate::limits::LAST_PLACE;
+use crate::axes::{leaves, metres_of, place_near, place_of, step, sum_at};
 use arith::{cosine_at, sine_at};
 use std::marker::Model;
-
-/// Sums of the way are in hundred-thousandths of a tenth of a metre.
-const SCALE: i64 = 100_000;
 
 /// The greatest speed at which a robot turns.
 const TURNING_SPEED: u8 = 50;
@@ -22,59 +21,58 @@ const TURNING_SPEED: u8 = 50;
 /// By how much the speed changes in an update.
 const ACCELERATION: u8 = 10;
 
-/// A robot's motion: the origin of its leg, the way from there on each axis, the place that it leads
-/// to, heading, speed, and what the robot wants. Places are in tenths of a metre.
+/// A robot's motion: where its leg leads on each axis, as a sum; how much these sums grow in an update; heading, speed,
+/// and what the robot wants. The way is never worked out anew from the leg's origin, and the place only if it is asked. A
+/// robot is steady if it wants the heading and the speed that it has.
 #[derive(Clone, Copy, Drop)]
 pub struct Motion {
-    east: i64,
-    north: i64,
-    origin_x: u16,
-    origin_y: u16,
-    x: u16,
-    y: u16,
+    east: i32,
+    north: i32,
+    step_east: i32,
+    step_north: i32,
     heading: u16,
     wanted_heading: u16,
     speed: u8,
     wanted_speed: u8,
+    steady: bool,
 }
 
 impl Model for Motion {
-    ghost use Rattle.std.specs.Prelude.{◌≡◌, ◌<◌, ◌≤◌, pos};
-    ghost use Rattle.arena.specs.Leg.{last_place, along};
+    ghost use Rattle.std.specs.Prelude.{◌<◌, ◌≤◌, unsigned_abs};
+    ghost use Rattle.arena.specs.Sums.{place_of, IsInField};
     ghost use Rattle.arena.specs.Ground.{Track};
 
     ghost Value = { Track };
 
     ghost view = { λ m. record {
-      origin_x = m.origin_x;
-      origin_y = m.origin_y;
       east = m.east;
       north = m.north;
-      x = m.x;
-      y = m.y;
+      x = place_of m.east;
+      y = place_of m.north;
+      step_east = m.step_east;
+      step_north = m.step_north;
       heading = m.heading;
       speed = m.speed;
       wanted_heading = m.wanted_heading;
       wanted_speed = m.wanted_speed;
+      steady = m.steady;
     } };
 
     ghost inverse = { λ m. record {
-      origin_x = m.origin_x;
-      origin_y = m.origin_y;
       east = m.east;
       north = m.north;
-      x = m.x;
-      y = m.y;
+      step_east = m.step_east;
+      step_north = m.step_north;
       heading = m.heading;
       speed = m.speed;
       wanted_heading = m.wanted_heading;
       wanted_speed = m.wanted_speed;
+      steady = m.steady;
     } };
 
-    ghost invariant = { λ m. (m.origin_x ≤ last_place) × (m.origin_y ≤ last_place)
-        × (m.x ≤ last_place) × (m.y ≤ last_place) × (m.heading < 360) × (m.wanted_heading < 360)
-        × (m.speed ≤ 100) × (m.wanted_speed ≤ 100)
-        × (pos m.x ≡ along m.origin_x m.east) × (pos m.y ≡ along m.origin_y m.north) };
+    ghost invariant = { λ m. IsInField m.east × IsInField m.north
+        × (unsigned_abs m.step_east ≤ 10000000) × (unsigned_abs m.step_north ≤ 10000000)
+        × (m.heading < 360) × (m.wanted_heading < 360) × (m.speed ≤ 100) × (m.wanted_speed ≤ 100) };
 }
 
 impl Default for Motion {
@@ -88,21 +86,20 @@ impl Motion {
     pub fn standing(x: u16, y: u16) -> Motion
         requires x { x ≤ last_place }
         requires y { y ≤ last_place }
-        ensures track { result ≡ track_of (standing x y).leg }
-        ensures still { (result.east ≡ pos 0) × (result.north ≡ pos 0) }
+        ensures { result ≡ track_of (standing x y).leg }
     {
-        Motion {
-            origin_x: x,
-            origin_y: y,
+        let still = Motion {
             east: 0,
             north: 0,
-            x,
-            y,
+            step_east: 0,
+            step_north: 0,
             heading: 0,
             speed: 0,
             wanted_heading: 0,
             wanted_speed: 0,
-        }
+            steady: true,
+        };
+        still.on_new_leg(x, y)
     }
 
     /// Returns the place on the axis to the east, in tenths of a metre.
@@ -110,7 +107,7 @@ impl Motion {
         ensures value { result ≡ self.now.x }
         ensures most { result ≤ last_place }
     {
-        self.x
+        place_of(self.east)
     }
 
     /// Returns the place on the axis to the north, in tenths of a metre.
@@ -118,7 +115,34 @@ impl Motion {
         ensures value { result ≡ self.now.y }
         ensures most { result ≤ last_place }
     {
-        self.y
+        place_of(self.north)
+    }
+
+    /// Returns the place on the axis to the east, in whole metres rounded down.
+    pub fn metres_x(&self) -> u16
+        ensures value { result ≡ self.now.x / 10 }
+        ensures most { result ≤ 999 }
+    {
+        metres_of(self.east)
+    }
+
+    /// Returns the place on the axis to the north, in whole metres rounded down.
+    pub fn metres_y(&self) -> u16
+        ensures value { result ≡ self.now.y / 10 }
+        ensures most { result ≤ 999 }
+    {
+        metres_of(self.north)
+    }
+
+    /// Returns how far two robots are from each other, on the axis on which they are further apart, as a difference of
+    /// sums.
+    pub fn gap(&self, other: &Motion) -> u32
+        ensures value { result ≡ sum_gap self.now other.now }
+        ensures places { result / 100000 ≤ gap self.now other.now }
+    {
+        let on_x = (self.east as u32).abs_diff(other.east as u32);
+        let on_y = (self.north as u32).abs_diff(other.north as u32);
+        on_x.max(on_y)
     }
 
     /// Returns the present heading, in degrees.
@@ -149,215 +173,200 @@ impl Motion {
         requires degree { degree < 360 }
         requires speed { speed ≤ 100 }
         ensures leg { (leg : Leg) → self ≡ track_of leg → result ≡ track_of (wanting leg degree speed) }
-        ensures way { (result.east ≡ self.east) × (result.north ≡ self.north) }
         ensures place { IsAtPlace self result }
     {
-        Motion {
+        let wanting = Motion {
             wanted_heading: degree,
             wanted_speed: speed,
             ..self
-        }
+        };
+        wanting.settled()
     }
 
-    /// Begins a new leg at the present place.
-    fn leg_anew(self) -> Motion
-        ensures leg { (leg : Leg) → self ≡ track_of leg → result ≡ track_of (leg_anew leg) }
-        ensures way { (result.east ≡ pos 0) × (result.north ≡ pos 0) }
-        ensures speed { result.speed ≡ self.speed }
-        ensures place { (result.x ≡ self.x) × (result.y ≡ self.y) }
+    /// Works out whether the robot is steady.
+    fn settled(self) -> Motion
+        ensures { result ≡ record self {
+          steady = is_steady self.heading self.wanted_heading self.speed self.wanted_speed;
+        } }
     {
-        Motion {
-            origin_x: self.x,
-            origin_y: self.y,
-            east: 0,
-            north: 0,
+        let steady = is_steady(
+            self.heading,
+            self.wanted_heading,
+            self.speed,
+            self.wanted_speed,
+        );
+        Motion { steady, ..self }
+    }
+
+    /// Begins a new leg at a place, with its heading and speed.
+    fn on_new_leg(self, x: u16, y: u16) -> Motion
+        requires x { x ≤ last_place }
+        requires y { y ≤ last_place }
+        ensures { result ≡ record self {
+          east = sum_from x (cosine_at self.heading) (pos 0);
+          north = sum_from y (sine_at self.heading) (pos 0);
+          x = x;
+          y = y;
+          step_east = pos self.speed *ℤ cosine_at self.heading;
+          step_north = pos self.speed *ℤ sine_at self.heading;
+          steady = is_steady self.heading self.wanted_heading self.speed self.wanted_speed;
+        } }
+    {
+        let cosine = cosine_at(self.heading);
+        let sine = sine_at(self.heading);
+        let begun = Motion {
+            east: sum_at(x, cosine),
+            north: sum_at(y, sine),
+            step_east: step(self.speed, cosine),
+            step_north: step(self.speed, sine),
             ..self
-        }
+        };
+        begun.settled()
+    }
+
+    /// Turns to the wanted heading: begins a new leg at the present place.
+    fn turned(self) -> Motion
+        ensures leg { (leg : Leg) → self ≡ track_of leg
+            → result ≡ track_of (record (leg_anew leg) { heading = leg.wanted_heading }) }
+        ensures place { IsAtPlace self result }
+    {
+        let turned = Motion {
+            heading: self.wanted_heading,
+            ..self
+        };
+        turned.on_new_leg(self.x(), self.y())
     }
 
     /// Turns at a low speed, and brakes for the turn at a high one.
     fn steered(self) -> Motion
         ensures leg { (leg : Leg) → self ≡ track_of leg → result ≡ track_of (steered leg) }
-        ensures east { unsigned_abs result.east ≤ unsigned_abs self.east }
-        ensures north { unsigned_abs result.north ≤ unsigned_abs self.north }
-        ensures place { (result.x ≡ self.x) × (result.y ≡ self.y) }
+        ensures place { IsAtPlace self result }
     {
         if self.wanted_heading == self.heading {
             self
         } else if self.speed <= TURNING_SPEED {
-            Motion {
-                heading: self.wanted_heading,
-                ..self.leg_anew()
-            }
+            self.turned()
         } else {
-            Motion {
+            let braking = Motion {
                 wanted_speed: 0,
                 ..self
-            }
+            };
+            braking.settled()
         }
     }
 
     /// Changes the speed towards the wanted one.
     fn sped(self) -> Motion
         ensures leg { (leg : Leg) → self ≡ track_of leg → result ≡ track_of (sped leg) }
-        ensures way { (result.east ≡ self.east) × (result.north ≡ self.north) }
-        ensures place { (result.x ≡ self.x) × (result.y ≡ self.y) }
+        ensures place { IsAtPlace self result }
     {
-        Motion {
-            speed: approached(self.speed, self.wanted_speed),
+        let speed = approached(self.speed, self.wanted_speed);
+        let sped = Motion {
+            speed,
+            step_east: step(speed, cosine_at(self.heading)),
+            step_north: step(speed, sine_at(self.heading)),
             ..self
-        }
+        };
+        sped.settled()
+    }
+
+    /// Turns and changes the speed, as far as the robot can in an update. This is rare, so it stays out of the way of
+    /// driving on.
+    #[inline(never)]
+    fn adjust(&mut self)
+        ensures leg { (leg : Leg) → self.old ≡ track_of leg → self.new ≡ track_of (sped (steered leg)) }
+        ensures place { IsAtPlace self.old self.new }
+    {
+        *self = self.steered().sped();
     }
 
     /// Stops at a place, which is the origin of a new leg with the same heading.
     fn stopped_at(self, x: u16, y: u16) -> Motion
         requires x { x ≤ last_place }
         requires y { y ≤ last_place }
-        ensures { result ≡ record self {
+        ensures leg { (leg : Leg) → self ≡ track_of leg → result ≡ track_of (record leg {
           origin_x = x;
           origin_y = y;
-          east = pos 0;
-          north = pos 0;
-          x = x;
-          y = y;
+          distance = 0;
           speed = 0;
           wanted_speed = 0;
-        } }
+        }) }
+        ensures place { (result.x ≡ x) × (result.y ≡ y) }
     {
-        Motion {
-            origin_x: x,
-            origin_y: y,
-            east: 0,
-            north: 0,
-            x,
-            y,
+        let still = Motion {
             speed: 0,
             wanted_speed: 0,
             ..self
-        }
+        };
+        still.on_new_leg(x, y)
     }
 
-    /// Reports whether the robot turns, or changes its speed, before it drives on.
-    fn changes(&self) -> bool
-        ensures { result ≡ false
-            → (self.now.wanted_heading ≡ self.now.heading) × (self.now.speed ≡ self.now.wanted_speed) }
+    /// Stops at the place of the field that is nearest to where these sums lead. This is rare, as adjusting is.
+    #[inline(never)]
+    fn stop_near(&mut self, east: i32, north: i32)
+        ensures leg { (leg : Leg) → self.old ≡ track_of leg → self.new ≡ track_of (record leg {
+          origin_x = place_near east;
+          origin_y = place_near north;
+          distance = 0;
+          speed = 0;
+          wanted_speed = 0;
+        }) }
+        ensures place { (self.new.x ≡ place_near east) × (self.new.y ≡ place_near north) }
     {
-        self.wanted_heading != self.heading || self.speed != self.wanted_speed
+        *self = self.stopped_at(place_near(east), place_near(north));
     }
 
     /// Drives on for an update at the present speed, up to a wall, and reports whether one stopped it.
+    #[inline(always)]
     fn advance(&mut self) -> bool
-        requires east { unsigned_abs self.old.east < 2 ^ 50 }
-        requires north { unsigned_abs self.old.north < 2 ^ 50 }
         ensures motion { (leg : Leg) → self.old ≡ track_of leg → self.new ≡ track_of (walled (grown leg)) }
         ensures walled { (leg : Leg) → self.old ≡ track_of leg → result ≡ hits_wall (grown leg) }
         ensures nearby { IsNearby self.old self.new }
-        ensures east { unsigned_abs self.new.east ≤ unsigned_abs self.old.east + 10000000 }
-        ensures north { unsigned_abs self.new.north ≤ unsigned_abs self.old.north + 10000000 }
     {
-        if self.speed == 0 {
-            return false;
-        }
-        let east = further(self.east, self.speed, cosine_at(self.heading));
-        let north = further(self.north, self.speed, sine_at(self.heading));
-        let to_x = along(self.origin_x, east);
-        let to_y = along(self.origin_y, north);
-        if hits_wall(to_x, to_y) {
-            *self = self.stopped_at(clamped(to_x), clamped(to_y));
+        let east = self.east + self.step_east;
+        let north = self.north + self.step_north;
+        if leaves(east, north) {
+            self.stop_near(east, north);
             return true;
         }
-        *self = Motion {
-            east,
-            north,
-            x: inside(to_x),
-            y: inside(to_y),
-            ..*self
-        };
+        self.east = east;
+        self.north = north;
         false
     }
 
     /// Moves on for an update, as far as walls let it: turns, changes the speed and drives on. Reports whether a wall
     /// stopped it.
     #[tactic(auto, unfolding(crate::specs::Leg::driven, crate::specs::Leg::tried))]
+    #[inline(always)]
     pub fn drive_on(&mut self) -> bool
-        requires east { unsigned_abs self.old.east < 2 ^ 50 }
-        requires north { unsigned_abs self.old.north < 2 ^ 50 }
         ensures motion { (leg : Leg) → self.old ≡ track_of leg → self.new ≡ track_of (driven leg) }
         ensures walled { (leg : Leg) → self.old ≡ track_of leg → result ≡ hits_wall (tried leg) }
         ensures nearby { IsNearby self.old self.new }
-        ensures east { unsigned_abs self.new.east ≤ unsigned_abs self.old.east + 10000000 }
-        ensures north { unsigned_abs self.new.north ≤ unsigned_abs self.old.north + 10000000 }
     {
-        if self.changes() {
-            *self = self.steered().sped();
+        if !self.steady {
+            self.adjust();
         }
         self.advance()
     }
 
     /// Stops at the place where it was before the update.
+    #[tactic(auto, unfolding(crate::specs::Moved::put_back))]
     pub fn put_back(self, x: u16, y: u16) -> Motion
         requires x { x ≤ last_place }
         requires y { y ≤ last_place }
-        ensures leg { (old leg : Leg) → x ≡ place_x old → y ≡ place_y old → self ≡ track_of leg
+        ensures { (old leg : Leg) → x ≡ place_x old → y ≡ place_y old → self ≡ track_of leg
             → result ≡ track_of (put_back old leg) }
-        ensures way { (result.east ≡ pos 0) × (result.north ≡ pos 0) }
     {
         self.stopped_at(x, y)
     }
 }
 
-/// Returns the way on an axis after an update at this speed.
-fn further(way: i64, speed: u8, part: i32) -> i64
-    requires way { unsigned_abs way < 2 ^ 50 }
-    requires speed { speed ≤ 100 }
-    requires part { unsigned_abs part ≤ 100000 }
-    ensures value { result ≡ way +ℤ pos speed *ℤ part }
-    ensures most { unsigned_abs result ≤ unsigned_abs way + 10000000 }
+/// Reports whether a robot wants the heading and the speed that it has.
+#[tactic(auto, unfolding(crate::specs::Ground::is_steady))]
+fn is_steady(heading: u16, wanted_heading: u16, speed: u8, wanted_speed: u8) -> bool
+    ensures { result ≡ is_steady heading wanted_heading speed wanted_speed }
 {
-    way + i64::from(speed) * i64::from(part)
-}
-
-/// Returns the coordinate to which a way leads from an origin, in tenths of a metre, perhaps beyond a wall.
-#[tactic(auto, unfolding(crate::specs::Leg::along))]
-pub(crate) fn along(origin: u16, way: i64) -> i64
-    requires { unsigned_abs way < 2 ^ 51 }
-    ensures { result ≡ along origin way }
-{
-    i64::from(origin) + way / SCALE
-}
-
-/// Reports whether a coordinate lies beyond a wall.
-#[tactic(auto, unfolding(crate::specs::Leg::is_outside))]
-fn is_outside(z: i64) -> bool
-    ensures { result ≡ is_outside z }
-{
-    z < 0 || z > i64::from(LAST_PLACE)
-}
-
-/// Reports whether a point lies beyond a wall.
-fn hits_wall(x: i64, y: i64) -> bool
-    ensures { result ≡ (is_outside x || is_outside y) }
-{
-    is_outside(x) || is_outside(y)
-}
-
-/// Returns a coordinate that doesn't lie beyond a wall as a place.
-#[tactic(auto, unfolding(crate::specs::Leg::is_outside))]
-fn inside(z: i64) -> u16
-    requires { is_outside z ≡ false }
-    ensures value { pos result ≡ z }
-    ensures most { result ≤ last_place }
-{
-    z as u16
-}
-
-/// Returns the place of the field that is nearest to a coordinate.
-#[tactic(auto, unfolding(crate::specs::Leg::clamped))]
-pub(crate) fn clamped(z: i64) -> u16
-    ensures value { result ≡ clamped last_place z }
-    ensures most { result ≤ last_place }
-{
-    z.clamp(0, i64::from(LAST_PLACE)) as u16
+    wanted_heading == heading && speed == wanted_speed
 }
 
 /// Returns the speed after an update, towards the wanted one.

@@ -1,10 +1,10 @@
 //! What the next update will do, asked before it is done: it changes nothing.
 
-ghost use Rattle.std.specs.Prelude.{◌≡◌, ℕ, ◌^◌, ◌-◌, ◌<◌, ◌≤◌, true, List, All, map, length};
+ghost use Rattle.std.specs.Prelude.{◌≡◌, ℕ, ◌<◌, ◌≤◌, true, List, map, length};
 ghost use Rattle.arena.specs.Leg.{last_place, place_x, place_y};
 ghost use Rattle.arena.specs.Field.{Robot as FieldRobot, Field, robot_at, is_live};
 ghost use Rattle.arena.specs.Collisions.{mover, touches};
-ghost use Rattle.arena.specs.Ground.{Body, body_of, lives, IsWithin};
+ghost use Rattle.arena.specs.Ground.{body_of, lives};
 ghost use Rattle.arena.specs.Standing.{StandsFor};
 ghost use Rattle.arena.specs.Outlook.{due, meets_wall, meets, next_leg, taken_by};
 
@@ -101,8 +101,7 @@ impl Arena {
 
 /// Returns what collisions of the next update have to know of some robots.
 fn movers(robots: &[Robot]) -> ArrayVec<Mover, MOST_ROBOTS>
-    requires most { length robots.now ≤ MOST_ROBOTS }
-    requires way { All (λ (b : Body). IsWithin (2 ^ 50 - 1) b.track) robots.now }
+    requires { length robots.now ≤ MOST_ROBOTS }
     ensures movers { (rs : List FieldRobot) → robots.now ≡ map body_of rs → result.items ≡ map mover rs }
     ensures count { length result.items ≡ length robots.now }
 {

@@ -1,24 +1,21 @@
 //! Robots: how they move and how much they were hurt.
 
-ghost use Rattle.std.specs.Prelude.{◌≡◌, ℕ, ◌+◌, ◌*◌, ◌^◌, ◌-◌, ◌<◌, ◌≤◌, ◌&&◌, true, min, nat_lt, unsigned_abs};
+ghost use Rattle.std.specs.Prelude.{◌≡◌, ◌+◌, ◌*◌, ◌/◌, ◌<◌, ◌≤◌, ◌&&◌, true, min, nat_lt};
 ghost use Rattle.arena.specs.Leg.{last_place, tried, hits_wall};
 ghost use Rattle.arena.specs.Field.{Robot as FieldRobot, is_alive, metres_x, metres_y};
 ghost use Rattle.arena.specs.Collisions.{mover};
 ghost use Rattle.arena.specs.Start.{standing};
 ghost use Rattle.arena.specs.Answer.{wanting};
-ghost use Rattle.arena.specs.Ground.{track_of, body_of, IsWithin};
+ghost use Rattle.arena.specs.Ground.{track_of, body_of};
 ghost use Rattle.arena.specs.Moved.{leg_after};
 ghost use Rattle.arena.specs.Drive.{ahead};
-ghost use Rattle.arena.specs.Calm.{IsNearby, IsAtPlace, gap};
+ghost use Rattle.arena.specs.Calm.{IsNearby, IsAtPlace, gap, sum_gap};
 ghost use Rattle.arena.specs.Still.{Stays};
 
 use crate::collisions::Mover;
 use crate::limits::DEADLY;
 use crate::motion::Motion;
 use std::marker::Model;
-
-/// How many tenths a metre has.
-const TENTHS: u16 = 10;
 
 /// What a wall takes, and each robot that one collides with.
 const WALL: u8 = 2;
@@ -57,8 +54,7 @@ impl Robot {
     pub fn standing(x: u16, y: u16) -> Robot
         requires x { x ≤ last_place }
         requires y { y ≤ last_place }
-        ensures body { result ≡ body_of (standing x y) }
-        ensures still { IsWithin 0 result.track }
+        ensures { result ≡ body_of (standing x y) }
     {
         Robot {
             motion: Motion::standing(x, y),
@@ -94,7 +90,7 @@ impl Robot {
         ensures value { (robot : FieldRobot) → self.now ≡ body_of robot → result ≡ metres_x robot }
         ensures most { result ≤ 999 }
     {
-        self.x() / TENTHS
+        self.motion.metres_x()
     }
 
     /// Returns the place on the axis to the north, in whole metres rounded down.
@@ -103,7 +99,7 @@ impl Robot {
         ensures value { (robot : FieldRobot) → self.now ≡ body_of robot → result ≡ metres_y robot }
         ensures most { result ≤ 999 }
     {
-        self.y() / TENTHS
+        self.motion.metres_y()
     }
 
     /// Returns the present heading, in degrees.
@@ -129,7 +125,6 @@ impl Robot {
         requires speed { speed ≤ 100 }
         ensures robot { (robot : FieldRobot) → self.now ≡ body_of robot
             → result ≡ body_of (record robot { leg = wanting robot.leg degree speed }) }
-        ensures way { (result.track.east ≡ self.now.track.east) × (result.track.north ≡ self.now.track.north) }
         ensures place { IsAtPlace self.now.track result.track }
     {
         Robot {
@@ -139,13 +134,10 @@ impl Robot {
     }
 
     /// Moves on for an update, as far as walls let it; a dead robot stays.
+    #[inline(always)]
     pub fn drive(&mut self)
-        requires east { unsigned_abs self.old.track.east < 2 ^ 50 }
-        requires north { unsigned_abs self.old.track.north < 2 ^ 50 }
         ensures ahead { (robot : FieldRobot) → self.old ≡ body_of robot → self.new ≡ ahead robot }
         ensures nearby { IsNearby self.old.track self.new.track }
-        ensures east { unsigned_abs self.new.track.east ≤ unsigned_abs self.old.track.east + 10000000 }
-        ensures north { unsigned_abs self.new.track.north ≤ unsigned_abs self.old.track.north + 10000000 }
     {
         if !self.is_alive() {
             return;
@@ -158,12 +150,8 @@ impl Robot {
     /// Moves on for an update, as far as walls let it, and returns what collisions have to know; a dead robot stays.
     #[tactic(auto, unfolding(crate::specs::Drive::ahead, crate::specs::Collisions::mover, crate::specs::Ground::body_of, crate::specs::Ground::track_of, crate::specs::Field::is_alive))]
     pub fn drive_on(&mut self) -> Mover
-        requires east { unsigned_abs self.old.track.east < 2 ^ 50 }
-        requires north { unsigned_abs self.old.track.north < 2 ^ 50 }
         ensures ahead { (robot : FieldRobot) → self.old ≡ body_of robot → self.new ≡ ahead robot }
         ensures mover { (robot : FieldRobot) → self.old ≡ body_of robot → result ≡ mover robot }
-        ensures east { unsigned_abs self.new.track.east ≤ unsigned_abs self.old.track.east + 10000000 }
-        ensures north { unsigned_abs self.new.track.north ≤ unsigned_abs self.old.track.north + 10000000 }
     {
         let live = self.is_alive();
         let from_x = self.x();
@@ -174,7 +162,6 @@ impl Robot {
 
     /// Returns what collisions of the next update have to know.
     pub fn mover(&self) -> Mover
-        requires { IsWithin (2 ^ 50 - 1) self.now.track }
         ensures { (robot : FieldRobot) → self.now ≡ body_of robot → result ≡ mover robot }
     {
         let mut ahead = *self;
@@ -183,7 +170,6 @@ impl Robot {
 
     /// Reports whether the robot lives, and a wall stops it in the next update.
     pub fn meets_wall(&self) -> bool
-        requires { IsWithin (2 ^ 50 - 1) self.now.track }
         ensures { (robot : FieldRobot) → self.now ≡ body_of robot
             → result ≡ (is_alive robot && hits_wall (tried robot.leg)) }
     {
@@ -191,14 +177,13 @@ impl Robot {
         self.is_alive() && motion.drive_on()
     }
 
-    /// Returns how far two robots are from each other in tenths of a metre, on the axis on which they are further
-    /// apart.
-    pub fn gap(&self, other: &Robot) -> u16
-        ensures { result ≡ gap self.now.track other.now.track }
+    /// Returns how far two robots are from each other, on the axis on which they are further apart, as a difference of
+    /// sums.
+    pub fn gap(&self, other: &Robot) -> u32
+        ensures value { result ≡ sum_gap self.now.track other.now.track }
+        ensures places { result / 100000 ≤ gap self.now.track other.now.track }
     {
-        self.x()
-            .abs_diff(other.x())
-            .max(self.y().abs_diff(other.y()))
+        self.motion.gap(&other.motion)
     }
 
     /// Takes the damage in percent of bursts.
@@ -211,9 +196,8 @@ impl Robot {
 
     /// Returns the motion of a live robot that has moved on, given how many others it collides with.
     pub fn motion_after(&self, seen: &Mover, touched: usize) -> Motion
-        ensures leg { (robot : FieldRobot) → self.now ≡ ahead robot → seen.now ≡ mover robot
+        ensures { (robot : FieldRobot) → self.now ≡ ahead robot → seen.now ≡ mover robot
             → is_alive robot ≡ true → result ≡ track_of (leg_after robot.leg touched) }
-        ensures way { (way : ℕ) → IsWithin way self.now.track → IsWithin way result }
     {
         if touched > 0 {
             return self.motion.put_back(seen.from_x(), seen.from_y());

@@ -7,7 +7,7 @@ ghost use Rattle.arena.specs.Field.{Robot as FieldRobot, Field};
 ghost use Rattle.arena.specs.Collisions.{square};
 ghost use Rattle.arith.specs.Degree.{apart};
 ghost use Rattle.arena.specs.Scan.{sees, scanned};
-ghost use Rattle.arena.specs.Nearer.{square_to, nearer};
+ghost use Rattle.arena.specs.Nearer.{IsPoint, square_to, nearer};
 ghost use Rattle.arena.specs.Ground.{body_of};
 
 use crate::collisions::square;
@@ -93,10 +93,8 @@ fn sees(from: &Robot, to: &Robot, degree: u16, resolution: u16) -> bool
 
 /// Reports whether a point lies in an arc around a degree, or is the point itself, in whole metres.
 fn in_arc(x: u16, y: u16, to_x: u16, to_y: u16, degree: u16, resolution: u16) -> bool
-    requires x { x ≤ 999 }
-    requires y { y ≤ 999 }
-    requires to_x { to_x ≤ 999 }
-    requires to_y { to_y ≤ 999 }
+    requires from { IsPoint x y }
+    requires to { IsPoint to_x to_y }
     requires degree { degree < 360 }
     requires resolution { resolution ≤ 10 }
     ensures { result ≡ (((to_x == x) && (to_y == y)) || nat_le

@@ -1,7 +1,8 @@
 //! Missiles: where and when they burst, and which of each robot's are in the air.
 
-ghost use Rattle.std.specs.Prelude.{◌≡◌, ℕ, ◌+◌, ◌*◌, ◌<◌, ◌≤◌, ◌++◌, ◌∷◌, [], ◌==◌, ℤ, pos, ◌*ℤ◌, unsigned_abs, List, All, filter, map, flat_map, sum, true, nat_lt, length, slice_index_or};
+ghost use Rattle.std.specs.Prelude.{◌≡◌, ℕ, ◌+◌, ◌*◌, ◌<◌, ◌≤◌, ◌++◌, ◌∷◌, [], ◌==◌, ℤ, pos, ◌*ℤ◌, unsigned_abs, List, All, filter, map, flat_map, sum, true, false, nat_lt, length, slice_index_or};
 ghost use Rattle.std.specs.List.{range_with_len};
+ghost use Rattle.std.specs.Int.{abs_diff};
 ghost use Rattle.arena.specs.Leg.{last_place, clamped, along};
 ghost use Rattle.arena.specs.Field.{Shot};
 ghost use Rattle.arena.specs.Shots.{aimed_x, aimed_y, bursts, flight, in_air, ring};
@@ -14,7 +15,7 @@ ghost use Rattle.arena.specs.Standing.{HoldsShots};
 use crate::bursts::Burst;
 use crate::collisions::square;
 use crate::limits::{MOST_BURSTS, MOST_MISSILES, MOST_ROBOTS};
-use crate::motion::{along, clamped};
+use crate::places::{along, clamped};
 use arith::{cosine_at, sine_at};
 use arrayvec::ArrayVec;
 use std::marker::Model;
@@ -23,7 +24,7 @@ use std::marker::Model;
 const FLIGHT: u16 = 50;
 
 /// The radius of the widest ring of a burst, in tenths of a metre.
-pub const LAST_RING: u16 = 400;
+const LAST_RING: i32 = 400;
 
 /// A missile in the air: the update in which it bursts, and the place of the burst in tenths of a
 /// metre.
@@ -86,17 +87,22 @@ impl Missile {
     }
 
     /// Returns the damage in percent that the missile does at a place when it bursts.
-    #[tactic(auto, using(crate::proofs::Squares::far_harm), unfolding(crate::specs::Due::harm))]
+    #[tactic(auto, unfolding(crate::specs::Due::harm))]
     fn harm(&self, x: u16, y: u16) -> u8
         requires x { x ≤ last_place }
         requires y { y ≤ last_place }
         ensures value { result ≡ harm x y self.now }
         ensures most { result ≤ 10 }
     {
-        if x.abs_diff(self.x) > LAST_RING || y.abs_diff(self.y) > LAST_RING {
-            return 0;
-        }
         ring(square(x, y, self.x, self.y))
+    }
+
+    /// Reports whether the missile bursts so far from a place that it does no damage there.
+    #[tactic(auto, using(crate::proofs::Squares::far_harm), unfolding(crate::specs::Due::harm))]
+    fn misses(&self, x: u16, y: u16) -> bool
+        ensures { result ≡ true → harm x y self.now ≡ 0 }
+    {
+        is_far(x, self.x) || is_far(y, self.y)
     }
 
     /// Returns the damage in percent that the missile does in an update at a place.
@@ -113,6 +119,15 @@ impl Missile {
             0
         }
     }
+}
+
+/// Reports whether two coordinates lie so far apart that no burst at one of them hurts at the other.
+pub fn is_far(from: u16, to: u16) -> bool
+    ensures far { result ≡ true → 400 < abs_diff from to }
+    ensures near { result ≡ false → abs_diff from to ≤ 400 }
+{
+    let difference = i32::from(from) - i32::from(to);
+    difference < -LAST_RING || difference > LAST_RING
 }
 
 /// Returns how many updates a missile flies to this range in metres.
@@ -397,7 +412,9 @@ pub fn harm_by(due: &[Missile], x: u16, y: u16) -> u8
 {
     let mut damage = 0;
     for missile in due {
-        damage += missile.harm(x, y);
+        if !missile.misses(x, y) {
+            damage += missile.harm(x, y);
+        }
     }
     damage
 }

@@ -5,7 +5,7 @@ ghost use Rattle.arena.specs.Leg.{last_place, clamped};
 ghost use Rattle.arena.specs.Random.{generator, random_word};
 ghost use Rattle.arena.specs.Start.{standing, drawn_place, start};
 ghost use Rattle.arena.specs.Placed.{placed, IsPlace};
-ghost use Rattle.arena.specs.Ground.{Body, IsWithin, body_of};
+ghost use Rattle.arena.specs.Ground.{body_of};
 
 use crate::limits::MOST_ROBOTS;
 use crate::random::draw;
@@ -30,7 +30,6 @@ pub(crate) fn drawn_robots(random: &mut Pcg32, n: usize) -> ArrayVec<Robot, MOST
     ensures words { (seed number : ℕ) → random.old ≡ generator seed number 0
         → random.new ≡ generator seed number (1 + 2 * n) }
     ensures manned { length result.items ≡ n }
-    ensures still { All (λ (b : Body). IsWithin 0 b.track) result.items }
 {
     let first = draw(random) % 4;
     let mut robots = ArrayVec::new();
@@ -49,7 +48,6 @@ fn drawn_robot(random: &mut Pcg32, quadrant: u32) -> Robot
         (drawn_place (quadrant / 2) (random_word seed number (drawn + 1)))) }
     ensures words { (seed number drawn : ℕ) → random.old ≡ generator seed number drawn
         → random.new ≡ generator seed number (drawn + 2) }
-    ensures still { IsWithin 0 result.track }
 {
     let x = drawn_place(quadrant % 2, draw(random));
     let y = drawn_place(quadrant / 2, draw(random));
@@ -73,7 +71,6 @@ pub(crate) fn placed_robots(
     requires { All IsPlace places.now.items }
     ensures robots { (seed number : ℕ) → result.items ≡ map body_of (placed seed number places.now.items).robots }
     ensures manned { length result.items ≡ length places.now.items }
-    ensures still { All (λ (b : Body). IsWithin 0 b.track) result.items }
 {
     let mut robots = ArrayVec::new();
     for place in places.as_slice() {

@@ -38,9 +38,11 @@ pub fn rests(updates: u32) -> u8 {
     arena.damage(0)
 }
 
-/// Makes so many scans that see three robots, and returns the last range in metres: that of the nearest.
+/// Makes so many scans that see three robots, and returns the last range in metres: that of the nearest. An update comes
+/// first, so that the compiler knows none of the places.
 pub fn scans(times: u32) -> i32 {
     let mut arena = in_a_row();
+    arena.update();
     let mut range = 0;
     for n in 0..times {
         if arena.alive(0) {

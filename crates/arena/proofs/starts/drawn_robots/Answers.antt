@@ -1,9 +1,8 @@
 use Rattle.std.proofs.Common.{◌≡◌, ◌+◌, ◌*◌, ap, ◌∙◌, map, arith}
 use Rattle.std.specs.List.{range_with_len}
-use Rattle.std.proofs.lemmas.List.Elements.{All-push}
 use Rattle.arena.specs.Random.{generator}
 use Rattle.arena.specs.Start.{drawn_robot, start}
-use Rattle.arena.specs.Ground.{Body, body_of, IsWithin}
+use Rattle.arena.specs.Ground.{body_of}
 use Rattle.arena.proofs.Beginnings.{robot_is, drawn_more}
 use Rattle.arena.proofs.starts.drawn_robots.Goals as goal
 
@@ -18,8 +17,6 @@ loop-i-preserved c = record {
       let robot = c.drawn_robot.ensures.robot seed number _ (c.loop-i.invariant.words seed number e) in
       drawn_more seed number c.loop-i.i _ _ _ (c.loop-i.invariant.robots seed number e)
       (robot ∙ robot_is seed number c.loop-i.i _ (c.draw-first.ensures.word seed number 0 e)) c.push.ensures.items;
-  still = rw c.push.ensures.items
-      (All-push (λ (b : Body). IsWithin 0 b.track) _ _ c.loop-i.invariant.still c.drawn_robot.ensures.still);
 }
 
 pub returns-clause-robots : goal.returns-clause-robots

@@ -1,8 +1,8 @@
 use Rattle.std.proofs.Common.{◌≡◌, ℕ, ◌+◌, ◌*◌, length, map}
-use Rattle.std.specs.List.{All, range_with_len}
+use Rattle.std.specs.List.{range_with_len}
 use Rattle.arena.specs.Random.{generator}
 use Rattle.arena.specs.Start.{drawn_robot}
-use Rattle.arena.specs.Ground.{Body, body_of, IsWithin}
+use Rattle.arena.specs.Ground.{body_of}
 use Rattle.arena.proofs.starts.drawn_robots.Given as goal
 
 abbrev pub invariant-loop-i : goal.invariant-loop-i
@@ -11,5 +11,4 @@ invariant-loop-i l = record {
   words : (seed number : ℕ) → l.fn.random ≡ generator seed number 0 → l.random ≡ generator seed number (1 + 2 * l.i);
   robots : (seed number : ℕ) → l.fn.random ≡ generator seed number 0 →
       l.robots.items ≡ map body_of (map (drawn_robot seed number) (range_with_len 0 l.i));
-  still : All (λ (b : Body). IsWithin 0 b.track) l.robots.items;
 }

@@ -1,13 +1,12 @@
 use Rattle.std.proofs.Common.{◌++◌, [], ◌∷◌, List, ap, ◌∙◌, get_or, map, take, sym, ℤ, pos, FitsSigned, w32, rules, arith}
 use Rattle.std.proofs.lemmas.Int.{to_z-of_z}
 use Rattle.std.proofs.lemmas.List.{take_all, map_more}
-use Rattle.std.proofs.lemmas.List.Elements.{All-push}
 use Rattle.std.proofs.lemmas.Simd.{map-map}
 use Rattle.arena.specs.Leg.{last_place, clamped}
 use Rattle.arena.specs.Field.{Robot}
 use Rattle.arena.specs.Start.{standing}
 use Rattle.arena.specs.Placed.{placed}
-use Rattle.arena.specs.Ground.{Body, body_of, IsWithin}
+use Rattle.arena.specs.Ground.{Body, body_of}
 use Rattle.arena.proofs.starts.placed_robots.Goals as goal
 
 -- the robot at a given place
@@ -23,15 +22,13 @@ loop-place-preserved c = record {
       let y_fits : FitsSigned w32 (get_or items c.loop-place.place-index (pos 0, pos 0)).1 = search rules in
       let x = simp to_z-of_z at c.coordinate.ensures.value in
       let y = simp to_z-of_z at c.coordinate-in-loop-place.ensures.value in
-      let body = rw (x, y) at c.standing.ensures.body in
+      let body = rw (x, y) at c.standing.ensures in
       c.push.ensures.items ∙ ap (λ (l : List Body). l ++ c.standing.result ∷ []) c.loop-place.invariant.robots ∙
       ap (λ (b : Body). map (λ place. body_of (robot_at_place place)) (take c.loop-place.place-index items) ++ b ∷ [])
       body ∙
       sym
       (map_more (λ place. body_of (robot_at_place place)) items c.loop-place.place-index (pos 0, pos 0)
       c.loop-place-test.true);
-  still = rw c.push.ensures.items
-      (All-push (λ (b : Body). IsWithin 0 b.track) _ _ c.loop-place.invariant.still c.standing.ensures.still);
 }
 
 pub returns-clause-robots : goal.returns-clause-robots

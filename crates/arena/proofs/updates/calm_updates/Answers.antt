@@ -1,4 +1,4 @@
-use Rattle.std.proofs.Common.{◌+◌, ◌≤◌, List, subst, arith}
+use Rattle.std.proofs.Common.{◌+◌, ◌/◌, ◌≤◌, List, subst, arith}
 use Rattle.std.specs.List.{All}
 use Rattle.std.proofs.lemmas.List.{take_rest}
 use Rattle.arena.specs.Ground.{Body}
@@ -13,9 +13,11 @@ loop-i-preserved c =
     let m = c.index-robots-i.result in
     let next = c.least_gap-least.result in
     let after =
-    subst (λ (bs : List Body). All (λ (other : Body). next ≤ gap m.track other.track) bs) (take_rest robots (i + 1))
+    subst (λ (bs : List Body). All (λ (other : Body). next / 100000 ≤ gap m.track other.track) bs)
+    (take_rest robots (i + 1))
     c.least_gap-least.ensures.least in
-    gaps_more robots i m c.loop-i.least next c.least_gap-least.ensures.less c.loop-i-test.true c.index-robots-i.is
+    gaps_more robots i m (c.loop-i.least / 100000) (next / 100000) (omega (arith, c.least_gap-least.ensures.less))
+    c.loop-i-test.true c.index-robots-i.is
     c.loop-i.invariant after
 
 pub returns : goal.returns

@@ -1,12 +1,11 @@
-use Rattle.std.proofs.Common.{◌≡◌, ◌+◌, ◌<◌, length, get_or, sym, ap, subst, ◌∙◌, arith}
+use Rattle.std.proofs.Common.{◌≡◌, ◌<◌, length, get_or, sym, ap, subst, ◌∙◌, arith}
 use Rattle.std.proofs.lemmas.List.{get_or_read, length-set, length-map}
 use Rattle.arena.specs.Field.{no_robot}
-use Rattle.arena.specs.Ground.{Body, body_of, IsWithin}
+use Rattle.arena.specs.Ground.{Body, body_of}
 use Rattle.arena.specs.Drive.{ahead}
 use Rattle.arena.specs.Calm.{IsNearby}
 use Rattle.arena.proofs.InPlace.{none, one_more, others_stay, all_mapped}
 use Rattle.arena.proofs.Represents.{bodies_at}
-use Rattle.arena.proofs.SlotLaws.{inside_is}
 use Rattle.arena.proofs.updates.drive.Goals as goal
 
 pub loop-robot-preserved : goal.loop-robot-preserved
@@ -29,12 +28,6 @@ loop-robot-preserved c =
           one_more (λ k (b : Body). IsNearby (get_or c.args.robots.now k none).track b.track) items i new inside
           inv.nearby
           (subst (λ (b : Body). IsNearby b.track new.track) (sym c.robot-item.is ∙ was) c.drive.ensures.nearby);
-      way = λ way h.
-          let here : IsWithin way (get_or items i old).track =
-          subst (λ (b : Body). IsWithin way b.track) (sym (sym c.robot-item.is ∙ was))
-          (h i none c.loop-robot-test.true) in
-          one_more (λ k (b : Body). IsWithin (way + 10000000) b.track) items i new inside (inv.way way h)
-          (omega (arith, here.0, c.drive.ensures.east), omega (arith, here.1, c.drive.ensures.north));
     }
 
 pub returns-clause-ahead : goal.returns-clause-ahead
@@ -45,9 +38,3 @@ returns-clause-ahead c = λ rs e.
 
 pub returns-clause-nearby : goal.returns-clause-nearby
 returns-clause-nearby c = λ k l. c.loop-robot.invariant.nearby k (omega arith)
-
-pub returns-clause-way : goal.returns-clause-way
-returns-clause-way c = λ way h k d l.
-    let inv = c.loop-robot.invariant in
-    subst (λ (b : Body). IsWithin (way + 10000000) b.track) (inside_is c.loop-robot.robot-items k none d l)
-    (inv.way way h k (omega (arith, l, inv.size)))

@@ -1,7 +1,6 @@
-use Rattle.std.proofs.Common.{◌≡◌, ℕ, ◌+◌, ◌<◌, ◌≤◌, List, length, map, get_or}
-use Rattle.std.specs.List.{All}
+use Rattle.std.proofs.Common.{◌≡◌, ℕ, ◌<◌, ◌≤◌, List, length, map, get_or}
 use Rattle.arena.specs.Field.{Robot, no_robot}
-use Rattle.arena.specs.Ground.{Body, body_of, IsWithin}
+use Rattle.arena.specs.Ground.{body_of}
 use Rattle.arena.specs.Drive.{ahead}
 use Rattle.arena.specs.Calm.{IsNearby}
 use Rattle.arena.proofs.InPlace.{none}
@@ -16,6 +15,4 @@ invariant-loop-robot l = record {
       get_or l.robot-items k none ≡ ahead (get_or rs k no_robot);
   nearby : (k : ℕ) → k < l.robot-index →
       IsNearby (get_or l.initial.robot-items k none).track (get_or l.robot-items k none).track;
-  way : (way : ℕ) → All (λ (b : Body). IsWithin way b.track) l.initial.robot-items → (k : ℕ) → k < l.robot-index →
-      IsWithin (way + 10000000) (get_or l.robot-items k none).track;
 }

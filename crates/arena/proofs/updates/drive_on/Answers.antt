@@ -1,8 +1,8 @@
-use Rattle.std.proofs.Common.{◌≡◌, ◌+◌, ◌<◌, length, get_or, sym, ap, subst, ◌∙◌, arith}
+use Rattle.std.proofs.Common.{◌≡◌, ◌<◌, length, get_or, sym, ap, ◌∙◌, arith}
 use Rattle.std.proofs.lemmas.List.{get_or_read, length-set, length-map}
 use Rattle.arena.specs.Field.{no_robot}
 use Rattle.arena.specs.Collisions.{mover}
-use Rattle.arena.specs.Ground.{Body, body_of, IsWithin}
+use Rattle.arena.specs.Ground.{body_of}
 use Rattle.arena.specs.Drive.{ahead}
 use Rattle.arena.proofs.Loops.{pushed_map}
 use Rattle.arena.proofs.InPlace.{none, one_more, others_stay, all_mapped}
@@ -31,12 +31,6 @@ loop-robot-preserved c =
           λ rs e. pushed_map body_of mover c.args.robots.now rs _ _ i old _ no_robot e c.loop-robot-test.true
           (was ∙ inside_is c.args.robots.now i none old c.loop-robot-test.true)
           (λ at. c.drive_on.ensures.mover _ (sym c.robot-item.is ∙ at)) (inv.movers rs e) c.push.ensures.items;
-      way = λ way h.
-          let here : IsWithin way (get_or items i old).track =
-          subst (λ (b : Body). IsWithin way b.track) (sym (sym c.robot-item.is ∙ was))
-          (h i none c.loop-robot-test.true) in
-          one_more (λ k (b : Body). IsWithin (way + 10000000) b.track) items i new inside (inv.way way h)
-          (omega (arith, here.0, c.drive_on.ensures.east), omega (arith, here.1, c.drive_on.ensures.north));
     }
 
 pub returns-clause-ahead : goal.returns-clause-ahead
@@ -44,9 +38,3 @@ returns-clause-ahead c = λ rs e.
     let inv = c.loop-robot.invariant in
     let size : length c.loop-robot.robot-items ≡ length rs = inv.size ∙ ap length e ∙ length-map rs body_of in
     all_mapped ahead rs c.loop-robot.robot-items size (λ k l. inv.ahead rs e k (omega arith))
-
-pub returns-clause-way : goal.returns-clause-way
-returns-clause-way c = λ way h k d l.
-    let inv = c.loop-robot.invariant in
-    subst (λ (b : Body). IsWithin (way + 10000000) b.track) (inside_is c.loop-robot.robot-items k none d l)
-    (inv.way way h k (omega (arith, l, inv.size)))

@@ -1,8 +1,7 @@
-use Rattle.std.proofs.Common.{◌≡◌, ℕ, ◌+◌, ◌<◌, ◌≤◌, List, length, take, map, get_or}
-use Rattle.std.specs.List.{All}
+use Rattle.std.proofs.Common.{◌≡◌, ℕ, ◌<◌, ◌≤◌, List, length, take, map, get_or}
 use Rattle.arena.specs.Field.{Robot, no_robot}
 use Rattle.arena.specs.Collisions.{mover}
-use Rattle.arena.specs.Ground.{Body, body_of, IsWithin}
+use Rattle.arena.specs.Ground.{body_of}
 use Rattle.arena.specs.Drive.{ahead}
 use Rattle.arena.proofs.InPlace.{none}
 use Rattle.arena.proofs.updates.drive_on.Given as goal
@@ -17,6 +16,4 @@ invariant-loop-robot l = record {
       get_or l.robot-items k none ≡ ahead (get_or rs k no_robot);
   movers : (rs : List Robot) → l.initial.robot-items ≡ map body_of rs →
       l.movers.items ≡ map mover (take l.robot-index rs);
-  way : (way : ℕ) → All (λ (b : Body). IsWithin way b.track) l.initial.robot-items → (k : ℕ) → k < l.robot-index →
-      IsWithin (way + 10000000) (get_or l.robot-items k none).track;
 }

@@ -1,8 +1,6 @@
 use Rattle.std.proofs.Common.{◌≡◌, ℕ, ◌+◌, ◌<◌, ◌≤◌, length, map, get_or}
-use Rattle.std.specs.List.{All}
 use Rattle.arena.specs.Field.{Field}
 use Rattle.arena.specs.Collisions.{mover}
-use Rattle.arena.specs.Ground.{Body, IsWithin}
 use Rattle.arena.specs.Drive.{ahead}
 use Rattle.arena.specs.Standing.{HoldsShots}
 use Rattle.arena.proofs.InPlace.{none}
@@ -17,6 +15,4 @@ invariant-loop-i l = record {
   robots : (f : Field) → l.update ≡ f.updates + 1 → l.initial.robots ≡ map ahead f.robots →
       l.movers ≡ map mover f.robots → HoldsShots f.updates l.missiles f.shots →
       (k : ℕ) → k < l.i → get_or l.robots k none ≡ after_at f k;
-  way : (way : ℕ) → All (λ (b : Body). IsWithin way b.track) l.initial.robots → (k : ℕ) → k < l.i →
-      IsWithin way (get_or l.robots k none).track;
 }

@@ -6,17 +6,17 @@ use Rattle.arena.specs.Drive.{ahead}
 use Rattle.arena.proofs.Wear.{dead_is, dead_stays, alive_is}
 use Rattle.arena.proofs.updates.finished.Goals as goal
 
-pub returns-then-not-is_live-clause-robot : goal.returns-then-not-is_live-clause-robot
+pub returns-then-not-is_live : goal.returns-then-not-is_live
 unfolding mover
-returns-then-not-is_live-clause-robot c = λ r updates shots u holds e m.
+returns-then-not-is_live c = λ r updates shots u holds e m.
     let dead : is_alive r ≡ false = sym (c.is_live.ensures ∙ ap (λ (m : Mover). m.live) m) ∙ c.if-not-is_live.true in
     e ∙ dead_stays r dead ∙ ap body_of (dead_is r c.args.update shots c.args.touched dead)
 
-pub returns-clause-robot : goal.returns-clause-robot
+pub returns : goal.returns
 unfolding mover ahead
-returns-clause-robot c = λ r updates shots u holds e m.
+returns c = λ r updates shots u holds e m.
     let live : is_alive r ≡ true = sym (c.is_live.ensures ∙ ap (λ (m : Mover). m.live) m) ∙ c.if-not-is_live.false in
-    let leg = c.motion_after-motion.ensures.leg r e m live in
+    let leg = c.motion_after-motion.ensures r e m live in
     let burst = rw (c.x.ensures.value, c.y.ensures.value) at (c.damage_at-bursts.ensures.shots updates shots u holds) in
     let walled = c.damage.ensures.value ∙ ap (λ (b : Body). b.damage) e in
     c.new.ensures ∙

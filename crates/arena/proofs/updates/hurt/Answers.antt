@@ -1,14 +1,13 @@
-use Rattle.std.proofs.Common.{◌≡◌, ◌<◌, length, map, sum, get_or, sym, ap, subst, ◌∙◌, arith}
+use Rattle.std.proofs.Common.{◌≡◌, ◌<◌, length, map, sum, get_or, sym, ap, ◌∙◌, arith}
 use Rattle.std.proofs.lemmas.List.{get_or_read, get_or-map, length-set, length-map}
 use Rattle.arena.specs.Field.{no_robot}
-use Rattle.arena.specs.Ground.{Body, IsWithin}
+use Rattle.arena.specs.Ground.{Body}
 use Rattle.arena.specs.Drive.{ahead}
 use Rattle.arena.specs.Calm.{IsAtPlace}
 use Rattle.arena.specs.Due.{harm}
 use Rattle.arena.proofs.Loops.{after_at, at_is}
 use Rattle.arena.proofs.Wear.{hurt_at}
 use Rattle.arena.proofs.InPlace.{none, one_more, others_stay, all_after}
-use Rattle.arena.proofs.SlotLaws.{inside_is}
 use Rattle.arena.proofs.updates.hurt.Goals as goal
 
 pub loop-robot-preserved : goal.loop-robot-preserved
@@ -45,11 +44,6 @@ loop-robot-preserved c =
             on_x = ap (λ (b : Body). b.track.x) c.hurt.ensures ∙ ap (λ (b : Body). b.track.x) there;
             on_y = ap (λ (b : Body). b.track.y) c.hurt.ensures ∙ ap (λ (b : Body). b.track.y) there;
           });
-      way = λ way h.
-          let here : IsWithin way (get_or items i old).track =
-          subst (λ (b : Body). IsWithin way b.track) (sym there) (h i none c.loop-robot-test.true) in
-          one_more (λ k (b : Body). IsWithin way b.track) items i new inside (inv.way way h)
-          (subst (λ (b : Body). IsWithin way b.track) (sym c.hurt.ensures) here);
     }
 
 pub returns-clause-robots : goal.returns-clause-robots
@@ -60,9 +54,3 @@ returns-clause-robots c = λ f u e holds untouched.
 
 pub returns-clause-places : goal.returns-clause-places
 returns-clause-places c = λ k l. c.loop-robot.invariant.places k (omega arith)
-
-pub returns-clause-way : goal.returns-clause-way
-returns-clause-way c = λ way h k d l.
-    let inv = c.loop-robot.invariant in
-    subst (λ (b : Body). IsWithin way b.track) (inside_is c.loop-robot.robot-items k none d l)
-    (inv.way way h k (omega (arith, l, inv.size)))

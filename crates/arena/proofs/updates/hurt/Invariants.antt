@@ -1,8 +1,6 @@
 use Rattle.std.proofs.Common.{◌≡◌, ℕ, ◌+◌, ◌<◌, ◌≤◌, length, map, get_or}
-use Rattle.std.specs.List.{All}
 use Rattle.arena.specs.Field.{Field}
 use Rattle.arena.specs.Collisions.{mover, touches}
-use Rattle.arena.specs.Ground.{Body, IsWithin}
 use Rattle.arena.specs.Drive.{ahead}
 use Rattle.arena.specs.Standing.{HoldsShots}
 use Rattle.arena.specs.Calm.{IsAtPlace}
@@ -21,6 +19,4 @@ invariant-loop-robot l = record {
       get_or l.robot-items k none ≡ after_at f k;
   places : (k : ℕ) → k < l.robot-index →
       IsAtPlace (get_or l.initial.robot-items k none).track (get_or l.robot-items k none).track;
-  way : (way : ℕ) → All (λ (b : Body). IsWithin way b.track) l.initial.robot-items → (k : ℕ) → k < l.robot-index →
-      IsWithin way (get_or l.robot-items k none).track;
 }

@@ -5,8 +5,8 @@ use Rattle.arena.specs.Shots.{bursts}
 use Rattle.arena.proofs.InPlace.{ahead_of_all}
 use Rattle.arena.proofs.updates.move_among.Goals as goal
 
-pub returns-then-not-any_near-clause-robots : goal.returns-then-not-any_near-clause-robots
-returns-then-not-any_near-clause-robots c = λ f u e holds.
+pub returns-then-not-any_near : goal.returns-then-not-any_near
+returns-then-not-any_near c = λ f u e holds.
     let movers = c.as_slice.ensures.value ∙ c.drive_on-movers.ensures.movers f.robots e in
     let touched =
     subst (λ (ms : List Mover). (i : ℕ) → i < length ms → touches ms i ≡ 0) movers
@@ -16,6 +16,3 @@ returns-then-not-any_near-clause-robots c = λ f u e holds.
     (c.is_quiet.ensures c.if-is_quiet.true f.updates f.shots x y u holds) in
     c.drive_on-movers.ensures.ahead f.robots e ∙
     ahead_of_all f (λ i l. touched i (omega (arith, l, length-map f.robots mover))) none
-
-pub returns-clause-way : goal.returns-clause-way
-returns-clause-way c = λ way h. c.finish.ensures.way (way + 10000000) (c.drive_on-movers.ensures.way way h)

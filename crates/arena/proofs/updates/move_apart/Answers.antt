@@ -1,33 +1,40 @@
-use Rattle.std.proofs.Common.{◌≡◌, ℕ, ◌+◌, length, sum, subst, ap, ◌∙◌, arith}
+use Rattle.std.proofs.Common.{◌≡◌, ℕ, ◌+◌, ◌<◌, List, length, sum, sym, subst, ap, ◌∙◌, arith}
 use Rattle.std.proofs.lemmas.List.{length-map}
-use Rattle.arena.specs.Ground.{body_of}
+use Rattle.arena.specs.Ground.{Body, body_of}
 use Rattle.arena.specs.Shots.{bursts}
+use Rattle.arena.specs.Calm.{body_at, IsNearby, FarFor}
 use Rattle.arena.proofs.InPlace.{ahead_of_all}
-use Rattle.arena.proofs.Calm.{calm}
+use Rattle.arena.proofs.Calm.{calm, far_one, far_less}
 use Rattle.arena.proofs.updates.move_apart.Goals as goal
+use Rattle.arena.proofs.updates.move_apart.Goals.{then-not-is_quiet, else-not-is_quiet}
 
-pub returns-then-not-is_quiet-clause-robots : goal.returns-then-not-is_quiet-clause-robots
-returns-then-not-is_quiet-clause-robots c = λ f u e holds.
+pub returns-clause-far : goal.returns-clause-far
+returns-clause-far c =
+    let P : List Body → Type 0 = λ robots. (k : ℕ) → k < length c.args.robots.now →
+    IsNearby (body_at c.args.robots.now k).track (body_at robots k).track in
+    let near : P c.if-not-is_quiet.robots = elim c.if-not-is_quiet.branch [
+      | then-not-is_quiet w ↦
+          subst P (sym w.robots-is)
+          (λ k l. let near = c.drive.ensures.nearby k l in
+          let same = w.hurt.ensures.places k (omega (arith, l, c.drive.auto.robots)) in
+          record { on_x = omega (arith, near.on_x, same.on_x); on_y = omega (arith, near.on_y, same.on_y) })
+      | else-not-is_quiet w ↦ subst P (sym w.robots-is) c.drive.ensures.nearby
+    ] in
+    far_less c.args.calm c.args.robots.now c.if-not-is_quiet.robots
+    (c.if-not-is_quiet.auto.robots ∙ c.drive.auto.robots) near c.requires.far
+
+pub returns-clause-robots : goal.returns-clause-robots
+returns-clause-robots c = λ f u e holds.
     let there = c.drive.ensures.ahead f.robots e in
     let size = ap length e ∙ length-map f.robots body_of in
-    c.hurt.ensures.robots f u there holds
-    (calm f c.args.robots.now c.drive.new.robots size there c.drive.ensures.nearby c.requires.far)
-
-pub returns-then-not-is_quiet-clause-way : goal.returns-then-not-is_quiet-clause-way
-returns-then-not-is_quiet-clause-way c = λ way h. c.hurt.ensures.way (way + 10000000) (c.drive.ensures.way way h)
-
-pub returns-else-not-is_quiet-clause-robots : goal.returns-else-not-is_quiet-clause-robots
-returns-else-not-is_quiet-clause-robots c = λ f u e holds.
-    let there = c.drive.ensures.ahead f.robots e in
-    let size = ap length e ∙ length-map f.robots body_of in
-    let untouched = calm f c.args.robots.now c.drive.new.robots size there c.drive.ensures.nearby c.requires.far in
-    let none : (x y : ℕ) → sum (bursts (f.updates + 1) f.shots x y) ≡ 0 =
-    λ x y. subst (λ n. sum (bursts n f.shots x y) ≡ 0) u
-    (c.is_quiet.ensures c.if-not-is_quiet.false f.updates f.shots x y u holds) in
-    there ∙ ahead_of_all f untouched none
-
-pub returns-then-not-is_quiet-clause-nearby : goal.returns-then-not-is_quiet-clause-nearby
-returns-then-not-is_quiet-clause-nearby c = λ k l.
-    let near = c.drive.ensures.nearby k l in
-    let same = c.hurt.ensures.places k (omega (arith, l, c.drive.auto.robots)) in
-    record { on_x = omega (arith, near.on_x, same.on_x); on_y = omega (arith, near.on_y, same.on_y) }
+    let far : FarFor 1 c.args.robots.now =
+    far_one c.args.calm c.args.robots.now (λ z. absurd (omega (arith, z, c.requires.some))) c.requires.far in
+    let untouched = calm f c.args.robots.now c.drive.new.robots size there c.drive.ensures.nearby far in
+    elim c.if-not-is_quiet.branch [
+      | then-not-is_quiet w ↦ w.robots-is ∙ w.hurt.ensures.robots f u there holds untouched
+      | else-not-is_quiet w ↦
+          let none : (x y : ℕ) → sum (bursts (f.updates + 1) f.shots x y) ≡ 0 =
+          λ x y. subst (λ n. sum (bursts n f.shots x y) ≡ 0) u
+          (c.is_quiet.ensures w.if-not-is_quiet.false f.updates f.shots x y u holds) in
+          w.robots-is ∙ there ∙ ahead_of_all f untouched none
+    ]

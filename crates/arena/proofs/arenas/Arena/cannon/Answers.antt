@@ -22,7 +22,7 @@ returns-then-not-may_fire-clause-stands c = λ f s.
 pub invariant_of-self : goal.invariant_of-self
 invariant_of-self c =
     let i = c.self.invariant in
-    (i.0, c.fire.ensures.count ∙ i.1, i.2, i.3, c.fire.ensures.two i.4, λ e. absurd (cc), i.6)
+    (i.0, c.fire.ensures.count ∙ i.1, i.2, c.fire.ensures.two i.3, λ e. absurd (cc), i.5)
 
 pub returns-clause-reply : goal.returns-clause-reply
 returns-clause-reply c = λ f s.

@@ -1,9 +1,8 @@
-use Rattle.std.proofs.Common.{◌*◌, ◌<◌, get_or, sym, ap, subst, ◌∙◌, length, arith}
+use Rattle.std.proofs.Common.{◌<◌, get_or, sym, ap, subst, ◌∙◌, length, arith}
 use Rattle.std.proofs.lemmas.List.{length-set}
-use Rattle.std.proofs.lemmas.List.Elements.{All-get_or, All-set}
 use Rattle.std.proofs.lemmas.Int.{to_z-of_z}
 use Rattle.arena.specs.Field.{no_robot, robot_at}
-use Rattle.arena.specs.Ground.{Ground, Body, body_of, IsWithin}
+use Rattle.arena.specs.Ground.{Ground, Body, body_of}
 use Rattle.arena.specs.Standing.{StandsFor}
 use Rattle.arena.specs.contracts.arenas.Arena.{the_view}
 use Rattle.arena.specs.Calm.{IsAtPlace}
@@ -17,22 +16,16 @@ invariant_of-self c =
     let items = c.self.inside.robots.items in
     let robots = ap (λ (g : Ground). g.robots) c.self.view_is in
     let inside : c.args.robot < length items = omega (arith, ap length robots) in
-    let P : Body → Type 0 = λ b. IsWithin (10000000 * c.self.inside.updates) b.track in
     let same = c.robot.ensures.value ∙ ap (λ l. get_or l c.args.robot (body_of no_robot)) (sym robots) in
-    let old : P c.robot.result.now =
-    subst P (sym same) (All-get_or P items c.args.robot (body_of no_robot) inside i.3) in
-    let way = c.wanting-wanting.ensures.way in
-    let new : P c.wanting-wanting.result = rw (way.0, way.1) old in
     let size = length-set items c.args.robot c.wanting-wanting.result in
     let place =
     subst (λ (b : Body). IsAtPlace b.track c.wanting-wanting.result.track) same c.wanting-wanting.ensures.place in
-    let far = far_set c.self.inside.calm items c.args.robot c.wanting-wanting.result inside place i.6 in
+    let far = far_set c.self.inside.calm items c.args.robot c.wanting-wanting.result inside place i.5 in
     rw (put_is items c.deref_mut.result.now c.args.robot c.wanting-wanting.result c.deref_mut.ensures.value) (
       i.0,
       i.1 ∙ sym size,
       omega (arith, size),
-      All-set P items c.args.robot c.wanting-wanting.result new i.3,
-      i.4,
+      i.3,
       λ e. absurd (cc),
       far,
     )

@@ -18,7 +18,7 @@ returns-clause-x c = λ f s.
     c.as_slice.ensures.value ∙ c.movers-movers.ensures.movers f.robots (c.robots.ensures.value ∙ s.robots) in
     let touched = c.touches.ensures.value ∙ ap (λ ms. touches ms c.args.robot) movers in
     let track =
-    c.motion_after-motion.ensures.leg r (c.drive_on-seen.ensures.ahead r body) (c.drive_on-seen.ensures.mover r body)
+    c.motion_after-motion.ensures r (c.drive_on-seen.ensures.ahead r body) (c.drive_on-seen.ensures.mover r body)
     live in
     c.x.ensures.value ∙ ap (λ (t : Track). t.x) track ∙ ap (λ n. place_x (leg_after r.leg n)) touched
 
@@ -32,6 +32,6 @@ returns-clause-y c = λ f s.
     c.as_slice.ensures.value ∙ c.movers-movers.ensures.movers f.robots (c.robots.ensures.value ∙ s.robots) in
     let touched = c.touches.ensures.value ∙ ap (λ ms. touches ms c.args.robot) movers in
     let track =
-    c.motion_after-motion.ensures.leg r (c.drive_on-seen.ensures.ahead r body) (c.drive_on-seen.ensures.mover r body)
+    c.motion_after-motion.ensures r (c.drive_on-seen.ensures.ahead r body) (c.drive_on-seen.ensures.mover r body)
     live in
     c.y.ensures.value ∙ ap (λ (t : Track). t.y) track ∙ ap (λ n. place_y (leg_after r.leg n)) touched

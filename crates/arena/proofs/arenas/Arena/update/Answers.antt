@@ -1,4 +1,4 @@
-use Rattle.std.proofs.Common.{◌≡◌, ◌+◌, ◌*◌, List, sym, ap, subst, ◌∙◌, refl, length, arith}
+use Rattle.std.proofs.Common.{◌≡◌, ◌+◌, List, sym, ap, subst, ◌∙◌, refl, length, arith}
 use Rattle.arena.specs.Ground.{Body, Missile, Ground}
 use Rattle.arena.specs.Standing.{HoldsShots, StandsFor}
 use Rattle.arena.specs.contracts.arenas.Arena.{the_view}
@@ -14,22 +14,18 @@ still e f s = rw (sym e, sym f) s
 pub returns-then-self-clause-stands : goal.returns-then-self-clause-stands
 returns-then-self-clause-stands c = λ f s.
     let now : StandsFor (the_view c.self.inside) f = rw c.self.view_is s in
-    only_counts (the_view c.self.inside) f now (c.self.invariant.5 c.if-self.true)
+    only_counts (the_view c.self.inside) f now (c.self.invariant.4 c.if-self.true)
 
 pub invariant_of-self-2 : goal.invariant_of-self-2
 invariant_of-self-2 c =
     let i = c.self.invariant in
     let len = c.move_on-self-inside.auto.robots ∙ ap length c.as_mut_slice.ensures.value in
-    let way =
-    c.move_on-self-inside.ensures.way (10000000 * c.self.inside.updates) (rw c.as_mut_slice.ensures.value i.3) in
-    let more : 10000000 * (c.self.inside.updates + 1) ≡ 10000000 * c.self.inside.updates + 10000000 = omega arith in
     let refilled = refill_is c.self.inside.robots.items c.move_on-self-inside.new.robots len in
     rw refilled (
       omega (arith, ap (λ (g : Ground). g.updates) c.self.view_is),
       c.land.ensures.count ∙ i.1 ∙ sym len,
       omega (arith, len, i.2),
-      rw more way,
-      c.land.ensures.two i.4,
+      c.land.ensures.two i.3,
       λ e. still (c.as_slice.ensures.value ∙ refilled) refl (c.is_still-self-inside.ensures e),
       c.move_on-self-inside.ensures.far,
     )

@@ -1,90 +1,84 @@
 use Rattle.std.proofs.Common.{sym, ap, ◌∙◌, arith, rules}
+use Rattle.std.proofs.lemmas.Bool.{or_parts}
 use Rattle.std.proofs.lemmas.Int.{to_z-of_z}
 use Rattle.arena.specs.Ground.{Track}
+use Rattle.arena.specs.Sums.{place_near}
 use Rattle.arena.specs.contracts.motion.Motion.{the_view}
-use Rattle.arena.proofs.Tracks.{forward_from, clamped_inside, forward_near, out_is, wall_is, free_is, stays_is}
+use Rattle.arena.proofs.Sums.{free_is_field, near, near_inside, bits_are}
+use Rattle.arena.proofs.Tracks.{forward_from, walled_is, stops_is, drives_is}
 use Rattle.arena.proofs.motion.Motion.advance.Goals as goal
 
-pub returns-then-self-eq0-clause-motion : goal.returns-then-self-eq0-clause-motion
-returns-then-self-eq0-clause-motion c = λ leg e.
+pub returns-then-leaves-clause-motion : goal.returns-then-leaves-clause-motion
+returns-then-leaves-clause-motion c = λ leg e.
+    let t = the_view c.self.inside in
+    let east_bits = bits_are t.east t.step_east (search rules) (search rules) (search rules) in
+    let north_bits = bits_are t.north t.step_north (search rules) (search rules) (search rules) in
+    let f = forward_from t _ c.leaves.ensures east_bits north_bits in
+    stops_is t _ leg _ _ _ _ _ (c.self.view_is ∙ e) f c.if-leaves.true (ap place_near east_bits)
+    (ap place_near north_bits) (c.stop_near.ensures.leg leg e)
+
+pub returns-then-leaves-clause-walled : goal.returns-then-leaves-clause-walled
+returns-then-leaves-clause-walled c = λ leg e.
+    let t = the_view c.self.inside in
+    let east_bits = bits_are t.east t.step_east (search rules) (search rules) (search rules) in
+    let north_bits = bits_are t.north t.step_north (search rules) (search rules) (search rules) in
+    let f = forward_from t _ c.leaves.ensures east_bits north_bits in
+    sym c.if-leaves.true ∙ walled_is t leg _ _ _ (c.self.view_is ∙ e) f
+
+pub returns-then-leaves-clause-nearby : goal.returns-then-leaves-clause-nearby
+returns-then-leaves-clause-nearby c =
     let i = c.self.invariant in
-    sym c.self.view_is ∙ (stays_is _ leg (c.self.view_is ∙ e) c.if-self-eq0.true i.2 i.3 i.8 i.9).0
+    let t = the_view c.self.inside in
+    let east_bits = bits_are t.east t.step_east (search rules) (search rules) (search rules) in
+    let north_bits = bits_are t.north t.step_north (search rules) (search rules) (search rules) in
+    let f = forward_from t _ c.leaves.ensures east_bits north_bits in
+    let near_x = near t.east t.step_east i.0 i.2 in
+    let near_y = near t.north t.step_north i.1 i.3 in
+    let from_x = ap (λ (t : Track). t.x) c.self.view_is in
+    let from_y = ap (λ (t : Track). t.y) c.self.view_is in
+    let to_x = c.stop_near.ensures.place.0 ∙ ap place_near east_bits in
+    let to_y = c.stop_near.ensures.place.1 ∙ ap place_near north_bits in
+    record { on_x = rw (sym from_x, to_x) near_x; on_y = rw (sym from_y, to_y) near_y }
 
-pub returns-then-self-eq0-clause-walled : goal.returns-then-self-eq0-clause-walled
-returns-then-self-eq0-clause-walled c = λ leg e.
+pub invariant_of-self : goal.invariant_of-self
+invariant_of-self c =
     let i = c.self.invariant in
-    (stays_is _ leg (c.self.view_is ∙ e) c.if-self-eq0.true i.2 i.3 i.8 i.9).1
-
-pub returns-then-hits_wall-clause-motion : goal.returns-then-hits_wall-clause-motion
-returns-then-hits_wall-clause-motion c = λ leg e.
-    let f =
-    forward_from _ _ _ _ _ _ _ _ _ _ c.cosine_at.ensures.value c.sine_at.ensures.value c.further-east.ensures.value
-    c.further-north.ensures.value c.along-to_x.ensures c.along-to_y.ensures c.clamped.ensures.value
-    c.clamped-then-hits_wall.ensures.value c.hits_wall.ensures (search rules) (search rules) (search rules)
-    (search rules) (search rules) (search rules) (search rules) (search rules) in
-    let h = wall_is _ leg _ _ _ _ _ _ _ (c.self.view_is ∙ e) f c.if-hits_wall.true in
-    c.self-then-hits_wall.view_is ∙ c.stopped_at.ensures ∙ grind (arith, to_z-of_z)
-
-pub returns-then-hits_wall-clause-walled : goal.returns-then-hits_wall-clause-walled
-returns-then-hits_wall-clause-walled c = λ leg e.
-    let f =
-    forward_from _ _ _ _ _ _ _ _ _ _ c.cosine_at.ensures.value c.sine_at.ensures.value c.further-east.ensures.value
-    c.further-north.ensures.value c.along-to_x.ensures c.along-to_y.ensures c.clamped.ensures.value
-    c.clamped-then-hits_wall.ensures.value c.hits_wall.ensures (search rules) (search rules) (search rules)
-    (search rules) (search rules) (search rules) (search rules) (search rules) in
-    sym c.if-hits_wall.true ∙ out_is _ leg _ _ _ _ _ _ _ (c.self.view_is ∙ e) f
-
-pub returns-then-hits_wall-clause-nearby : goal.returns-then-hits_wall-clause-nearby
-returns-then-hits_wall-clause-nearby c =
-    let i = c.self.invariant in
-    let f =
-    forward_from _ _ _ _ _ _ _ _ _ _ c.cosine_at.ensures.value c.sine_at.ensures.value c.further-east.ensures.value
-    c.further-north.ensures.value c.along-to_x.ensures c.along-to_y.ensures c.clamped.ensures.value
-    c.clamped-then-hits_wall.ensures.value c.hits_wall.ensures (search rules) (search rules) (search rules)
-    (search rules) (search rules) (search rules) (search rules) (search rules) in
-    let n =
-    forward_near (the_view c.self.inside) _ _ _ _ _ _ _ _ _ f i.2 i.3 i.8 i.9 i.6 c.cosine_at.ensures.value
-    c.sine_at.ensures.value c.cosine_at.ensures.within_scale c.sine_at.ensures.within_scale in
-    let to = c.self-then-hits_wall.view_is ∙ c.stopped_at.ensures in
-    record {
-      on_x = omega (arith, n.0, ap (λ (t : Track). t.x) c.self.view_is, ap (λ (t : Track). t.x) to);
-      on_y = omega (arith, n.1, ap (λ (t : Track). t.y) c.self.view_is, ap (λ (t : Track). t.y) to);
-    }
+    let t = the_view c.self.inside in
+    let east_bits = bits_are t.east t.step_east (search rules) (search rules) (search rules) in
+    let north_bits = bits_are t.north t.step_north (search rules) (search rules) (search rules) in
+    let f = forward_from t _ c.leaves.ensures east_bits north_bits in
+    let free = or_parts _ _ (sym f.is_out ∙ c.if-leaves.false) in
+    let east = free_is_field _ free.0 in
+    let north = free_is_field _ free.1 in
+    grind (arith, to_z-of_z)
 
 pub returns-clause-motion : goal.returns-clause-motion
 returns-clause-motion c = λ leg e.
-    let f =
-    forward_from _ _ _ _ _ _ _ _ _ _ c.cosine_at.ensures.value c.sine_at.ensures.value c.further-east.ensures.value
-    c.further-north.ensures.value c.along-to_x.ensures c.along-to_y.ensures
-    (clamped_inside _ _ c.inside.ensures.value c.inside.ensures.most)
-    (clamped_inside _ _ c.inside-2.ensures.value c.inside-2.ensures.most) c.hits_wall.ensures (search rules)
-    (search rules) (search rules) (search rules) (search rules) (search rules) (search rules) (search rules) in
-    let h = free_is _ leg _ _ _ _ _ _ _ (c.self.view_is ∙ e) f c.if-hits_wall.false in
+    let t = the_view c.self.inside in
+    let east_bits = bits_are t.east t.step_east (search rules) (search rules) (search rules) in
+    let north_bits = bits_are t.north t.step_north (search rules) (search rules) (search rules) in
+    let f = forward_from t _ c.leaves.ensures east_bits north_bits in
+    let h = drives_is t leg _ _ _ (c.self.view_is ∙ e) f c.if-leaves.false in
     grind (arith, to_z-of_z)
 
 pub returns-clause-walled : goal.returns-clause-walled
 returns-clause-walled c = λ leg e.
-    let f =
-    forward_from _ _ _ _ _ _ _ _ _ _ c.cosine_at.ensures.value c.sine_at.ensures.value c.further-east.ensures.value
-    c.further-north.ensures.value c.along-to_x.ensures c.along-to_y.ensures
-    (clamped_inside _ _ c.inside.ensures.value c.inside.ensures.most)
-    (clamped_inside _ _ c.inside-2.ensures.value c.inside-2.ensures.most) c.hits_wall.ensures (search rules)
-    (search rules) (search rules) (search rules) (search rules) (search rules) (search rules) (search rules) in
-    sym c.if-hits_wall.false ∙ out_is _ leg _ _ _ _ _ _ _ (c.self.view_is ∙ e) f
+    let t = the_view c.self.inside in
+    let east_bits = bits_are t.east t.step_east (search rules) (search rules) (search rules) in
+    let north_bits = bits_are t.north t.step_north (search rules) (search rules) (search rules) in
+    let f = forward_from t _ c.leaves.ensures east_bits north_bits in
+    sym c.if-leaves.false ∙ walled_is t leg _ _ _ (c.self.view_is ∙ e) f
 
 pub returns-clause-nearby : goal.returns-clause-nearby
 returns-clause-nearby c =
     let i = c.self.invariant in
-    let f =
-    forward_from _ _ _ _ _ _ _ _ _ _ c.cosine_at.ensures.value c.sine_at.ensures.value c.further-east.ensures.value
-    c.further-north.ensures.value c.along-to_x.ensures c.along-to_y.ensures
-    (clamped_inside _ _ c.inside.ensures.value c.inside.ensures.most)
-    (clamped_inside _ _ c.inside-2.ensures.value c.inside-2.ensures.most) c.hits_wall.ensures (search rules)
-    (search rules) (search rules) (search rules) (search rules) (search rules) (search rules) (search rules) in
-    let n =
-    forward_near (the_view c.self.inside) _ _ _ _ _ _ _ _ _ f i.2 i.3 i.8 i.9 i.6 c.cosine_at.ensures.value
-    c.sine_at.ensures.value c.cosine_at.ensures.within_scale c.sine_at.ensures.within_scale in
-    record {
-      on_x = omega (arith, n.0, ap (λ (t : Track). t.x) c.self.view_is);
-      on_y = omega (arith, n.1, ap (λ (t : Track). t.y) c.self.view_is);
-    }
+    let t = the_view c.self.inside in
+    let east_bits = bits_are t.east t.step_east (search rules) (search rules) (search rules) in
+    let north_bits = bits_are t.north t.step_north (search rules) (search rules) (search rules) in
+    let f = forward_from t _ c.leaves.ensures east_bits north_bits in
+    let free = or_parts _ _ (sym f.is_out ∙ c.if-leaves.false) in
+    let near_x = near_inside t.east t.step_east i.0 i.2 free.0 east_bits in
+    let near_y = near_inside t.north t.step_north i.1 i.3 free.1 north_bits in
+    let from_x = ap (λ (t : Track). t.x) c.self.view_is in
+    let from_y = ap (λ (t : Track). t.y) c.self.view_is in
+    record { on_x = rw (sym from_x) near_x; on_y = rw (sym from_y) near_y }

@@ -1,6 +1,13 @@
-use Rattle.std.proofs.Common.{◌∙◌}
-use Rattle.arena.proofs.Tracks.{put_back_is}
+use Rattle.std.proofs.Common.{◌∙◌, ap}
+use Rattle.arena.specs.Leg.{place_x}
+use Rattle.arena.specs.Moved.{put_back}
+use Rattle.arena.specs.Ground.{track_of}
 use Rattle.arena.proofs.motion.Motion.put_back.Goals as goal
 
-pub returns-clause-leg : goal.returns-clause-leg
-returns-clause-leg c = λ old leg p q e. c.stopped_at.ensures ∙ put_back_is c.args.self old leg c.args.x c.args.y p q e
+pub returns : goal.returns
+unfolding put_back
+returns c = λ old leg p q e.
+    c.stopped_at.ensures.leg leg e ∙
+    ap (λ n. track_of (record leg { origin_x = n; origin_y = c.args.y; distance = 0; speed = 0; wanted_speed = 0 })) p ∙
+    ap
+    (λ n. track_of (record leg { origin_x = place_x old; origin_y = n; distance = 0; speed = 0; wanted_speed = 0 })) q

@@ -17,9 +17,7 @@ returns-then-self-eq0-2 c = λ e.
             stands = w.if-self-eq0.true;
             wants_none = wants;
             heads = heads;
-            leads_x = i.8;
-            leads_y = i.9;
-            inside = (i.2, i.3);
+            inside = (i.0, i.1);
           })
       | else-self-eq0 w ↦ absurd (w.if-self-eq0.false (grind (arith, nat_tests, w.value-is, known)))
     ]

@@ -1,6 +1,5 @@
-use Rattle.std.proofs.Common.{◌∙◌, sym, ap, arith}
+use Rattle.std.proofs.Common.{◌∙◌, sym, arith}
 use Rattle.std.proofs.lemmas.Int.{to_z-of_z}
-use Rattle.arena.specs.Ground.{Track}
 use Rattle.arena.proofs.Tracks.{keeps_heading, turns_is, brakes_is}
 use Rattle.arena.proofs.motion.Motion.steered.Goals as goal
 
@@ -10,13 +9,7 @@ returns-then-self-clause-leg c = λ leg e.
 
 pub returns-then-self-le-TURNING_SPEED-clause-leg : goal.returns-then-self-le-TURNING_SPEED-clause-leg
 returns-then-self-le-TURNING_SPEED-clause-leg c = λ leg e.
-    let inside = c.self-then-self-le-TURNING_SPEED in
-    let same = ap (λ (t : Track). t.wanted_heading) (inside.view_is ∙ sym c.self.view_is) in
-    let h =
-    turns_is _ _ leg _ (c.self.view_is ∙ e)
-    (c.leg_anew-then-self-le-TURNING_SPEED.view_is ∙ c.leg_anew.ensures.leg leg e) c.if-self.false
-    c.if-self-le-TURNING_SPEED.true same in
-    grind (arith, to_z-of_z)
+    turns_is _ _ leg (c.self.view_is ∙ e) (c.turned.ensures.leg leg e) c.if-self.false c.if-self-le-TURNING_SPEED.true
 
 pub returns-else-self-le-TURNING_SPEED-clause-leg : goal.returns-else-self-le-TURNING_SPEED-clause-leg
 returns-else-self-le-TURNING_SPEED-clause-leg c = λ leg e.

@@ -1,6 +1,6 @@
-use Rattle.std.proofs.Common.{arith}
-use Rattle.arena.proofs.Tracks.{along-none}
+use Rattle.std.proofs.Common.{◌∙◌}
+use Rattle.arena.proofs.Tracks.{stopped_is}
 use Rattle.arena.proofs.motion.Motion.stopped_at.Goals as goal
 
-pub invariant_of-result : goal.invariant_of-result
-invariant_of-result c = grind (arith, along-none)
+pub returns-clause-leg : goal.returns-clause-leg
+returns-clause-leg c = λ leg e. c.on_new_leg.ensures ∙ stopped_is _ leg c.args.x c.args.y (c.self.view_is ∙ e)

@@ -7,24 +7,20 @@ use Rattle.arena.specs.Ground.{Body, track_of}
 use Rattle.arena.specs.Drive.{ahead}
 use Rattle.arena.proofs.robots.Robot.motion_after.Goals as goal
 
-pub returns-then-touched-gt0-clause-leg : goal.returns-then-touched-gt0-clause-leg
+pub returns-then-touched-gt0 : goal.returns-then-touched-gt0
 unfolding ahead mover candidate leg_after
-returns-then-touched-gt0-clause-leg c = λ robot e m live.
+returns-then-touched-gt0 c = λ robot e m live.
     let drove : candidate robot ≡ driven robot.leg = rw live refl in
     let track : c.self.inside.motion ≡ track_of (driven robot.leg) =
     ap (λ (b : Body). b.track) (c.self.view_is ∙ e) ∙ ap track_of drove in
     let x : c.from_x.result ≡ place_x robot.leg = c.from_x.ensures.value ∙ ap (λ (m : Mover). m.from_x) m in
     let y : c.from_y.result ≡ place_y robot.leg = c.from_y.ensures.value ∙ ap (λ (m : Mover). m.from_y) m in
     let some : nat_lt 0 c.args.touched ≡ true = grind (arith, nat_tests) in
-    rw some (c.put_back.ensures.leg robot.leg (driven robot.leg) x y track)
+    rw some (c.put_back.ensures robot.leg (driven robot.leg) x y track)
 
-pub returns-then-touched-gt0-clause-way : goal.returns-then-touched-gt0-clause-way
-returns-then-touched-gt0-clause-way c =
-    λ way h. let w = c.put_back.ensures.way in rw (w.0, w.1) (omega arith, omega arith)
-
-pub returns-clause-leg : goal.returns-clause-leg
+pub returns : goal.returns
 unfolding ahead candidate leg_after
-returns-clause-leg c = λ robot e m live.
+returns c = λ robot e m live.
     let drove : candidate robot ≡ driven robot.leg = rw live refl in
     let none : nat_lt 0 c.args.touched ≡ false = grind (arith, nat_tests) in
     rw none (ap (λ (b : Body). b.track) (c.self.view_is ∙ e) ∙ ap track_of drove)
