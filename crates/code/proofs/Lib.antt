@@ -24,4 +24,5 @@ pub mod Coasting
 pub mod Alone
 pub mod Joined
 pub mod Turns
+pub mod Together
 pub mod KnownPrograms

@@ -1,6 +1,6 @@
 //! The cells of a machine from cycle to cycle, along the replies.
 
-ghost use Rattle.std.specs.Prelude.{◌≡◌, ◌-◌, ◌<◌, ◌≤◌, ◌≢◌, ℤ, List, [], ◌∷◌, ◌++◌};
+ghost use Rattle.std.specs.Prelude.{◌≡◌, true, ◌-◌, ◌<◌, ◌≤◌, ◌≢◌, ℤ, List, [], ◌∷◌, ◌++◌};
 ghost use Rattle.grammar.specs.declared.names.Intrinsic.{Intrinsic};
 ghost use Rattle.code.specs.Machine.{want_next, want_code};
 ghost use Rattle.code.specs.Causes.{cause_next};
@@ -9,6 +9,7 @@ ghost use Rattle.code.specs.Standing.{IsReached, FitsProgram, HasCoasted};
 
 use crate::cause::Cause;
 use crate::cells::{Cells, Place};
+use crate::opcode::Opcode;
 use crate::program::Program;
 use crate::want::Want;
 
@@ -30,6 +31,16 @@ impl Cells {
     {
         let opcode = self.opcode(program, place);
         self.wanted(program, place, opcode)
+    }
+
+    /// Reports whether the next instruction asks. A machine that stands there needs no run to find it out.
+    #[inline(always)]
+    #[tactic(auto, unfolding(crate::specs::Opcodes::instr_of))]
+    pub(crate) fn asks(&self, program: &Program, place: Place) -> bool
+        requires { FitsProgram (state_at place self.now) program.now }
+        ensures { result ≡ true → want_next program.now (state_at place self.now) ≢ Want.Quiet }
+    {
+        matches!(*self.opcode(program, place), Opcode::Ask(_))
     }
 
     /// Returns what the machine wants if it wants something: a reply or a restart.

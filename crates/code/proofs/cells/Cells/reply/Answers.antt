@@ -15,14 +15,15 @@ answer-requires c =
     let code = c.args.program.now in
     let m = state_at c.args.place c.args.self.now in
     let i = instr_of c.opcode-opcode.result.now in
-    let asks = asking code m i c.requires.asks.0 c.requires.asks.1 c.opcode-opcode.ensures.here c.requires.asks.2 in
-    let frame = asked_frame code m i asks.1.0 asks.1.1 c.opcode-opcode.ensures.ready in
+    let asks =
+    asking code m i c.requires.asks.0 c.requires.asks.1 c.opcode-opcode.ensures.next.here c.requires.asks.2 in
+    let frame = asked_frame code m i asks.1.0 asks.1.1 c.opcode-opcode.ensures.next.ready in
     let room = asked_room code m i asks.1.0 asks.1.1 asks.0 in
     record {
       opened = frame.0;
       there = frame.1;
-      room = omega (arith, room, c.opcode-opcode.ensures.words);
-      within = c.opcode-opcode.ensures.within;
+      room = omega (arith, room, c.opcode-opcode.ensures.room.words);
+      within = c.opcode-opcode.ensures.next.within;
     }
 
 pub returns-clause-stands : goal.returns-clause-stands
@@ -30,7 +31,8 @@ returns-clause-stands c trace stands =
     let code = c.args.program.now in
     let m = state_at c.args.place c.args.self.now in
     let i = instr_of c.opcode-opcode.result.now in
-    let asks = asking code m i c.requires.asks.0 c.requires.asks.1 c.opcode-opcode.ensures.here c.requires.asks.2 in
+    let asks =
+    asking code m i c.requires.asks.0 c.requires.asks.1 c.opcode-opcode.ensures.next.here c.requires.asks.2 in
     let done =
     c.answer.ensures code asks.1.0
     ∙
@@ -38,7 +40,8 @@ returns-clause-stands c trace stands =
     (to_z-of_z w32 c.args.reply c.ranges.reply)
     ∙ ap (λ (i : Instr). done_with code c.args.reply m (Some i)) (sym asks.1.1)
     in
-    advances m (state_at c.answer.result c.answer.new.self) code i c.args.reply c.opcode-opcode.ensures.here asks.0 done
+    advances m (state_at c.answer.result c.answer.new.self) code i c.args.reply c.opcode-opcode.ensures.next.here asks.0
+    done
     trace stands
 
 pub returns-clause-fits : goal.returns-clause-fits
