@@ -14,16 +14,16 @@ takes_then a b c x y z h i = record { rest = λ total e. i.rest total (h.rest to
 -- a parser that does nothing
 pub stays_ready : (at : Standing) → IsReady at → StayedOrWentOn at at
 stays_ready at ready =
-    record { device = refl; account = refl; took = record { rest = λ total h. h }; falls = le_refl _; ready = ready }
+    record { borrows = refl; account = refl; took = record { rest = λ total h. h }; falls = le_refl _; ready = ready }
 
 -- a call that went on, where none was needed
 pub on : (a b : Standing) → WentOn a b → StayedOrWentOn a b
 on a b h =
-    record { device = h.device; account = h.account; took = h.took; falls = omega (arith, h.falls); ready = h.ready }
+    record { borrows = h.borrows; account = h.account; took = h.took; falls = omega (arith, h.falls); ready = h.ready }
 
 pub kept_then : (a b c : Standing) → StayedOrWentOn a b → StayedOrWentOn b c → StayedOrWentOn a c
 kept_then a b c h i = record {
-  device = i.device ∙ h.device;
+  borrows = i.borrows ∙ h.borrows;
   account = i.account ∙ h.account;
   took = takes_then _ _ _ _ _ _ h.took i.took;
   falls = omega (arith, h.falls, i.falls);
@@ -32,7 +32,7 @@ kept_then a b c h i = record {
 
 pub on_then : (a b c : Standing) → WentOn a b → StayedOrWentOn b c → WentOn a c
 on_then a b c h i = record {
-  device = i.device ∙ h.device;
+  borrows = i.borrows ∙ h.borrows;
   account = i.account ∙ h.account;
   took = takes_then _ _ _ _ _ _ h.took i.took;
   falls = omega (arith, h.falls, i.falls);
@@ -41,7 +41,7 @@ on_then a b c h i = record {
 
 pub kept_on : (a b c : Standing) → StayedOrWentOn a b → WentOn b c → WentOn a c
 kept_on a b c h i = record {
-  device = i.device ∙ h.device;
+  borrows = i.borrows ∙ h.borrows;
   account = i.account ∙ h.account;
   took = takes_then _ _ _ _ _ _ h.took i.took;
   falls = omega (arith, h.falls, i.falls);
@@ -51,7 +51,7 @@ kept_on a b c h i = record {
 -- a refusal after calls that went on
 pub stopped_then : (f : ParseFault) (a b c : Standing) → StayedOrWentOn a b → Stopped f b c → Stopped f a c
 stopped_then f a b c h i = record {
-  device = i.device ∙ h.device;
+  borrows = i.borrows ∙ h.borrows;
   account = i.account ∙ ap (λ (a : Account). counted a f) h.account;
   took = takes_then _ _ _ _ _ _ h.took i.took;
 }

@@ -20,7 +20,8 @@ use Rattle.grammar.specs.Nesting.{nesting}
 use Rattle.grammar.specs.Operators.{store_of, store_operator}
 use Rattle.grammar.specs.Resolved.{InExpr, IsVariable}
 use Rattle.grammar.specs.Tree.{Assign, Expr}
-use Rattle.parser.specs.Position.{Place, Standing, after_at, next_at, taken_at}
+use Rattle.parser.specs.declared.reader.Reader.{Reader}
+use Rattle.parser.specs.Position.{Place, after_at, next_at, taken_at}
 use Rattle.parser.specs.Room.{HasRoom, room}
 use Rattle.parser.specs.Stopping.{stop_with}
 use Rattle.parser.specs.Segment.{Derives, DerivesItem, FailsAt, FailsItem, GoesPast, Refused, StopsAt}
@@ -85,15 +86,15 @@ plain_adds before after at there depth sound none h = record {
 }
 
 -- either, by the result
-pub plain_parses : {A : Type 0} (result : Result A ParseFault) (denied : Type 0) (before after : Meaning) (depth : ℕ)
-    (old new : Standing) → is_fault (next_at old.place).token ≡ false → NoAssignment old.place →
-    ParsesLevels result denied before after depth 1 old new →
-    Parses result denied before after depth 1 Expression old new
-plain_parses (Ok x) denied before after depth old new sound none h =
-    plain_adds before after old.place new.place depth sound none h.0
-plain_parses (Err fault) denied before after depth old new sound none h =
+pub plain_parses : {A F B : Type 0} (result : Result A ParseFault) (denied : Type 0) (stands : B → Meaning)
+    (old new : Reader F B) → is_fault (next_at old.parser.place).token ≡ false → NoAssignment old.parser.place →
+    ParsesLevels result denied stands 1 old new → Parses result denied stands 1 Expression old new
+plain_parses (Ok x) denied stands old new sound none h =
+    plain_adds (stands old.build.now) (stands new.build.now) old.parser.place new.parser.place old.depth sound none h.0
+plain_parses (Err fault) denied stands old new sound none h =
     record {
-      refused = plain_refused (taken_at new.place) old.place depth denied fault sound none h.refused;
+      refused =
+          plain_refused (taken_at new.parser.place) old.parser.place old.depth denied fault sound none h.refused;
       grown = h.grown;
     }
 

@@ -155,7 +155,7 @@ ended at new is = rw is (record { reading = refl; to_come = refl; scope = refl }
 pub renamed : (at new : Standing) → IsReady at → new ≡ with_scope (end_definition (scope_of at)) at →
     StayedOrWentOn at new
 renamed at new ready is = rw is (record {
-  device = refl;
+  borrows = refl;
   account = refl;
   took = record { rest = λ total h. h };
   falls = le_refl _;
@@ -166,10 +166,10 @@ renamed at new ready is = rw is (record {
 pub short : (f : ParseFault) (at : Standing) (before : Meaning) (line : ℕ) (denied : Type 0) →
     RefusesEnd before line denied f → Stopped f at at
 short (refusal.Source d) at before line denied ends =
-    record { device = refl; account = refl; took = record { rest = λ total h. h } }
+    record { borrows = refl; account = refl; took = record { rest = λ total h. h } }
 short refusal.Device at before line denied ends = absurd ends
 short refusal.Memory at before line denied ends =
-    record { device = refl; account = refl; took = record { rest = λ total h. h } }
+    record { borrows = refl; account = refl; took = record { rest = λ total h. h } }
 
 goes_ended : (brace ended : Place) (rest : List LocatedToken) → IsEnded brace ended → GoesOn ended rest →
     GoesOn brace rest

@@ -28,12 +28,6 @@ pub record IsReady (at : Standing) : Type 0 where
   pub near : IsNear at.place.position.reading
   pub count : at.account.failures < most_failures
 
--- What a parse function needs: this room in the builder, a parser that is ready, and these next tokens.
-pub record IsAt (has_room : Type 0) (starts : Standing → Type 0) (at : Standing) : Type 0 where
-  pub builder : has_room
-  pub ready : IsReady at
-  pub is : starts at
-
 -- whatever the next tokens are
 abbrev pub Anywhere : Standing → Type 0
 Anywhere at = Unit {0}
@@ -46,10 +40,10 @@ IsNext punctuator at = is_punctuator punctuator (token_of at) ≡ true
 abbrev pub IsNextWord : Word → Standing → Type 0
 IsNextWord word at = is_word word (token_of at) ≡ true
 
--- A parser went on: it reads the same device, which did not fail, the device still has all but the bytes taken, fewer
+-- A parser went on: it has the same borrows, the device did not fail and still has all but the bytes taken, fewer
 -- tokens can come, and the parser is ready for the next call.
 pub record WentOn (old new : Standing) : Type 0 where
-  pub device : new.device ≡ old.device
+  pub borrows : new.borrows ≡ old.borrows
   pub account : new.account ≡ old.account
   pub took : TakesBytes (taken_at old.place) (taken_at new.place) old.place.to_come new.place.to_come
   pub falls : to_go new < to_go old
@@ -57,16 +51,16 @@ pub record WentOn (old new : Standing) : Type 0 where
 
 -- The same where it may have consumed no token.
 pub record StayedOrWentOn (old new : Standing) : Type 0 where
-  pub device : new.device ≡ old.device
+  pub borrows : new.borrows ≡ old.borrows
   pub account : new.account ≡ old.account
   pub took : TakesBytes (taken_at old.place) (taken_at new.place) old.place.to_come new.place.to_come
   pub falls : to_go new ≤ to_go old
   pub ready : IsReady new
 
--- What a refusal leaves: the same device, one failure more if it is the device that failed, and all but the bytes taken
--- still to come. The parser is of no more use.
+-- What a refusal leaves: the same borrows, one failure more if it is the device that failed, and all but the bytes
+-- taken still to come. The parser is of no more use.
 pub record Stopped (fault : ParseFault) (old new : Standing) : Type 0 where
-  pub device : new.device ≡ old.device
+  pub borrows : new.borrows ≡ old.borrows
   pub account : new.account ≡ counted old.account fault
   pub took : TakesBytes (taken_at old.place) (taken_at new.place) old.place.to_come new.place.to_come
 

@@ -11,9 +11,10 @@ use Rattle.grammar.specs.Grammar.{ElsePart, Part}
 use Rattle.grammar.specs.Nesting.{body_nesting}
 use Rattle.grammar.specs.Resolved.{InBody}
 use Rattle.grammar.specs.Tree.{Body, IfElseStatement, Done, Expr, IfStatement, join}
-use Rattle.parser.specs.Position.{Place, Standing, taken_at}
+use Rattle.parser.specs.declared.reader.Reader.{Reader}
+use Rattle.parser.specs.Position.{Place}
 use Rattle.parser.specs.Room.{room}
-use Rattle.parser.specs.Growing.{BreaksOff}
+use Rattle.parser.specs.Readers.{BreaksOffFrom}
 use Rattle.parser.specs.Segment.{Derives, FailsAt}
 
 -- the actions of a second branch, where there is one
@@ -54,11 +55,12 @@ FailsElse depth here d =
     (s : Body) (c : Expr) (body : Body) → FailsAt depth (Part ElsePart ∷ []) (before_else s c body) here d
 
 -- What a parse of a second branch says by its result.
-abbrev pub ParsesElse : {A : Type 0} → Result A ParseFault → Type 0 → (before after : Meaning) → ℕ →
-    (old new : Standing) → Type 0
-ParsesElse (Ok x) denied before after depth old new = AddsElse before after depth old.place new.place
-ParsesElse (Err fault) denied before after depth old new =
-    BreaksOff (FailsElse depth old.place) denied before after (taken_at new.place) fault
+abbrev pub ParsesElse : {A F B : Type 0} → Result A ParseFault → Type 0 → (B → Meaning) →
+    (old new : Reader F B) → Type 0
+ParsesElse (Ok x) denied stands old new =
+    AddsElse (stands old.build.now) (stands new.build.now) old.depth old.parser.place new.parser.place
+ParsesElse (Err fault) denied stands old new =
+    BreaksOffFrom (FailsElse old.depth old.parser.place) denied stands old new fault
 
 -- A list is stood for that leaves this open, where a statement stands, and room for so many more.
 pub record HasInside (inner : Open) (before : Meaning) (count : ℕ) : Type 0 where

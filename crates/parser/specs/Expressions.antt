@@ -14,10 +14,11 @@ use Rattle.grammar.specs.Nesting.{args_nesting, nesting, right_side}
 use Rattle.grammar.specs.Climbing.{operator_from}
 use Rattle.grammar.specs.Resolved.{InArgs, InExpr}
 use Rattle.grammar.specs.Tree.{Args, Binary, Expr, NoMore}
-use Rattle.parser.specs.Position.{Place, Standing, taken_at, token_of}
+use Rattle.parser.specs.declared.reader.Reader.{Reader}
+use Rattle.parser.specs.Position.{Place, token_of}
 use Rattle.parser.specs.Room.{room}
 use Rattle.parser.specs.Stopping.{Stop}
-use Rattle.parser.specs.Growing.{BreaksOff}
+use Rattle.parser.specs.Readers.{BreaksOffFrom}
 use Rattle.parser.specs.Segment.{Derives, FailsAt, FailsItem}
 
 -- An expression was read, by the items in front, of operators from a level on, with so many levels of nesting open.
@@ -59,43 +60,47 @@ FailsArgs depth here d = (callee : Callee) → FailsAt depth (Part Arguments ∷
 
 -- An expression was read by this symbol, at a level of the operators. Or the derivation stops within it, as the refusal
 -- says.
-abbrev pub Parses : {A : Type 0} → Result A ParseFault → (denied : Type 0) (before after : Meaning) (depth level : ℕ) →
-    Symbol → (old new : Standing) → Type 0
-Parses (Ok x) denied before after depth level symbol old new =
-    AddsExpr before after depth level (Part symbol ∷ []) [] old.place new.place
-Parses (Err fault) denied before after depth level symbol old new =
-    BreaksOff (FailsAt depth (Part symbol ∷ []) [] old.place) denied before after (taken_at new.place) fault
+abbrev pub Parses : {A F B : Type 0} → Result A ParseFault → (denied : Type 0) → (B → Meaning) → (level : ℕ) →
+    Symbol → (old new : Reader F B) → Type 0
+Parses (Ok x) denied stands level symbol old new =
+    AddsExpr (stands old.build.now) (stands new.build.now) old.depth level (Part symbol ∷ [])
+    [] old.parser.place new.parser.place
+Parses (Err fault) denied stands level symbol old new =
+    BreaksOffFrom (FailsAt old.depth (Part symbol ∷ []) [] old.parser.place) denied stands old new fault
 
 -- the same of operators from a level on, up to a token that is none of these
-abbrev pub ParsesLevels : {A : Type 0} → Result A ParseFault → (denied : Type 0) (before after : Meaning)
-    (depth level : ℕ) → (old new : Standing) → Type 0
-ParsesLevels (Ok x) denied before after depth level old new =
-    AddsExpr before after depth level (Part (Level level) ∷ []) [] old.place new.place
-    × (operator_from level (token_of new) ≡ None)
-ParsesLevels (Err fault) denied before after depth level old new =
-    BreaksOff (FailsAt depth (Part (Level level) ∷ []) [] old.place) denied before after (taken_at new.place) fault
+abbrev pub ParsesLevels : {A F B : Type 0} → Result A ParseFault → (denied : Type 0) → (B → Meaning)
+    → (level : ℕ) → (old new : Reader F B) → Type 0
+ParsesLevels (Ok x) denied stands level old new =
+    AddsExpr (stands old.build.now) (stands new.build.now) old.depth level (Part (Level level) ∷ [])
+    [] old.parser.place new.parser.place
+    × (operator_from level (token_of new.parser) ≡ None)
+ParsesLevels (Err fault) denied stands level old new =
+    BreaksOffFrom (FailsAt old.depth (Part (Level level) ∷ []) [] old.parser.place) denied stands old new fault
 
 -- the same of an operand that opens no level, at any depth
-abbrev pub ParsesOperandAlone : {A : Type 0} → Result A ParseFault → (denied : Type 0) (before after : Meaning) →
-    Symbol → (old new : Standing) → Type 0
-ParsesOperandAlone (Ok x) denied before after symbol old new =
-    (depth : ℕ) → AddsExpr before after depth 11 (Part symbol ∷ []) [] old.place new.place
-ParsesOperandAlone (Err fault) denied before after symbol old new =
-    BreaksOff (FailsItem (Part symbol) old.place) denied before after (taken_at new.place) fault
+abbrev pub ParsesOperandAlone : {A F B : Type 0} → Result A ParseFault → (denied : Type 0) → (B → Meaning) →
+    Symbol → (old new : Reader F B) → Type 0
+ParsesOperandAlone (Ok x) denied stands symbol old new =
+    (depth : ℕ) → AddsExpr (stands old.build.now) (stands new.build.now) depth 11 (Part symbol ∷ [])
+    [] old.parser.place new.parser.place
+ParsesOperandAlone (Err fault) denied stands symbol old new =
+    BreaksOffFrom (FailsItem (Part symbol) old.parser.place) denied stands old new fault
 
 -- the same of an operator and its right side, which goes up to an operator that binds no tighter
-abbrev pub ParsesOperand : {A : Type 0} → Result A ParseFault → (denied : Type 0) (before after : Meaning)
-    (depth : ℕ) → AnOperator → (old new : Standing) → Type 0
-ParsesOperand (Ok x) denied before after depth b old new =
-    AddsOperand before after depth b.level b.op old.place new.place
-    × (operator_from (b.level + 1) (token_of new) ≡ None)
-ParsesOperand (Err fault) denied before after depth b old new =
-    BreaksOff (FailsOperand depth b.level old.place) denied before after (taken_at new.place) fault
+abbrev pub ParsesOperand : {A F B : Type 0} → Result A ParseFault → (denied : Type 0) → (B → Meaning)
+    → AnOperator → (old new : Reader F B) → Type 0
+ParsesOperand (Ok x) denied stands b old new =
+    AddsOperand (stands old.build.now) (stands new.build.now) old.depth b.level b.op old.parser.place new.parser.place
+    × (operator_from (b.level + 1) (token_of new.parser) ≡ None)
+ParsesOperand (Err fault) denied stands b old new =
+    BreaksOffFrom (FailsOperand old.depth b.level old.parser.place) denied stands old new fault
 
 -- the same of a call's arguments
-abbrev pub ParsesArgs : {A : Type 0} → Result A ParseFault → (denied : Type 0) (before after : Meaning) (depth : ℕ) →
-    (old new : Standing) → Type 0
-ParsesArgs (Ok x) denied before after depth old new =
-    AddsArgs before after depth (Part Arguments ∷ []) [] old.place new.place
-ParsesArgs (Err fault) denied before after depth old new =
-    BreaksOff (FailsArgs depth old.place) denied before after (taken_at new.place) fault
+abbrev pub ParsesArgs : {A F B : Type 0} → Result A ParseFault → (denied : Type 0) → (B → Meaning) →
+    (old new : Reader F B) → Type 0
+ParsesArgs (Ok x) denied stands old new =
+    AddsArgs (stands old.build.now) (stands new.build.now) old.depth (Part Arguments ∷ [])
+    [] old.parser.place new.parser.place
+ParsesArgs (Err fault) denied stands old new =
+    BreaksOffFrom (FailsArgs old.depth old.parser.place) denied stands old new fault

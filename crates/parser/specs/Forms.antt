@@ -1,5 +1,5 @@
 -- Which tokens begin a statement of a form of its own, and what stands behind `if` and `while`.
-use Rattle.std.specs.Prelude.{ℕ, ◌≡◌, List, [], ◌∷◌, Bool, true, false, Result, Ok, Err}
+use Rattle.std.specs.Prelude.{◌≡◌, List, [], ◌∷◌, Bool, true, false, Result, Ok, Err}
 use Rattle.tokens.specs.declared.located_tokens.Punctuator.TheVariants as punctuator
 use Rattle.tokens.specs.declared.located_tokens.Token.{Token}
 use Rattle.tokens.specs.declared.located_tokens.Token.TheVariants as token
@@ -7,8 +7,9 @@ use Rattle.tokens.specs.declared.located_tokens.Word.TheVariants as word
 use Rattle.grammar.specs.declared.diagnostics.ParseFault.{ParseFault}
 use Rattle.grammar.specs.Building.{Meaning}
 use Rattle.grammar.specs.Grammar.{Item, Exactly, Expression, Part}
-use Rattle.parser.specs.Position.{Standing, taken_at, token_of}
-use Rattle.parser.specs.Growing.{BreaksOff}
+use Rattle.parser.specs.declared.reader.Reader.{Reader}
+use Rattle.parser.specs.Position.{Standing, token_of}
+use Rattle.parser.specs.Readers.{BreaksOffFrom}
 use Rattle.parser.specs.Segment.{FailsAt}
 use Rattle.parser.specs.Expressions.{AddsExpr}
 
@@ -30,9 +31,9 @@ abbrev pub in_brackets : List Item
 in_brackets = Exactly punctuator.OpenRound ∷ Part Expression ∷ Exactly punctuator.CloseRound ∷ []
 
 -- What a parse of a condition says by its result: it was read, or the derivation stops within it, as the refusal says.
-abbrev pub ParsesCondition : {A : Type 0} → Result A ParseFault → Type 0 → (before after : Meaning) → ℕ →
-    (old new : Standing) → Type 0
-ParsesCondition (Ok x) denied before after depth old new =
-    AddsExpr before after depth 1 in_brackets [] old.place new.place
-ParsesCondition (Err fault) denied before after depth old new =
-    BreaksOff (FailsAt depth in_brackets [] old.place) denied before after (taken_at new.place) fault
+abbrev pub ParsesCondition : {A F B : Type 0} → Result A ParseFault → Type 0 → (B → Meaning) →
+    (old new : Reader F B) → Type 0
+ParsesCondition (Ok x) denied stands old new =
+    AddsExpr (stands old.build.now) (stands new.build.now) old.depth 1 in_brackets [] old.parser.place new.parser.place
+ParsesCondition (Err fault) denied stands old new =
+    BreaksOffFrom (FailsAt old.depth in_brackets [] old.parser.place) denied stands old new fault

@@ -6,6 +6,7 @@ pub mod Segment
 pub mod Room
 pub mod Growing
 pub mod Advancing
+pub mod Readers
 pub mod Matching
 pub mod Declarations
 pub mod Signs

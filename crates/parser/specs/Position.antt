@@ -5,6 +5,7 @@ use Rattle.tokens.specs.Reading.{Reading, remaining, shown, taken}
 use Rattle.tokens.specs.Tokens.{followed_by}
 use Rattle.tokens.specs.declared.located_tokens.LocatedToken.{LocatedToken}
 use Rattle.tokens.specs.declared.located_tokens.Token.{Token}
+use Rattle.grammar.specs.Pools.{Names}
 use Rattle.grammar.specs.Scope.{Scope}
 
 pub record Position : Type 0 where
@@ -38,11 +39,12 @@ scope_at here = here.position.scope
 abbrev pub tokens_at : Place → Option (List LocatedToken)
 tokens_at here = shown here.position.reading here.to_come
 
--- What a contract sees of a parser: its place, what is known of its device's failures, and which borrow of it that is.
+-- What a contract sees of a parser: its place, what is known of its device's failures, and which borrows it has, of the
+-- names and of the device.
 pub record Standing : Type 0 where
   pub place : Place
   pub account : Account
-  pub device : ℕ
+  pub borrows : ℕ × ℕ
 
 -- the next token of a parser, and the one after it
 abbrev pub token_of : Standing → Token
@@ -54,6 +56,10 @@ token_after at = after_at at.place
 -- the names that a parser knows
 abbrev pub scope_of : Standing → Scope
 scope_of at = scope_at at.place
+
+-- the names of a file that a scope has
+abbrev pub names_in : Scope → Names
+names_in scope = record { externals = scope.externals; functions = scope.functions }
 
 -- the same with these names known
 abbrev pub with_scope : Scope → Standing → Standing

@@ -25,7 +25,8 @@ use Rattle.grammar.specs.Profile.{Profile}
 use Rattle.grammar.specs.Resolved.{InBody}
 use Rattle.grammar.specs.Scope.{Scope, function_number}
 use Rattle.grammar.specs.Tree.{Body}
-use Rattle.parser.specs.Growing.{BreaksOff}
+use Rattle.parser.specs.Readers.{BreaksOffFrom}
+use Rattle.parser.specs.declared.reader.Reader.{Reader}
 use Rattle.parser.specs.Position.{GoesOn, Place, Position, Standing, next_at, scope_at, taken_at, token_of, tokens_at}
 use Rattle.parser.specs.Stopping.{Stop, Stops}
 use Rattle.parser.specs.Segment.{Derives, FailsAt, Refused, TakesTokens}
@@ -119,10 +120,12 @@ RefusesEnd before line denied refusal.Device = ⊥
 RefusesEnd before line denied refusal.Memory = denied
 
 -- what the end of a function says, by its result
-abbrev pub EndsFunction : {A : Type 0} → Result A ParseFault → (denied : Type 0) (before after : Meaning)
-    (variables line : ℕ) → Type 0
-EndsFunction (Ok x) denied before after variables line = ClosesFunction before after variables
-EndsFunction (Err fault) denied before after variables line = RefusesEnd before line denied fault
+abbrev pub EndsFunction : {A F B : Type 0} → Result A ParseFault → (denied : Type 0) → (B → Meaning) → (variables : ℕ) →
+    (old new : Reader F B) → Type 0
+EndsFunction (Ok x) denied stands variables old new =
+    ClosesFunction (stands old.build.now) (stands new.build.now) variables
+EndsFunction (Err fault) denied stands variables old new =
+    RefusesEnd (stands old.build.now) (next_at old.parser.place).line denied fault
 
 -- Each function that was mentioned is defined, and main is among them.
 pub record IsComplete (scope : Scope) : Type 0 where
@@ -141,24 +144,29 @@ pub data Lacks (position : Position) (fault : ParseFault) : Type 0 where
 
 -- Parts of a file were read from these items on, and the builder has nothing open. Or the derivation stops within them,
 -- as the refusal says.
-abbrev pub ReadsParts : {A : Type 0} → Result A ParseFault → (denied : Type 0) (before after : Meaning) →
-    List Item → (old new : Standing) → Type 0
-ReadsParts (Ok x) denied before after front old new =
-    ReadsOn before after front at_source old.place new.place × StandsOpen after []
-ReadsParts (Err fault) denied before after front old new =
-    Refused (StopsReading before after front old.place) denied (taken_at new.place) fault
+abbrev pub ReadsParts : {A F B : Type 0} → Result A ParseFault → (denied : Type 0) → (B → Meaning) →
+    List Item → (old new : Reader F B) → Type 0
+ReadsParts (Ok x) denied stands front old new =
+    ReadsOn (stands old.build.now) (stands new.build.now) front at_source
+    old.parser.place new.parser.place × StandsOpen (stands new.build.now) []
+ReadsParts (Err fault) denied stands front old new =
+    Refused (StopsReading (stands old.build.now) (stands new.build.now) front old.parser.place)
+    denied (taken_at new.parser.place) fault
 
 -- the same of all parts, up to the end of the file
-abbrev pub ReadsSource : {A : Type 0} → Result A ParseFault → (denied : Type 0) (before after : Meaning) →
-    (old new : Standing) → Type 0
-ReadsSource (Ok x) denied before after old new =
-    ReadsOn before after at_source at_source old.place new.place × StandsOpen after [] × (is_end (token_of new) ≡ true)
-ReadsSource (Err fault) denied before after old new =
-    Refused (StopsReading before after at_source old.place) denied (taken_at new.place) fault
+abbrev pub ReadsSource : {A F B : Type 0} → Result A ParseFault → (denied : Type 0) → (B → Meaning) →
+    (old new : Reader F B) → Type 0
+ReadsSource (Ok x) denied stands old new =
+    ReadsOn (stands old.build.now) (stands new.build.now) at_source at_source
+    old.parser.place new.parser.place × StandsOpen (stands new.build.now) [] × (is_end (token_of new.parser) ≡ true)
+ReadsSource (Err fault) denied stands old new =
+    Refused (StopsReading (stands old.build.now) (stands new.build.now) at_source old.parser.place)
+    denied (taken_at new.parser.place) fault
 
 -- the same of a function's block, up to its closing brace
-abbrev pub ParsesBlock : {A : Type 0} → Result A ParseFault → (denied : Type 0) (before after : Meaning) →
-    (old new : Standing) → Type 0
-ParsesBlock (Ok x) denied before after old new = AddsBlock before after old.place new.place
-ParsesBlock (Err fault) denied before after old new =
-    BreaksOff (FailsAt 0 (Part FunctionBlock ∷ []) [] old.place) denied before after (taken_at new.place) fault
+abbrev pub ParsesBlock : {A F B : Type 0} → Result A ParseFault → (denied : Type 0) → (B → Meaning) →
+    (old new : Reader F B) → Type 0
+ParsesBlock (Ok x) denied stands old new =
+    AddsBlock (stands old.build.now) (stands new.build.now) old.parser.place new.parser.place
+ParsesBlock (Err fault) denied stands old new =
+    BreaksOffFrom (FailsAt 0 (Part FunctionBlock ∷ []) [] old.parser.place) denied stands old new fault

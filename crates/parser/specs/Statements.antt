@@ -13,9 +13,10 @@ use Rattle.grammar.specs.Nesting.{body_nesting}
 use Rattle.grammar.specs.Resolved.{InBody}
 use Rattle.grammar.specs.Tree.{Body, join}
 use Rattle.parser.specs.Advancing.{IsNext}
-use Rattle.parser.specs.Position.{Place, Standing, taken_at}
+use Rattle.parser.specs.declared.reader.Reader.{Reader}
+use Rattle.parser.specs.Position.{Place}
 use Rattle.parser.specs.Room.{room}
-use Rattle.parser.specs.Growing.{BreaksOff}
+use Rattle.parser.specs.Readers.{BreaksOffFrom}
 use Rattle.parser.specs.Segment.{Derives, FailsAt}
 
 -- Statements were read, by the items in front, with so many levels of nesting open, whatever the body is so far.
@@ -32,17 +33,19 @@ FailsBody depth front here d = (body : Body) → FailsAt depth front (ABody body
 
 -- What a parse of statements says by its result: they were read, or the derivation stops within them, as the refusal
 -- says.
-abbrev pub ParsesBody : {A : Type 0} → Result A ParseFault → Type 0 → (before after : Meaning) → ℕ → Symbol →
-    (old new : Standing) → Type 0
-ParsesBody (Ok x) denied before after depth symbol old new =
-    AddsBody before after depth (Part symbol ∷ []) [] old.place new.place
-ParsesBody (Err fault) denied before after depth symbol old new =
-    BreaksOff (FailsBody depth (Part symbol ∷ []) old.place) denied before after (taken_at new.place) fault
+abbrev pub ParsesBody : {A F B : Type 0} → Result A ParseFault → Type 0 → (B → Meaning) → Symbol →
+    (old new : Reader F B) → Type 0
+ParsesBody (Ok x) denied stands symbol old new =
+    AddsBody (stands old.build.now) (stands new.build.now) old.depth (Part symbol ∷ [])
+    [] old.parser.place new.parser.place
+ParsesBody (Err fault) denied stands symbol old new =
+    BreaksOffFrom (FailsBody old.depth (Part symbol ∷ []) old.parser.place) denied stands old new fault
 
 -- the same of all statements up to a closing brace
-abbrev pub ParsesStatements : {A : Type 0} → Result A ParseFault → Type 0 → (before after : Meaning) → ℕ →
-    (old new : Standing) → Type 0
-ParsesStatements (Ok x) denied before after depth old new =
-    AddsBody before after depth (Part Statements ∷ []) [] old.place new.place × IsNext punctuator.CloseCurly new
-ParsesStatements (Err fault) denied before after depth old new =
-    BreaksOff (FailsBody depth (Part Statements ∷ []) old.place) denied before after (taken_at new.place) fault
+abbrev pub ParsesStatements : {A F B : Type 0} → Result A ParseFault → Type 0 → (B → Meaning) →
+    (old new : Reader F B) → Type 0
+ParsesStatements (Ok x) denied stands old new =
+    AddsBody (stands old.build.now) (stands new.build.now) old.depth (Part Statements ∷ [])
+    [] old.parser.place new.parser.place × IsNext punctuator.CloseCurly new.parser
+ParsesStatements (Err fault) denied stands old new =
+    BreaksOffFrom (FailsBody old.depth (Part Statements ∷ []) old.parser.place) denied stands old new fault

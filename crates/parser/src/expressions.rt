@@ -3,16 +3,17 @@
 ghost use Rattle.std.specs.Prelude.{IfNone, IfSome, OnOk};
 ghost use Rattle.tokens.specs.declared.located_tokens.Punctuator.TheVariants as punctuator;
 ghost use Rattle.grammar.specs.Actions.{middle};
-ghost use Rattle.grammar.specs.Building.{AppendsAll, MayFollow, MayFollowAll, Refuses};
+ghost use Rattle.grammar.specs.Building.{AppendsAll, MayFollowAll, Refuses};
 ghost use Rattle.grammar.specs.Grammar.{Expression, Primary, Unary};
-ghost use Rattle.parser.specs.Advancing.{Advances, Anywhere, IsAt, IsNext, Keeps};
-ghost use Rattle.parser.specs.Room.{HasLeft, HasRoom, room};
+ghost use Rattle.parser.specs.Advancing.{Anywhere, IsNext};
+ghost use Rattle.parser.specs.Readers.{IsAt, MayProceed, Proceeds};
+ghost use Rattle.parser.specs.Room.{HasLeft, HasRoom};
 ghost use Rattle.parser.specs.Expressions.{Parses, ParsesArgs, ParsesLevels, ParsesOperand};
 ghost use Rattle.parser.specs.Signs.{sign_punctuator};
 ghost use Rattle.parser.specs.Starts.{StartsAssignment, StartsCall, StartsNoAssignment, StartsOperand};
 
-use crate::operands::{constant, step_before, variable};
 use crate::parser::{MOST_LEVELS, Parser};
+use crate::reader::Reader;
 use crate::signs::{Sign, sign_of, step_of};
 use crate::token_predicates::is_punctuator;
 use grammar::{
@@ -20,280 +21,226 @@ use grammar::{
 };
 use tokens::{Feed, Punctuator, Token};
 
-/// `expr → name asg expr` and `expr → level1`
-#[inline(never)]
-#[cycle(expressions)]
-pub fn expression<F: Feed, B: Build>(
-    parser: &mut Parser<'_, F>,
-    build: &mut B,
-    depth: u8,
-) -> Result<(), ParseFault>
-    requires at { IsAt (HasRoom (B.stands build.old) (room depth 1)) Anywhere parser.old }
-    ensures parses { Parses result B.denied (B.stands build.old) (B.stands build.new)
-        depth 1 Expression parser.old parser.new }
-    ensures kept { Advances result parser.old parser.new }
-{
-    if let Some(op) = assignment_operator(parser) {
-        assignment(parser, build, op, depth)?;
-    } else {
-        levels(parser, build, 1, depth)?;
-    }
-    Ok(())
-}
-
-/// `expr → name asg expr`
-#[inline(always)]
-#[cycle(expressions)]
-fn assignment<F: Feed, B: Build>(
-    parser: &mut Parser<'_, F>,
-    build: &mut B,
-    op: StoreOp,
-    depth: u8,
-) -> Result<(), ParseFault>
-    requires at { IsAt (HasRoom (B.stands build.old) (room depth 1)) (StartsAssignment op) parser.old }
-    ensures parses { Parses result B.denied (B.stands build.old) (B.stands build.new)
-        depth 1 Expression parser.old parser.new }
-    ensures kept { Advances result parser.old parser.new }
-{
-    if depth >= MOST_LEVELS {
-        return Err(parser.refusal(Code::NestedTooDeeply));
-    }
-    let var = parser.mention()?;
-    parser.advance()?;
-    right_side(parser, build, depth + 1)?;
-    build.store(var, op)?;
-    Ok(())
-}
-
-/// `expr`, behind the operator of an assignment: most often no further assignment, which is parsed with no further call
-#[inline(always)]
-#[cycle(expressions)]
-fn right_side<F: Feed, B: Build>(
-    parser: &mut Parser<'_, F>,
-    build: &mut B,
-    depth: u8,
-) -> Result<(), ParseFault>
-    requires at { IsAt (HasRoom (B.stands build.old) (room depth 1)) Anywhere parser.old }
-    ensures parses { Parses result B.denied (B.stands build.old) (B.stands build.new)
-        depth 1 Expression parser.old parser.new }
-    ensures kept { Advances result parser.old parser.new }
-{
-    match assignment_operator(parser) {
-        Some(_) => expression(parser, build, depth),
-        None => levels(parser, build, 1, depth),
-    }
-}
-
-/// `levelN → level(N+1) tailN`, down to `level11`: an operand, and the operators from this level on by precedence
-/// climbing
-#[inline(always)]
-#[cycle(expressions)]
-fn levels<F: Feed, B: Build>(
-    parser: &mut Parser<'_, F>,
-    build: &mut B,
-    level: u8,
-    depth: u8,
-) -> Result<(), ParseFault>
-    requires at { IsAt (HasRoom (B.stands build.old) (room depth level)) Anywhere parser.old }
-    ensures parses { ParsesLevels result B.denied (B.stands build.old) (B.stands build.new)
-        depth level parser.old parser.new }
-    ensures kept { Advances result parser.old parser.new }
-{
-    unary(parser, build, depth)?;
-    while let Some(binary) = operator_from(&parser.peek().token, level) {
-        operand(parser, build, binary, depth)?;
-    }
-    Ok(())
-}
-
-/// `tailN → operator level(N+1) tailN`, up to the next `tailN`
-#[inline(never)]
-#[cycle(expressions)]
-fn operand<F: Feed, B: Build>(
-    parser: &mut Parser<'_, F>,
-    build: &mut B,
-    binary: Binary,
-    depth: u8,
-) -> Result<(), ParseFault>
-    requires at { IsAt (HasLeft (B.stands build.old) (room depth binary.level)) (StartsOperand binary) parser.old }
-    ensures parses { ParsesOperand result B.denied (B.stands build.old) (B.stands build.new)
-        depth binary parser.old parser.new }
-    ensures kept { Advances result parser.old parser.new }
-{
-    parser.advance()?;
-    tell_middle(build, binary.op)?;
-    levels(parser, build, binary.level + 1, depth)?;
-    build.binop(binary.op)?;
-    Ok(())
-}
-
-/// `level11 → operator level11`, `level11 → operator name` and `level11 → primary`
-#[inline(always)]
-#[cycle(expressions)]
-fn unary<F: Feed, B: Build>(
-    parser: &mut Parser<'_, F>,
-    build: &mut B,
-    depth: u8,
-) -> Result<(), ParseFault>
-    requires at { IsAt (HasRoom (B.stands build.old) (room depth 11)) Anywhere parser.old }
-    ensures parses { Parses result B.denied (B.stands build.old) (B.stands build.new)
-        depth 11 Unary parser.old parser.new }
-    ensures kept { Advances result parser.old parser.new }
-{
-    if let Token::Punctuator(_) = parser.peek().token {
-        from_punctuator(parser, build, depth)?;
-    } else {
-        primary(parser, build, depth)?;
-    }
-    Ok(())
-}
-
-/// `level11` from a punctuator on: apart from the names and constants that most operands are
-#[inline(never)]
-#[cycle(expressions)]
-fn from_punctuator<F: Feed, B: Build>(
-    parser: &mut Parser<'_, F>,
-    build: &mut B,
-    depth: u8,
-) -> Result<(), ParseFault>
-    requires at { IsAt (HasRoom (B.stands build.old) (room depth 11)) Anywhere parser.old }
-    ensures parses { Parses result B.denied (B.stands build.old) (B.stands build.new)
-        depth 11 Unary parser.old parser.new }
-    ensures kept { Advances result parser.old parser.new }
-{
-    if let Some(sign) = sign_of(&parser.peek().token) {
-        signed(parser, build, sign, depth)?;
-    } else if let Some(step) = step_of(&parser.peek().token) {
-        step_before(parser, build, step)?;
-    } else {
-        primary(parser, build, depth)?;
-    }
-    Ok(())
-}
-
-/// `level11 → operator level11`
-#[inline(never)]
-#[cycle(expressions)]
-fn signed<F: Feed, B: Build>(
-    parser: &mut Parser<'_, F>,
-    build: &mut B,
-    sign: Sign,
-    depth: u8,
-) -> Result<(), ParseFault>
-    requires at { IsAt (HasRoom (B.stands build.old) (room depth 11)) (IsNext (sign_punctuator sign)) parser.old }
-    ensures parses { Parses result B.denied (B.stands build.old) (B.stands build.new)
-        depth 11 Unary parser.old parser.new }
-    ensures kept { Advances result parser.old parser.new }
-{
-    if depth >= MOST_LEVELS {
-        return Err(parser.refusal(Code::NestedTooDeeply));
-    }
-    parser.advance()?;
-    sign.begin(build)?;
-    unary(parser, build, depth + 1)?;
-    sign.end(build)?;
-    Ok(())
-}
-
-/// `primary → constant`, `name ( args )`, `name operator`, `name` and `( expr )`
-#[inline(always)]
-#[cycle(expressions)]
-fn primary<F: Feed, B: Build>(
-    parser: &mut Parser<'_, F>,
-    build: &mut B,
-    depth: u8,
-) -> Result<(), ParseFault>
-    requires at { IsAt (HasRoom (B.stands build.old) (room depth 11)) Anywhere parser.old }
-    ensures parses { Parses result B.denied (B.stands build.old) (B.stands build.new)
-        depth 11 Primary parser.old parser.new }
-    ensures kept { Advances result parser.old parser.new }
-{
-    match parser.peek().token {
-        Token::Constant(value) => constant(parser, build, value)?,
-        Token::Name(_) if is_punctuator(parser.after(), Punctuator::OpenRound) => {
-            call(parser, build, depth)?;
+impl<F: Feed, B: Build> Reader<'_, '_, '_, F, B> {
+    /// `expr → name asg expr` and `expr → level1`
+    #[inline(never)]
+    #[cycle(expressions)]
+    pub fn expression(&mut self) -> Result<(), ParseFault>
+        requires at { IsAt B.stands HasRoom 1 Anywhere self.old }
+        ensures parses { Parses result B.denied B.stands 1 Expression self.old self.new }
+        ensures kept { Proceeds result self.old self.new }
+    {
+        if let Some(op) = assignment_operator(&self.parser) {
+            self.assignment(op)?;
+        } else {
+            self.levels(1)?;
         }
-        Token::Name(_) => variable(parser, build)?,
-        _ if is_punctuator(&parser.peek().token, Punctuator::OpenRound) => {
-            bracketed(parser, build, depth)?;
+        Ok(())
+    }
+
+    /// `expr → name asg expr`
+    #[inline(always)]
+    #[cycle(expressions)]
+    fn assignment(&mut self, op: StoreOp) -> Result<(), ParseFault>
+        requires at { IsAt B.stands HasRoom 1 (StartsAssignment op) self.old }
+        ensures parses { Parses result B.denied B.stands 1 Expression self.old self.new }
+        ensures kept { Proceeds result self.old self.new }
+    {
+        if self.depth >= MOST_LEVELS {
+            return Err(self.parser.refusal(Code::NestedTooDeeply));
         }
-        _ => return Err(parser.misfit()),
+        let var = self.parser.mention()?;
+        self.parser.advance()?;
+        self.depth += 1;
+        self.right_side()?;
+        self.depth -= 1;
+        self.build.store(var, op)?;
+        Ok(())
     }
-    Ok(())
-}
 
-/// `primary → name ( args )`
-#[inline(never)]
-#[cycle(expressions)]
-fn call<F: Feed, B: Build>(
-    parser: &mut Parser<'_, F>,
-    build: &mut B,
-    depth: u8,
-) -> Result<(), ParseFault>
-    requires at { IsAt (HasRoom (B.stands build.old) (room depth 11)) StartsCall parser.old }
-    ensures parses { Parses result B.denied (B.stands build.old) (B.stands build.new)
-        depth 11 Primary parser.old parser.new }
-    ensures kept { Advances result parser.old parser.new }
-{
-    if depth >= MOST_LEVELS {
-        return Err(parser.refusal(Code::NestedTooDeeply));
+    /// `expr`, behind the operator of an assignment: most often no further assignment, which is parsed with no further call
+    #[inline(always)]
+    #[cycle(expressions)]
+    fn right_side(&mut self) -> Result<(), ParseFault>
+        requires at { IsAt B.stands HasRoom 1 Anywhere self.old }
+        ensures parses { Parses result B.denied B.stands 1 Expression self.old self.new }
+        ensures kept { Proceeds result self.old self.new }
+    {
+        match assignment_operator(&self.parser) {
+            Some(_) => self.expression(),
+            None => self.levels(1),
+        }
     }
-    let callee = parser.callee()?;
-    build.begin_call()?;
-    parser.expect(Punctuator::OpenRound)?;
-    arguments(parser, build, depth + 1)?;
-    parser.expect(Punctuator::CloseRound)?;
-    build.end_call(callee)?;
-    Ok(())
-}
 
-/// `args → expr moreargs`, and empty at the closing bracket; `moreargs → , expr moreargs`
-#[cycle(expressions)]
-fn arguments<F: Feed, B: Build>(
-    parser: &mut Parser<'_, F>,
-    build: &mut B,
-    depth: u8,
-) -> Result<(), ParseFault>
-    requires at { IsAt (HasRoom (B.stands build.old) (room depth 1)) Anywhere parser.old }
-    ensures parses { ParsesArgs result B.denied (B.stands build.old) (B.stands build.new)
-        depth parser.old parser.new }
-    ensures kept { Keeps result parser.old parser.new }
-{
-    if is_punctuator(&parser.peek().token, Punctuator::CloseRound) {
-        return Ok(());
+    /// `levelN → level(N+1) tailN`, down to `level11`: an operand, and the operators from this level on by precedence
+    /// climbing
+    #[inline(always)]
+    #[cycle(expressions)]
+    fn levels(&mut self, level: u8) -> Result<(), ParseFault>
+        requires at { IsAt B.stands HasRoom level Anywhere self.old }
+        ensures parses { ParsesLevels result B.denied B.stands level self.old self.new }
+        ensures kept { Proceeds result self.old self.new }
+    {
+        self.unary()?;
+        while let Some(binary) = operator_from(&self.parser.peek().token, level) {
+            self.operand(binary)?;
+        }
+        Ok(())
     }
-    expression(parser, build, depth)?;
-    while is_punctuator(&parser.peek().token, Punctuator::Comma) {
-        parser.expect(Punctuator::Comma)?;
-        expression(parser, build, depth)?;
-    }
-    Ok(())
-}
 
-/// `primary → ( expr )`
-#[inline(never)]
-#[cycle(expressions)]
-fn bracketed<F: Feed, B: Build>(
-    parser: &mut Parser<'_, F>,
-    build: &mut B,
-    depth: u8,
-) -> Result<(), ParseFault>
-    requires at { IsAt (HasRoom (B.stands build.old) (room depth 11)) (IsNext punctuator.OpenRound) parser.old }
-    ensures parses { Parses result B.denied (B.stands build.old) (B.stands build.new)
-        depth 11 Primary parser.old parser.new }
-    ensures kept { Advances result parser.old parser.new }
-{
-    if depth >= MOST_LEVELS {
-        return Err(parser.refusal(Code::NestedTooDeeply));
+    /// `tailN → operator level(N+1) tailN`, up to the next `tailN`
+    #[inline(never)]
+    #[cycle(expressions)]
+    fn operand(&mut self, binary: Binary) -> Result<(), ParseFault>
+        requires at { IsAt B.stands HasLeft binary.level (StartsOperand binary) self.old }
+        ensures parses { ParsesOperand result B.denied B.stands binary self.old self.new }
+        ensures kept { Proceeds result self.old self.new }
+    {
+        self.parser.advance()?;
+        tell_middle(self.build, binary.op)?;
+        self.levels(binary.level + 1)?;
+        self.build.binop(binary.op)?;
+        Ok(())
     }
-    parser.advance()?;
-    expression(parser, build, depth + 1)?;
-    parser.expect(Punctuator::CloseRound)?;
-    Ok(())
+
+    /// `level11 → operator level11`, `level11 → operator name` and `level11 → primary`
+    #[inline(always)]
+    #[cycle(expressions)]
+    fn unary(&mut self) -> Result<(), ParseFault>
+        requires at { IsAt B.stands HasRoom 11 Anywhere self.old }
+        ensures parses { Parses result B.denied B.stands 11 Unary self.old self.new }
+        ensures kept { Proceeds result self.old self.new }
+    {
+        if let Token::Punctuator(_) = self.parser.peek().token {
+            self.from_punctuator()?;
+        } else {
+            self.primary()?;
+        }
+        Ok(())
+    }
+
+    /// `level11` from a punctuator on: apart from the names and constants that most operands are
+    #[inline(never)]
+    #[cycle(expressions)]
+    fn from_punctuator(&mut self) -> Result<(), ParseFault>
+        requires at { IsAt B.stands HasRoom 11 Anywhere self.old }
+        ensures parses { Parses result B.denied B.stands 11 Unary self.old self.new }
+        ensures kept { Proceeds result self.old self.new }
+    {
+        if let Some(sign) = sign_of(&self.parser.peek().token) {
+            self.signed(sign)?;
+        } else if let Some(step) = step_of(&self.parser.peek().token) {
+            self.step_before(step)?;
+        } else {
+            self.primary()?;
+        }
+        Ok(())
+    }
+
+    /// `level11 → operator level11`
+    #[inline(never)]
+    #[cycle(expressions)]
+    fn signed(&mut self, sign: Sign) -> Result<(), ParseFault>
+        requires at { IsAt B.stands HasRoom 11 (IsNext (sign_punctuator sign)) self.old }
+        ensures parses { Parses result B.denied B.stands 11 Unary self.old self.new }
+        ensures kept { Proceeds result self.old self.new }
+    {
+        if self.depth >= MOST_LEVELS {
+            return Err(self.parser.refusal(Code::NestedTooDeeply));
+        }
+        self.parser.advance()?;
+        sign.begin(self.build)?;
+        self.depth += 1;
+        self.unary()?;
+        self.depth -= 1;
+        sign.end(self.build)?;
+        Ok(())
+    }
+
+    /// `primary → constant`, `name ( args )`, `name operator`, `name` and `( expr )`
+    #[inline(always)]
+    #[cycle(expressions)]
+    fn primary(&mut self) -> Result<(), ParseFault>
+        requires at { IsAt B.stands HasRoom 11 Anywhere self.old }
+        ensures parses { Parses result B.denied B.stands 11 Primary self.old self.new }
+        ensures kept { Proceeds result self.old self.new }
+    {
+        match self.parser.peek().token {
+            Token::Constant(value) => self.constant(value)?,
+            Token::Name(_) if is_punctuator(self.parser.after(), Punctuator::OpenRound) => {
+                self.call()?;
+            }
+            Token::Name(_) => self.variable()?,
+            _ if is_punctuator(&self.parser.peek().token, Punctuator::OpenRound) => {
+                self.bracketed()?;
+            }
+            _ => return Err(self.parser.misfit()),
+        }
+        Ok(())
+    }
+
+    /// `primary → name ( args )`
+    #[inline(never)]
+    #[cycle(expressions)]
+    fn call(&mut self) -> Result<(), ParseFault>
+        requires at { IsAt B.stands HasRoom 11 StartsCall self.old }
+        ensures parses { Parses result B.denied B.stands 11 Primary self.old self.new }
+        ensures kept { Proceeds result self.old self.new }
+    {
+        if self.depth >= MOST_LEVELS {
+            return Err(self.parser.refusal(Code::NestedTooDeeply));
+        }
+        let callee = self.parser.callee()?;
+        self.build.begin_call()?;
+        self.parser.expect(Punctuator::OpenRound)?;
+        self.depth += 1;
+        self.arguments()?;
+        self.depth -= 1;
+        self.parser.expect(Punctuator::CloseRound)?;
+        self.build.end_call(callee)?;
+        Ok(())
+    }
+
+    /// `args → expr moreargs`, and empty at the closing bracket; `moreargs → , expr moreargs`
+    #[cycle(expressions)]
+    fn arguments(&mut self) -> Result<(), ParseFault>
+        requires at { IsAt B.stands HasRoom 1 Anywhere self.old }
+        ensures parses { ParsesArgs result B.denied B.stands self.old self.new }
+        ensures kept { MayProceed result self.old self.new }
+    {
+        if is_punctuator(&self.parser.peek().token, Punctuator::CloseRound) {
+            return Ok(());
+        }
+        self.expression()?;
+        while is_punctuator(&self.parser.peek().token, Punctuator::Comma) {
+            self.parser.expect(Punctuator::Comma)?;
+            self.expression()?;
+        }
+        Ok(())
+    }
+
+    /// `primary → ( expr )`
+    #[inline(never)]
+    #[cycle(expressions)]
+    fn bracketed(&mut self) -> Result<(), ParseFault>
+        requires at { IsAt B.stands HasRoom 11 (IsNext punctuator.OpenRound) self.old }
+        ensures parses { Parses result B.denied B.stands 11 Primary self.old self.new }
+        ensures kept { Proceeds result self.old self.new }
+    {
+        if self.depth >= MOST_LEVELS {
+            return Err(self.parser.refusal(Code::NestedTooDeeply));
+        }
+        self.parser.advance()?;
+        self.depth += 1;
+        self.expression()?;
+        self.depth -= 1;
+        self.parser.expect(Punctuator::CloseRound)?;
+        Ok(())
+    }
 }
 
 /// Returns the operator of an assignment, if the next token is a name and the one after it is such an operator.
-fn assignment_operator<F: Feed>(parser: &Parser<'_, F>) -> Option<StoreOp>
+fn assignment_operator<F: Feed>(parser: &Parser<'_, '_, F>) -> Option<StoreOp>
     ensures starts { IfSome result (λ op. StartsAssignment op parser.now) }
     ensures none { IfNone result (StartsNoAssignment parser.now) }
 {

@@ -1,22 +1,23 @@
 //! Files: one pass from a device's bytes to a builder, and the names of the file.
 
-ghost use Rattle.std.specs.Prelude.{◌∷◌, [], IfErr, IfOk, OnOk};
+ghost use Rattle.std.specs.Prelude.{◌≡◌, ◌∷◌, IfErr, IfOk, OnOk};
 ghost use Rattle.tokens.specs.Feed.{MayRead};
 ghost use Rattle.tokens.specs.declared.located_tokens.Word.TheVariants as word;
-ghost use Rattle.grammar.specs.Building.{StandsOpen};
 ghost use Rattle.grammar.specs.Grammar.{Head, Part};
-ghost use Rattle.parser.specs.Advancing.{Advances, Anywhere, IsAt, IsNextWord, Keeps};
-ghost use Rattle.parser.specs.Position.{scope_of};
+ghost use Rattle.grammar.specs.Scope.{no_names};
+ghost use Rattle.parser.specs.Advancing.{Anywhere, IsNextWord};
+ghost use Rattle.parser.specs.Readers.{IsBetween, MayProceed, Proceeds};
+ghost use Rattle.parser.specs.Position.{names_in, scope_of};
 ghost use Rattle.parser.specs.Segment.{Counts};
 ghost use Rattle.parser.specs.Files.{IsFile, IsNew, IsRefused, TakesEnough};
 ghost use Rattle.parser.specs.Progress.{HasMore, IsComplete, Lacks, ReadsParts, ReadsSource, at_source};
 
-use crate::functions::function;
 use crate::headings::externals;
 use crate::lists::type_words;
 use crate::parser::{Parser, first};
+use crate::reader::Reader;
 use crate::token_predicates::{is_punctuator, is_word};
-use grammar::{Build, Code, Diagnostic, ParseFault, Pools};
+use grammar::{Build, Code, Diagnostic, ParseFault, Pools, Scope};
 use tokens::{Feed, Punctuator, Token, Word};
 
 /// Reads a source from the device in one pass, reports its actions to the builder, and returns its names.
@@ -37,86 +38,115 @@ use tokens::{Feed, Punctuator, Token, Word};
 #[inline(never)]
 pub fn parse<F: Feed, B: Build>(feed: &mut F, build: &mut B) -> Result<Pools, ParseFault>
     requires new { IsNew (B.stands build.old) }
-    requires ready { MayRead (F.account feed.old) (F.ended feed.old) }
-    ensures file { IfOk result (λ pools. IsFile (B.stands build.old) (B.stands build.new) (F.to_come feed.old) pools) }
+    requires ready { MayRead (F.device feed.old) }
+    ensures file { IfOk result (λ pools. IsFile (B.stands build.old) (B.stands build.new) (F.device feed.old).to_come pools) }
     ensures refused { IfErr result (IsRefused (B.stands build.old) (B.stands build.new) B.denied
-        (F.to_come feed.old) (F.to_come feed.new)) }
-    ensures taken { TakesEnough result (B.stands build.old) (F.to_come feed.old) (F.to_come feed.new) }
-    ensures counted { Counts result (F.account feed.old) (F.account feed.new) }
+        (F.device feed.old).to_come (F.device feed.new).to_come) }
+    ensures taken { TakesEnough result (B.stands build.old) (F.device feed.old).to_come (F.device feed.new).to_come }
+    ensures counted { Counts result (F.device feed.old).account (F.device feed.new).account }
 {
-    let cursor = first(feed)?;
-    let mut parser = Parser::new(cursor, feed);
-    let read = source(&mut parser, build);
-    let checked = check_functions(&parser);
-    let (pools, device) = parser.into_parts();
-    let _held = &*device;
+    let mut scope = Scope::new();
+    let read = read_file(feed, build, &mut scope);
+    let pools = scope.into_pools();
     read?;
-    checked?;
     Ok(pools)
 }
 
-/// `source → end`, `type types head source` and `name ( params ) pdecls block source`
-fn source<F: Feed, B: Build>(parser: &mut Parser<'_, F>, build: &mut B) -> Result<(), ParseFault>
-    requires at { IsAt (StandsOpen (B.stands build.old) []) Anywhere parser.old }
-    ensures reads { ReadsSource result B.denied (B.stands build.old) (B.stands build.new)
-        parser.old parser.new }
-    ensures kept { Keeps result parser.old parser.new }
+/// Reads a source as `parse` does, and leaves its names in a scope that knew none. Names are large: they stay where they
+/// are.
+fn read_file<F: Feed, B: Build>(
+    feed: &mut F,
+    build: &mut B,
+    scope: &mut Scope,
+) -> Result<(), ParseFault>
+    requires new { IsNew (B.stands build.old) × (scope.old ≡ no_names) }
+    requires ready { MayRead (F.device feed.old) }
+    ensures file { OnOk result (IsFile (B.stands build.old) (B.stands build.new) (F.device feed.old).to_come
+        (names_in scope.new)) }
+    ensures refused { IfErr result (IsRefused (B.stands build.old) (B.stands build.new) B.denied
+        (F.device feed.old).to_come (F.device feed.new).to_come) }
+    ensures taken { TakesEnough result (B.stands build.old) (F.device feed.old).to_come (F.device feed.new).to_come }
+    ensures counted { Counts result (F.device feed.old).account (F.device feed.new).account }
 {
-    while !matches!(parser.peek().token, Token::End) {
-        part(parser, build)?;
-    }
+    let cursor = first(feed)?;
+    let parser = Parser::new(cursor, scope, feed);
+    let mut reader = Reader {
+        parser,
+        build,
+        depth: 0,
+    };
+    let read = reader.source();
+    let checked = check_functions(&reader.parser);
+    let Reader { parser, build, .. } = reader;
+    let (names, device) = parser.into_parts();
+    let _known = &*names;
+    let _held = &*device;
+    let _told = &*build;
+    read?;
+    checked?;
     Ok(())
 }
 
-/// `type types head` or `name ( params ) pdecls block`
-fn part<F: Feed, B: Build>(parser: &mut Parser<'_, F>, build: &mut B) -> Result<(), ParseFault>
-    requires at { IsAt (StandsOpen (B.stands build.old) []) HasMore parser.old }
-    ensures reads { ReadsParts result B.denied (B.stands build.old) (B.stands build.new)
-        at_source parser.old parser.new }
-    ensures kept { Advances result parser.old parser.new }
-{
-    if is_word(&parser.peek().token, Word::Type) {
-        typed(parser, build)?;
-    } else if let Token::Name(_) = parser.peek().token {
-        function(parser, build)?;
-    } else {
-        return Err(parser.misfit());
-    }
-    Ok(())
-}
-
-/// `type types head`
-fn typed<F: Feed, B: Build>(parser: &mut Parser<'_, F>, build: &mut B) -> Result<(), ParseFault>
-    requires at { IsAt (StandsOpen (B.stands build.old) []) (IsNextWord word.Type) parser.old }
-    ensures reads { ReadsParts result B.denied (B.stands build.old) (B.stands build.new)
-        at_source parser.old parser.new }
-    ensures kept { Advances result parser.old parser.new }
-{
-    parser.expect_word(Word::Type)?;
-    type_words(parser)?;
-    head(parser, build)?;
-    Ok(())
-}
-
-/// `head → name ( params ) pdecls block` and `head → name more ;`
-fn head<F: Feed, B: Build>(parser: &mut Parser<'_, F>, build: &mut B) -> Result<(), ParseFault>
-    requires at { IsAt (StandsOpen (B.stands build.old) []) Anywhere parser.old }
-    ensures reads { ReadsParts result B.denied (B.stands build.old) (B.stands build.new)
-        (Part Head ∷ at_source) parser.old parser.new }
-    ensures kept { Advances result parser.old parser.new }
-{
-    match parser.peek().token {
-        Token::Name(_) if is_punctuator(parser.after(), Punctuator::OpenRound) => {
-            function(parser, build)?;
+impl<F: Feed, B: Build> Reader<'_, '_, '_, F, B> {
+    /// `source → end`, `type types head source` and `name ( params ) pdecls block source`
+    fn source(&mut self) -> Result<(), ParseFault>
+        requires at { IsBetween B.stands Anywhere self.old }
+        ensures reads { ReadsSource result B.denied B.stands self.old self.new }
+        ensures kept { MayProceed result self.old self.new }
+    {
+        while !matches!(self.parser.peek().token, Token::End) {
+            self.part()?;
         }
-        Token::Name(_) => externals(parser)?,
-        _ => return Err(parser.misfit()),
+        Ok(())
     }
-    Ok(())
+
+    /// `type types head` or `name ( params ) pdecls block`
+    fn part(&mut self) -> Result<(), ParseFault>
+        requires at { IsBetween B.stands HasMore self.old }
+        ensures reads { ReadsParts result B.denied B.stands at_source self.old self.new }
+        ensures kept { Proceeds result self.old self.new }
+    {
+        if is_word(&self.parser.peek().token, Word::Type) {
+            self.typed()?;
+        } else if let Token::Name(_) = self.parser.peek().token {
+            self.function()?;
+        } else {
+            return Err(self.parser.misfit());
+        }
+        Ok(())
+    }
+
+    /// `type types head`
+    fn typed(&mut self) -> Result<(), ParseFault>
+        requires at { IsBetween B.stands (IsNextWord word.Type) self.old }
+        ensures reads { ReadsParts result B.denied B.stands at_source self.old self.new }
+        ensures kept { Proceeds result self.old self.new }
+    {
+        self.parser.expect_word(Word::Type)?;
+        type_words(&mut self.parser)?;
+        self.head()?;
+        Ok(())
+    }
+
+    /// `head → name ( params ) pdecls block` and `head → name more ;`
+    fn head(&mut self) -> Result<(), ParseFault>
+        requires at { IsBetween B.stands Anywhere self.old }
+        ensures reads { ReadsParts result B.denied B.stands (Part Head ∷ at_source) self.old self.new }
+        ensures kept { Proceeds result self.old self.new }
+    {
+        match self.parser.peek().token {
+            Token::Name(_) if is_punctuator(self.parser.after(), Punctuator::OpenRound) => {
+                self.function()?;
+            }
+            Token::Name(_) => externals(&mut self.parser)?,
+            _ => return Err(self.parser.misfit()),
+        }
+        Ok(())
+    }
 }
 
 /// Refuses a file in which a function is missing: one that was mentioned, or else `main`.
-fn check_functions<F: Feed>(parser: &Parser<'_, F>) -> Result<(), ParseFault>
+fn check_functions<F: Feed>(parser: &Parser<'_, '_, F>) -> Result<(), ParseFault>
     ensures complete { OnOk result (IsComplete (scope_of parser.now)) }
     ensures lacks { IfErr result (Lacks parser.now.place.position) }
 {

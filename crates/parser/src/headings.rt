@@ -16,7 +16,7 @@ use grammar::ParseFault;
 use tokens::{Feed, Punctuator, Token};
 
 /// `head → name more ;`
-pub fn externals<F: Feed>(parser: &mut Parser<'_, F>) -> Result<(), ParseFault>
+pub fn externals<F: Feed>(parser: &mut Parser<'_, '_, F>) -> Result<(), ParseFault>
     requires ready { IsReady parser.old }
     ensures matches { Matches result (names_items Declared.Externals) (λ _. []) parser.old parser.new }
     ensures stays { OnOk result (StaysInBody (scope_of parser.old) (scope_of parser.new)) }
@@ -28,7 +28,7 @@ pub fn externals<F: Feed>(parser: &mut Parser<'_, F>) -> Result<(), ParseFault>
 /// `name ( params ) pdecls`, in front of a function's block
 ///
 /// Returns the function's number.
-pub fn heading<F: Feed>(parser: &mut Parser<'_, F>) -> Result<u8, ParseFault>
+pub fn heading<F: Feed>(parser: &mut Parser<'_, '_, F>) -> Result<u8, ParseFault>
     requires ready { IsReady parser.old }
     ensures matches { Matches result heading_items (λ _. []) parser.old parser.new }
     ensures begun { IfOk result (λ number.
@@ -44,7 +44,7 @@ pub fn heading<F: Feed>(parser: &mut Parser<'_, F>) -> Result<u8, ParseFault>
 }
 
 /// `params → name more`, and empty where no name is next
-fn parameters<F: Feed>(parser: &mut Parser<'_, F>) -> Result<(), ParseFault>
+fn parameters<F: Feed>(parser: &mut Parser<'_, '_, F>) -> Result<(), ParseFault>
     requires ready { IsReady parser.old }
     ensures matches { Matches result (Part Parameters ∷ []) (λ _. []) parser.old parser.new }
     ensures stays { OnOk result (StaysIn (scope_of parser.old) (scope_of parser.new)) }

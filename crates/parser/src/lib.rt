@@ -9,6 +9,7 @@ mod headings;
 mod lists;
 mod operands;
 mod parser;
+mod reader;
 mod roles;
 mod signs;
 mod statements;

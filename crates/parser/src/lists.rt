@@ -16,7 +16,7 @@ use grammar::ParseFault;
 use tokens::{Feed, Punctuator, Word};
 
 /// `types → type types`
-pub fn type_words<F: Feed>(parser: &mut Parser<'_, F>) -> Result<(), ParseFault>
+pub fn type_words<F: Feed>(parser: &mut Parser<'_, '_, F>) -> Result<(), ParseFault>
     requires ready { IsReady parser.old }
     ensures matches { Matches result (Part Types ∷ []) (λ _. []) parser.old parser.new }
     ensures scope { OnOk result (scope_of parser.new ≡ scope_of parser.old) }
@@ -30,7 +30,10 @@ pub fn type_words<F: Feed>(parser: &mut Parser<'_, F>) -> Result<(), ParseFault>
 
 /// `more → , name more`
 #[inline(always)]
-pub fn more_names<F: Feed>(parser: &mut Parser<'_, F>, declared: Declared) -> Result<(), ParseFault>
+pub fn more_names<F: Feed>(
+    parser: &mut Parser<'_, '_, F>,
+    declared: Declared,
+) -> Result<(), ParseFault>
     requires ready { IsReady parser.old }
     ensures matches { Matches result (Part (More (role_of declared)) ∷ []) (λ _. []) parser.old parser.new }
     ensures stays { OnOk result (StaysAt declared (scope_of parser.old) (scope_of parser.new)) }
@@ -46,7 +49,7 @@ pub fn more_names<F: Feed>(parser: &mut Parser<'_, F>, declared: Declared) -> Re
 /// `decls → type types name more ; decls` with locals, and `pdecls` likewise with parameters
 #[inline(always)]
 pub fn declarations<F: Feed>(
-    parser: &mut Parser<'_, F>,
+    parser: &mut Parser<'_, '_, F>,
     declared: Declared,
 ) -> Result<(), ParseFault>
     requires blocks { IsInFunction declared }
@@ -63,7 +66,10 @@ pub fn declarations<F: Feed>(
 
 /// `type types name more ;`
 #[inline(always)]
-fn declaration<F: Feed>(parser: &mut Parser<'_, F>, declared: Declared) -> Result<(), ParseFault>
+fn declaration<F: Feed>(
+    parser: &mut Parser<'_, '_, F>,
+    declared: Declared,
+) -> Result<(), ParseFault>
     requires ready { IsReady parser.old }
     ensures matches { Matches result (declaration_items declared) (λ _. []) parser.old parser.new }
     ensures stays { OnOk result (StaysAt declared (scope_of parser.old) (scope_of parser.new)) }
@@ -76,7 +82,7 @@ fn declaration<F: Feed>(parser: &mut Parser<'_, F>, declared: Declared) -> Resul
 
 /// `name more ;`
 #[inline(always)]
-pub fn names<F: Feed>(parser: &mut Parser<'_, F>, declared: Declared) -> Result<(), ParseFault>
+pub fn names<F: Feed>(parser: &mut Parser<'_, '_, F>, declared: Declared) -> Result<(), ParseFault>
     requires ready { IsReady parser.old }
     ensures matches { Matches result (names_items declared) (λ _. []) parser.old parser.new }
     ensures stays { OnOk result (StaysAt declared (scope_of parser.old) (scope_of parser.new)) }

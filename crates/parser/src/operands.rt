@@ -1,90 +1,74 @@
 //! Operands without operands of their own: constants and variables, with `++` and `--`.
 
 ghost use Rattle.grammar.specs.Grammar.{Primary, Unary};
-ghost use Rattle.parser.specs.Advancing.{Advances, IsAt, IsNext};
+ghost use Rattle.parser.specs.Advancing.{IsNext};
+ghost use Rattle.parser.specs.Readers.{IsAt, Proceeds};
 ghost use Rattle.parser.specs.Room.{HasRoom};
 ghost use Rattle.parser.specs.Expressions.{ParsesOperandAlone};
 ghost use Rattle.parser.specs.Signs.{step_punctuator};
 ghost use Rattle.parser.specs.Starts.{StartsConstant, StartsStep, StartsVariable};
 
-use crate::parser::Parser;
+use crate::reader::Reader;
 use crate::signs::{Step, step_of};
 use grammar::{Build, ParseFault};
 use tokens::Feed;
 
-/// `primary → constant`
-#[inline(always)]
-pub fn constant<F: Feed, B: Build>(
-    parser: &mut Parser<'_, F>,
-    build: &mut B,
-    value: u32,
-) -> Result<(), ParseFault>
-    requires at { IsAt (HasRoom (B.stands build.old) 0) (StartsConstant value) parser.old }
-    ensures parses { ParsesOperandAlone result B.denied (B.stands build.old) (B.stands build.new)
-        Primary parser.old parser.new }
-    ensures kept { Advances result parser.old parser.new }
-{
-    build.constant(value as i32)?;
-    parser.advance()?;
-    Ok(())
-}
-
-/// `primary → name operator` and `primary → name`
-#[inline(always)]
-pub fn variable<F: Feed, B: Build>(
-    parser: &mut Parser<'_, F>,
-    build: &mut B,
-) -> Result<(), ParseFault>
-    requires at { IsAt (HasRoom (B.stands build.old) 0) StartsVariable parser.old }
-    ensures parses { ParsesOperandAlone result B.denied (B.stands build.old) (B.stands build.new)
-        Primary parser.old parser.new }
-    ensures kept { Advances result parser.old parser.new }
-{
-    if let Some(step) = step_of(parser.after()) {
-        step_behind(parser, build, step)?;
-        return Ok(());
+impl<F: Feed, B: Build> Reader<'_, '_, '_, F, B> {
+    /// `primary → constant`
+    #[inline(always)]
+    pub fn constant(&mut self, value: u32) -> Result<(), ParseFault>
+        requires at { IsAt B.stands HasRoom 11 (StartsConstant value) self.old }
+        ensures parses { ParsesOperandAlone result B.denied B.stands Primary self.old self.new }
+        ensures kept { Proceeds result self.old self.new }
+    {
+        self.build.constant(value as i32)?;
+        self.parser.advance()?;
+        Ok(())
     }
-    let var = parser.mention()?;
-    build.fetch(var)?;
-    Ok(())
-}
 
-/// `primary → name operator`
-#[inline(never)]
-fn step_behind<F: Feed, B: Build>(
-    parser: &mut Parser<'_, F>,
-    build: &mut B,
-    step: Step,
-) -> Result<(), ParseFault>
-    requires at { IsAt (HasRoom (B.stands build.old) 0) (StartsStep step) parser.old }
-    ensures parses { ParsesOperandAlone result B.denied (B.stands build.old) (B.stands build.new)
-        Primary parser.old parser.new }
-    ensures kept { Advances result parser.old parser.new }
-{
-    let var = parser.mention()?;
-    build.fetch(var)?;
-    build.constant(1)?;
-    build.store(var, step.store())?;
-    build.chop()?;
-    parser.expect(step.punctuator())?;
-    Ok(())
-}
+    /// `primary → name operator` and `primary → name`
+    #[inline(always)]
+    pub fn variable(&mut self) -> Result<(), ParseFault>
+        requires at { IsAt B.stands HasRoom 11 StartsVariable self.old }
+        ensures parses { ParsesOperandAlone result B.denied B.stands Primary self.old self.new }
+        ensures kept { Proceeds result self.old self.new }
+    {
+        if let Some(step) = step_of(self.parser.after()) {
+            self.step_behind(step)?;
+            return Ok(());
+        }
+        let var = self.parser.mention()?;
+        self.build.fetch(var)?;
+        Ok(())
+    }
 
-/// `level11 → operator name`
-#[inline(never)]
-pub fn step_before<F: Feed, B: Build>(
-    parser: &mut Parser<'_, F>,
-    build: &mut B,
-    step: Step,
-) -> Result<(), ParseFault>
-    requires at { IsAt (HasRoom (B.stands build.old) 0) (IsNext (step_punctuator step)) parser.old }
-    ensures parses { ParsesOperandAlone result B.denied (B.stands build.old) (B.stands build.new)
-        Unary parser.old parser.new }
-    ensures kept { Advances result parser.old parser.new }
-{
-    parser.advance()?;
-    let var = parser.mention()?;
-    build.constant(1)?;
-    build.store(var, step.store())?;
-    Ok(())
+    /// `primary → name operator`
+    #[inline(never)]
+    fn step_behind(&mut self, step: Step) -> Result<(), ParseFault>
+        requires at { IsAt B.stands HasRoom 11 (StartsStep step) self.old }
+        ensures parses { ParsesOperandAlone result B.denied B.stands Primary self.old self.new }
+        ensures kept { Proceeds result self.old self.new }
+    {
+        let var = self.parser.mention()?;
+        self.build.fetch(var)?;
+        self.build.constant(1)?;
+        self.build.store(var, step.store())?;
+        self.build.chop()?;
+        self.parser.expect(step.punctuator())?;
+        Ok(())
+    }
+
+    /// `level11 → operator name`
+    #[inline(never)]
+    pub fn step_before(&mut self, step: Step) -> Result<(), ParseFault>
+        requires at { IsAt B.stands HasRoom 11 (IsNext (step_punctuator step)) self.old }
+        ensures parses { ParsesOperandAlone result B.denied B.stands Unary self.old self.new }
+        ensures kept { Proceeds result self.old self.new }
+    {
+        self.parser.advance()?;
+        let var = self.parser.mention()?;
+        self.build.constant(1)?;
+        self.build.store(var, step.store())?;
+        Ok(())
+    }
 }

@@ -11,7 +11,7 @@ ghost use Rattle.grammar.specs.Faults.{misfit_code};
 ghost use Rattle.grammar.specs.Grammar.{AWord, AName, AnEnd, Called, Defined, Exactly, Mentioned, is_fault};
 ghost use Rattle.grammar.specs.Naming.{Knows, RefusesName, line_of_undefined};
 ghost use Rattle.grammar.specs.Resolved.{IsCallable, IsVariable};
-ghost use Rattle.grammar.specs.Scope.{end_definition, function_number, no_names};
+ghost use Rattle.grammar.specs.Scope.{end_definition, function_number};
 ghost use Rattle.grammar.specs.Tree.{NoMore};
 ghost use Rattle.parser.specs.Advancing.{IsReadable, most_failures};
 ghost use Rattle.tokens.specs.ReadLimits.{most_bytes};
@@ -21,7 +21,7 @@ ghost use Rattle.parser.specs.Segment.{Counts, IsNoName, StopsAtFirst};
 
 use crate::roles::Declared;
 use crate::token_predicates::{is_punctuator, is_word};
-use grammar::{Callee, Code, Diagnostic, MOST_NAMES, ParseFault, Pools, Scope, Var, code_of};
+use grammar::{Callee, Code, Diagnostic, MOST_NAMES, ParseFault, Scope, Var, code_of};
 use std::marker::Model;
 use tokens::{Cursor, Feed, LocatedToken, Name, Punctuator, Token, Word};
 
@@ -33,13 +33,13 @@ pub const MOST_LEVELS: u8 = 64;
 ///
 /// After an `Err` a parser is of no more use.
 #[derive(Drop)]
-pub struct Parser<'a, F: Feed> {
+pub struct Parser<'s, 'a, F: Feed> {
     cursor: Cursor,
-    scope: Scope,
+    scope: &'s mut Scope,
     feed: &'a mut F,
 }
 
-impl<'a, F: Feed> Model for Parser<'a, F> {
+impl<'s, 'a, F: Feed> Model for Parser<'s, 'a, F> {
     ghost use Rattle.std.specs.Prelude.{◌≡◌, ◌≤◌, false};
     ghost use Rattle.tokens.specs.Reading.{beyond, taken};
     ghost use Rattle.tokens.specs.Window.{KnowsEnd};
@@ -50,13 +50,13 @@ impl<'a, F: Feed> Model for Parser<'a, F> {
     ghost Value = { Standing };
 
     ghost view = { λ p. record {
-      place = place (record { reading = p.cursor; scope = p.scope }) (F.to_come p.feed.now);
-      account = F.account p.feed.now;
-      device = p.feed.ghost_name;
+      place = place (record { reading = p.cursor; scope = p.scope.now }) (F.device p.feed.now).to_come;
+      account = (F.device p.feed.now).account;
+      borrows = (p.scope.ghost_name, p.feed.ghost_name);
     } };
 
     ghost invariant = { λ p. (is_fault p.cursor.next.token ≡ false)
-        × KnowsEnd (beyond p.cursor) (F.ended p.feed.now) × (taken p.cursor ≤ most_bytes) };
+        × KnowsEnd (beyond p.cursor) (F.device p.feed.now).ended × (taken p.cursor ≤ most_bytes) };
 }
 
 /// Reads the first tokens of a device's bytes, for a parser.
@@ -64,13 +64,13 @@ impl<'a, F: Feed> Model for Parser<'a, F> {
 /// # Errors
 /// `Source` if the first token is a lexical error, `Device` if the device failed.
 pub fn first<F: Feed>(feed: &mut F) -> Result<Cursor, ParseFault>
-    requires count { (F.account feed.old).failures < most_failures }
-    requires not_ended { F.ended feed.old ≡ false }
+    requires count { (F.device feed.old).account.failures < most_failures }
+    requires not_ended { (F.device feed.old).ended ≡ false }
     ensures opens { IfOk result (λ cursor.
-        Opens cursor (F.to_come feed.old) (F.to_come feed.new) (F.ended feed.new)) }
+        Opens cursor (F.device feed.old).to_come (F.device feed.new).to_come (F.device feed.new).ended) }
     ensures ready { IfOk result IsReadable }
-    ensures refused { IfErr result (StopsAtFirst (F.to_come feed.old) (F.to_come feed.new)) }
-    ensures counted { Counts result (F.account feed.old) (F.account feed.new) }
+    ensures refused { IfErr result (StopsAtFirst (F.device feed.old).to_come (F.device feed.new).to_come) }
+    ensures counted { Counts result (F.device feed.old).account (F.device feed.new).account }
 {
     let cursor = Cursor::open(feed)?;
     if let Token::Fault(_) = cursor.peek().token {
@@ -79,7 +79,7 @@ pub fn first<F: Feed>(feed: &mut F) -> Result<Cursor, ParseFault>
     Ok(cursor)
 }
 
-impl<'a, F: Feed> Parser<'a, F> {
+impl<'s, 'a, F: Feed> Parser<'s, 'a, F> {
     ghost use Rattle.parser.specs.Advancing.{Advances, IsReady};
     ghost use Rattle.parser.specs.Defining.{StaysAt, StaysInBody};
     ghost use Rattle.parser.specs.Matching.{Consumes, Matches};
@@ -87,19 +87,20 @@ impl<'a, F: Feed> Parser<'a, F> {
     ghost use Rattle.parser.specs.Position.{token_of};
     ghost use Rattle.parser.specs.Segment.{BeginsDefinition};
 
-    /// Makes a parser at the first token of a device, which knows no names.
+    /// Makes a parser at the first token of a device, with the names known there.
     ///
-    /// `cursor` is what `first` gave for the same device.
-    pub fn new(cursor: Cursor, feed: &'a mut F) -> Parser<'a, F>
+    /// `cursor` is what `first` gave for the same device. The names are large, so they stay where they are.
+    pub fn new(cursor: Cursor, scope: &'s mut Scope, feed: &'a mut F) -> Parser<'s, 'a, F>
         requires ready { IsReadable cursor }
-        requires known { KnowsEnd (beyond cursor) (F.ended feed.old) }
-        ensures place { result.place ≡ place (record { reading = cursor; scope = no_names }) (F.to_come feed.old) }
-        ensures account { result.account ≡ F.account feed.old }
-        ensures device { result.device ≡ feed.entry.ghost_name }
+        requires known { KnowsEnd (beyond cursor) (F.device feed.old).ended }
+        ensures place { result.place ≡ place (record { reading = cursor; scope = scope.old }) (F.device feed.old).to_come }
+        ensures account { result.account ≡ (F.device feed.old).account }
+        ensures scope { result.borrows.0 ≡ scope.entry.ghost_name }
+        ensures device { result.borrows.1 ≡ feed.entry.ghost_name }
     {
         Parser {
             cursor,
-            scope: Scope::new(),
+            scope,
             feed,
         }
     }
@@ -251,7 +252,7 @@ impl<'a, F: Feed> Parser<'a, F> {
         ensures kept { Advances result self.old self.new }
     {
         let name = name(&self.cursor)?;
-        if let Err(code) = declare(&mut self.scope, name, declared) {
+        if let Err(code) = declare(self.scope, name, declared) {
             return Err(self.refusal(code));
         }
         self.advance()?;
@@ -296,17 +297,17 @@ impl<'a, F: Feed> Parser<'a, F> {
         self.scope.has_main()
     }
 
-    /// Takes the parser apart: the names of the file, and the device.
-    pub fn into_parts(self) -> (Pools, &'a mut F)
-        ensures names { result.0 ≡
-            record { externals = (scope_of self.entry).externals; functions = (scope_of self.entry).functions } }
-        ensures device { result.1.ghost_name ≡ self.entry.device }
-        ensures to_come { F.to_come result.1.now ≡ self.entry.place.to_come }
-        ensures account { F.account result.1.now ≡ self.entry.account }
+    /// Takes the parser apart: the names known, and the device.
+    pub fn into_parts(self) -> (&'s mut Scope, &'a mut F)
+        ensures names { result.0.now ≡ scope_of self.entry }
+        ensures scope { result.0.ghost_name ≡ self.entry.borrows.0 }
+        ensures device { result.1.ghost_name ≡ self.entry.borrows.1 }
+        ensures to_come { (F.device result.1.now).to_come ≡ self.entry.place.to_come }
+        ensures account { (F.device result.1.now).account ≡ self.entry.account }
         ensures limited { taken_at self.entry.place ≤ most_bytes }
     {
         let Parser { scope, feed, .. } = self;
-        (scope.into_pools(), feed)
+        (scope, feed)
     }
 }
 

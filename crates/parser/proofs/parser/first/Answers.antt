@@ -8,7 +8,7 @@ pub returns-in_err-cursor-clause-refused : goal.returns-in_err-cursor-clause-ref
 returns-in_err-cursor-clause-refused g c =
     let p = err_from_is_err_and c.from_residual.result c.from_residual.ensures.1 in
     rw (p.1, p.2)
-    (no_opening (g.F.Feed.to_come c.args.feed.now) (g.F.Feed.to_come c.open.new.feed)
+    (no_opening (g.F.Feed.device c.args.feed.now).to_come (g.F.Feed.device c.open.new.feed).to_come
     c.in_err-cursor.ensures.stopped)
 
 pub returns-in-Fault-clause-refused : goal.returns-in-Fault-clause-refused

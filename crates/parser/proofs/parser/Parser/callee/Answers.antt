@@ -38,8 +38,8 @@ returns-in_err-advance-clause-matches g c =
     let p = err_from_is_err_and c.from_residual-in_err-advance.result c.from_residual-in_err-advance.ensures.1 in
     rw (p.1, p.2, sym c.self.view_is)
     (refused_map _ _ _ ⊥ ⊥ c.in_err-advance.field-0.0
-    (name_stops c.self.inside.cursor c.self.inside.scope _ _ Called c.in_ok-name.name.now found
-    (subst (λ (n : ℕ). Knows Called c.in_ok-name.name.now n c.self.inside.scope c.call.new.self) line
+    (name_stops c.self.inside.cursor c.self.inside.scope.now _ _ Called c.in_ok-name.name.now found
+    (subst (λ (n : ℕ). Knows Called c.in_ok-name.name.now n c.self.inside.scope.now c.call.new.self) line
     c.in-Ok.ensures.known.1)) (λ same. same) c.in_err-advance.ensures.consumes)
 
 pub returns-clause-matches : goal.returns-clause-matches
@@ -48,12 +48,12 @@ returns-clause-matches g c =
     let line : c.peek.result.now.line ≡ c.self.inside.cursor.next.line =
     ap (λ (l : LocatedToken). l.line) c.peek.ensures.value in
     rw (sym c.self.view_is)
-    (name_derives c.self.inside.cursor c.self.inside.scope _ _ _ Called c.in_ok-name.name.now _ found
-    (subst (λ (n : ℕ). Knows Called c.in_ok-name.name.now n c.self.inside.scope c.call.new.self) line
+    (name_derives c.self.inside.cursor c.self.inside.scope.now _ _ _ Called c.in_ok-name.name.now _ found
+    (subst (λ (n : ℕ). Knows Called c.in_ok-name.name.now n c.self.inside.scope.now c.call.new.self) line
     c.in-Ok.ensures.known.1) (ap (λ f. ACall f NoMore ∷ []) c.in-Ok.ensures.known.0)
     c.in_ok-advance.ensures.consumes)
 
 pub returns-clause-stays : goal.returns-clause-stays
 returns-clause-stays g c =
     rw (sym c.self.view_is, c.in_ok-advance.ensures.consumes.scope)
-    (called_stays c.in_ok-name.name.now _ c.self.inside.scope c.call.new.self c.in-Ok.ensures.known.1)
+    (called_stays c.in_ok-name.name.now _ c.self.inside.scope.now c.call.new.self c.in-Ok.ensures.known.1)

@@ -32,19 +32,19 @@ returns-in_err-advance-clause-matches g c =
     let p = err_from_is_err_and c.from_residual-in_err-advance.result c.from_residual-in_err-advance.ensures.1 in
     rw (p.1, p.2, sym c.self.view_is)
     (refused_map _ _ _ ⊥ ⊥ c.in_err-advance.field-0.0
-    (name_stops c.self.inside.cursor c.self.inside.scope _ _ (role_of c.args.declared) c.in_ok-name.name.now
+    (name_stops c.self.inside.cursor c.self.inside.scope.now _ _ (role_of c.args.declared) c.in_ok-name.name.now
     found (c.in_default.ensures.known _)) (λ same. same) c.in_err-advance.ensures.consumes)
 
 pub returns-clause-matches : goal.returns-clause-matches
 returns-clause-matches g c =
     let found : c.self.inside.cursor.next.token ≡ token.Name c.in_ok-name.name.now = c.in_ok-name.ensures.found in
     rw (sym c.self.view_is)
-    (name_derives c.self.inside.cursor c.self.inside.scope _ _ _ (role_of c.args.declared) c.in_ok-name.name.now _
-    found (c.in_default.ensures.known _) (no_tree _ c.self.inside.scope c.args.declared)
+    (name_derives c.self.inside.cursor c.self.inside.scope.now _ _ _ (role_of c.args.declared) c.in_ok-name.name.now _
+    found (c.in_default.ensures.known _) (no_tree _ c.self.inside.scope.now c.args.declared)
     c.in_ok-advance.ensures.consumes)
 
 pub returns-clause-stays : goal.returns-clause-stays
 returns-clause-stays g c =
     rw (sym c.self.view_is, c.in_ok-advance.ensures.consumes.scope)
-    (declared_stays c.args.declared c.in_ok-name.name.now 0 c.self.inside.scope c.declare.new.scope
+    (declared_stays c.args.declared c.in_ok-name.name.now 0 c.self.inside.scope.now c.declare.new.scope
     (c.in_default.ensures.known 0))

@@ -37,8 +37,8 @@ returns-in_err-advance-clause-matches g c =
     let p = err_from_is_err_and c.from_residual-in_err-advance.result c.from_residual-in_err-advance.ensures.1 in
     rw (p.1, p.2, sym c.self.view_is)
     (refused_map _ _ _ ⊥ ⊥ c.in_err-advance.field-0.0
-    (name_stops c.self.inside.cursor c.self.inside.scope _ _ Defined c.in_ok-name.name.now found
-    (subst (λ (n : ℕ). Knows Defined c.in_ok-name.name.now n c.self.inside.scope c.define.new.self) line
+    (name_stops c.self.inside.cursor c.self.inside.scope.now _ _ Defined c.in_ok-name.name.now found
+    (subst (λ (n : ℕ). Knows Defined c.in_ok-name.name.now n c.self.inside.scope.now c.define.new.self) line
     c.in-Ok.ensures.known)) (λ same. same) c.in_err-advance.ensures.consumes)
 
 pub returns-clause-matches : goal.returns-clause-matches
@@ -47,8 +47,8 @@ returns-clause-matches g c =
     let line : c.peek.result.now.line ≡ c.self.inside.cursor.next.line =
     ap (λ (l : LocatedToken). l.line) c.peek.ensures.value in
     rw (sym c.self.view_is)
-    (name_derives c.self.inside.cursor c.self.inside.scope _ _ _ Defined c.in_ok-name.name.now _ found
-    (subst (λ (n : ℕ). Knows Defined c.in_ok-name.name.now n c.self.inside.scope c.define.new.self) line
+    (name_derives c.self.inside.cursor c.self.inside.scope.now _ _ _ Defined c.in_ok-name.name.now _ found
+    (subst (λ (n : ℕ). Knows Defined c.in_ok-name.name.now n c.self.inside.scope.now c.define.new.self) line
     c.in-Ok.ensures.known) (refl) c.in_ok-advance.ensures.consumes)
 
 pub returns-clause-begun : goal.returns-clause-begun

@@ -33,18 +33,18 @@ returns-in_err-advance-clause-matches g c =
     let p = err_from_is_err_and c.from_residual-in_err-advance.result c.from_residual-in_err-advance.ensures.1 in
     rw (p.1, p.2, sym c.self.view_is)
     (refused_map _ _ _ ⊥ ⊥ c.in_err-advance.field-0.0
-    (name_stops c.self.inside.cursor c.self.inside.scope _ _ Mentioned c.in_ok-name.name.now found
+    (name_stops c.self.inside.cursor c.self.inside.scope.now _ _ Mentioned c.in_ok-name.name.now found
     (c.in-Ok.ensures.known.1 _)) (λ same. same) c.in_err-advance.ensures.consumes)
 
 pub returns-clause-matches : goal.returns-clause-matches
 returns-clause-matches g c =
     let found : c.self.inside.cursor.next.token ≡ token.Name c.in_ok-name.name.now = c.in_ok-name.ensures.found in
     rw (sym c.self.view_is)
-    (name_derives c.self.inside.cursor c.self.inside.scope _ _ _ Mentioned c.in_ok-name.name.now _ found
+    (name_derives c.self.inside.cursor c.self.inside.scope.now _ _ _ Mentioned c.in_ok-name.name.now _ found
     (c.in-Ok.ensures.known.1 _) (ap (λ v. AVariable v ∷ []) c.in-Ok.ensures.known.0)
     c.in_ok-advance.ensures.consumes)
 
 pub returns-clause-stays : goal.returns-clause-stays
 returns-clause-stays g c =
     rw (sym c.self.view_is, c.in_ok-advance.ensures.consumes.scope)
-    (mentioned_stays c.in_ok-name.name.now 0 c.self.inside.scope c.mention.new.self (c.in-Ok.ensures.known.1 0))
+    (mentioned_stays c.in_ok-name.name.now 0 c.self.inside.scope.now c.mention.new.self (c.in-Ok.ensures.known.1 0))

@@ -1,0 +1,85 @@
+use Rattle.std.proofs.Common.{refl}
+use Rattle.std.proofs.lemmas.Result.{err_from_is_err_and}
+use Rattle.grammar.specs.Actions.{GiveBack}
+use Rattle.grammar.specs.Following.{AValue, is_number}
+use Rattle.grammar.proofs.FollowingLaws.{origin_of}
+use Rattle.parser.proofs.Advances.{kept_then, on, on_then}
+use Rattle.parser.proofs.Growing.{grown, grown_nothing, refuses, unknown}
+use Rattle.parser.proofs.Segments.{halts, refused_map}
+use Rattle.parser.specs.Room.{room}
+use Rattle.parser.proofs.Openings.{may_end, value_inside}
+use Rattle.parser.proofs.SimpleLaws.{given_fails, return_adds, return_stops, return_unended}
+use Rattle.parser.proofs.reader.Reader.give_back.Goals as goal
+
+pub returns-in_err-advance-clause-parses : goal.returns-in_err-advance-clause-parses
+returns-in_err-advance-clause-parses g c =
+    let p = err_from_is_err_and c.from_residual.result c.from_residual.ensures.1 in
+    rw (p.1, p.2) (record {
+      refused = refused_map _ _ _ ⊥ _ c.in_err-advance.field-0.0
+          (return_stops _ c.args.self.now.depth c.requires.at.ready.sound c.requires.at.is) (λ never. absurd never)
+          c.in_err-advance.ensures.consumes;
+      grown = λ device. grown_nothing _;
+    })
+
+pub returns-in_err-back-clause-parses : goal.returns-in_err-back-clause-parses
+returns-in_err-back-clause-parses g c =
+    let p = err_from_is_err_and c.from_residual-in_err-back.result c.from_residual-in_err-back.ensures.1 in
+    rw (p.1, p.2) (record {
+      refused = refused_map _ _ _ _ _ c.in_err-back.field-0.0
+          (given_fails _ _ c.args.self.now.depth c.requires.at.ready.sound c.requires.at.is
+          c.in_ok-advance.ensures.consumes)
+          (λ same. same) c.in_err-back.ensures.parses.refused;
+      grown = c.in_err-back.ensures.parses.grown;
+    })
+
+pub returns-in_err-expect-clause-parses : goal.returns-in_err-expect-clause-parses
+returns-in_err-expect-clause-parses g c =
+    let p = err_from_is_err_and c.from_residual-in_err-expect.result c.from_residual-in_err-expect.ensures.1 in
+    rw (p.1, p.2) (record {
+      refused = refused_map _ _ _ ⊥ _ c.in_err-expect.field-0.0
+          (return_unended _ _ _ _ _ c.args.self.now.depth c.requires.at.ready.sound c.requires.at.is
+          c.in_ok-advance.ensures.consumes c.in_ok-back.ensures.parses) (λ never. absurd never)
+          c.in_err-expect.ensures.matches;
+      grown = λ device. grown _ _ _ c.in_ok-back.ensures.parses.added;
+    })
+
+pub give_back-requires : goal.give_back-requires
+give_back-requires g c =
+    let e = c.in_ok-back.ensures.parses in
+    record {
+      follows =
+          may_end GiveBack (AValue (origin_of e.tree)) (is_number 0 (origin_of e.tree)) _ (room c.args.self.now.depth 1)
+          (λ o. refl)
+          (value_inside _ _ (room c.args.self.now.depth 1) e.tree c.requires.at.builder e.numbered e.narrow e.added);
+    }
+
+pub returns-clause-parses : goal.returns-clause-parses
+returns-clause-parses g c =
+    return_adds _ _ _ _ _ _ _ c.args.self.now.depth c.requires.at.ready.sound c.requires.at.is
+    c.in_ok-advance.ensures.consumes
+    c.in_ok-back.ensures.parses c.in_ok-expect.ensures.matches c.in_ok-expect.ensures.kept.ready.sound
+    c.in_ok-give_back.ensures.ok
+
+pub returns-clause-kept : goal.returns-clause-kept
+returns-clause-kept g c = record {
+  parser =
+      on_then _ _ _ c.in_ok-advance.ensures.kept
+      (kept_then _ _ _ c.in_ok-back.ensures.kept.parser (on _ _ c.in_ok-expect.ensures.kept));
+  depth = c.in_ok-back.ensures.kept.depth;
+  builder = c.in_ok-back.ensures.kept.builder;
+}
+
+pub returns-in_err-give_back-clause-parses : goal.returns-in_err-give_back-clause-parses
+returns-in_err-give_back-clause-parses g c =
+    let p = err_from_is_err_and c.from_residual-in_err-give_back.result c.from_residual-in_err-give_back.ensures.1 in
+    rw (p.1, p.2) (record {
+      refused = (
+        refuses c.in_err-give_back.field-0.0 _ c.in_err-give_back.ensures.memory,
+        λ b. halts _ _ _ _ _ _ _ _
+            ((return_adds _ _ _ _ _ _ unknown c.args.self.now.depth c.requires.at.ready.sound c.requires.at.is
+            c.in_ok-advance.ensures.consumes c.in_ok-back.ensures.parses c.in_ok-expect.ensures.matches
+            c.in_ok-expect.ensures.kept.ready.sound (λ profile acts h. tt)).derives b)
+            c.in_ok-expect.ensures.kept.ready.near,
+      );
+      grown = λ device. absurd (cc);
+    })

@@ -1,0 +1,84 @@
+use Rattle.std.proofs.Common.{refl, pos, [], ◌∷◌, arith}
+use Rattle.std.proofs.lemmas.Result.{err_from_is_err_and}
+use Rattle.grammar.specs.Actions.{PushConstant, StoreVariable}
+use Rattle.grammar.specs.Tree.{Assign, Constant}
+use Rattle.parser.proofs.Advances.{on, on_then}
+use Rattle.parser.proofs.Growing.{grown_nothing, refuses, unknown}
+use Rattle.parser.proofs.Segments.{halts}
+use Rattle.parser.specs.Signs.{step_store}
+use Rattle.parser.proofs.TellingLaws.{next_follows}
+use Rattle.parser.proofs.OperandLaws.{before_adds, before_punctuator_ends, before_name_ends, constant_follows, tree_follows}
+use Rattle.parser.proofs.reader.Reader.step_before.Goals as goal
+
+pub returns-in_err-advance-clause-parses : goal.returns-in_err-advance-clause-parses
+returns-in_err-advance-clause-parses g c =
+    let p = err_from_is_err_and c.from_residual.result c.from_residual.ensures.1 in
+    rw (p.1, p.2) (record {
+      refused = before_punctuator_ends _ c.args.self.now.parser.place c.args.step _ c.in_err-advance.field-0.0
+          c.requires.at.is c.in_err-advance.ensures.consumes;
+      grown = λ device. grown_nothing _;
+    })
+
+pub returns-in_err-var-clause-parses : goal.returns-in_err-var-clause-parses
+returns-in_err-var-clause-parses g c =
+    let p = err_from_is_err_and c.from_residual-in_err-var.result c.from_residual-in_err-var.ensures.1 in
+    rw (p.1, p.2) (record {
+      refused = before_name_ends _ c.args.self.now.parser.place _ c.args.step _ c.in_err-var.field-0.0 c.requires.at.is
+          c.in_ok-advance.ensures.consumes c.in_err-var.ensures.matches;
+      grown = λ device. grown_nothing _;
+    })
+
+pub constant-requires : goal.constant-requires
+constant-requires g c = record { follows = constant_follows _ _ (pos 1) c.requires.at.builder }
+
+pub store-requires-2 : goal.store-requires-2
+store-requires-2 g c = record {
+  follows = rw c.store.ensures
+      (next_follows _ _ (PushConstant (pos 1) ∷ []) (StoreVariable c.in_ok-var.var (step_store c.args.step)) []
+      (tree_follows _ _ (Assign (step_store c.args.step) c.in_ok-var.var (Constant (pos 1))) c.requires.at.builder
+      (c.in_ok-var.ensures.within, tt) (omega arith)) c.in_ok-constant.ensures.ok);
+}
+
+pub returns-clause-parses : goal.returns-clause-parses
+returns-clause-parses g c =
+    before_adds _ _ _ c.args.self.now.parser.place _ _ c.args.step c.in_ok-var.var c.requires.at.is
+    c.in_ok-advance.ensures.consumes c.in_ok-var.ensures.matches c.in_ok-var.ensures.within
+    c.in_ok-var.ensures.kept.ready.sound
+    c.in_ok-constant.ensures.ok (rw c.store.ensures at c.in_ok-store.ensures.ok)
+
+pub returns-clause-kept : goal.returns-clause-kept
+returns-clause-kept g c = record {
+  parser = on_then _ _ _ c.in_ok-advance.ensures.kept (on _ _ c.in_ok-var.ensures.kept);
+  depth = refl;
+  builder = refl;
+}
+
+pub returns-in_err-constant-clause-parses : goal.returns-in_err-constant-clause-parses
+returns-in_err-constant-clause-parses g c =
+    let p = err_from_is_err_and c.from_residual-in_err-constant.result c.from_residual-in_err-constant.ensures.1 in
+    rw (p.1, p.2) (record {
+      refused = (
+        refuses c.in_err-constant.field-0.0 _ c.in_err-constant.ensures.memory,
+        λ depth. halts _ _ _ _ _ _ _ _
+            (before_adds unknown unknown unknown c.args.self.now.parser.place _ _ c.args.step c.in_ok-var.var
+            c.requires.at.is c.in_ok-advance.ensures.consumes c.in_ok-var.ensures.matches c.in_ok-var.ensures.within
+            c.in_ok-var.ensures.kept.ready.sound
+            (λ profile acts h. tt) (λ profile acts h. tt) depth).derives c.in_ok-var.ensures.kept.ready.near,
+      );
+      grown = λ device. absurd (cc);
+    })
+
+pub returns-in_err-store-clause-parses : goal.returns-in_err-store-clause-parses
+returns-in_err-store-clause-parses g c =
+    let p = err_from_is_err_and c.from_residual-in_err-store.result c.from_residual-in_err-store.ensures.1 in
+    rw (p.1, p.2) (record {
+      refused = (
+        refuses c.in_err-store.field-0.0 _ c.in_err-store.ensures.memory,
+        λ depth. halts _ _ _ _ _ _ _ _
+            (before_adds unknown unknown unknown c.args.self.now.parser.place _ _ c.args.step c.in_ok-var.var
+            c.requires.at.is c.in_ok-advance.ensures.consumes c.in_ok-var.ensures.matches c.in_ok-var.ensures.within
+            c.in_ok-var.ensures.kept.ready.sound
+            (λ profile acts h. tt) (λ profile acts h. tt) depth).derives c.in_ok-var.ensures.kept.ready.near,
+      );
+      grown = λ device. absurd (cc);
+    })
