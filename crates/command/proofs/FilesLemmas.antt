@@ -3,15 +3,15 @@ use Rattle.std.proofs.Common.{◌≡◌, ◌<◌, ◌+◌, ℕ, zero, suc, List,
 use Rattle.std.specs.Prelude.{All, slice_get, slice_index_or, slice_set}
 use Rattle.std.proofs.lemmas.List.{map_more, map_push}
 use Rattle.std.proofs.lemmas.List.Elements.{All-push}
-use Rattle.tokens.specs.Feed.{Account, failed_again}
-use Rattle.series.specs.Failures.{no_device}
+use Rattle.tokens.specs.Feed.{Account, Device, failed_again}
+use Rattle.series.specs.Failures.{accounts, no_device}
 use Rattle.command.specs.Files.{EachShows, HasFailed, ShowsFailure}
 
-module _ {F : Type 0} (account : F → Account) (fails : List ℕ → Type 0) where
+module _ {F : Type 0} (device : F → Device) (fails : List ℕ → Type 0) where
   -- one more file was opened
   pub each_pushed : (words : List (List ℕ)) (files : List F) (word : List ℕ) (file : F) →
-      EachShows account fails words files
-      → ShowsFailure account file (fails word) → EachShows account fails (words ++ word ∷ []) (files ++ file ∷ [])
+      EachShows device fails words files
+      → ShowsFailure device file (fails word) → EachShows device fails (words ++ word ∷ []) (files ++ file ∷ [])
   each_pushed [] [] word file each shows = (shows, tt)
   each_pushed [] (other ∷ files) word file each shows = absurd each
   each_pushed (first ∷ words) [] word file each shows = absurd each
@@ -20,11 +20,11 @@ module _ {F : Type 0} (account : F → Account) (fails : List ℕ → Type 0) wh
 
   -- the file in this place has failed once more
   shown_at : (words : List (List ℕ)) (olds news : List F) (word : List ℕ) (place : ℕ) →
-      EachShows account fails words olds
-      → slice_get words place ≡ Some word → place < length (map account olds)
+      EachShows device fails words olds
+      → slice_get words place ≡ Some word → place < length (accounts device olds)
       →
-      map account news ≡
-      slice_set (map account olds) place (failed_again (slice_index_or (map account olds) place no_device))
+      accounts device news ≡
+      slice_set (accounts device olds) place (failed_again (slice_index_or (accounts device olds) place no_device))
       → fails word
   shown_at [] [] news word place each here within is = absurd (omega (arith, within))
   shown_at [] (old ∷ olds) news word place each here within is = absurd each
@@ -37,17 +37,17 @@ module _ {F : Type 0} (account : F → Account) (fails : List ℕ → Type 0) wh
   shown_at (first ∷ words) (old ∷ olds) (new ∷ news) word (suc place) each here within is =
       shown_at words olds news word place each.1 here (omega (arith, within)) (ap (λ (l : List Account). drop 1 l) is)
 
-  pub shown : (words : List (List ℕ)) (olds news : List F) (word : List ℕ) → EachShows account fails words olds
-      → HasFailed words (map account olds) (map account news) word → fails word
+  pub shown : (words : List (List ℕ)) (olds news : List F) (word : List ℕ) → EachShows device fails words olds
+      → HasFailed words (accounts device olds) (accounts device news) word → fails word
   shown words olds news word each failed =
       shown_at words olds news word failed.place each failed.here failed.within failed.is
 
   -- one more word and its file
   pub each_more : (words : List (Bor (List ℕ))) (files : List F) (i : ℕ) (d : Bor (List ℕ)) (file : F) →
       i < length words
-      → EachShows account fails (map (λ (w : Bor (List ℕ)). w.now) (take i words)) files
-      → ShowsFailure account file (fails (get_or words i d).now)
-      → EachShows account fails (map (λ (w : Bor (List ℕ)). w.now) (take (i + 1) words)) (files ++ file ∷ [])
+      → EachShows device fails (map (λ (w : Bor (List ℕ)). w.now) (take i words)) files
+      → ShowsFailure device file (fails (get_or words i d).now)
+      → EachShows device fails (map (λ (w : Bor (List ℕ)). w.now) (take (i + 1) words)) (files ++ file ∷ [])
   each_more words files i d file within each shows =
       rw (map_more (λ (w : Bor (List ℕ)). w.now) words i d within)
       (each_pushed (map (λ (w : Bor (List ℕ)). w.now) (take i words)) files (get_or words i d).now file each shows)

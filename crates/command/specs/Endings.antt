@@ -1,6 +1,6 @@
 -- How the program ends.
 use Rattle.std.specs.Prelude.{◌≡◌, ◌⊎◌, ℕ, ◌+◌, List, [], ◌∷◌, ◌++◌, codes}
-use Rattle.sinks.specs.Portions.{Portions, Takes, TakesFront}
+use Rattle.sinks.specs.Portions.{Takes, TakesFront, Written}
 use Rattle.std.specs.declared.io.ErrorKind.{ErrorKind}
 use Rattle.std.specs.declared.io.ErrorKind.TheVariants as kind
 use Rattle.command.specs.declared.endings.Ending.{Ending}
@@ -35,17 +35,20 @@ line_of CannotWrite = codes "crobots: cannot write" ++ 10 ∷ []
 line_of OutOfMemory = codes "crobots: out of memory" ++ 10 ∷ []
 
 -- a line was put: the sink took it, or it failed once and took a front of it
-abbrev pub PutsLine : Portions → ℕ → Portions → ℕ → List ℕ → Type 0
-PutsLine before n after m line =
-    (Takes before after line × (m ≡ n)) ⊎ (TakesFront before after line × (m ≡ n + 1))
+abbrev pub PutsLine : Written → Written → List ℕ → Type 0
+PutsLine before after line =
+    (Takes before.portions after.portions line × (after.failures ≡ before.failures))
+    ⊎ (TakesFront before.portions after.portions line × (after.failures ≡ before.failures + 1))
 
 -- the program ended so: it put the line, and answered the status
-pub record IsEnded (ending : Ending) (result : ℕ) (before : Portions) (n : ℕ) (after : Portions) (m : ℕ) : Type 0 where
+pub record IsEnded (ending : Ending) (result : ℕ) (before after : Written) : Type 0 where
   pub status : result ≡ status_of ending
-  pub line : PutsLine before n after m (line_of ending)
+  pub line : PutsLine before after (line_of ending)
 
 -- how often the two sinks failed in a run that ended so: only if writing failed one of them did, once
-abbrev pub Accounts : Ending → ℕ → ℕ → ℕ → ℕ → Type 0
+abbrev pub Accounts : Ending → (text faults later_text later_faults : Written) → Type 0
 Accounts CannotWrite text faults later_text later_faults =
-    ((later_text ≡ text + 1) × (later_faults ≡ faults)) ⊎ ((later_text ≡ text) × (later_faults ≡ faults + 1))
-Accounts _ text faults later_text later_faults = (later_text ≡ text) × (later_faults ≡ faults)
+    ((later_text.failures ≡ text.failures + 1) × (later_faults.failures ≡ faults.failures))
+    ⊎ ((later_text.failures ≡ text.failures) × (later_faults.failures ≡ faults.failures + 1))
+Accounts _ text faults later_text later_faults =
+    (later_text.failures ≡ text.failures) × (later_faults.failures ≡ faults.failures)

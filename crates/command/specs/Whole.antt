@@ -9,8 +9,8 @@ use Rattle.series.specs.Compiling.{Source}
 use Rattle.series.specs.Failures.{Failures}
 use Rattle.series.specs.Failures.{Accounts as Counts}
 use Rattle.series.specs.Output.{Runs}
-use Rattle.series.specs.Pieces.{Taken}
-use Rattle.sinks.specs.Portions.{Takes, TakesFront}
+use Rattle.series.specs.Pieces.{Taken, taken}
+use Rattle.sinks.specs.Portions.{Takes, TakesFront, Written}
 use Rattle.series.specs.Runs.{AreSources}
 use Rattle.settings.specs.declared.faults.UseFault.{UseFault}
 use Rattle.settings.specs.Setup.{Setup}
@@ -63,15 +63,15 @@ Ends files (Ok setup) ending before after =
 
 -- The program ends so, puts the line of its ending, whole if the channel of faults never failed, and answers its
 -- status.
--- The two counts say how often that channel had failed before, and has failed after.
-pub record Concludes (files : Files) (asked : Result Setup UseFault) (result : ℕ) (before after : Taken)
-    (failed failed_after : ℕ) : Type 0 where
+pub record Concludes (files : Files) (asked : Result Setup UseFault) (result : ℕ)
+    (text faults later_text later_faults : Written) : Type 0 where
   pub ending : Ending
   pub between : Taken
-  pub ends : Ends files asked ending before between
-  pub text : after.text ≡ between.text
-  pub front : TakesFront between.faults after.faults (line_of ending)
-  pub whole : failed_after ≡ failed → Takes between.faults after.faults (line_of ending)
+  pub ends : Ends files asked ending (taken text faults) between
+  pub text_stays : later_text.portions ≡ between.text
+  pub front : TakesFront between.faults later_faults.portions (line_of ending)
+  pub whole : later_faults.failures ≡ faults.failures
+      → Takes between.faults later_faults.portions (line_of ending)
   pub status : result ≡ status_of ending
 
 -- a status is at most 5, it is 2 only of refused words, and these give no other but 5
@@ -80,8 +80,7 @@ pub record IsStatusOf (asked : Result Setup UseFault) (status : ℕ) : Type 0 wh
   pub refused : IsErr asked → (status ≡ 2) ⊎ (status ≡ 5)
   pub only_refused : status ≡ 2 → IsErr asked
 
--- A status of 0 or 1 says that no write failed on the two channels, and 4 that one did. The counts say how often each
--- had failed before, and has failed after.
-pub record TellsWrites (status text faults later_text later_faults : ℕ) : Type 0 where
-  pub whole : status ≤ 1 → (later_text ≡ text) × (later_faults ≡ faults)
-  pub cut : status ≡ 4 → (text < later_text) ⊎ (faults < later_faults)
+-- A status of 0 or 1 says that no write failed on the two channels, and 4 that one did.
+pub record TellsWrites (status : ℕ) (text faults later_text later_faults : Written) : Type 0 where
+  pub whole : status ≤ 1 → (later_text.failures ≡ text.failures) × (later_faults.failures ≡ faults.failures)
+  pub cut : status ≡ 4 → (text.failures < later_text.failures) ⊎ (faults.failures < later_faults.failures)

@@ -1,7 +1,7 @@
 //! How the program ends: its status, and the line that it puts.
 
 ghost use Rattle.std.specs.Prelude.{◌≡◌, ℕ, ◌+◌, ◌-◌, ◌^◌, ◌<◌, ◌≤◌, List, [], ◌∷◌, ◌++◌};
-ghost use Rattle.sinks.specs.Portions.{Puts};
+ghost use Rattle.sinks.specs.Puts.{CanFail, Puts};
 ghost use Rattle.command.specs.Endings.{status_of, line_of, PutsLine};
 
 use series::{Pen, Sink, put_all};
@@ -33,11 +33,11 @@ pub enum Ending<'a> {
 impl Ending<'_> {
     /// Puts the ending's line, and answers the status, which a failure to put the line leaves as it is.
     pub fn end<E: Sink>(self, err: &mut E) -> u8
-        requires { E.failures err.old < 2 ^ 64 - 1 }
+        requires { CanFail (E.written err.old) }
         ensures status { result ≡ status_of self.entry }
-        ensures line { PutsLine (E.portions err.old) (E.failures err.old) (E.portions err.new) (E.failures err.new)
+        ensures line { PutsLine (E.written err.old) (E.written err.new)
             (line_of self.entry) }
-        ensures quiet { line_of self.entry ≡ [] → E.failures err.new ≡ E.failures err.old }
+        ensures quiet { line_of self.entry ≡ [] → (E.written err.new).failures ≡ (E.written err.old).failures }
     {
         let _ = self.put_line(err);
         self.status()
@@ -60,10 +60,10 @@ impl Ending<'_> {
     /// Puts the program's own line, if this ending has one.
     #[tactic(auto, unfolding(crate::specs::Endings::usage_line))]
     fn put_line<E: Sink>(self, err: &mut E) -> Result<(), DeviceFault>
-        requires { E.failures err.old < 2 ^ 64 - 1 }
-        ensures line { Puts result (E.portions err.old) (E.failures err.old) (E.portions err.new) (E.failures err.new)
+        requires { CanFail (E.written err.old) }
+        ensures line { Puts result (E.written err.old) (E.written err.new)
             (line_of self.entry) }
-        ensures quiet { line_of self.entry ≡ [] → E.failures err.new ≡ E.failures err.old }
+        ensures quiet { line_of self.entry ≡ [] → (E.written err.new).failures ≡ (E.written err.old).failures }
     {
         match self {
             Ending::Done | Ending::Faulty => Ok(()),
@@ -78,8 +78,8 @@ impl Ending<'_> {
 
 /// Puts the line that says this about a file.
 fn put_about<E: Sink>(err: &mut E, what: &[u8], word: &str) -> Result<(), DeviceFault>
-    requires { E.failures err.old < 2 ^ 64 - 1 }
-    ensures { Puts result (E.portions err.old) (E.failures err.old) (E.portions err.new) (E.failures err.new)
+    requires { CanFail (E.written err.old) }
+    ensures { Puts result (E.written err.old) (E.written err.new)
         (what.now ++ word.now ++ 10 ∷ []) }
 {
     let mut pen = Pen::new();

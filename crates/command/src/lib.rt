@@ -1,14 +1,14 @@
 //! The program over given words, files and streams: what it reads and writes, its own lines and its status.
 #![tactic(auto)]
 
-mod devices;
 mod endings;
 mod openers;
 mod process;
 mod running;
 
-pub use devices::{FileFeed, KnownFeed, StreamSink};
 pub use endings::Ending;
 pub use openers::{Disk, OpenFault, Opener};
 pub use process::program_of;
 pub use running::{program, program_over};
+pub use sinks::StreamSink;
+pub use tokens::{FileFeed, KnownFeed};

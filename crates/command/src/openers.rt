@@ -1,13 +1,12 @@
 //! What opens the files of a run.
 
-ghost use Rattle.std.specs.Prelude.{◌≡◌, ℕ, List, Option, None, Err, IfOk, OnOk, false, ⊤};
-ghost use Rattle.command.specs.Files.{ShowsFailure};
+ghost use Rattle.std.specs.Prelude.{◌≡◌, Err, IfOk, OnOk, false};
+ghost use Rattle.command.specs.Files.{Files, ShowsFailure, real_files};
 
-use crate::devices::FileFeed;
 use std::fs::File;
 use std::io::ErrorKind;
 use std::rt::Files;
-use tokens::Feed;
+use tokens::{Feed, FileFeed};
 
 /// Why a file was not opened.
 #[derive(Clone, Copy, Debug, PartialEq, Eq)]
@@ -22,27 +21,18 @@ pub enum OpenFault {
 pub trait Opener {
     type File: Feed + Drop;
 
-    /// What the file of a word holds, if its contents are known.
-    ghost holds: { Self → List ℕ → Option (List ℕ) };
-
-    /// The file of a word was opened.
-    ghost opens: { Self → List ℕ → Type 0 };
-
-    /// The file of a word can't be opened.
-    ghost refuses: { Self → List ℕ → Type 0 };
-
-    /// A read of the file of a word failed.
-    ghost fails: { Self → List ℕ → Type 0 };
+    /// What is known of the files that words name: what each holds, and what opening or reading it shows.
+    ghost files: { Self → Files };
 
     /// Opens the file of a word, of which nothing is read yet.
     fn open(&self, word: &str) -> Result<Self::File, OpenFault>
-        ensures contents { IfOk result (λ file. Self.File.to_come file ≡ holds self.now word.now) }
-        ensures opened { OnOk result (opens self.now word.now) }
-        ensures calm { IfOk result (λ file. (Self.File.account file).failures ≡ 0) }
-        ensures not_ended { IfOk result (λ file. Self.File.ended file ≡ false) }
+        ensures contents { IfOk result (λ file. (Self.File.device file).to_come ≡ (files self.now).holds word.now) }
+        ensures opened { OnOk result ((files self.now).opens word.now) }
+        ensures calm { IfOk result (λ file. (Self.File.device file).account.failures ≡ 0) }
+        ensures not_ended { IfOk result (λ file. (Self.File.device file).ended ≡ false) }
         // If a read of this very file fails later, that shows it.
-        ensures shows { IfOk result (λ file. ShowsFailure Self.File.account file (fails self.now word.now)) }
-        ensures refused { result ≡ Err OpenFault.Refused → refuses self.now word.now };
+        ensures shows { IfOk result (λ file. ShowsFailure Self.File.device file ((files self.now).fails word.now)) }
+        ensures refused { result ≡ Err OpenFault.Refused → (files self.now).refuses word.now };
 }
 
 /// The files of the machine that the program runs on, whose contents are not modelled.
@@ -63,13 +53,7 @@ impl<'r, R> Disk<'r, R> {
 impl<R: Files> Opener for Disk<'_, R> {
     type File = FileFeed<R::File>;
 
-    ghost holds = { λ _ _. None };
-
-    ghost opens = { λ _ _. ⊤ };
-
-    ghost refuses = { λ _ _. ⊤ };
-
-    ghost fails = { λ _ _. ⊤ };
+    ghost files = { λ _. real_files };
 
     fn open(&self, word: &str) -> Result<FileFeed<R::File>, OpenFault> {
         match File::open(self.rt, word) {

@@ -2,7 +2,7 @@
 
 ghost use Rattle.std.specs.Prelude.{◌≡◌, ◌≢◌, ◌⊎◌, ◌-◌, ◌^◌, ◌<◌, ◌≤◌, drop, map, string_bytes, IsErr, IfErr, IfOk, OnErr};
 ghost use Rattle.std.specs.IoError.{error_kind};
-ghost use Rattle.series.specs.Pieces.{taken};
+ghost use Rattle.sinks.specs.Puts.{CanFail};
 ghost use Rattle.arguments.specs.Asked.{asked};
 ghost use Rattle.command.specs.Endings.{IsEnded, unread_ending};
 ghost use Rattle.command.specs.Files.{real_files};
@@ -26,17 +26,16 @@ pub fn program_of<R: Files + AllocGlobal, O: Sink, E: Sink>(
     out: &mut O,
     err: &mut E,
 ) -> u8
-    requires text { O.failures out.old < 2 ^ 64 - 1 }
-    requires faults { E.failures err.old < 2 ^ 64 - 2 }
+    requires text { CanFail (O.written out.old) }
+    requires faults { (E.written err.old).failures < 2 ^ 64 - 2 }
     ensures status { IfOk words (λ all. IsStatusOf (asked (drop 1 (map string_bytes all.items))) result) }
-    ensures writes { TellsWrites result (O.failures out.old) (E.failures err.old) (O.failures out.new)
-        (E.failures err.new) }
+    ensures writes { TellsWrites result (O.written out.old) (E.written err.old) (O.written out.new)
+        (E.written err.new) }
     ensures read { IfOk words (λ all. Concludes real_files (asked (drop 1 (map string_bytes all.items))) result
-        (taken (O.portions out.old) (E.portions err.old)) (taken (O.portions out.new) (E.portions err.new))
-        (E.failures err.old) (E.failures err.new)) }
-    ensures unread { IfErr words (λ fault. (O.portions out.new ≡ O.portions out.old)
-        × IsEnded (unread_ending (error_kind fault)) result (E.portions err.old) (E.failures err.old)
-        (E.portions err.new) (E.failures err.new)) }
+        (O.written out.old) (E.written err.old) (O.written out.new) (E.written err.new)) }
+    ensures unread { IfErr words (λ fault. (O.written out.new ≡ O.written out.old)
+        × IsEnded (unread_ending (error_kind fault)) result (E.written err.old)
+        (E.written err.new)) }
 {
     match words {
         Ok(words) => match borrowed(rt, words.as_slice()) {

@@ -2,11 +2,13 @@
 
 ghost use Rattle.std.specs.Prelude.{◌≡◌, ◌⊎◌, ℕ, ◌+◌, ◌-◌, ◌^◌, ◌<◌, ◌≤◌, List, [], ◌∷◌, map, length, false, IsErr, IfOk, IfErr, All};
 ghost use Rattle.series.specs.Pieces.{taken};
-ghost use Rattle.series.specs.Failures.{AreReady, failures};
+ghost use Rattle.series.specs.Failures.{AreReady, accounts, failures};
 ghost use Rattle.arguments.specs.Asked.{asked};
 ghost use Rattle.command.specs.Endings.{Accounts};
-ghost use Rattle.command.specs.Files.{EachShows, HasFailed, files, real_files};
+ghost use Rattle.command.specs.Files.{EachShows, HasFailed, real_files};
+ghost use Rattle.sinks.specs.Puts.{CanFail};
 ghost use Rattle.command.specs.Whole.{Concludes, Ends, IsNotOpened, IsStatusOf, RunsTo, TellsWrites};
+ghost use Rattle.series.specs.Runs.{told_by};
 
 use crate::endings::Ending;
 use crate::openers::{Disk, OpenFault, Opener};
@@ -25,14 +27,13 @@ pub fn program<'a, R: Files + AllocGlobal, O: Sink, E: Sink>(
     out: &mut O,
     err: &mut E,
 ) -> u8
-    requires text { O.failures out.old < 2 ^ 64 - 1 }
-    requires faults { E.failures err.old < 2 ^ 64 - 2 }
+    requires text { CanFail (O.written out.old) }
+    requires faults { (E.written err.old).failures < 2 ^ 64 - 2 }
     ensures status { IsStatusOf (asked (map (λ word. word.now) words.now)) result }
-    ensures writes { TellsWrites result (O.failures out.old) (E.failures err.old) (O.failures out.new)
-        (E.failures err.new) }
+    ensures writes { TellsWrites result (O.written out.old) (E.written err.old) (O.written out.new)
+        (E.written err.new) }
     ensures ended { Concludes real_files (asked (map (λ word. word.now) words.now)) result
-        (taken (O.portions out.old) (E.portions err.old)) (taken (O.portions out.new) (E.portions err.new))
-        (E.failures err.old) (E.failures err.new) }
+        (O.written out.old) (E.written err.old) (O.written out.new) (E.written err.new) }
 {
     program_over(rt.alloc(), &Disk::new(rt), words, out, err)
 }
@@ -45,15 +46,13 @@ pub fn program_over<'a, D: Opener, O: Sink, E: Sink>(
     out: &mut O,
     err: &mut E,
 ) -> u8
-    requires text { O.failures out.old < 2 ^ 64 - 1 }
-    requires faults { E.failures err.old < 2 ^ 64 - 2 }
+    requires text { CanFail (O.written out.old) }
+    requires faults { (E.written err.old).failures < 2 ^ 64 - 2 }
     ensures status { IsStatusOf (asked (map (λ word. word.now) words.now)) result }
-    ensures writes { TellsWrites result (O.failures out.old) (E.failures err.old) (O.failures out.new)
-        (E.failures err.new) }
-    ensures ended { Concludes (files (D.holds disk.now) (D.opens disk.now) (D.refuses disk.now) (D.fails disk.now))
-        (asked (map (λ word. word.now) words.now)) result
-        (taken (O.portions out.old) (E.portions err.old)) (taken (O.portions out.new) (E.portions err.new))
-        (E.failures err.old) (E.failures err.new) }
+    ensures writes { TellsWrites result (O.written out.old) (E.written err.old) (O.written out.new)
+        (E.written err.new) }
+    ensures ended { Concludes (D.files disk.now) (asked (map (λ word. word.now) words.now)) result
+        (O.written out.old) (E.written err.old) (O.written out.new) (E.written err.new) }
 {
     ending(alloc, disk, words, out, err).end(err)
 }
@@ -66,13 +65,12 @@ fn ending<'a, D: Opener, O: Sink, E: Sink>(
     out: &mut O,
     err: &mut E,
 ) -> Ending<'a>
-    requires text { O.failures out.old < 2 ^ 64 - 1 }
-    requires faults { E.failures err.old < 2 ^ 64 - 2 }
-    ensures ends { Ends (files (D.holds disk.now) (D.opens disk.now) (D.refuses disk.now) (D.fails disk.now))
-        (asked (map (λ word. word.now) words.now)) result
-        (taken (O.portions out.old) (E.portions err.old)) (taken (O.portions out.new) (E.portions err.new)) }
-    ensures failures { Accounts result (O.failures out.old) (E.failures err.old) (O.failures out.new)
-        (E.failures err.new) }
+    requires text { CanFail (O.written out.old) }
+    requires faults { (E.written err.old).failures < 2 ^ 64 - 2 }
+    ensures ends { Ends (D.files disk.now) (asked (map (λ word. word.now) words.now)) result
+        (taken (O.written out.old) (E.written err.old)) (taken (O.written out.new) (E.written err.new)) }
+    ensures failures { Accounts result (O.written out.old) (E.written err.old) (O.written out.new)
+        (E.written err.new) }
 {
     let settings = match read_words(alloc, words) {
         Ok(settings) => settings,
@@ -92,15 +90,13 @@ fn open_files<'a, D: Opener>(
     disk: &D,
     words: &[&'a str],
 ) -> Result<Vec<D::File>, Ending<'a>>
-    ensures contents { IfOk result (λ feeds. map D.File.to_come feeds.items
-        ≡ map (λ word. D.holds disk.now word.now) words.now) }
-    ensures calm { IfOk result (λ feeds. All (λ feed. (D.File.account feed).failures ≡ 0) feeds.items) }
-    ensures not_ended { IfOk result (λ feeds. All (λ feed. D.File.ended feed ≡ false) feeds.items) }
-    ensures shows { IfOk result (λ feeds. EachShows D.File.account (D.fails disk.now)
+    ensures contents { IfOk result (λ feeds. told_by D.File.device feeds.items
+        ≡ map (λ word. (D.files disk.now).holds word.now) words.now) }
+    ensures calm { IfOk result (λ feeds. All (λ feed. (D.File.device feed).account.failures ≡ 0) feeds.items) }
+    ensures not_ended { IfOk result (λ feeds. All (λ feed. (D.File.device feed).ended ≡ false) feeds.items) }
+    ensures shows { IfOk result (λ feeds. EachShows D.File.device (D.files disk.now).fails
         (map (λ word. word.now) words.now) feeds.items) }
-    ensures refused { IfErr result (IsNotOpened
-        (files (D.holds disk.now) (D.opens disk.now) (D.refuses disk.now) (D.fails disk.now))
-        (map (λ word. word.now) words.now)) }
+    ensures refused { IfErr result (IsNotOpened (D.files disk.now) (map (λ word. word.now) words.now)) }
 {
     let mut feeds = Vec::new(alloc);
     for word in words {
@@ -123,15 +119,15 @@ fn run_files<'a, F: Feed, O: Sink, E: Sink>(
     out: &mut O,
     err: &mut E,
 ) -> Ending<'a>
-    requires ready { AreReady F.account F.ended (length settings.now.words) feeds.old
-        (O.failures out.old) (E.failures err.old) }
-    ensures ran { RunsTo (HasFailed settings.now.words (map F.account feeds.old) (map F.account feeds.new))
-        settings.now (map F.to_come feeds.old) result
-        (taken (O.portions out.old) (E.portions err.old)) (taken (O.portions out.new) (E.portions err.new))
-        (failures (map F.account feeds.old) (O.failures out.old) (E.failures err.old))
-        (failures (map F.account feeds.new) (O.failures out.new) (E.failures err.new)) }
-    ensures failures { Accounts result (O.failures out.old) (E.failures err.old) (O.failures out.new)
-        (E.failures err.new) }
+    requires ready { AreReady F.device (length settings.now.words) feeds.old
+        (O.written out.old) (E.written err.old) }
+    ensures ran { RunsTo (HasFailed settings.now.words (accounts F.device feeds.old) (accounts F.device feeds.new))
+        settings.now (told_by F.device feeds.old) result
+        (taken (O.written out.old) (E.written err.old)) (taken (O.written out.new) (E.written err.new))
+        (failures F.device feeds.old (O.written out.old) (E.written err.old))
+        (failures F.device feeds.new (O.written out.new) (E.written err.new)) }
+    ensures failures { Accounts result (O.written out.old) (E.written err.old) (O.written out.new)
+        (E.written err.new) }
 {
     match run(settings, feeds, out, err) {
         Ok(Status::Done) => Ending::Done,

@@ -413,13 +413,12 @@ struct Everywhere {
 impl Opener for Everywhere {
     type File = KnownFeed<&'static [u8]>;
 
-    ghost holds = { λ disk _. Some disk.source.now };
-
-    ghost opens = { λ _ _. ⊤ };
-
-    ghost refuses = { λ _ _. ⊥ };
-
-    ghost fails = { λ _ _. ⊤ };
+    ghost files = { λ disk. record {
+      holds = λ _. Some disk.source.now;
+      opens = λ _. ⊤;
+      refuses = λ _. ⊥;
+      fails = λ _. ⊤;
+    } };
 
     fn open(&self, _: &str) -> Result<KnownFeed<&'static [u8]>, OpenFault> {
         Ok(KnownFeed::new(self.source))

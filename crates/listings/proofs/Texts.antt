@@ -4,7 +4,8 @@ use Rattle.std.specs.List.{concat}
 use Rattle.std.proofs.Common.{refl, sym, ap, ◌∙◌, arith, append_assoc, add-zero, add-one}
 use Rattle.std.specs.Fmt.{decimal}
 use Rattle.std.proofs.lemmas.List.{append-nil, length-map}
-use Rattle.sinks.specs.Portions.{Contents, Portions, Puts}
+use Rattle.sinks.specs.Portions.{Contents, Portions}
+use Rattle.sinks.specs.Puts.{Puts}
 use Rattle.code.specs.declared.opcode.Coded.{Coded}
 use Rattle.code.specs.Opcodes.{instr_in}
 use Rattle.listings.specs.Listing.{code_lines, instr_line, numbered}

@@ -25,10 +25,9 @@ pub fn instruction_text(alloc: Global, instr: Instr) -> Result<Vec<u8>, AllocErr
 
 /// Adds an instruction: its word, and its operand if it has one.
 pub(crate) fn add_instruction<S: Sink>(pen: &mut Pen, sink: &mut S, instr: Instr)
-    requires { MayFail pen.old (S.failures sink.old) }
-    ensures countable { MayFail pen.new (S.failures sink.new) }
-    ensures text { Adds (S.portions sink.old) (S.failures sink.old) pen.old (S.portions sink.new)
-        (S.failures sink.new) pen.new (instr_text instr) }
+    requires { MayFail pen.old (S.written sink.old) }
+    ensures countable { MayFail pen.new (S.written sink.new) }
+    ensures text { Adds (S.written sink.old) pen.old (S.written sink.new) pen.new (instr_text instr) }
 {
     match instr {
         Instr::Fetch(variable) => {
@@ -67,10 +66,9 @@ pub(crate) fn add_instruction<S: Sink>(pen: &mut Pen, sink: &mut S, instr: Instr
 
 /// Adds a variable: E and its number, or L and its number.
 fn add_variable<S: Sink>(pen: &mut Pen, sink: &mut S, variable: Var)
-    requires { MayFail pen.old (S.failures sink.old) }
-    ensures countable { MayFail pen.new (S.failures sink.new) }
-    ensures text { Adds (S.portions sink.old) (S.failures sink.old) pen.old (S.portions sink.new)
-        (S.failures sink.new) pen.new (variable_text variable) }
+    requires { MayFail pen.old (S.written sink.old) }
+    ensures countable { MayFail pen.new (S.written sink.new) }
+    ensures text { Adds (S.written sink.old) pen.old (S.written sink.new) pen.new (variable_text variable) }
 {
     match variable {
         Var::External(number) => {
@@ -86,10 +84,9 @@ fn add_variable<S: Sink>(pen: &mut Pen, sink: &mut S, variable: Var)
 
 /// Adds a constant.
 fn add_value<S: Sink>(pen: &mut Pen, sink: &mut S, value: i32)
-    requires { MayFail pen.old (S.failures sink.old) }
-    ensures countable { MayFail pen.new (S.failures sink.new) }
-    ensures text { Adds (S.portions sink.old) (S.failures sink.old) pen.old (S.portions sink.new)
-        (S.failures sink.new) pen.new (signed_decimal value) }
+    requires { MayFail pen.old (S.written sink.old) }
+    ensures countable { MayFail pen.new (S.written sink.new) }
+    ensures text { Adds (S.written sink.old) pen.old (S.written sink.new) pen.new (signed_decimal value) }
 {
     if value < 0 {
         pen.push(sink, b'-');
@@ -101,10 +98,9 @@ fn add_value<S: Sink>(pen: &mut Pen, sink: &mut S, value: i32)
 
 /// Adds a function's number, or an intrinsic's name.
 fn add_callee<S: Sink>(pen: &mut Pen, sink: &mut S, callee: Callee)
-    requires { MayFail pen.old (S.failures sink.old) }
-    ensures countable { MayFail pen.new (S.failures sink.new) }
-    ensures text { Adds (S.portions sink.old) (S.failures sink.old) pen.old (S.portions sink.new)
-        (S.failures sink.new) pen.new (callee_text callee) }
+    requires { MayFail pen.old (S.written sink.old) }
+    ensures countable { MayFail pen.new (S.written sink.new) }
+    ensures text { Adds (S.written sink.old) pen.old (S.written sink.new) pen.new (callee_text callee) }
 {
     match callee {
         Callee::Function(number) => pen.number(sink, u32::from(number)),

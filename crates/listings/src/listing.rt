@@ -2,7 +2,7 @@
 
 ghost use Rattle.std.specs.Prelude.{◌≡◌, ◌+◌, ◌-◌, ◌^◌, ◌<◌, ◌≤◌, [], ◌++◌, get_or, length, map};
 ghost use Rattle.sinks.specs.Draft.{Adds, MayFail};
-ghost use Rattle.sinks.specs.Portions.{Puts};
+ghost use Rattle.sinks.specs.Puts.{CanFail, Puts};
 ghost use Rattle.code.specs.Opcodes.{instr_in};
 ghost use Rattle.listings.specs.Listing.{code_lines, externals_lines, function_lines, instr_line, listing_of, name_line, numbered};
 
@@ -18,8 +18,8 @@ pub fn put_listing<S: Sink>(
     names: &Pools,
     program: &Program,
 ) -> Result<(), DeviceFault>
-    requires { S.failures sink.old < 2 ^ 64 - 1 }
-    ensures { Puts result (S.portions sink.old) (S.failures sink.old) (S.portions sink.new) (S.failures sink.new)
+    requires { CanFail (S.written sink.old) }
+    ensures { Puts result (S.written sink.old) (S.written sink.new)
         (listing_of name.now names.now program.now) }
 {
     let mut pen = Pen::new();
@@ -35,10 +35,9 @@ pub fn put_listing<S: Sink>(
 /// Adds how many externals there are, and their names.
 fn add_externals<S: Sink>(pen: &mut Pen, sink: &mut S, externals: &[Name])
     requires few { length externals.now ≤ MOST_NAMES }
-    requires countable { MayFail pen.old (S.failures sink.old) }
-    ensures countable { MayFail pen.new (S.failures sink.new) }
-    ensures text { Adds (S.portions sink.old) (S.failures sink.old) pen.old (S.portions sink.new)
-        (S.failures sink.new) pen.new (externals_lines externals.now) }
+    requires countable { MayFail pen.old (S.written sink.old) }
+    ensures countable { MayFail pen.new (S.written sink.new) }
+    ensures text { Adds (S.written sink.old) pen.old (S.written sink.new) pen.new (externals_lines externals.now) }
 {
     pen.add(sink, b"Externals ");
     pen.number(sink, externals.len() as u32);
@@ -49,10 +48,10 @@ fn add_externals<S: Sink>(pen: &mut Pen, sink: &mut S, externals: &[Name])
 /// Adds each function.
 fn add_functions<S: Sink>(pen: &mut Pen, sink: &mut S, functions: &[Function], addresses: &[u16])
     requires few { length functions.now ≤ MOST_NAMES }
-    requires countable { MayFail pen.old (S.failures sink.old) }
-    ensures countable { MayFail pen.new (S.failures sink.new) }
-    ensures text { Adds (S.portions sink.old) (S.failures sink.old) pen.old (S.portions sink.new)
-        (S.failures sink.new) pen.new (numbered (function_lines addresses.now) 0 functions.now) }
+    requires countable { MayFail pen.old (S.written sink.old) }
+    ensures countable { MayFail pen.new (S.written sink.new) }
+    ensures text { Adds (S.written sink.old) pen.old (S.written sink.new) pen.new
+        (numbered (function_lines addresses.now) 0 functions.now) }
 {
     for (number, function) in functions.iter().enumerate() {
         add_function(pen, sink, number, function, addresses);
@@ -68,10 +67,10 @@ fn add_function<S: Sink>(
     addresses: &[u16],
 )
     requires few { number < MOST_NAMES }
-    requires countable { MayFail pen.old (S.failures sink.old) }
-    ensures countable { MayFail pen.new (S.failures sink.new) }
-    ensures text { Adds (S.portions sink.old) (S.failures sink.old) pen.old (S.portions sink.new)
-        (S.failures sink.new) pen.new (function_lines addresses.now number function.now) }
+    requires countable { MayFail pen.old (S.written sink.old) }
+    ensures countable { MayFail pen.new (S.written sink.new) }
+    ensures text { Adds (S.written sink.old) pen.old (S.written sink.new) pen.new
+        (function_lines addresses.now number function.now) }
 {
     pen.add(sink, b"Function ");
     pen.number(sink, number as u32);
@@ -95,10 +94,9 @@ fn address_at(addresses: &[u16], number: usize) -> u32
 /// Adds a line for each name.
 fn add_names<S: Sink>(pen: &mut Pen, sink: &mut S, names: &[Name])
     requires few { length names.now ≤ MOST_NAMES }
-    requires countable { MayFail pen.old (S.failures sink.old) }
-    ensures countable { MayFail pen.new (S.failures sink.new) }
-    ensures text { Adds (S.portions sink.old) (S.failures sink.old) pen.old (S.portions sink.new)
-        (S.failures sink.new) pen.new (numbered name_line 0 names.now) }
+    requires countable { MayFail pen.old (S.written sink.old) }
+    ensures countable { MayFail pen.new (S.written sink.new) }
+    ensures text { Adds (S.written sink.old) pen.old (S.written sink.new) pen.new (numbered name_line 0 names.now) }
 {
     for (number, name) in names.iter().enumerate() {
         add_name(pen, sink, number as u32, name);
@@ -107,10 +105,9 @@ fn add_names<S: Sink>(pen: &mut Pen, sink: &mut S, names: &[Name])
 
 /// Adds the line of a name: its number, and itself.
 fn add_name<S: Sink>(pen: &mut Pen, sink: &mut S, number: u32, name: &Name)
-    requires { MayFail pen.old (S.failures sink.old) }
-    ensures countable { MayFail pen.new (S.failures sink.new) }
-    ensures text { Adds (S.portions sink.old) (S.failures sink.old) pen.old (S.portions sink.new)
-        (S.failures sink.new) pen.new (name_line number name.now) }
+    requires { MayFail pen.old (S.written sink.old) }
+    ensures countable { MayFail pen.new (S.written sink.new) }
+    ensures text { Adds (S.written sink.old) pen.old (S.written sink.new) pen.new (name_line number name.now) }
 {
     pen.add(sink, b"  ");
     pen.number(sink, number);
@@ -122,10 +119,10 @@ fn add_name<S: Sink>(pen: &mut Pen, sink: &mut S, number: u32, name: &Name)
 /// Adds how many instructions there are, and a line for each.
 fn add_code<S: Sink>(pen: &mut Pen, sink: &mut S, instrs: &[Coded])
     requires few { length instrs.now ≤ MOST_INSTRUCTIONS }
-    requires countable { MayFail pen.old (S.failures sink.old) }
-    ensures countable { MayFail pen.new (S.failures sink.new) }
-    ensures text { Adds (S.portions sink.old) (S.failures sink.old) pen.old (S.portions sink.new)
-        (S.failures sink.new) pen.new (code_lines (map instr_in instrs.now)) }
+    requires countable { MayFail pen.old (S.written sink.old) }
+    ensures countable { MayFail pen.new (S.written sink.new) }
+    ensures text { Adds (S.written sink.old) pen.old (S.written sink.new) pen.new
+        (code_lines (map instr_in instrs.now)) }
 {
     pen.add(sink, b"Code ");
     pen.number(sink, instrs.len() as u32);
@@ -136,10 +133,10 @@ fn add_code<S: Sink>(pen: &mut Pen, sink: &mut S, instrs: &[Coded])
 /// Adds a line for each instruction.
 fn add_lines<S: Sink>(pen: &mut Pen, sink: &mut S, instrs: &[Coded])
     requires few { length instrs.now ≤ MOST_INSTRUCTIONS }
-    requires countable { MayFail pen.old (S.failures sink.old) }
-    ensures countable { MayFail pen.new (S.failures sink.new) }
-    ensures text { Adds (S.portions sink.old) (S.failures sink.old) pen.old (S.portions sink.new)
-        (S.failures sink.new) pen.new (numbered (λ n coded. instr_line n (instr_in coded)) 0 instrs.now) }
+    requires countable { MayFail pen.old (S.written sink.old) }
+    ensures countable { MayFail pen.new (S.written sink.new) }
+    ensures text { Adds (S.written sink.old) pen.old (S.written sink.new) pen.new
+        (numbered (λ n coded. instr_line n (instr_in coded)) 0 instrs.now) }
 {
     for (at, coded) in instrs.iter().enumerate() {
         add_line(pen, sink, at as u32, coded.instr());
@@ -148,10 +145,9 @@ fn add_lines<S: Sink>(pen: &mut Pen, sink: &mut S, instrs: &[Coded])
 
 /// Adds the line of an instruction at its address.
 fn add_line<S: Sink>(pen: &mut Pen, sink: &mut S, at: u32, instr: Instr)
-    requires { MayFail pen.old (S.failures sink.old) }
-    ensures countable { MayFail pen.new (S.failures sink.new) }
-    ensures text { Adds (S.portions sink.old) (S.failures sink.old) pen.old (S.portions sink.new)
-        (S.failures sink.new) pen.new (instr_line at instr) }
+    requires { MayFail pen.old (S.written sink.old) }
+    ensures countable { MayFail pen.new (S.written sink.new) }
+    ensures text { Adds (S.written sink.old) pen.old (S.written sink.new) pen.new (instr_line at instr) }
 {
     pen.column(sink, 5, at);
     pen.push(sink, b' ');

@@ -5,7 +5,7 @@ use Rattle.grammar.specs.Profile.{Profile}
 use Rattle.grammar.specs.Tree.{File}
 use Rattle.code.specs.Generation.{ObjectCode, code_of}
 use Rattle.series.specs.Compiling.{files_of, status_of}
-use Rattle.series.specs.Pieces.{taken}
+use Rattle.series.specs.Pieces.{on_both}
 use Rattle.series.specs.Runs.{Compiles}
 use Rattle.series.specs.declared.endings.RunFault.{RunFault}
 use Rattle.series.specs.declared.endings.RunFault.TheVariants as fault
@@ -41,7 +41,7 @@ abbrev pub CompilesRobots : Order → List RobotFile → Result (Option (List Ob
     Type 0
 CompilesRobots order robots result film faults =
     Compiles (setup_of order (map name_bytes robots)) (map source_of robots)
-    result blank (taken (contents_of film) (contents_of faults))
+    result blank (on_both (contents_of film) (contents_of faults))
 
 pub films_faulty : (order : Order) (robots : List RobotFile) (result : Result (Option (List ObjectCode)) RunFault)
     (film faults : Sheet) → result ≡ Ok None → CompilesRobots order robots result film faults

@@ -8,9 +8,9 @@ use Rattle.settings.specs.Setup.{Setup}
 use Rattle.series.specs.Compiling.{Source}
 use Rattle.series.specs.Output.{Output}
 use Rattle.series.specs.Runs.{AreSources}
-use Rattle.series.specs.Failures.{Accounts, Failures, SinkFailed, failures, no_device}
+use Rattle.series.specs.Failures.{Accounts, Failures, SinkFailed, failing, no_device}
 use Rattle.tokens.specs.Feed.{Account, failed_again}
-use Rattle.series.specs.Pieces.{Channel, Piece, Taken, Text, Faults, Writes, TakesOn, taken}
+use Rattle.series.specs.Pieces.{Channel, Piece, Taken, Text, Faults, Writes, TakesOn, on_both}
 use Rattle.series.specs.declared.endings.RunFault.{RunFault}
 use Rattle.series.specs.declared.endings.RunFault.TheVariants as fault
 use Rattle.series.specs.declared.endings.Status.{Status}
@@ -26,7 +26,7 @@ use Rattle.page.specs.Sheets.{contents_of, told}
 
 -- two sinks of known contents
 abbrev both : Contents → Contents → Taken
-both t f = taken (Some t) (Some f)
+both t f = on_both (Some t) (Some f)
 
 -- after this two sinks of known contents have these bytes more
 record Grow (t f : Contents) (after : Taken) (text faults : List ℕ) : Type 0 where
@@ -98,24 +98,24 @@ portions_in (Some contents) = contents.portions
 held : (out : Output) (text faults : Sheet)
     →
     Writes (both (record { portions = []; whole = false }) (record { portions = []; whole = false }))
-    (taken (contents_of text) (contents_of faults)) out.pieces
+    (on_both (contents_of text) (contents_of faults)) out.pieces
     → Holds out text faults
 held out text faults writes =
     let grow =
     all_grow (record { portions = []; whole = false }) (record { portions = []; whole = false })
-    (taken (contents_of text) (contents_of faults)) out.pieces writes in
+    (on_both (contents_of text) (contents_of faults)) out.pieces writes in
     let texts : told text ≡ grow.new_text.portions = ap (λ (t : Taken). portions_in t.text) grow.is in
     let lines : told faults ≡ grow.new_faults.portions = ap (λ (t : Taken). portions_in t.faults) grow.is in
     record { texts = ap concat texts ∙ grow.texts; lines = ap concat lines ∙ grow.lines }
 
 -- the lines that were put on a sheet that was blank
 pub lines_held : (pieces : List Piece) (text faults : Sheet)
-    → Writes blank (taken (contents_of text) (contents_of faults)) pieces
+    → Writes blank (on_both (contents_of text) (contents_of faults)) pieces
     → concat (told faults) ≡ bytes_on Faults pieces
 lines_held pieces text faults writes =
     let grow =
     all_grow (record { portions = []; whole = false }) (record { portions = []; whole = false })
-    (taken (contents_of text) (contents_of faults)) pieces writes in
+    (on_both (contents_of text) (contents_of faults)) pieces writes in
     let lines : told faults ≡ grow.new_faults.portions = ap (λ (t : Taken). portions_in t.faults) grow.is in
     ap concat lines ∙ grow.lines
 
@@ -135,7 +135,7 @@ pub by_robots : (R : Setup → List Source → Taken → Type 0) (order : Order)
     → words ≡ map name_bytes robots → known ≡ map (λ robot. Some (source_bytes robot)) robots → told text ≡ [] →
     told faults ≡ []
     → ((sources : List Source) → AreSources sources setup.words known
-    → R setup sources (taken (contents_of text) (contents_of faults)))
+    → R setup sources (on_both (contents_of text) (contents_of faults)))
     → R (setup_of order (map name_bytes robots)) (map source_of robots) blank
 by_robots R order robots setup words known text faults is names bytes no_text no_faults runs =
     let whole : setup ≡ setup_of order (map name_bytes robots) = is ∙ ap (setup_of order) names in
@@ -143,9 +143,9 @@ by_robots R order robots setup words known text faults is names bytes no_text no
     map-map (λ (s : Source). s.word) source_of robots ∙ sym (ap (λ (s : Setup). s.words) whole) in
     let told_bytes : map (λ (s : Source). Some s.bytes) (map source_of robots) ≡ known =
     map-map (λ (s : Source). Some s.bytes) source_of robots ∙ sym bytes in
-    let before : taken (contents_of text) (contents_of faults) ≡ blank = rw (no_text, no_faults) refl in
+    let before : on_both (contents_of text) (contents_of faults) ≡ blank = rw (no_text, no_faults) refl in
     let all = runs (map source_of robots) (record { named = named; bytes = told_bytes }) in
-    let P : Setup → Type 0 = λ s. R s (map source_of robots) (taken (contents_of text) (contents_of faults)) in
+    let P : Setup → Type 0 = λ s. R s (map source_of robots) (on_both (contents_of text) (contents_of faults)) in
     subst (R (setup_of order (map name_bytes robots)) (map source_of robots)) before (subst P whole all)
 
 -- a device that never failed, at any place
@@ -167,8 +167,8 @@ sink_failed before after (inr is) =
 pub only_writes : {X A : Type 0} →
     (olds news : List X) (ran : Result A RunFault) (text faults later_text later_faults : ℕ)
     →
-    Accounts ran (failures (map (λ _. no_device) olds) text faults)
-    (failures (map (λ _. no_device) news) later_text later_faults)
+    Accounts ran (failing (map (λ _. no_device) olds) text faults)
+    (failing (map (λ _. no_device) news) later_text later_faults)
     → IfErr ran (λ stopped. (stopped ≡ fault.Write) × ((0 < later_text) ⊎ (0 < later_faults)))
 only_writes olds news (Ok answer) text faults later_text later_faults accounts = tt
 only_writes olds news (Err (fault.Read file)) text faults later_text later_faults (within, is) =

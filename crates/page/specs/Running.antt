@@ -2,7 +2,7 @@
 use Rattle.std.specs.Prelude.{◌≡◌, ◌⊎◌, ◌<◌, ◌≤◌, ℕ, All, List, [], Option, Some, None, Result, Ok, Err, IsUtf8, false, length, map}
 use Rattle.std.specs.List.{concat, flat_map}
 use Rattle.series.specs.Output.{Output, Runs, output}
-use Rattle.series.specs.Pieces.{Channel, Piece, Taken, Text, Faults, taken}
+use Rattle.series.specs.Pieces.{Channel, Piece, Taken, Text, Faults, on_both}
 use Rattle.series.specs.declared.endings.RunFault.{RunFault}
 use Rattle.series.specs.declared.endings.RunFault.TheVariants as fault
 use Rattle.series.specs.declared.endings.Status.{Status}
@@ -11,6 +11,7 @@ use Rattle.sinks.specs.Portions.{Portions}
 use Rattle.page.specs.declared.orders.Order.{Order}
 use Rattle.page.specs.declared.robots.RobotFile.{RobotFile}
 use Rattle.page.specs.declared.sheets.Sheet.{Sheet}
+use Rattle.page.specs.declared.sources.SourceFeed.{SourceFeed}
 use Rattle.settings.specs.Limits.{files_max}
 use Rattle.page.specs.Orders.{AreWithin, setup_of}
 use Rattle.page.specs.Robots.{name_bytes, source_of}
@@ -35,10 +36,17 @@ pub record IsAccepted (order : Order) (robots : List RobotFile) : Type 0 where
   pub within : AreWithin order
   pub named : AreNamed robots
 
+-- so many sources of which none has ended, and two sheets that never failed
+pub record AreFresh (count : ℕ) (feeds : List SourceFeed) (text faults : Sheet) : Type 0 where
+  pub each : length feeds ≡ count
+  pub not_ended : All (λ feed. feed.ended ≡ false) feeds
+  pub no_text_failed : text.failures ≡ 0
+  pub no_fault_failed : faults.failures ≡ 0
+
 -- what the order asks for of the robots wrote this on two sheets that were blank, and ended so
 abbrev pub RunsRobots : Order → List RobotFile → Result Status RunFault → Sheet → Sheet → Type 0
 RunsRobots order robots ran text faults = Runs (setup_of order (map name_bytes robots)) (map source_of robots) ran
-    blank (taken (contents_of text) (contents_of faults))
+    blank (on_both (contents_of text) (contents_of faults))
 
 -- the output of what the order asks for of the robots
 abbrev pub output_of : Order → List RobotFile → Output

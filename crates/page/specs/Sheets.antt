@@ -1,6 +1,6 @@
 -- The text of a sheet.
 use Rattle.std.specs.Prelude.{ℕ, List, Some, false, map, take}
-use Rattle.sinks.specs.Portions.{Portions}
+use Rattle.sinks.specs.Portions.{Portions, Written}
 use Rattle.page.specs.declared.sheets.Frame.{Frame}
 use Rattle.page.specs.declared.sheets.Sheet.{Sheet}
 
@@ -15,3 +15,6 @@ told sheet = map bytes_of (take sheet.used sheet.frames)
 -- what a sheet took as a device; it need not take a put whole
 abbrev pub contents_of : Sheet → Portions
 contents_of sheet = Some (record { portions = told sheet; whole = false })
+
+abbrev pub written_of : Sheet → Written
+written_of sheet = record { portions = contents_of sheet; failures = sheet.failures }

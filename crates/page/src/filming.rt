@@ -2,10 +2,10 @@
 
 ghost use Rattle.std.specs.Prelude.{◌≡◌, ◌≢◌, ◌<◌, ◌≤◌, All, IfErr, IfOk, IfSome, IsSome, List, Some, false, length, map};
 ghost use Rattle.series.specs.Compiling.{Source};
-ghost use Rattle.series.specs.Pieces.{taken};
+ghost use Rattle.series.specs.Pieces.{on_both};
 ghost use Rattle.series.specs.Runs.{AreSources, Compiles};
 ghost use Rattle.page.specs.Films.{FilmsRobots};
-ghost use Rattle.page.specs.Running.{IsAccepted, IsFull};
+ghost use Rattle.page.specs.Running.{AreFresh, IsAccepted, IsFull};
 ghost use Rattle.page.specs.Sheets.{contents_of};
 
 use crate::films::{Film, Functions, Shown};
@@ -74,14 +74,11 @@ fn compile_feeds(
     text: &mut Sheet,
     faults: &mut Sheet,
 ) -> Result<Option<Programs>, RunFault>
-    requires each { length feeds.old ≡ length settings.now.words }
-    requires not_ended { All (λ feed. feed.ended ≡ false) feeds.old }
-    requires text { text.old.failures ≡ 0 }
-    requires faults { faults.old.failures ≡ 0 }
+    requires fresh { AreFresh (length settings.now.words) feeds.old text.old faults.old }
     ensures output { (sources : List Source)
         → AreSources sources settings.now.words (map (λ feed. Some feed.rest.now) feeds.old)
-        → Compiles settings.now sources result (taken (contents_of text.old) (contents_of faults.old))
-        (taken (contents_of text.new) (contents_of faults.new)) }
+        → Compiles settings.now sources result (on_both (contents_of text.old) (contents_of faults.old))
+        (on_both (contents_of text.new) (contents_of faults.new)) }
     ensures manned { IfOk result (λ programs. IfSome programs
         (λ programs. length programs ≡ length settings.now.words)) }
     ensures stopped { IfErr result (λ fault. (fault ≡ RunFault.Write) × IsFull text.new faults.new) }

@@ -3,10 +3,10 @@
 ghost use Rattle.std.specs.Prelude.{◌≡◌, ◌<◌, ◌≤◌, All, IfErr, IfSome, IsSome, IsUtf8, List, Some, false, length, map};
 ghost use Rattle.series.specs.Compiling.{Source};
 ghost use Rattle.series.specs.Output.{Runs};
-ghost use Rattle.series.specs.Pieces.{taken};
+ghost use Rattle.series.specs.Pieces.{on_both};
 ghost use Rattle.series.specs.Runs.{AreSources};
 ghost use Rattle.page.specs.Robots.{name_bytes, source_bytes};
-ghost use Rattle.page.specs.Running.{AreNamed, IsAccepted, IsFull, RunsRobots};
+ghost use Rattle.page.specs.Running.{AreFresh, AreNamed, IsAccepted, IsFull, RunsRobots};
 ghost use Rattle.page.specs.Sheets.{contents_of};
 
 use crate::orders::Order;
@@ -77,15 +77,12 @@ fn run_feeds(
     text: &mut Sheet,
     faults: &mut Sheet,
 ) -> Result<Status, RunFault>
-    requires each { length feeds.old ≡ length settings.now.words }
-    requires not_ended { All (λ feed. feed.ended ≡ false) feeds.old }
-    requires text { text.old.failures ≡ 0 }
-    requires faults { faults.old.failures ≡ 0 }
+    requires fresh { AreFresh (length settings.now.words) feeds.old text.old faults.old }
     ensures stopped { IfErr result (λ fault. (fault ≡ RunFault.Write) × IsFull text.new faults.new) }
     ensures output { (sources : List Source)
         → AreSources sources settings.now.words (map (λ feed. Some feed.rest.now) feeds.old)
-        → Runs settings.now sources result (taken (contents_of text.old) (contents_of faults.old))
-        (taken (contents_of text.new) (contents_of faults.new)) }
+        → Runs settings.now sources result (on_both (contents_of text.old) (contents_of faults.old))
+        (on_both (contents_of text.new) (contents_of faults.new)) }
 {
     run(settings, feeds, text, faults)
 }

@@ -1,7 +1,7 @@
 //! Sheets: what a run writes, kept in memory that the caller lends.
 
 ghost use Rattle.std.specs.Prelude.{◌≡◌, ◌<◌, [], false, IfErr, IfOk, IsErr, IsOk};
-ghost use Rattle.page.specs.Sheets.{contents_of, told};
+ghost use Rattle.page.specs.Sheets.{written_of, told};
 
 use series::{RunFault, Sink, Status};
 use tokens::DeviceFault;
@@ -86,9 +86,7 @@ impl Sheet {
 }
 
 impl Sink for Sheet {
-    ghost failures = { λ sheet. sheet.failures };
-
-    ghost portions = { contents_of };
+    ghost written = { written_of };
 
     fn put(&mut self, bytes: &[u8]) -> Result<usize, DeviceFault> {
         let used = self.used as usize;

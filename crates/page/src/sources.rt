@@ -31,11 +31,11 @@ impl<'a> SourceFeed<'a> {
 }
 
 impl Feed for SourceFeed<'_> {
-    ghost account = { λ _. record { device = 0; failures = 0 } };
-
-    ghost to_come = { λ feed. Some feed.rest.now };
-
-    ghost ended = { λ feed. feed.ended };
+    ghost device = { λ feed. record {
+      account = record { device = 0; failures = 0 };
+      to_come = Some feed.rest.now;
+      ended = feed.ended;
+    } };
 
     fn fill(&mut self, buf: &mut [u8]) -> Result<usize, DeviceFault> {
         let count = self.rest.len().min(buf.len());

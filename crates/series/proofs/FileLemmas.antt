@@ -11,15 +11,15 @@ use Rattle.grammar.specs.Texts.{text_of}
 use Rattle.grammar.specs.Tree.{File}
 use Rattle.code.specs.Generation.{ObjectCode, code_of}
 use Rattle.listings.specs.Listing.{listing_of}
-use Rattle.series.specs.Failures.{CountsSink}
 use Rattle.settings.specs.declared.settings.Mode.{Mode}
 use Rattle.settings.specs.declared.settings.Mode.TheVariants.{Listing}
 use Rattle.series.specs.Compiling.{code_or_fault, compiled_code, listed, listing_piece, pieces_of}
-use Rattle.series.specs.Pieces.{Taken, taken, Writes, Begins}
+use Rattle.series.specs.Pieces.{on_both, Taken, taken, Writes, Begins}
 use Rattle.series.specs.Keeping.{and_compiled, and_program, KeepsMore, status_by}
 use Rattle.series.specs.Runs.{PutsPieces}
 use Rattle.series.specs.declared.endings.Status.TheVariants.{Done, Faulty}
-use Rattle.sinks.specs.Portions.{Portions, Puts, Takes, TakesFront}
+use Rattle.sinks.specs.Portions.{Portions, Takes, TakesFront, Written}
+use Rattle.sinks.specs.Puts.{CountsSink, Puts}
 use Rattle.sinks.specs.Texts.{diagnostic_line}
 
 -- a good file's code
@@ -80,22 +80,22 @@ faulty_status profile bytes d bad = sym (ap (λ r. status_by (code_or_fault prof
 pub diagnostic_put : (mode : Mode) (profile : Profile) (name bytes : List ℕ) (d : Diagnostic) (words : List ℕ)
     (text before after : Portions)
     → compiled profile bytes ≡ Err d → words ≡ text_of d.code → Takes before after (diagnostic_line name d.line words)
-    → Writes (taken text before) (taken text after) (pieces_of mode profile name (compiled profile bytes))
+    → Writes (on_both text before) (on_both text after) (pieces_of mode profile name (compiled profile bytes))
 diagnostic_put mode profile name bytes d words text before after bad are takes =
     let P : Result File Diagnostic → Type 0 =
-    λ r. Writes (taken text before) (taken text after) (pieces_of mode profile name r) in
+    λ r. Writes (on_both text before) (on_both text after) (pieces_of mode profile name r) in
     let here : Takes before after (diagnostic_line name d.line (text_of d.code)) = rw (← are) takes in
-    subst P (sym bad) (taken text after, (here, refl), refl)
+    subst P (sym bad) (on_both text after, (here, refl), refl)
 
 -- it was cut
 pub diagnostic_cut : (mode : Mode) (profile : Profile) (name bytes : List ℕ) (d : Diagnostic) (words : List ℕ)
     (text before after : Portions)
     → compiled profile bytes ≡ Err d → words ≡ text_of d.code →
     TakesFront before after (diagnostic_line name d.line words)
-    → Begins (taken text before) (taken text after) (pieces_of mode profile name (compiled profile bytes))
+    → Begins (on_both text before) (on_both text after) (pieces_of mode profile name (compiled profile bytes))
 diagnostic_cut mode profile name bytes d words text before after bad are front =
     let P : Result File Diagnostic → Type 0 =
-    λ r. Begins (taken text before) (taken text after) (pieces_of mode profile name r) in
+    λ r. Begins (on_both text before) (on_both text after) (pieces_of mode profile name r) in
     let here : TakesFront before after (diagnostic_line name d.line (text_of d.code)) = rw (← are) front in
     subst P (sym bad) (inl (here, refl))
 
@@ -138,15 +138,14 @@ good_cut mode profile name bytes file names code before after is named made begi
 
 -- what putting a listing left
 pub puts_listing : {T E : Type 0} (result : Result T E) (name : List ℕ) (names : Names) (code : ObjectCode)
-    (before after faults : Portions) (n m : ℕ)
-    → Puts result before n after m (listing_of name names code)
+    (before after faults : Written)
+    → Puts result before after (listing_of name names code)
     → PutsPieces result (taken before faults) (taken after faults) (listed Listing (listing_piece name names code))
-puts_listing (Ok done) name names code before after faults n m puts = (taken after faults, (puts.0, refl), refl)
-puts_listing (Err fault) name names code before after faults n m puts = inl (puts.0, refl)
+puts_listing (Ok done) name names code before after faults puts = (taken after faults, (puts.0, refl), refl)
+puts_listing (Err fault) name names code before after faults puts = inl (puts.0, refl)
 
 -- and how often the sink failed
-pub puts_counts : {T E : Type 0} (result : Result T E) (bytes : List ℕ) (before after : Portions) (n m : ℕ) →
-    Puts result before n after m bytes
-    → CountsSink result n m
-puts_counts (Ok done) bytes before after n m puts = puts.1
-puts_counts (Err fault) bytes before after n m puts = puts.1
+pub puts_counts : {T E : Type 0} (result : Result T E) (bytes : List ℕ) (before after : Written) →
+    Puts result before after bytes → CountsSink result before after
+puts_counts (Ok done) bytes before after puts = puts.1
+puts_counts (Err fault) bytes before after puts = puts.1

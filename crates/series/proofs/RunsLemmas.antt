@@ -6,7 +6,7 @@ use Rattle.std.proofs.lemmas.List.{get_or-map, get_or-drop, drop-set-lt, length-
 use Rattle.std.proofs.Math.Seq.{map-set_same}
 use Rattle.series.specs.Compiling.{Source}
 use Rattle.tokens.specs.Feed.{Account, failed_again}
-use Rattle.series.specs.Failures.{Failures, failures, feed_failed, no_device, SinkFailed}
+use Rattle.series.specs.Failures.{Failures, failing, feed_failed, no_device, SinkFailed}
 use Rattle.series.specs.Runs.{AreSources}
 use Rattle.sinks.specs.Texts.{file_name}
 
@@ -63,35 +63,35 @@ module _ {X : Type 0} where
   -- a feed failed
   pub read_failed : (fails : X → Account) (start feeds : List X) (file text faults first_text first_faults : ℕ)
       (x y : X)
-      → failures (map fails feeds) text faults ≡ failures (map fails start) first_text first_faults
+      → failing (map fails feeds) text faults ≡ failing (map fails start) first_text first_faults
       → file < length feeds → fails y ≡ failed_again (fails (get_or feeds file x))
       →
-      failures (map fails (set feeds file y)) text faults ≡
-      feed_failed (failures (map fails start) first_text first_faults) file
+      failing (map fails (set feeds file y)) text faults ≡
+      feed_failed (failing (map fails start) first_text first_faults) file
   read_failed fails start feeds file text faults first_text first_faults x y before within more =
       let here : get_or (map fails feeds) file no_device ≡ fails (get_or feeds file x) =
       get_or-map fails feeds file x no_device within in
       let later : fails y ≡ failed_again (get_or (map fails feeds) file no_device) =
       more ∙ ap failed_again (sym here) in
-      let P : Failures → Type 0 = λ f. failures (map fails (set feeds file y)) text faults ≡ feed_failed f file in
+      let P : Failures → Type 0 = λ f. failing (map fails (set feeds file y)) text faults ≡ feed_failed f file in
       subst P before
-      (ap (λ l. failures l text faults) (map-set fails feeds file y ∙ ap (λ a. set (map fails feeds) file a) later))
+      (ap (λ l. failing l text faults) (map-set fails feeds file y ∙ ap (λ a. set (map fails feeds) file a) later))
 
   -- a sink failed
   pub write_failed : (fails : X → Account) (start feeds : List X)
       (file text faults first_text first_faults later_text later_faults : ℕ) (x y : X)
-      → failures (map fails feeds) text faults ≡ failures (map fails start) first_text first_faults
+      → failing (map fails feeds) text faults ≡ failing (map fails start) first_text first_faults
       → fails y ≡ fails (get_or feeds file x)
       → ((later_text ≡ text + 1) × (later_faults ≡ faults)) ⊎ ((later_text ≡ text) × (later_faults ≡ faults + 1))
       →
-      SinkFailed (failures (map fails start) first_text first_faults)
-      (failures (map fails (set feeds file y)) later_text later_faults)
+      SinkFailed (failing (map fails start) first_text first_faults)
+      (failing (map fails (set feeds file y)) later_text later_faults)
   write_failed fails start feeds file text faults first_text first_faults later_text later_faults x y before same one =
-      let P : Failures → Type 0 = λ f. SinkFailed f (failures (map fails (set feeds file y)) later_text later_faults) in
+      let P : Failures → Type 0 = λ f. SinkFailed f (failing (map fails (set feeds file y)) later_text later_faults) in
       subst P before (rw (none_failed fails feeds file x y same) (which one))
     where
       which : ((later_text ≡ text + 1) × (later_faults ≡ faults)) ⊎ ((later_text ≡ text) × (later_faults ≡ faults + 1))
-          → SinkFailed (failures (map fails feeds) text faults) (failures (map fails feeds) later_text later_faults)
+          → SinkFailed (failing (map fails feeds) text faults) (failing (map fails feeds) later_text later_faults)
       which (inl (more, as_before)) = inl (rw (more, as_before))
       which (inr (as_before, more)) = inr (rw (more, as_before))
 

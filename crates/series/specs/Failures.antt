@@ -1,8 +1,9 @@
 -- Which devices failed, and how often.
-use Rattle.std.specs.Prelude.{◌≡◌, ◌⊎◌, ℕ, ◌+◌, ◌-◌, ◌^◌, ◌<◌, Bool, false, true, List, Result, MatchResult, All, IfOk, is_err, length, slice_index_or, slice_set}
+use Rattle.std.specs.Prelude.{◌≡◌, ◌⊎◌, ℕ, ◌+◌, ◌-◌, ◌^◌, ◌<◌, Bool, false, true, List, Result, MatchResult, All, IfOk, is_err, length, map, slice_index_or, slice_set}
 use Rattle.tokens.specs.declared.devices.DeviceFault.{DeviceFault}
-use Rattle.tokens.specs.Feed.{Account, Counts, failed_again}
-use Rattle.sinks.specs.Portions.{Portions}
+use Rattle.tokens.specs.Feed.{Account, Counts, Device, failed_again}
+use Rattle.sinks.specs.Portions.{Written}
+use Rattle.sinks.specs.Puts.{CanFail, CountsSink}
 use Rattle.series.specs.declared.endings.RunFault.{RunFault}
 use Rattle.series.specs.declared.endings.RunFault.TheVariants as fault
 
@@ -12,8 +13,17 @@ pub record Failures : Type 0 where
   pub text : ℕ
   pub faults : ℕ
 
-abbrev pub failures : List Account → ℕ → ℕ → Failures
-failures feeds text faults = record { feeds = feeds; text = text; faults = faults }
+-- of each feed, which device it is and how often it has failed
+abbrev pub accounts : {F : Type 0} → (F → Device) → List F → List Account
+accounts device feeds = map (λ feed. (device feed).account) feeds
+
+-- so many failures of the sinks, and those of feeds
+abbrev pub failing : List Account → (text faults : ℕ) → Failures
+failing feeds text faults = record { feeds = feeds; text = text; faults = faults }
+
+-- those of these feeds and sinks
+abbrev pub failures : {F : Type 0} → (F → Device) → List F → (text faults : Written) → Failures
+failures device feeds text faults = failing (accounts device feeds) text.failures faults.failures
 
 -- past the last feed
 abbrev pub no_device : Account
@@ -39,34 +49,30 @@ StoppedBy fault.Memory before after = ⊥
 abbrev pub Accounts : {A : Type 0} → Result A RunFault → Failures → Failures → Type 0
 Accounts result before after = MatchResult result (λ _. after ≡ before) (λ fault. StoppedBy fault before after)
 
--- the sink failed once if the call failed, and else not
-abbrev pub CountsSink : {T E : Type 0} → Result T E → ℕ → ℕ → Type 0
-CountsSink result before after = MatchResult result (λ _. after ≡ before) (λ _. after ≡ before + 1)
-
 -- A sink fails once for all: a call that asks it fails exactly if it does. After that each call fails, and it is asked
 -- no more.
-abbrev pub FailsOnce : {T E : Type 0} → Bool → Result T E → Portions → ℕ → Portions → ℕ → Type 0
-FailsOnce false result before n after m = CountsSink result n m
-FailsOnce true result before n after m = (is_err result ≡ true) × (after ≡ before) × (m ≡ n)
+abbrev pub FailsOnce : {T E : Type 0} → Bool → Result T E → Written → Written → Type 0
+FailsOnce false result before after = CountsSink result before after
+FailsOnce true result before after = (is_err result ≡ true) × (after ≡ before)
 
 -- no sink failed, or one of them once
-abbrev pub CountsSinks : {T E : Type 0} → Result T E → ℕ → ℕ → ℕ → ℕ → Type 0
+abbrev pub CountsSinks : {T E : Type 0} → Result T E → (text faults later_text later_faults : Written) → Type 0
 CountsSinks result text faults later_text later_faults = MatchResult result
-    (λ _. (later_text ≡ text) × (later_faults ≡ faults))
-    (λ _. ((later_text ≡ text + 1) × (later_faults ≡ faults)) ⊎ ((later_text ≡ text) × (later_faults ≡ faults + 1)))
+    (λ _. (later_text.failures ≡ text.failures) × (later_faults.failures ≡ faults.failures))
+    (λ _. ((later_text.failures ≡ text.failures + 1) × (later_faults.failures ≡ faults.failures))
+    ⊎ ((later_text.failures ≡ text.failures) × (later_faults.failures ≡ faults.failures + 1)))
 
 -- There are so many feeds, none of which has ended, and a further failure of each can be counted. So can one of each
--- sink, of which that of texts has failed n times and that of faults m times.
-pub record AreReady {F : Type 0} (account : F → Account) (ended : F → Bool) (count : ℕ) (given : List F)
-    (n m : ℕ) : Type 0 where
+-- sink.
+pub record AreReady {F : Type 0} (device : F → Device) (count : ℕ) (given : List F) (out err : Written) : Type 0 where
   pub files : length given ≡ count
-  pub feeds : All (λ feed. (account feed).failures < 2 ^ 64 - 1) given
-  pub not_ended : All (λ feed. ended feed ≡ false) given
-  pub text : n < 2 ^ 64 - 1
-  pub faults : m < 2 ^ 64 - 1
+  pub feeds : All (λ feed. (device feed).account.failures < 2 ^ 64 - 1) given
+  pub not_ended : All (λ feed. (device feed).ended ≡ false) given
+  pub text : CanFail out
+  pub faults : CanFail err
 
 -- of one file's devices none failed, or the feed once if the file was not read, or a sink once if not all was put
 pub record CountsFile {T E : Type 0} (result : Result (Result T E) DeviceFault) (account later_account : Account)
-    (text faults later_text later_faults : ℕ) : Type 0 where
+    (text faults later_text later_faults : Written) : Type 0 where
   pub feed : Counts result account later_account
   pub sinks : IfOk result (λ put. CountsSinks put text faults later_text later_faults)

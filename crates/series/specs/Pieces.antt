@@ -1,6 +1,6 @@
 -- The output as pieces on two channels, and what two sinks took of it.
 use Rattle.std.specs.Prelude.{◌≡◌, ◌⊎◌, ℕ, List, [], ◌∷◌}
-use Rattle.sinks.specs.Portions.{Portions, Takes, TakesFront}
+use Rattle.sinks.specs.Portions.{Portions, Takes, TakesFront, Written}
 
 -- where a piece is written
 pub data Channel : Type 0 where
@@ -18,8 +18,12 @@ pub record Taken : Type 0 where
   pub faults : Portions
 
 -- these portions on the two channels
-abbrev pub taken : Portions → Portions → Taken
-taken text faults = record { text = text; faults = faults }
+abbrev pub on_both : Portions → Portions → Taken
+on_both text faults = record { text = text; faults = faults }
+
+-- what the sink of texts and that of faults have taken
+abbrev pub taken : (text faults : Written) → Taken
+taken text faults = on_both text.portions faults.portions
 
 -- the channel's sink took exactly these bytes, and the other one nothing
 abbrev pub TakesOn : Channel → Taken → Taken → List ℕ → Type 0

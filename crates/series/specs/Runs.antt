@@ -1,5 +1,6 @@
 -- What compiling leaves: what the sinks took, and the programs.
 use Rattle.std.specs.Prelude.{◌≡◌, ℕ, List, Option, Some, Result, MatchResult, IfOk, IfSome, map, take}
+use Rattle.tokens.specs.Feed.{Device}
 use Rattle.grammar.specs.Compiled.{compiled}
 use Rattle.grammar.specs.Profile.{Profile}
 use Rattle.code.specs.Generation.{ObjectCode}
@@ -11,6 +12,10 @@ use Rattle.series.specs.declared.endings.Status.{Status}
 use Rattle.series.specs.Compiling.{Source, codes_of, compiled_code, compiling, files_of, pieces_of, status_of}
 use Rattle.series.specs.Keeping.{and_compiled, kept_by, status_by}
 use Rattle.series.specs.Pieces.{Piece, Taken, Writes, Begins}
+
+-- of each feed the bytes still to come, where it tells them
+abbrev pub told_by : {F : Type 0} → (F → Device) → List F → List (Option (List ℕ))
+told_by device feeds = map (λ feed. (device feed).to_come) feeds
 
 -- the sources have these words, and their bytes are known
 pub record AreSources (sources : List Source) (words : List (List ℕ)) (known : List (Option (List ℕ))) : Type 0 where

@@ -6,7 +6,7 @@ ghost use Rattle.series.specs.Failures.{Accounts, AreReady, CountsFile, failures
 ghost use Rattle.series.specs.Pieces.{taken};
 ghost use Rattle.series.specs.Reading.{Reads, ReadsFile};
 ghost use Rattle.series.specs.Keeping.{CanKeep, IsNewKeeper, KeepsAll, KeepsOn, both};
-ghost use Rattle.series.specs.Runs.{AreSources, CompilesAll, CompilesFile};
+ghost use Rattle.series.specs.Runs.{AreSources, CompilesAll, CompilesFile, told_by};
 
 use crate::endings::{RunFault, Status};
 use crate::keeping::TakesPrograms;
@@ -26,17 +26,17 @@ pub(crate) fn compile_into<K: TakesPrograms, F: Feed, O: Sink, E: Sink>(
     err: &mut E,
 ) -> Result<Status, RunFault>
     requires new { IsNewKeeper settings.now.mode (K.mode keeper.old) (K.kept keeper.old) }
-    requires ready { AreReady F.account F.ended (length settings.now.words) feeds.old
-        (O.failures out.old) (E.failures err.old) }
-    ensures output { (sources : List Source) → AreSources sources settings.now.words (map F.to_come feeds.old)
+    requires ready { AreReady F.device (length settings.now.words) feeds.old
+        (O.written out.old) (E.written err.old) }
+    ensures output { (sources : List Source) → AreSources sources settings.now.words (told_by F.device feeds.old)
         → CompilesAll settings.now sources result (K.kept keeper.new)
-        (taken (O.portions out.old) (E.portions err.old)) (taken (O.portions out.new) (E.portions err.new)) }
+        (taken (O.written out.old) (E.written err.old)) (taken (O.written out.new) (E.written err.new)) }
     ensures keeps { KeepsAll settings.now.profile (length settings.now.words) result (K.kept keeper.new) }
-    ensures read { Reads settings.now result (map F.to_come feeds.old) (map F.to_come feeds.new)
-        (taken (O.portions out.old) (E.portions err.old)) (taken (O.portions out.new) (E.portions err.new)) }
+    ensures read { Reads settings.now result (told_by F.device feeds.old) (told_by F.device feeds.new)
+        (taken (O.written out.old) (E.written err.old)) (taken (O.written out.new) (E.written err.new)) }
     ensures failures { Accounts result
-        (failures (map F.account feeds.old) (O.failures out.old) (E.failures err.old))
-        (failures (map F.account feeds.new) (O.failures out.new) (E.failures err.new)) }
+        (failures F.device feeds.old (O.written out.old) (E.written err.old))
+        (failures F.device feeds.new (O.written out.new) (E.written err.new)) }
 {
     let words = settings.words();
     let profile = settings.profile();
@@ -79,17 +79,17 @@ fn compile_file<K: TakesPrograms, F: Feed, O: Sink, E: Sink>(
     err: &mut E,
 ) -> Result<Result<Status, DeviceFault>, DeviceFault>
     requires keeps { CanKeep profile (K.kept keeper.old) }
-    requires ready { AreReady F.account F.ended 1 (feed.old ∷ []) (O.failures out.old) (E.failures err.old) }
+    requires ready { AreReady F.device 1 (feed.old ∷ []) (O.written out.old) (E.written err.old) }
     // If the file was not read nothing was put.
-    ensures output { MatchResult result (λ put. (bytes : List ℕ) → F.to_come feed.old ≡ Some bytes
+    ensures output { MatchResult result (λ put. (bytes : List ℕ) → (F.device feed.old).to_come ≡ Some bytes
         → CompilesFile (K.mode keeper.old) profile name.now bytes put (K.kept keeper.old) (K.kept keeper.new)
-        (taken (O.portions out.old) (E.portions err.old)) (taken (O.portions out.new) (E.portions err.new)))
+        (taken (O.written out.old) (E.written err.old)) (taken (O.written out.new) (E.written err.new)))
         (λ _. (out.new ≡ out.old) × (err.new ≡ err.old)) }
     ensures keeps { KeepsOn profile result (K.mode keeper.old) (K.mode keeper.new)
         (K.kept keeper.old) (K.kept keeper.new) }
-    ensures read { ReadsFile profile result (F.to_come feed.old) (F.to_come feed.new) }
-    ensures failures { CountsFile result (F.account feed.old) (F.account feed.new)
-        (O.failures out.old) (E.failures err.old) (O.failures out.new) (E.failures err.new) }
+    ensures read { ReadsFile profile result (F.device feed.old).to_come (F.device feed.new).to_come }
+    ensures failures { CountsFile result (F.device feed.old).account (F.device feed.new).account
+        (O.written out.old) (E.written err.old) (O.written out.new) (E.written err.new) }
 {
     let mut maker = Maker::new(profile);
     match parse(feed, &mut maker) {

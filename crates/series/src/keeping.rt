@@ -2,14 +2,14 @@
 
 ghost use Rattle.std.specs.Prelude.{◌≡◌, ◌-◌, ◌^◌, ◌<◌, List, [], Option, Some, None};
 ghost use Rattle.code.specs.Generation.{ObjectCode};
-ghost use Rattle.series.specs.Failures.{CountsSink};
 ghost use Rattle.series.specs.Compiling.{listed, listing_piece};
 ghost use Rattle.series.specs.Pieces.{taken};
 ghost use Rattle.series.specs.Keeping.{CanKeep, and_program};
 ghost use Rattle.series.specs.Runs.{PutsPieces};
 ghost use Rattle.settings.specs.declared.settings.Mode.{Mode};
 ghost use Rattle.settings.specs.declared.settings.Mode.TheVariants.{Listing};
-ghost use Rattle.sinks.specs.Portions.{Portions};
+ghost use Rattle.sinks.specs.Portions.{Written};
+ghost use Rattle.sinks.specs.Puts.{CanFail, CountsSink};
 
 use battles::Programs;
 use code::Program;
@@ -36,13 +36,13 @@ pub(crate) trait TakesPrograms {
         out: &mut S,
     ) -> Result<(), DeviceFault>
         requires keeps { CanKeep program.profile (kept self.old) }
-        requires countable { S.failures out.old < 2 ^ 64 - 1 }
+        requires countable { CanFail (S.written out.old) }
         ensures mode { mode self.new ≡ mode self.old }
         ensures kept { kept self.new ≡ and_program (kept self.old) program }
-        ensures output { (faults : Portions)
-            → PutsPieces result (taken (S.portions out.old) faults) (taken (S.portions out.new) faults)
+        ensures output { (faults : Written)
+            → PutsPieces result (taken (S.written out.old) faults) (taken (S.written out.new) faults)
             (listed (mode self.old) (listing_piece name.now names.now program)) }
-        ensures count { CountsSink result (S.failures out.old) (S.failures out.new) };
+        ensures count { CountsSink result (S.written out.old) (S.written out.new) };
 }
 
 /// Keeps the programs of all files, in the order of the files.

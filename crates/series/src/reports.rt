@@ -4,7 +4,7 @@ ghost use Rattle.std.specs.Prelude.{◌≡◌, ℕ, ◌+◌, ◌-◌, ◌^◌, �
 ghost use Rattle.battles.specs.Battle.{alive};
 ghost use Rattle.battles.specs.Pairing.{paired};
 ghost use Rattle.sinks.specs.Draft.{MayFail, Adds};
-ghost use Rattle.sinks.specs.Portions.{Puts};
+ghost use Rattle.sinks.specs.Puts.{CanFail, Puts};
 ghost use Rattle.series.specs.Reports.{report, robot_line, robot_lines, state_text};
 ghost use Rattle.series.specs.Names.{robot_names};
 ghost use Rattle.series.specs.Lines.{ended_line, lines_text};
@@ -23,8 +23,8 @@ pub(crate) fn put_report<S: Sink>(
     words: &[&str],
 ) -> Result<(), DeviceFault>
     requires named { length outcome.now.damages ≡ length (paired words.now) }
-    requires countable { S.failures sink.old < 2 ^ 64 - 1 }
-    ensures { Puts result (S.portions sink.old) (S.failures sink.old) (S.portions sink.new) (S.failures sink.new)
+    requires countable { CanFail (S.written sink.old) }
+    ensures { Puts result (S.written sink.old) (S.written sink.new)
         (report number (robot_names (map (λ word. word.now) words.now)) outcome.now) }
 {
     let mut pen = Pen::new();
@@ -40,10 +40,9 @@ pub(crate) fn put_report<S: Sink>(
 /// Adds the line of each robot.
 fn add_robots<S: Sink>(pen: &mut Pen, sink: &mut S, outcome: &Outcome, words: &[&str])
     requires named { length outcome.now.damages ≡ length (paired words.now) }
-    requires countable { MayFail pen.old (S.failures sink.old) }
-    ensures countable { MayFail pen.new (S.failures sink.new) }
-    ensures text { Adds (S.portions sink.old) (S.failures sink.old) pen.old (S.portions sink.new)
-        (S.failures sink.new) pen.new
+    requires countable { MayFail pen.old (S.written sink.old) }
+    ensures countable { MayFail pen.new (S.written sink.new) }
+    ensures text { Adds (S.written sink.old) pen.old (S.written sink.new) pen.new
         (lines_text (robot_lines (robot_names (map (λ word. word.now) words.now)) outcome.now)) }
 {
     for robot in 0..outcome.damages().len() {
@@ -55,10 +54,9 @@ fn add_robots<S: Sink>(pen: &mut Pen, sink: &mut S, outcome: &Outcome, words: &[
 fn add_robot<S: Sink>(pen: &mut Pen, sink: &mut S, outcome: &Outcome, robot: usize, name: &[u8])
     requires there { robot < length outcome.now.damages }
     requires most { robot < FILES_MAX }
-    requires countable { MayFail pen.old (S.failures sink.old) }
-    ensures countable { MayFail pen.new (S.failures sink.new) }
-    ensures text { Adds (S.portions sink.old) (S.failures sink.old) pen.old (S.portions sink.new)
-        (S.failures sink.new) pen.new
+    requires countable { MayFail pen.old (S.written sink.old) }
+    ensures countable { MayFail pen.new (S.written sink.new) }
+    ensures text { Adds (S.written sink.old) pen.old (S.written sink.new) pen.new
         (ended_line (robot_line robot (alive outcome.now robot) (slice_index outcome.now.damages robot) name.now)) }
 {
     pen.add(sink, b"  ");

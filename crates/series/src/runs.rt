@@ -5,13 +5,14 @@ ghost use Rattle.battles.specs.Programs.{AreOfProfile};
 ghost use Rattle.code.specs.Codes.{AreCodesOf};
 ghost use Rattle.grammar.specs.Tree.{File};
 ghost use Rattle.series.specs.Compiling.{Source};
-ghost use Rattle.series.specs.Failures.{Accounts, AreReady, CountsSink, failures};
+ghost use Rattle.series.specs.Failures.{Accounts, AreReady, failures};
 ghost use Rattle.series.specs.Output.{Runs};
 ghost use Rattle.series.specs.Pieces.{taken};
 ghost use Rattle.series.specs.Playing.{playing};
-ghost use Rattle.sinks.specs.Portions.{Portions};
+ghost use Rattle.sinks.specs.Portions.{Written};
+ghost use Rattle.sinks.specs.Puts.{CanFail, CountsSink};
 ghost use Rattle.series.specs.Reading.{Reads};
-ghost use Rattle.series.specs.Runs.{AreSources, Compiles, PutsPieces};
+ghost use Rattle.series.specs.Runs.{AreSources, Compiles, PutsPieces, told_by};
 ghost use Rattle.settings.specs.declared.settings.Mode.TheVariants.{Matches};
 
 use crate::compiling::compile_into;
@@ -38,16 +39,16 @@ pub fn run<F: Feed, O: Sink, E: Sink>(
     out: &mut O,
     err: &mut E,
 ) -> Result<Status, RunFault>
-    requires ready { AreReady F.account F.ended (length settings.now.words) feeds.old
-        (O.failures out.old) (E.failures err.old) }
-    ensures output { (sources : List Source) → AreSources sources settings.now.words (map F.to_come feeds.old)
-        → Runs settings.now sources result (taken (O.portions out.old) (E.portions err.old))
-        (taken (O.portions out.new) (E.portions err.new)) }
-    ensures read { Reads settings.now result (map F.to_come feeds.old) (map F.to_come feeds.new)
-        (taken (O.portions out.old) (E.portions err.old)) (taken (O.portions out.new) (E.portions err.new)) }
+    requires ready { AreReady F.device (length settings.now.words) feeds.old
+        (O.written out.old) (E.written err.old) }
+    ensures output { (sources : List Source) → AreSources sources settings.now.words (told_by F.device feeds.old)
+        → Runs settings.now sources result (taken (O.written out.old) (E.written err.old))
+        (taken (O.written out.new) (E.written err.new)) }
+    ensures read { Reads settings.now result (told_by F.device feeds.old) (told_by F.device feeds.new)
+        (taken (O.written out.old) (E.written err.old)) (taken (O.written out.new) (E.written err.new)) }
     ensures failures { Accounts result
-        (failures (map F.account feeds.old) (O.failures out.old) (E.failures err.old))
-        (failures (map F.account feeds.new) (O.failures out.new) (E.failures err.new)) }
+        (failures F.device feeds.old (O.written out.old) (E.written err.old))
+        (failures F.device feeds.new (O.written out.new) (E.written err.new)) }
 {
     match settings.mode() {
         Mode::Listing => compile_into(&mut Lister, settings, feeds, out, err),
@@ -66,16 +67,16 @@ fn play_files<F: Feed, O: Sink, E: Sink>(
     err: &mut E,
 ) -> Result<Status, RunFault>
     requires matches { settings.now.mode ≡ Matches }
-    requires ready { AreReady F.account F.ended (length settings.now.words) feeds.old
-        (O.failures out.old) (E.failures err.old) }
-    ensures output { (sources : List Source) → AreSources sources settings.now.words (map F.to_come feeds.old)
-        → Runs settings.now sources result (taken (O.portions out.old) (E.portions err.old))
-        (taken (O.portions out.new) (E.portions err.new)) }
-    ensures read { Reads settings.now result (map F.to_come feeds.old) (map F.to_come feeds.new)
-        (taken (O.portions out.old) (E.portions err.old)) (taken (O.portions out.new) (E.portions err.new)) }
+    requires ready { AreReady F.device (length settings.now.words) feeds.old
+        (O.written out.old) (E.written err.old) }
+    ensures output { (sources : List Source) → AreSources sources settings.now.words (told_by F.device feeds.old)
+        → Runs settings.now sources result (taken (O.written out.old) (E.written err.old))
+        (taken (O.written out.new) (E.written err.new)) }
+    ensures read { Reads settings.now result (told_by F.device feeds.old) (told_by F.device feeds.new)
+        (taken (O.written out.old) (E.written err.old)) (taken (O.written out.new) (E.written err.new)) }
     ensures failures { Accounts result
-        (failures (map F.account feeds.old) (O.failures out.old) (E.failures err.old))
-        (failures (map F.account feeds.new) (O.failures out.new) (E.failures err.new)) }
+        (failures F.device feeds.old (O.written out.old) (E.written err.old))
+        (failures F.device feeds.new (O.written out.new) (E.written err.new)) }
 {
     let mut keeper = Keeper::new(settings.mode());
     match compile_into(&mut keeper, settings, feeds, out, err) {
@@ -96,12 +97,12 @@ fn play_all<O: Sink>(
 ) -> Result<Status, RunFault>
     requires manned { length programs.now ≡ length settings.now.words }
     requires profile { AreOfProfile settings.now.profile programs.now }
-    requires countable { O.failures out.old < 2 ^ 64 - 1 }
-    ensures output { (files : List File) (faults : Portions) → AreCodesOf programs.now settings.now.profile files
-        → PutsPieces result (taken (O.portions out.old) faults) (taken (O.portions out.new) faults)
+    requires countable { CanFail (O.written out.old) }
+    ensures output { (files : List File) (faults : Written) → AreCodesOf programs.now settings.now.profile files
+        → PutsPieces result (taken (O.written out.old) faults) (taken (O.written out.new) faults)
         (playing settings.now files) }
     ensures answer { MatchResult result (λ status. status ≡ Status.Done) (λ fault. fault ≡ RunFault.Write) }
-    ensures count { CountsSink result (O.failures out.old) (O.failures out.new) }
+    ensures count { CountsSink result (O.written out.old) (O.written out.new) }
 {
     let mut series = Series::new(programs, settings);
     for _ in 0..settings.matches() {
@@ -122,20 +123,20 @@ pub fn compile_files<F: Feed, O: Sink, E: Sink>(
     out: &mut O,
     err: &mut E,
 ) -> Result<Option<Programs>, RunFault>
-    requires ready { AreReady F.account F.ended (length settings.now.words) feeds.old
-        (O.failures out.old) (E.failures err.old) }
-    ensures output { (sources : List Source) → AreSources sources settings.now.words (map F.to_come feeds.old)
-        → Compiles settings.now sources result (taken (O.portions out.old) (E.portions err.old))
-        (taken (O.portions out.new) (E.portions err.new)) }
+    requires ready { AreReady F.device (length settings.now.words) feeds.old
+        (O.written out.old) (E.written err.old) }
+    ensures output { (sources : List Source) → AreSources sources settings.now.words (told_by F.device feeds.old)
+        → Compiles settings.now sources result (taken (O.written out.old) (E.written err.old))
+        (taken (O.written out.new) (E.written err.new)) }
     ensures manned { IfOk result (λ programs. IfSome programs
         (λ programs. length programs ≡ length settings.now.words)) }
     ensures profile { IfOk result (λ programs. IfSome programs
         (λ programs. AreOfProfile settings.now.profile programs)) }
-    ensures read { Reads settings.now result (map F.to_come feeds.old) (map F.to_come feeds.new)
-        (taken (O.portions out.old) (E.portions err.old)) (taken (O.portions out.new) (E.portions err.new)) }
+    ensures read { Reads settings.now result (told_by F.device feeds.old) (told_by F.device feeds.new)
+        (taken (O.written out.old) (E.written err.old)) (taken (O.written out.new) (E.written err.new)) }
     ensures failures { Accounts result
-        (failures (map F.account feeds.old) (O.failures out.old) (E.failures err.old))
-        (failures (map F.account feeds.new) (O.failures out.new) (E.failures err.new)) }
+        (failures F.device feeds.old (O.written out.old) (E.written err.old))
+        (failures F.device feeds.new (O.written out.new) (E.written err.new)) }
 {
     let mut keeper = Keeper::new(settings.mode());
     match compile_into(&mut keeper, settings, feeds, out, err) {

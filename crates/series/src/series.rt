@@ -7,7 +7,7 @@ ghost use Rattle.grammar.specs.Tree.{File};
 ghost use Rattle.series.specs.Courses.{IsTallyOf, next_text, played_after, step_of};
 ghost use Rattle.series.specs.Failures.{FailsOnce};
 ghost use Rattle.series.specs.Outcomes.{outcomes, totals_text};
-ghost use Rattle.sinks.specs.Portions.{Puts};
+ghost use Rattle.sinks.specs.Puts.{CanFail, Puts};
 
 use crate::endings::{SeriesFault, Step};
 use crate::reports::put_report;
@@ -79,17 +79,17 @@ impl<'a> Series<'a> {
     /// `Write` if the sink fails, which leaves a beginning of the report: the match doesn't count as played. From then
     /// on each call answers `Write` and writes nothing.
     pub fn next<S: Sink>(&mut self, out: &mut S) -> Result<Step, SeriesFault>
-        requires { S.failures out.old < 2 ^ 64 - 1 }
+        requires { CanFail (S.written out.old) }
         ensures step { IfOk result (λ step. step ≡ step_of self.old.setup self.old.played) }
         ensures after { self.new ≡ record self.old
             { played = played_after result self.old.played; failed = is_err result } }
         ensures text { self.old.failed ≡ false → (files : List File)
             → AreCodesOf self.old.codes self.old.setup.profile files
-            → Puts result (S.portions out.old) (S.failures out.old) (S.portions out.new) (S.failures out.new)
+            → Puts result (S.written out.old) (S.written out.new)
             (next_text self.old.setup files self.old.played) }
-        ensures over { IfOk result (λ step. step ≡ Step.Over → S.portions out.new ≡ S.portions out.old) }
+        ensures over { IfOk result (λ step. step ≡ Step.Over → S.written out.new ≡ S.written out.old) }
         ensures fails { FailsOnce self.old.failed result
-            (S.portions out.old) (S.failures out.old) (S.portions out.new) (S.failures out.new) }
+            (S.written out.old) (S.written out.new) }
     {
         if self.failed {
             return Err(SeriesFault::Write);
@@ -119,14 +119,14 @@ impl<'a> Series<'a> {
     /// `Write` if the sink fails, which leaves a beginning of the totals, or if it failed before.
     pub fn finish<S: Sink>(&mut self, out: &mut S) -> Result<(), SeriesFault>
         requires over { self.old.played ≡ self.old.setup.matches }
-        requires countable { S.failures out.old < 2 ^ 64 - 1 }
+        requires countable { CanFail (S.written out.old) }
         ensures after { self.new ≡ record self.old { failed = is_err result } }
         ensures text { self.old.failed ≡ false → (files : List File)
             → AreCodesOf self.old.codes self.old.setup.profile files
-            → Puts result (S.portions out.old) (S.failures out.old) (S.portions out.new) (S.failures out.new)
+            → Puts result (S.written out.old) (S.written out.new)
             (totals_text self.old.setup files) }
         ensures fails { FailsOnce self.old.failed result
-            (S.portions out.old) (S.failures out.old) (S.portions out.new) (S.failures out.new) }
+            (S.written out.old) (S.written out.new) }
     {
         if self.has_failed() {
             return Err(SeriesFault::Write);

@@ -5,7 +5,7 @@ ghost use Rattle.battles.specs.Battle.{Outcome as Ended, alive};
 ghost use Rattle.series.specs.Lines.{ended_line};
 ghost use Rattle.series.specs.Courses.{Tallied, IsTallyOf, score_at, with_match};
 ghost use Rattle.sinks.specs.Draft.{MayFail, Adds};
-ghost use Rattle.sinks.specs.Portions.{Puts};
+ghost use Rattle.sinks.specs.Puts.{CanFail, Puts};
 ghost use Rattle.series.specs.Names.{robot_names};
 ghost use Rattle.series.specs.Lines.{lines_text};
 ghost use Rattle.series.specs.Totals.{totals, score_line, score_lines, survivors};
@@ -129,8 +129,8 @@ pub(crate) fn put_totals<S: Sink>(
 ) -> Result<(), DeviceFault>
     requires some { 0 < length words.now }
     requires most { length words.now ≤ FILES_MAX }
-    requires countable { S.failures sink.old < 2 ^ 64 - 1 }
-    ensures { Puts result (S.portions sink.old) (S.failures sink.old) (S.portions sink.new) (S.failures sink.new)
+    requires countable { CanFail (S.written sink.old) }
+    ensures { Puts result (S.written sink.old) (S.written sink.new)
         (totals tally.now.matches (robot_names (map (λ word. word.now) words.now)) (score_at tally.now)) }
 {
     let mut pen = Pen::new();
@@ -146,10 +146,9 @@ pub(crate) fn put_totals<S: Sink>(
 fn add_scores<S: Sink>(pen: &mut Pen, sink: &mut S, tally: &Tally, words: &[&str])
     requires some { 0 < length words.now }
     requires most { length words.now ≤ FILES_MAX }
-    requires countable { MayFail pen.old (S.failures sink.old) }
-    ensures countable { MayFail pen.new (S.failures sink.new) }
-    ensures text { Adds (S.portions sink.old) (S.failures sink.old) pen.old (S.portions sink.new)
-        (S.failures sink.new) pen.new
+    requires countable { MayFail pen.old (S.written sink.old) }
+    ensures countable { MayFail pen.new (S.written sink.new) }
+    ensures text { Adds (S.written sink.old) pen.old (S.written sink.new) pen.new
         (lines_text (score_lines (robot_names (map (λ word. word.now) words.now)) (score_at tally.now))) }
 {
     for robot in 0..words.len().max(2) {
@@ -166,10 +165,9 @@ fn add_scores<S: Sink>(pen: &mut Pen, sink: &mut S, tally: &Tally, words: &[&str
 /// Adds the line of one robot, which has this score and this name.
 fn add_score<S: Sink>(pen: &mut Pen, sink: &mut S, robot: usize, score: Score, name: &[u8])
     requires there { robot < FILES_MAX }
-    requires countable { MayFail pen.old (S.failures sink.old) }
-    ensures countable { MayFail pen.new (S.failures sink.new) }
-    ensures text { Adds (S.portions sink.old) (S.failures sink.old) pen.old (S.portions sink.new)
-        (S.failures sink.new) pen.new
+    requires countable { MayFail pen.old (S.written sink.old) }
+    ensures countable { MayFail pen.new (S.written sink.new) }
+    ensures text { Adds (S.written sink.old) pen.old (S.written sink.new) pen.new
         (ended_line (score_line robot score name.now)) }
 {
     pen.add(sink, b"  ");

@@ -1,66 +1,68 @@
 -- How a pen goes on.
 use Rattle.std.proofs.Common.{◌≡◌, ℕ, ◌+◌, ◌<◌, ◌≤◌, true, false, List, [], ◌∷◌, ◌++◌, length, Result, Ok, Err, refl, sym, ap, ◌∙◌, arith, length-append}
 use Rattle.std.specs.Prelude.{is_err}
-use Rattle.sinks.specs.Portions.{Portions, Puts, Takes, TakesWhole, and_portions, page_bytes}
+use Rattle.sinks.specs.Portions.{Takes, TakesWhole, Written, and_portions, page_bytes}
+use Rattle.sinks.specs.Puts.{Puts}
 use Rattle.sinks.specs.Draft.{Draft, blank, IsOnPage, PutsSoFar, WritesSoFar}
 use Rattle.sinks.proofs.PortionsLemmas.{nothing_taken, all_but_then, all_taken, none_left, front_then, all_but_more, front_more}
 
-module _ {before now : Portions} {n failures : ℕ} where
+module _ {before now : Written} where
   -- a fragment goes on the page
-  pub writes_more : (pen later : Draft) (text more : List ℕ) → PutsSoFar before now n failures pen text
-      → later.failed ≡ pen.failed → later.page ≡ pen.page ++ more → PutsSoFar before now n failures later (text ++ more)
+  pub writes_more : (pen later : Draft) (text more : List ℕ) → PutsSoFar before now pen text
+      → later.failed ≡ pen.failed → later.page ≡ pen.page ++ more → PutsSoFar before now later (text ++ more)
   writes_more pen later text more so_far same page = record {
-    going = λ h. rw page (all_but_more before now text pen.page more (so_far.going (sym same ∙ h)));
+    going = λ h. rw page (all_but_more before.portions now.portions text pen.page more (so_far.going (sym same ∙ h)));
     calm = λ h. so_far.calm (sym same ∙ h);
-    stopped = λ h. front_more before now text more (so_far.stopped (sym same ∙ h));
+    stopped = λ h. front_more before.portions now.portions text more (so_far.stopped (sym same ∙ h));
     counted = λ h. so_far.counted (sym same ∙ h);
   }
 
   -- once a put has failed the page no longer matters
-  pub writes_no_more : (pen later : Draft) (text more : List ℕ) → PutsSoFar before now n failures pen text
-      → pen.failed ≡ true → later.failed ≡ true → PutsSoFar before now n failures later (text ++ more)
+  pub writes_no_more : (pen later : Draft) (text more : List ℕ) → PutsSoFar before now pen text
+      → pen.failed ≡ true → later.failed ≡ true → PutsSoFar before now later (text ++ more)
   writes_no_more pen later text more so_far was is = record {
     going = λ h. cc;
     calm = λ h. cc;
-    stopped = λ h. front_more before now text more (so_far.stopped was);
+    stopped = λ h. front_more before.portions now.portions text more (so_far.stopped was);
     counted = λ h. so_far.counted was;
   }
 
   -- the page is put
-  pub page_put : {T E : Type 0} (pen later : Draft) (after : Portions) (count : ℕ) (page text : List ℕ)
+  pub page_put : {T E : Type 0} (pen later : Draft) (after : Written) (page text : List ℕ)
       (put : Result T E)
-      → PutsSoFar before now n failures pen text → pen.failed ≡ false → page ≡ pen.page
+      → PutsSoFar before now pen text → pen.failed ≡ false → page ≡ pen.page
       → later.failed ≡ is_err put → later.page ≡ []
-      → Puts put now failures after count page → PutsSoFar before after n count later text
-  page_put pen later after count page text (Ok _) so_far was same is empty puts = record {
+      → Puts put now after page → PutsSoFar before after later text
+  page_put pen later after page text (Ok _) so_far was same is empty puts = record {
     going =
         λ h. rw empty
-        (all_but_then before now after text page [] (rw same (so_far.going was)) (none_left now after page puts.0));
+        (all_but_then before.portions now.portions after.portions text page [] (rw same (so_far.going was))
+        (none_left now.portions after.portions page puts.0));
     calm = λ h. puts.1 ∙ so_far.calm was;
     stopped = λ h. cc;
     counted = λ h. cc;
   }
-  page_put pen later after count page text (Err _) so_far was same is empty puts = record {
+  page_put pen later after page text (Err _) so_far was same is empty puts = record {
     going = λ h. cc;
     calm = λ h. cc;
-    stopped = λ h. front_then before now after text page (rw same (so_far.going was)) puts.0;
+    stopped = λ h. front_then before.portions now.portions after.portions text page (rw same (so_far.going was)) puts.0;
     counted = λ h. puts.1 ∙ ap (λ m. m + 1) (so_far.calm was);
   }
 
   -- a fragment is put behind an empty page
-  pub fragment_put : {T E : Type 0} (pen later : Draft) (after : Portions) (count : ℕ) (bytes text : List ℕ)
+  pub fragment_put : {T E : Type 0} (pen later : Draft) (after : Written) (bytes text : List ℕ)
       (put : Result T E)
-      → PutsSoFar before now n failures pen text → pen.failed ≡ false → pen.page ≡ []
+      → PutsSoFar before now pen text → pen.failed ≡ false → pen.page ≡ []
       → later.failed ≡ is_err put → later.page ≡ pen.page
-      → Puts put now failures after count bytes → PutsSoFar before after n count later (text ++ bytes)
-  fragment_put pen later after count bytes text put so_far was empty is same puts =
+      → Puts put now after bytes → PutsSoFar before after later (text ++ bytes)
+  fragment_put pen later after bytes text put so_far was empty is same puts =
       let page : bytes ≡ pen.page ++ bytes = rw empty in
-      page_put (record { page = bytes; failed = false }) later after count bytes (text ++ bytes) put
+      page_put (record { page = bytes; failed = false }) later after bytes (text ++ bytes) put
       (writes_more pen (record { page = bytes; failed = false }) text bytes so_far (sym was) page) refl refl is
       (same ∙ empty) puts
 
   -- a text that fits the page is on it, and a fragment goes on the page
-  pub kept_more : (pen later : Draft) (text more : List ℕ) → WritesSoFar before now n failures pen text
+  pub kept_more : (pen later : Draft) (text more : List ℕ) → WritesSoFar before now pen text
       → later.failed ≡ pen.failed → later.page ≡ pen.page ++ more → length (text ++ more) ≤ page_bytes →
       IsOnPage before now later (text ++ more)
   kept_more pen later text more so_far same page fits =
@@ -73,7 +75,7 @@ module _ {before now : Portions} {n failures : ℕ} where
       }
 
   -- a text with a fragment that does not fit the page has more bytes than the page
-  pub too_long : (pen : Draft) (text more : List ℕ) → WritesSoFar before now n failures pen text
+  pub too_long : (pen : Draft) (text more : List ℕ) → WritesSoFar before now pen text
       → page_bytes < length pen.page + length more → length (text ++ more) ≤ page_bytes → ⊥
   too_long pen text more so_far long fits =
       let less : length text ≤ page_bytes = omega (arith, length-append text more) in
@@ -81,13 +83,13 @@ module _ {before now : Portions} {n failures : ℕ} where
       omega (arith, length-append text more, ap length on_page.page)
 
   -- nothing is added once a put has failed
-  pub nothing_more : (pen : Draft) (text more : List ℕ) → PutsSoFar before now n failures pen text → pen.failed ≡ true
-      → (length (text ++ more) ≤ page_bytes → ⊥) → WritesSoFar before now n failures pen (text ++ more)
+  pub nothing_more : (pen : Draft) (text more : List ℕ) → PutsSoFar before now pen text → pen.failed ≡ true
+      → (length (text ++ more) ≤ page_bytes → ⊥) → WritesSoFar before now pen (text ++ more)
   nothing_more pen text more so_far was long =
       record { puts = writes_no_more pen pen text more so_far was was; kept = λ fits. absurd (long fits) }
 
   -- a pen whose put has failed has written more bytes than the page
-  pub not_failed : (pen : Draft) (text more : List ℕ) → WritesSoFar before now n failures pen text
+  pub not_failed : (pen : Draft) (text more : List ℕ) → WritesSoFar before now pen text
       → pen.failed ≡ true → length (text ++ more) ≤ page_bytes → ⊥
   not_failed pen text more so_far was fits =
       let less : length text ≤ page_bytes = omega (arith, length-append text more) in
@@ -95,31 +97,33 @@ module _ {before now : Portions} {n failures : ℕ} where
       cc
 
   -- the last page is put
-  pub piece_put : {T E : Type 0} (pen : Draft) (after : Portions) (count : ℕ) (page text : List ℕ) (put : Result T E)
-      → WritesSoFar before now n failures pen text → pen.failed ≡ false → page ≡ pen.page
-      → Puts put now failures after count page → Puts put before n after count text
-  piece_put pen after count page text (Ok _) so_far was same puts = (
-    all_taken before after text
-        (all_but_then before now after text page [] (rw same (so_far.puts.going was))
-        (none_left now after page puts.0)) one,
+  pub piece_put : {T E : Type 0} (pen : Draft) (after : Written) (page text : List ℕ) (put : Result T E)
+      → WritesSoFar before now pen text → pen.failed ≡ false → page ≡ pen.page
+      → Puts put now after page → Puts put before after text
+  piece_put pen after page text (Ok _) so_far was same puts = (
+    all_taken before.portions after.portions text
+        (all_but_then before.portions now.portions after.portions text page [] (rw same (so_far.puts.going was))
+        (none_left now.portions after.portions page puts.0)) one,
     puts.1 ∙ so_far.puts.calm was,
   )
     where
-      one : TakesWhole before → 0 < length text → length text ≤ page_bytes → after ≡ and_portions before (text ∷ [])
+      one : TakesWhole before.portions → 0 < length text → length text ≤ page_bytes
+          → after.portions ≡ and_portions before.portions (text ∷ [])
       one whole some fits =
           let on_page : IsOnPage before now pen text = so_far.kept fits in
-          let whole_text : Takes before after text = rw (← on_page.nothing, ← (same ∙ on_page.page)) puts.0 in
+          let whole_text : Takes before.portions after.portions text =
+          rw (← on_page.nothing, ← (same ∙ on_page.page)) puts.0 in
           whole_text.one whole some fits
-  piece_put pen after count page text (Err _) so_far was same puts = (
-    front_then before now after text page (rw same (so_far.puts.going was)) puts.0,
+  piece_put pen after page text (Err _) so_far was same puts = (
+    front_then before.portions now.portions after.portions text page (rw same (so_far.puts.going was)) puts.0,
     puts.1 ∙ ap (λ m. m + 1) (so_far.puts.calm was),
   )
 
 -- a pen at its begin has written nothing
-pub writes_nothing : (pen : Draft) (now : Portions) (n : ℕ) → pen ≡ blank → WritesSoFar now now n n pen []
-writes_nothing pen now n e = rw e (record {
+pub writes_nothing : (pen : Draft) (now : Written) → pen ≡ blank → WritesSoFar now now pen []
+writes_nothing pen now e = rw e (record {
   puts = record {
-    going = λ h. nothing_taken now [];
+    going = λ h. nothing_taken now.portions [];
     calm = λ h. refl;
     stopped = λ h. cc;
     counted = λ h. cc;

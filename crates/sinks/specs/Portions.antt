@@ -1,5 +1,5 @@
--- What a sink took: one portion for each call, in the order of the calls.
-use Rattle.std.specs.Prelude.{◌≡◌, ℕ, ◌+◌, ◌<◌, ◌≤◌, Bool, true, List, [], ◌∷◌, ◌++◌, length, Option, Some, None, Result, MatchResult}
+-- What a sink took, one portion for each call, in the order of the calls, and how often it failed.
+use Rattle.std.specs.Prelude.{◌≡◌, ℕ, ◌<◌, ◌≤◌, Bool, true, List, [], ◌∷◌, ◌++◌, length, Option, Some, None}
 use Rattle.std.specs.List.{concat}
 
 -- the most bytes of a text that is put by one call: those of a pen's page
@@ -14,6 +14,11 @@ pub record Contents : Type 0 where
 -- what a sink took so far, if its contents are known
 abbrev pub Portions : Type 0
 Portions = Option Contents
+
+-- what is said of a sink: what it took so far, and how many calls failed
+pub record Written : Type 0 where
+  pub portions : Portions
+  pub failures : ℕ
 
 -- the same, with these portions taken since
 abbrev pub and_portions : Portions → List (List ℕ) → Portions
@@ -42,11 +47,3 @@ pub record TakesAllBut (before after : Portions) (bytes left : List ℕ) : Type 
 -- it took a front of these bytes
 abbrev pub TakesFront : Portions → Portions → List ℕ → Type 0
 TakesFront before after bytes = (left : List ℕ) × TakesAllBut before after bytes left
-
--- What a call left that was to put these bytes, from a sink that had failed n times to one that has failed m times:
--- if it succeeded, the sink took them and has not failed; if it failed, the sink took a front of them and has failed
--- once.
-abbrev pub Puts : {T E : Type 0} → Result T E → Portions → ℕ → Portions → ℕ → List ℕ → Type 0
-Puts result before n after m bytes = MatchResult result
-    (λ _. Takes before after bytes × (m ≡ n))
-    (λ _. TakesFront before after bytes × (m ≡ n + 1))

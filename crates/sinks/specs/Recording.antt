@@ -1,6 +1,6 @@
 -- What a sink in memory keeps.
 use Rattle.std.specs.Prelude.{ℕ, zero, suc, List, Option, Some, None, min, is_none, unwrap_or, ◌&&◌}
-use Rattle.sinks.specs.Portions.{Portions}
+use Rattle.sinks.specs.Portions.{Portions, Written}
 
 -- the portions that it took, the most bytes that a call takes and the room that is left, if they are limited, the calls
 -- that succeed before one fails, and how often it failed
@@ -21,6 +21,9 @@ size_of_next r len = elim r.failing [ None ↦ fitting | Some calls ↦ elim cal
 -- what it took; it takes each put whole unless it was limited
 abbrev pub contents_of : Recording → Portions
 contents_of r = Some (record { portions = r.portions; whole = is_none r.most && is_none r.room })
+
+abbrev pub written_of : Recording → Written
+written_of r = record { portions = contents_of r; failures = r.failures }
 
 -- a call nearer to the one that fails
 abbrev pub failing_then : Option ℕ → Option ℕ

@@ -1,7 +1,8 @@
 //! A pen that writes one piece of the output from its fragments.
 
 ghost use Rattle.std.specs.Prelude.{◌≡◌, ℕ, ◌+◌, ◌-◌, ◌^◌, ◌<◌, ◌≤◌, List, [], ◌∷◌, ◌++◌, length, OnOk, OnErr, true, false};
-ghost use Rattle.sinks.specs.Portions.{Portions, Puts};
+ghost use Rattle.sinks.specs.Portions.{Written};
+ghost use Rattle.sinks.specs.Puts.{Puts};
 ghost use Rattle.sinks.specs.Draft.{Draft, blank, MayFail, PutsSoFar, WritesSoFar, Adds};
 
 use crate::sink::{Sink, put_all};
@@ -31,7 +32,7 @@ impl Pen {
     /// Makes a pen at the begin of a piece.
     pub fn new() -> Pen
         ensures blank { result ≡ blank }
-        ensures text { (now : Portions) (n : ℕ) → WritesSoFar now now n n result [] }
+        ensures text { (now : Written) → WritesSoFar now now result [] }
     {
         Pen {
             page: ArrayVec::new(),
@@ -41,10 +42,9 @@ impl Pen {
 
     /// Adds a fragment of any length to the piece.
     pub fn add<S: Sink>(&mut self, sink: &mut S, bytes: &[u8])
-        requires { MayFail self.old (S.failures sink.old) }
-        ensures countable { MayFail self.new (S.failures sink.new) }
-        ensures text { Adds (S.portions sink.old) (S.failures sink.old) self.old (S.portions sink.new)
-            (S.failures sink.new) self.new bytes.now }
+        requires { MayFail self.old (S.written sink.old) }
+        ensures countable { MayFail self.new (S.written sink.new) }
+        ensures text { Adds (S.written sink.old) self.old (S.written sink.new) self.new bytes.now }
     {
         if bytes.len() > self.page.remaining_capacity() {
             self.turn(sink);
@@ -59,10 +59,9 @@ impl Pen {
     /// Adds a byte to the piece.
     #[inline(always)]
     pub fn push<S: Sink>(&mut self, sink: &mut S, byte: u8)
-        requires { MayFail self.old (S.failures sink.old) }
-        ensures countable { MayFail self.new (S.failures sink.new) }
-        ensures text { Adds (S.portions sink.old) (S.failures sink.old) self.old (S.portions sink.new)
-            (S.failures sink.new) self.new (byte ∷ []) }
+        requires { MayFail self.old (S.written sink.old) }
+        ensures countable { MayFail self.new (S.written sink.new) }
+        ensures text { Adds (S.written sink.old) self.old (S.written sink.new) self.new (byte ∷ []) }
     {
         if self.page.remaining_capacity() == 0 {
             self.turn(sink);
@@ -74,11 +73,11 @@ impl Pen {
 
     /// Puts the page and begins a new one.
     fn turn<S: Sink>(&mut self, sink: &mut S)
-        requires { MayFail self.old (S.failures sink.old) }
-        ensures countable { MayFail self.new (S.failures sink.new) }
-        ensures text { (before : Portions) (n : ℕ) (text : List ℕ)
-            → PutsSoFar before (S.portions sink.old) n (S.failures sink.old) self.old text
-            → PutsSoFar before (S.portions sink.new) n (S.failures sink.new) self.new text }
+        requires { MayFail self.old (S.written sink.old) }
+        ensures countable { MayFail self.new (S.written sink.new) }
+        ensures text { (before : Written) (text : List ℕ)
+            → PutsSoFar before (S.written sink.old) self.old text
+            → PutsSoFar before (S.written sink.new) self.new text }
         ensures empty { self.new.failed ≡ false → self.new.page ≡ [] }
     {
         if !self.failed {
@@ -89,12 +88,12 @@ impl Pen {
 
     /// Puts a fragment after an empty page.
     fn put<S: Sink>(&mut self, sink: &mut S, bytes: &[u8])
-        requires countable { MayFail self.old (S.failures sink.old) }
+        requires countable { MayFail self.old (S.written sink.old) }
         requires empty { self.old.failed ≡ false → self.old.page ≡ [] }
-        ensures countable { MayFail self.new (S.failures sink.new) }
-        ensures text { (before : Portions) (n : ℕ) (text : List ℕ)
-            → PutsSoFar before (S.portions sink.old) n (S.failures sink.old) self.old text
-            → PutsSoFar before (S.portions sink.new) n (S.failures sink.new) self.new (text ++ bytes.now) }
+        ensures countable { MayFail self.new (S.written sink.new) }
+        ensures text { (before : Written) (text : List ℕ)
+            → PutsSoFar before (S.written sink.old) self.old text
+            → PutsSoFar before (S.written sink.new) self.new (text ++ bytes.now) }
     {
         if !self.failed {
             self.failed = put_all(sink, bytes).is_err();
@@ -103,10 +102,10 @@ impl Pen {
 
     /// Ends the piece: puts what is on the page, and answers whether the sink took the whole piece.
     pub fn done<S: Sink>(self, sink: &mut S) -> Result<(), DeviceFault>
-        requires { MayFail self (S.failures sink.old) }
-        ensures { (before : Portions) (n : ℕ) (text : List ℕ)
-            → WritesSoFar before (S.portions sink.old) n (S.failures sink.old) self text
-            → Puts result before n (S.portions sink.new) (S.failures sink.new) text }
+        requires { MayFail self (S.written sink.old) }
+        ensures { (before : Written) (text : List ℕ)
+            → WritesSoFar before (S.written sink.old) self text
+            → Puts result before (S.written sink.new) text }
     {
         let Pen { page, failed } = self;
         if failed {

@@ -2,7 +2,7 @@
 
 ghost use Rattle.std.specs.Prelude.{◌≡◌, ℕ, ◌+◌, ◌-◌, ◌^◌, ◌<◌, ◌≤◌, List, [], ◌∷◌, ◌++◌, map, option_map, length, take, Some, None, IfOk, OnOk, OnErr, IfSome, OnSome, min};
 ghost use Rattle.std.specs.List.{concat};
-ghost use Rattle.sinks.specs.Recording.{Recording, contents_of, size_of_next, failing_then};
+ghost use Rattle.sinks.specs.Recording.{Recording, size_of_next, written_of, failing_then};
 ghost use Rattle.sinks.specs.Portions.{TakesWhole, and_portions};
 
 use crate::sink::Sink;
@@ -134,9 +134,7 @@ impl Recorder {
 }
 
 impl Sink for Recorder {
-    ghost failures = { λ r. r.failures };
-
-    ghost portions = { contents_of };
+    ghost written = { written_of };
 
     fn put(&mut self, bytes: &[u8]) -> Result<usize, DeviceFault> {
         let n = self.next_size(bytes.len());

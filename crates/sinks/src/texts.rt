@@ -1,7 +1,7 @@
 //! Numbers, columns and lines of text.
 
 ghost use Rattle.std.specs.Prelude.{◌≡◌, ℕ, ◌+◌, ◌-◌, ◌^◌, ◌<◌, ◌≤◌, List, [], ◌∷◌, ◌++◌, length, OnOk, OnErr, decimal, replicate};
-ghost use Rattle.sinks.specs.Portions.{Puts};
+ghost use Rattle.sinks.specs.Puts.{CanFail, Puts};
 ghost use Rattle.sinks.specs.Draft.{Draft, MayFail, Adds};
 ghost use Rattle.sinks.specs.Texts.{file_name, column, diagnostic_line};
 
@@ -12,10 +12,9 @@ use tokens::DeviceFault;
 impl Pen {
     /// Adds a number in decimal.
     pub fn number<S: Sink>(&mut self, sink: &mut S, n: u32)
-        requires { MayFail self.old (S.failures sink.old) }
-        ensures countable { MayFail self.new (S.failures sink.new) }
-        ensures text { Adds (S.portions sink.old) (S.failures sink.old) self.old (S.portions sink.new)
-            (S.failures sink.new) self.new (decimal n) }
+        requires { MayFail self.old (S.written sink.old) }
+        ensures countable { MayFail self.new (S.written sink.new) }
+        ensures text { Adds (S.written sink.old) self.old (S.written sink.new) self.new (decimal n) }
     {
         if n >= 10 {
             self.number(sink, n / 10);
@@ -25,10 +24,9 @@ impl Pen {
 
     /// Adds a number in decimal, and spaces before it up to the width.
     pub fn column<S: Sink>(&mut self, sink: &mut S, width: usize, n: u32)
-        requires { MayFail self.old (S.failures sink.old) }
-        ensures countable { MayFail self.new (S.failures sink.new) }
-        ensures text { Adds (S.portions sink.old) (S.failures sink.old) self.old (S.portions sink.new)
-            (S.failures sink.new) self.new (column width n) }
+        requires { MayFail self.old (S.written sink.old) }
+        ensures countable { MayFail self.new (S.written sink.new) }
+        ensures text { Adds (S.written sink.old) self.old (S.written sink.new) self.new (column width n) }
     {
         if n >= 10 {
             self.column(sink, width.saturating_sub(1), n / 10);
@@ -40,10 +38,9 @@ impl Pen {
 
     /// Adds so many spaces.
     fn spaces<S: Sink>(&mut self, sink: &mut S, count: usize)
-        requires { MayFail self.old (S.failures sink.old) }
-        ensures countable { MayFail self.new (S.failures sink.new) }
-        ensures text { Adds (S.portions sink.old) (S.failures sink.old) self.old (S.portions sink.new)
-            (S.failures sink.new) self.new (replicate count 32) }
+        requires { MayFail self.old (S.written sink.old) }
+        ensures countable { MayFail self.new (S.written sink.new) }
+        ensures text { Adds (S.written sink.old) self.old (S.written sink.new) self.new (replicate count 32) }
     {
         for _ in 0..count {
             self.push(sink, b' ');
@@ -69,8 +66,8 @@ pub fn put_diagnostic<S: Sink>(
     line: u32,
     text: &[u8],
 ) -> Result<(), DeviceFault>
-    requires { S.failures sink.old < 2 ^ 64 - 1 }
-    ensures { Puts result (S.portions sink.old) (S.failures sink.old) (S.portions sink.new) (S.failures sink.new)
+    requires { CanFail (S.written sink.old) }
+    ensures { Puts result (S.written sink.old) (S.written sink.new)
         (diagnostic_line name.now line text.now) }
 {
     let mut pen = Pen::new();

@@ -9,7 +9,7 @@ use Rattle.tokens.specs.Words.{word_of}
 use Rattle.tokens.specs.Ends.{is_decided_by_last_byte, undecided_until}
 use Rattle.tokens.specs.Front.{Front, Nothing, Space, Unclosed, Sign, front, up_to_close, begins_with, name_or}
 use Rattle.tokens.specs.Tokens.{Ahead, behind_byte, passed, at_end, placed, last_located_token, cut, cut_front, located_tokens}
-use Rattle.tokens.specs.Window.{Asks, Held, TakesBytes, WentOn, ahead}
+use Rattle.tokens.specs.Window.{LeavesAsked, Held, TakesBytes, WentOn, ahead}
 use Rattle.tokens.specs.Lexing.{to_read, followed, ending, in_run, name_going_on, constant_going_on, value_token, in_punctuator, grown, in_comment, closed_at, Fails, StopsWithin}
 use Rattle.tokens.specs.declared.devices.DeviceFault.{DeviceFault}
 use Rattle.tokens.specs.declared.located_tokens.Punctuator.{Punctuator}
@@ -48,8 +48,8 @@ goes_on counted counted' old mid new told told' told'' after ended took forward 
 
 pub then-asks : {T : Type 0} (r : Result T DeviceFault) (old mid new : Held) (told told' told'' : Option (List ℕ))
     (before between after : Account) (ended : Bool) → TakesBytes old.taken mid.taken told told' →
-    old.place ≤ mid.place → between ≡ before → Asks r mid new told' told'' between after ended →
-    Asks r old new told told'' before after ended
+    old.place ≤ mid.place → between ≡ before → LeavesAsked r mid new told' told'' between after ended →
+    LeavesAsked r old new told told'' before after ended
 then-asks (Ok x) old mid new told told' told'' before between after ended took forward count asks =
     goes_on before between old mid new told told' told'' after ended took forward count asks
 then-asks (Err x) old mid new told told' told'' before between after ended took forward count asks =
@@ -60,7 +60,8 @@ then-asks (Err x) old mid new told told' told'' before between after ended took 
 pub then-fails : {T : Type 0} (r : Result T DeviceFault) (P : DeviceFault → Type 0) → IsErrAnd r P →
     (old mid new : Held) (told told' told'' : Option (List ℕ)) (before between after : Account) (ended : Bool) →
     TakesBytes old.taken mid.taken told told' → old.place ≤ mid.place → between ≡ before →
-    WentOn mid new told' told'' (failed_again between) after ended → Asks r old new told told'' before after ended
+    WentOn mid new told' told'' (failed_again between) after ended →
+    LeavesAsked r old new told told'' before after ended
 then-fails (Ok x) P h old mid new told told' told'' before between after ended took forward count asks = absurd h
 then-fails (Err x) P h old mid new told told' told'' before between after ended took forward count asks =
     goes_on (failed_again before) (failed_again between) old mid new told told' told'' after ended took forward

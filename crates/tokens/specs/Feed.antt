@@ -12,10 +12,17 @@ pub record Account : Type 0 where
 abbrev pub failed_again : Account → Account
 failed_again account = record account { failures = account.failures + 1 }
 
+-- what is said of a device: which one it is and how often it has failed, the bytes still to come, where it tells them,
+-- and whether a read has given none
+pub record Device : Type 0 where
+  pub account : Account
+  pub to_come : Option (List ℕ)
+  pub ended : Bool
+
 -- a device may be asked: a further failure can be counted, and it has not ended
-pub record MayRead (account : Account) (ended : Bool) : Type 0 where
-  pub countable : account.failures < 2 ^ 64 - 1
-  pub not_ended : ended ≡ false
+pub record MayRead (device : Device) : Type 0 where
+  pub countable : device.account.failures < 2 ^ 64 - 1
+  pub not_ended : device.ended ≡ false
 
 -- the next n bytes of those to come stand at the front of the buffer, and none only at the end
 pub record GivesFront (bytes : List ℕ) (after : Option (List ℕ)) (buffer : List ℕ) (n : ℕ) : Type 0 where

@@ -1,4 +1,5 @@
 pub mod Feed
+pub mod Files
 pub mod Name
 pub mod Characters
 pub mod Pieces

@@ -1,6 +1,6 @@
 -- A device in memory.
-use Rattle.std.specs.Prelude.{◌≡◌, ◌↔◌, ◌≤◌, ◌-◌, ℕ, Bool, IfOk, IsErr, List, Result}
-use Rattle.tokens.specs.Feed.{Account}
+use Rattle.std.specs.Prelude.{◌≡◌, ◌↔◌, ◌≤◌, ◌-◌, ℕ, Bool, IfOk, IsErr, List, Result, Some}
+use Rattle.tokens.specs.Feed.{Device}
 use Rattle.tokens.specs.declared.devices.DeviceFault.{DeviceFault}
 
 -- the bytes that it has still to give, how many it gave, how many it gives at most at a read, how often it failed, how
@@ -14,8 +14,12 @@ pub record Supply : Type 0 where
   pub ended : Bool
 
 -- Devices in memory all have the number 0.
-abbrev pub account_of : Supply → Account
-account_of supply = record { device = 0; failures = supply.failures }
+abbrev pub device_of : Supply → Device
+device_of supply = record {
+  account = record { device = 0; failures = supply.failures };
+  to_come = Some supply.to_come;
+  ended = supply.ended;
+}
 
 -- No read gives more than a piece, and the only reads that fail are those from the given one on.
 pub record GivesPiece (result : Result ℕ DeviceFault) (old new : Supply) : Type 0 where

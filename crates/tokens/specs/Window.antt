@@ -6,7 +6,7 @@ use Rattle.std.specs.Option.{option_map}
 use Rattle.tokens.specs.Limits.{source_bytes}
 use Rattle.tokens.specs.ReadLimits.{most_bytes, window_bytes}
 use Rattle.tokens.specs.Characters.{is_blank}
-use Rattle.tokens.specs.Feed.{Account, failed_again}
+use Rattle.tokens.specs.Feed.{Account, Device, failed_again}
 use Rattle.tokens.specs.Source.{source}
 use Rattle.tokens.specs.Tokens.{Ahead, line_behind}
 use Rattle.tokens.specs.declared.devices.DeviceFault.{DeviceFault}
@@ -121,9 +121,9 @@ pub record IsBounded (held : Held) : Type 0 where
   pub within : held.place ≤ source_bytes
 
 -- a window may ask its device: a further failure can be counted, and it knows if the device has ended
-pub record MayAsk (held : Held) (account : Account) (ended : Bool) : Type 0 where
-  pub countable : account.failures < 2 ^ 64 - 1
-  pub known : KnowsEnd held.beyond ended
+pub record MayAsk (held : Held) (device : Device) : Type 0 where
+  pub countable : device.account.failures < 2 ^ 64 - 1
+  pub known : KnowsEnd held.beyond device.ended
 
 -- A window went on, or stayed: its device has still to give all but the bytes taken, and failed so often. The window is
 -- as every window is, and knows if the device has ended.
@@ -138,10 +138,15 @@ pub record WentOn (old new : Held) (told told' : Option (List ℕ)) (counted acc
   pub known : KnowsEnd new.beyond ended
 
 -- what a call leaves that may ask the device, which fails once more if the call fails
-abbrev pub Asks : {T : Type 0} → Result T DeviceFault → Held → Held → Option (List ℕ) → Option (List ℕ)
+abbrev pub LeavesAsked : {T : Type 0} → Result T DeviceFault → Held → Held → Option (List ℕ) → Option (List ℕ)
     → Account → Account → Bool → Type 0
-Asks (Ok x) old new told told' before after ended = WentOn old new told told' before after ended
-Asks (Err e) old new told told' before after ended = WentOn old new told told' (failed_again before) after ended
+LeavesAsked (Ok x) old new told told' before after ended = WentOn old new told told' before after ended
+LeavesAsked (Err e) old new told told' before after ended =
+    WentOn old new told told' (failed_again before) after ended
+
+abbrev pub Asks : {T : Type 0} → Result T DeviceFault → Held → Held → (before after : Device) → Type 0
+Asks result old new before after =
+    LeavesAsked result old new before.to_come after.to_come before.account after.account after.ended
 
 -- a window passed bytes at hand, and asked nothing
 pub record Passes (old new : Held) : Type 0 where

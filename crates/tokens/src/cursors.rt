@@ -37,13 +37,13 @@ impl Model for Cursor {
 impl Cursor {
     /// Opens a cursor at the first token of a device's bytes. The only error is that of the device.
     pub fn open<F: Feed>(feed: &mut F) -> Result<Cursor, DeviceFault>
-        requires countable { (F.account feed.old).failures < 2 ^ 64 - 1 }
-        requires not_ended { F.ended feed.old ≡ false }
+        requires countable { (F.device feed.old).account.failures < 2 ^ 64 - 1 }
+        requires not_ended { (F.device feed.old).ended ≡ false }
         ensures opens { IfOk result (λ cursor.
-            Opens cursor (F.to_come feed.old) (F.to_come feed.new) (F.ended feed.new)) }
-        ensures stopped { OnErr result ((bytes : List ℕ) → F.to_come feed.old ≡ Some bytes → (count : ℕ)
-            × (F.to_come feed.new ≡ Some (drop count bytes)) × (count ≤ undecided_reach_of (tokens bytes))) }
-        ensures count { Counts result (F.account feed.old) (F.account feed.new) }
+            Opens cursor (F.device feed.old).to_come (F.device feed.new).to_come (F.device feed.new).ended) }
+        ensures stopped { OnErr result ((bytes : List ℕ) → (F.device feed.old).to_come ≡ Some bytes → (count : ℕ)
+            × ((F.device feed.new).to_come ≡ Some (drop count bytes)) × (count ≤ undecided_reach_of (tokens bytes))) }
+        ensures count { Counts result (F.device feed.old).account (F.device feed.new).account }
     {
         let mut lexer = Lexer::new();
         let mut next = LocatedToken::none();
@@ -74,14 +74,13 @@ impl Cursor {
     /// Goes past the next token. After an `Err`, which is the device's, the cursor is of no more use.
     pub fn advance<F: Feed>(&mut self, feed: &mut F) -> Result<(), DeviceFault>
         requires not_last { is_last self.old.next.token ≡ false }
-        requires ready { MayAsk self.old.behind (F.account feed.old) (F.ended feed.old) }
+        requires ready { MayAsk self.old.behind (F.device feed.old) }
         ensures next { self.new.next ≡ self.old.after }
-        ensures steps { OnOk result (Steps self.old self.new (F.to_come feed.old) (F.to_come feed.new)) }
+        ensures steps { OnOk result (Steps self.old self.new (F.device feed.old).to_come (F.device feed.new).to_come) }
         ensures stopped { OnErr result ((next : LocatedToken) (others : List LocatedToken)
-            → shown self.old (F.to_come feed.old) ≡ Some (next ∷ others) →
+            → shown self.old (F.device feed.old).to_come ≡ Some (next ∷ others) →
             taken self.new ≤ undecided_reach_of others) }
-        ensures kept { Asks result self.old.behind self.new.behind (F.to_come feed.old) (F.to_come feed.new)
-            (F.account feed.old) (F.account feed.new) (F.ended feed.new) }
+        ensures kept { Asks result self.old.behind self.new.behind (F.device feed.old) (F.device feed.new) }
     {
         self.next = self.after;
         if !self.next.token.is_last() {

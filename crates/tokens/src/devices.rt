@@ -1,7 +1,7 @@
 //! Devices that give bytes.
 
-ghost use Rattle.std.specs.Prelude.{◌≡◌, ℕ, ◌<◌, Bool, List, Option, length};
-ghost use Rattle.tokens.specs.Feed.{Account, Counts, MayRead, Reads, gives_none};
+ghost use Rattle.std.specs.Prelude.{◌≡◌, ◌<◌, length};
+ghost use Rattle.tokens.specs.Feed.{Counts, Device, MayRead, Reads, gives_none};
 
 /// A read that failed.
 #[derive(Clone, Copy, Debug, PartialEq, Eq)]
@@ -9,21 +9,16 @@ pub struct DeviceFault;
 
 /// A device that gives bytes, in pieces of any size.
 pub trait Feed {
-    /// Which device it is, by a number that it keeps, and how often a read has failed.
-    ghost account: { Self → Account };
-
-    /// The bytes still to come, where the device tells them.
-    ghost to_come: { Self → Option (List ℕ) };
-
-    /// Whether a read has given no byte. Such a device is not read again.
-    ghost ended: { Self → Bool };
+    /// Which device it is, by a number that it keeps, and how often a read has failed; the bytes still to come, where the
+    /// device tells them; and whether a read has given no byte. Such a device has ended, and is not read again.
+    ghost device: { Self → Device };
 
     /// Puts the next bytes at the front of `buf`, and answers how many: 0 only at the end.
     /// After an `Err` no byte was taken.
     fn fill(&mut self, buf: &mut [u8]) -> Result<usize, DeviceFault>
         requires nonempty { 0 < length buf.old }
-        requires ready { MayRead (account self.old) (ended self.old) }
-        ensures reads { Reads result (length buf.old) (to_come self.old) (to_come self.new) buf.new }
-        ensures count { Counts result (account self.old) (account self.new) }
-        ensures ended { ended self.new ≡ gives_none result };
+        requires ready { MayRead (device self.old) }
+        ensures reads { Reads result (length buf.old) (device self.old).to_come (device self.new).to_come buf.new }
+        ensures count { Counts result (device self.old).account (device self.new).account }
+        ensures ended { (device self.new).ended ≡ gives_none result };
 }

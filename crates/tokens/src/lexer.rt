@@ -43,14 +43,13 @@ impl Lexer {
         here: &mut LocatedToken,
         feed: &mut F,
     ) -> Result<(), DeviceFault>
-        requires ready { MayAsk self.old.window (F.account feed.old) (F.ended feed.old) }
-        ensures tokens { OnOk result (to_read (followed here.new) self.new.window (F.to_come feed.new)
-            ≡ to_read located_tokens self.old.window (F.to_come feed.old)) }
+        requires ready { MayAsk self.old.window (F.device feed.old) }
+        ensures tokens { OnOk result (to_read (followed here.new) self.new.window (F.device feed.new).to_come
+            ≡ to_read located_tokens self.old.window (F.device feed.old).to_come) }
         ensures read { OnOk result (IsRead here.new self.old.window self.new.window) }
         ensures stopped { OnErr result (Fails located_tokens self.old.window self.new.window
-            (F.to_come feed.old) here.old here.new) }
-        ensures kept { Asks result self.old.window self.new.window (F.to_come feed.old) (F.to_come feed.new)
-            (F.account feed.old) (F.account feed.new) (F.ended feed.new) }
+            (F.device feed.old).to_come here.old here.new) }
+        ensures kept { Asks result self.old.window self.new.window (F.device feed.old) (F.device feed.new) }
     {
         match self.window.first() {
             Some(b) if !is_blank(b) && b != b'/' => self.token(b, here, feed),
@@ -65,14 +64,13 @@ impl Lexer {
         here: &mut LocatedToken,
         feed: &mut F,
     ) -> Result<(), DeviceFault>
-        requires ready { MayAsk self.old.window (F.account feed.old) (F.ended feed.old) }
-        ensures tokens { OnOk result (to_read (followed here.new) self.new.window (F.to_come feed.new)
-            ≡ to_read located_tokens self.old.window (F.to_come feed.old)) }
+        requires ready { MayAsk self.old.window (F.device feed.old) }
+        ensures tokens { OnOk result (to_read (followed here.new) self.new.window (F.device feed.new).to_come
+            ≡ to_read located_tokens self.old.window (F.device feed.old).to_come) }
         ensures read { OnOk result (IsRead here.new self.old.window self.new.window) }
         ensures stopped { OnErr result (Fails located_tokens self.old.window self.new.window
-            (F.to_come feed.old) here.old here.new) }
-        ensures kept { Asks result self.old.window self.new.window (F.to_come feed.old) (F.to_come feed.new)
-            (F.account feed.old) (F.account feed.new) (F.ended feed.new) }
+            (F.device feed.old).to_come here.old here.new) }
+        ensures kept { Asks result self.old.window self.new.window (F.device feed.old) (F.device feed.new) }
     {
         match self.window.first() {
             Some(b) if is_blank(b) => self.read_behind(b, here, feed),
@@ -88,15 +86,14 @@ impl Lexer {
         here: &mut LocatedToken,
         feed: &mut F,
     ) -> Result<(), DeviceFault>
-        requires ready { MayAsk self.old.window (F.account feed.old) (F.ended feed.old) }
+        requires ready { MayAsk self.old.window (F.device feed.old) }
         requires begins { BeginsBlank blank self.old.window }
-        ensures tokens { OnOk result (to_read (followed here.new) self.new.window (F.to_come feed.new)
-            ≡ to_read located_tokens self.old.window (F.to_come feed.old)) }
+        ensures tokens { OnOk result (to_read (followed here.new) self.new.window (F.device feed.new).to_come
+            ≡ to_read located_tokens self.old.window (F.device feed.old).to_come) }
         ensures read { OnOk result (IsRead here.new self.old.window self.new.window) }
         ensures stopped { OnErr result (Fails located_tokens self.old.window self.new.window
-            (F.to_come feed.old) here.old here.new) }
-        ensures kept { Asks result self.old.window self.new.window (F.to_come feed.old) (F.to_come feed.new)
-            (F.account feed.old) (F.account feed.new) (F.ended feed.new) }
+            (F.device feed.old).to_come here.old here.new) }
+        ensures kept { Asks result self.old.window self.new.window (F.device feed.old) (F.device feed.new) }
     {
         self.window.pass();
         match self.window.first() {
@@ -108,14 +105,13 @@ impl Lexer {
     /// Does the same after blanks and comments.
     #[inline(never)]
     fn read_on<F: Feed>(&mut self, here: &mut LocatedToken, feed: &mut F) -> Result<(), DeviceFault>
-        requires ready { MayAsk self.old.window (F.account feed.old) (F.ended feed.old) }
-        ensures tokens { OnOk result (to_read (followed here.new) self.new.window (F.to_come feed.new)
-            ≡ to_read located_tokens self.old.window (F.to_come feed.old)) }
+        requires ready { MayAsk self.old.window (F.device feed.old) }
+        ensures tokens { OnOk result (to_read (followed here.new) self.new.window (F.device feed.new).to_come
+            ≡ to_read located_tokens self.old.window (F.device feed.old).to_come) }
         ensures read { OnOk result (IsRead here.new self.old.window self.new.window) }
         ensures stopped { OnErr result (Fails located_tokens self.old.window self.new.window
-            (F.to_come feed.old) here.old here.new) }
-        ensures kept { Asks result self.old.window self.new.window (F.to_come feed.old) (F.to_come feed.new)
-            (F.account feed.old) (F.account feed.new) (F.ended feed.new) }
+            (F.device feed.old).to_come here.old here.new) }
+        ensures kept { Asks result self.old.window self.new.window (F.device feed.old) (F.device feed.new) }
     {
         loop {
             match self.skip_blanks(feed)? {
@@ -136,15 +132,14 @@ impl Lexer {
     /// Skips blanks. Answers the byte after them, or `None` at the end.
     #[inline(always)]
     fn skip_blanks<F: Feed>(&mut self, feed: &mut F) -> Result<Option<u8>, DeviceFault>
-        requires ready { MayAsk self.old.window (F.account feed.old) (F.ended feed.old) }
-        ensures tokens { OnOk result (to_read located_tokens self.new.window (F.to_come feed.new)
-            ≡ to_read located_tokens self.old.window (F.to_come feed.old)) }
+        requires ready { MayAsk self.old.window (F.device feed.old) }
+        ensures tokens { OnOk result (to_read located_tokens self.new.window (F.device feed.new).to_come
+            ≡ to_read located_tokens self.old.window (F.device feed.old).to_come) }
         ensures next { IfOk result (λ first. IsNext first self.new.window) }
         ensures no_blank { IfOk result (λ first. IfSome first (λ b. is_blank b ≡ false)) }
         ensures stopped { OnErr result (StopsWithin located_tokens self.old.window
-            self.new.window (F.to_come feed.old)) }
-        ensures kept { Asks result self.old.window self.new.window (F.to_come feed.old) (F.to_come feed.new)
-            (F.account feed.old) (F.account feed.new) (F.ended feed.new) }
+            self.new.window (F.device feed.old).to_come) }
+        ensures kept { Asks result self.old.window self.new.window (F.device feed.old) (F.device feed.new) }
     {
         loop {
             self.window.pass_blanks();
@@ -158,16 +153,15 @@ impl Lexer {
 
     /// Skips a comment at a `/`, or puts the token that begins there here. Answers whether there was one.
     fn slash<F: Feed>(&mut self, here: &mut LocatedToken, feed: &mut F) -> Result<bool, DeviceFault>
-        requires ready { MayAsk self.old.window (F.account feed.old) (F.ended feed.old) }
+        requires ready { MayAsk self.old.window (F.device feed.old) }
         requires slash { slice_get self.old.window.at_hand 0 ≡ Some 47 }
         ensures past { IfOk result (λ found. Slashes found self.old.window
-            self.new.window (F.to_come feed.old) (F.to_come feed.new)
+            self.new.window (F.device feed.old).to_come (F.device feed.new).to_come
             here.old here.new) }
         ensures forward { self.old.window.place < self.new.window.place }
         ensures stopped { OnErr result (Fails located_tokens self.old.window self.new.window
-            (F.to_come feed.old) here.old here.new) }
-        ensures kept { Asks result self.old.window self.new.window (F.to_come feed.old) (F.to_come feed.new)
-            (F.account feed.old) (F.account feed.new) (F.ended feed.new) }
+            (F.device feed.old).to_come here.old here.new) }
+        ensures kept { Asks result self.old.window self.new.window (F.device feed.old) (F.device feed.new) }
     {
         let line = self.window.line();
         self.window.pass();
@@ -186,15 +180,14 @@ impl Lexer {
 
     /// Goes past the `*/` of a comment that it is inside. Answers `false` if there is none.
     fn skip_comment<F: Feed>(&mut self, feed: &mut F) -> Result<bool, DeviceFault>
-        requires ready { MayAsk self.old.window (F.account feed.old) (F.ended feed.old) }
+        requires ready { MayAsk self.old.window (F.device feed.old) }
         ensures tokens { IfOk result (λ closed. (line : ℕ)
-            → to_read (after_comment closed line) self.new.window (F.to_come feed.new)
-            ≡ to_read (in_comment line) self.old.window (F.to_come feed.old)) }
+            → to_read (after_comment closed line) self.new.window (F.device feed.new).to_come
+            ≡ to_read (in_comment line) self.old.window (F.device feed.old).to_come) }
         ensures ended { IfOk result (λ closed. closed ≡ false → self.new.window.beyond ≢ Beyond.Unread) }
         ensures stopped { OnErr result ((line : ℕ)
-            → StopsWithin (in_comment line) self.old.window self.new.window (F.to_come feed.old)) }
-        ensures kept { Asks result self.old.window self.new.window (F.to_come feed.old) (F.to_come feed.new)
-            (F.account feed.old) (F.account feed.new) (F.ended feed.new) }
+            → StopsWithin (in_comment line) self.old.window self.new.window (F.device feed.old).to_come) }
+        ensures kept { Asks result self.old.window self.new.window (F.device feed.old) (F.device feed.new) }
     {
         loop {
             self.window.pass_plain();
@@ -220,15 +213,14 @@ impl Lexer {
         here: &mut LocatedToken,
         feed: &mut F,
     ) -> Result<(), DeviceFault>
-        requires ready { MayAsk self.old.window (F.account feed.old) (F.ended feed.old) }
+        requires ready { MayAsk self.old.window (F.device feed.old) }
         requires begins { BeginsToken first self.old.window }
-        ensures tokens { OnOk result (to_read (followed here.new) self.new.window (F.to_come feed.new)
-            ≡ to_read located_tokens self.old.window (F.to_come feed.old)) }
+        ensures tokens { OnOk result (to_read (followed here.new) self.new.window (F.device feed.new).to_come
+            ≡ to_read located_tokens self.old.window (F.device feed.old).to_come) }
         ensures read { OnOk result (IsRead here.new self.old.window self.new.window) }
         ensures stopped { OnErr result (Fails located_tokens self.old.window self.new.window
-            (F.to_come feed.old) here.old here.new) }
-        ensures kept { Asks result self.old.window self.new.window (F.to_come feed.old) (F.to_come feed.new)
-            (F.account feed.old) (F.account feed.new) (F.ended feed.new) }
+            (F.device feed.old).to_come here.old here.new) }
+        ensures kept { Asks result self.old.window self.new.window (F.device feed.old) (F.device feed.new) }
     {
         self.window.pass();
         if is_letter(first) {
@@ -258,14 +250,13 @@ impl Lexer {
         feed: &mut F,
         first: u8,
     ) -> Result<(), DeviceFault>
-        requires ready { MayAsk self.old.window (F.account feed.old) (F.ended feed.old) }
-        ensures tokens { OnOk result (to_read (followed here.new) self.new.window (F.to_come feed.new)
-            ≡ to_read (in_name (first ∷ []) false) self.old.window (F.to_come feed.old)) }
+        requires ready { MayAsk self.old.window (F.device feed.old) }
+        ensures tokens { OnOk result (to_read (followed here.new) self.new.window (F.device feed.new).to_come
+            ≡ to_read (in_name (first ∷ []) false) self.old.window (F.device feed.old).to_come) }
         ensures found { OnOk result (IsFound here.new self.new.window) }
         ensures stopped { OnErr result (Fails (in_name (first ∷ []) false) self.old.window self.new.window
-            (F.to_come feed.old) here.old here.new) }
-        ensures kept { Asks result self.old.window self.new.window (F.to_come feed.old) (F.to_come feed.new)
-            (F.account feed.old) (F.account feed.new) (F.ended feed.new) }
+            (F.device feed.old).to_come here.old here.new) }
+        ensures kept { Asks result self.old.window self.new.window (F.device feed.old) (F.device feed.new) }
     {
         match self.window.first() {
             Some(b) if !is_name_byte(b) => {
@@ -284,14 +275,13 @@ impl Lexer {
         feed: &mut F,
         first: u8,
     ) -> Result<(), DeviceFault>
-        requires ready { MayAsk self.old.window (F.account feed.old) (F.ended feed.old) }
-        ensures tokens { OnOk result (to_read (followed here.new) self.new.window (F.to_come feed.new)
-            ≡ to_read (in_name (first ∷ []) false) self.old.window (F.to_come feed.old)) }
+        requires ready { MayAsk self.old.window (F.device feed.old) }
+        ensures tokens { OnOk result (to_read (followed here.new) self.new.window (F.device feed.new).to_come
+            ≡ to_read (in_name (first ∷ []) false) self.old.window (F.device feed.old).to_come) }
         ensures found { OnOk result (IsFound here.new self.new.window) }
         ensures stopped { OnErr result (Fails (in_name (first ∷ []) false) self.old.window self.new.window
-            (F.to_come feed.old) here.old here.new) }
-        ensures kept { Asks result self.old.window self.new.window (F.to_come feed.old) (F.to_come feed.new)
-            (F.account feed.old) (F.account feed.new) (F.ended feed.new) }
+            (F.device feed.old).to_come here.old here.new) }
+        ensures kept { Asks result self.old.window self.new.window (F.device feed.old) (F.device feed.new) }
     {
         let mut name = Name::new();
         if name.begin(first, self.window.at_hand()) {
@@ -310,14 +300,13 @@ impl Lexer {
         feed: &mut F,
         first: u8,
     ) -> Result<(), DeviceFault>
-        requires ready { MayAsk self.old.window (F.account feed.old) (F.ended feed.old) }
-        ensures tokens { OnOk result (to_read (followed here.new) self.new.window (F.to_come feed.new)
-            ≡ to_read (in_name (first ∷ []) false) self.old.window (F.to_come feed.old)) }
+        requires ready { MayAsk self.old.window (F.device feed.old) }
+        ensures tokens { OnOk result (to_read (followed here.new) self.new.window (F.device feed.new).to_come
+            ≡ to_read (in_name (first ∷ []) false) self.old.window (F.device feed.old).to_come) }
         ensures found { OnOk result (IsFound here.new self.new.window) }
         ensures stopped { OnErr result (Fails (in_name (first ∷ []) false) self.old.window self.new.window
-            (F.to_come feed.old) here.old here.new) }
-        ensures kept { Asks result self.old.window self.new.window (F.to_come feed.old) (F.to_come feed.new)
-            (F.account feed.old) (F.account feed.new) (F.ended feed.new) }
+            (F.device feed.old).to_come here.old here.new) }
+        ensures kept { Asks result self.old.window self.new.window (F.device feed.old) (F.device feed.new) }
     {
         let mut name = Name::new();
         name.push(first);
@@ -348,15 +337,14 @@ impl Lexer {
         feed: &mut F,
         first: u8,
     ) -> Result<(), DeviceFault>
-        requires ready { MayAsk self.old.window (F.account feed.old) (F.ended feed.old) }
+        requires ready { MayAsk self.old.window (F.device feed.old) }
         requires digit { is_digit first ≡ true }
-        ensures tokens { OnOk result (to_read (followed here.new) self.new.window (F.to_come feed.new)
-            ≡ to_read (in_constant (first - 48)) self.old.window (F.to_come feed.old)) }
+        ensures tokens { OnOk result (to_read (followed here.new) self.new.window (F.device feed.new).to_come
+            ≡ to_read (in_constant (first - 48)) self.old.window (F.device feed.old).to_come) }
         ensures found { OnOk result (IsFound here.new self.new.window) }
         ensures stopped { OnErr result (Fails (in_constant (first - 48)) self.old.window self.new.window
-            (F.to_come feed.old) here.old here.new) }
-        ensures kept { Asks result self.old.window self.new.window (F.to_come feed.old) (F.to_come feed.new)
-            (F.account feed.old) (F.account feed.new) (F.ended feed.new) }
+            (F.device feed.old).to_come here.old here.new) }
+        ensures kept { Asks result self.old.window self.new.window (F.device feed.old) (F.device feed.new) }
     {
         if let Some((value, count)) = constant_begun(first, self.window.at_hand()) {
             self.window.pass_in_line(count);
@@ -374,15 +362,14 @@ impl Lexer {
         feed: &mut F,
         first: u8,
     ) -> Result<(), DeviceFault>
-        requires ready { MayAsk self.old.window (F.account feed.old) (F.ended feed.old) }
+        requires ready { MayAsk self.old.window (F.device feed.old) }
         requires digit { is_digit first ≡ true }
-        ensures tokens { OnOk result (to_read (followed here.new) self.new.window (F.to_come feed.new)
-            ≡ to_read (in_constant (first - 48)) self.old.window (F.to_come feed.old)) }
+        ensures tokens { OnOk result (to_read (followed here.new) self.new.window (F.device feed.new).to_come
+            ≡ to_read (in_constant (first - 48)) self.old.window (F.device feed.old).to_come) }
         ensures found { OnOk result (IsFound here.new self.new.window) }
         ensures stopped { OnErr result (Fails (in_constant (first - 48)) self.old.window self.new.window
-            (F.to_come feed.old) here.old here.new) }
-        ensures kept { Asks result self.old.window self.new.window (F.to_come feed.old) (F.to_come feed.new)
-            (F.account feed.old) (F.account feed.new) (F.ended feed.new) }
+            (F.device feed.old).to_come here.old here.new) }
+        ensures kept { Asks result self.old.window self.new.window (F.device feed.old) (F.device feed.new) }
     {
         let mut value = u64::from(first - b'0');
         loop {
@@ -407,14 +394,13 @@ impl Lexer {
         feed: &mut F,
         mut punctuator: Punctuator,
     ) -> Result<(), DeviceFault>
-        requires ready { MayAsk self.old.window (F.account feed.old) (F.ended feed.old) }
-        ensures tokens { OnOk result (to_read (followed here.new) self.new.window (F.to_come feed.new)
-            ≡ to_read (in_punctuator punctuator) self.old.window (F.to_come feed.old)) }
+        requires ready { MayAsk self.old.window (F.device feed.old) }
+        ensures tokens { OnOk result (to_read (followed here.new) self.new.window (F.device feed.new).to_come
+            ≡ to_read (in_punctuator punctuator) self.old.window (F.device feed.old).to_come) }
         ensures found { OnOk result (IsFound here.new self.new.window) }
         ensures stopped { OnErr result (Fails (in_punctuator punctuator) self.old.window self.new.window
-            (F.to_come feed.old) here.old here.new) }
-        ensures kept { Asks result self.old.window self.new.window (F.to_come feed.old) (F.to_come feed.new)
-            (F.account feed.old) (F.account feed.new) (F.ended feed.new) }
+            (F.device feed.old).to_come here.old here.new) }
+        ensures kept { Asks result self.old.window self.new.window (F.device feed.old) (F.device feed.new) }
     {
         loop {
             let next = self.window.peek(feed)?;

@@ -4,6 +4,7 @@
 mod characters;
 mod cursors;
 mod devices;
+mod files;
 pub mod laws;
 mod lexer;
 mod limits;
@@ -17,6 +18,7 @@ mod words;
 
 pub use cursors::Cursor;
 pub use devices::{DeviceFault, Feed};
+pub use files::{FileFeed, KnownFeed};
 pub use limits::{CONSTANT_MAX, NAME_BYTES, SOURCE_BYTES, WINDOW};
 pub use located_tokens::{LexicalError, LocatedToken, Punctuator, Token, Word};
 pub use memory::Pieces;

@@ -2,7 +2,7 @@
 
 ghost use Rattle.std.specs.Prelude.{◌≡◌, ◌<◌, Some, false, length};
 ghost use Rattle.tokens.specs.Feed.{Counts, MayRead, Reads, gives_none};
-ghost use Rattle.tokens.specs.Pieces.{GivesPiece, account_of};
+ghost use Rattle.tokens.specs.Pieces.{GivesPiece, device_of};
 
 use crate::devices::{DeviceFault, Feed};
 use std::marker::Model;
@@ -90,17 +90,13 @@ impl<'a> Pieces<'a> {
 }
 
 impl Feed for Pieces<'_> {
-    ghost account = { account_of };
-
-    ghost to_come = { λ p. Some p.to_come };
-
-    ghost ended = { λ p. p.ended };
+    ghost device = { device_of };
 
     fn fill(&mut self, buf: &mut [u8]) -> Result<usize, DeviceFault>
         requires nonempty { 0 < length buf.old }
-        requires ready { MayRead (account_of self.old) self.old.ended }
+        requires ready { MayRead (device_of self.old) }
         ensures reads { Reads result (length buf.old) (Some self.old.to_come) (Some self.new.to_come) buf.new }
-        ensures count { Counts result (account_of self.old) (account_of self.new) }
+        ensures count { Counts result (device_of self.old).account (device_of self.new).account }
         ensures ended { self.new.ended ≡ gives_none result }
         ensures piece { GivesPiece result self.old self.new }
     {

@@ -245,11 +245,11 @@ impl Many {
 }
 
 impl Feed for Many {
-    ghost account = { λ _. record { device = 0; failures = 0 } };
-
-    ghost to_come = { λ _. None };
-
-    ghost ended = { λ m. m.ended };
+    ghost device = { λ m. record {
+      account = record { device = 0; failures = 0 };
+      to_come = None;
+      ended = m.ended;
+    } };
 
     fn fill(&mut self, buf: &mut [u8]) -> Result<usize, DeviceFault> {
         let count = self.give(buf);

@@ -95,13 +95,12 @@ impl Window {
     /// Returns the next byte, or `None` at the end. The device is asked only if no byte is at hand.
     #[inline(always)]
     pub fn peek<F: Feed>(&mut self, feed: &mut F) -> Result<Option<u8>, DeviceFault>
-        requires ready { MayAsk self.old (F.account feed.old) (F.ended feed.old) }
+        requires ready { MayAsk self.old (F.device feed.old) }
         ensures next { IfOk result (λ first. IsNext first self.new) }
-        ensures seen { OnOk result (seen self.new (F.to_come feed.new) ≡ seen self.old (F.to_come feed.old)) }
+        ensures seen { OnOk result (seen self.new (F.device feed.new).to_come ≡ seen self.old (F.device feed.old).to_come) }
         ensures place { IsAtSamePlace self.old self.new }
         ensures failed { OnErr result (self.new.taken ≡ self.new.place) }
-        ensures kept { Asks result self.old self.new (F.to_come feed.old) (F.to_come feed.new)
-            (F.account feed.old) (F.account feed.new) (F.ended feed.new) }
+        ensures kept { Asks result self.old self.new (F.device feed.old) (F.device feed.new) }
     {
         if self.next < self.filled {
             return Ok(Some(self.bytes[self.next]));
@@ -186,12 +185,11 @@ impl Window {
     #[inline(never)]
     fn refill<F: Feed>(&mut self, feed: &mut F) -> Result<(), DeviceFault>
         requires empty { self.old.at_hand ≡ [] }
-        requires ready { MayAsk self.old (F.account feed.old) (F.ended feed.old) }
-        ensures shows { OnOk result (Shows self.old self.new (F.to_come feed.old) (F.to_come feed.new)) }
+        requires ready { MayAsk self.old (F.device feed.old) }
+        ensures shows { OnOk result (Shows self.old self.new (F.device feed.old).to_come (F.device feed.new).to_come) }
         ensures place { IsAtSamePlace self.old self.new }
         ensures failed { OnErr result (self.new.taken ≡ self.new.place) }
-        ensures kept { Asks result self.old self.new (F.to_come feed.old) (F.to_come feed.new)
-            (F.account feed.old) (F.account feed.new) (F.ended feed.new) }
+        ensures kept { Asks result self.old self.new (F.device feed.old) (F.device feed.new) }
     {
         if self.beyond != Beyond::Unread {
             return Ok(());

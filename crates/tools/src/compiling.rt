@@ -5,12 +5,12 @@ ghost use Rattle.tokens.specs.Feed.{Counts};
 ghost use Rattle.tools.specs.Compiling.{CompilesTo};
 
 use crate::faults::Fault;
-use crate::feeds::{FileFeed, opened};
+use crate::files::opened;
 use crate::wishes::Wish;
 use code::{Maker, Profile, Program};
 use grammar::{Diagnostic, ParseFault, Pools};
 use parser::parse;
-use tokens::{DeviceFault, Feed};
+use tokens::{DeviceFault, Feed, FileFeed};
 
 /// Compiles the files of a wish, and writes the diagnostic of each faulty one, or a line about the first that can't be
 /// opened or read, with the name of the program that asks.
@@ -55,11 +55,11 @@ pub fn compile<F: Feed>(
     profile: Profile,
     feed: &mut F,
 ) -> Result<Result<Compiled, Diagnostic>, DeviceFault>
-    requires count { (F.account feed.old).failures < 2 ^ 64 - 1 }
-    requires not_ended { F.ended feed.old ≡ false }
-    ensures compiles { IfOk result (λ answer. (bytes : List ℕ) → F.to_come feed.old ≡ Some bytes
+    requires count { (F.device feed.old).account.failures < 2 ^ 64 - 1 }
+    requires not_ended { (F.device feed.old).ended ≡ false }
+    ensures compiles { IfOk result (λ answer. (bytes : List ℕ) → (F.device feed.old).to_come ≡ Some bytes
         → CompilesTo profile bytes answer) }
-    ensures count { Counts result (F.account feed.old) (F.account feed.new) }
+    ensures count { Counts result (F.device feed.old).account (F.device feed.new).account }
 {
     let mut maker = Maker::new(profile);
     match parse(feed, &mut maker) {

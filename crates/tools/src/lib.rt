@@ -5,7 +5,7 @@
 mod command_line;
 mod compiling;
 mod faults;
-mod feeds;
+mod files;
 mod frames;
 mod options;
 mod outputs;
@@ -14,7 +14,7 @@ mod wishes;
 
 pub use compiling::{Compiled, compile, name_of, programs, tell_diagnostic};
 pub use faults::Fault;
-pub use feeds::{FileFeed, opened, source_of};
+pub use files::{opened, source_of};
 pub use frames::{Frame, Work};
 pub use options::{Known, Options, read_options};
 pub use outputs::{Output, write_text};

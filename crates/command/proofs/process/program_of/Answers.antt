@@ -8,9 +8,9 @@ use Rattle.command.proofs.process.program_of.Goals as goal
 pub returns-in-Ok-clause-read : goal.returns-in-Ok-clause-read
 returns-in-Ok-clause-read g c = rw c.in-Ok.is (record {
   ending = OutOfMemory;
-  between = taken (g.O.Sink.portions c.args.out.now) (g.E.Sink.portions c.args.err.now);
+  between = taken (g.O.Sink.written c.args.out.now) (g.E.Sink.written c.args.err.now);
   ends = ends_without_memory real_files _ _;
-  text = refl;
+  text_stays = refl;
   front = search rules;
   whole = search rules;
   status = c.end.ensures.status;

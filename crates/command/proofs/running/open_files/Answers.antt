@@ -20,19 +20,20 @@ pub loop-word-preserved : goal.loop-word-preserved
 loop-word-preserved g c =
     let within : c.loop-word.word-index < length c.args.words.now = search rules in
     let items : c.push.new.self.items ≡ c.loop-word.feeds.items ++ c.in-Ok.file ∷ [] = search rules in (
-      rw items (told_more g.D.File.Feed.account (g.D.Opener.fails c.args.disk.now) g.D.File.Feed.to_come
-          (g.D.Opener.holds c.args.disk.now) c.args.words.now
+      rw items (told_more g.D.File.Feed.device (g.D.Opener.files c.args.disk.now).fails
+          (λ feed. (g.D.File.Feed.device feed).to_come)
+          (g.D.Opener.files c.args.disk.now).holds c.args.words.now
           c.loop-word.feeds.items c.loop-word.word-index _ c.in-Ok.file within c.loop-word.invariant.0
           c.in-Ok.ensures.contents),
       rw items
-          (All-push (λ feed. (g.D.File.Feed.account feed).failures ≡ 0) c.loop-word.feeds.items c.in-Ok.file
+          (All-push (λ feed. (g.D.File.Feed.device feed).account.failures ≡ 0) c.loop-word.feeds.items c.in-Ok.file
           c.loop-word.invariant.1 c.in-Ok.ensures.calm),
       rw items
-          (All-push (λ feed. g.D.File.Feed.ended feed ≡ false) c.loop-word.feeds.items c.in-Ok.file
+          (All-push (λ feed. (g.D.File.Feed.device feed).ended ≡ false) c.loop-word.feeds.items c.in-Ok.file
           c.loop-word.invariant.2 c.in-Ok.ensures.not_ended),
-      rw items (each_more g.D.File.Feed.account (g.D.Opener.fails c.args.disk.now) c.args.words.now
+      rw items (each_more g.D.File.Feed.device (g.D.Opener.files c.args.disk.now).fails c.args.words.now
           c.loop-word.feeds.items c.loop-word.word-index _ c.in-Ok.file
           within c.loop-word.invariant.3 c.in-Ok.ensures.shows),
-      all_more (g.D.Opener.opens c.args.disk.now) c.args.words.now c.loop-word.word-index _ within
+      all_more (g.D.Opener.files c.args.disk.now).opens c.args.words.now c.loop-word.word-index _ within
           c.loop-word.invariant.4 c.in-Ok.ensures.opened,
     )

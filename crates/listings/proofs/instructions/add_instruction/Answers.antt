@@ -5,73 +5,73 @@ use Rattle.listings.proofs.instructions.add_instruction.Goals as goal
 
 pub returns-in-Fetch-clause-text : goal.returns-in-Fetch-clause-text
 unfolding instr_text
-returns-in-Fetch-clause-text g c = λ before n text so_far.
+returns-in-Fetch-clause-text g c = λ before text so_far.
     rw c.in-Fetch.is
-    (simp append_assoc at (c.add_variable.ensures.text before n _ (c.add.ensures.text before n text so_far)))
+    (simp append_assoc at (c.add_variable.ensures.text before _ (c.add.ensures.text before text so_far)))
 
 pub returns-in-Store-clause-text : goal.returns-in-Store-clause-text
 unfolding instr_text
-returns-in-Store-clause-text g c = λ before n text so_far.
+returns-in-Store-clause-text g c = λ before text so_far.
     rw c.in-Store.is
     (simp append_assoc
     (simp append_assoc at
     (rw (c.as_bytes.ensures.value, c.store_punctuator.ensures.punctuator) at
-    (c.add-in-Store-2.ensures.text before n _
-    (c.push.ensures.text before n _
-    (c.add_variable-in-Store.ensures.text before n _
-    (c.add-in-Store.ensures.text before n text so_far)))))))
+    (c.add-in-Store-2.ensures.text before _
+    (c.push.ensures.text before _
+    (c.add_variable-in-Store.ensures.text before _
+    (c.add-in-Store.ensures.text before text so_far)))))))
 
 pub returns-in-Const-clause-text : goal.returns-in-Const-clause-text
 unfolding instr_text
-returns-in-Const-clause-text g c = λ before n text so_far.
+returns-in-Const-clause-text g c = λ before text so_far.
     let fits : SFits w32 c.in-Const.value = search rules in
     rw c.in-Const.is
     (simp append_assoc at
     (rw (to_z-of_z w32 c.in-Const.value fits) at
-    (c.add_value.ensures.text before n _ (c.add-in-Const.ensures.text before n text so_far))))
+    (c.add_value.ensures.text before _ (c.add-in-Const.ensures.text before text so_far))))
 
 pub returns-in-Binop-clause-text : goal.returns-in-Binop-clause-text
 unfolding instr_text
-returns-in-Binop-clause-text g c = λ before n text so_far.
+returns-in-Binop-clause-text g c = λ before text so_far.
     rw c.in-Binop.is
     (simp append_assoc at
     (rw (c.as_bytes-in-Binop.ensures.value, c.operator_punctuator.ensures.punctuator) at
-    (c.add-in-Binop-2.ensures.text before n _ (c.add-in-Binop.ensures.text before n text so_far))))
+    (c.add-in-Binop-2.ensures.text before _ (c.add-in-Binop.ensures.text before text so_far))))
 
 pub returns-in-Fcall-clause-text : goal.returns-in-Fcall-clause-text
 unfolding instr_text
-returns-in-Fcall-clause-text g c = λ before n text so_far.
+returns-in-Fcall-clause-text g c = λ before text so_far.
     rw c.in-Fcall.is
-    (simp append_assoc at (c.add_callee.ensures.text before n _ (c.add-in-Fcall.ensures.text before n text so_far)))
+    (simp append_assoc at (c.add_callee.ensures.text before _ (c.add-in-Fcall.ensures.text before text so_far)))
 
 pub returns-in-Retsub-clause-text : goal.returns-in-Retsub-clause-text
 unfolding instr_text
-returns-in-Retsub-clause-text g c = λ before n text so_far.
-    rw c.in-Retsub.is (c.add-in-Retsub.ensures.text before n text so_far)
+returns-in-Retsub-clause-text g c = λ before text so_far.
+    rw c.in-Retsub.is (c.add-in-Retsub.ensures.text before text so_far)
 
 pub returns-in-Branch-clause-text : goal.returns-in-Branch-clause-text
 unfolding instr_text
-returns-in-Branch-clause-text g c = λ before n text so_far.
+returns-in-Branch-clause-text g c = λ before text so_far.
     rw c.in-Branch.is
     (simp append_assoc at
-    (rw c.from.ensures at (c.number.ensures.text before n _ (c.add-in-Branch.ensures.text before n text so_far))))
+    (rw c.from.ensures at (c.number.ensures.text before _ (c.add-in-Branch.ensures.text before text so_far))))
 
 pub returns-in-Chop-clause-text : goal.returns-in-Chop-clause-text
 unfolding instr_text
-returns-in-Chop-clause-text g c = λ before n text so_far.
-    rw c.in-Chop.is (c.add-in-Chop.ensures.text before n text so_far)
+returns-in-Chop-clause-text g c = λ before text so_far.
+    rw c.in-Chop.is (c.add-in-Chop.ensures.text before text so_far)
 
 pub returns-in-Frame-clause-text : goal.returns-in-Frame-clause-text
 unfolding instr_text
-returns-in-Frame-clause-text g c = λ before n text so_far.
-    rw c.in-Frame.is (c.add-in-Frame.ensures.text before n text so_far)
+returns-in-Frame-clause-text g c = λ before text so_far.
+    rw c.in-Frame.is (c.add-in-Frame.ensures.text before text so_far)
 
 pub returns-in-Truth-clause-text : goal.returns-in-Truth-clause-text
 unfolding instr_text
-returns-in-Truth-clause-text g c = λ before n text so_far.
-    rw c.in-Truth.is (c.add-in-Truth.ensures.text before n text so_far)
+returns-in-Truth-clause-text g c = λ before text so_far.
+    rw c.in-Truth.is (c.add-in-Truth.ensures.text before text so_far)
 
 pub returns-in-Nop-clause-text : goal.returns-in-Nop-clause-text
 unfolding instr_text
-returns-in-Nop-clause-text g c = λ before n text so_far.
-    rw c.in-Nop.is (c.add-in-Nop.ensures.text before n text so_far)
+returns-in-Nop-clause-text g c = λ before text so_far.
+    rw c.in-Nop.is (c.add-in-Nop.ensures.text before text so_far)

@@ -4,9 +4,9 @@ use Rattle.listings.proofs.listing.add_externals.Goals as goal
 
 pub returns-clause-text : goal.returns-clause-text
 unfolding externals_lines
-returns-clause-text g c = λ before n text so_far.
+returns-clause-text g c = λ before text so_far.
     simp append_assoc
     (simp append_assoc at
-    (c.add_names.ensures.text before n _
-    (c.push.ensures.text before n _
-    (c.number.ensures.text before n _ (c.add.ensures.text before n text so_far)))))
+    (c.add_names.ensures.text before _
+    (c.push.ensures.text before _
+    (c.number.ensures.text before _ (c.add.ensures.text before text so_far)))))

@@ -4,20 +4,20 @@ use Rattle.listings.proofs.listing.add_function.Goals as goal
 
 pub returns-clause-text : goal.returns-clause-text
 unfolding function_lines
-returns-clause-text g c = λ before n text so_far.
+returns-clause-text g c = λ before text so_far.
     simp append_assoc
     (simp append_assoc at
     (rw c.variables-2.ensures.names at
-    (c.add_names.ensures.text before n _
-    (c.push-2.ensures.text before n _
+    (c.add_names.ensures.text before _
+    (c.push-2.ensures.text before _
     (rw c.address_at.ensures at
-    (c.number-3.ensures.text before n _
-    (c.add-4.ensures.text before n _
+    (c.number-3.ensures.text before _
+    (c.add-4.ensures.text before _
     (rw c.variables.ensures.names at
-    (c.number-2.ensures.text before n _
-    (c.add-3.ensures.text before n _
+    (c.number-2.ensures.text before _
+    (c.add-3.ensures.text before _
     (rw (c.as_bytes.ensures.value, c.name.ensures) at
-    (c.add-2.ensures.text before n _
-    (c.push.ensures.text before n _
-    (c.number.ensures.text before n _
-    (c.add.ensures.text before n text so_far)))))))))))))))
+    (c.add-2.ensures.text before _
+    (c.push.ensures.text before _
+    (c.number.ensures.text before _
+    (c.add.ensures.text before text so_far)))))))))))))))

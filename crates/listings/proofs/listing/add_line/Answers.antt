@@ -4,9 +4,9 @@ use Rattle.listings.proofs.listing.add_line.Goals as goal
 
 pub returns-clause-text : goal.returns-clause-text
 unfolding instr_line
-returns-clause-text g c = λ before n text so_far.
+returns-clause-text g c = λ before text so_far.
     simp append_assoc
     (simp append_assoc at
-    (c.push-2.ensures.text before n _
-    (c.add_instruction.ensures.text before n _
-    (c.push.ensures.text before n _ (c.column.ensures.text before n text so_far)))))
+    (c.push-2.ensures.text before _
+    (c.add_instruction.ensures.text before _
+    (c.push.ensures.text before _ (c.column.ensures.text before text so_far)))))

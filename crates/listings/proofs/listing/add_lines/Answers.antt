@@ -9,9 +9,9 @@ pub loop-at-preserved : goal.loop-at-preserved
 loop-at-preserved g c =
     let blank : Coded = record { opcode = FetchExternal 0 } in (
       c.add_line.ensures.countable,
-      λ before n text so_far.
+      λ before text so_far.
           rw
           (numbered_get (λ n coded. instr_line n (instr_in coded)) text c.args.instrs.now c.loop-at.at blank
           c.loop-at-test.true)
-          (rw c.instr.ensures at (c.add_line.ensures.text before n _ (c.loop-at.invariant.1 before n text so_far))),
+          (rw c.instr.ensures at (c.add_line.ensures.text before _ (c.loop-at.invariant.1 before text so_far))),
     )

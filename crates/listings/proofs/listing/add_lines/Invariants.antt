@@ -7,7 +7,7 @@ use Rattle.listings.proofs.listing.add_lines.Given as goal
 -- those so far are added
 abbrev pub invariant-loop-at : goal.invariant-loop-at
 invariant-loop-at g l =
-    MayFail l.pen (g.S.Sink.failures l.sink)
-    × Adds (g.S.Sink.portions l.fn.sink) (g.S.Sink.failures l.fn.sink) l.fn.pen
-    (g.S.Sink.portions l.sink) (g.S.Sink.failures l.sink) l.pen
+    MayFail l.pen (g.S.Sink.written l.sink)
+    × Adds (g.S.Sink.written l.fn.sink) l.fn.pen
+    (g.S.Sink.written l.sink) l.pen
     (numbered (λ n coded. instr_line n (instr_in coded)) 0 (take l.at l.instrs))

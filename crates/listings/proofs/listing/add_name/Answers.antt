@@ -4,11 +4,11 @@ use Rattle.listings.proofs.listing.add_name.Goals as goal
 
 pub returns-clause-text : goal.returns-clause-text
 unfolding name_line
-returns-clause-text g c = λ before n text so_far.
+returns-clause-text g c = λ before text so_far.
     simp append_assoc
     (simp append_assoc at
-    (c.push-2.ensures.text before n _
+    (c.push-2.ensures.text before _
     (rw c.as_bytes.ensures.value at
-    (c.add-2.ensures.text before n _
-    (c.push.ensures.text before n _
-    (c.number.ensures.text before n _ (c.add.ensures.text before n text so_far)))))))
+    (c.add-2.ensures.text before _
+    (c.push.ensures.text before _
+    (c.number.ensures.text before _ (c.add.ensures.text before text so_far)))))))

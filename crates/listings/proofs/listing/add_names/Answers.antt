@@ -5,9 +5,9 @@ use Rattle.listings.proofs.listing.add_names.Goals as goal
 pub loop-number-preserved : goal.loop-number-preserved
 loop-number-preserved g c = (
   c.add_name.ensures.countable,
-  λ before n text so_far.
+  λ before text so_far.
       rw
       (numbered_then name_line text c.args.names.now c.loop-number.number c.index-names-number.result
       c.loop-number-test.true c.index-names-number.is)
-      (c.add_name.ensures.text before n _ (c.loop-number.invariant.1 before n text so_far)),
+      (c.add_name.ensures.text before _ (c.loop-number.invariant.1 before text so_far)),
 )

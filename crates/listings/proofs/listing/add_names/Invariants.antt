@@ -6,6 +6,6 @@ use Rattle.listings.proofs.listing.add_names.Given as goal
 -- those so far are added
 abbrev pub invariant-loop-number : goal.invariant-loop-number
 invariant-loop-number g l =
-    MayFail l.pen (g.S.Sink.failures l.sink)
-    × Adds (g.S.Sink.portions l.fn.sink) (g.S.Sink.failures l.fn.sink) l.fn.pen
-    (g.S.Sink.portions l.sink) (g.S.Sink.failures l.sink) l.pen (numbered name_line 0 (take l.number l.names))
+    MayFail l.pen (g.S.Sink.written l.sink)
+    × Adds (g.S.Sink.written l.fn.sink) l.fn.pen
+    (g.S.Sink.written l.sink) l.pen (numbered name_line 0 (take l.number l.names))

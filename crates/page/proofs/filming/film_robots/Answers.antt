@@ -1,6 +1,6 @@
 use Rattle.std.proofs.Common.{List, ℕ, map, Bor, ◌≢◌, rules}
 use Rattle.series.specs.Compiling.{Source}
-use Rattle.series.specs.Pieces.{Taken, taken}
+use Rattle.series.specs.Pieces.{Taken, on_both}
 use Rattle.series.specs.Runs.{Compiles}
 use Rattle.settings.specs.Setup.{Setup}
 use Rattle.page.specs.declared.films.Shown.TheVariants.{Faulty}
@@ -17,7 +17,7 @@ returns-in-Ok-None-clause-films c =
     (search rules)
     (by_robots
     (λ (setup : Setup) (sources : List Source) (before : Taken). Compiles setup sources c.compile_feeds.result before
-    (taken (contents_of c.compile_feeds.new.text) (contents_of c.compile_feeds.new.faults)))
+    (on_both (contents_of c.compile_feeds.new.text) (contents_of c.compile_feeds.new.faults)))
     c.args.order.now c.args.robots.now c.in_ok-settings.settings
     (map (λ (word : Bor (List ℕ)). word.now) c.as_slice.result.now) _ c.clear.new.self c.clear-2.new.self
     c.in_ok-settings.ensures.value (rw c.as_slice.ensures.value c.in_ok-words.ensures.names)
@@ -35,7 +35,7 @@ returns-in-Ok-clause-films c =
     c.match-mode.shown some (search rules)
     (by_robots
     (λ (setup : Setup) (sources : List Source) (before : Taken). Compiles setup sources c.compile_feeds.result before
-    (taken (contents_of c.compile_feeds.new.text) (contents_of c.compile_feeds.new.faults)))
+    (on_both (contents_of c.compile_feeds.new.text) (contents_of c.compile_feeds.new.faults)))
     c.args.order.now c.args.robots.now c.in_ok-settings.settings
     (map (λ (word : Bor (List ℕ)). word.now) c.as_slice.result.now) _ c.clear.new.self c.clear-2.new.self
     c.in_ok-settings.ensures.value (rw c.as_slice.ensures.value c.in_ok-words.ensures.names)

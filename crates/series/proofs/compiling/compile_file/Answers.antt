@@ -7,7 +7,7 @@ use Rattle.series.proofs.compiling.compile_file.Goals as goal
 pub finish-requires : goal.finish-requires
 finish-requires g c =
     let f : IsFile (λ p acts. Stands c.new-maker.result p acts) (λ p acts. Stands c.parse.new.build p acts)
-    (g.F.Feed.to_come c.args.feed.now) c.in-Ok.names =
+    (g.F.Feed.device c.args.feed.now).to_come c.in-Ok.names =
     search rules in
     record {
       profile = _;
@@ -50,7 +50,7 @@ returns-in-Ok-take-clause-output g c =
           in
           good_put (g.K.TakesPrograms.mode c.args.keeper.now) c.args.profile c.args.name.now bytes made.file _
           c.finish.result
-          _ _ is made.named code (c.in-Ok-take.ensures.output (g.E.Sink.portions c.args.err.now))
+          _ _ is made.named code (c.in-Ok-take.ensures.output (g.E.Sink.written c.args.err.now))
           );
       status = (
           let made = c.in-Ok.ensures.file in
@@ -89,7 +89,7 @@ returns-in-Err-clause-output g c =
           in
           good_cut (g.K.TakesPrograms.mode c.args.keeper.now) c.args.profile c.args.name.now bytes made.file _
           c.finish.result
-          _ _ is made.named code (c.in-Err.ensures.output (g.E.Sink.portions c.args.err.now))
+          _ _ is made.named code (c.in-Err.ensures.output (g.E.Sink.written c.args.err.now))
           );
       status = tt;
       keeps = tt;

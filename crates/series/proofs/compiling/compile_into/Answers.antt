@@ -1,7 +1,7 @@
 use Rattle.std.proofs.Common.{false, ◌≡◌, ◌+◌, ◌<◌, ◌^◌, ◌-◌, ◌∙◌, sym, subst, ap, List, ℕ, length, map, refl, rules, arith}
 use Rattle.std.proofs.lemmas.List.{length-map}
 use Rattle.std.proofs.lemmas.List.Elements.{All-get_or}
-use Rattle.series.specs.Runs.{AreSources}
+use Rattle.series.specs.Runs.{AreSources, told_by}
 use Rattle.series.proofs.CompilingLemmas.{kept_with, manned_with, pieces_more, pieces_cut, status_more}
 use Rattle.series.proofs.ReadingLemmas.{cut_at, fails_at, reads_first, reads_more, same_length}
 use Rattle.series.proofs.RunsLemmas.{all_of_one, feed_here, told_here, name_here, length_sources, none_failed, read_failed, rest_more, write_failed}
@@ -10,14 +10,19 @@ use Rattle.series.proofs.compiling.compile_into.Goals as goal
 pub returns-in-Err-put-clause-read : goal.returns-in-Err-put-clause-read
 returns-in-Err-put-clause-read g c = record {
   count = c.loop-file.file + 1;
-  reads = reads_first g.F.Feed.to_come c.args.settings.now.profile c.args.feeds.now _ (c.loop-file.file + 1)
+  reads =
+      reads_first (λ feed. (g.F.Feed.device feed).to_come) c.args.settings.now.profile c.args.feeds.now _
+      (c.loop-file.file + 1)
       (rest_more c.args.feeds.now c.loop-file.feeds c.loop-file.file c.compile_file.new.feed c.loop-file.invariant.0)
-      (reads_more g.F.Feed.to_come c.args.settings.now.profile c.args.feeds.now c.loop-file.feeds c.loop-file.file
+      (reads_more (λ feed. (g.F.Feed.device feed).to_come) c.args.settings.now.profile c.args.feeds.now
+      c.loop-file.feeds c.loop-file.file
       c.index-feeds-file.result c.compile_file.new.feed
       (omega arith) c.loop-file.invariant.0 c.loop-file.invariant.5
       (rw c.profile-profile.ensures.value at c.in-Ok.ensures.read));
   puts = λ sources are.
-      let told = told_here g.F.Feed.to_come c.args.feeds.now c.loop-file.feeds sources c.args.settings.now.words
+      let told =
+      told_here (λ feed. (g.F.Feed.device feed).to_come) c.args.feeds.now c.loop-file.feeds sources
+      c.args.settings.now.words
       c.loop-file.file c.index-feeds-file.result are c.requires.ready.files (omega arith) c.loop-file.invariant.0 in
       cut_at c.args.settings.now.mode c.args.settings.now.profile sources c.loop-file.file _ _ _ _
       (c.loop-file.invariant.4 sources are).0 ((rw c.in-Err-put.is at c.in-Ok.ensures.output) _ told).output;
@@ -25,7 +30,8 @@ returns-in-Err-put-clause-read g c = record {
 
 pub returns-in-Err-clause-read : goal.returns-in-Err-clause-read
 returns-in-Err-clause-read g c =
-    fails_at g.F.Feed.to_come c.args.settings.now.profile c.args.feeds.now c.loop-file.feeds c.loop-file.file
+    fails_at (λ feed. (g.F.Feed.device feed).to_come) c.args.settings.now.profile c.args.feeds.now c.loop-file.feeds
+    c.loop-file.file
     c.index-feeds-file.result c.compile_file.new.feed
     (omega arith) c.loop-file.invariant.0 c.loop-file.invariant.5
     (rw c.profile-profile.ensures.value at c.in-Err.ensures.read)
@@ -34,7 +40,8 @@ pub loop-file-preserved : goal.loop-file-preserved
 loop-file-preserved g c = (
   rest_more c.args.feeds.now c.loop-file.feeds c.loop-file.file c.compile_file.new.feed c.loop-file.invariant.0,
   rw (
-    none_failed g.F.Feed.account c.loop-file.feeds c.loop-file.file c.index-feeds-file.result c.compile_file.new.feed
+    none_failed (λ feed. (g.F.Feed.device feed).account) c.loop-file.feeds c.loop-file.file c.index-feeds-file.result
+        c.compile_file.new.feed
         c.in-Ok.ensures.failures.feed,
     (rw c.in-Ok-put.is at c.in-Ok.ensures.failures.sinks).0,
     (rw c.in-Ok-put.is at c.in-Ok.ensures.failures.sinks).1,
@@ -45,14 +52,17 @@ loop-file-preserved g c = (
       (rw c.in-Ok-put.is at c.in-Ok.ensures.keeps.manned) c.loop-file.invariant.3),
   λ sources are.
       let within : c.loop-file.file < length c.args.feeds.now = omega arith in
-      let Named : List (List ℕ) → Type 0 = λ words. AreSources sources words (map g.F.Feed.to_come c.args.feeds.now) in
+      let Named : List (List ℕ) → Type 0 =
+      λ words. AreSources sources words (told_by g.F.Feed.device c.args.feeds.now) in
       let named : Named (map (λ word. word.now) c.words-words.result.now) =
       subst Named (sym c.words-words.ensures.value) are in
       let in_words : c.loop-file.file < length c.words-words.result.now =
       omega (arith, ap length c.words-words.ensures.value, length-map c.words-words.result.now (λ word. word.now)) in
       let in_sources : c.loop-file.file < length sources =
       omega (arith, length_sources sources c.args.settings.now.words _ are) in
-      let told = told_here g.F.Feed.to_come c.args.feeds.now c.loop-file.feeds sources c.args.settings.now.words
+      let told =
+      told_here (λ feed. (g.F.Feed.device feed).to_come) c.args.feeds.now c.loop-file.feeds sources
+      c.args.settings.now.words
       c.loop-file.file c.index-feeds-file.result are c.requires.ready.files within c.loop-file.invariant.0 in (
         pieces_more c.args.settings.now.mode c.args.settings.now.profile sources c.loop-file.file _ _ _ _ in_sources
             (c.loop-file.invariant.4 sources are).0 refl
@@ -74,7 +84,8 @@ loop-file-preserved g c = (
             (rw c.profile-profile.ensures.value at ((rw c.in-Ok-put.is at c.in-Ok.ensures.output) _ told).status)
             (rw c.profile-profile.ensures.value at ((rw c.in-Ok-put.is at c.in-Ok.ensures.output) _ told).keeps)),
       ),
-  reads_more g.F.Feed.to_come c.args.settings.now.profile c.args.feeds.now c.loop-file.feeds c.loop-file.file
+  reads_more (λ feed. (g.F.Feed.device feed).to_come) c.args.settings.now.profile c.args.feeds.now c.loop-file.feeds
+      c.loop-file.file
       c.index-feeds-file.result c.compile_file.new.feed
       (omega arith) c.loop-file.invariant.0 c.loop-file.invariant.5
       (rw c.profile-profile.ensures.value at c.in-Ok.ensures.read),
@@ -84,9 +95,10 @@ loop-file-preserved g c = (
 pub returns-in-Err-clause-failures : goal.returns-in-Err-clause-failures
 returns-in-Err-clause-failures g c =
     let within : c.loop-file.file < length c.args.feeds.now = omega arith in (
-      rw (length-map c.args.feeds.now g.F.Feed.account) within,
+      rw (length-map c.args.feeds.now (λ feed. (g.F.Feed.device feed).account)) within,
       rw (c.in-Err.ensures.output.0, c.in-Err.ensures.output.1)
-          (read_failed g.F.Feed.account c.args.feeds.now c.loop-file.feeds c.loop-file.file _ _ _ _
+          (read_failed (λ feed. (g.F.Feed.device feed).account) c.args.feeds.now c.loop-file.feeds c.loop-file.file _ _
+          _ _
           c.index-feeds-file.result c.compile_file.new.feed
           c.loop-file.invariant.1
           (same_length c.args.feeds.now c.loop-file.feeds c.loop-file.file within c.loop-file.invariant.0)
@@ -95,7 +107,8 @@ returns-in-Err-clause-failures g c =
 
 pub returns-in-Err-put-clause-failures : goal.returns-in-Err-put-clause-failures
 returns-in-Err-put-clause-failures g c =
-    write_failed g.F.Feed.account c.args.feeds.now c.loop-file.feeds c.loop-file.file _ _ _ _ _ _
+    write_failed (λ feed. (g.F.Feed.device feed).account) c.args.feeds.now c.loop-file.feeds c.loop-file.file _ _ _ _ _
+    _
     c.index-feeds-file.result c.compile_file.new.feed
     c.loop-file.invariant.1 c.in-Ok.ensures.failures.feed (rw c.in-Err-put.is at c.in-Ok.ensures.failures.sinks)
 
@@ -105,7 +118,7 @@ returns-in-Err-put-clause-output g c =
       output = (
           let within : c.loop-file.file < length c.args.feeds.now = omega arith in
           let Named : List (List ℕ) → Type 0 =
-          λ words. AreSources sources words (map g.F.Feed.to_come c.args.feeds.now) in
+          λ words. AreSources sources words (told_by g.F.Feed.device c.args.feeds.now) in
           let named : Named (map (λ word. word.now) c.words-words.result.now) =
           subst Named (sym c.words-words.ensures.value) are in
           let in_words : c.loop-file.file < length c.words-words.result.now =
@@ -113,7 +126,9 @@ returns-in-Err-put-clause-output g c =
           in
           let in_sources : c.loop-file.file < length sources =
           omega (arith, length_sources sources c.args.settings.now.words _ are) in
-          let told = told_here g.F.Feed.to_come c.args.feeds.now c.loop-file.feeds sources c.args.settings.now.words
+          let told =
+          told_here (λ feed. (g.F.Feed.device feed).to_come) c.args.feeds.now c.loop-file.feeds sources
+          c.args.settings.now.words
           c.loop-file.file c.index-feeds-file.result are c.requires.ready.files within c.loop-file.invariant.0 in
           pieces_cut c.args.settings.now.mode c.args.settings.now.profile sources c.loop-file.file _ _ _ _ in_sources
           (c.loop-file.invariant.4 sources are).0 refl
@@ -136,20 +151,21 @@ pub compile_file-requires-clause-ready : goal.compile_file-requires-clause-ready
 compile_file-requires-clause-ready g c =
     record {
       files = refl;
-      feeds = all_of_one (λ feed. (g.F.Feed.account feed).failures < 2 ^ 64 - 1) _ (
+      feeds = all_of_one (λ feed. (g.F.Feed.device feed).account.failures < 2 ^ 64 - 1) _ (
           let within : c.loop-file.file < length c.args.feeds.now = omega arith in
           rw
           (feed_here c.args.feeds.now c.loop-file.feeds c.loop-file.file c.index-feeds-file.result
           c.loop-file.invariant.0)
-          (All-get_or (λ feed. (g.F.Feed.account feed).failures < 2 ^ 64 - 1) c.args.feeds.now c.loop-file.file
+          (All-get_or (λ feed. (g.F.Feed.device feed).account.failures < 2 ^ 64 - 1) c.args.feeds.now c.loop-file.file
           c.index-feeds-file.result within c.requires.ready.feeds)
           );
-      not_ended = all_of_one (λ feed. g.F.Feed.ended feed ≡ false) _ (
+      not_ended = all_of_one (λ feed. (g.F.Feed.device feed).ended ≡ false) _ (
           let within : c.loop-file.file < length c.args.feeds.now = omega arith in
           rw
           (feed_here c.args.feeds.now c.loop-file.feeds c.loop-file.file c.index-feeds-file.result
           c.loop-file.invariant.0)
-          (All-get_or (λ feed. g.F.Feed.ended feed ≡ false) c.args.feeds.now c.loop-file.file c.index-feeds-file.result
+          (All-get_or (λ feed. (g.F.Feed.device feed).ended ≡ false) c.args.feeds.now c.loop-file.file
+          c.index-feeds-file.result
           within c.requires.ready.not_ended)
           );
       text = search rules;

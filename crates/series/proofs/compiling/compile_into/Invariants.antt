@@ -6,7 +6,7 @@ use Rattle.series.specs.Failures.{failures}
 use Rattle.series.specs.Pieces.{taken, Writes}
 use Rattle.series.specs.Reading.{TakesOfFirst}
 use Rattle.series.specs.Keeping.{kept_by}
-use Rattle.series.specs.Runs.{AreSources}
+use Rattle.series.specs.Runs.{AreSources, told_by}
 use Rattle.series.proofs.CompilingLemmas.{IsManned}
 use Rattle.series.proofs.compiling.compile_into.Given as goal
 
@@ -16,18 +16,18 @@ use Rattle.series.proofs.compiling.compile_into.Given as goal
 abbrev pub invariant-loop-file : goal.invariant-loop-file
 invariant-loop-file g l =
     (drop l.file l.feeds ≡ drop l.file l.fn.feeds)
-    × (failures (map g.F.Feed.account l.feeds) (g.O.Sink.failures l.out) (g.E.Sink.failures l.err)
-    ≡ failures (map g.F.Feed.account l.fn.feeds) (g.O.Sink.failures l.fn.out) (g.E.Sink.failures l.fn.err))
+    × (failures g.F.Feed.device l.feeds (g.O.Sink.written l.out) (g.E.Sink.written l.err)
+    ≡ failures g.F.Feed.device l.fn.feeds (g.O.Sink.written l.fn.out) (g.E.Sink.written l.fn.err))
     × (g.K.TakesPrograms.mode l.keeper ≡ l.settings.mode)
     × IfSome (g.K.TakesPrograms.kept l.keeper) (λ kept. IsManned l.status l.file kept)
-    × ((sources : List Source) → AreSources sources l.settings.words (map g.F.Feed.to_come l.fn.feeds)
+    × ((sources : List Source) → AreSources sources l.settings.words (told_by g.F.Feed.device l.fn.feeds)
     →
-    Writes (taken (g.O.Sink.portions l.fn.out) (g.E.Sink.portions l.fn.err))
-    (taken (g.O.Sink.portions l.out) (g.E.Sink.portions l.err))
+    Writes (taken (g.O.Sink.written l.fn.out) (g.E.Sink.written l.fn.err))
+    (taken (g.O.Sink.written l.out) (g.E.Sink.written l.err))
     (compiling l.settings.mode l.settings.profile (take l.file sources))
     × (l.status ≡ status_of (files_of l.settings.profile (take l.file sources)))
     ×
     IfSome (g.K.TakesPrograms.kept l.keeper)
     (λ kept. kept_by l.status kept ≡ codes_of l.settings.profile (take l.file sources)))
-    × TakesOfFirst l.settings.profile (map g.F.Feed.to_come l.fn.feeds) (map g.F.Feed.to_come l.feeds) l.file
+    × TakesOfFirst l.settings.profile (told_by g.F.Feed.device l.fn.feeds) (told_by g.F.Feed.device l.feeds) l.file
     × IfSome (g.K.TakesPrograms.kept l.keeper) (λ kept. AreOfProfile l.settings.profile kept)

@@ -17,12 +17,12 @@ loop-robot-preserved g c =
     let within : c.loop-robot.robot < length (robot_lines names c.args.outcome.now) =
     omega (arith, length_robot_lines names c.args.outcome.now) in (
       c.add_robot.ensures.countable,
-      λ before n text so_far.
+      λ before text so_far.
           rw (
             lines_text_then text (robot_lines names c.args.outcome.now) c.loop-robot.robot within,
             robot_line_at names c.args.outcome.now c.loop-robot.robot c.robot_name.result.now here c.robot_name.ensures,
           )
-          (c.add_robot.ensures.text before n _ (c.loop-robot.invariant.1 before n text so_far)),
+          (c.add_robot.ensures.text before _ (c.loop-robot.invariant.1 before text so_far)),
     )
 
 pub returns : goal.returns

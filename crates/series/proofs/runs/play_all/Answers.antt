@@ -16,7 +16,7 @@ loop-preserved g c =
       standing = rw (standing, step) at c.in_default.ensures.after;
       calm = (rw standing at c.in_default.ensures.fails) ∙ c.loop.invariant.calm;
       writes = λ files faults are.
-          report_written settings files c.loop.counter (settings.first + c.loop.counter) _ _ _ faults refl
+          report_written settings files c.loop.counter (settings.first + c.loop.counter) _ _ _ faults.portions refl
           (c.loop.invariant.writes files faults are)
           (rw (next_report settings files c.loop.counter left) at
           ((rw standing at c.in_default.ensures.text) refl files are)).0;
@@ -26,7 +26,7 @@ pub returns-in-Err-Write-clause-output : goal.returns-in-Err-Write-clause-output
 returns-in-Err-Write-clause-output g c = λ files faults are.
     let settings : Setup = c.args.settings.now in
     let left : c.loop.counter < settings.matches = omega (arith, c.matches-end.ensures.value) in
-    report_cut settings files c.loop.counter (settings.first + c.loop.counter) _ _ _ faults refl left
+    report_cut settings files c.loop.counter (settings.first + c.loop.counter) _ _ _ faults.portions refl left
     (c.loop.invariant.writes files faults are)
     (rw (next_report settings files c.loop.counter left) at
     ((rw c.loop.invariant.standing at c.in-Err-Write.ensures.text) refl files are)).0
@@ -35,12 +35,12 @@ pub returns-in-Ok-clause-output : goal.returns-in-Ok-clause-output
 returns-in-Ok-clause-output g c = λ files faults are.
     let settings : Setup = c.args.settings.now in
     let all : c.loop.counter ≡ settings.matches = omega (arith, c.matches-end.ensures.value, c.loop.auto.counter-end) in
-    totals_written settings files _ _ _ faults (rw all at (c.loop.invariant.writes files faults are))
+    totals_written settings files _ _ _ faults.portions (rw all at (c.loop.invariant.writes files faults are))
     ((rw c.loop.invariant.standing at c.in-Ok.ensures.text) refl files are).0
 
 pub returns-in-Err-Write-finish-clause-output : goal.returns-in-Err-Write-finish-clause-output
 returns-in-Err-Write-finish-clause-output g c = λ files faults are.
     let settings : Setup = c.args.settings.now in
     let all : c.loop.counter ≡ settings.matches = omega (arith, c.matches-end.ensures.value, c.loop.auto.counter-end) in
-    totals_cut settings files _ _ _ faults (rw all at (c.loop.invariant.writes files faults are))
+    totals_cut settings files _ _ _ faults.portions (rw all at (c.loop.invariant.writes files faults are))
     ((rw c.loop.invariant.standing at c.in-Err-Write-finish.ensures.text) refl files are).0

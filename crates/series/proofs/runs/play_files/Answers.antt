@@ -3,6 +3,7 @@ use Rattle.series.specs.Pieces.{taken}
 use Rattle.series.specs.Playing.{playing}
 use Rattle.series.proofs.OutputLemmas.{kept_codes, plays_run, stops_run}
 use Rattle.series.proofs.ReadingLemmas.{cut_behind, reads_played}
+use Rattle.series.specs.Runs.{told_by}
 use Rattle.series.proofs.runs.play_files.Goals as goal
 
 pub play_all-requires-clause-manned : goal.play_all-requires-clause-manned
@@ -16,7 +17,8 @@ returns-in-Ok-Done-clause-output g c = λ sources are.
     kept_codes c.resolved_files.ensures c.args.settings.now.profile sources c.compile_into.new.keeper.programs codes
     in
     plays_run c.args.settings.now sources kept.0 _ _ _ c.play_all.result c.requires.matches
-    kept.1 compiles.0 (c.play_all.ensures.output kept.0 _ kept.2) c.play_all.ensures.answer
+    kept.1 compiles.0 (c.play_all.ensures.output kept.0 (g.E.Sink.written c.compile_into.new.err) kept.2)
+    c.play_all.ensures.answer
 
 pub returns-in-Err-clause-output : goal.returns-in-Err-clause-output
 returns-in-Err-clause-output g c =
@@ -25,11 +27,11 @@ returns-in-Err-clause-output g c =
 pub returns-in-Ok-Done-clause-read : goal.returns-in-Ok-Done-clause-read
 returns-in-Ok-Done-clause-read g c =
     let setup = c.args.settings.now in
-    let told = map g.F.Feed.to_come c.args.feeds.now in
-    let before = taken (g.O.Sink.portions c.args.out.now) (g.E.Sink.portions c.args.err.now) in
-    let compiled = taken (g.O.Sink.portions c.compile_into.new.out) (g.E.Sink.portions c.compile_into.new.err) in
-    let after = taken (g.O.Sink.portions c.play_all.new.out) (g.E.Sink.portions c.compile_into.new.err) in
-    reads_played setup c.play_all.result told (map g.F.Feed.to_come c.compile_into.new.feeds) before after
+    let told = told_by g.F.Feed.device c.args.feeds.now in
+    let before = taken (g.O.Sink.written c.args.out.now) (g.E.Sink.written c.args.err.now) in
+    let compiled = taken (g.O.Sink.written c.compile_into.new.out) (g.E.Sink.written c.compile_into.new.err) in
+    let after = taken (g.O.Sink.written c.play_all.new.out) (g.E.Sink.written c.compile_into.new.err) in
+    reads_played setup c.play_all.result told (told_by g.F.Feed.device c.compile_into.new.feeds) before after
     c.in-Ok-Done.ensures.read c.play_all.ensures.answer
     (λ failed sources are.
     let compiles = rw c.in-Ok-Done.field-0-is at (c.in-Ok-Done.ensures.output sources are).output in
@@ -37,4 +39,4 @@ returns-in-Ok-Done-clause-read g c =
     let kept = kept_codes c.resolved_files.ensures setup.profile sources c.compile_into.new.keeper.programs codes in
     cut_behind setup.mode setup.profile sources (length told - 1) before compiled after (playing setup kept.0)
     compiles.0
-    (rw failed at (c.play_all.ensures.output kept.0 (g.E.Sink.portions c.compile_into.new.err) kept.2)))
+    (rw failed at (c.play_all.ensures.output kept.0 (g.E.Sink.written c.compile_into.new.err) kept.2)))

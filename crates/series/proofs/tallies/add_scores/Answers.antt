@@ -30,12 +30,12 @@ loop-robot-preserved g c =
     let within : c.loop-robot.robot < length (score_lines names scores) =
     omega (arith, length_score_lines names scores) in (
       c.add_score.ensures.countable,
-      λ before n text so_far.
+      λ before text so_far.
           rw (
             lines_text_then text (score_lines names scores) c.loop-robot.robot within,
             score_line_at names scores c.loop-robot.robot c.robot_name.result.now there c.robot_name.ensures,
           )
-          (rw score at (c.add_score.ensures.text before n _ (c.loop-robot.invariant.1 before n text so_far))),
+          (rw score at (c.add_score.ensures.text before _ (c.loop-robot.invariant.1 before text so_far))),
     )
 
 pub returns : goal.returns

@@ -6,7 +6,7 @@ use Rattle.tools.proofs.compiling.compile.Goals as goal
 pub finish-program-requires : goal.finish-program-requires
 finish-program-requires g c =
     let f : IsFile (λ p acts. Stands c.new-maker.result p acts) (λ p acts. Stands c.parse.new.build p acts)
-    (g.F.Feed.to_come c.args.feed.now) c.in-Ok.names =
+    (g.F.Feed.device c.args.feed.now).to_come c.in-Ok.names =
     search rules in
     record {
       profile = _;

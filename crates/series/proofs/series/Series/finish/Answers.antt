@@ -12,8 +12,10 @@ pub returns-in-Ok-clause-text : goal.returns-in-Ok-clause-text
 returns-in-Ok-clause-text g c = λ going.
     let Text : Standing → Type 0 =
     λ s. s.played ≡ s.setup.matches → (files : List File) → AreCodesOf s.codes s.setup.profile files
-    → Takes (g.S.Sink.portions c.args.out.now) (g.S.Sink.portions c.put_totals.new.sink) (totals_text s.setup files)
-    × (g.S.Sink.failures c.put_totals.new.sink ≡ g.S.Sink.failures c.args.out.now) in
+    →
+    Takes (g.S.Sink.written c.args.out.now).portions (g.S.Sink.written c.put_totals.new.sink).portions
+    (totals_text s.setup files)
+    × ((g.S.Sink.written c.put_totals.new.sink).failures ≡ (g.S.Sink.written c.args.out.now).failures) in
     let within = c.words.ensures.within in
     subst Text c.self.view_is (λ all files are.
     rw (← (totals_are c.self.inside.settings.now files c.self.inside.tally
@@ -26,9 +28,9 @@ pub returns-in-Err-clause-text : goal.returns-in-Err-clause-text
 returns-in-Err-clause-text g c = λ going.
     let Text : Standing → Type 0 =
     λ s. s.played ≡ s.setup.matches → (files : List File) → AreCodesOf s.codes s.setup.profile files
-    → TakesFront (g.S.Sink.portions c.args.out.now) (g.S.Sink.portions c.put_totals.new.sink)
+    → TakesFront (g.S.Sink.written c.args.out.now).portions (g.S.Sink.written c.put_totals.new.sink).portions
     (totals_text s.setup files)
-    × (g.S.Sink.failures c.put_totals.new.sink ≡ g.S.Sink.failures c.args.out.now + 1) in
+    × ((g.S.Sink.written c.put_totals.new.sink).failures ≡ (g.S.Sink.written c.args.out.now).failures + 1) in
     let within = c.words.ensures.within in
     subst Text c.self.view_is (λ all files are.
     rw (← (totals_are c.self.inside.settings.now files c.self.inside.tally

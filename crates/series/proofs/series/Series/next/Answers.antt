@@ -41,9 +41,9 @@ pub returns-in-Ok-clause-text : goal.returns-in-Ok-clause-text
 returns-in-Ok-clause-text g c = λ going.
     let Text : Standing → Type 0 = λ s. (files : List File) → AreCodesOf s.codes s.setup.profile files
     →
-    Takes (g.S.Sink.portions c.args.out.now) (g.S.Sink.portions c.put_report.new.sink)
+    Takes (g.S.Sink.written c.args.out.now).portions (g.S.Sink.written c.put_report.new.sink).portions
     (next_text s.setup files s.played)
-    × (g.S.Sink.failures c.put_report.new.sink ≡ g.S.Sink.failures c.args.out.now) in
+    × ((g.S.Sink.written c.put_report.new.sink).failures ≡ (g.S.Sink.written c.args.out.now).failures) in
     let setup : Setup = c.self.inside.settings.now in
     let number : ℕ = c.first.result + c.matches.result in
     let left : c.self.inside.tally.matches < setup.matches =
@@ -65,9 +65,9 @@ pub returns-in-Err-clause-text : goal.returns-in-Err-clause-text
 returns-in-Err-clause-text g c = λ going.
     let Text : Standing → Type 0 = λ s. (files : List File) → AreCodesOf s.codes s.setup.profile files
     →
-    TakesFront (g.S.Sink.portions c.args.out.now) (g.S.Sink.portions c.put_report.new.sink)
+    TakesFront (g.S.Sink.written c.args.out.now).portions (g.S.Sink.written c.put_report.new.sink).portions
     (next_text s.setup files s.played)
-    × (g.S.Sink.failures c.put_report.new.sink ≡ g.S.Sink.failures c.args.out.now + 1) in
+    × ((g.S.Sink.written c.put_report.new.sink).failures ≡ (g.S.Sink.written c.args.out.now).failures + 1) in
     let setup : Setup = c.self.inside.settings.now in
     let number : ℕ = c.first.result + c.matches.result in
     let left : c.self.inside.tally.matches < setup.matches =

@@ -5,7 +5,7 @@ use Rattle.sinks.proofs.pen.Pen.add.Goals as goal
 use Rattle.sinks.proofs.pen.Pen.add.Goals.{then-bytes-remaining_capacity, else-bytes-remaining_capacity}
 
 pub returns-else-not-self-clause-text : goal.returns-else-not-self-clause-text
-returns-else-not-self-clause-text g c = λ before n text so_far.
+returns-else-not-self-clause-text g c = λ before text so_far.
     let failed : c.if-bytes-remaining_capacity.self.failed ≡ true =
     sym (ap (λ p. p.failed) c.self-else-bytes-gt-PAGE.view_is) ∙ c.if-not-self.false in
     elim c.if-bytes-remaining_capacity.branch [
@@ -18,7 +18,7 @@ returns-else-not-self-clause-text g c = λ before n text so_far.
             ap (λ p. length p.page) c.self.view_is,
           ) in
           nothing_more c.if-bytes-remaining_capacity.self text c.args.bytes.now
-          (rw (w.self-is, w.sink-is) (w.turn.ensures.text before n text so_far.puts)) failed
+          (rw (w.self-is, w.sink-is) (w.turn.ensures.text before text so_far.puts)) failed
           (too_long c.args.self.now text c.args.bytes.now so_far long)
       | else-bytes-remaining_capacity w ↦
           nothing_more c.if-bytes-remaining_capacity.self text c.args.bytes.now

@@ -5,7 +5,7 @@ use Rattle.sinks.proofs.pen.Pen.push.Goals as goal
 use Rattle.sinks.proofs.pen.Pen.push.Goals.{then-remaining_capacity-eq0, else-remaining_capacity-eq0}
 
 pub returns-else-not-self-clause-text : goal.returns-else-not-self-clause-text
-returns-else-not-self-clause-text g c = λ before n text so_far.
+returns-else-not-self-clause-text g c = λ before text so_far.
     let failed : c.if-remaining_capacity-eq0.self.failed ≡ true =
     sym (ap (λ p. p.failed) c.self-2.view_is) ∙ c.if-not-self.false in
     elim c.if-remaining_capacity-eq0.branch [
@@ -18,7 +18,7 @@ returns-else-not-self-clause-text g c = λ before n text so_far.
             ap (λ p. length p.page) c.self.view_is,
           ) in
           nothing_more c.if-remaining_capacity-eq0.self text (c.args.byte ∷ [])
-          (rw (w.self-is, w.sink-is) (w.turn.ensures.text before n text so_far.puts)) failed
+          (rw (w.self-is, w.sink-is) (w.turn.ensures.text before text so_far.puts)) failed
           (too_long c.args.self.now text (c.args.byte ∷ []) so_far long)
       | else-remaining_capacity-eq0 w ↦
           nothing_more c.if-remaining_capacity-eq0.self text (c.args.byte ∷ [])

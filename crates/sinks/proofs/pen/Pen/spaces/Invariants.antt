@@ -5,6 +5,5 @@ use Rattle.sinks.proofs.pen.Pen.spaces.Given as goal
 -- so many spaces are added
 abbrev pub invariant-loop : goal.invariant-loop
 invariant-loop g l =
-    MayFail l.self (g.S.Sink.failures l.sink)
-    × Adds (g.S.Sink.portions l.fn.sink) (g.S.Sink.failures l.fn.sink) l.fn.self
-    (g.S.Sink.portions l.sink) (g.S.Sink.failures l.sink) l.self (replicate l.counter 32)
+    MayFail l.self (g.S.Sink.written l.sink)
+    × Adds (g.S.Sink.written l.fn.sink) l.fn.self (g.S.Sink.written l.sink) l.self (replicate l.counter 32)

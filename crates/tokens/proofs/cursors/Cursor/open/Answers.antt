@@ -13,13 +13,13 @@ returns-clause-opens g c =
     let next = c.read.new.here in
     let first =
     c.in_ok-read.ensures.tokens ∙
-    ap (λ h. to_read located_tokens h (g.F.Feed.to_come c.args.feed.now)) c.new-lexer.ensures ∙
-    shown-opened (g.F.Feed.to_come c.args.feed.now) in
+    ap (λ h. to_read located_tokens h (g.F.Feed.device c.args.feed.now).to_come) c.new-lexer.ensures ∙
+    shown-opened (g.F.Feed.device c.args.feed.now).to_come in
     let tells =
     elim c.if-not-is_last.branch as
     (λ w.
     shown (record { next = next; after = c.if-not-is_last.after; behind = c.if-not-is_last.lexer.window })
-    (g.F.Feed.to_come c.if-not-is_last.feed) ≡ option_map tokens (g.F.Feed.to_come c.args.feed.now)) [
+    (g.F.Feed.device c.if-not-is_last.feed).to_come ≡ option_map tokens (g.F.Feed.device c.args.feed.now).to_come) [
       | else-not-is_last w ↦ rw (w.feed-is, w.lexer-is, w.after-is)
           (shown-last next next _ _ (sym w.if-not-is_last.ensures) ∙ first)
       | then-not-is_last+in_ok-read-2 w ↦ rw (w.feed-is, w.lexer-is, w.after-is)

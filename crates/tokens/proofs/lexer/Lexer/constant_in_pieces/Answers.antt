@@ -14,7 +14,7 @@ loop-b-preserved g c =
     let value : c.min-value.result ≡ min (10 * c.loop-b.value + (c.in-Some.b - 48)) 2147483648 =
     c.min-value.ensures ∙ ap (λ d. min (10 * c.loop-b.value + d) 2147483648) c.from.ensures in
     record {
-      tokens = ap (λ v. to_read (in_constant v) c.pass.new.self (g.F.Feed.to_come c.peek.new.feed)) value
+      tokens = ap (λ v. to_read (in_constant v) c.pass.new.self (g.F.Feed.device c.peek.new.feed).to_come) value
           ∙
           to_read-pass _ now _ _ _ _ c.in-Some.b c.pass.ensures.value seen.next.first c.in-Some.is
           (constant-takes c.loop-b.value c.in-Some.b (sym c.if-is_digit.ensures))
@@ -38,7 +38,9 @@ returns-in_default-clause-tokens g c =
     run-stops is_digit (constant_going_on c.loop-b.value) c.ending.result c.constant_token.result _ _ _ seen.next.ready
     seen.next.first stops (λ _. c.ending.ensures) c.constant_token.ensures.token
     ∙ to_read-seen now _ _ _ _ seen.seen ∙ c.loop-b.invariant.tokens
-    ∙ ap (λ v. to_read (in_constant v) c.args.self.now.window (g.F.Feed.to_come c.args.feed.now)) c.from-value.ensures
+    ∙
+    ap (λ v. to_read (in_constant v) c.args.self.now.window (g.F.Feed.device c.args.feed.now).to_come)
+    c.from-value.ensures
 
 pub returns-in_err-b-clause-stopped : goal.returns-in_err-b-clause-stopped
 returns-in_err-b-clause-stopped g c =
@@ -46,7 +48,8 @@ returns-in_err-b-clause-stopped g c =
     let now = in_constant c.loop-b.value in
     let chain =
     c.loop-b.invariant.tokens ∙
-    ap (λ v. to_read (in_constant v) c.args.self.now.window (g.F.Feed.to_come c.args.feed.now)) c.from-value.ensures
+    ap (λ v. to_read (in_constant v) c.args.self.now.window (g.F.Feed.device c.args.feed.now).to_come)
+    c.from-value.ensures
     in
     on_err-from c.from_residual.result (record {
       within = stops-from now (in_constant (c.args.first - 48)) _ _ c.peek.new.self _ _ chain

@@ -5,15 +5,15 @@ use Rattle.tokens.proofs.lexer.Lexer.constant_in_pieces.Given as goal
 
 abbrev pub invariant-loop-b : goal.invariant-loop-b
 invariant-loop-b g l = record {
-  tokens : to_read (in_constant l.value) l.self.window (g.F.Feed.to_come l.feed) ≡
-      to_read (in_constant l.initial.value) l.initial.self.window (g.F.Feed.to_come l.initial.feed);
+  tokens : to_read (in_constant l.value) l.self.window (g.F.Feed.device l.feed).to_come ≡
+      to_read (in_constant l.initial.value) l.initial.self.window (g.F.Feed.device l.initial.feed).to_come;
   bounded : l.value ≤ 2147483648;
-  took : TakesBytes l.initial.self.window.taken l.self.window.taken (g.F.Feed.to_come l.initial.feed)
-      (g.F.Feed.to_come l.feed);
+  took : TakesBytes l.initial.self.window.taken l.self.window.taken (g.F.Feed.device l.initial.feed).to_come
+      (g.F.Feed.device l.feed).to_come;
   forward : l.initial.self.window.place ≤ l.self.window.place;
-  count : g.F.Feed.account l.feed ≡ g.F.Feed.account l.initial.feed;
+  count : (g.F.Feed.device l.feed).account ≡ (g.F.Feed.device l.initial.feed).account;
   here : l.here ≡ l.initial.here;
-  known : KnowsEnd l.self.window.beyond (g.F.Feed.ended l.feed);
+  known : KnowsEnd l.self.window.beyond (g.F.Feed.device l.feed).ended;
 }
 
 abbrev pub decreases-loop-b : goal.decreases-loop-b

@@ -8,7 +8,7 @@ use Rattle.tokens.proofs.lexer.Lexer.name.Goals as goal
 pub returns-in-Some-clause-tokens : goal.returns-in-Some-clause-tokens
 returns-in-Some-clause-tokens g c =
     let here = c.args.self.now.window in
-    let told = g.F.Feed.to_come c.args.feed.now in
+    let told = (g.F.Feed.device c.args.feed.now).to_come in
     let name = c.of_byte.result in
     let stops : StopsAt is_name_byte c.first.result =
     subst (StopsAt is_name_byte) (sym c.in-Some.is) (sym c.if-not-is_name_byte.ensures) in

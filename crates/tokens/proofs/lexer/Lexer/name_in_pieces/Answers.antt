@@ -15,8 +15,8 @@ loop-b-preserved g c =
     let step =
     elim c.if-is_full.branch as
     (λ w.
-    to_read (in_name c.if-is_full.name c.if-is_full.too_long) c.pass.new.self (g.F.Feed.to_come c.peek.new.feed)
-    ≡ to_read now c.peek.new.self (g.F.Feed.to_come c.peek.new.feed)) [
+    to_read (in_name c.if-is_full.name c.if-is_full.too_long) c.pass.new.self (g.F.Feed.device c.peek.new.feed).to_come
+    ≡ to_read now c.peek.new.self (g.F.Feed.device c.peek.new.feed).to_come) [
       | then-is_full w ↦ rw (w.name-is, w.too_long-is)
           (to_read-pass _ now _ _ _ _ c.in-Some.b c.pass.ensures.value seen.next.first c.in-Some.is
           (name-overflows c.loop-b.name c.loop-b.too_long c.in-Some.b (w.if-is_full.ensures.0 refl) passes))
@@ -47,7 +47,7 @@ returns-in_default-clause-tokens g c =
     (λ _. c.end_name.ensures.value) refl
     ∙ to_read-seen now _ _ _ _ seen.seen ∙ c.loop-b.invariant.tokens
     ∙
-    ap (λ name. to_read (in_name name false) c.args.self.now.window (g.F.Feed.to_come c.args.feed.now))
+    ap (λ name. to_read (in_name name false) c.args.self.now.window (g.F.Feed.device c.args.feed.now).to_come)
     (c.push.ensures ∙ ap (λ name. name ++ c.args.first ∷ []) c.new-name.ensures)
 
 pub returns-in_err-b-clause-stopped : goal.returns-in_err-b-clause-stopped
@@ -57,7 +57,7 @@ returns-in_err-b-clause-stopped g c =
     let begun = c.push.ensures ∙ ap (λ name. name ++ c.args.first ∷ []) c.new-name.ensures in
     let chain =
     c.loop-b.invariant.tokens ∙
-    ap (λ name. to_read (in_name name false) c.args.self.now.window (g.F.Feed.to_come c.args.feed.now)) begun in
+    ap (λ name. to_read (in_name name false) c.args.self.now.window (g.F.Feed.device c.args.feed.now).to_come) begun in
     on_err-from c.from_residual.result (record {
       within = stops-from now (in_name (c.args.first ∷ []) false) _ _ c.peek.new.self _ _ chain
           (stops now

@@ -5,14 +5,14 @@ use Rattle.tokens.proofs.lexer.Lexer.punctuator.Given as goal
 
 abbrev pub invariant-loop-next : goal.invariant-loop-next
 invariant-loop-next g l = record {
-  tokens : to_read (in_punctuator l.punctuator) l.self.window (g.F.Feed.to_come l.feed) ≡
-      to_read (in_punctuator l.initial.punctuator) l.initial.self.window (g.F.Feed.to_come l.initial.feed);
-  took : TakesBytes l.initial.self.window.taken l.self.window.taken (g.F.Feed.to_come l.initial.feed)
-      (g.F.Feed.to_come l.feed);
+  tokens : to_read (in_punctuator l.punctuator) l.self.window (g.F.Feed.device l.feed).to_come ≡
+      to_read (in_punctuator l.initial.punctuator) l.initial.self.window (g.F.Feed.device l.initial.feed).to_come;
+  took : TakesBytes l.initial.self.window.taken l.self.window.taken (g.F.Feed.device l.initial.feed).to_come
+      (g.F.Feed.device l.feed).to_come;
   forward : l.initial.self.window.place ≤ l.self.window.place;
-  count : g.F.Feed.account l.feed ≡ g.F.Feed.account l.initial.feed;
+  count : (g.F.Feed.device l.feed).account ≡ (g.F.Feed.device l.initial.feed).account;
   here : l.here ≡ l.initial.here;
-  known : KnowsEnd l.self.window.beyond (g.F.Feed.ended l.feed);
+  known : KnowsEnd l.self.window.beyond (g.F.Feed.device l.feed).ended;
 }
 
 abbrev pub decreases-loop-next : goal.decreases-loop-next

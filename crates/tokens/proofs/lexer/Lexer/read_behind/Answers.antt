@@ -9,14 +9,16 @@ use Rattle.tokens.proofs.lexer.Lexer.read_behind.Goals as goal
 pub returns-in-Some-clause-tokens : goal.returns-in-Some-clause-tokens
 returns-in-Some-clause-tokens g c =
     let passes =
-    to_read-pass located_tokens located_tokens _ _ (g.F.Feed.to_come c.args.feed.now) (Some c.args.blank) c.args.blank
+    to_read-pass located_tokens located_tokens _ _ (g.F.Feed.device c.args.feed.now).to_come (Some c.args.blank)
+    c.args.blank
     c.pass.ensures.value (sym c.requires.begins.first) refl (blank-skipped c.args.blank c.requires.begins.blank) in
     on_ok_weaker c.token.result (λ h. h ∙ passes) c.token.ensures.tokens
 
 pub returns-in-Some-clause-stopped : goal.returns-in-Some-clause-stopped
 returns-in-Some-clause-stopped g c =
     let passes =
-    to_read-pass located_tokens located_tokens _ _ (g.F.Feed.to_come c.args.feed.now) (Some c.args.blank) c.args.blank
+    to_read-pass located_tokens located_tokens _ _ (g.F.Feed.device c.args.feed.now).to_come (Some c.args.blank)
+    c.args.blank
     c.pass.ensures.value (sym c.requires.begins.first) refl (blank-skipped c.args.blank c.requires.begins.blank) in
     on_err_weaker c.token.result (fails-from located_tokens located_tokens _ _ c.token.new.self.window _ _ passes refl)
     c.token.ensures.stopped
@@ -24,14 +26,16 @@ returns-in-Some-clause-stopped g c =
 pub returns-in_default-clause-tokens : goal.returns-in_default-clause-tokens
 returns-in_default-clause-tokens g c =
     let passes =
-    to_read-pass located_tokens located_tokens _ _ (g.F.Feed.to_come c.args.feed.now) (Some c.args.blank) c.args.blank
+    to_read-pass located_tokens located_tokens _ _ (g.F.Feed.device c.args.feed.now).to_come (Some c.args.blank)
+    c.args.blank
     c.pass.ensures.value (sym c.requires.begins.first) refl (blank-skipped c.args.blank c.requires.begins.blank) in
     on_ok_weaker c.read_on.result (λ h. h ∙ passes) c.read_on.ensures.tokens
 
 pub returns-in_default-clause-stopped : goal.returns-in_default-clause-stopped
 returns-in_default-clause-stopped g c =
     let passes =
-    to_read-pass located_tokens located_tokens _ _ (g.F.Feed.to_come c.args.feed.now) (Some c.args.blank) c.args.blank
+    to_read-pass located_tokens located_tokens _ _ (g.F.Feed.device c.args.feed.now).to_come (Some c.args.blank)
+    c.args.blank
     c.pass.ensures.value (sym c.requires.begins.first) refl (blank-skipped c.args.blank c.requires.begins.blank) in
     on_err_weaker c.read_on.result
     (fails-from located_tokens located_tokens _ _ c.read_on.new.self.window _ _ passes refl)

@@ -43,7 +43,7 @@ loop-self-preserved g c =
           ∙
           ap
           (λ found. to_read (after_slash found c.slash.new.here) c.slash.new.self.window
-          (g.F.Feed.to_come c.slash.new.feed)) (sym c.if-branch.false)
+          (g.F.Feed.device c.slash.new.feed).to_come) (sym c.if-branch.false)
           ∙ slash.past.tokens ∙ blanks.tokens ∙ c.loop-self.invariant.tokens;
       took = TakesBytes-then (TakesBytes-then c.loop-self.invariant.took blanks.kept.took) slash.kept.took;
       forward = omega (arith, blanks.kept.forward, slash.forward);

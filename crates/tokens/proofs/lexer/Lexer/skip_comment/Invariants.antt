@@ -6,13 +6,13 @@ use Rattle.tokens.proofs.lexer.Lexer.skip_comment.Given as goal
 abbrev pub invariant-loop-self : goal.invariant-loop-self
 invariant-loop-self g l = record {
   tokens : (line : ℕ) →
-      to_read (in_comment line) l.self.window (g.F.Feed.to_come l.feed) ≡
-      to_read (in_comment line) l.initial.self.window (g.F.Feed.to_come l.initial.feed);
-  took : TakesBytes l.initial.self.window.taken l.self.window.taken (g.F.Feed.to_come l.initial.feed)
-      (g.F.Feed.to_come l.feed);
+      to_read (in_comment line) l.self.window (g.F.Feed.device l.feed).to_come ≡
+      to_read (in_comment line) l.initial.self.window (g.F.Feed.device l.initial.feed).to_come;
+  took : TakesBytes l.initial.self.window.taken l.self.window.taken (g.F.Feed.device l.initial.feed).to_come
+      (g.F.Feed.device l.feed).to_come;
   forward : l.initial.self.window.place ≤ l.self.window.place;
-  count : g.F.Feed.account l.feed ≡ g.F.Feed.account l.initial.feed;
-  known : KnowsEnd l.self.window.beyond (g.F.Feed.ended l.feed);
+  count : (g.F.Feed.device l.feed).account ≡ (g.F.Feed.device l.initial.feed).account;
+  known : KnowsEnd l.self.window.beyond (g.F.Feed.device l.feed).ended;
 }
 
 abbrev pub decreases-loop-self : goal.decreases-loop-self

@@ -37,7 +37,7 @@ returns-then-branch-clause-past g c =
           ∙
           ap
           (λ closed. to_read (after_comment closed line) c.skip_comment.new.self.window
-          (g.F.Feed.to_come c.skip_comment.new.feed)) (sym c.if-branch.true)
+          (g.F.Feed.device c.skip_comment.new.feed).to_come) (sym c.if-branch.true)
           ∙ c.in_ok-skip_comment.ensures.tokens line
           ∙
           to_read-pass (in_comment line) (in_slash line) _ _ _ _ 42 c.pass-2.ensures.value seen.next.first
@@ -64,7 +64,7 @@ returns-else-branch-clause-past g c =
           ∙
           ap
           (λ closed. to_read (after_comment closed line) c.skip_comment.new.self.window
-          (g.F.Feed.to_come c.skip_comment.new.feed)) (sym c.if-branch.false)
+          (g.F.Feed.device c.skip_comment.new.feed).to_come) (sym c.if-branch.false)
           ∙ c.in_ok-skip_comment.ensures.tokens line
           ∙
           to_read-pass (in_comment line) (in_slash line) _ _ _ _ 42 c.pass-2.ensures.value seen.next.first

@@ -18,7 +18,7 @@ pub returns-then-is_letter-clause-tokens : goal.returns-then-is_letter-clause-to
 returns-then-is_letter-clause-tokens g c =
     let b = c.args.first in
     let begins =
-    to_read-pass (in_name (b ∷ []) false) located_tokens _ _ (g.F.Feed.to_come c.args.feed.now) (Some b) b
+    to_read-pass (in_name (b ∷ []) false) located_tokens _ _ (g.F.Feed.device c.args.feed.now).to_come (Some b) b
     c.pass.ensures.value (sym c.requires.begins.first) refl
     (name-begins b c.requires.begins.no_blank (sym c.if-is_letter.ensures)) in
     on_ok_weaker c.name.result (λ h. h ∙ begins) c.name.ensures.tokens
@@ -27,7 +27,7 @@ pub returns-then-is_digit-clause-tokens : goal.returns-then-is_digit-clause-toke
 returns-then-is_digit-clause-tokens g c =
     let b = c.args.first in
     let begins =
-    to_read-pass (in_constant (b - 48)) located_tokens _ _ (g.F.Feed.to_come c.args.feed.now) (Some b) b
+    to_read-pass (in_constant (b - 48)) located_tokens _ _ (g.F.Feed.device c.args.feed.now).to_come (Some b) b
     c.pass.ensures.value (sym c.requires.begins.first) refl
     (constant-begins b c.requires.begins.no_blank (sym c.if-is_letter.ensures) (sym c.if-is_digit.ensures)) in
     on_ok_weaker c.constant.result (λ h. h ∙ begins) c.constant.ensures.tokens
@@ -36,7 +36,8 @@ pub returns-else-ends_before-clause-tokens : goal.returns-else-ends_before-claus
 returns-else-ends_before-clause-tokens g c =
     let b = c.args.first in
     let begins =
-    to_read-pass (in_punctuator c.in-Some-of_byte.punctuator) located_tokens _ _ (g.F.Feed.to_come c.args.feed.now)
+    to_read-pass (in_punctuator c.in-Some-of_byte.punctuator) located_tokens _ _
+    (g.F.Feed.device c.args.feed.now).to_come
     (Some b) b c.pass.ensures.value (sym c.requires.begins.first) refl
     (other-begins c.in-Some-of_byte.punctuator b c.requires.begins.no_blank (sym c.if-is_letter.ensures)
     (sym c.if-is_digit.ensures) c.requires.begins.no_slash (sym c.in-Some-of_byte.ensures)) in
@@ -48,7 +49,8 @@ returns-then-ends_before-clause-tokens g c =
     punctuator-ends_before c.in-Some-of_byte.punctuator c.ending-then-ends_before.result c.pass.new.self _ _
     c.first.ensures.value (c.ends_before.ensures c.if-ends_before.true) (λ _. c.ending-then-ends_before.ensures)
     ∙
-    to_read-pass (in_punctuator c.in-Some-of_byte.punctuator) located_tokens _ _ (g.F.Feed.to_come c.args.feed.now)
+    to_read-pass (in_punctuator c.in-Some-of_byte.punctuator) located_tokens _ _
+    (g.F.Feed.device c.args.feed.now).to_come
     (Some b) b c.pass.ensures.value (sym c.requires.begins.first) refl
     (other-begins c.in-Some-of_byte.punctuator b c.requires.begins.no_blank (sym c.if-is_letter.ensures)
     (sym c.if-is_digit.ensures) c.requires.begins.no_slash (sym c.in-Some-of_byte.ensures))
@@ -60,7 +62,7 @@ returns-in_default-of_byte-clause-tokens g c =
     to_read-here (followed c.ending-in_default-of_byte.result) bad c.pass.new.self _
     (λ to_come. ap (λ x. followed x (ahead c.pass.new.self to_come)) c.ending-in_default-of_byte.ensures)
     ∙
-    to_read-pass bad located_tokens _ _ (g.F.Feed.to_come c.args.feed.now) (Some b) b c.pass.ensures.value
+    to_read-pass bad located_tokens _ _ (g.F.Feed.device c.args.feed.now).to_come (Some b) b c.pass.ensures.value
     (sym c.requires.begins.first) refl
     (bad-begins b c.requires.begins.no_blank (sym c.if-is_letter.ensures) (sym c.if-is_digit.ensures)
     c.requires.begins.no_slash (sym c.in_default-of_byte.ensures))
@@ -69,7 +71,7 @@ pub returns-then-is_letter-clause-stopped : goal.returns-then-is_letter-clause-s
 returns-then-is_letter-clause-stopped g c =
     let b = c.args.first in
     let begins =
-    to_read-pass (in_name (b ∷ []) false) located_tokens _ _ (g.F.Feed.to_come c.args.feed.now) (Some b) b
+    to_read-pass (in_name (b ∷ []) false) located_tokens _ _ (g.F.Feed.device c.args.feed.now).to_come (Some b) b
     c.pass.ensures.value (sym c.requires.begins.first) refl
     (name-begins b c.requires.begins.no_blank (sym c.if-is_letter.ensures)) in
     on_err_weaker c.name.result
@@ -80,7 +82,7 @@ pub returns-then-is_digit-clause-stopped : goal.returns-then-is_digit-clause-sto
 returns-then-is_digit-clause-stopped g c =
     let b = c.args.first in
     let begins =
-    to_read-pass (in_constant (b - 48)) located_tokens _ _ (g.F.Feed.to_come c.args.feed.now) (Some b) b
+    to_read-pass (in_constant (b - 48)) located_tokens _ _ (g.F.Feed.device c.args.feed.now).to_come (Some b) b
     c.pass.ensures.value (sym c.requires.begins.first) refl
     (constant-begins b c.requires.begins.no_blank (sym c.if-is_letter.ensures) (sym c.if-is_digit.ensures)) in
     on_err_weaker c.constant.result
@@ -91,7 +93,8 @@ pub returns-else-ends_before-clause-stopped : goal.returns-else-ends_before-clau
 returns-else-ends_before-clause-stopped g c =
     let b = c.args.first in
     let begins =
-    to_read-pass (in_punctuator c.in-Some-of_byte.punctuator) located_tokens _ _ (g.F.Feed.to_come c.args.feed.now)
+    to_read-pass (in_punctuator c.in-Some-of_byte.punctuator) located_tokens _ _
+    (g.F.Feed.device c.args.feed.now).to_come
     (Some b) b c.pass.ensures.value (sym c.requires.begins.first) refl
     (other-begins c.in-Some-of_byte.punctuator b c.requires.begins.no_blank (sym c.if-is_letter.ensures)
     (sym c.if-is_digit.ensures) c.requires.begins.no_slash (sym c.in-Some-of_byte.ensures)) in
@@ -106,7 +109,7 @@ returns-in-Some-clause-tokens g c =
     let whole = c.in-Some.ensures in
     punctuator-whole punctuator c.ending.result c.pass.new.self _ whole.ends (λ _. c.ending.ensures)
     ∙
-    to_read-pass (in_punctuator punctuator) located_tokens _ _ (g.F.Feed.to_come c.args.feed.now) (Some b) b
+    to_read-pass (in_punctuator punctuator) located_tokens _ _ (g.F.Feed.device c.args.feed.now).to_come (Some b) b
     c.pass.ensures.value (sym c.requires.begins.first) refl
     (other-begins punctuator b c.requires.begins.no_blank (sym c.if-is_letter.ensures)
     (no-digit b punctuator c.ranges.first.fits whole.is) c.requires.begins.no_slash whole.is)

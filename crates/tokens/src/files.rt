@@ -1,15 +1,12 @@
-//! Real files and streams as the devices of a run.
+//! Files that are read, as devices.
 
-ghost use Rattle.std.specs.Prelude.{◌≡◌, ◌≢◌, ℕ, ◌+◌, ◌-◌, ◌^◌, ◌<◌, ◌≤◌, None, false, length, take, IfOk, OnOk, OnErr};
-ghost use Rattle.series.specs.Failures.{CountsSink};
+ghost use Rattle.std.specs.Prelude.{◌≡◌, ◌≢◌, ◌<◌, ◌≤◌, None, false, length, IfOk};
 ghost use Rattle.tokens.specs.Feed.{Counts, MayRead, gives_none};
-ghost use Rattle.command.specs.Files.{real_account};
-ghost use Rattle.command.specs.Bytes.{AddsTo, TakesFrom};
+ghost use Rattle.tokens.specs.Files.{TakesFrom, file_device, real_account};
 
-use series::Sink;
-use std::io::{Read, Write};
+use crate::devices::{DeviceFault, Feed};
+use std::io::Read;
 use std::marker::Model;
-use tokens::{DeviceFault, Feed};
 
 /// A file that is read. Each error of a read is a failure, an interrupted call too.
 #[derive(Drop)]
@@ -33,15 +30,11 @@ impl<F> FileFeed<F> {
 }
 
 impl<F: Read> Feed for FileFeed<F> {
-    ghost account = { λ feed. real_account feed.failures };
-
-    ghost to_come = { λ _. None };
-
-    ghost ended = { λ feed. feed.ended };
+    ghost device = { λ feed. file_device feed.failures None feed.ended };
 
     fn fill(&mut self, buf: &mut [u8]) -> Result<usize, DeviceFault>
         requires nonempty { 0 < length buf.old }
-        requires ready { MayRead (real_account self.old.failures) self.old.ended }
+        requires ready { MayRead (file_device self.old.failures None self.old.ended) }
         ensures within { IfOk result (λ n. n ≤ length buf.old) }
         ensures count { Counts result (real_account self.old.failures) (real_account self.new.failures) }
         ensures bytes { TakesFrom result buf.new (F.remaining self.old.file) (F.remaining self.new.file) }
@@ -69,7 +62,7 @@ pub struct KnownFeed<F: Read> {
 
 impl<F: Read> Model for KnownFeed<F> {
     ghost use Rattle.std.specs.Prelude.{◌≢◌, None};
-    ghost use Rattle.command.specs.declared.devices.FileFeed.{FileFeed};
+    ghost use Rattle.tokens.specs.declared.files.FileFeed.{FileFeed};
 
     ghost Value = { FileFeed F };
 
@@ -91,55 +84,9 @@ impl<F: Read> KnownFeed<F> {
 }
 
 impl<F: Read> Feed for KnownFeed<F> {
-    ghost account = { λ known. real_account known.failures };
-
-    ghost to_come = { λ known. F.remaining known.file };
-
-    ghost ended = { λ known. known.ended };
+    ghost device = { λ known. file_device known.failures (F.remaining known.file) known.ended };
 
     fn fill(&mut self, buf: &mut [u8]) -> Result<usize, DeviceFault> {
         self.feed.fill(buf)
-    }
-}
-
-/// A stream that is written. Each error of a write is a failure, an interrupted call and a write of no byte too.
-#[derive(Drop)]
-pub struct StreamSink<W> {
-    stream: W,
-    failures: u64,
-}
-
-impl<W> StreamSink<W> {
-    /// Makes the sink of a stream that has not failed.
-    pub fn new(stream: W) -> StreamSink<W>
-        ensures { result ≡ record { stream = stream; failures = 0 } }
-    {
-        StreamSink {
-            stream,
-            failures: 0,
-        }
-    }
-}
-
-impl<W: Write> Sink for StreamSink<W> {
-    ghost failures = { λ sink. sink.failures };
-
-    ghost portions = { λ _. None };
-
-    fn put(&mut self, bytes: &[u8]) -> Result<usize, DeviceFault>
-        requires nonempty { 0 < length bytes.now }
-        requires countable { self.old.failures < 2 ^ 64 - 1 }
-        ensures some { IfOk result (λ n. 0 < n) }
-        ensures front { IfOk result (λ n. n ≤ length bytes.now) }
-        ensures count { CountsSink result self.old.failures self.new.failures }
-        ensures bytes { AddsTo result bytes.now (W.contents self.old.stream) (W.contents self.new.stream) }
-    {
-        match self.stream.write(bytes) {
-            Ok(n) if n > 0 => Ok(n),
-            _ => {
-                self.failures += 1;
-                Err(DeviceFault)
-            }
-        }
     }
 }
