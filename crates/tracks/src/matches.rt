@@ -168,12 +168,12 @@ impl Recorder {
         }
     }
 
-    /// Marks the shots whose bursts in the update of this number hurt a robot: one that was alive before it, at the
-    /// place where it is after it.
+    /// Marks the shots whose bursts in the update of this number hurt a robot: one whose damage grew in it, at the place
+    /// where it is after it.
     fn mark(&mut self, arena: &Arena, update: u32) {
         for robot in 0..arena.robot_count() {
             if let Some(track) = self.tracks.as_slice().get(robot)
-                && track.is_alive()
+                && track.damage < arena.damage(robot)
             {
                 self.shots.mark(update, Place::of(arena, robot));
             }

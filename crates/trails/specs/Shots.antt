@@ -1,8 +1,9 @@
 -- A shot, and the last shots of a match.
-use Rattle.std.specs.Prelude.{ℕ, ◌+◌, ℤ, false, List}
+use Rattle.std.specs.Prelude.{ℕ, ◌+◌, ◌==◌, ◌&&◌, ℤ, Bool, false, true, List, nat_lt, if◌then◌else◌}
 use Rattle.arith.specs.Degree.{degree_of}
 use Rattle.arena.specs.Leg.{clamped}
-use Rattle.arena.specs.Shots.{aimed_x, aimed_y, flight}
+use Rattle.arena.specs.Shots.{aimed_x, aimed_y, flight, ring}
+use Rattle.arena.specs.Collisions.{square}
 use Rattle.trails.specs.Spot.{Spot}
 use Rattle.trails.specs.declared.shots.Shot.{Shot}
 
@@ -20,6 +21,14 @@ shot_of robot updates from degree range = record {
   };
   hit = false;
 }
+
+-- the burst of a shot in this update hurts a robot that is at this place then
+abbrev pub hurts_in : (update : ℕ) → Spot → Shot → Bool
+hurts_in update place shot = (shot.burst == update) && nat_lt 0 (ring (square place.x place.y shot.to.x shot.to.y))
+
+-- a shot is marked once its burst has hurt a robot
+abbrev pub marked : (update : ℕ) → Spot → Shot → Shot
+marked update place shot = if hurts_in update place shot then record shot { hit = true } else shot
 
 -- the last shots, which of them is the oldest, and how many were fired
 pub record Kept : Type 0 where

@@ -1,12 +1,12 @@
 //! Shots: from where they were fired to where they burst, and whether they hurt a robot.
 
-ghost use Rattle.std.specs.Prelude.{◌≡◌, ◌+◌, ◌-◌, ◌*◌, ◌%◌, ◌^◌, ◌≤◌, ◌<◌, ◌++◌, ◌∷◌, [], false, nat_lt, length, slice_set, ℤ, pos, ◌*ℤ◌, unsigned_abs};
+ghost use Rattle.std.specs.Prelude.{◌≡◌, ◌+◌, ◌-◌, ◌*◌, ◌%◌, ◌^◌, ◌≤◌, ◌<◌, ◌++◌, ◌∷◌, [], false, nat_lt, length, map, slice_set, ℤ, pos, ◌*ℤ◌, unsigned_abs};
 ghost use Rattle.arith.specs.Degree.{degree_of};
 ghost use Rattle.arena.specs.Leg.{along, clamped, last_place};
 ghost use Rattle.arena.specs.Collisions.{square};
 ghost use Rattle.arena.specs.Shots.{aimed_x, aimed_y, flight, ring};
 ghost use Rattle.arena.specs.Ground.{most_updates};
-ghost use Rattle.trails.specs.Shots.{shot_of};
+ghost use Rattle.trails.specs.Shots.{marked, shot_of};
 
 use crate::places::Place;
 use arena::LAST_PLACE;
@@ -22,9 +22,6 @@ const FLIGHT: u16 = 50;
 
 /// The greatest range of a shot, in metres.
 const MOST_RANGE: i32 = 700;
-
-/// The most updates that a missile flies.
-const MOST_FLIGHT: u32 = 14;
 
 /// The greatest distance at which a burst hurts, in tenths of a metre.
 const REACH: u32 = 400;
@@ -80,6 +77,15 @@ impl Shot {
         let east = u32::from(place.x().abs_diff(self.to.x()));
         let north = u32::from(place.y().abs_diff(self.to.y()));
         east * east + north * north <= REACH * REACH
+    }
+
+    /// Marks the shot if its burst in this update hurts a robot that is at this place then.
+    fn mark(&mut self, update: u32, place: Place)
+        ensures { self.new ≡ marked update place self.old }
+    {
+        if self.burst == update && self.hurts(place) {
+            self.hit = true;
+        }
     }
 }
 
@@ -185,11 +191,9 @@ impl Shots {
 
     /// Marks the shots whose bursts in this update hurt a robot that is at this place then.
     pub fn mark(&mut self, update: u32, place: Place)
-        ensures len { length self.new.shots ≡ length self.old.shots }
-        ensures oldest { self.new.oldest ≡ self.old.oldest }
-        ensures count { self.new.count ≡ self.old.count }
+        ensures { self.new ≡ record self.old { shots = map (marked update place) self.old.shots } }
     {
-        mark(self.shots.as_mut_slice(), self.oldest, update, place);
+        mark(self.shots.as_mut_slice(), update, place);
     }
 
     /// Returns how many shots were fired, those that are no longer kept too.
@@ -207,22 +211,11 @@ impl Shots {
     }
 }
 
-/// Marks the shots whose bursts in this update hurt a robot at this place: of the shots in a ring, from the newest on,
-/// which is before the one at `end`, down to the first that is too old to burst now.
-fn mark(shots: &mut [Shot], end: usize, update: u32, place: Place)
-    requires most { length shots.old ≤ MOST_SHOTS }
-    requires end { end < MOST_SHOTS }
-    ensures { length shots.new ≡ length shots.old }
+/// Marks those of some shots whose bursts in this update hurt a robot that is at this place then.
+fn mark(shots: &mut [Shot], update: u32, place: Place)
+    ensures { shots.new ≡ map (marked update place) shots.old }
 {
-    let len = shots.len();
-    for back in 1..=len {
-        let n = (end + len - back) % len;
-        let shot = shots[n];
-        if shot.fired < update.saturating_sub(MOST_FLIGHT) {
-            return;
-        }
-        if shot.burst == update && shot.hurts(place) {
-            shots[n].hit = true;
-        }
+    for shot in shots.iter_mut() {
+        shot.mark(update, place);
     }
 }

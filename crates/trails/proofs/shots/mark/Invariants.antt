@@ -1,5 +1,8 @@
-use Rattle.std.proofs.Common.{◌≡◌, length}
+use Rattle.std.proofs.Common.{◌≡◌, ◌++◌, map, take, drop}
+use Rattle.trails.specs.Shots.{marked}
 use Rattle.trails.proofs.shots.mark.Given as goal
 
-abbrev pub invariant-loop-back : goal.invariant-loop-back
-invariant-loop-back l = length l.shots ≡ length l.initial.shots
+-- the first shots are marked, the others are as they were
+abbrev pub invariant-loop-shot : goal.invariant-loop-shot
+invariant-loop-shot l =
+    l.shots ≡ map (marked l.update l.place) (take l.shot-index l.fn.shots) ++ drop l.shot-index l.fn.shots
