@@ -1,7 +1,7 @@
 -- What an arena represents, after each call.
 use Rattle.std.proofs.Common.{◌≡◌, ◌⊎◌, ℕ, ◌+◌, ◌<◌, ◌≤◌, true, false, List, [], ◌∷◌, ◌++◌, length, drop, map, get_or, set, nat_lt, pos, cond, refl, sym, ap, subst, inl, inr, ◌∙◌, arith}
 use Rattle.std.specs.List.{count_by, fold, refill}
-use Rattle.std.proofs.lemmas.List.{length-map, get_or-map, get_or_past, map-set, take_at, length-set}
+use Rattle.std.proofs.lemmas.List.{length-map, get_or-map, get_or_past, get_or-set_same, map-set, take_at, length-set}
 use Rattle.std.proofs.lemmas.Bool.{cases_lt, ltb-true}
 use Rattle.arena.specs.Leg.{place_x, place_y}
 use Rattle.arena.specs.Field.{Shot, Robot, Field, damage_of, is_alive, no_robot, robot_at}
@@ -46,6 +46,20 @@ inside_if_lives g i h = by_place (cases_lt i (length g.robots))
         let none = get_or_past g.robots i (body_of no_robot) past in
         let dead : nat_lt 100 100 ≡ true = rw none at h in
         absurd (omega (arith, ltb-true 100 100 dead))
+
+-- the same robots live as they did
+pub same_live : (g h : Ground) (i : ℕ) → h.robots ≡ g.robots → lives h i ≡ lives g i
+unfolding lives
+same_live g h i e = ap (λ (rs : List Body). nat_lt (get_or rs i (body_of no_robot)).damage 100) e
+
+-- a robot of the same damage in its place lives as it did
+pub lives_as : (g : Ground) (i : ℕ) (b : Body) → i < length g.robots →
+    b.damage ≡ (get_or g.robots i (body_of no_robot)).damage →
+    lives (record g { robots = set g.robots i b }) i ≡ lives g i
+unfolding lives
+lives_as g i b inside e =
+    ap (λ (c : Body). nat_lt c.damage 100) (get_or-set_same g.robots i b (body_of no_robot) inside) ∙
+    ap (λ (d : ℕ). nat_lt d 100) e
 
 -- who lives is alive in the field
 pub alive_if_lives : (g : Ground) (f : Field) (i : ℕ) → StandsFor g f → lives g i ≡ true →

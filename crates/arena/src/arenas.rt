@@ -119,6 +119,7 @@ impl Arena {
             → StandsFor self.new (answer f robot intrinsic arguments).1 }
         ensures updates { self.new.updates ≡ self.old.updates }
         ensures manned { length self.new.robots ≡ length self.old.robots }
+        ensures alive { lives self.new robot ≡ true }
     {
         let first = arguments[0];
         let second = arguments[1];
@@ -287,7 +288,7 @@ impl Arena {
         ensures stands { (f : Field) → StandsFor self.old f
             → StandsFor self.new (fired f robot (degree_of degree) (clamped 700 range)).1 }
         ensures updates { self.new.updates ≡ self.old.updates }
-        ensures manned { length self.new.robots ≡ length self.old.robots }
+        ensures robots { self.new.robots ≡ self.old.robots }
     {
         if !self.missiles.may_fire(robot) {
             return 0;
@@ -308,6 +309,7 @@ impl Arena {
             → StandsFor self.new (directed f robot (degree_of degree) (clamped 100 speed)) }
         ensures updates { self.new.updates ≡ self.old.updates }
         ensures manned { length self.new.robots ≡ length self.old.robots }
+        ensures alive { lives self.new robot ≡ lives self.old robot }
     {
         let speed = clamped(speed, MOST_SPEED) as u8;
         let wanting = self.robot(robot).wanting(norm_degree(degree), speed);

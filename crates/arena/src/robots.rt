@@ -126,6 +126,7 @@ impl Robot {
         ensures robot { (robot : FieldRobot) → self.now ≡ body_of robot
             → result ≡ body_of (record robot { leg = wanting robot.leg degree speed }) }
         ensures place { IsAtPlace self.now.track result.track }
+        ensures damage { result.damage ≡ self.now.damage }
     {
         Robot {
             motion: self.motion.wanting(degree, speed),

@@ -93,7 +93,8 @@ quiet_runs r i f trace n live quiet k within is =
     quiet k within)
 
 -- a dead robot does nothing
-dead_step : (r : Behaviour) (i : ℕ) (f : Field) (trace : List ℤ) → is_live f i ≡ false → step r i f trace ≡ (f, trace)
+pub dead_step : (r : Behaviour) (i : ℕ) (f : Field) (trace : List ℤ) → is_live f i ≡ false →
+    step r i f trace ≡ (f, trace)
 unfolding step
 dead_step r i f trace dead = rw dead refl
 

@@ -58,8 +58,9 @@ impl NextTurns {
         low.min(high)
     }
 
-    /// Reports whether all robots but this one are past the turns before that of a number.
-    #[inline(always)]
+    /// Reports whether all robots but this one are past the turns before that of a number. Only draws ask for it: inlined
+    /// into the loop over turns, it is worked out before each loop.
+    #[inline(never)]
     pub(crate) fn others_are_past(&self, robot: usize, end: u32) -> bool
         requires { robot < 4 }
         ensures { result ≡ true → OthersArePast end robot self.now }

@@ -5,7 +5,7 @@ use Rattle.arena.specs.Answer.{argument, answer}
 use Rattle.arena.specs.Ground.{Ground, Body, track_of, body_of}
 use Rattle.arena.specs.Standing.{StandsFor}
 use Rattle.arena.specs.contracts.arenas.Arena.{the_view}
-use Rattle.arena.proofs.Represents.{inside_if_lives}
+use Rattle.arena.proofs.Represents.{inside_if_lives, same_live}
 use Rattle.arena.proofs.arenas.Arena.ask.Goals as goal
 
 pub scan-requires : goal.scan-requires
@@ -55,6 +55,10 @@ returns-in-Cannon-clause-stands c = λ f s.
     let first : FitsSigned w32 (get_or c.args.arguments 0 (pos 0)) = search rules in
     let second : FitsSigned w32 (get_or c.args.arguments 1 (pos 0)) = search rules in
     rw c.in-Cannon.is (simp to_z-of_z at (c.cannon.ensures.stands f s))
+
+pub returns-in-Cannon-clause-alive : goal.returns-in-Cannon-clause-alive
+returns-in-Cannon-clause-alive c =
+    same_live c.args.self.now c.cannon.new.self c.args.robot c.cannon.ensures.robots ∙ c.requires
 
 pub returns-in-Drive-clause-reply : goal.returns-in-Drive-clause-reply
 unfolding answer argument
@@ -143,6 +147,10 @@ returns-in-Rand-clause-stands c = λ f s.
       missiles = now.missiles;
       random = c.random_number.ensures.next _ _ _ now.random;
     })
+
+pub returns-in-Rand-clause-alive : goal.returns-in-Rand-clause-alive
+returns-in-Rand-clause-alive c =
+    same_live c.args.self.now _ c.args.robot (ap (λ (g : Ground). g.robots) c.self.view_is) ∙ c.requires
 
 pub returns-in-Sqrt-clause-reply : goal.returns-in-Sqrt-clause-reply
 unfolding answer argument

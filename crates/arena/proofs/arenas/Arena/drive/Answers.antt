@@ -2,12 +2,12 @@ use Rattle.std.proofs.Common.{◌<◌, get_or, sym, ap, subst, ◌∙◌, length
 use Rattle.std.proofs.lemmas.List.{length-set}
 use Rattle.std.proofs.lemmas.Int.{to_z-of_z}
 use Rattle.arena.specs.Field.{no_robot, robot_at}
-use Rattle.arena.specs.Ground.{Ground, Body, body_of}
+use Rattle.arena.specs.Ground.{Ground, Body, body_of, lives}
 use Rattle.arena.specs.Standing.{StandsFor}
 use Rattle.arena.specs.contracts.arenas.Arena.{the_view}
 use Rattle.arena.specs.Calm.{IsAtPlace}
 use Rattle.arena.proofs.Calm.{far_set}
-use Rattle.arena.proofs.Represents.{put_is, directs}
+use Rattle.arena.proofs.Represents.{put_is, directs, lives_as}
 use Rattle.arena.proofs.arenas.Arena.drive.Goals as goal
 
 pub invariant_of-self : goal.invariant_of-self
@@ -41,3 +41,14 @@ returns-clause-stands c = λ f s.
     (c.wanting-wanting.ensures.robot (robot_at f c.args.robot) (c.robot.ensures.stands f s)) in
     rw (put_is items c.deref_mut.result.now c.args.robot c.wanting-wanting.result c.deref_mut.ensures.value)
     (directs (the_view c.self.inside) f c.args.robot _ _ c.wanting-wanting.result now body)
+
+pub returns-clause-alive : goal.returns-clause-alive
+returns-clause-alive c =
+    let items = c.self.inside.robots.items in
+    let robots = ap (λ (g : Ground). g.robots) c.self.view_is in
+    let inside : c.args.robot < length items = omega (arith, ap length robots) in
+    let same = c.robot.ensures.value ∙ ap (λ l. get_or l c.args.robot (body_of no_robot)) (sym robots) in
+    let damage = c.wanting-wanting.ensures.damage ∙ ap (λ (b : Body). b.damage) same in
+    rw (put_is items c.deref_mut.result.now c.args.robot c.wanting-wanting.result c.deref_mut.ensures.value)
+    (lives_as (the_view c.self.inside) c.args.robot c.wanting-wanting.result inside damage ∙
+    ap (λ (g : Ground). lives g c.args.robot) c.self.view_is)
