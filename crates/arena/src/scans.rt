@@ -17,6 +17,9 @@ use arith::{bears_within, cosine_at, sine_at};
 /// How many degrees from an arc's end a direction lies in which no point of the arc reaches backwards.
 const SIDE: u16 = 89;
 
+/// So far, scaled by 100,000, no point outside of an arc reaches forward in both of these directions: 35 metres.
+const DEEP: i32 = 3_500_000;
+
 /// Returns the range in metres of the nearest live robot whose bearing differs from a degree by at most the resolution
 /// of at most 10, or 0.
 pub(crate) fn scan(robots: &[Robot], robot: usize, degree: u16, resolution: u16) -> u16
@@ -111,6 +114,9 @@ fn in_arc(x: u16, y: u16, to_x: u16, to_y: u16, degree: u16, resolution: u16) ->
     if is_beside(east, north, degree, resolution) {
         return false;
     }
+    if is_deep(east, north, degree, resolution) {
+        return true;
+    }
     lies_within(east, north, degree, resolution)
 }
 
@@ -132,8 +138,8 @@ fn lies_within(east: i32, north: i32, degree: u16, resolution: u16) -> bool
     bears_within(east, north, degree, resolution)
 }
 
-/// Reports whether a point lies so far beside an arc that it reaches backwards in the direction of a degree that is
-/// nearly a right angle away from it: 89 degrees from the arc's end on the other side.
+/// Reports whether a point lies beside an arc: it reaches backwards in a direction that is 89 degrees from the arc's end
+/// on the other side.
 fn is_beside(east: i32, north: i32, degree: u16, resolution: u16) -> bool
     requires east { unsigned_abs east ≤ 999 }
     requires north { unsigned_abs north ≤ 999 }
@@ -142,10 +148,23 @@ fn is_beside(east: i32, north: i32, degree: u16, resolution: u16) -> bool
     ensures beside { result ≡ true → nat_le (apart (bearing_of east north) degree) resolution ≡ false }
     ensures elsewhere { result ≡ true → east ≡ pos 0 → north ≡ pos 0 → ⊥ }
 {
-    if is_behind(east, north, turned(degree, SIDE - resolution)) {
+    if reach(east, north, turned(degree, SIDE - resolution)) < 0 {
         return true;
     }
-    is_behind(east, north, turned(degree, 360 - SIDE + resolution))
+    reach(east, north, turned(degree, 360 - SIDE + resolution)) < 0
+}
+
+/// Reports whether a point lies deep in an arc: it reaches forward by 35 metres in both of these directions, or more.
+fn is_deep(east: i32, north: i32, degree: u16, resolution: u16) -> bool
+    requires east { unsigned_abs east ≤ 999 }
+    requires north { unsigned_abs north ≤ 999 }
+    requires degree { degree < 360 }
+    requires resolution { resolution ≤ 10 }
+    ensures { result ≡ true → nat_le (apart (bearing_of east north) degree) resolution ≡ true }
+{
+    let left = reach(east, north, turned(degree, SIDE - resolution));
+    let right = reach(east, north, turned(degree, 360 - SIDE + resolution));
+    left >= DEEP && right >= DEEP
 }
 
 /// Returns the degree that lies so many degrees further round the circle.
@@ -159,15 +178,15 @@ fn turned(degree: u16, by: u16) -> u16
     if sum < 360 { sum } else { sum - 360 }
 }
 
-/// Reports whether a point reaches backwards in the direction of a degree.
+/// Returns how far a point reaches in the direction of a degree, scaled by 100,000.
 #[tactic(auto, using(arith::proofs::BearingLemmas::reach_steps), unfolding(arith::specs::Bearing::reach_of))]
-fn is_behind(east: i32, north: i32, degree: u16) -> bool
+fn reach(east: i32, north: i32, degree: u16) -> i32
     requires east { unsigned_abs east ≤ 999 }
     requires north { unsigned_abs north ≤ 999 }
     requires degree { degree < 360 }
-    ensures { result ≡ int_lt (reach_of east north degree) (pos 0) }
+    ensures { result ≡ reach_of east north degree }
 {
-    east * cosine_at(degree) + north * sine_at(degree) < 0
+    east * cosine_at(degree) + north * sine_at(degree)
 }
 
 /// Returns the squared distance of two robots, in metres: at least 1.

@@ -2,7 +2,7 @@ use Rattle.std.proofs.Common.{FitsSigned, w32, refl, rules}
 use Rattle.std.proofs.lemmas.Int.{to_z-of_z}
 use Rattle.arith.specs.Bearing.{reach_of}
 use Rattle.arith.proofs.BearingLemmas.{part_fits, reach_fits}
-use Rattle.arena.proofs.scans.is_behind.Goals as goal
+use Rattle.arena.proofs.scans.reach.Goals as goal
 
 pub returns : goal.returns
 unfolding reach_of
