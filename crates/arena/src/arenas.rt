@@ -310,9 +310,8 @@ impl Arena {
         ensures manned { length self.new.robots ≡ length self.old.robots }
     {
         let speed = clamped(speed, MOST_SPEED) as u8;
-        let wanting = self.robot(robot).wanting(norm_degree(degree), speed);
         self.is_still = false;
-        self.robots[robot] = wanting;
+        self.robots[robot].want(norm_degree(degree), speed);
         1
     }
 }
