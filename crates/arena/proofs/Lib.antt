@@ -14,4 +14,6 @@ pub mod AddsUp
 pub mod Nearest
 pub mod InPlace
 pub mod Roots
+pub mod Newton
+pub mod Beside
 pub mod Squares

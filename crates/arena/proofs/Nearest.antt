@@ -1,37 +1,112 @@
 -- The nearest of the robots that are seen, one after another.
-use Rattle.std.proofs.Common.{◌≡◌, ◌⊎◌, inl, inr, ℕ, ℤ, unsigned_abs, ◌+◌, ◌*◌, ◌<◌, ◌≤◌, min, max, zero, suc, pos, Bool, true, false, List, [], ◌∷◌, ◌++◌, length, take, drop, map, cond, get_or, append-nil, refl, sym, ap, ◌∙◌, arith}
+use Rattle.std.proofs.Common.{◌≡◌, ◌⊎◌, inl, inr, ℕ, unsigned_abs, ◌+◌, ◌<◌, ◌≤◌, min, max, zero, suc, pos, Bool, true, false, List, [], ◌∷◌, ◌++◌, length, take, drop, map, cond, get_or, append-nil, append_assoc, refl, sym, ap, ◌∙◌, arith}
 use Rattle.std.specs.List.{fold, filter}
-use Rattle.std.proofs.lemmas.List.{map-append}
-use Rattle.std.proofs.lemmas.List.Elements.{filter-append, filter_more}
+use Rattle.std.proofs.lemmas.List.{map-append, take_more, take_all, drop_all, take-append-le, drop-append-le, length-take-le}
+use Rattle.std.proofs.lemmas.List.Elements.{filter-append}
 use Rattle.std.proofs.lemmas.List.Sums.{fold-append}
 use Rattle.std.proofs.lemmas.Bool.{ne_eqb, cases_lt}
 use Rattle.std.proofs.lemmas.Nat.{mul-le}
 use Rattle.std.specs.Int.{abs_diff}
-use Rattle.arith.specs.Root.{IsRoot, root_of}
+use Rattle.arith.specs.Root.{root_of}
 use Rattle.arena.proofs.Roots.{root_grows, root_of_0, root_of_1}
 use Rattle.arena.specs.Field.{Robot, Field, robot_at, metres_x, metres_y}
 use Rattle.arena.specs.Collisions.{square, others}
 use Rattle.arena.specs.Scan.{sees, range_of, nearest, scanned}
 use Rattle.arena.specs.Nearer.{square_to, nearer}
 
--- one element more, which is seen or not
-pub one_more : {X : Type 0} (f : X → ℕ) (p : X → Bool) (n : ℕ) (xs : List X) (i : ℕ) (d : X) (so_far : ℕ) →
-    i < length xs → so_far ≡ fold nearer n (map f (filter p (take i xs))) →
-    cond (p (get_or xs i d)) (nearer so_far (f (get_or xs i d))) so_far ≡
-    fold nearer n (map f (filter p (take (i + 1) xs)))
-one_more f p n xs i d so_far inside e = by_sight (p (get_or xs i d)) refl
+strictly : (k i : ℕ) → i ≤ k → (k ≡ i → ⊥) → i + 1 ≤ k
+strictly k i h differs = by_order (cases_lt i k)
   where
-    by_sight : (b : Bool) → p (get_or xs i d) ≡ b →
-        cond b (nearer so_far (f (get_or xs i d))) so_far ≡ fold nearer n (map f (filter p (take (i + 1) xs)))
+    by_order : ((i < k) ⊎ (k ≤ i)) → i + 1 ≤ k
+    by_order (inl less) = omega (arith, less)
+    by_order (inr most) = absurd (differs (omega (arith, h, most)))
+
+-- the others of so many robots and one more: it is the one that scans, or one of them
+pub others_same : {X : Type 0} (xs : List X) (k i : ℕ) (d : X) → k < length xs → k ≡ i →
+    others (take (k + 1) xs) i ≡ others (take k xs) i
+unfolding others
+others_same xs k i d inside e =
+    let size = length-take-le k xs (omega arith) in
+    let size_more = length-take-le (k + 1) xs (omega arith) in
+    let one : take i (take k xs) ≡ take k xs = take_all i (take k xs) (omega (arith, size)) in
+    let two : take i (take (k + 1) xs) ≡ take k xs =
+    ap (take i) (take_more xs k d inside) ∙ take-append-le i (take k xs) (get_or xs k d ∷ []) (omega (arith, size)) ∙ one in
+    let none = drop_all (i + 1) (take k xs) (omega (arith, size)) in
+    let none_more = drop_all (i + 1) (take (k + 1) xs) (omega (arith, size_more)) in
+    rw (none, none_more) (ap (λ l. l ++ []) (two ∙ sym one))
+
+pub others_more : {X : Type 0} (xs : List X) (k i : ℕ) (d : X) → k < length xs → (k ≡ i → ⊥) →
+    others (take (k + 1) xs) i ≡ others (take k xs) i ++ get_or xs k d ∷ []
+unfolding others
+others_more xs k i d inside differs = by_order (cases_lt k i)
+  where
+    size : length (take k xs) ≡ k
+    size = length-take-le k xs (omega (arith, inside))
+
+    by_order : ((k < i) ⊎ (i ≤ k)) →
+        take i (take (k + 1) xs) ++ drop (i + 1) (take (k + 1) xs) ≡
+        (take i (take k xs) ++ drop (i + 1) (take k xs)) ++ get_or xs k d ∷ []
+    by_order (inl before) =
+        let size_more = length-take-le (k + 1) xs (omega (arith, inside)) in
+        rw (
+          take_all i (take (k + 1) xs) (omega (arith, size_more, before)),
+          drop_all (i + 1) (take (k + 1) xs) (omega (arith, size_more, before)),
+          take_all i (take k xs) (omega (arith, size, before)),
+          drop_all (i + 1) (take k xs) (omega (arith, size, before)),
+          append-nil (take (k + 1) xs),
+          append-nil (take k xs),
+        ) (take_more xs k d inside)
+    by_order (inr not_before) =
+        let after : i + 1 ≤ k = strictly k i not_before differs in
+        rw (
+          take_more xs k d inside,
+          take-append-le i (take k xs) (get_or xs k d ∷ []) (omega (arith, size, not_before)),
+          drop-append-le (i + 1) (take k xs) (get_or xs k d ∷ []) (omega (arith, size, after)),
+        ) (sym (append_assoc (take i (take k xs)) (drop (i + 1) (take k xs)) (get_or xs k d ∷ [])))
+
+others_none : {X : Type 0} (none : List X) (i : ℕ) → none ≡ [] → others none i ≡ []
+unfolding others
+others_none none i e =
+    let size : length none ≡ 0 = ap length e in
+    rw (take_all i none (omega (arith, size)), drop_all (i + 1) none (omega (arith, size))) (append-nil none ∙ e)
+
+pub none_yet : {X : Type 0} (f : X → ℕ) (p : X → Bool) (i : ℕ) → 0 ≡ fold nearer 0 (map f (filter p (others [] i)))
+none_yet f p i = sym (ap (λ l. fold nearer 0 (map f (filter p l))) (others_none [] i refl))
+
+-- one more of the others, which is seen or not
+pub one_more : {X : Type 0} (f : X → ℕ) (p : X → Bool) (xs : List X) (k i : ℕ) (d : X) (so_far : ℕ) →
+    k < length xs → (k ≡ i → ⊥) → so_far ≡ fold nearer 0 (map f (filter p (others (take k xs) i))) →
+    cond (p (get_or xs k d)) (nearer so_far (f (get_or xs k d))) so_far ≡
+    fold nearer 0 (map f (filter p (others (take (k + 1) xs) i)))
+one_more f p xs k i d so_far inside differs e = by_sight (p (get_or xs k d)) refl
+  where
+    by_sight : (b : Bool) → p (get_or xs k d) ≡ b →
+        cond b (nearer so_far (f (get_or xs k d))) so_far ≡
+        fold nearer 0 (map f (filter p (others (take (k + 1) xs) i)))
     by_sight true seen =
         rw (
-          filter_more p xs i d inside,
+          others_more xs k i d inside differs,
+          filter-append p (others (take k xs) i) (get_or xs k d ∷ []),
           seen,
-          map-append f (filter p (take i xs)) (get_or xs i d ∷ []),
-          fold-append nearer n (map f (filter p (take i xs))) (f (get_or xs i d) ∷ []),
+          map-append f (filter p (others (take k xs) i)) (get_or xs k d ∷ []),
+          fold-append nearer 0 (map f (filter p (others (take k xs) i))) (f (get_or xs k d) ∷ []),
           e,
         ) refl
-    by_sight false unseen = e ∙ rw (filter_more p xs i d inside, unseen, append-nil (filter p (take i xs))) refl
+    by_sight false unseen =
+        e ∙
+        rw (
+          others_more xs k i d inside differs,
+          filter-append p (others (take k xs) i) (get_or xs k d ∷ []),
+          unseen,
+          append-nil (filter p (others (take k xs) i)),
+        ) refl
+
+-- the one that scans is passed over
+pub none_more : {X : Type 0} (f : X → ℕ) (p : X → Bool) (xs : List X) (k i : ℕ) (d : X) (so_far : ℕ) →
+    k < length xs → k ≡ i → so_far ≡ fold nearer 0 (map f (filter p (others (take k xs) i))) →
+    so_far ≡ fold nearer 0 (map f (filter p (others (take (k + 1) xs) i)))
+none_more f p xs k i d so_far inside same e =
+    e ∙ ap (λ l. fold nearer 0 (map f (filter p l))) (sym (others_same xs k i d inside same))
 
 -- whether one that isn't nearer is seen doesn't matter
 pub either_way : (p : Bool) (next so_far : ℕ) → next ≡ so_far → so_far ≡ cond p next so_far
@@ -106,41 +181,19 @@ ranges_are from xs =
     sym (nearest_whole (square_to from) xs) ∙
     ap nearest (sym (each_same (range_of from) (λ x. whole (square_to from x)) xs (range_is from)))
 
--- a scan looks at the robots before and after the one that scans
-pub scan_is : (field : Field) (i degree resolution before after range : ℕ) →
-    before ≡
+-- a scan takes the root of the least of the squares
+pub scan_is : (field : Field) (i degree resolution least range : ℕ) →
+    least ≡
     fold nearer 0
     (map (square_to (robot_at field i))
-    (filter (sees (robot_at field i) degree resolution) (take i field.robots))) →
-    after ≡
-    fold nearer before
-    (map (square_to (robot_at field i))
-    (filter (sees (robot_at field i) degree resolution) (drop (i + 1) field.robots))) →
-    range ≡ unsigned_abs (root_of (pos after)) →
+    (filter (sees (robot_at field i) degree resolution) (others field.robots i))) →
+    range ≡ unsigned_abs (root_of (pos least)) →
     range ≡ scanned field i degree resolution
-unfolding scanned others
-scan_is field i degree resolution before after range b a r =
+unfolding scanned
+scan_is field i degree resolution least range e r =
     let from = robot_at field i in
-    let p = sees from degree resolution in
-    let f = square_to from in
-    let least =
-    a ∙ ap (λ n. fold nearer n (map f (filter p (drop (i + 1) field.robots)))) b ∙
-    sym (fold-append nearer 0 (map f (filter p (take i field.robots))) (map f (filter p (drop (i + 1) field.robots)))) ∙
-    ap (fold nearer 0) (sym (map-append f (filter p (take i field.robots)) (filter p (drop (i + 1) field.robots)))) ∙
-    ap (λ l. fold nearer 0 (map f l)) (sym (filter-append p (take i field.robots) (drop (i + 1) field.robots))) ∙
-    sym (nearest_is f (some_square from) (filter p (take i field.robots ++ drop (i + 1) field.robots))) in
-    r ∙ ap whole least ∙ ranges_are from (filter p (take i field.robots ++ drop (i + 1) field.robots))
-
--- a distance in the field is short
-small_root : (size : ℕ) → size * size ≤ 2000000 → size ≤ 2000
-small_root size h = by_size (cases_lt 2000 size)
-  where
-    by_size : ((2000 < size) ⊎ (size ≤ 2000)) → size ≤ 2000
-    by_size (inl big) = absurd (omega (arith, mul-le 2000 2000 size size (omega arith) (omega arith)))
-    by_size (inr small) = small
-
-pub distance_fits : (a r : ℤ) → IsRoot a r → unsigned_abs a ≤ 2000000 → unsigned_abs r ≤ 2000
-distance_fits a r is h = rw is.natural (small_root is.size (omega (arith, is.fits)))
+    let seen = filter (sees from degree resolution) (others field.robots i) in
+    r ∙ ap whole (e ∙ sym (nearest_is (square_to from) (some_square from) seen)) ∙ ranges_are from seen
 
 pub square_fits : (x y to_x to_y : ℕ) → x ≤ 999 → y ≤ 999 → to_x ≤ 999 → to_y ≤ 999 → square x y to_x to_y ≤ 2000000
 unfolding square

@@ -9,7 +9,7 @@ use Rattle.arena.specs.Leg.{Leg, last_place, clamped, along, way_east, way_north
 use Rattle.arena.specs.Sums.{sum_from, sum_east, sum_north, step_east, step_north, place_of, is_beyond, place_near}
 use Rattle.arena.specs.Start.{standing}
 use Rattle.arena.specs.Ground.{Track, track_of, is_steady}
-use Rattle.arena.specs.Still.{Rests}
+use Rattle.arena.specs.Still.{Rests, OnlyTurns}
 use Rattle.arena.proofs.Sums.{Leads, leads, beyond_is, near_is, place_is, field_is_free, free_is_field, grown_bits}
 
 -- a way of nothing leads nowhere
@@ -326,6 +326,20 @@ keeps_pace leg e =
     let same : approached leg.speed leg.wanted_speed ≡ leg.speed =
     ap (approached leg.speed) (sym e) ∙ approached-same leg.speed in
     ap (λ n. record leg { speed = n }) same
+
+-- one that only turns has turned then
+pub only_turns_is : (t b : Track) (leg : Leg) → t ≡ track_of leg → OnlyTurns t →
+    b ≡ track_of (record (leg_anew leg) { heading = leg.wanted_heading }) → b ≡ track_of (sped (steered leg))
+unfolding track_of leg_anew
+only_turns_is t b leg e only f =
+    let speed : t.speed ≡ leg.speed = ap (λ (t : Track). t.speed) e in
+    let wanted : t.wanted_speed ≡ leg.wanted_speed = ap (λ (t : Track). t.wanted_speed) e in
+    let low : leg.speed ≤ 50 = omega (arith, speed, only.slow) in
+    let same : leg.speed ≡ leg.wanted_speed = sym speed ∙ only.keeps ∙ wanted in
+    let differs : leg.wanted_heading ≡ leg.heading → ⊥ = λ s.
+    only.turns
+    (ap (λ (t : Track). t.wanted_heading) e ∙ s ∙ sym (ap (λ (t : Track). t.heading) e)) in
+    f ∙ ap track_of (sym (ap sped (steers_low leg differs low) ∙ keeps_pace _ same))
 
 pub keeps_course : (t : Track) (leg : Leg) → t ≡ track_of leg → t.steady ≡ true → t ≡ track_of (sped (steered leg))
 unfolding track_of is_steady

@@ -12,6 +12,12 @@ pub record Rests (track : Track) : Type 0 where
   pub heads : track.wanted_heading ≡ track.heading
   pub inside : IsInField track.east × IsInField track.north
 
+-- a robot that turns in an update, and keeps the speed that it has
+pub record OnlyTurns (track : Track) : Type 0 where
+  pub turns : track.wanted_heading ≡ track.heading → ⊥
+  pub slow : track.speed ≤ 50
+  pub keeps : track.speed ≡ track.wanted_speed
+
 -- an update without bursts leaves a robot as it is: it is dead, or at rest
 abbrev pub Stays : Body → Type 0
 Stays body = (body.damage ≡ 100) ⊎ Rests body.track

@@ -265,7 +265,9 @@ impl Arena {
         &self.robots[robot]
     }
 
-    /// Returns the range in metres of the nearest robot in an arc, or 0.
+    /// Returns the range in metres of the nearest robot in an arc, or 0. It is not inlined, so that the answers of a line
+    /// need no registers for it.
+    #[inline(never)]
     fn scan(&self, robot: usize, degree: i32, resolution: i32) -> i32
         requires { robot < length self.now.robots }
         ensures { (f : Field) → StandsFor self.now f
@@ -281,6 +283,7 @@ impl Arena {
     }
 
     /// Fires a missile, and reports by 1 or 0 whether the robot may.
+    #[inline(never)]
     fn cannon(&mut self, robot: usize, degree: i32, range: i32) -> i32
         requires { robot < length self.old.robots }
         ensures reply { (f : Field) → StandsFor self.old f
@@ -312,9 +315,8 @@ impl Arena {
         ensures alive { lives self.new robot ≡ lives self.old robot }
     {
         let speed = clamped(speed, MOST_SPEED) as u8;
-        let wanting = self.robot(robot).wanting(norm_degree(degree), speed);
         self.is_still = false;
-        self.robots[robot] = wanting;
+        self.robots[robot].want(norm_degree(degree), speed);
         1
     }
 }

@@ -8,7 +8,7 @@ ghost use Rattle.arena.specs.Start.{standing};
 ghost use Rattle.arena.specs.Moved.{put_back};
 ghost use Rattle.arena.specs.Answer.{wanting};
 ghost use Rattle.arena.specs.Ground.{Track, track_of, is_steady};
-ghost use Rattle.arena.specs.Still.{Rests};
+ghost use Rattle.arena.specs.Still.{Rests, OnlyTurns};
 ghost use Rattle.arena.specs.Calm.{IsNearby, IsAtPlace, gap, sum_gap};
 
 use crate::axes::{leaves, metres_of, place_near, place_of, step, sum_at};
@@ -169,18 +169,15 @@ impl Motion {
     }
 
     /// Sets the heading and the speed that the robot wants.
-    pub fn wanting(self, degree: u16, speed: u8) -> Motion
+    pub fn want(&mut self, degree: u16, speed: u8)
         requires degree { degree < 360 }
         requires speed { speed ≤ 100 }
-        ensures leg { (leg : Leg) → self ≡ track_of leg → result ≡ track_of (wanting leg degree speed) }
-        ensures place { IsAtPlace self result }
+        ensures leg { (leg : Leg) → self.old ≡ track_of leg → self.new ≡ track_of (wanting leg degree speed) }
+        ensures place { IsAtPlace self.old self.new }
     {
-        let wanting = Motion {
-            wanted_heading: degree,
-            wanted_speed: speed,
-            ..self
-        };
-        wanting.settled()
+        self.wanted_heading = degree;
+        self.wanted_speed = speed;
+        self.steady = is_steady(self.heading, degree, self.speed, speed);
     }
 
     /// Works out whether the robot is steady.
@@ -270,13 +267,26 @@ impl Motion {
         sped.settled()
     }
 
-    /// Turns and changes the speed, as far as the robot can in an update. This is rare, so it stays out of the way of
-    /// driving on.
+    /// Reports whether the robot turns in the next update, and keeps its speed.
+    fn only_turns(&self) -> bool
+        ensures { result ≡ true → OnlyTurns self.now }
+    {
+        self.wanted_heading != self.heading
+            && self.speed <= TURNING_SPEED
+            && self.speed == self.wanted_speed
+    }
+
+    /// Turns and changes the speed, as far as the robot can in an update. A robot that only turns is steady then. This is
+    /// rare, so it stays out of the way of driving on.
     #[inline(never)]
     fn adjust(&mut self)
         ensures leg { (leg : Leg) → self.old ≡ track_of leg → self.new ≡ track_of (sped (steered leg)) }
         ensures place { IsAtPlace self.old self.new }
     {
+        if self.only_turns() {
+            *self = self.turned();
+            return;
+        }
         *self = self.steered().sped();
     }
 

@@ -1,27 +1,26 @@
 //! Places on an axis: where a way leads.
 
-ghost use Rattle.std.specs.Prelude.{◌≡◌, ◌^◌, ◌<◌, ◌≤◌, unsigned_abs};
+ghost use Rattle.std.specs.Prelude.{◌≡◌, ◌≤◌};
 ghost use Rattle.arena.specs.Leg.{last_place, clamped, along};
 
 use crate::limits::LAST_PLACE;
 
 /// Ways are in hundred-thousandths of a tenth of a metre.
-const SCALE: i64 = 100_000;
+const SCALE: i32 = 100_000;
 
 /// Returns the coordinate to which a way leads from an origin, in tenths of a metre, perhaps beyond a wall.
 #[tactic(auto, unfolding(crate::specs::Leg::along))]
-pub(crate) fn along(origin: u16, way: i64) -> i64
-    requires { unsigned_abs way < 2 ^ 51 }
+pub(crate) fn along(origin: u16, way: i32) -> i32
     ensures { result ≡ along origin way }
 {
-    i64::from(origin) + way / SCALE
+    i32::from(origin) + way / SCALE
 }
 
 /// Returns the place of the field that is nearest to a coordinate.
 #[tactic(auto, unfolding(crate::specs::Leg::clamped))]
-pub(crate) fn clamped(z: i64) -> u16
+pub(crate) fn clamped(z: i32) -> u16
     ensures value { result ≡ clamped last_place z }
     ensures most { result ≤ last_place }
 {
-    z.clamp(0, i64::from(LAST_PLACE)) as u16
+    z.clamp(0, i32::from(LAST_PLACE)) as u16
 }

@@ -120,18 +120,15 @@ impl Robot {
 
     /// Sets the heading and the speed that the robot wants.
     #[tactic(auto, unfolding(crate::specs::Ground::body_of))]
-    pub fn wanting(&self, degree: u16, speed: u8) -> Robot
+    pub fn want(&mut self, degree: u16, speed: u8)
         requires degree { degree < 360 }
         requires speed { speed ≤ 100 }
-        ensures robot { (robot : FieldRobot) → self.now ≡ body_of robot
-            → result ≡ body_of (record robot { leg = wanting robot.leg degree speed }) }
-        ensures place { IsAtPlace self.now.track result.track }
-        ensures damage { result.damage ≡ self.now.damage }
+        ensures robot { (robot : FieldRobot) → self.old ≡ body_of robot
+            → self.new ≡ body_of (record robot { leg = wanting robot.leg degree speed }) }
+        ensures place { IsAtPlace self.old.track self.new.track }
+        ensures damage { self.new.damage ≡ self.old.damage }
     {
-        Robot {
-            motion: self.motion.wanting(degree, speed),
-            damage: self.damage,
-        }
+        self.motion.want(degree, speed);
     }
 
     /// Moves on for an update, as far as walls let it; a dead robot stays.

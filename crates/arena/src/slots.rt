@@ -149,7 +149,7 @@ fn aimed(from: u16, range: u16, part: i32) -> u16
     ensures value { result ≡ clamped last_place (along from (pos (10 * range) *ℤ part)) }
     ensures most { result ≤ last_place }
 {
-    let way = i64::from(10 * range) * i64::from(part);
+    let way = i32::from(10 * range) * part;
     clamped(along(from, way))
 }
 

@@ -1,12 +1,19 @@
-use Rattle.std.proofs.Common.{◌≤◌, FitsSigned, w32, rules, arith}
-use Rattle.std.proofs.lemmas.Int.{ints, to_z-of_z}
-use Rattle.arena.proofs.Nearest.{distance_fits}
+use Rattle.std.proofs.Common.{pos, unsigned_abs, ap, sym, ◌∙◌}
+use Rattle.arith.specs.Root.{root_of}
+use Rattle.arena.proofs.Roots.{root_of_0}
+use Rattle.arena.proofs.Newton.{next_near, root_is}
 use Rattle.arena.proofs.scans.distance.Goals as goal
 
-pub overflow_cast-result : goal.overflow_cast-result
-overflow_cast-result c =
-    let small = distance_fits _ _ c.root.ensures.greatest (omega (arith, ints)) in
-    let fits : FitsSigned w32 c.root.result = search rules in
-    let value = simp to_z-of_z at c.unsigned_abs.ensures.value in
-    let bound : c.unsigned_abs.result ≤ 2000 = omega (arith, value, small) in
-    search rules
+pub returns-then-square-eq0 : goal.returns-then-square-eq0
+returns-then-square-eq0 c = sym (ap (λ n. unsigned_abs (root_of (pos n))) c.if-square-eq0.true ∙ root_of_0)
+
+pub loop-guess-preserved : goal.loop-guess-preserved
+loop-guess-preserved c = record {
+  some = c.loop-guess.invariant.some;
+  near = next_near c.args.square c.loop-guess.guess c.loop-guess.invariant.some c.loop-guess.invariant.near
+      c.loop-guess-test.true;
+}
+
+pub returns : goal.returns
+returns c =
+    root_is c.args.square c.loop-guess.guess c.requires c.loop-guess.invariant.near c.loop-guess-test.false

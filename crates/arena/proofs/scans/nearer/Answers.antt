@@ -1,14 +1,12 @@
-use Rattle.std.proofs.Common.{◌≡◌, true, false, sym, ap, ◌∙◌, refl}
+use Rattle.std.proofs.Common.{◌≡◌, true, false, sym, ◌∙◌, refl}
 use Rattle.arena.specs.Scan.{sees}
-use Rattle.arena.specs.Nearer.{nearer}
 use Rattle.arena.proofs.Nearest.{either_way}
 use Rattle.arena.proofs.scans.nearer.Goals as goal
 
-pub returns-then-not-is_nearer-clause-value : goal.returns-then-not-is_nearer-clause-value
-returns-then-not-is_nearer-clause-value c = λ a b e o.
-    let square = c.square_to-square.ensures.value a b e o in
+pub returns-then-is_farther-clause-value : goal.returns-then-is_farther-clause-value
+returns-then-is_farther-clause-value c = λ a b e o.
     either_way (sees a c.args.degree c.args.resolution b) _ c.args.so_far
-    (sym (ap (nearer c.args.so_far) square) ∙ c.is_nearer.ensures.farther c.if-not-is_nearer.true)
+    (c.is_farther.ensures.farther c.if-is_farther.true a b e o)
 
 pub returns-then-not-sees-clause-value : goal.returns-then-not-sees-clause-value
 returns-then-not-sees-clause-value c = λ a b e o.
@@ -17,6 +15,5 @@ returns-then-not-sees-clause-value c = λ a b e o.
 
 pub returns-clause-value : goal.returns-clause-value
 returns-clause-value c = λ a b e o.
-    let square = c.square_to-square.ensures.value a b e o in
     let seen : sees a c.args.degree c.args.resolution b ≡ true = sym (c.sees.ensures a b e o) ∙ c.if-not-sees.false in
-    rw seen (sym (c.is_nearer.ensures.nearer c.if-not-is_nearer.false) ∙ ap (nearer c.args.so_far) square)
+    rw seen (c.square_to.ensures.value a b e o ∙ sym (c.is_farther.ensures.nearer c.if-is_farther.false a b e o))

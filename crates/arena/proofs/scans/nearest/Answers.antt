@@ -1,29 +1,59 @@
 use Rattle.std.proofs.Common.{◌<◌, length, map, ap, ◌∙◌, arith}
 use Rattle.std.specs.List.{fold, filter}
 use Rattle.std.proofs.lemmas.List.{length-map, take_all}
-use Rattle.arena.specs.Field.{no_robot}
+use Rattle.arena.specs.Field.{no_robot, robot_at}
+use Rattle.arena.specs.Collisions.{others}
 use Rattle.arena.specs.Scan.{sees}
 use Rattle.arena.specs.Nearer.{square_to, nearer}
 use Rattle.arena.specs.Ground.{body_of}
 use Rattle.arena.proofs.Loops.{mapped_is}
-use Rattle.arena.proofs.Nearest.{one_more}
+use Rattle.arena.proofs.Nearest.{none_yet, one_more, none_more}
 use Rattle.arena.proofs.scans.nearest.Goals as goal
+use Rattle.arena.proofs.scans.nearest.Goals.{then-i-robot, else-i-robot}
 
-pub loop-other-preserved : goal.loop-other-preserved
-loop-other-preserved c = record {
-  most = c.nearer-nearest.ensures.most;
-  nearest = λ a rs e o.
-      let size = ap length o ∙ length-map rs body_of in
-      let inside : c.loop-other.other-index < length rs = omega arith in
-      let other = mapped_is body_of _ rs _ _ no_robot o c.loop-other-test.true c.other-item.is in
-      c.nearer-nearest.ensures.value a _ e other ∙
-      one_more (square_to a) (sees a c.args.degree c.args.resolution) c.args.so_far rs c.loop-other.other-index no_robot
-      c.loop-other.nearest inside (c.loop-other.invariant.nearest a rs e o);
+pub loop-i-init : goal.loop-i-init
+loop-i-init c = record {
+  most = omega arith;
+  nearest = λ field e.
+      none_yet (square_to (robot_at field c.args.robot))
+      (sees (robot_at field c.args.robot) c.args.degree c.args.resolution) c.args.robot;
+}
+
+pub loop-i-preserved : goal.loop-i-preserved
+unfolding robot_at
+loop-i-preserved c = record {
+  most = elim c.if-i-robot.branch [
+    | then-i-robot w ↦ omega (arith, w.nearest-is, w.nearer-nearest.ensures.most)
+    | else-i-robot w ↦ omega (arith, w.nearest-is, c.loop-i.invariant.most)
+  ];
+  nearest = λ field e.
+      let i = c.args.robot in
+      let from = robot_at field i in
+      let p = sees from c.args.degree c.args.resolution in
+      let size = ap length e ∙ length-map field.robots body_of in
+      let inside : c.loop-i.i < length field.robots = omega (arith, size, c.loop-i-test.true, c.loop-i.auto.i-end) in
+      let here = mapped_is body_of _ field.robots _ _ no_robot e c.requires.inside c.index-robots-robot.is in
+      let there =
+      mapped_is body_of _ field.robots _ _ no_robot e (omega (arith, size, inside)) c.index-robots-i.is in
+      let so_far = c.loop-i.invariant.nearest field e in
+      elim c.if-i-robot.branch [
+        | then-i-robot w ↦ w.nearest-is ∙ w.nearer-nearest.ensures.value from _ here there ∙
+            one_more (square_to from) p field.robots c.loop-i.i i no_robot c.loop-i.nearest inside w.if-i-robot.true
+            so_far
+        | else-i-robot w ↦ w.nearest-is ∙
+            none_more (square_to from) p field.robots c.loop-i.i i no_robot c.loop-i.nearest inside
+            w.if-i-robot.false so_far
+      ];
 }
 
 pub returns-clause-nearest : goal.returns-clause-nearest
-returns-clause-nearest c = λ a rs e o.
-    let size = ap length o ∙ length-map rs body_of in
-    let all = take_all c.loop-other.other-index rs (omega arith) in
-    c.loop-other.invariant.nearest a rs e o ∙
-    ap (λ l. fold nearer c.args.so_far (map (square_to a) (filter (sees a c.args.degree c.args.resolution) l))) all
+returns-clause-nearest c = λ field e.
+    let i = c.args.robot in
+    let from = robot_at field i in
+    let size = ap length e ∙ length-map field.robots body_of in
+    let all =
+    take_all c.loop-i.i field.robots (omega (arith, size, c.loop-i-test.false, c.loop-i.auto.i-end)) in
+    c.loop-i.invariant.nearest field e ∙
+    ap
+    (λ l. fold nearer 0
+    (map (square_to from) (filter (sees from c.args.degree c.args.resolution) (others l i)))) all

@@ -1,16 +1,19 @@
-use Rattle.std.proofs.Common.{◌≡◌, ◌≤◌, List, take, map}
+use Rattle.std.proofs.Common.{◌≡◌, ◌≤◌, take, map}
 use Rattle.std.specs.List.{fold, filter}
-use Rattle.arena.specs.Field.{Robot}
+use Rattle.arena.specs.Field.{Field, robot_at}
+use Rattle.arena.specs.Collisions.{others}
 use Rattle.arena.specs.Scan.{sees}
 use Rattle.arena.specs.Nearer.{square_to, nearer}
 use Rattle.arena.specs.Ground.{body_of}
 use Rattle.arena.proofs.scans.nearest.Given as goal
 
--- the nearest of those so far
-abbrev pub invariant-loop-other : goal.invariant-loop-other
-invariant-loop-other l = record {
+-- the nearest of the others so far
+abbrev pub invariant-loop-i : goal.invariant-loop-i
+invariant-loop-i l = record {
   most : l.nearest ≤ 2000000;
-  nearest : (a : Robot) (rs : List Robot) → l.from ≡ body_of a → l.others ≡ map body_of rs →
+  nearest : (field : Field) → l.robots ≡ map body_of field.robots →
       l.nearest ≡
-      fold nearer l.so_far (map (square_to a) (filter (sees a l.degree l.resolution) (take l.other-index rs)));
+      fold nearer 0
+      (map (square_to (robot_at field l.robot))
+      (filter (sees (robot_at field l.robot) l.degree l.resolution) (others (take l.i field.robots) l.robot)));
 }

@@ -1,5 +1,5 @@
 use Rattle.std.proofs.Common.{◌<◌, get_or, sym, ap, subst, ◌∙◌, length, arith}
-use Rattle.std.proofs.lemmas.List.{length-set}
+use Rattle.std.proofs.lemmas.List.{get_or_read, length-set}
 use Rattle.std.proofs.lemmas.Int.{to_z-of_z}
 use Rattle.arena.specs.Field.{no_robot, robot_at}
 use Rattle.arena.specs.Ground.{Ground, Body, body_of, lives}
@@ -7,6 +7,7 @@ use Rattle.arena.specs.Standing.{StandsFor}
 use Rattle.arena.specs.contracts.arenas.Arena.{the_view}
 use Rattle.arena.specs.Calm.{IsAtPlace}
 use Rattle.arena.proofs.Calm.{far_set}
+use Rattle.arena.proofs.Loops.{mapped_is}
 use Rattle.arena.proofs.Represents.{put_is, directs, lives_as}
 use Rattle.arena.proofs.arenas.Arena.drive.Goals as goal
 
@@ -15,13 +16,16 @@ invariant_of-self c =
     let i = c.self.invariant in
     let items = c.self.inside.robots.items in
     let robots = ap (λ (g : Ground). g.robots) c.self.view_is in
+    let lent = c.deref_mut.ensures.value in
     let inside : c.args.robot < length items = omega (arith, ap length robots) in
-    let same = c.robot.ensures.value ∙ ap (λ l. get_or l c.args.robot (body_of no_robot)) (sym robots) in
-    let size = length-set items c.args.robot c.wanting-wanting.result in
-    let place =
-    subst (λ (b : Body). IsAtPlace b.track c.wanting-wanting.result.track) same c.wanting-wanting.ensures.place in
-    let far = far_set c.self.inside.calm items c.args.robot c.wanting-wanting.result inside place i.5 in
-    rw (put_is items c.deref_mut.result.now c.args.robot c.wanting-wanting.result c.deref_mut.ensures.value) (
+    let same =
+    sym c.index-deref_mut-robot.is ∙
+    get_or_read c.deref_mut.result.now c.args.robot _ (omega (arith, inside, ap length lent))
+    c.index-deref_mut-robot.is (body_of no_robot) ∙ ap (λ l. get_or l c.args.robot (body_of no_robot)) lent in
+    let size = length-set items c.args.robot c.want.new.self in
+    let place = subst (λ (b : Body). IsAtPlace b.track c.want.new.self.track) same c.want.ensures.place in
+    let far = far_set c.self.inside.calm items c.args.robot c.want.new.self inside place i.5 in
+    rw (put_is items c.deref_mut.result.now c.args.robot c.want.new.self lent) (
       i.0,
       i.1 ∙ sym size,
       omega (arith, size),
@@ -31,24 +35,36 @@ invariant_of-self c =
     )
 
 pub returns-clause-stands : goal.returns-clause-stands
+unfolding robot_at
 returns-clause-stands c = λ f s.
     let degree_fits = c.ranges.degree in
     let speed_fits = c.ranges.speed in
     let items = c.self.inside.robots.items in
     let now : StandsFor (the_view c.self.inside) f = rw c.self.view_is s in
+    let robots = ap (λ (g : Ground). g.robots) c.self.view_is in
+    let lent = c.deref_mut.ensures.value in
+    let inside : c.args.robot < length items = omega (arith, ap length robots) in
+    let here =
+    sym c.index-deref_mut-robot.is ∙
+    mapped_is body_of c.deref_mut.result.now f.robots c.args.robot _ no_robot (lent ∙ now.robots)
+    (omega (arith, inside, ap length lent)) c.index-deref_mut-robot.is in
     let body =
     simp (c.norm_degree.ensures.value, c.clamped-speed.ensures.value, to_z-of_z) at
-    (c.wanting-wanting.ensures.robot (robot_at f c.args.robot) (c.robot.ensures.stands f s)) in
-    rw (put_is items c.deref_mut.result.now c.args.robot c.wanting-wanting.result c.deref_mut.ensures.value)
-    (directs (the_view c.self.inside) f c.args.robot _ _ c.wanting-wanting.result now body)
+    (c.want.ensures.robot (robot_at f c.args.robot) here) in
+    rw (put_is items c.deref_mut.result.now c.args.robot c.want.new.self lent)
+    (directs (the_view c.self.inside) f c.args.robot _ _ c.want.new.self now body)
 
 pub returns-clause-alive : goal.returns-clause-alive
 returns-clause-alive c =
     let items = c.self.inside.robots.items in
     let robots = ap (λ (g : Ground). g.robots) c.self.view_is in
+    let lent = c.deref_mut.ensures.value in
     let inside : c.args.robot < length items = omega (arith, ap length robots) in
-    let same = c.robot.ensures.value ∙ ap (λ l. get_or l c.args.robot (body_of no_robot)) (sym robots) in
-    let damage = c.wanting-wanting.ensures.damage ∙ ap (λ (b : Body). b.damage) same in
-    rw (put_is items c.deref_mut.result.now c.args.robot c.wanting-wanting.result c.deref_mut.ensures.value)
-    (lives_as (the_view c.self.inside) c.args.robot c.wanting-wanting.result inside damage ∙
+    let same =
+    sym c.index-deref_mut-robot.is ∙
+    get_or_read c.deref_mut.result.now c.args.robot _ (omega (arith, inside, ap length lent))
+    c.index-deref_mut-robot.is (body_of no_robot) ∙ ap (λ l. get_or l c.args.robot (body_of no_robot)) lent in
+    let damage = c.want.ensures.damage ∙ ap (λ (b : Body). b.damage) same in
+    rw (put_is items c.deref_mut.result.now c.args.robot c.want.new.self lent)
+    (lives_as (the_view c.self.inside) c.args.robot c.want.new.self inside damage ∙
     ap (λ (g : Ground). lives g c.args.robot) c.self.view_is)
