@@ -30,7 +30,8 @@ others_same xs k i d inside e =
     let size_more = length-take-le (k + 1) xs (omega arith) in
     let one : take i (take k xs) ≡ take k xs = take_all i (take k xs) (omega (arith, size)) in
     let two : take i (take (k + 1) xs) ≡ take k xs =
-    ap (take i) (take_more xs k d inside) ∙ take-append-le i (take k xs) (get_or xs k d ∷ []) (omega (arith, size)) ∙ one in
+    ap (take i) (take_more xs k d inside) ∙ take-append-le i (take k xs) (get_or xs k d ∷ []) (omega (arith, size)) ∙
+    one in
     let none = drop_all (i + 1) (take k xs) (omega (arith, size)) in
     let none_more = drop_all (i + 1) (take (k + 1) xs) (omega (arith, size_more)) in
     rw (none, none_more) (ap (λ l. l ++ []) (two ∙ sym one))
