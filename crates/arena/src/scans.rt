@@ -99,8 +99,8 @@ fn sees(from: &Robot, to: &Robot, degree: u16, resolution: u16) -> bool
         )
 }
 
-/// Reports whether a point lies in an arc around a degree, or is the point itself, in whole metres. A rough test leaves
-/// out nearly all that don't.
+/// Reports whether a point lies in an arc around a degree, or is the point itself, in whole metres. Rough tests tell
+/// those that lie beside the arc or deep in it.
 fn in_arc(x: u16, y: u16, to_x: u16, to_y: u16, degree: u16, resolution: u16) -> bool
     requires from { IsPoint x y }
     requires to { IsPoint to_x to_y }
@@ -120,8 +120,8 @@ fn in_arc(x: u16, y: u16, to_x: u16, to_y: u16, degree: u16, resolution: u16) ->
     lies_within(east, north, degree, resolution)
 }
 
-/// Reports whether a point lies in an arc around a degree, or is the origin. This is asked only of a point that may: it
-/// stays out of the way of the rough test.
+/// Reports whether a point lies in an arc around a degree, or is the origin. This is asked only of a point near the arc's
+/// border: it stays out of the way of the rough tests.
 #[inline(never)]
 fn lies_within(east: i32, north: i32, degree: u16, resolution: u16) -> bool
     requires east { unsigned_abs east ≤ 999 }
