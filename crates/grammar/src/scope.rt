@@ -269,6 +269,13 @@ impl Scope {
         self.function_number(&name_of(b"main")).is_some()
     }
 
+    /// Shows the names of the file, where they are.
+    pub fn pools(&self) -> &Pools
+        ensures { result.now ≡ record { externals = self.now.externals; functions = self.now.functions } }
+    {
+        &self.pools
+    }
+
     /// Returns the names of the file.
     pub fn into_pools(self) -> Pools
         ensures { result ≡ record { externals = self.externals; functions = self.functions } }

@@ -46,20 +46,25 @@ pub fn parse<F: Feed, B: Build>(feed: &mut F, build: &mut B) -> Result<Pools, Pa
     ensures counted { Counts result (F.device feed.old).account (F.device feed.new).account }
 {
     let mut scope = Scope::new();
-    let read = read_file(feed, build, &mut scope);
+    let read = parse_into(feed, build, &mut scope);
     let pools = scope.into_pools();
     read?;
     Ok(pools)
 }
 
-/// Reads a source as `parse` does, and leaves its names in a scope that knew none. Names are large: they stay where they
-/// are.
-fn read_file<F: Feed, B: Build>(
+/// Reads a source as `parse` does, and leaves its names in a scope that knew none.
+///
+/// Names are large, so they stay where the caller has them.
+///
+/// # Errors
+/// Those of `parse`. Of the names in the scope nothing is promised then.
+pub fn parse_into<F: Feed, B: Build>(
     feed: &mut F,
     build: &mut B,
     scope: &mut Scope,
 ) -> Result<(), ParseFault>
-    requires new { IsNew (B.stands build.old) × (scope.old ≡ no_names) }
+    requires new { IsNew (B.stands build.old) }
+    requires nothing { scope.old ≡ no_names }
     requires ready { MayRead (F.device feed.old) }
     ensures file { OnOk result (IsFile (B.stands build.old) (B.stands build.new) (F.device feed.old).to_come
         (names_in scope.new)) }

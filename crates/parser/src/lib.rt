@@ -15,4 +15,4 @@ mod signs;
 mod statements;
 mod token_predicates;
 
-pub use files::parse;
+pub use files::{parse, parse_into};
