@@ -5,12 +5,14 @@ use Rattle.std.proofs.lemmas.List.Elements.{All-push}
 use Rattle.battles.specs.Programs.{AreOfProfile}
 use Rattle.grammar.specs.Profile.{Profile}
 use Rattle.grammar.specs.declared.diagnostics.Diagnostic.{Diagnostic}
+use Rattle.grammar.specs.Building.{Meaning}
 use Rattle.grammar.specs.Compiled.{compiled}
 use Rattle.grammar.specs.Pools.{Names, names_of}
 use Rattle.grammar.specs.Texts.{text_of}
 use Rattle.grammar.specs.Tree.{File}
 use Rattle.code.specs.Generation.{ObjectCode, code_of}
 use Rattle.listings.specs.Listing.{listing_of}
+use Rattle.parser.specs.Files.{IsFile}
 use Rattle.settings.specs.declared.settings.Mode.{Mode}
 use Rattle.settings.specs.declared.settings.Mode.TheVariants.{Listing}
 use Rattle.series.specs.Compiling.{code_or_fault, compiled_code, listed, listing_piece, pieces_of}
@@ -21,6 +23,11 @@ use Rattle.series.specs.declared.endings.Status.TheVariants.{Done, Faulty}
 use Rattle.sinks.specs.Portions.{Portions, Takes, TakesFront, Written}
 use Rattle.sinks.specs.Puts.{CountsSink, Puts}
 use Rattle.sinks.specs.Texts.{diagnostic_line}
+
+-- a file is that of its names, whoever has them
+pub file_of_names : (before after : Meaning) (told : Option (List ℕ)) (kept names : Names) → names ≡ kept →
+    IsFile before after told kept → IsFile before after told names
+file_of_names before after told kept names same file = rw same file
 
 -- a good file's code
 pub good_code : (profile : Profile) (bytes : List ℕ) (file : File) (code : ObjectCode) →

@@ -1,6 +1,7 @@
 //! Files are compiled: each good one's program is taken, and each faulty one's diagnostic put.
 
 ghost use Rattle.std.specs.Prelude.{◌≡◌, ℕ, ◌+◌, ◌-◌, ◌^◌, ◌<◌, ◌≤◌, List, [], ◌∷◌, Some, length, map, MatchResult};
+ghost use Rattle.grammar.specs.Scope.{no_names};
 ghost use Rattle.series.specs.Compiling.{Source};
 ghost use Rattle.series.specs.Failures.{Accounts, AreReady, CountsFile, failures};
 ghost use Rattle.series.specs.Pieces.{taken};
@@ -11,8 +12,8 @@ ghost use Rattle.series.specs.Runs.{AreSources, CompilesAll, CompilesFile, told_
 use crate::endings::{RunFault, Status};
 use crate::keeping::TakesPrograms;
 use code::Maker;
-use grammar::{Diagnostic, ParseFault, Profile};
-use parser::parse;
+use grammar::{Diagnostic, ParseFault, Profile, Scope};
+use parser::parse_into;
 use settings::Settings;
 use sinks::{Sink, name_of, put_diagnostic};
 use tokens::{DeviceFault, Feed};
@@ -43,7 +44,16 @@ pub(crate) fn compile_into<K: TakesPrograms, F: Feed, O: Sink, E: Sink>(
     let mut status = Status::Done;
     for file in 0..feeds.len() {
         let name = name_of(words[file].as_bytes());
-        let put = match compile_file(keeper, profile, name, &mut feeds[file], out, err) {
+        let mut names = Scope::new();
+        let put = match compile_file(
+            keeper,
+            profile,
+            name,
+            &mut names,
+            &mut feeds[file],
+            out,
+            err,
+        ) {
             Ok(put) => put,
             Err(DeviceFault) => return Err(RunFault::Read(file)),
         };
@@ -67,17 +77,19 @@ pub(crate) fn both(first: Status, second: Status) -> Status
 }
 
 /// Compiles the file of a feed. The keeper takes a good file's program; of a faulty one puts the diagnostic. Answers
-/// whether the file was read, and then whether all was put, and then whether the file is good. The names of a
-/// file are large: they stay where the parse leaves them.
+/// whether the file was read, and then whether all was put, and then whether the file is good. The file's names are left
+/// in a scope that knew none: they are large, so they stay where the caller made them.
 #[inline(never)]
 fn compile_file<K: TakesPrograms, F: Feed, O: Sink, E: Sink>(
     keeper: &mut K,
     profile: Profile,
     name: &[u8],
+    names: &mut Scope,
     feed: &mut F,
     out: &mut O,
     err: &mut E,
 ) -> Result<Result<Status, DeviceFault>, DeviceFault>
+    requires nothing { names.old ≡ no_names }
     requires keeps { CanKeep profile (K.kept keeper.old) }
     requires ready { AreReady F.device 1 (feed.old ∷ []) (O.written out.old) (E.written err.old) }
     // If the file was not read nothing was put.
@@ -92,11 +104,14 @@ fn compile_file<K: TakesPrograms, F: Feed, O: Sink, E: Sink>(
         (O.written out.old) (E.written err.old) (O.written out.new) (E.written err.new) }
 {
     let mut maker = Maker::new(profile);
-    match parse(feed, &mut maker) {
-        Ok(ref names) => match keeper.take(name, names, maker.finish(names), out) {
-            Ok(()) => Ok(Ok(Status::Done)),
-            Err(DeviceFault) => Ok(Err(DeviceFault)),
-        },
+    match parse_into(feed, &mut maker, names) {
+        Ok(()) => {
+            let names = names.pools();
+            match keeper.take(name, names, maker.finish(names), out) {
+                Ok(()) => Ok(Ok(Status::Done)),
+                Err(DeviceFault) => Ok(Err(DeviceFault)),
+            }
+        }
         Err(ParseFault::Source(Diagnostic { line, code })) => {
             match put_diagnostic(err, name, line, code.text().as_bytes()) {
                 Ok(()) => Ok(Ok(Status::Faulty)),

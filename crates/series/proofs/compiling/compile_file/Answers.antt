@@ -1,13 +1,13 @@
 use Rattle.std.proofs.Common.{◌∙◌, refl, rules, arith}
 use Rattle.code.specs.Told.{Stands}
 use Rattle.parser.specs.Files.{IsFile}
-use Rattle.series.proofs.FileLemmas.{alike, alike_more, diagnostic_cut, diagnostic_put, faulty_kept, faulty_more, faulty_status, good_code, good_cut, good_kept, good_more, good_put, good_status}
+use Rattle.series.proofs.FileLemmas.{alike, alike_more, diagnostic_cut, diagnostic_put, faulty_kept, faulty_more, faulty_status, file_of_names, good_code, good_cut, good_kept, good_more, good_put, good_status}
 use Rattle.series.proofs.compiling.compile_file.Goals as goal
 
 pub finish-requires : goal.finish-requires
 finish-requires g c =
-    let f : IsFile (λ p acts. Stands c.new-maker.result p acts) (λ p acts. Stands c.parse.new.build p acts)
-    (g.F.Feed.device c.args.feed.now).to_come c.in-Ok.names =
+    let f : IsFile (λ p acts. Stands c.new-maker.result p acts) (λ p acts. Stands c.parse_into.new.build p acts)
+    (g.F.Feed.device c.args.feed.now).to_come c.pools-names.result.now =
     search rules in
     record {
       profile = _;
@@ -20,7 +20,7 @@ take-requires-clause-keeps g c =
     record {
       room = c.requires.keeps.room;
       alike = (
-          let made = c.in-Ok.ensures.file in
+          let made = file_of_names _ _ _ _ _ c.pools-names.ensures c.in-Ok.ensures.file in
           let code =
           c.finish.ensures c.args.profile made.file
           (record
@@ -30,8 +30,8 @@ take-requires-clause-keeps g c =
           );
     }
 
-pub parse-requires-clause-ready : goal.parse-requires-clause-ready
-parse-requires-clause-ready g c =
+pub parse_into-requires-clause-ready : goal.parse_into-requires-clause-ready
+parse_into-requires-clause-ready g c =
     record {
       countable = c.requires.ready.feeds 0 c.args.feed.now (omega arith);
       not_ended = c.requires.ready.not_ended 0 c.args.feed.now (omega arith);
@@ -41,7 +41,7 @@ pub returns-in-Ok-take-clause-output : goal.returns-in-Ok-take-clause-output
 returns-in-Ok-take-clause-output g c =
     λ bytes told. record {
       output = (
-          let made = c.in-Ok.ensures.file in
+          let made = file_of_names _ _ _ _ _ c.pools-names.ensures c.in-Ok.ensures.file in
           let is = made.is bytes told c.args.profile c.new-maker.ensures in
           let code =
           c.finish.ensures c.args.profile made.file
@@ -53,7 +53,7 @@ returns-in-Ok-take-clause-output g c =
           _ _ is made.named code (c.in-Ok-take.ensures.output (g.E.Sink.written c.args.err.now))
           );
       status = (
-          let made = c.in-Ok.ensures.file in
+          let made = file_of_names _ _ _ _ _ c.pools-names.ensures c.in-Ok.ensures.file in
           let is = made.is bytes told c.args.profile c.new-maker.ensures in
           let code =
           c.finish.ensures c.args.profile made.file
@@ -64,7 +64,7 @@ returns-in-Ok-take-clause-output g c =
           (good_code c.args.profile bytes made.file c.finish.result is code)
           );
       keeps = (
-          let made = c.in-Ok.ensures.file in
+          let made = file_of_names _ _ _ _ _ c.pools-names.ensures c.in-Ok.ensures.file in
           let is = made.is bytes told c.args.profile c.new-maker.ensures in
           let code =
           c.finish.ensures c.args.profile made.file
@@ -80,7 +80,7 @@ pub returns-in-Err-clause-output : goal.returns-in-Err-clause-output
 returns-in-Err-clause-output g c =
     λ bytes told. record {
       output = (
-          let made = c.in-Ok.ensures.file in
+          let made = file_of_names _ _ _ _ _ c.pools-names.ensures c.in-Ok.ensures.file in
           let is = made.is bytes told c.args.profile c.new-maker.ensures in
           let code =
           c.finish.ensures c.args.profile made.file
@@ -100,7 +100,7 @@ returns-in-Ok-take-clause-keeps g c =
     record {
       same_mode = c.in-Ok-take.ensures.mode;
       alike = (
-          let made = c.in-Ok.ensures.file in
+          let made = file_of_names _ _ _ _ _ c.pools-names.ensures c.in-Ok.ensures.file in
           let code =
           c.finish.ensures c.args.profile made.file
           (record
@@ -116,7 +116,7 @@ returns-in-Err-clause-keeps g c =
     record {
       same_mode = c.in-Err.ensures.mode;
       alike = (
-          let made = c.in-Ok.ensures.file in
+          let made = file_of_names _ _ _ _ _ c.pools-names.ensures c.in-Ok.ensures.file in
           let code =
           c.finish.ensures c.args.profile made.file
           (record
@@ -148,7 +148,7 @@ returns-in-Ok-put_diagnostic-clause-output g c =
     λ bytes told. record {
       output = (
           let fails =
-          (rw c.in-Err-Source.field-0-is at (rw c.in-Err-Source.is at c.parse.ensures.refused)) bytes told
+          (rw c.in-Err-Source.field-0-is at (rw c.in-Err-Source.is at c.parse_into.ensures.refused)) bytes told
           c.args.profile
           c.new-maker.ensures in
           diagnostic_put (g.K.TakesPrograms.mode c.args.keeper.now) c.args.profile c.args.name.now bytes
@@ -158,13 +158,13 @@ returns-in-Ok-put_diagnostic-clause-output g c =
           );
       status = (
           faulty_status c.args.profile bytes c.in-Err-Source.field-0-0
-          ((rw c.in-Err-Source.field-0-is at (rw c.in-Err-Source.is at c.parse.ensures.refused)) bytes told
+          ((rw c.in-Err-Source.field-0-is at (rw c.in-Err-Source.is at c.parse_into.ensures.refused)) bytes told
           c.args.profile
           c.new-maker.ensures)
           );
       keeps = (
           faulty_kept c.args.profile bytes c.in-Err-Source.field-0-0 _
-          ((rw c.in-Err-Source.field-0-is at (rw c.in-Err-Source.is at c.parse.ensures.refused)) bytes told
+          ((rw c.in-Err-Source.field-0-is at (rw c.in-Err-Source.is at c.parse_into.ensures.refused)) bytes told
           c.args.profile
           c.new-maker.ensures)
           );
@@ -175,7 +175,7 @@ returns-in-Err-put_diagnostic-clause-output g c =
     λ bytes told. record {
       output = (
           let fails =
-          (rw c.in-Err-Source.field-0-is at (rw c.in-Err-Source.is at c.parse.ensures.refused)) bytes told
+          (rw c.in-Err-Source.field-0-is at (rw c.in-Err-Source.is at c.parse_into.ensures.refused)) bytes told
           c.args.profile
           c.new-maker.ensures in
           diagnostic_cut (g.K.TakesPrograms.mode c.args.keeper.now) c.args.profile c.args.name.now bytes
@@ -197,25 +197,25 @@ returns-in-Err-put_diagnostic-clause-keeps g c =
 
 pub returns-in-Ok-put_diagnostic-clause-read : goal.returns-in-Ok-put_diagnostic-clause-read
 returns-in-Ok-put_diagnostic-clause-read g c =
-    λ bytes told. (rw c.in-Err-Source.field-0-is at (rw c.in-Err-Source.is at c.parse.ensures.taken)) bytes told
+    λ bytes told. (rw c.in-Err-Source.field-0-is at (rw c.in-Err-Source.is at c.parse_into.ensures.taken)) bytes told
     c.args.profile c.new-maker.ensures
 
 pub returns-in-Err-put_diagnostic-clause-read : goal.returns-in-Err-put_diagnostic-clause-read
 returns-in-Err-put_diagnostic-clause-read g c =
-    λ bytes told. (rw c.in-Err-Source.field-0-is at (rw c.in-Err-Source.is at c.parse.ensures.taken)) bytes told
+    λ bytes told. (rw c.in-Err-Source.field-0-is at (rw c.in-Err-Source.is at c.parse_into.ensures.taken)) bytes told
     c.args.profile c.new-maker.ensures
 
 pub returns-in-Ok-put_diagnostic-clause-failures : goal.returns-in-Ok-put_diagnostic-clause-failures
 returns-in-Ok-put_diagnostic-clause-failures g c =
     record {
-      feed = rw c.in-Err-Source.field-0-is at (rw c.in-Err-Source.is at c.parse.ensures.counted);
+      feed = rw c.in-Err-Source.field-0-is at (rw c.in-Err-Source.is at c.parse_into.ensures.counted);
       sinks = search rules;
     }
 
 pub returns-in-Err-put_diagnostic-clause-failures : goal.returns-in-Err-put_diagnostic-clause-failures
 returns-in-Err-put_diagnostic-clause-failures g c =
     record {
-      feed = rw c.in-Err-Source.field-0-is at (rw c.in-Err-Source.is at c.parse.ensures.counted);
+      feed = rw c.in-Err-Source.field-0-is at (rw c.in-Err-Source.is at c.parse_into.ensures.counted);
       sinks = search rules;
     }
 
@@ -229,9 +229,9 @@ returns-in-Err-Device-clause-keeps g c =
 
 pub returns-in-Err-Device-clause-read : goal.returns-in-Err-Device-clause-read
 returns-in-Err-Device-clause-read g c =
-    λ bytes told. (rw c.in-Err-Device.field-0-is at (rw c.in-Err-Device.is at c.parse.ensures.taken)) bytes told
+    λ bytes told. (rw c.in-Err-Device.field-0-is at (rw c.in-Err-Device.is at c.parse_into.ensures.taken)) bytes told
     c.args.profile c.new-maker.ensures
 
 pub returns-in-Err-Device-clause-failures : goal.returns-in-Err-Device-clause-failures
 returns-in-Err-Device-clause-failures g c =
-    record { feed = rw c.in-Err-Device.field-0-is at (rw c.in-Err-Device.is at c.parse.ensures.counted); sinks = tt }
+    record { feed = rw c.in-Err-Device.field-0-is at (rw c.in-Err-Device.is at c.parse_into.ensures.counted); sinks = tt }

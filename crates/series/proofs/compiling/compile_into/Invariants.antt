@@ -1,4 +1,4 @@
-use Rattle.std.proofs.Common.{◌≡◌, List, drop, take, map}
+use Rattle.std.proofs.Common.{◌≡◌, List, drop, take}
 use Rattle.std.specs.Prelude.{IfSome}
 use Rattle.battles.specs.Programs.{AreOfProfile}
 use Rattle.series.specs.Compiling.{Source, compiling, codes_of, files_of, status_of}

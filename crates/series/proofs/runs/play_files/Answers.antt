@@ -1,4 +1,4 @@
-use Rattle.std.proofs.Common.{◌-◌, length, map}
+use Rattle.std.proofs.Common.{◌-◌, length}
 use Rattle.series.specs.Pieces.{taken}
 use Rattle.series.specs.Playing.{playing}
 use Rattle.series.proofs.OutputLemmas.{kept_codes, plays_run, stops_run}
