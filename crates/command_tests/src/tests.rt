@@ -64,40 +64,44 @@ struct Accepted {
     files: &'static [&'static str],
 }
 
+/// What is asked for by options that are not given.
+const DEFAULTS: Accepted = Accepted {
+    words: &[],
+    listing: false,
+    matches: 1,
+    limit: 500_000,
+    seed: 1,
+    first: 1,
+    second: false,
+    files: &[],
+};
+
 /// Words that are accepted.
 const ACCEPTED: &[Accepted] = &[
     Accepted {
         words: &["-c", "b", "a"],
         listing: true,
-        matches: 1,
-        limit: 500_000,
-        seed: 1,
-        first: 1,
-        second: false,
         files: &["b", "a"],
+        ..DEFAULTS
     },
     // the values may be words of their own, and the options may be among the files
     Accepted {
         words: &[
             "a.r", "-m", "3", "k/b.r", "-l", "20", "-s", "5", "-p", "2", "-f", "7",
         ],
-        listing: false,
         matches: 3,
         limit: 20,
         seed: 5,
         first: 7,
         second: true,
         files: &["a.r", "k/b.r"],
+        ..DEFAULTS
     },
     Accepted {
         words: &["-m0001", "-l15", "a.r"],
-        listing: false,
-        matches: 1,
         limit: 15,
-        seed: 1,
-        first: 1,
-        second: false,
         files: &["a.r"],
+        ..DEFAULTS
     },
     Accepted {
         words: &[
@@ -107,46 +111,34 @@ const ACCEPTED: &[Accepted] = &[
             "-f1000000",
             "a.r",
         ],
-        listing: false,
         matches: 1_000_000,
         limit: 1_000_000_000,
         seed: 18_446_744_073_709_551_615,
         first: 1_000_000,
-        second: false,
         files: &["a.r"],
+        ..DEFAULTS
     },
     // one `=` before an attached value is no part of it
     Accepted {
         words: &["-m=5", "a.r"],
-        listing: false,
         matches: 5,
-        limit: 500_000,
-        seed: 1,
-        first: 1,
-        second: false,
         files: &["a.r"],
+        ..DEFAULTS
     },
     // after `--` every word is a file
     Accepted {
         words: &["-c", "--", "-m"],
         listing: true,
-        matches: 1,
-        limit: 500_000,
-        seed: 1,
-        first: 1,
-        second: false,
         files: &["-m"],
+        ..DEFAULTS
     },
     // listings are asked for, beside matches too
     Accepted {
         words: &["-m3", "d", "-", "-c", "", "b"],
         listing: true,
         matches: 3,
-        limit: 500_000,
-        seed: 1,
-        first: 1,
-        second: false,
         files: &["d", "-", "", "b"],
+        ..DEFAULTS
     },
 ];
 

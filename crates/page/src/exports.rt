@@ -16,6 +16,15 @@ use series::{RunFault, Status};
 /// The answer of a film after which the match goes on.
 const GOES_ON: u32 = 6;
 
+/// The bytes of an order.
+const ORDER_BYTES: usize = size_of::<Order>();
+
+/// The bytes of a robot.
+const ROBOT_BYTES: usize = size_of::<RobotFile>();
+
+/// The bytes of a sheet.
+const SHEET_BYTES: usize = size_of::<Sheet>();
+
 /// Runs what the order asks for over one to four robots, and writes on the two sheets, as the program crobots does: the
 /// text that it writes on standard output, and the lines about faulty sources.
 ///
@@ -112,18 +121,24 @@ fn code(ran: Option<Result<Status, RunFault>>) -> u32
 
 /// Returns how many bytes an order has.
 #[unsafe(no_mangle)]
-pub extern "C" fn order_bytes() -> usize {
-    size_of::<Order>()
+pub extern "C" fn order_bytes() -> usize
+    ensures { result ≡ 32 }
+{
+    ORDER_BYTES
 }
 
 /// Returns how many bytes a robot has.
 #[unsafe(no_mangle)]
-pub extern "C" fn robot_bytes() -> usize {
-    size_of::<RobotFile>()
+pub extern "C" fn robot_bytes() -> usize
+    ensures { result ≡ 1048840 }
+{
+    ROBOT_BYTES
 }
 
 /// Returns how many bytes a sheet has.
 #[unsafe(no_mangle)]
-pub extern "C" fn sheet_bytes() -> usize {
-    size_of::<Sheet>()
+pub extern "C" fn sheet_bytes() -> usize
+    ensures { result ≡ 8388624 }
+{
+    SHEET_BYTES
 }

@@ -39,8 +39,7 @@ impl Watcher for Asks<'_> {
         let address = pilot.machine().address();
         let (line, function) = place_of(self.notes, turn.robot, pilot.program(), address);
         let added = add_ask(self.rows.text(), turn, function, line, &question);
-        self.rows.note(added.map_err(Fault::from));
-        self.rows.pass();
+        self.rows.end_row(added);
     }
 
     fn wants_more(&self) -> bool {
@@ -49,12 +48,7 @@ impl Watcher for Asks<'_> {
 }
 
 impl Teller for Asks<'_> {
-    fn finish(
-        self,
-        _request: &Request<'_>,
-        _cycles: u32,
-        _pilots: &[Pilot<'_>],
-    ) -> Result<(), Fault> {
+    fn finish(self, _: &Request<'_>, _: u32, _: &[Pilot<'_>]) -> Result<(), Fault> {
         self.rows.finish()
     }
 }

@@ -249,12 +249,7 @@ impl Watcher for Events<'_> {
 }
 
 impl Teller for Events<'_> {
-    fn finish(
-        mut self,
-        _request: &Request<'_>,
-        cycles: u32,
-        _pilots: &[Pilot<'_>],
-    ) -> Result<(), Fault> {
+    fn finish(mut self, _: &Request<'_>, cycles: u32, _: &[Pilot<'_>]) -> Result<(), Fault> {
         self.end(cycles);
         self.rows.finish()
     }

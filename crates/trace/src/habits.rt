@@ -1,9 +1,9 @@
 //! What a robot does again and again: its calls, the directions that they were for, and where it waited.
 
 use crate::items::Items;
-use crate::notes::Note;
-use crate::tallies::{Calls, Deed, INTRINSICS, Tally};
-use code::{Intrinsic, Program};
+use crate::subjects::Subject;
+use crate::tallies::{Calls, Deed, Tally};
+use code::Intrinsic;
 use findings::{DIRECTION_DEGREES, DIRECTIONS, Streak};
 use std::alloc::AllocError;
 
@@ -21,12 +21,8 @@ const DEEDS: [(Deed, &str); 3] = [
 ];
 
 /// Adds the longest streak of calls from one place, if it took much of the robot's time.
-pub fn add_streak(
-    text: &mut String,
-    tally: &Tally,
-    note: &Note,
-    program: &Program,
-) -> Result<(), AllocError> {
+pub fn add_streak(text: &mut String, subject: &Subject<'_>) -> Result<(), AllocError> {
+    let tally = subject.tally;
     let Some(streak) = tally.longest else {
         return Ok(());
     };
@@ -35,7 +31,7 @@ pub fn add_streak(
         return Ok(());
     }
     let mut items = Items::new("in a row", text);
-    add_place(items.begin()?, &streak, note, program)?;
+    add_place(items.begin()?, &streak, subject)?;
     let item = items.begin()?;
     write!(item, "cycles {} to {}", streak.first.cycle, streak.last)?;
     add_replies(items.begin()?, "reply ", Some([streak.least, streak.most]))?;
@@ -43,30 +39,20 @@ pub fn add_streak(
 }
 
 /// Adds how many calls a streak has, of what, and where.
-fn add_place(
-    text: &mut String,
-    streak: &Streak,
-    note: &Note,
-    program: &Program,
-) -> Result<(), AllocError> {
-    let (count, name, address) = (
-        streak.count,
-        streak.first.intrinsic.name(),
-        streak.first.address,
-    );
-    let (line, function) = (note.line(address), note.function(program, address));
+fn add_place(text: &mut String, streak: &Streak, subject: &Subject<'_>) -> Result<(), AllocError> {
+    let (count, name) = (streak.count, streak.first.intrinsic.name());
+    let (line, function) = subject.place(streak.first.address);
     write!(text, "{count} {name} in line {line} of {function}")
 }
 
 /// Adds a robot's calls of intrinsic functions.
 pub fn add_calls(text: &mut String, tally: &Tally) -> Result<(), AllocError> {
     let mut items = Items::new("calls", text);
-    for intrinsic in INTRINSICS {
-        let calls = tally.calls_of(intrinsic);
-        if calls.all > 0 {
+    for calls in tally.calls.iter() {
+        if let Some(intrinsic) = calls.intrinsic {
             let item = items.begin()?;
             write!(item, "{} {}", calls.all, intrinsic.name())?;
-            add_answers(item, intrinsic, &calls)?;
+            add_answers(item, intrinsic, calls)?;
         }
     }
     items.end(text)

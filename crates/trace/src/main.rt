@@ -13,6 +13,7 @@ mod requests;
 mod restarts;
 mod rows;
 mod steps;
+mod subjects;
 mod sums;
 mod tallies;
 mod tellers;

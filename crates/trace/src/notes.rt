@@ -33,9 +33,10 @@ impl Note {
         }
     }
 
-    /// Returns the name of the function of the file's program that holds an address.
-    pub fn function(&self, program: &Program, address: usize) -> &str {
-        self.function_name(function_at(program.addresses(), address))
+    /// Returns the line that the instruction of an address of the file's program comes from, and the name of its function.
+    pub fn place(&self, program: &Program, address: usize) -> (u32, &str) {
+        let function = function_at(program.addresses(), address);
+        (self.line(address), self.function_name(function))
     }
 
     /// Returns the name of the function of this number.
@@ -73,7 +74,7 @@ pub fn place_of<'a>(
     address: usize,
 ) -> (u32, &'a str) {
     match note_of(notes, robot) {
-        Some(note) => (note.line(address), note.function(program, address)),
+        Some(note) => note.place(program, address),
         None => (0, "?"),
     }
 }

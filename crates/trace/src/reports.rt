@@ -5,9 +5,10 @@ use crate::items::{Items, MOST_COLUMNS};
 use crate::notes::{Note, note_of, plain};
 use crate::requests::Request;
 use crate::restarts::add_restarts;
-use crate::tallies::{Tally, add, clear};
-use code::{Intrinsic, Program};
-use findings::{function_at, largest, percent};
+use crate::subjects::Subject;
+use crate::tallies::{Tally, add, take_largest};
+use code::Intrinsic;
+use findings::percent;
 use playing::Pilot;
 use std::alloc::AllocError;
 use std::str;
@@ -37,7 +38,13 @@ pub fn add_report(
             && let Some(pilot) = pilots.get(robot)
             && let Some(note) = note_of(notes, robot)
         {
-            add_robot(text, robot, tally, note, pilot.program())?;
+            let program = pilot.program();
+            let subject = Subject {
+                tally,
+                note,
+                program,
+            };
+            add_robot(text, robot, &subject)?;
         }
     }
     Ok(())
@@ -63,15 +70,9 @@ fn add_end(text: &mut String, robot: usize, tally: &Tally, name: &str) -> Result
 }
 
 /// Adds what is told of a robot.
-fn add_robot(
-    text: &mut String,
-    robot: usize,
-    tally: &Tally,
-    note: &Note,
-    program: &Program,
-) -> Result<(), AllocError> {
-    let number = robot.saturating_add(1);
-    write!(text, "\n{number}) {}", note.name.as_str())?;
+fn add_robot(text: &mut String, robot: usize, subject: &Subject<'_>) -> Result<(), AllocError> {
+    let (tally, number) = (subject.tally, robot.saturating_add(1));
+    write!(text, "\n{number}) {}", subject.note.name.as_str())?;
     if let Some(cycle) = tally.death {
         write!(text, ", dead after cycle {cycle}")?;
     }
@@ -79,13 +80,13 @@ fn add_robot(
     add_losses(text, robot, tally)?;
     add_taken(text, tally)?;
     add_shots(text, tally)?;
-    add_restarts(text, tally, note, program)?;
-    add_streak(text, tally, note, program)?;
+    add_restarts(text, subject)?;
+    add_streak(text, subject)?;
     add_time(text, tally)?;
     add_calls(text, tally)?;
     add_directions(text, tally)?;
-    add_functions(text, tally, note, program)?;
-    add_lines(text, tally, note)
+    add_functions(text, subject)?;
+    add_lines(text, tally, subject.note)
 }
 
 /// Adds what was taken from a robot, and by what.
@@ -173,41 +174,33 @@ fn add_time(text: &mut String, tally: &Tally) -> Result<(), AllocError> {
 }
 
 /// Adds the cycles of each function, and their share in all of the robot's.
-fn add_functions(
-    text: &mut String,
-    tally: &Tally,
-    note: &Note,
-    program: &Program,
-) -> Result<(), AllocError> {
+fn add_functions(text: &mut String, subject: &Subject<'_>) -> Result<(), AllocError> {
     let mut items = Items::new("functions", text);
-    let mut counts = cycles_by_function(text, tally, program)?;
-    let all = tally.cycles();
-    for _ in program.addresses() {
-        let Some(number) = largest(counts.as_slice()) else {
+    let mut counts = cycles_by_function(text, subject)?;
+    let all = subject.tally.cycles();
+    for _ in subject.program.addresses() {
+        let Some((number, cycles)) = take_largest(counts.as_mut_slice()) else {
             break;
         };
-        let cycles = counts.get(number).copied().unwrap_or(0);
-        let (name, share) = (note.function_name(number), percent(cycles, all));
+        let (name, share) = (subject.note.function_name(number), percent(cycles, all));
         let item = items.begin()?;
         write!(item, "{cycles} {name} ({share}%)")?;
-        clear(counts.as_mut_slice(), number);
     }
     items.end(text)
 }
 
-/// Returns the cycles of each function of a program.
-fn cycles_by_function(
-    text: &String,
-    tally: &Tally,
-    program: &Program,
-) -> Result<Vec<u64>, AllocError> {
+/// Returns the cycles of each function of a robot's program.
+fn cycles_by_function(text: &String, subject: &Subject<'_>) -> Result<Vec<u64>, AllocError> {
     let mut counts = Vec::new(*text.allocator());
-    for _ in program.addresses() {
+    for _ in subject.program.addresses() {
         counts.push(0)?;
     }
-    for (address, spot) in tally.spots.iter().enumerate() {
-        let number = function_at(program.addresses(), address);
-        add(counts.as_mut_slice(), number, spot.cycles);
+    for (address, spot) in subject.tally.spots.iter().enumerate() {
+        add(
+            counts.as_mut_slice(),
+            subject.function(address),
+            spot.cycles,
+        );
     }
     Ok(counts)
 }
@@ -218,15 +211,13 @@ fn add_lines(text: &mut String, tally: &Tally, note: &Note) -> Result<(), AllocE
     let all = tally.cycles();
     text.push_str("   line      cycles    %  text\n")?;
     for _ in 0..MOST_TOLD {
-        let Some(n) = largest(counts.as_slice()) else {
+        let Some((n, cycles)) = take_largest(counts.as_mut_slice()) else {
             break;
         };
         let line = lines.get(n).copied().unwrap_or(0);
-        let cycles = counts.get(n).copied().unwrap_or(0);
         let share = percent(cycles, all);
         write!(text, "{line:>7}{cycles:>12}{share:>5}  ")?;
         add_source(text, note.text_of(line))?;
-        clear(counts.as_mut_slice(), n);
     }
     Ok(())
 }

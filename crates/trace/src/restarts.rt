@@ -2,9 +2,9 @@
 
 use crate::items::Items;
 use crate::notes::Note;
-use crate::tallies::{Tally, add, clear};
-use code::{Cause, Frame, Program};
-use findings::{function_at, largest};
+use crate::subjects::Subject;
+use crate::tallies::{add, take_largest};
+use code::{Cause, Frame};
 use std::alloc::AllocError;
 
 /// How many places of restarts are told.
@@ -50,37 +50,25 @@ fn calls_to(frames: &[Frame], back: u16) -> usize {
 
 /// Adds where and why a robot restarted, the most frequent places first. Those in one line of a function for one cause are
 /// one.
-pub fn add_restarts(
-    text: &mut String,
-    tally: &Tally,
-    note: &Note,
-    program: &Program,
-) -> Result<(), AllocError> {
+pub fn add_restarts(text: &mut String, subject: &Subject<'_>) -> Result<(), AllocError> {
     let mut items = Items::new("restarts", text);
-    let mut counts = restarts_by_place(text, tally, note, program)?;
+    let mut counts = restarts_by_place(text, subject)?;
     for _ in 0..MOST_TOLD {
-        let Some(address) = largest(counts.as_slice()) else {
+        let Some((address, count)) = take_largest(counts.as_mut_slice()) else {
             break;
         };
-        let count = counts.get(address).copied().unwrap_or(0);
-        add_restart(items.begin()?, address, count, tally, note, program)?;
-        clear(counts.as_mut_slice(), address);
+        add_restart(items.begin()?, address, count, subject)?;
     }
     items.end(text)
 }
 
 /// Returns how often a robot restarted at each address: what is alike counts for the first address of it.
-fn restarts_by_place(
-    text: &String,
-    tally: &Tally,
-    note: &Note,
-    program: &Program,
-) -> Result<Vec<u64>, AllocError> {
+fn restarts_by_place(text: &String, subject: &Subject<'_>) -> Result<Vec<u64>, AllocError> {
     let mut counts = Vec::new(*text.allocator());
-    for (address, spot) in tally.spots.iter().enumerate() {
+    for (address, spot) in subject.tally.spots.iter().enumerate() {
         counts.push(0)?;
         if spot.restarts > 0 {
-            let first = first_alike(address, tally, note, program);
+            let first = first_alike(address, subject);
             add(counts.as_mut_slice(), first, spot.restarts);
         }
     }
@@ -88,10 +76,10 @@ fn restarts_by_place(
 }
 
 /// Returns the first address at which the robot restarted for the same cause in the same line and function.
-fn first_alike(address: usize, tally: &Tally, note: &Note, program: &Program) -> usize {
-    let here = place_and_cause(address, tally, note, program);
+fn first_alike(address: usize, subject: &Subject<'_>) -> usize {
+    let here = place_and_cause(address, subject);
     for before in 0..address {
-        if place_and_cause(before, tally, note, program) == here {
+        if place_and_cause(before, subject) == here {
             return before;
         }
     }
@@ -99,18 +87,13 @@ fn first_alike(address: usize, tally: &Tally, note: &Note, program: &Program) ->
 }
 
 /// Returns the line and the function of an address, and why the robot restarted there, if it did.
-fn place_and_cause(
-    address: usize,
-    tally: &Tally,
-    note: &Note,
-    program: &Program,
-) -> (u32, usize, Option<Cause>) {
-    let cause = match tally.spots.get(address) {
+fn place_and_cause(address: usize, subject: &Subject<'_>) -> (u32, usize, Option<Cause>) {
+    let cause = match subject.tally.spots.get(address) {
         Some(spot) => spot.cause,
         None => None,
     };
-    let function = function_at(program.addresses(), address);
-    (note.line(address), function, cause)
+    let line = subject.note.line(address);
+    (line, subject.function(address), cause)
 }
 
 /// Adds so many restarts at an address.
@@ -118,18 +101,16 @@ fn add_restart(
     item: &mut String,
     address: usize,
     count: u64,
-    tally: &Tally,
-    note: &Note,
-    program: &Program,
+    subject: &Subject<'_>,
 ) -> Result<(), AllocError> {
-    let Some(spot) = tally.spots.get(address) else {
+    let Some(spot) = subject.tally.spots.get(address) else {
         return Ok(());
     };
     let why = reason(spot.cause);
-    let (line, function) = (note.line(address), note.function(program, address));
+    let (line, function) = subject.place(address);
     write!(item, "{count} in line {line} of {function}: {why}")?;
     match spot.crowd {
-        Some(crowd) => add_crowd(item, spot.cause, &crowd, note),
+        Some(crowd) => add_crowd(item, spot.cause, &crowd, subject.note),
         None => Ok(()),
     }
 }

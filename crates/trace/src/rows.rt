@@ -60,8 +60,14 @@ impl<'a> Rows<'a> {
         &mut self.pending
     }
 
+    /// Passes on a row that was added to the text, if there was memory for it.
+    pub fn end_row(&mut self, added: Result<(), AllocError>) {
+        self.note(added.map_err(Fault::from));
+        self.pass();
+    }
+
     /// Notes a fault, the first of several.
-    pub fn note(&mut self, done: Result<(), Fault>) {
+    fn note(&mut self, done: Result<(), Fault>) {
         if let Err(fault) = done {
             self.fault = self.fault.or(Some(fault));
         }

@@ -36,8 +36,7 @@ impl Watcher for Steps<'_> {
             return;
         }
         let added = add_step(self.rows.text(), turn, pilot);
-        self.rows.note(added.map_err(Fault::from));
-        self.rows.pass();
+        self.rows.end_row(added);
     }
 
     fn wants_more(&self) -> bool {
@@ -46,12 +45,7 @@ impl Watcher for Steps<'_> {
 }
 
 impl Teller for Steps<'_> {
-    fn finish(
-        self,
-        _request: &Request<'_>,
-        _cycles: u32,
-        _pilots: &[Pilot<'_>],
-    ) -> Result<(), Fault> {
+    fn finish(self, _: &Request<'_>, _: u32, _: &[Pilot<'_>]) -> Result<(), Fault> {
         self.rows.finish()
     }
 }

@@ -3,26 +3,13 @@
 use crate::restarts::{Crowd, crowd_of};
 use arena::MOST_ROBOTS;
 use code::{Cause, Frame, Intrinsic};
-use findings::{Call, DIRECTIONS, Loss, Shares, Source, Streak, direction_of, purpose_of};
+use findings::{Call, DIRECTIONS, Loss, Shares, Source, Streak, direction_of, largest, purpose_of};
 use playing::Question;
 use std::alloc::{AllocError, Global};
+use std::mem;
 
-/// The intrinsic functions, in the order of their enum.
-pub const INTRINSICS: [Intrinsic; 13] = [
-    Intrinsic::Scan,
-    Intrinsic::Cannon,
-    Intrinsic::Drive,
-    Intrinsic::Damage,
-    Intrinsic::Speed,
-    Intrinsic::LocX,
-    Intrinsic::LocY,
-    Intrinsic::Rand,
-    Intrinsic::Sqrt,
-    Intrinsic::Sin,
-    Intrinsic::Cos,
-    Intrinsic::Tan,
-    Intrinsic::Atan,
-];
+/// How many intrinsic functions there are.
+const INTRINSICS: usize = 13;
 
 /// What is counted of an address.
 #[derive(Clone, Copy, Debug, Default, Drop)]
@@ -40,6 +27,8 @@ pub struct Spot {
 /// The calls of an intrinsic function.
 #[derive(Clone, Copy, Debug, Default, Drop)]
 pub struct Calls {
+    /// The function, once it was called.
+    pub intrinsic: Option<Intrinsic>,
     /// How many there were.
     pub all: u64,
     /// How many of them had the reply 0.
@@ -52,6 +41,7 @@ impl Calls {
     /// Counts a call.
     fn count(&mut self, question: &Question) {
         let reply = question.reply;
+        self.intrinsic = Some(question.intrinsic);
         self.all = self.all.saturating_add(1);
         if reply == 0 {
             self.zero = self.zero.saturating_add(1);
@@ -92,7 +82,7 @@ pub struct Tally {
     /// What its cycles were for.
     pub shares: Shares,
     /// Its calls, in the order of the intrinsic functions.
-    pub calls: [Calls; 13],
+    pub calls: [Calls; INTRINSICS],
     /// What it did, by direction.
     pub deeds: [[u64; DIRECTIONS]; 3],
     /// Its last calls, if they are from one address.
@@ -127,7 +117,7 @@ impl Tally {
         Ok(Tally {
             spots,
             shares: Shares::default(),
-            calls: [Calls::default(); 13],
+            calls: [Calls::default(); INTRINSICS],
             deeds: [[0; DIRECTIONS]; 3],
             streak: None,
             longest: None,
@@ -259,9 +249,9 @@ pub fn add(counts: &mut [u64], n: usize, by: u64) {
     }
 }
 
-/// Makes the count of this number 0, if there is one.
-pub fn clear(counts: &mut [u64], n: usize) {
-    if let Some(count) = counts.get_mut(n) {
-        *count = 0;
-    }
+/// Takes the largest count, if one isn't 0: returns its number and how much it was.
+pub fn take_largest(counts: &mut [u64]) -> Option<(usize, u64)> {
+    let number = largest(counts)?;
+    let count = counts.get_mut(number)?;
+    Some((number, mem::take(count)))
 }

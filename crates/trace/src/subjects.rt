@@ -1,0 +1,29 @@
+//! A robot that is reported.
+
+use crate::notes::Note;
+use crate::tallies::Tally;
+use code::Program;
+use findings::function_at;
+
+/// A robot that is reported: what was counted of it, and what that is told by.
+#[derive(Clone, Copy)]
+pub struct Subject<'a> {
+    /// What was counted.
+    pub tally: &'a Tally,
+    /// What is known of its file.
+    pub note: &'a Note,
+    /// Its program.
+    pub program: &'a Program,
+}
+
+impl<'a> Subject<'a> {
+    /// Returns the line that the instruction of an address comes from, and the name of its function.
+    pub fn place(&self, address: usize) -> (u32, &'a str) {
+        self.note.place(self.program, address)
+    }
+
+    /// Returns the number of the function that holds an address.
+    pub fn function(&self, address: usize) -> usize {
+        function_at(self.program.addresses(), address)
+    }
+}
