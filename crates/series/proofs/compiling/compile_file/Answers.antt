@@ -234,4 +234,5 @@ returns-in-Err-Device-clause-read g c =
 
 pub returns-in-Err-Device-clause-failures : goal.returns-in-Err-Device-clause-failures
 returns-in-Err-Device-clause-failures g c =
-    record { feed = rw c.in-Err-Device.field-0-is at (rw c.in-Err-Device.is at c.parse_into.ensures.counted); sinks = tt }
+    record
+    { feed = rw c.in-Err-Device.field-0-is at (rw c.in-Err-Device.is at c.parse_into.ensures.counted); sinks = tt }
