@@ -265,9 +265,7 @@ impl Arena {
         &self.robots[robot]
     }
 
-    /// Returns the range in metres of the nearest robot in an arc, or 0. It is not inlined, so that the answers of a line
-    /// need no registers for it.
-    #[inline(never)]
+    /// Returns the range in metres of the nearest robot in an arc, or 0.
     fn scan(&self, robot: usize, degree: i32, resolution: i32) -> i32
         requires { robot < length self.now.robots }
         ensures { (f : Field) → StandsFor self.now f
@@ -283,7 +281,6 @@ impl Arena {
     }
 
     /// Fires a missile, and reports by 1 or 0 whether the robot may.
-    #[inline(never)]
     fn cannon(&mut self, robot: usize, degree: i32, range: i32) -> i32
         requires { robot < length self.old.robots }
         ensures reply { (f : Field) → StandsFor self.old f
