@@ -1,1 +1,2 @@
 pub mod Pilot
+pub mod Played

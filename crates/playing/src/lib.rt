@@ -5,6 +5,6 @@ mod games;
 mod pilot;
 mod watcher;
 
-pub use games::{UPDATE_CYCLES, play};
+pub use games::{Ending, UPDATE_CYCLES, play};
 pub use pilot::{Pilot, pilots};
 pub use watcher::{Question, Turn, Watcher};

@@ -4,7 +4,9 @@ ghost use Rattle.std.specs.Prelude.{◌≡◌, ◌==◌, ◌<◌, ◌≤◌, if�
 ghost use Rattle.arena.specs.Ground.{lives};
 ghost use Rattle.code.specs.Machine.{want_code};
 ghost use Rattle.code.specs.Standing.{FitsProgram, IsReached};
+ghost use Rattle.battles.specs.Pairing.{paired};
 ghost use Rattle.playing.specs.Pilot.{IsOfSameUpdate, TakesTurn};
+ghost use Rattle.playing.specs.Played.{codes_of};
 
 use crate::watcher::{Question, Turn, Watcher};
 use arena::Arena;
@@ -40,6 +42,14 @@ impl<'a> Pilot<'a> {
             program,
             machine: Machine::new(program),
         }
+    }
+
+    /// Goes to the start of its program, whatever it did before.
+    pub(crate) fn begin(&mut self)
+        ensures program { self.new.code ≡ self.old.code }
+        ensures begins { IsReached self.new.state self.old.code [] }
+    {
+        self.machine.restart(self.program);
     }
 
     /// Returns the program.
@@ -97,7 +107,7 @@ impl<'a> Pilot<'a> {
         if let Some(cause) = self.machine.cause(self.program) {
             watcher.restarts(turn, self, cause);
         }
-        self.machine.restart(self.program);
+        self.begin();
     }
 }
 
@@ -105,7 +115,8 @@ impl<'a> Pilot<'a> {
 pub fn pilots(alloc: Global, programs: &[Program]) -> Result<Vec<Pilot<'_>>, AllocError>
     requires some { 0 < length programs.now }
     requires most { length programs.now ≤ 4 }
-    ensures { IfOk result (λ pilots. length pilots.items
+    ensures codes { IfOk result (λ pilots. codes_of pilots.items ≡ paired programs.now) }
+    ensures count { IfOk result (λ pilots. length pilots.items
         ≡ (if length programs.now == 1 then 2 else length programs.now)) }
 {
     let mut pilots = Vec::new(alloc);
