@@ -22,7 +22,7 @@ export const Limits = Object.freeze({
 });
 
 const PAGE_BYTES = 65536;
-const ORDER_BYTES = 32;
+const ORDER_BYTES = 40;
 const ROBOT_BYTES = 8 + Limits.nameBytes + Limits.sourceBytes;
 const FRAME_BYTES = 256;
 const FRAMES = 32768;
@@ -116,21 +116,21 @@ export class Engine {
     }
 
     /**
-     * Plays the first match of the settings up to the update `from`, and films so many `windows` of 15 cycles after it. Any
+     * Plays the first match of the settings up to their update `from`, and films so many `windows` of 15 cycles after it. Any
      * numbers from 0 to 2 ** 32 - 1 will do. Returns {ending, text, faults}; the ending is GOES_ON if the match goes on.
      */
-    windows({from, windows, ...settings}, robots) {
-        return this.inParts(settings, robots, this.exports.film_windows, from, windows);
+    windows(settings, robots) {
+        return this.inParts(settings, robots, this.exports.film_windows);
     }
 
     /**
      * Makes a film. One that is longer than a sheet comes in parts: the match is played anew for each. After a million rows
      * it is cut off.
      */
-    inParts(settings, robots, call, ...numbers) {
+    inParts(settings, robots, call) {
         let film = "";
         for (let skipped = 0; ; ) {
-            const {ending, text, faults} = this.runIn(1, {...settings, skipped}, robots, call, ...numbers);
+            const {ending, text, faults} = this.runIn(1, {...settings, skipped}, robots, call);
             const rows = text.slice(text.indexOf("\n") + 1);
             film += film ? rows : text;
             skipped += countOf("\n", rows);
@@ -140,18 +140,19 @@ export class Engine {
         }
     }
 
-    runIn(mode, settings, robots, call = this.exports.run, ...numbers) {
+    runIn(mode, settings, robots, call = this.exports.run) {
         this.putOrder(mode, settings);
         this.putRobots(robots);
         const blocks = [this.order, this.robots, robots.length, this.text, this.faults].map(BigInt);
-        const ending = call(...blocks, ...numbers);
+        const ending = call(...blocks);
         return {ending, text: this.textOf(this.text), faults: this.textOf(this.faults)};
     }
 
-    putOrder(mode, {matches = 1, limit = 500000, seed = 1n, profile = 1, first = 1, skipped = 0}) {
+    putOrder(mode, {matches = 1, limit = 500000, seed = 1n, profile = 1, first = 1, skipped = 0, from = 0, windows = 0}) {
         const view = new DataView(this.memory.buffer, this.order, ORDER_BYTES);
         view.setBigUint64(0, BigInt(seed), true);
-        [mode, matches, limit, profile, first, skipped].forEach((n, i) => view.setUint32(8 + 4 * i, n, true));
+        [mode, matches, limit, profile, first, skipped, from, windows]
+            .forEach((n, i) => view.setUint32(8 + 4 * i, n, true));
     }
 
     putRobots(robots) {

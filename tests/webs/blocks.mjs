@@ -33,9 +33,11 @@ function spoil(at, size) {
 
 /** Fills the order: mostly with good numbers, so that much of it is run. */
 function putOrder() {
-    const view = new DataView(engine.memory.buffer, engine.order, 32);
-    spoil(engine.order, 32);
+    const view = new DataView(engine.memory.buffer, engine.order, 40);
+    spoil(engine.order, 40);
     Object.values(ORDERS).forEach((several, n) => view.setUint32(8 + 4 * n, below(8) ? several[1] : oneOf(several), true));
+    // the windows of a film
+    [32, 36].forEach(at => view.setUint32(at, oneOf(NUMBERS), true));
 }
 
 /** Fills a robot: with a source, and maybe bytes of any kind over it, and sizes of any kind. */
@@ -61,8 +63,7 @@ function call(codes) {
     const robots = below(6) ? 1 + below(4) : 0;
     const addresses = [engine.order, engine.robots, robots, engine.text, engine.faults].map(BigInt);
     const name = oneOf(["run", "film", "film_windows"]);
-    const numbers = name === "film_windows" ? [oneOf(NUMBERS), oneOf(NUMBERS)] : [];
-    const code = engine.exports[name](...addresses, ...numbers);
+    const code = engine.exports[name](...addresses);
     codes[code] = (codes[code] ?? 0) + 1;
 }
 

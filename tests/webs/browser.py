@@ -25,13 +25,15 @@ DEBIAN = "/usr/lib/python3/dist-packages"
 WIDTHS = (360, 1200)
 
 
-def lacking(_folder: str) -> str:
-    """What is lacking for these tests. Debian's modules are found by another Python too."""
+def lacking(folder: str) -> str:
+    """What is lacking for these tests, the page's editor too. Debian's modules are found by another Python too."""
     if not importlib.util.find_spec("selenium") and os.path.isdir(DEBIAN):
         sys.path.append(DEBIAN)
     programs = [name for name in ("chromium", "chromedriver") if not shutil.which(name)]
     modules = [] if importlib.util.find_spec("selenium") else ["python3-selenium"]
-    return f"there is no {' and no '.join(programs + modules)}" if programs + modules else ""
+    editor = [] if os.listdir(os.path.join(folder, "codemirror")) else ["libjs-codemirror"]
+    missing = programs + modules + editor
+    return f"there is no {' and no '.join(missing)}" if missing else ""
 
 
 class Quiet(http.server.SimpleHTTPRequestHandler):

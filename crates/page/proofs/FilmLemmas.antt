@@ -1,9 +1,12 @@
 -- What a film says of its robots' sources.
-use Rattle.std.proofs.Common.{◌≡◌, ◌≢◌, List, Option, Some, None, Result, Ok, Err, IfSome, map, refl, sym, arith}
+use Rattle.std.proofs.Common.{◌≡◌, ◌≢◌, List, Option, Some, None, Result, Ok, Err, IfErr, IfOk, IfSome, IsSome, map, refl, sym, arith, inl, inr, rules, ◌<◌}
 use Rattle.std.specs.Prelude.{option_map}
+use Rattle.grammar.specs.Laws.{CompiledIsResolved}
 use Rattle.grammar.specs.Profile.{Profile}
 use Rattle.grammar.specs.Tree.{File}
+use Rattle.code.specs.Codes.{AreCodesOf}
 use Rattle.code.specs.Generation.{ObjectCode, code_of}
+use Rattle.series.proofs.OutputLemmas.{kept_codes}
 use Rattle.series.specs.Compiling.{files_of, status_of}
 use Rattle.series.specs.Pieces.{on_both}
 use Rattle.series.specs.Runs.{Compiles}
@@ -15,10 +18,11 @@ use Rattle.page.specs.declared.films.Shown.TheVariants.{Over, GoesOn, Faulty}
 use Rattle.page.specs.declared.orders.Order.{Order}
 use Rattle.page.specs.declared.robots.RobotFile.{RobotFile}
 use Rattle.page.specs.declared.sheets.Sheet.{Sheet}
-use Rattle.page.specs.Films.{FilmsRobots, IsFilm, film_code, status_shown}
-use Rattle.page.specs.Orders.{mode_by, setup_of}
+use Rattle.page.specs.declared.stretches.Stretch.{Stretch}
+use Rattle.page.specs.Films.{FilmsRobots, IsFilm, IsOfFilm, IsOfStretch, OfMatch, Shows, film_code, status_shown}
+use Rattle.page.specs.Orders.{mode_by, setup_of, stretch_of}
 use Rattle.page.specs.Robots.{name_bytes, source_of}
-use Rattle.page.specs.Running.{blank}
+use Rattle.page.specs.Running.{IsOfRun, blank}
 use Rattle.page.specs.Sheets.{contents_of}
 use Rattle.page.proofs.RunningLemmas.{lines_held}
 use Rattle.series.specs.Compiling.{compiling}
@@ -43,14 +47,24 @@ CompilesRobots order robots result film faults =
     Compiles (setup_of order (map name_bytes robots)) (map source_of robots)
     result blank (on_both (contents_of film) (contents_of faults))
 
-pub films_faulty : (order : Order) (robots : List RobotFile) (result : Result (Option (List ObjectCode)) RunFault)
+-- no codes: there are no files
+no_files : (profile : Profile) (files : Option (List File)) (some : List File)
+    → None ≡ option_map (λ files. map (code_of profile) files) files → files ≡ Some some → ⊥
+no_files profile None some is same = absurd (cc same)
+no_files profile (Some files) some is same = absurd (cc is)
+
+pub films_faulty : (order : Order) (robots : List RobotFile) (stretch : Option Stretch)
+    (result : Result (Option (List ObjectCode)) RunFault)
     (film faults : Sheet) → result ≡ Ok None → CompilesRobots order robots result film faults
-    → FilmsRobots order robots (Ok Faulty) film faults
-films_faulty order robots (Err stopped) film faults is compiles = absurd (cc is)
-films_faulty order robots (Ok (Some codes)) film faults is compiles = absurd (cc is)
-films_faulty order robots (Ok None) film faults is (writes, codes) = (
+    → FilmsRobots order robots stretch (Ok Faulty) film faults
+films_faulty order robots stretch (Err stopped) film faults is compiles = absurd (cc is)
+films_faulty order robots stretch (Ok (Some codes)) film faults is compiles = absurd (cc is)
+films_faulty order robots stretch (Ok None) film faults is (writes, codes) = (
   no_codes (profile_by order.profile) (files_of (profile_by order.profile) (map source_of robots)) codes,
   lines_held (compiling (mode_by order.mode) (profile_by order.profile) (map source_of robots)) film faults writes,
+  λ some. absurd (some refl),
+  λ matches files good.
+      no_files (profile_by order.profile) (files_of (profile_by order.profile) (map source_of robots)) files codes good,
 )
 
 -- what is shown of good sources is said by what shows something
@@ -59,49 +73,139 @@ shown_good Over some = refl
 shown_good GoesOn some = refl
 shown_good Faulty some = absurd (some refl)
 
-pub films_good : (order : Order) (robots : List RobotFile) (result : Result (Option (List ObjectCode)) RunFault)
+pub films_good : (order : Order) (robots : List RobotFile) (stretch : Option Stretch)
+    (result : Result (Option (List ObjectCode)) RunFault)
     (codes : List ObjectCode) (compiled film faults : Sheet) (shown : Shown) → shown ≢ Faulty → result ≡ Ok (Some codes)
-    → CompilesRobots order robots result compiled faults → FilmsRobots order robots (Ok shown) film faults
-films_good order robots (Err stopped) kept compiled film faults shown some is compiles = absurd (cc is)
-films_good order robots (Ok None) kept compiled film faults shown some is compiles = absurd (cc is)
-films_good order robots (Ok (Some codes)) kept compiled film faults shown some is (writes, given) = (
+    → CompilesRobots order robots result compiled faults → film.failures ≡ 0
+    → OfMatch order robots (λ cycles. Shows stretch cycles shown)
+    → FilmsRobots order robots stretch (Ok shown) film faults
+films_good order robots stretch (Err stopped) kept compiled film faults shown some is compiles whole shows =
+    absurd (cc is)
+films_good order robots stretch (Ok None) kept compiled film faults shown some is compiles whole shows = absurd (cc is)
+films_good order robots stretch (Ok (Some codes)) kept compiled film faults shown some is (writes, given) room shows = (
   rw (shown_good shown some)
       (some_codes (profile_by order.profile) codes (files_of (profile_by order.profile) (map source_of robots)) given),
   lines_held (compiling (mode_by order.mode) (profile_by order.profile) (map source_of robots)) compiled faults writes,
+  λ _. room,
+  shows,
 )
 
+-- the programs of good sources are the codes of their files
+pub codes_good : CompiledIsResolved → (order : Order) (robots : List RobotFile)
+    (result : Result (Option (List ObjectCode)) RunFault) (codes : List ObjectCode) (compiled faults : Sheet)
+    (files : List File) → result ≡ Ok (Some codes) → CompilesRobots order robots result compiled faults
+    → files_of (profile_by order.profile) (map source_of robots) ≡ Some files
+    → AreCodesOf codes (profile_by order.profile) files
+codes_good law order robots (Err stopped) codes compiled faults files is compiles good = absurd (cc is)
+codes_good law order robots (Ok None) codes compiled faults files is compiles good = absurd (cc is)
+codes_good law order robots (Ok (Some kept)) codes compiled faults files is (writes, given) good =
+    let found = kept_codes law (profile_by order.profile) (map source_of robots) kept given in
+    let same : found.0 ≡ files = cc (found.1, good) in
+    let here : kept ≡ codes = cc is in
+    rw (same, here) at found.2
+
+-- a film is taken whole, or its sheet was full
+pub films_taken : (order : Order) (robots : List RobotFile) (stretch : Option Stretch) (ran : Result Shown RunFault)
+    (shown : Option Shown) (film faults : Sheet) → IfOk ran (λ whole. (shown ≡ Some whole) × (film.failures ≡ 0))
+    → IfErr ran (λ stopped. (stopped ≡ fault.Write) × (0 < film.failures))
+    → ((whole : Shown) → shown ≡ Some whole → film.failures ≡ 0 →
+    FilmsRobots order robots stretch (Ok whole) film faults)
+    → FilmsRobots order robots stretch ran film faults
+films_taken order robots stretch (Ok whole) shown film faults is full films = films whole is.0 is.1
+films_taken order robots stretch (Err stopped) shown film faults is full films = (full.0, inl full.1)
+
 -- a film's code
-pub is_film : (order : Order) (robots : List RobotFile) (ran : Option (Result Shown RunFault)) (film faults : Sheet)
-    → IfSome ran (λ ran. FilmsRobots order robots ran film faults) → IsFilm order robots (film_code ran) film faults
-is_film order robots None film faults films = record {
+pub is_film : (order : Order) (robots : List RobotFile) (stretch : Option Stretch)
+    (ran : Option (Result Shown RunFault)) (film faults : Sheet)
+    → IfSome ran (λ ran. FilmsRobots order robots stretch ran film faults) →
+    IsFilm order robots (film_code ran) film faults
+is_film order robots stretch None film faults films = record {
   faulty = λ is. absurd (omega (arith, is));
   good = λ is. absurd (omega (arith, is));
+  whole = λ is. absurd (omega (arith, is));
   lines = λ is. absurd (omega (arith, is));
   full = λ is. absurd (omega (arith, is));
 }
-is_film order robots (Some (Ok Over)) film faults (status, lines) = record {
+is_film order robots stretch (Some (Ok Over)) film faults (status, lines, whole, shows) = record {
   faulty = λ is. absurd (omega (arith, is));
   good = λ is. sym status;
+  whole = λ is. whole (λ same. absurd (cc same));
   lines = λ is. lines;
   full = λ is. absurd (omega (arith, is));
 }
-is_film order robots (Some (Ok GoesOn)) film faults (status, lines) = record {
+is_film order robots stretch (Some (Ok GoesOn)) film faults (status, lines, whole, shows) = record {
   faulty = λ is. absurd (omega (arith, is));
   good = λ is. sym status;
+  whole = λ is. whole (λ same. absurd (cc same));
   lines = λ is. lines;
   full = λ is. absurd (omega (arith, is));
 }
-is_film order robots (Some (Ok Faulty)) film faults (status, lines) = record {
+is_film order robots stretch (Some (Ok Faulty)) film faults (status, lines, whole, shows) = record {
   faulty = λ is. sym status;
   good = λ is. absurd (omega (arith, is));
+  whole = λ is. absurd (omega (arith, is));
   lines = λ is. lines;
   full = λ is. absurd (omega (arith, is));
 }
-is_film order robots (Some (Err fault.Write)) film faults (writes, full) = record {
+is_film order robots stretch (Some (Err fault.Write)) film faults (writes, full) = record {
   faulty = λ is. absurd (omega (arith, is));
   good = λ is. absurd (omega (arith, is));
+  whole = λ is. absurd (omega (arith, is));
   lines = λ is. absurd (omega (arith, is));
   full = λ is. full;
 }
-is_film order robots (Some (Err (fault.Read file))) film faults (writes, full) = absurd (cc writes)
-is_film order robots (Some (Err fault.Memory)) film faults (writes, full) = absurd (cc writes)
+is_film order robots stretch (Some (Err (fault.Read file))) film faults (writes, full) = absurd (cc writes)
+is_film order robots stretch (Some (Err fault.Memory)) film faults (writes, full) = absurd (cc writes)
+
+-- a film that isn't of a stretch never says that its match goes on
+abbrev IsWhole : Option (Result Shown RunFault) → Type 0
+IsWhole ran = IfSome ran (λ ran. IfOk ran (λ shown. shown ≢ GoesOn))
+
+pub of_film : (order : Order) (robots : List RobotFile) (stretch : Option Stretch)
+    (ran : Option (Result Shown RunFault)) (film faults : Sheet)
+    → IfSome ran (λ ran. FilmsRobots order robots stretch ran film faults) → IsWhole ran → IsOfFilm (film_code ran)
+of_film order robots stretch None film faults films whole = inl (search rules)
+of_film order robots stretch (Some (Ok Over)) film faults films whole = inl (search rules)
+of_film order robots stretch (Some (Ok GoesOn)) film faults films whole = absurd (whole refl)
+of_film order robots stretch (Some (Ok Faulty)) film faults films whole = inl (search rules)
+of_film order robots stretch (Some (Err fault.Write)) film faults films whole = inr refl
+of_film order robots stretch (Some (Err (fault.Read file))) film faults (writes, full) whole = absurd (cc writes)
+of_film order robots stretch (Some (Err fault.Memory)) film faults (writes, full) whole = absurd (cc writes)
+
+pub of_run : (order : Order) (robots : List RobotFile) (stretch : Option Stretch)
+    (ran : Option (Result Shown RunFault)) (film faults : Sheet) → IsSome ran
+    → IfSome ran (λ ran. FilmsRobots order robots stretch ran film faults) → IsWhole ran → IsOfRun (film_code ran)
+of_run order robots stretch None film faults some films whole = absurd (cc some)
+of_run order robots stretch (Some (Ok Over)) film faults some films whole = inl (search rules)
+of_run order robots stretch (Some (Ok GoesOn)) film faults some films whole = absurd (whole refl)
+of_run order robots stretch (Some (Ok Faulty)) film faults some films whole = inl (search rules)
+of_run order robots stretch (Some (Err fault.Write)) film faults some films whole = inr refl
+of_run order robots stretch (Some (Err (fault.Read file))) film faults some (writes, full) whole = absurd (cc writes)
+of_run order robots stretch (Some (Err fault.Memory)) film faults some (writes, full) whole = absurd (cc writes)
+
+-- what the code of a film of windows says of them
+pub of_stretch : (order : Order) (robots : List RobotFile) (ran : Option (Result Shown RunFault)) (film faults : Sheet)
+    → IfSome ran (λ ran. FilmsRobots order robots (Some (stretch_of order)) ran film faults)
+    → IsOfStretch order robots (film_code ran)
+of_stretch order robots None film faults films = record {
+  over = λ is. absurd (omega (arith, is));
+  goes_on = λ is. absurd (omega (arith, is));
+}
+of_stretch order robots (Some (Ok Over)) film faults (status, lines, whole, shows) = record {
+  over = λ is. shows;
+  goes_on = λ is. absurd (omega (arith, is));
+}
+of_stretch order robots (Some (Ok GoesOn)) film faults (status, lines, whole, shows) = record {
+  over = λ is. absurd (omega (arith, is));
+  goes_on = λ is. shows;
+}
+of_stretch order robots (Some (Ok Faulty)) film faults films = record {
+  over = λ is. absurd (omega (arith, is));
+  goes_on = λ is. absurd (omega (arith, is));
+}
+of_stretch order robots (Some (Err fault.Write)) film faults films = record {
+  over = λ is. absurd (omega (arith, is));
+  goes_on = λ is. absurd (omega (arith, is));
+}
+of_stretch order robots (Some (Err (fault.Read file))) film faults (writes, full) = absurd (cc writes)
+of_stretch order robots (Some (Err fault.Memory)) film faults (writes, full) = absurd (cc writes)

@@ -1,2 +1,3 @@
 mod RunningLemmas
 mod FilmLemmas
+mod FilmedRobots

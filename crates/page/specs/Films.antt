@@ -1,19 +1,24 @@
 -- What a film answers, and what it leaves on its sheets.
-use Rattle.std.specs.Prelude.{◌≡◌, ◌⊎◌, ◌≤◌, ℕ, List, Option, Some, None, Result, Ok, Err, map}
+use Rattle.std.specs.Prelude.{◌≡◌, ◌≢◌, ◌⊎◌, ◌+◌, ◌*◌, ◌<◌, ◌≤◌, ℕ, List, Option, Some, None, Result, Ok, Err, map}
 use Rattle.std.specs.List.{concat}
-use Rattle.series.specs.Compiling.{compiling}
+use Rattle.battles.specs.Battle.{battle}
+use Rattle.battles.specs.Pairing.{robots_of}
+use Rattle.grammar.specs.Tree.{File}
+use Rattle.series.specs.Compiling.{compiling, files_of}
 use Rattle.series.specs.Pieces.{Faults}
 use Rattle.series.specs.declared.endings.RunFault.{RunFault}
 use Rattle.series.specs.declared.endings.RunFault.TheVariants as fault
 use Rattle.series.specs.declared.endings.Status.{Status}
 use Rattle.series.specs.declared.endings.Status.TheVariants as status
 use Rattle.settings.specs.Given.{profile_by}
+use Rattle.settings.specs.declared.settings.Mode.TheVariants.{Matches}
 use Rattle.page.specs.declared.films.Shown.{Shown}
 use Rattle.page.specs.declared.films.Shown.TheVariants.{Over, GoesOn, Faulty}
 use Rattle.page.specs.declared.orders.Order.{Order}
 use Rattle.page.specs.declared.robots.RobotFile.{RobotFile}
 use Rattle.page.specs.declared.sheets.Sheet.{Sheet}
-use Rattle.page.specs.Orders.{mode_by}
+use Rattle.page.specs.declared.stretches.Stretch.{Stretch}
+use Rattle.page.specs.Orders.{mode_by, stretch_of}
 use Rattle.page.specs.Robots.{source_of}
 use Rattle.page.specs.Running.{IsFull, IsOfRun, bytes_on, fault_code, output_of}
 use Rattle.page.specs.Sheets.{told}
@@ -44,20 +49,52 @@ abbrev pub diagnostics : Order → List RobotFile → List ℕ
 diagnostics order robots = bytes_on Faults (compiling (mode_by order.mode) (profile_by order.profile)
     (map source_of robots))
 
--- A film of an order's robots: nothing is shown exactly if a run of them finds a faulty source, and the sheet of faults
--- has the diagnostics that a run writes. Only a full sheet stops it.
-abbrev pub FilmsRobots : Order → List RobotFile → Result Shown RunFault → Sheet → Sheet → Type 0
-FilmsRobots order robots (Ok shown) film faults = (status_shown shown ≡ (output_of order robots).status)
-    × (concat (told faults) ≡ diagnostics order robots)
-FilmsRobots order robots (Err stopped) film faults = (stopped ≡ fault.Write) × IsFull film faults
+-- the last cycle of a stretch
+abbrev pub last_of : Stretch → ℕ
+last_of stretch = 15 * (stretch.from + stretch.windows)
 
--- What a film's code says: 1 of a faulty source, 0 and 6 of good ones, 4 of a full sheet. The sheet of faults has the
--- diagnostics unless it was full.
+-- What is shown of a stretch of a match that has so many cycles: the match goes on exactly if it has more than the
+-- stretch. Of a whole match its end is shown.
+abbrev pub Shows : Option Stretch → ℕ → Shown → Type 0
+Shows stretch cycles Faulty = ⊥
+Shows None cycles Over = Unit {0}
+Shows None cycles GoesOn = ⊥
+Shows (Some stretch) cycles Over = cycles ≤ last_of stretch
+Shows (Some stretch) cycles GoesOn = last_of stretch < cycles
+
+-- how many cycles the first match has that an order asks for of these files
+abbrev pub cycles_of : Order → List File → ℕ
+cycles_of order files =
+    (battle (robots_of (profile_by order.profile) files) order.seed order.first order.limit).cycles
+
+-- if matches are asked for, and no source is faulty
+abbrev pub OfMatch : Order → List RobotFile → (ℕ → Type 0) → Type 0
+OfMatch order robots P = mode_by order.mode ≡ Matches → (files : List File)
+    → files_of (profile_by order.profile) (map source_of robots) ≡ Some files → P (cycles_of order files)
+
+-- A film of an order's robots: nothing is shown exactly if a run of them finds a faulty source, and the sheet of faults
+-- has the diagnostics that a run writes. Else its sheet took all of it. Whether the match goes on is told of the match
+-- that a run plays. Only a full sheet stops it.
+abbrev pub FilmsRobots : Order → List RobotFile → Option Stretch → Result Shown RunFault → Sheet → Sheet → Type 0
+FilmsRobots order robots stretch (Ok shown) film faults = (status_shown shown ≡ (output_of order robots).status)
+    × (concat (told faults) ≡ diagnostics order robots)
+    × (shown ≢ Faulty → film.failures ≡ 0)
+    × OfMatch order robots (λ cycles. Shows stretch cycles shown)
+FilmsRobots order robots stretch (Err stopped) film faults = (stopped ≡ fault.Write) × IsFull film faults
+
+-- What a film's code says: 1 of a faulty source, 0 and 6 of good ones and a whole film, 4 of a full sheet. The sheet of
+-- faults has the diagnostics unless it was full.
 pub record IsFilm (order : Order) (robots : List RobotFile) (code : ℕ) (film faults : Sheet) : Type 0 where
   pub faulty : code ≡ 1 → (output_of order robots).status ≡ status.Faulty
   pub good : (code ≡ 0) ⊎ (code ≡ 6) → (output_of order robots).status ≡ status.Done
+  pub whole : (code ≡ 0) ⊎ (code ≡ 6) → film.failures ≡ 0
   pub lines : (code ≤ 1) ⊎ (code ≡ 6) → concat (told faults) ≡ diagnostics order robots
   pub full : code ≡ 4 → IsFull film faults
+
+-- What a film's code says of its windows: 0 that the match has no cycle after them, 6 that it has.
+pub record IsOfStretch (order : Order) (robots : List RobotFile) (code : ℕ) : Type 0 where
+  pub over : code ≡ 0 → OfMatch order robots (λ cycles. cycles ≤ last_of (stretch_of order))
+  pub goes_on : code ≡ 6 → OfMatch order robots (λ cycles. last_of (stretch_of order) < cycles)
 
 -- a film of a whole match: it was made, the order was refused, or a sheet was full
 abbrev pub IsOfFilm : ℕ → Type 0

@@ -6,6 +6,7 @@ use Rattle.settings.specs.Given.{profile_by}
 use Rattle.settings.specs.Limits.{matches_max, cycles_max, first_max}
 use Rattle.settings.specs.Setup.{Setup}
 use Rattle.page.specs.declared.orders.Order.{Order}
+use Rattle.page.specs.declared.stretches.Stretch.{Stretch}
 
 -- each number is within its limits
 pub record AreWithin (order : Order) : Type 0 where
@@ -21,6 +22,10 @@ pub record AreWithin (order : Order) : Type 0 where
 
 abbrev pub mode_by : ℕ → Mode
 mode_by n = if n == 0 then Listing else Matches
+
+-- the windows that it asks for
+abbrev pub stretch_of : Order → Stretch
+stretch_of order = record { from = order.from; windows = order.windows }
 
 -- what an order asks for of the files that these words name
 abbrev pub setup_of : Order → List (List ℕ) → Setup

@@ -1,7 +1,7 @@
 //! The calls of the module.
 
 ghost use Rattle.std.specs.Prelude.{◌≡◌, ◌≢◌};
-ghost use Rattle.page.specs.Films.{IsFilm, IsOfFilm, IsOfShown, IsOfWindows, film_code};
+ghost use Rattle.page.specs.Films.{IsFilm, IsOfFilm, IsOfShown, IsOfStretch, IsOfWindows, film_code};
 ghost use Rattle.page.specs.Running.{IsAccepted, IsFull, IsOfRun, IsOutput, code_of};
 
 use crate::filming::film_robots;
@@ -10,7 +10,6 @@ use crate::orders::Order;
 use crate::robots::RobotFile;
 use crate::running::run_robots;
 use crate::sheets::Sheet;
-use crate::stretches::Stretch;
 use series::{RunFault, Status};
 
 /// The answer of a film after which the match goes on.
@@ -59,14 +58,11 @@ pub extern "C" fn film(
     ensures accepted { IsAccepted order.now robots.now → IsOfRun result }
     ensures refused { result ≢ 2 → IsAccepted order.now robots.now }
 {
-    match film_code(film_robots(order, robots, None, text, faults)) {
-        GOES_ON => 0,
-        code => code,
-    }
+    film_code(film_robots(order, robots, None, text, faults))
 }
 
 /// Plays the first match that the order asks for of one to four robots up to so many updates, and films so many windows of
-/// 15 cycles after them: `from` and `windows` may be any numbers.
+/// 15 cycles after them: the order's `from` and `windows` may be any numbers.
 ///
 /// The film has the rows that that of the whole match has of these windows. Where they begin and end it has a row `stands`
 /// for each robot, and where they begin a row `flies` for each missile in the air. If the match ends within them or before,
@@ -78,16 +74,14 @@ pub extern "C" fn film_windows(
     robots: &[RobotFile],
     text: &mut Sheet,
     faults: &mut Sheet,
-    from: u32,
-    windows: u32,
 ) -> u32
     ensures film { IsFilm order.now robots.now result text.new faults.new }
+    ensures shows { IsOfStretch order.now robots.now result }
     ensures codes { IsOfWindows result }
     ensures accepted { IsAccepted order.now robots.now → IsOfShown result }
     ensures refused { result ≢ 2 → IsAccepted order.now robots.now }
 {
-    let stretch = Some(Stretch { from, windows });
-    film_code(film_robots(order, robots, stretch, text, faults))
+    film_code(film_robots(order, robots, Some(order.stretch()), text, faults))
 }
 
 /// Returns the number that stands for what a film shows, if it was made.
@@ -122,7 +116,7 @@ fn code(ran: Option<Result<Status, RunFault>>) -> u32
 /// Returns how many bytes an order has.
 #[unsafe(no_mangle)]
 pub extern "C" fn order_bytes() -> usize
-    ensures { result ≡ 32 }
+    ensures { result ≡ 40 }
 {
     ORDER_BYTES
 }

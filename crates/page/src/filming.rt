@@ -1,10 +1,15 @@
 //! Films of the matches of robots in memory, and where their instructions come from.
 
-ghost use Rattle.std.specs.Prelude.{◌≡◌, ◌≢◌, ◌<◌, ◌≤◌, All, IfErr, IfOk, IfSome, IsSome, List, Some, false, length, map};
+ghost use Rattle.std.specs.Prelude.{◌≡◌, ◌≢◌, ℕ, ◌<◌, ◌≤◌, All, IfErr, IfOk, IfSome, IsSome, List, None, Some, false, length, map, slice_get};
+ghost use Rattle.grammar.specs.Tree.{File};
+ghost use Rattle.code.specs.Codes.{AreCodesOf};
+ghost use Rattle.battles.specs.Battle.{battle};
+ghost use Rattle.battles.specs.Pairing.{robots_of};
+ghost use Rattle.playing.specs.Played.{EndsAt, IsPlayed};
 ghost use Rattle.series.specs.Compiling.{Source};
 ghost use Rattle.series.specs.Pieces.{on_both};
 ghost use Rattle.series.specs.Runs.{AreSources, Compiles};
-ghost use Rattle.page.specs.Films.{FilmsRobots};
+ghost use Rattle.page.specs.Films.{FilmsRobots, Shows};
 ghost use Rattle.page.specs.Running.{AreFresh, IsAccepted, IsFull};
 ghost use Rattle.page.specs.Sheets.{contents_of};
 
@@ -20,8 +25,9 @@ use arrayvec::ArrayVec;
 use code::Maker;
 use derivations::Places;
 use grammar::Profile;
+use grammar::laws::resolved_files;
 use parser::parse;
-use playing::{Pilot, play};
+use playing::{Ending, Pilot, UPDATE_CYCLES, play};
 use series::{FILES_MAX, Mode, Programs, RunFault, Settings, compile_files};
 
 /// Plays the first match that the order asks for of one to four robots, and writes on a sheet the film of a stretch of it,
@@ -36,7 +42,8 @@ pub fn film_robots(
     film: &mut Sheet,
     faults: &mut Sheet,
 ) -> Option<Result<Shown, RunFault>>
-    ensures films { IfSome result (λ ran. FilmsRobots order.now robots.now ran film.new faults.new) }
+    ensures films { IfSome result (λ ran. FilmsRobots order.now robots.now stretch ran film.new faults.new) }
+    ensures whole { stretch ≡ None → IfSome result (λ ran. IfOk ran (λ shown. shown ≢ Shown.GoesOn)) }
     ensures accepted { IsAccepted order.now robots.now → IsSome result }
     ensures refused { IsSome result → IsAccepted order.now robots.now }
 {
@@ -55,15 +62,27 @@ pub fn film_robots(
     film.clear();
     let (functions, places) = (functions.as_slice(), places.as_slice());
     let shown = match settings.mode() {
-        Mode::Listing => list_places(places, film),
+        Mode::Listing => Some(list_places(places, film)),
         Mode::Matches => {
+            resolved_files();
             let film = Film::new(film, functions, places, stretch, order.skipped);
-            film_match(&settings, &programs, film)
+            film_match(&settings, &programs, film, stretch)
         }
     };
-    match film.ending() {
-        Ok(_) => Some(Ok(shown)),
-        Err(fault) => Some(Err(fault)),
+    Some(taken(shown, film))
+}
+
+/// Returns what is shown if a sheet took all of it.
+fn taken(shown: Option<Shown>, sheet: &mut Sheet) -> Result<Shown, RunFault>
+    ensures shown { IfOk result (λ whole. (shown ≡ Some whole) × (sheet.new.failures ≡ 0)) }
+    ensures full { IfErr result (λ fault. (fault ≡ RunFault.Write) × (0 < sheet.new.failures)) }
+{
+    match shown {
+        Some(whole) if sheet.failures == 0 => Ok(whole),
+        _ => {
+            sheet.cut();
+            Err(RunFault::Write)
+        }
     }
 }
 
@@ -117,18 +136,51 @@ fn functions_in(profile: Profile, source: &[u8]) -> Functions {
     functions
 }
 
-/// Plays the first match of these programs, and writes its film.
-fn film_match(settings: &Settings<'_>, programs: &Programs, mut film: Film<'_>) -> Shown
+/// Plays the first match of these programs, and writes its film: of a stretch, or of all of it. `None` if it was cut off,
+/// since the sheet is full.
+fn film_match(
+    settings: &Settings<'_>,
+    programs: &Programs,
+    mut film: Film<'_>,
+    stretch: Option<Stretch>,
+) -> Option<Shown>
     requires { 0 < length programs.now }
-    ensures { result ≢ Shown.Faulty }
+    ensures made { IfSome result (λ shown. shown ≢ Shown.Faulty) }
+    ensures whole { stretch ≡ None → IfSome result (λ shown. shown ≢ Shown.GoesOn) }
+    ensures shows { (files : List File) → AreCodesOf programs.now settings.now.profile files
+        → IfSome result (Shows stretch (battle (robots_of settings.now.profile files) settings.now.seed settings.now.first
+        settings.now.limit).cycles) }
 {
-    let cycles = play_programs(settings, programs, &mut film);
-    film.end(cycles, settings.limit())
+    let ending = play_programs(settings, programs, &mut film);
+    let shown = shown_by(stretch, ending)?;
+    if shown == Shown::Over {
+        film.end(ending.cycles);
+    }
+    Some(shown)
 }
 
-/// Plays the first match of these programs before a film: one plays against itself. Returns how many cycles it had.
-fn play_programs(settings: &Settings<'_>, programs: &Programs, film: &mut Film<'_>) -> u32
+/// Returns what is shown of a stretch of a match that was played so far, or of all of it: over, or going on. `None` if it
+/// was stopped before there was all of that.
+fn shown_by(stretch: Option<Stretch>, ending: Ending) -> Option<Shown>
+    ensures made { IfSome result (λ shown. shown ≢ Shown.Faulty) }
+    ensures whole { stretch ≡ None → IfSome result (λ shown. shown ≢ Shown.GoesOn) }
+    ensures shows { (last : ℕ) → EndsAt last ending → IfSome result (Shows stretch last) }
+{
+    let Some(stretch) = stretch else {
+        return ending.is_over.then_some(Shown::Over);
+    };
+    if ending.is_over && stretch.reaches(ending.cycles) {
+        return Some(Shown::Over);
+    }
+    let is_past = stretch.is_past(ending.cycles / UPDATE_CYCLES);
+    (ending.is_over || is_past).then_some(Shown::GoesOn)
+}
+
+/// Plays the first match of these programs before a film: one plays against itself. Returns where that ended.
+fn play_programs(settings: &Settings<'_>, programs: &Programs, film: &mut Film<'_>) -> Ending
     requires { 0 < length programs.now }
+    ensures { (files : List File) → AreCodesOf programs.now settings.now.profile files
+        → IsPlayed (robots_of settings.now.profile files) settings.now.seed settings.now.first settings.now.limit result }
 {
     let (seed, number, limit) = (settings.seed(), settings.first(), settings.limit());
     let first = pilot(programs, 0);
@@ -150,6 +202,7 @@ fn play_programs(settings: &Settings<'_>, programs: &Programs, film: &mut Film<'
 /// Returns the pilot of a program.
 fn pilot(programs: &Programs, file: usize) -> Pilot<'_>
     requires { file < length programs.now }
+    ensures { slice_get programs.now file ≡ Some result.code }
 {
     Pilot::new(programs.program(file))
 }

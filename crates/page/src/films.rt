@@ -1,6 +1,6 @@
 //! Films of matches: what there is to see of one, row by row.
 
-ghost use Rattle.std.specs.Prelude.{◌≡◌, ◌≢◌, ◌<◌, ◌≤◌, length};
+ghost use Rattle.std.specs.Prelude.{◌≡◌, ◌<◌, ◌≤◌, length};
 
 use crate::missiles::Missile;
 use crate::rows::{Field, Row};
@@ -45,7 +45,6 @@ pub(crate) struct Film<'a> {
     seen: [Seen; MOST_ROBOTS],
     missiles: [Missile; MOST_BURSTS],
     robots: usize,
-    live: usize,
     updates: u32,
 }
 
@@ -71,33 +70,12 @@ impl<'a> Film<'a> {
             seen: [Seen::default(); MOST_ROBOTS],
             missiles: [Missile::default(); MOST_BURSTS],
             robots: 0,
-            live: 0,
             updates: 0,
         }
     }
 
-    /// Ends the film after the last cycle that was played, of at most so many: if the match is over, with where the robots'
-    /// ways end, and their damages.
-    pub(crate) fn end(mut self, cycle: u32, limit: u32) -> Shown
-        ensures { result ≢ Shown.Faulty }
-    {
-        if !self.is_over(cycle, limit) {
-            return Shown::GoesOn;
-        }
-        self.tell_ends(cycle);
-        Shown::Over
-    }
-
-    /// Reports whether the match is over, and not only the stretch. A whole film is never ended before.
-    fn is_over(&self, cycle: u32, limit: u32) -> bool {
-        match &self.stretch {
-            None => true,
-            Some(stretch) => stretch.reaches(cycle) && (self.live <= 1 || cycle >= limit),
-        }
-    }
-
-    /// Writes where the robots' ways end, and their damages.
-    fn tell_ends(&mut self, cycle: u32) {
+    /// Ends the film of a match that was over after this cycle: writes where the robots' ways end, and their damages.
+    pub(crate) fn end(mut self, cycle: u32) {
         self.stretch = None;
         for robot in 0..self.robots.min(MOST_ROBOTS) {
             let seen = self.seen[robot];
@@ -279,7 +257,6 @@ impl<'a> Film<'a> {
 impl Watcher for Film<'_> {
     fn begins(&mut self, arena: &Arena) {
         self.robots = arena.robot_count();
-        self.live = arena.live_count();
         self.tell_border(0, arena);
         self.look(0, arena);
     }
@@ -321,7 +298,6 @@ impl Watcher for Film<'_> {
 
     fn updated(&mut self, cycle: u32, arena: &Arena) {
         self.look(cycle, arena);
-        self.live = arena.live_count();
         self.updates = cycle / UPDATE_CYCLES;
         self.tell_border(cycle, arena);
     }

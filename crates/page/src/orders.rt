@@ -2,8 +2,9 @@
 
 ghost use Rattle.std.specs.Prelude.{◌≡◌, ◌<◌, ◌≤◌, true, length, map, IfSome, IsSome};
 ghost use Rattle.settings.specs.Given.{profile_by};
-ghost use Rattle.page.specs.Orders.{AreWithin, mode_by, setup_of};
+ghost use Rattle.page.specs.Orders.{AreWithin, mode_by, setup_of, stretch_of};
 
+use crate::stretches::Stretch;
 use arrayvec::ArrayVec;
 use grammar::Profile;
 use series::{CYCLES_MAX, FILES_MAX, FIRST_MAX, MATCHES_MAX, Mode, Settings};
@@ -26,6 +27,10 @@ pub struct Order {
     pub first: u32,
     /// How many rows of a film are left out, from its begin. A run has no use for it.
     pub skipped: u32,
+    /// How many updates are before the windows that are filmed. Only a film of windows has a use for it.
+    pub from: u32,
+    /// How many windows are filmed. Only a film of windows has a use for it.
+    pub windows: u32,
 }
 
 impl Order {
@@ -50,6 +55,16 @@ impl Order {
             self.first,
             words,
         ))
+    }
+
+    /// Returns the windows that are filmed.
+    pub fn stretch(&self) -> Stretch
+        ensures { result ≡ stretch_of self.now }
+    {
+        Stretch {
+            from: self.from,
+            windows: self.windows,
+        }
     }
 
     /// Reports whether each number is within its limits.

@@ -1,9 +1,9 @@
 //! Sheets: what a run writes, kept in memory that the caller lends.
 
-ghost use Rattle.std.specs.Prelude.{◌≡◌, ◌<◌, [], false, IfErr, IfOk, IsErr, IsOk};
+ghost use Rattle.std.specs.Prelude.{◌≡◌, ◌<◌, [], false};
 ghost use Rattle.page.specs.Sheets.{written_of, told};
 
-use series::{RunFault, Sink, Status};
+use series::Sink;
 use tokens::DeviceFault;
 
 /// The most bytes of a frame.
@@ -50,18 +50,13 @@ impl Sheet {
         }
     }
 
-    /// Returns how a run ended that wrote on the sheet: its text is whole, or a write failed.
-    pub(crate) fn ending(&self) -> Result<Status, RunFault>
-        ensures whole { IsOk result → self.now.failures ≡ 0 }
-        ensures cut { IsErr result → 0 < self.now.failures }
-        ensures status { IfOk result (λ status. status ≡ Status.Done) }
-        ensures fault { IfErr result (λ fault. fault ≡ RunFault.Write) }
+    /// Says that the text is cut off, which a failed write has said already.
+    pub(crate) fn cut(&mut self)
+        ensures cut { 0 < self.new.failures }
+        ensures text { told self.new ≡ told self.old }
+        ensures told { 0 < self.old.failures → self.new.failures ≡ self.old.failures }
     {
-        if self.failures > 0 {
-            Err(RunFault::Write)
-        } else {
-            Ok(Status::Done)
-        }
+        self.failures = self.failures.max(1);
     }
 
     /// Adds bytes to the last frame. Answers whether that had room for all of them.

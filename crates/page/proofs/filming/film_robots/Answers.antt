@@ -1,18 +1,18 @@
-use Rattle.std.proofs.Common.{List, ℕ, map, Bor, ◌≢◌, rules}
+use Rattle.std.proofs.Common.{◌≡◌, List, ℕ, Ok, Some, map, Bor, ap, sym, ◌∙◌, ◌≢◌, rules}
 use Rattle.series.specs.Compiling.{Source}
 use Rattle.series.specs.Pieces.{Taken, on_both}
 use Rattle.series.specs.Runs.{Compiles}
 use Rattle.settings.specs.Setup.{Setup}
 use Rattle.page.specs.declared.films.Shown.TheVariants.{Faulty}
 use Rattle.page.specs.Sheets.{contents_of}
-use Rattle.page.proofs.FilmLemmas.{films_faulty, films_good}
+use Rattle.page.proofs.FilmLemmas.{CompilesRobots, codes_good, films_faulty, films_good, films_taken}
 use Rattle.page.proofs.RunningLemmas.{by_robots}
 use Rattle.page.proofs.filming.film_robots.Goals as goal
 use Rattle.page.proofs.filming.film_robots.Goals.{in-Listing, in-Matches}
 
 pub returns-in-Ok-None-clause-films : goal.returns-in-Ok-None-clause-films
 returns-in-Ok-None-clause-films c =
-    films_faulty c.args.order.now c.args.robots.now c.compile_feeds.result c.compile_feeds.new.text
+    films_faulty c.args.order.now c.args.robots.now c.args.stretch c.compile_feeds.result c.compile_feeds.new.text
     c.compile_feeds.new.faults
     (search rules)
     (by_robots
@@ -24,20 +24,41 @@ returns-in-Ok-None-clause-films c =
     (rw c.as_mut_slice.ensures.value c.in_ok-feeds.ensures.bytes)
     c.clear.ensures.text c.clear-2.ensures.text c.compile_feeds.ensures.output)
 
-pub returns-in-Ok-clause-films : goal.returns-in-Ok-clause-films
-returns-in-Ok-clause-films c =
-    let some : c.match-mode.shown ≢ Faulty = elim c.match-mode.branch [
-      | in-Listing w ↦ λ is. absurd (cc (w.shown-is, w.list_places-shown.ensures, is))
-      | in-Matches w ↦ λ is. w.film_match-shown.ensures (cc (w.shown-is, is))
-    ] in
-    films_good c.args.order.now c.args.robots.now c.compile_feeds.result c.in-Ok-Some.programs c.compile_feeds.new.text
-    c.match-mode.film c.compile_feeds.new.faults
-    c.match-mode.shown some (search rules)
-    (by_robots
+pub returns-clause-films : goal.returns-clause-films
+returns-clause-films c =
+    let order = c.args.order.now in
+    let robots = c.args.robots.now in
+    let programs = c.in-Ok-Some.programs in
+    let text = c.compile_feeds.new.text in
+    let faults = c.compile_feeds.new.faults in
+    let good : c.compile_feeds.result ≡ Ok (Some programs) = search rules in
+    let compiled : CompilesRobots order robots c.compile_feeds.result text faults =
+    by_robots
     (λ (setup : Setup) (sources : List Source) (before : Taken). Compiles setup sources c.compile_feeds.result before
     (on_both (contents_of c.compile_feeds.new.text) (contents_of c.compile_feeds.new.faults)))
     c.args.order.now c.args.robots.now c.in_ok-settings.settings
     (map (λ (word : Bor (List ℕ)). word.now) c.as_slice.result.now) _ c.clear.new.self c.clear-2.new.self
     c.in_ok-settings.ensures.value (rw c.as_slice.ensures.value c.in_ok-words.ensures.names)
     (rw c.as_mut_slice.ensures.value c.in_ok-feeds.ensures.bytes)
-    c.clear.ensures.text c.clear-2.ensures.text c.compile_feeds.ensures.output)
+    c.clear.ensures.text c.clear-2.ensures.text c.compile_feeds.ensures.output in
+    films_taken order robots c.args.stretch c.taken.result c.match-mode.shown c.taken.new.sheet faults
+    c.taken.ensures.shown c.taken.ensures.full
+    (λ whole same room. elim c.match-mode.branch [
+      | in-Listing w ↦
+          let some : whole ≢ Faulty = λ is. absurd (cc (w.shown-is, w.list_places.ensures, same, is)) in
+          let mode = ap (λ (s : Setup). s.mode) c.in_ok-settings.ensures.value in
+          films_good order robots c.args.stretch c.compile_feeds.result programs text c.taken.new.sheet faults whole
+          some
+          good compiled room (λ matches files found. absurd (cc (w.in-Listing.is, c.mode.ensures.value, mode, matches)))
+      | in-Matches w ↦
+          let is = sym w.shown-is ∙ same in
+          films_good order robots c.args.stretch c.compile_feeds.result programs text c.taken.new.sheet faults whole
+          (rw is at w.film_match-shown.ensures.made) good compiled room
+          (λ matches files found.
+          let are =
+          codes_good w.resolved_files.ensures order robots c.compile_feeds.result programs text faults files good
+          compiled
+          found in
+          rw (is, c.in_ok-settings.ensures.value) at
+          (w.film_match-shown.ensures.shows files (rw c.in_ok-settings.ensures.value are)))
+    ])
