@@ -24,12 +24,12 @@ pub fn tell<T: Teller>(
     requires most { length pilots.old ≤ MOST_ROBOTS }
 {
     let wish = &request.wish;
-    let cycles = play(
+    let ending = play(
         pilots,
         &mut teller,
         wish.seed(),
         wish.number(),
         wish.limit(),
     );
-    teller.finish(request, cycles, pilots)
+    teller.finish(request, ending.cycles, pilots)
 }

@@ -1,12 +1,12 @@
 //! The legend: the match, what of it is drawn, how each robot ended, and what the signs mean.
 
-use crate::ink::{Period, add_name, add_short_name, colour, cycle_of};
-use crate::matches::{Recording, Track};
+use crate::ink::{add_name, add_short_name, cycle_of};
+use crate::matches::Track;
 use crate::paths::mark_step;
-use crate::requests::{Request, View};
+use crate::requests::View;
+use crate::scenes::{Robot, Scene};
 use arena::MOST_ROBOTS;
 use std::alloc::AllocError;
-use tools::name_of;
 use trails::Shots;
 
 /// What explains the signs of the picture.
@@ -21,24 +21,18 @@ const SIGNS: &str =
 ";
 
 /// Adds the legend.
-pub fn add_legend(
-    text: &mut String,
-    request: &Request<'_>,
-    recording: &Recording,
-    period: Period,
-) -> Result<(), AllocError> {
-    let (number, cycles) = (request.wish.number(), recording.cycles);
+pub fn add_legend(text: &mut String, scene: &Scene<'_>) -> Result<(), AllocError> {
+    let (number, cycles) = (scene.request.wish.number(), scene.recording.cycles);
     write!(
         text,
         "<g fill=\"#222222\">\n<text x=\"1080\" y=\"70\" font-size=\"22\">Match {number}: cycles = {cycles}</text>\n"
     )?;
-    add_view(text, request.view, cycles)?;
-    add_share(text, &recording.shots)?;
-    for robot in 0..recording.tracks.len() {
-        let track = &recording.tracks.as_slice()[robot];
-        add_entry(text, robot, track, name_of(request.wish.file_of(robot)))?;
+    add_view(text, scene.request.view, cycles)?;
+    add_share(text, &scene.recording.shots)?;
+    for (index, track) in scene.recording.tracks.as_slice().iter().enumerate() {
+        add_entry(text, &scene.robot(index, track))?;
     }
-    let step = mark_step(period);
+    let step = mark_step(scene.period);
     write!(
         text,
         "<text x=\"1116\" y=\"936\">each {step} cycles</text>\n</g>\n"
@@ -78,11 +72,11 @@ fn add_share(text: &mut String, shots: &Shots) -> Result<(), AllocError> {
 }
 
 /// Adds a robot's entry: its colour, its name, and how it ended.
-fn add_entry(text: &mut String, robot: usize, track: &Track, name: &str) -> Result<(), AllocError> {
-    let y = 150 + (robot % MOST_ROBOTS) * 64;
-    let (number, colour) = (robot.saturating_add(1), colour(robot));
+fn add_entry(text: &mut String, robot: &Robot<'_>) -> Result<(), AllocError> {
+    let y = 150 + (robot.index % MOST_ROBOTS) * 64;
+    let (number, colour) = (robot.number(), robot.colour());
     text.push_str("<g><title>")?;
-    add_name(text, name)?;
+    add_name(text, robot.name)?;
     write!(
         text,
         "</title><rect x=\"1080\" y=\"{}\" width=\"24\" height=\"24\" fill=\"{colour}\"/>",
@@ -92,9 +86,9 @@ fn add_entry(text: &mut String, robot: usize, track: &Track, name: &str) -> Resu
         text,
         "<text x=\"1116\" y=\"{y}\" font-weight=\"bold\">{number}) "
     )?;
-    add_short_name(text, name)?;
+    add_short_name(text, robot.name)?;
     text.push_str("</text>")?;
-    add_state(text, track, y + 24)?;
+    add_state(text, robot.track, y + 24)?;
     text.push_str("</g>\n")
 }
 

@@ -9,6 +9,7 @@ mod matches;
 mod paths;
 mod picture;
 mod requests;
+mod scenes;
 mod shots;
 mod strip;
 

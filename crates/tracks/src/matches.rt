@@ -128,7 +128,7 @@ pub fn record(pilots: &mut [Pilot<'_>], wish: &Wish<'_>, view: View) -> Recordin
         tracks: ArrayVec::new(),
         shots: Shots::new(),
     };
-    let cycles = playing::play(
+    let ending = playing::play(
         pilots,
         &mut recorder,
         wish.seed(),
@@ -136,7 +136,7 @@ pub fn record(pilots: &mut [Pilot<'_>], wish: &Wish<'_>, view: View) -> Recordin
         wish.limit(),
     );
     Recording {
-        cycles,
+        cycles: ending.cycles,
         tracks: recorder.tracks,
         shots: recorder.shots,
     }

@@ -2,8 +2,9 @@
 
 ghost use Rattle.std.specs.Prelude.{◌<◌, ◌≤◌, length};
 
-use crate::ink::{Period, add_name, colour, cycle_of};
+use crate::ink::{Period, cycle_of};
 use crate::matches::Track;
+use crate::scenes::Robot;
 use playing::UPDATE_CYCLES;
 use std::alloc::AllocError;
 use trails::{Path, Place, column, row, step_of};
@@ -29,20 +30,14 @@ pub fn mark_step(period: Period) -> u32
 }
 
 /// Adds a robot's path with a light edge, its marks of time and its start.
-pub fn add_track(
-    text: &mut String,
-    robot: usize,
-    name: &str,
-    track: &Track,
-    period: Period,
-) -> Result<(), AllocError> {
-    let (colour, number) = (colour(robot), robot.saturating_add(1));
+pub fn add_track(text: &mut String, robot: &Robot<'_>, period: Period) -> Result<(), AllocError> {
+    let (colour, track) = (robot.colour(), robot.track);
     write!(
         text,
-        "<g fill=\"none\" stroke=\"{colour}\" stroke-width=\"4\"><title>{number}) "
+        "<g fill=\"none\" stroke=\"{colour}\" stroke-width=\"4\">"
     )?;
-    add_name(text, name)?;
-    text.push_str("</title>\n")?;
+    robot.add_title(text)?;
+    text.push_str("\n")?;
     add_edge(text, track)?;
     add_path(text, track, period)?;
     add_marks(text, track, period)?;
@@ -164,35 +159,31 @@ fn place_at(track: &Track, cycle: u32) -> Option<Place> {
 }
 
 /// Adds the signs of a robot's end: a full circle, a cross if it is dead, and its number beside them.
-pub fn add_end(
-    text: &mut String,
-    robot: usize,
-    track: &Track,
-    period: Period,
-) -> Result<(), AllocError> {
-    let (x, y, colour) = (column(track.end), row(track.end), colour(robot));
+pub fn add_end(text: &mut String, robot: &Robot<'_>, period: Period) -> Result<(), AllocError> {
+    let end = robot.track.end;
+    let (x, y, colour) = (column(end), row(end), robot.colour());
     write!(
         text,
         "<circle cx=\"{x}\" cy=\"{y}\" r=\"9\" fill=\"{colour}\" stroke=\"#ffffff\" stroke-width=\"2\"/>\n"
     )?;
-    if track.is_dead_after(period.last) {
+    if robot.track.is_dead_after(period.last) {
         write!(
             text,
             "<path stroke=\"#222222\" stroke-width=\"5\" d=\"M{x} {y}m-14 -14l28 28m0 -28l-28 28\"/>\n"
         )?;
     }
-    add_number(text, robot, track.end)
+    add_number(text, robot)
 }
 
 /// Adds a robot's number beside its end, on the side where the field is.
-fn add_number(text: &mut String, robot: usize, end: Place) -> Result<(), AllocError> {
-    let (x, y) = (column(end), row(end));
+fn add_number(text: &mut String, robot: &Robot<'_>) -> Result<(), AllocError> {
+    let (x, y) = (column(robot.track.end), row(robot.track.end));
     let (dx, anchor) = if x > LAST_COLUMN {
         ("-20", "end")
     } else {
         ("20", "start")
     };
-    let (colour, number) = (colour(robot), robot.saturating_add(1));
+    let (colour, number) = (robot.colour(), robot.number());
     write!(
         text,
         "<text x=\"{x}\" y=\"{y}\" dx=\"{dx}\" dy=\"7\" text-anchor=\"{anchor}\" fill=\"{colour}\">{number}</text>\n"

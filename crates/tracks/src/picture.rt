@@ -1,15 +1,14 @@
 //! The picture of a match, as SVG.
 
 use crate::field::add_field;
-use crate::ink::Period;
 use crate::legend::add_legend;
 use crate::matches::Recording;
 use crate::paths::{add_end, add_track};
-use crate::requests::{Request, View};
+use crate::requests::Request;
+use crate::scenes::Scene;
 use crate::shots::add_shots;
 use crate::strip::add_strip;
 use std::alloc::{AllocError, Global};
-use tools::{Wish, name_of};
 
 /// What comes before the field: the picture's size, the field's border, by which bursts are cut, and a burst, whose three
 /// rings are 40, 20 and 5 metres from it.
@@ -31,46 +30,34 @@ pub fn drawn(
     request: &Request<'_>,
     recording: &Recording,
 ) -> Result<String, AllocError> {
-    let period = Period::of(request.view, recording);
+    let scene = Scene::of(request, recording);
     let mut text = String::from_str(alloc, HEAD)?;
     add_field(&mut text)?;
-    add_shots(&mut text, recording.shots.as_slice(), period)?;
-    add_tracks(&mut text, request, recording, period)?;
-    add_ends(&mut text, request.view, recording, period)?;
-    add_legend(&mut text, request, recording, period)?;
-    add_strip(&mut text, &request.wish, recording, period)?;
+    add_shots(&mut text, recording.shots.as_slice(), scene.period)?;
+    add_tracks(&mut text, &scene)?;
+    add_ends(&mut text, &scene)?;
+    add_legend(&mut text, &scene)?;
+    add_strip(&mut text, &scene)?;
     text.push_str("</svg>\n")?;
     Ok(text)
 }
 
 /// Adds the paths of the robots that are drawn.
-fn add_tracks(
-    text: &mut String,
-    request: &Request<'_>,
-    recording: &Recording,
-    period: Period,
-) -> Result<(), AllocError> {
-    let wish: &Wish<'_> = &request.wish;
-    for robot in 0..recording.tracks.len() {
-        if request.view.span.has_robot(robot) {
-            let track = &recording.tracks.as_slice()[robot];
-            add_track(text, robot, name_of(wish.file_of(robot)), track, period)?;
+fn add_tracks(text: &mut String, scene: &Scene<'_>) -> Result<(), AllocError> {
+    for (index, track) in scene.recording.tracks.as_slice().iter().enumerate() {
+        if scene.request.view.span.has_robot(index) {
+            add_track(text, &scene.robot(index, track), scene.period)?;
         }
     }
     Ok(())
 }
 
 /// Adds the ends of the robots that are drawn, above all paths.
-fn add_ends(
-    text: &mut String,
-    view: View,
-    recording: &Recording,
-    period: Period,
-) -> Result<(), AllocError> {
+fn add_ends(text: &mut String, scene: &Scene<'_>) -> Result<(), AllocError> {
     text.push_str(ENDS)?;
-    for robot in 0..recording.tracks.len() {
-        if view.span.has_robot(robot) {
-            add_end(text, robot, &recording.tracks.as_slice()[robot], period)?;
+    for (index, track) in scene.recording.tracks.as_slice().iter().enumerate() {
+        if scene.request.view.span.has_robot(index) {
+            add_end(text, &scene.robot(index, track), scene.period)?;
         }
     }
     text.push_str("</g>\n")

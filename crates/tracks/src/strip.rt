@@ -1,10 +1,9 @@
 //! The strip of damage over time.
 
-use crate::ink::{Period, add_name, colour, cycle_of};
-use crate::matches::{Recording, Track};
+use crate::ink::{Period, cycle_of};
+use crate::scenes::{Robot, Scene};
 use arena::MOST_ROBOTS;
 use std::alloc::AllocError;
-use tools::{Wish, name_of};
 use trails::{STRIP_LEFT, STRIP_PERCENT, STRIP_TOP, STRIP_WIDTH, step_of, strip_column, strip_row};
 
 /// The most marks of the axis of time, beside the one at 0.
@@ -20,21 +19,15 @@ const MILLION: u32 = 1_000_000;
 const LIFT: usize = 2;
 
 /// Adds the strip: its axes, the cycles that are drawn in the field, and the damage of each robot.
-pub fn add_strip(
-    text: &mut String,
-    wish: &Wish<'_>,
-    recording: &Recording,
-    period: Period,
-) -> Result<(), AllocError> {
-    let cycles = recording.cycles;
+pub fn add_strip(text: &mut String, scene: &Scene<'_>) -> Result<(), AllocError> {
+    let cycles = scene.recording.cycles;
     text.push_str("<g font-size=\"14\" fill=\"#777777\">\n")?;
-    add_period(text, cycles, period)?;
+    add_period(text, cycles, scene.period)?;
     add_percents(text)?;
     add_cycles(text, cycles)?;
     text.push_str("</g>\n<g fill=\"none\" stroke-width=\"3\">\n")?;
-    for robot in 0..recording.tracks.len() {
-        let track = &recording.tracks.as_slice()[robot];
-        add_damage(text, robot, name_of(wish.file_of(robot)), track, cycles)?;
+    for (index, track) in scene.recording.tracks.as_slice().iter().enumerate() {
+        add_damage(text, &scene.robot(index, track), cycles)?;
     }
     text.push_str("</g>\n")
 }
@@ -99,29 +92,19 @@ fn add_short_cycle(text: &mut String, cycle: u32, step: u32) -> Result<(), Alloc
 
 /// Adds the damage of a robot: a line that goes up a step whenever it grows. It lies a little above that of the robot
 /// before, so that equal ones are all seen.
-fn add_damage(
-    text: &mut String,
-    robot: usize,
-    name: &str,
-    track: &Track,
-    cycles: u32,
-) -> Result<(), AllocError> {
-    let (colour, number) = (colour(robot), robot.saturating_add(1));
-    let lift = LIFT * (robot % MOST_ROBOTS);
+fn add_damage(text: &mut String, robot: &Robot<'_>, cycles: u32) -> Result<(), AllocError> {
+    let colour = robot.colour();
+    let lift = LIFT * (robot.index % MOST_ROBOTS);
     write!(
         text,
         "<path stroke=\"{colour}\" transform=\"translate(0 -{lift})\" d=\"M{STRIP_LEFT} {}",
         strip_row(0)
     )?;
-    for growth in track.growths.as_slice() {
+    for growth in robot.track.growths.as_slice() {
         let x = strip_column(cycle_of(growth.update), cycles);
         write!(text, "H{x}V{}", strip_row(growth.damage))?;
     }
-    write!(
-        text,
-        "H{}\"><title>{number}) ",
-        strip_column(cycles, cycles)
-    )?;
-    add_name(text, name)?;
-    text.push_str("</title></path>\n")
+    write!(text, "H{}\">", strip_column(cycles, cycles))?;
+    robot.add_title(text)?;
+    text.push_str("</path>\n")
 }
