@@ -5,8 +5,9 @@ ghost use Rattle.tokens.specs.declared.located_tokens.Token.{Token};
 ghost use Rattle.tokens.specs.declared.located_tokens.Token.TheVariants as token;
 ghost use Rattle.grammar.specs.Grammar as table;
 ghost use Rattle.grammar.specs.Operators.{operator_at};
-ghost use Rattle.derivations.specs.Table.{action_of, role_of, symbol_of};
+ghost use Rattle.derivations.specs.Table.{action_of, item_of, role_of, symbol_of};
 
+use crate::symbols::Item::{Close, Ending, Exactly, Keyword, Make, Naming, Number, Part};
 use crate::symbols::{Item, Production, Role, SemanticAction, Symbol};
 use grammar::{Binary, Op, StoreOp, operator_from, store_operator};
 use tokens::{Punctuator, Token, Word};
@@ -48,22 +49,14 @@ fn source(next: &Token) -> Option<Production>
     ensures { (after : Token) → result ≡ table.choice table.Source next.now after }
 {
     match next {
-        Token::End => Some(Production::of(&[Item::Ending])),
+        Token::End => Some(Production::of(&[Ending])),
         Token::Word(Word::Type) => Some(Production::of(&[
-            Item::Keyword(Word::Type),
-            Item::Part(Symbol::Types),
-            Item::Part(Symbol::Head),
-            Item::Part(Symbol::Source),
+            Keyword(Word::Type),
+            Part(Symbol::Types),
+            Part(Symbol::Head),
+            Part(Symbol::Source),
         ])),
-        Token::Name(_) => Some(Production::of(&[
-            Item::Naming(Role::Defined),
-            Item::Exactly(Punctuator::OpenRound),
-            Item::Part(Symbol::Parameters),
-            Item::Exactly(Punctuator::CloseRound),
-            Item::Part(Symbol::ParameterTypes),
-            Item::Part(Symbol::FunctionBlock),
-            Item::Part(Symbol::Source),
-        ])),
+        Token::Name(_) => Some(definition().and(Part(Symbol::Source))),
         _ => None,
     }
 }
@@ -73,9 +66,7 @@ fn types(next: &Token) -> Production
     ensures { (after : Token) → Some result ≡ table.choice table.Types next.now after }
 {
     match next {
-        Token::Word(Word::Type) => {
-            Production::of(&[Item::Keyword(Word::Type), Item::Part(Symbol::Types)])
-        }
+        Token::Word(Word::Type) => { Production::of(&[Keyword(Word::Type), Part(Symbol::Types)]) }
         _ => Production::of(&[]),
     }
 }
@@ -85,21 +76,29 @@ fn head(next: &Token, after: &Token) -> Option<Production>
     ensures { result ≡ table.choice table.Head next.now after.now }
 {
     match (next, after) {
-        (Token::Name(_), Token::Punctuator(Punctuator::OpenRound)) => Some(Production::of(&[
-            Item::Naming(Role::Defined),
-            Item::Exactly(Punctuator::OpenRound),
-            Item::Part(Symbol::Parameters),
-            Item::Exactly(Punctuator::CloseRound),
-            Item::Part(Symbol::ParameterTypes),
-            Item::Part(Symbol::FunctionBlock),
-        ])),
+        (Token::Name(_), Token::Punctuator(Punctuator::OpenRound)) => Some(definition()),
         (Token::Name(_), _) => Some(Production::of(&[
-            Item::Naming(Role::External),
-            Item::Part(Symbol::More(Role::External)),
-            Item::Exactly(Punctuator::Semicolon),
+            Naming(Role::External),
+            Part(Symbol::More(Role::External)),
+            Exactly(Punctuator::Semicolon),
         ])),
         _ => None,
     }
+}
+
+/// Returns the production of a function's definition.
+fn definition() -> Production
+    ensures { result ≡ table.AName table.Defined ∷ table.Exactly Punctuator.OpenRound ∷ table.Part table.Parameters
+        ∷ table.Exactly Punctuator.CloseRound ∷ table.Part table.ParameterTypes ∷ table.Part table.FunctionBlock ∷ [] }
+{
+    Production::of(&[
+        Naming(Role::Defined),
+        Exactly(Punctuator::OpenRound),
+        Part(Symbol::Parameters),
+        Exactly(Punctuator::CloseRound),
+        Part(Symbol::ParameterTypes),
+        Part(Symbol::FunctionBlock),
+    ])
 }
 
 /// Returns the production of further names of a list.
@@ -108,9 +107,9 @@ fn more(role: Role, next: &Token) -> Production
 {
     match next {
         Token::Punctuator(Punctuator::Comma) => Production::of(&[
-            Item::Exactly(Punctuator::Comma),
-            Item::Naming(role),
-            Item::Part(Symbol::More(role)),
+            Exactly(Punctuator::Comma),
+            Naming(role),
+            Part(Symbol::More(role)),
         ]),
         _ => Production::of(&[]),
     }
@@ -122,8 +121,8 @@ fn parameters(next: &Token) -> Production
 {
     match next {
         Token::Name(_) => Production::of(&[
-            Item::Naming(Role::Parameter),
-            Item::Part(Symbol::More(Role::Parameter)),
+            Naming(Role::Parameter),
+            Part(Symbol::More(Role::Parameter)),
         ]),
         _ => Production::of(&[]),
     }
@@ -134,16 +133,25 @@ fn parameter_types(next: &Token) -> Production
     ensures { (after : Token) → Some result ≡ table.choice table.ParameterTypes next.now after }
 {
     match next {
-        Token::Word(Word::Type) => Production::of(&[
-            Item::Keyword(Word::Type),
-            Item::Part(Symbol::Types),
-            Item::Naming(Role::Typed),
-            Item::Part(Symbol::More(Role::Typed)),
-            Item::Exactly(Punctuator::Semicolon),
-            Item::Part(Symbol::ParameterTypes),
-        ]),
+        Token::Word(Word::Type) => declared(Role::Typed, Symbol::ParameterTypes),
         _ => Production::of(&[]),
     }
+}
+
+/// Returns the production of a declaration of names in this role, and of what follows it.
+fn declared(role: Role, others: Symbol) -> Production
+    ensures { result ≡ table.AWord Word.Type ∷ table.Part table.Types ∷ table.AName (role_of role)
+        ∷ table.Part (table.More (role_of role)) ∷ table.Exactly Punctuator.Semicolon
+        ∷ table.Part (symbol_of others) ∷ [] }
+{
+    Production::of(&[
+        Keyword(Word::Type),
+        Part(Symbol::Types),
+        Naming(role),
+        Part(Symbol::More(role)),
+        Exactly(Punctuator::Semicolon),
+        Part(others),
+    ])
 }
 
 /// Returns the production of a function's block.
@@ -152,13 +160,13 @@ fn function_block(next: &Token) -> Option<Production>
 {
     match next {
         Token::Punctuator(Punctuator::OpenCurly) => Some(Production::of(&[
-            Item::Exactly(Punctuator::OpenCurly),
-            Item::Make(SemanticAction::Empty),
-            Item::Part(Symbol::Declarations),
-            Item::Part(Symbol::Statements),
-            Item::Make(SemanticAction::Define),
-            Item::Exactly(Punctuator::CloseCurly),
-            Item::Close,
+            Exactly(Punctuator::OpenCurly),
+            Make(SemanticAction::Empty),
+            Part(Symbol::Declarations),
+            Part(Symbol::Statements),
+            Make(SemanticAction::Define),
+            Exactly(Punctuator::CloseCurly),
+            Close,
         ])),
         _ => None,
     }
@@ -170,11 +178,11 @@ fn block(next: &Token) -> Option<Production>
 {
     match next {
         Token::Punctuator(Punctuator::OpenCurly) => Some(Production::of(&[
-            Item::Exactly(Punctuator::OpenCurly),
-            Item::Part(Symbol::Declarations),
-            Item::Part(Symbol::Statements),
-            Item::Exactly(Punctuator::CloseCurly),
-            Item::Close,
+            Exactly(Punctuator::OpenCurly),
+            Part(Symbol::Declarations),
+            Part(Symbol::Statements),
+            Exactly(Punctuator::CloseCurly),
+            Close,
         ])),
         _ => None,
     }
@@ -185,14 +193,7 @@ fn declarations(next: &Token) -> Production
     ensures { (after : Token) → Some result ≡ table.choice table.Declarations next.now after }
 {
     match next {
-        Token::Word(Word::Type) => Production::of(&[
-            Item::Keyword(Word::Type),
-            Item::Part(Symbol::Types),
-            Item::Naming(Role::Local),
-            Item::Part(Symbol::More(Role::Local)),
-            Item::Exactly(Punctuator::Semicolon),
-            Item::Part(Symbol::Declarations),
-        ]),
+        Token::Word(Word::Type) => declared(Role::Local, Symbol::Declarations),
         _ => Production::of(&[]),
     }
 }
@@ -203,10 +204,7 @@ fn statements(next: &Token) -> Production
 {
     match next {
         Token::Punctuator(Punctuator::CloseCurly) => Production::of(&[]),
-        _ => Production::of(&[
-            Item::Part(Symbol::Statement),
-            Item::Part(Symbol::Statements),
-        ]),
+        _ => Production::of(&[Part(Symbol::Statement), Part(Symbol::Statements)]),
     }
 }
 
@@ -216,54 +214,40 @@ fn statement(next: &Token) -> Production
 {
     match next {
         Token::Punctuator(Punctuator::Semicolon) => {
-            Production::of(&[Item::Exactly(Punctuator::Semicolon)])
+            Production::of(&[Exactly(Punctuator::Semicolon)])
         }
-        Token::Punctuator(Punctuator::OpenCurly) => Production::of(&[Item::Part(Symbol::Block)]),
-        Token::Word(Word::If) => branch(),
-        Token::Word(Word::While) => repetition(),
+        Token::Punctuator(Punctuator::OpenCurly) => Production::of(&[Part(Symbol::Block)]),
+        Token::Word(Word::If) => tested(Word::If, Part(Symbol::ElsePart)),
+        Token::Word(Word::While) => tested(Word::While, Make(SemanticAction::Repeat)),
         Token::Word(Word::Return) => Production::of(&[
-            Item::Keyword(Word::Return),
-            Item::Part(Symbol::Back),
-            Item::Exactly(Punctuator::Semicolon),
-            Item::Make(SemanticAction::GiveBack),
+            Keyword(Word::Return),
+            Part(Symbol::Back),
+            Exactly(Punctuator::Semicolon),
+            Make(SemanticAction::GiveBack),
         ]),
         _ => Production::of(&[
-            Item::Part(Symbol::Expression),
-            Item::Exactly(Punctuator::Semicolon),
-            Item::Make(SemanticAction::Evaluate),
+            Part(Symbol::Expression),
+            Exactly(Punctuator::Semicolon),
+            Make(SemanticAction::Evaluate),
         ]),
     }
 }
 
-/// Returns the production of an `if`.
-fn branch() -> Production
-    ensures { Some result ≡ table.choice table.Statement (token.Word Word.If) token.End }
+/// Returns the production of an `if` or a `while`, by its word and what follows its body.
+fn tested(word: Word, last: Item) -> Production
+    ensures { result ≡ table.AWord word ∷ table.Exactly Punctuator.OpenRound ∷ table.Part table.Expression
+        ∷ table.Exactly Punctuator.CloseRound ∷ table.Make table.Empty ∷ table.Part table.Statement
+        ∷ item_of last ∷ table.Close ∷ [] }
 {
     Production::of(&[
-        Item::Keyword(Word::If),
-        Item::Exactly(Punctuator::OpenRound),
-        Item::Part(Symbol::Expression),
-        Item::Exactly(Punctuator::CloseRound),
-        Item::Make(SemanticAction::Empty),
-        Item::Part(Symbol::Statement),
-        Item::Part(Symbol::ElsePart),
-        Item::Close,
-    ])
-}
-
-/// Returns the production of a `while`.
-fn repetition() -> Production
-    ensures { Some result ≡ table.choice table.Statement (token.Word Word.While) token.End }
-{
-    Production::of(&[
-        Item::Keyword(Word::While),
-        Item::Exactly(Punctuator::OpenRound),
-        Item::Part(Symbol::Expression),
-        Item::Exactly(Punctuator::CloseRound),
-        Item::Make(SemanticAction::Empty),
-        Item::Part(Symbol::Statement),
-        Item::Make(SemanticAction::Repeat),
-        Item::Close,
+        Keyword(word),
+        Exactly(Punctuator::OpenRound),
+        Part(Symbol::Expression),
+        Exactly(Punctuator::CloseRound),
+        Make(SemanticAction::Empty),
+        Part(Symbol::Statement),
+        last,
+        Close,
     ])
 }
 
@@ -273,12 +257,12 @@ fn else_part(next: &Token) -> Production
 {
     match next {
         Token::Word(Word::Else) => Production::of(&[
-            Item::Keyword(Word::Else),
-            Item::Make(SemanticAction::Empty),
-            Item::Part(Symbol::Statement),
-            Item::Make(SemanticAction::DecideElse),
+            Keyword(Word::Else),
+            Make(SemanticAction::Empty),
+            Part(Symbol::Statement),
+            Make(SemanticAction::DecideElse),
         ]),
-        _ => Production::of(&[Item::Make(SemanticAction::Decide)]),
+        _ => Production::of(&[Make(SemanticAction::Decide)]),
     }
 }
 
@@ -288,9 +272,9 @@ fn back(next: &Token) -> Production
 {
     match next {
         Token::Punctuator(Punctuator::Semicolon) => {
-            Production::of(&[Item::Make(SemanticAction::Zero)])
+            Production::of(&[Make(SemanticAction::Zero)])
         }
-        _ => Production::of(&[Item::Part(Symbol::Expression)]),
+        _ => Production::of(&[Part(Symbol::Expression)]),
     }
 }
 
@@ -301,15 +285,15 @@ fn expression(next: &Token, after: &Token) -> Production
     match (next, after) {
         (Token::Name(_), Token::Punctuator(punctuator)) => match store_operator(after) {
             Some(op) => Production::of(&[
-                Item::Naming(Role::Mentioned),
-                Item::Exactly(*punctuator),
-                Item::Part(Symbol::Expression),
-                Item::Make(SemanticAction::Store(op)),
-                Item::Close,
+                Naming(Role::Mentioned),
+                Exactly(*punctuator),
+                Part(Symbol::Expression),
+                Make(SemanticAction::Store(op)),
+                Close,
             ]),
-            None => Production::of(&[Item::Part(Symbol::Level(1))]),
+            None => Production::of(&[Part(Symbol::Level(1))]),
         },
-        _ => Production::of(&[Item::Part(Symbol::Level(1))]),
+        _ => Production::of(&[Part(Symbol::Level(1))]),
     }
 }
 
@@ -318,12 +302,9 @@ fn operators(level: u8) -> Production
     ensures { (next after : Token) → Some result ≡ table.choice (table.Level level) next after }
 {
     if level < 11 {
-        Production::of(&[
-            Item::Part(Symbol::Level(level + 1)),
-            Item::Part(Symbol::Tail(level)),
-        ])
+        Production::of(&[Part(Symbol::Level(level + 1)), Part(Symbol::Tail(level))])
     } else {
-        Production::of(&[Item::Part(Symbol::Unary)])
+        Production::of(&[Part(Symbol::Unary)])
     }
 }
 
@@ -336,10 +317,10 @@ fn tail(level: u8, next: &Token) -> Production
     };
     match operator_at(level, next) {
         Some(op) => Production::of(&[
-            Item::Exactly(punctuator),
-            Item::Part(Symbol::Level(level + 1)),
-            Item::Make(SemanticAction::Operate(op)),
-            Item::Part(Symbol::Tail(level)),
+            Exactly(punctuator),
+            Part(Symbol::Level(level + 1)),
+            Make(SemanticAction::Operate(op)),
+            Part(Symbol::Tail(level)),
         ]),
         None => Production::of(&[]),
     }
@@ -370,7 +351,7 @@ fn unary(next: &Token) -> Production
         Token::Punctuator(Punctuator::MinusMinus) => {
             step_before(Punctuator::MinusMinus, StoreOp::Subtract)
         }
-        _ => Production::of(&[Item::Part(Symbol::Primary)]),
+        _ => Production::of(&[Part(Symbol::Primary)]),
     }
 }
 
@@ -379,10 +360,10 @@ fn before(punctuator: Punctuator, action: SemanticAction) -> Production
     ensures { result ≡ table.Exactly punctuator ∷ table.Part table.Unary ∷ table.Make (action_of action) ∷ table.Close ∷ [] }
 {
     Production::of(&[
-        Item::Exactly(punctuator),
-        Item::Part(Symbol::Unary),
-        Item::Make(action),
-        Item::Close,
+        Exactly(punctuator),
+        Part(Symbol::Unary),
+        Make(action),
+        Close,
     ])
 }
 
@@ -391,9 +372,9 @@ fn step_before(punctuator: Punctuator, op: StoreOp) -> Production
     ensures { result ≡ table.Exactly punctuator ∷ table.AName table.Mentioned ∷ table.Make (table.StepBefore op) ∷ [] }
 {
     Production::of(&[
-        Item::Exactly(punctuator),
-        Item::Naming(Role::Mentioned),
-        Item::Make(SemanticAction::StepBefore(op)),
+        Exactly(punctuator),
+        Naming(Role::Mentioned),
+        Make(SemanticAction::StepBefore(op)),
     ])
 }
 
@@ -402,13 +383,13 @@ fn primary(next: &Token, after: &Token) -> Option<Production>
     ensures { result ≡ table.choice table.Primary next.now after.now }
 {
     match next {
-        Token::Constant(_) => Some(Production::of(&[Item::Number])),
+        Token::Constant(_) => Some(Production::of(&[Number])),
         Token::Name(_) => Some(named(after)),
         Token::Punctuator(Punctuator::OpenRound) => Some(Production::of(&[
-            Item::Exactly(Punctuator::OpenRound),
-            Item::Part(Symbol::Expression),
-            Item::Exactly(Punctuator::CloseRound),
-            Item::Close,
+            Exactly(Punctuator::OpenRound),
+            Part(Symbol::Expression),
+            Exactly(Punctuator::CloseRound),
+            Close,
         ])),
         _ => None,
     }
@@ -420,21 +401,18 @@ fn named(after: &Token) -> Production
 {
     match after {
         Token::Punctuator(Punctuator::OpenRound) => Production::of(&[
-            Item::Naming(Role::Called),
-            Item::Exactly(Punctuator::OpenRound),
-            Item::Part(Symbol::Arguments),
-            Item::Exactly(Punctuator::CloseRound),
-            Item::Make(SemanticAction::Invoke),
-            Item::Close,
+            Naming(Role::Called),
+            Exactly(Punctuator::OpenRound),
+            Part(Symbol::Arguments),
+            Exactly(Punctuator::CloseRound),
+            Make(SemanticAction::Invoke),
+            Close,
         ]),
         Token::Punctuator(Punctuator::PlusPlus) => step_behind(Punctuator::PlusPlus, StoreOp::Add),
         Token::Punctuator(Punctuator::MinusMinus) => {
             step_behind(Punctuator::MinusMinus, StoreOp::Subtract)
         }
-        _ => Production::of(&[
-            Item::Naming(Role::Mentioned),
-            Item::Make(SemanticAction::Fetch),
-        ]),
+        _ => Production::of(&[Naming(Role::Mentioned), Make(SemanticAction::Fetch)]),
     }
 }
 
@@ -443,9 +421,9 @@ fn step_behind(punctuator: Punctuator, op: StoreOp) -> Production
     ensures { result ≡ table.AName table.Mentioned ∷ table.Exactly punctuator ∷ table.Make (table.StepBehind op) ∷ [] }
 {
     Production::of(&[
-        Item::Naming(Role::Mentioned),
-        Item::Exactly(punctuator),
-        Item::Make(SemanticAction::StepBehind(op)),
+        Naming(Role::Mentioned),
+        Exactly(punctuator),
+        Make(SemanticAction::StepBehind(op)),
     ])
 }
 
@@ -456,9 +434,9 @@ fn arguments(next: &Token) -> Production
     match next {
         Token::Punctuator(Punctuator::CloseRound) => Production::of(&[]),
         _ => Production::of(&[
-            Item::Part(Symbol::Expression),
-            Item::Make(SemanticAction::Pass),
-            Item::Part(Symbol::MoreArguments),
+            Part(Symbol::Expression),
+            Make(SemanticAction::Pass),
+            Part(Symbol::MoreArguments),
         ]),
     }
 }
@@ -469,10 +447,10 @@ fn more_arguments(next: &Token) -> Production
 {
     match next {
         Token::Punctuator(Punctuator::Comma) => Production::of(&[
-            Item::Exactly(Punctuator::Comma),
-            Item::Part(Symbol::Expression),
-            Item::Make(SemanticAction::Pass),
-            Item::Part(Symbol::MoreArguments),
+            Exactly(Punctuator::Comma),
+            Part(Symbol::Expression),
+            Make(SemanticAction::Pass),
+            Part(Symbol::MoreArguments),
         ]),
         _ => Production::of(&[]),
     }

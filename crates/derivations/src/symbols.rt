@@ -1,6 +1,6 @@
 //! The symbols of the grammar, and what their productions are made of.
 
-ghost use Rattle.std.specs.Prelude.{◌≡◌, ◌≤◌, length, map};
+ghost use Rattle.std.specs.Prelude.{◌≡◌, ◌<◌, ◌≤◌, [], ◌∷◌, ◌++◌, length, map};
 ghost use Rattle.derivations.specs.Table.{item_of};
 
 use arrayvec::ArrayVec;
@@ -172,6 +172,16 @@ impl Production {
         let mut production = ArrayVec::new();
         let _ = production.try_extend_from_slice(items);
         Production { items: production }
+    }
+
+    /// Returns it with another item at its end.
+    pub(crate) fn and(self, item: Item) -> Production
+        requires { length self < MOST_ITEMS }
+        ensures { result ≡ self ++ item_of item ∷ [] }
+    {
+        let mut production = self;
+        let _ = production.items.try_push(item);
+        production
     }
 
     /// Returns its items, the first to be matched first.

@@ -8,6 +8,7 @@ use crate::reserved::{on_character, on_word};
 use crate::scenes::Scene;
 use crate::searches::Search;
 use crate::told::add_token;
+use crate::walks::Walk;
 use crate::wanted::add_wanted;
 use derivations::{Located, fitting, locate};
 use grammar::{Code, Diagnostic, Profile};
@@ -41,7 +42,8 @@ pub fn add_explanation(
     diagnostic: &Diagnostic,
 ) -> Result<(), AllocError> {
     let tokens = locate(alloc, source)?;
-    let mut search = Search::start(alloc, tokens.as_slice(), profile)?;
+    let walk = Walk::start(alloc, tokens.as_slice(), profile)?;
+    let mut search = Search::along(alloc, walk);
     let found = Found {
         source,
         tokens: tokens.as_slice(),

@@ -377,15 +377,10 @@ impl Nodes {
         self.add(Node::new(Kind::Call(callee, arguments), token, first, first))
     }
 
-    /// Adds the node of an `if` without `else`. Its body doesn't run if its condition is known to be 0.
+    /// Adds the node of an `if` without `else`.
     fn decide(&mut self) -> Result<(), AllocError> {
-        let end = self.list.len();
-        let body = self.take_body(end)?;
-        let value = self.last_value();
-        if value == Some(0) {
-            self.kill(body.first, end);
-        }
-        self.add_branch(Kind::If, body, body.ends && is_true(value))
+        let (body, is_sure) = self.take_tested()?;
+        self.add_branch(Kind::If, body, body.ends && is_sure)
     }
 
     /// Adds the node of an `if` with `else`. One of its bodies doesn't run if its condition is known.
@@ -407,16 +402,22 @@ impl Nodes {
         self.add_branch(Kind::If, body, ends)
     }
 
-    /// Adds the node of a `while`. What follows it isn't reached if its condition is known and isn't 0, and its body doesn't
-    /// run if it is known to be 0.
+    /// Adds the node of a `while`. What follows it isn't reached if its condition is known and isn't 0.
     fn repeat(&mut self) -> Result<(), AllocError> {
+        let (body, is_sure) = self.take_tested()?;
+        self.add_branch(Kind::While, body, is_sure)
+    }
+
+    /// Takes the body of an `if` without `else` or of a `while`, and reports whether its condition is known and isn't 0.
+    /// The body doesn't run if it is known to be 0.
+    fn take_tested(&mut self) -> Result<(Taken, bool), AllocError> {
         let end = self.list.len();
         let body = self.take_body(end)?;
         let value = self.last_value();
         if value == Some(0) {
             self.kill(body.first, end);
         }
-        self.add_branch(Kind::While, body, is_true(value))
+        Ok((body, is_true(value)))
     }
 
     /// Adds the node of an `if` or a `while`, above its condition.

@@ -1,14 +1,13 @@
 //! The search for the token of a source's fault.
 
 use crate::walks::{Event, Meaning, Walk};
-use derivations::{Derivation, Located};
-use grammar::{Callee, Code, Diagnostic, MOST_NAMES, Profile};
+use derivations::Derivation;
+use grammar::{Callee, Code, Diagnostic, MOST_NAMES};
 use std::alloc::{AllocError, Global};
 
 /// A search: how far it has come, which functions are defined up to there, and which ones are mentioned.
 #[derive(Drop)]
 pub struct Search<'a> {
-    tokens: &'a [Located],
     walk: Walk<'a>,
     defined: Vec<usize>,
     mentioned: [Option<usize>; MOST_NAMES],
@@ -16,19 +15,14 @@ pub struct Search<'a> {
 }
 
 impl<'a> Search<'a> {
-    /// Begins before the first of a source's tokens.
-    pub fn start(
-        alloc: Global,
-        tokens: &'a [Located],
-        profile: Profile,
-    ) -> Result<Search<'a>, AllocError> {
-        Ok(Search {
-            tokens,
-            walk: Walk::start(alloc, tokens, profile)?,
+    /// Begins where this walk is.
+    pub fn along(alloc: Global, walk: Walk<'a>) -> Search<'a> {
+        Search {
+            walk,
             defined: Vec::new(alloc),
             mentioned: [None; MOST_NAMES],
             begun: [false; MOST_NAMES],
-        })
+        }
     }
 
     /// Returns the index of the token of the source's fault, and stops there: the first that has this fault, or else the
@@ -43,7 +37,7 @@ impl<'a> Search<'a> {
                 _ => {}
             }
         }
-        let last = self.tokens.len().saturating_sub(1);
+        let last = self.walk.last();
         match wanted.code {
             Code::FunctionNotDefined => Ok(self.undefined().unwrap_or(last)),
             _ => Ok(last),

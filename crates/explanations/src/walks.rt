@@ -97,6 +97,11 @@ impl<'a> Walk<'a> {
         &self.derivation
     }
 
+    /// Returns the index of the source's last token.
+    pub fn last(&self) -> usize {
+        self.tokens.len().saturating_sub(1)
+    }
+
     /// Reports whether the next token doesn't fit, so that the walk stays where it is.
     pub fn is_stuck(&self) -> bool {
         self.is_stuck

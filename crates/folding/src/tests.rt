@@ -4,7 +4,6 @@ use crate::compiled;
 use crate::listing::folded;
 use code::Profile;
 use std::alloc::Global;
-use std::process::Abort;
 use std::test::Fail;
 
 /// Returns the folded code of a source.
@@ -15,27 +14,14 @@ fn code_of(alloc: Global, profile: Profile, source: &[u8]) -> Result<String, Fai
     Ok(folded(alloc, program.instructions(), &folds)?)
 }
 
-/// Compares the folded code of a source with a text.
-fn check(
-    rt: &impl Abort,
-    alloc: Global,
-    profile: Profile,
-    source: &[u8],
-    wanted: &str,
-) -> Result<(), Fail> {
-    let text = code_of(alloc, profile, source)?;
-    assert_eq!(rt; text.as_str(), wanted);
-    Ok(())
-}
-
 #[test]
-fn a_side_that_is_not_known(rt: HostRuntime) -> Result<(), Fail> {
-    check(
-        &rt,
-        rt.alloc(),
-        Profile::first(),
-        b"main(){ int a; a = a + 1 + 2; }",
-        "    0 FETCH L0
+fn folded_code_of_small_robots(rt: HostRuntime) -> Result<(), Fail> {
+    for (profile, source, wanted) in [
+        // a side that is not known
+        (
+            Profile::first(),
+            b"main(){ int a; a = a + 1 + 2; }".as_slice(),
+            "    0 FETCH L0
     1 CONST 1
     2 BINOP +
     3 CONST 2
@@ -46,33 +32,23 @@ fn a_side_that_is_not_known(rt: HostRuntime) -> Result<(), Fail> {
     8 RETSUB
     9 NOP
 ",
-    )
-}
-
-#[test]
-fn signs_are_operators_on_constants(rt: HostRuntime) -> Result<(), Fail> {
-    check(
-        &rt,
-        rt.alloc(),
-        Profile::first(),
-        b"main(){ return -(2 + 3) + !4 + ~0; }",
-        "    0 CONST -6
+        ),
+        // signs, which are operators on constants
+        (
+            Profile::first(),
+            b"main(){ return -(2 + 3) + !4 + ~0; }",
+            "    0 CONST -6
     1 RETSUB
     2 CONST 0
     3 RETSUB
     4 NOP
 ",
-    )
-}
-
-#[test]
-fn a_right_side_that_is_left_out(rt: HostRuntime) -> Result<(), Fail> {
-    check(
-        &rt,
-        rt.alloc(),
-        Profile::second(),
-        b"main(){ 1 && 2 + 3; }",
-        "    0 CONST 1
+        ),
+        // a right side that is left out
+        (
+            Profile::second(),
+            b"main(){ 1 && 2 + 3; }",
+            "    0 CONST 1
     1 BRANCH 6
     2 CONST 5
     3 TRUTH
@@ -84,7 +60,11 @@ fn a_right_side_that_is_left_out(rt: HostRuntime) -> Result<(), Fail> {
     9 RETSUB
    10 NOP
 ",
-    )
+        ),
+    ] {
+        assert_eq!(rt; code_of(rt.alloc(), profile, source)?.as_str(), wanted);
+    }
+    Ok(())
 }
 
 #[test]

@@ -5,22 +5,4 @@
 #![tactic(auto)]
 
 #[cfg(test)]
-mod builder_tests;
-#[cfg(test)]
-mod checks;
-#[cfg(test)]
-mod device_tests;
-#[cfg(test)]
-mod large_tests;
-#[cfg(test)]
-mod memory_tests;
-#[cfg(test)]
-mod piece_tests;
-#[cfg(test)]
-mod recorder;
-#[cfg(test)]
-mod refuser;
-#[cfg(test)]
-mod sources;
-#[cfg(test)]
-mod tree_tests;
+mod tests;

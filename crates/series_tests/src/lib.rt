@@ -4,16 +4,4 @@
 #![tactic(auto)]
 
 #[cfg(test)]
-mod checks;
-#[cfg(test)]
-mod listing_tests;
-#[cfg(test)]
-mod machine_tests;
-#[cfg(test)]
-mod match_tests;
-#[cfg(test)]
-mod replay_tests;
-#[cfg(test)]
-mod run_tests;
-#[cfg(test)]
-mod series_tests;
+mod tests;

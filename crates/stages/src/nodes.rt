@@ -114,15 +114,18 @@ impl Nodes {
         scope: &Scope<'_>,
         statements: &[Statement],
     ) -> Result<(), AllocError> {
-        let mut left = Vec::new(self.alloc);
-        push_statements(&mut left, node, statements)?;
+        let mut agenda = Agenda {
+            parent: node,
+            left: Vec::new(self.alloc),
+        };
+        agenda.push_statements(statements)?;
         for _ in 0..u64::MAX {
-            let Some(Pending { part, parent }) = left.pop() else {
+            let Some(Pending { part, parent }) = agenda.left.pop() else {
                 break;
             };
             let label = label_of(self.alloc, scope, part)?;
-            let node = self.add(parent, label)?;
-            push_below(&mut left, node, part)?;
+            agenda.parent = self.add(parent, label)?;
+            agenda.push_below(part)?;
         }
         Ok(())
     }
@@ -137,81 +140,76 @@ fn label_of(alloc: Global, scope: &Scope<'_>, part: Part<'_>) -> Result<String, 
     }
 }
 
-/// Pushes what is directly below a part, the last first.
-fn push_below<'a>(
-    left: &mut Vec<Pending<'a>>,
-    node: usize,
-    part: Part<'a>,
-) -> Result<(), AllocError> {
-    match part {
-        Part::Body(_, statements) => push_statements(left, node, statements),
-        Part::Statement(statement) => push_in_statement(left, node, statement),
-        Part::Expression(expression) => push_in_expression(left, node, expression),
-    }
+/// The parts that are still to become nodes, the next one last.
+#[derive(Drop)]
+struct Agenda<'a> {
+    /// The node that the parts pushed next are below.
+    parent: usize,
+    left: Vec<Pending<'a>>,
 }
 
-/// Pushes what is directly below a statement.
-fn push_in_statement<'a>(
-    left: &mut Vec<Pending<'a>>,
-    parent: usize,
-    statement: &'a Statement,
-) -> Result<(), AllocError> {
-    match statement {
-        Statement::ExpressionStatement(value) | Statement::Return(value) => {
-            push(left, parent, Part::Expression(value))
-        }
-        Statement::IfStatement(condition, branch) => {
-            push(left, parent, Part::Body("then", branch.as_slice()))?;
-            push(left, parent, Part::Expression(condition))
-        }
-        Statement::IfElseStatement(condition, first, second) => {
-            push(left, parent, Part::Body("else", second.as_slice()))?;
-            push(left, parent, Part::Body("then", first.as_slice()))?;
-            push(left, parent, Part::Expression(condition))
-        }
-        Statement::While(condition, body) => {
-            push(left, parent, Part::Body("do", body.as_slice()))?;
-            push(left, parent, Part::Expression(condition))
+impl<'a> Agenda<'a> {
+    /// Pushes what is directly below a part, the last first.
+    fn push_below(&mut self, part: Part<'a>) -> Result<(), AllocError> {
+        match part {
+            Part::Body(_, statements) => self.push_statements(statements),
+            Part::Statement(statement) => self.push_in_statement(statement),
+            Part::Expression(expression) => self.push_in_expression(expression),
         }
     }
-}
 
-/// Pushes what is directly below an expression.
-fn push_in_expression<'a>(
-    left: &mut Vec<Pending<'a>>,
-    parent: usize,
-    expression: &'a Expr,
-) -> Result<(), AllocError> {
-    match expression {
-        Expr::Constant(_) | Expr::Variable(_) | Expr::Postfix(..) => Ok(()),
-        Expr::Binary(_, first, second) => {
-            push(left, parent, Part::Expression(second))?;
-            push(left, parent, Part::Expression(first))
-        }
-        Expr::Assign(_, _, right) => push(left, parent, Part::Expression(right)),
-        Expr::Call(_, arguments) => {
-            for argument in arguments.iter().rev() {
-                push(left, parent, Part::Expression(argument))?;
+    /// Pushes what is directly below a statement.
+    fn push_in_statement(&mut self, statement: &'a Statement) -> Result<(), AllocError> {
+        match statement {
+            Statement::ExpressionStatement(value) | Statement::Return(value) => {
+                self.push(Part::Expression(value))
             }
-            Ok(())
+            Statement::IfStatement(condition, branch) => {
+                self.push(Part::Body("then", branch.as_slice()))?;
+                self.push(Part::Expression(condition))
+            }
+            Statement::IfElseStatement(condition, first, second) => {
+                self.push(Part::Body("else", second.as_slice()))?;
+                self.push(Part::Body("then", first.as_slice()))?;
+                self.push(Part::Expression(condition))
+            }
+            Statement::While(condition, body) => {
+                self.push(Part::Body("do", body.as_slice()))?;
+                self.push(Part::Expression(condition))
+            }
         }
     }
-}
 
-/// Pushes statements, the last first.
-fn push_statements<'a>(
-    left: &mut Vec<Pending<'a>>,
-    parent: usize,
-    statements: &'a [Statement],
-) -> Result<(), AllocError> {
-    for statement in statements.iter().rev() {
-        push(left, parent, Part::Statement(statement))?;
+    /// Pushes what is directly below an expression.
+    fn push_in_expression(&mut self, expression: &'a Expr) -> Result<(), AllocError> {
+        match expression {
+            Expr::Constant(_) | Expr::Variable(_) | Expr::Postfix(..) => Ok(()),
+            Expr::Binary(_, first, second) => {
+                self.push(Part::Expression(second))?;
+                self.push(Part::Expression(first))
+            }
+            Expr::Assign(_, _, right) => self.push(Part::Expression(right)),
+            Expr::Call(_, arguments) => {
+                for argument in arguments.iter().rev() {
+                    self.push(Part::Expression(argument))?;
+                }
+                Ok(())
+            }
+        }
     }
-    Ok(())
-}
 
-/// Pushes a part.
-fn push<'a>(left: &mut Vec<Pending<'a>>, parent: usize, part: Part<'a>) -> Result<(), AllocError> {
-    left.push(Pending { part, parent })?;
-    Ok(())
+    /// Pushes statements, the last first.
+    fn push_statements(&mut self, statements: &'a [Statement]) -> Result<(), AllocError> {
+        for statement in statements.iter().rev() {
+            self.push(Part::Statement(statement))?;
+        }
+        Ok(())
+    }
+
+    /// Pushes a part.
+    fn push(&mut self, part: Part<'a>) -> Result<(), AllocError> {
+        let parent = self.parent;
+        self.left.push(Pending { part, parent })?;
+        Ok(())
+    }
 }

@@ -43,17 +43,23 @@ fn tree(alloc: Global, source: &[u8]) -> Result<Nodes, Fail> {
     Nodes::of(alloc, &grown).map_err(|_| Fail::from("no memory"))
 }
 
+/// Compares a source's indented tree with a text.
+fn check_tree(rt: &(impl Abort + AllocGlobal), source: &[u8], wanted: &str) -> Result<(), Fail> {
+    let nodes = tree(rt.alloc(), source)?;
+    assert_eq!(rt; indented(rt.alloc(), &nodes)?.as_str(), wanted);
+    Ok(())
+}
+
 /// Compares a source's code below its lines with a text.
 fn check_listing(
-    rt: &impl Abort,
-    alloc: Global,
+    rt: &(impl Abort + AllocGlobal),
     profile: Profile,
     source: &[u8],
     wanted: &str,
 ) -> Result<(), Fail> {
     let program = program(source, profile)?;
-    let origins = Origins::find(alloc, source, profile)?;
-    let text = listing(alloc, source, &program, &origins)?;
+    let origins = Origins::find(rt.alloc(), source, profile)?;
+    let text = listing(rt.alloc(), source, &program, &origins)?;
     assert_eq!(rt; text.as_str(), wanted);
     Ok(())
 }
@@ -88,9 +94,9 @@ fn tokens_of_all_kinds(rt: HostRuntime) -> Result<(), Fail> {
 
 #[test]
 fn tree_of_a_robot(rt: HostRuntime) -> Result<(), Fail> {
-    let nodes = tree(rt.alloc(), LOOKOUT)?;
-    assert_eq!(rt;
-        indented(rt.alloc(), &nodes)?.as_str(),
+    check_tree(
+        &rt,
+        LOOKOUT,
         "file
   external E0 (hits)
   function 0 (main)
@@ -113,16 +119,15 @@ fn tree_of_a_robot(rt: HostRuntime) -> Result<(), Fail> {
                 call cannon
                   constant 45
                   variable L0 (dx)
-"
-    );
-    Ok(())
+",
+    )
 }
 
 #[test]
 fn tree_of_functions_and_branches(rt: HostRuntime) -> Result<(), Fail> {
-    let nodes = tree(rt.alloc(), TURNER)?;
-    assert_eq!(rt;
-        indented(rt.alloc(), &nodes)?.as_str(),
+    check_tree(
+        &rt,
+        TURNER,
         "file
   function 0 (turned)
     parameter L0 (by)
@@ -148,9 +153,8 @@ fn tree_of_functions_and_branches(rt: HostRuntime) -> Result<(), Fail> {
             constant 1
         return
           constant 0
-"
-    );
-    Ok(())
+",
+    )
 }
 
 #[test]
@@ -181,7 +185,6 @@ fn graph_of_a_small_tree(rt: HostRuntime) -> Result<(), Fail> {
 fn code_below_its_lines(rt: HostRuntime) -> Result<(), Fail> {
     check_listing(
         &rt,
-        rt.alloc(),
         Profile::first(),
         LOOKOUT,
         "    1 | int hits;
@@ -225,7 +228,6 @@ fn code_below_its_lines(rt: HostRuntime) -> Result<(), Fail> {
 fn names_of_the_function_that_an_address_belongs_to(rt: HostRuntime) -> Result<(), Fail> {
     check_listing(
         &rt,
-        rt.alloc(),
         Profile::second(),
         b"main(){\r\n int a; /*\xff*/\n a = f(a); }\nf(b) { return b; }\x1a}",
         "    1 | main(){

@@ -1,0 +1,106 @@
+//! Large files: the trees of many statements, arguments, functions and open things report the actions of the parse.
+
+use crate::tests::recorder::Recorder;
+use crate::tests::sources::Part::{Once, Times};
+use crate::tests::sources::{Part, source_of};
+use lang::{BuildFault, ParseFault, Profile, TreeMaker, parse};
+use std::alloc::{AllocError, Global};
+use std::process::Abort;
+use std::test::Fail;
+use tokens::Pieces;
+
+/// What is in the block of a large file's `main`, by its parts, each with the number of its actions.
+const LARGE: &[(&[Part], usize)] = &[
+    // statements: `constant` and `chop`, or `give_back`, for each
+    (&[Times(b"1;", 1_900)], 2 * 1_900),
+    (&[Times(b"return 1;", 1_900)], 2 * 1_900),
+    // both branches, and a body that is empty
+    (&[Times(b"if(1) 2; else 3;", 400)], 8 * 400),
+    (&[Times(b"while(1);", 900)], 4 * 900),
+    // arguments of a function of the file and of an intrinsic one
+    (
+        &[Once(b"main(1"), Times(b",2", 3_900), Once(b");")],
+        4 + 3_900,
+    ),
+    (
+        &[Once(b"a=1+rand(1"), Times(b",a++", 900), Once(b");")],
+        7 + 4 * 900,
+    ),
+    // left sides inside one another
+    (
+        &[Once(b"1"), Times(b"+2", 1_900), Once(b";")],
+        2 + 2 * 1_900,
+    ),
+    // calls and right sides inside one another: each level has `begin_call`, two constants, two `logic_middle`, two
+    // `binop` and `end_call`
+    (
+        &[
+            Times(b"rand(1||2&&", 60),
+            Once(b"3"),
+            Times(b")", 60),
+            Once(b";"),
+        ],
+        2 + 8 * 60,
+    ),
+    // branches and loops inside one another, and a long call inside them all
+    (
+        &[
+            Times(b"if(1) while(2) ", 29),
+            Once(b"rand(3"),
+            Times(b",4", 500),
+            Once(b");"),
+        ],
+        7 * 29 + 4 + 500,
+    ),
+];
+
+/// The number of a function's own actions: `begin_function`, `constant`, `give_back` and `end_function`.
+const OF_A_FUNCTION: usize = 4;
+
+/// Compares what a parse of the source reports with what its trees report then, and how many actions they are.
+fn check_actions(rt: &(impl Abort + AllocGlobal), source: &[u8], count: usize) -> Result<(), Fail> {
+    let trees = TreeMaker::new(rt.alloc(), Profile::second());
+    let mut parsed = Recorder::around(rt.alloc(), trees);
+    parse(&mut Pieces::new(source, 4_096), &mut parsed)?;
+    let trees = TreeMaker::new(rt.alloc(), Profile::second());
+    let mut replayed = Recorder::around(rt.alloc(), trees);
+    parsed.inner.replay(&mut replayed)?;
+    assert_eq!(rt; parsed.actions.len(), count);
+    assert_eq!(rt; replayed.actions.len(), count);
+    for (action, again) in parsed.actions.iter().zip(replayed.actions.iter()) {
+        assert_eq!(rt; again, action);
+    }
+    Ok(())
+}
+
+#[test]
+fn large_files_are_kept_and_replayed(rt: HostRuntime) -> Result<(), Fail> {
+    for (parts, count) in LARGE {
+        let mut source = Vec::from_slice(rt.alloc(), b"main(){")?;
+        source.extend_from_slice(source_of(rt.alloc(), parts)?.as_slice())?;
+        source.push(b'}')?;
+        check_actions(&rt, &source, OF_A_FUNCTION + *count)?;
+    }
+    Ok(())
+}
+
+/// Makes a source of the most functions, each with so many statements: `main` is the last of 64.
+fn functions(alloc: Global, statements: usize) -> Result<Vec<u8>, AllocError> {
+    let mut source = Vec::new(alloc);
+    for number in 0..63_u8 {
+        source.extend_from_slice(&[b'f', b'0' + number / 10, b'0' + number % 10])?;
+        source.extend_from_slice(b"(){")?;
+        for _ in 0..statements {
+            source.extend_from_slice(b"1;")?;
+        }
+        source.extend_from_slice(b"}")?;
+    }
+    source.extend_from_slice(b"main(){}")?;
+    Ok(source)
+}
+
+#[test]
+fn the_most_functions_are_kept_and_replayed(rt: HostRuntime) -> Result<(), Fail> {
+    let source = functions(rt.alloc(), 25)?;
+    check_actions(&rt, &source, OF_A_FUNCTION + 63 * (OF_A_FUNCTION + 2 * 25))
+}

@@ -1,5 +1,0 @@
-use Rattle.code.specs.Standing.{FitsProgram}
-use Rattle.series_tests.proofs.machine_tests.asks_and_restart.Given as goal
-
-abbrev pub invariant-loop-cycle : goal.invariant-loop-cycle
-invariant-loop-cycle l = FitsProgram l.machine l.program

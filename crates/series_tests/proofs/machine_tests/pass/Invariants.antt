@@ -1,5 +1,0 @@
-use Rattle.code.specs.Standing.{FitsProgram}
-use Rattle.series_tests.proofs.machine_tests.pass.Given as goal
-
-abbrev pub invariant-loop : goal.invariant-loop
-invariant-loop g l = FitsProgram l.machine l.program

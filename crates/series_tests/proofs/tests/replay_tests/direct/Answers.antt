@@ -1,0 +1,10 @@
+use Rattle.series_tests.proofs.tests.replay_tests.direct.Goals as goal
+
+pub finish-requires : goal.finish-requires
+finish-requires c =
+    let f = c.in-Ok.ensures.file in
+    record {
+      profile = _;
+      file = f.file;
+      told = record { resolved = f.resolved; stands = f.built _ c.new-maker.ensures; named = f.named; main = f.main };
+    }

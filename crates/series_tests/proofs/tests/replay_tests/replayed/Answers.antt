@@ -1,0 +1,20 @@
+use Rattle.std.proofs.Common.{[]}
+use Rattle.grammar.specs.Actions.{actions}
+use Rattle.series_tests.proofs.tests.replay_tests.replayed.Goals as goal
+
+-- the trees are told to a maker that stood for nothing
+pub finish-requires : goal.finish-requires
+finish-requires c =
+    let file = c.in-Ok.ensures.file in
+    record {
+      profile = _;
+      file = file.file;
+      told = record {
+        resolved = file.resolved;
+        stands =
+            c.in-Ok-replay.ensures.ok c.first-profile.result (actions file.file)
+            (file.built c.first-profile.result c.new-trees.ensures) c.first-profile.result [] c.new-maker.ensures;
+        named = file.named;
+        main = file.main;
+      };
+    }

@@ -1,0 +1,9 @@
+//! The tests, by what they try: listings, machines, matches, replayed trees, whole runs, and series match by match.
+
+mod checks;
+mod listing_tests;
+mod machine_tests;
+mod match_tests;
+mod replay_tests;
+mod run_tests;
+mod series_tests;

@@ -1,0 +1,71 @@
+//! A series, match by match, and what it answers after a write has failed.
+
+use crate::tests::checks::{game_of_one, programs_of, short_matches};
+use series::{Recorder, Series, SeriesFault, Step, compile_files};
+use std::test::Fail;
+use tokens::Pieces;
+
+#[test]
+fn matches_are_played_one_by_one(rt: HostRuntime) -> Result<(), Fail> {
+    let settings = game_of_one(short_matches(2), "a.r");
+    let programs = programs_of(b"main(){}", &settings)?;
+    let mut series = Series::new(&programs, &settings);
+    let mut out = Recorder::new(rt.alloc());
+    assert_eq!(rt; series.next(&mut out), Ok(Step::Played(1)));
+    assert_eq!(rt; out.portions().len(), 1);
+    assert!(rt; !series.is_over());
+    assert_eq!(rt; series.next(&mut out), Ok(Step::Played(2)));
+    assert_eq!(rt; out.portions().len(), 2);
+    assert_eq!(rt; series.next(&mut out), Ok(Step::Over));
+    assert_eq!(rt; out.portions().len(), 2);
+    Ok(())
+}
+
+#[test]
+fn a_series_stops_at_a_failed_report(rt: HostRuntime) -> Result<(), Fail> {
+    let settings = game_of_one(short_matches(2), "a.r");
+    let programs = programs_of(b"main(){}", &settings)?;
+    let mut series = Series::new(&programs, &settings);
+    let mut out = Recorder::new(rt.alloc()).with_room(10);
+    assert_eq!(rt; series.next(&mut out), Err(SeriesFault::Write));
+    assert!(rt; series.has_failed());
+    assert!(rt; !series.is_over());
+    assert_eq!(rt; series.next(&mut out), Err(SeriesFault::Write));
+    assert_eq!(rt; out.joined()?.as_slice(), b"Match 1: c".as_slice());
+    assert_eq!(rt; out.failures(), 1);
+    Ok(())
+}
+
+#[test]
+fn a_series_stops_at_failed_totals(rt: HostRuntime) -> Result<(), Fail> {
+    let settings = game_of_one(short_matches(1), "a.r");
+    let programs = programs_of(b"main(){}", &settings)?;
+    let mut series = Series::new(&programs, &settings);
+    let mut out = Recorder::new(rt.alloc()).failing_after(1);
+    assert_eq!(rt; series.next(&mut out), Ok(Step::Played(1)));
+    if !series.is_over() {
+        return Err("a match is left".into());
+    }
+    assert_eq!(rt; series.finish(&mut out), Err(SeriesFault::Write));
+    assert!(rt; series.has_failed());
+    assert_eq!(rt; series.next(&mut out), Err(SeriesFault::Write));
+    assert_eq!(rt; series.finish(&mut out), Err(SeriesFault::Write));
+    assert_eq!(rt; out.portions().len(), 1);
+    assert_eq!(rt; out.failures(), 1);
+    Ok(())
+}
+
+/// This test moves programs, for which `rt try` has too little stack.
+#[test]
+fn programs_are_kept_without_a_run(rt: HostRuntime) -> Result<(), Fail> {
+    let settings = game_of_one(short_matches(2), "a.r");
+    let mut feeds = [Pieces::new(b"main(){}", 4096)];
+    let mut out = Recorder::new(rt.alloc());
+    let mut err = Recorder::new(rt.alloc());
+    match compile_files(&settings, &mut feeds, &mut out, &mut err) {
+        Ok(Some(programs)) => assert_eq!(rt; programs.len(), 1),
+        _ => return Err("it did not compile".into()),
+    }
+    assert!(rt; out.portions().is_empty());
+    Ok(())
+}
