@@ -21,6 +21,7 @@ pub mod Stacks
 pub mod Closing
 pub mod Machines
 pub mod Coasting
+pub mod Questions
 pub mod Alone
 pub mod Joined
 pub mod Turns

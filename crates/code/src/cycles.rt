@@ -1,10 +1,11 @@
 //! The cells of a machine from cycle to cycle, along the replies.
 
-ghost use Rattle.std.specs.Prelude.{◌≡◌, true, ◌-◌, ◌<◌, ◌≤◌, ◌≢◌, ℤ, List, [], ◌∷◌, ◌++◌};
+ghost use Rattle.std.specs.Prelude.{◌≡◌, true, ◌-◌, ◌<◌, ◌≤◌, ◌≢◌, ℤ, List, [], ◌∷◌, ◌++◌, Some};
 ghost use Rattle.grammar.specs.declared.names.Intrinsic.{Intrinsic};
 ghost use Rattle.code.specs.Machine.{want_next, want_code};
 ghost use Rattle.code.specs.Causes.{cause_next};
 ghost use Rattle.code.specs.Places.{state_at};
+ghost use Rattle.code.specs.Questions.{intrinsic_of};
 ghost use Rattle.code.specs.Standing.{IsReached, FitsProgram, HasCoasted};
 
 use crate::cause::Cause;
@@ -12,6 +13,7 @@ use crate::cells::{Cells, Place};
 use crate::opcode::Opcode;
 use crate::program::Program;
 use crate::want::Want;
+use grammar::Intrinsic;
 
 /// Where a run without questions led, and how many of its cycles were left.
 #[derive(Clone, Copy, Drop)]
@@ -52,6 +54,32 @@ impl Cells {
     {
         let opcode = self.opcode(program, place);
         self.asked_or_restart(program, place, opcode)
+    }
+
+    /// Returns which intrinsic function the machine asks, if it asks one.
+    #[inline(always)]
+    pub(crate) fn asked(&self, program: &Program, place: Place) -> Option<Intrinsic>
+        requires { FitsProgram (state_at place self.now) program.now }
+        ensures { result ≡ intrinsic_of (want_next program.now (state_at place self.now)) }
+    {
+        let opcode = self.opcode(program, place);
+        self.asked_by(program, place, opcode)
+    }
+
+    /// Returns the arguments of the intrinsic function that the machine asks.
+    #[inline(always)]
+    pub(crate) fn arguments(
+        &self,
+        program: &Program,
+        place: Place,
+        intrinsic: Intrinsic,
+    ) -> [i32; 2]
+        requires fits { FitsProgram (state_at place self.now) program.now }
+        requires asks { intrinsic_of (want_next program.now (state_at place self.now)) ≡ Some intrinsic }
+        ensures { want_next program.now (state_at place self.now) ≡ Want.Ask intrinsic result }
+    {
+        let _opcode = self.opcode(program, place);
+        self.asked_with(place, intrinsic)
     }
 
     /// Returns why the machine wants a restart, if it does.
