@@ -33,7 +33,8 @@ pub(crate) fn pass(runners: &mut [Runner], arena: &Arena, cycles: u32) -> bool
 }
 
 /// Lets windows pass, each with its update, if the field is still: at most so many, and no more than each live robot's
-/// machine is ahead. Returns how many.
+/// machine is ahead. Returns how many. Mostly not one can pass, which is
+/// seen before any division.
 #[inline(always)]
 pub(crate) fn skip(runners: &mut [Runner], arena: &mut Arena, most: u32) -> u32
     requires places { HavePlaces runners.old arena.old }
@@ -46,7 +47,7 @@ pub(crate) fn skip(runners: &mut [Runner], arena: &mut Arena, most: u32) -> u32
     ensures updates { arena.new.updates ≡ arena.old.updates + result }
     ensures most { result ≤ most }
 {
-    if !arena.is_still() {
+    if !arena.is_still() || !are_ahead(runners, arena, UPDATE_CYCLES) {
         return 0;
     }
     let windows = windows_ahead(runners, arena, most);
