@@ -1,5 +1,7 @@
--- How programs are kept.
-use Rattle.std.proofs.Common.{◌≡◌, ℕ, ◌<◌, zero, suc, List, [], ◌∷◌, length, map, Option, Some, None, get_or, arith, refl, sym, ap, ◌∙◌}
+-- How programs are kept, and looked up.
+use Rattle.std.proofs.Common.{◌≡◌, ℕ, ◌<◌, ◌+◌, zero, suc, List, [], ◌∷◌, ◌++◌, length, map, set, take, Option, Some, None, get_or, arith, refl, sym, ap, ◌∙◌}
+use Rattle.std.proofs.lemmas.List.{length-map, map-set, take_more, take_more_set}
+use Rattle.std.proofs.lemmas.Option.{get_or_from_slice_get, slice_get_within}
 use Rattle.std.specs.Prelude.{slice_get, flat_map}
 use Rattle.std.specs.Option.{option_to_list}
 use Rattle.battles.specs.Programs.{AllSome}
@@ -25,3 +27,15 @@ pub kept_at : {A : Type 0} (kept shelf : List (Option A)) (items : List A) (plac
 kept_at {A} kept shelf items place found all are same within here =
     let each : shelf ≡ map (λ (x : A). Some x) items = same ∙ all ∙ ap (λ l. map (λ (x : A). Some x) l) are in
     sym (kept_here items place found within) ∙ ap (λ l. get_or l place found) (sym each) ∙ sym here
+
+-- One more is looked up: what f shows of the first ones is what is listed.
+pub looked_up : {A : Type 0} {B : Type 0} (f : A → B) (found : List A) (items : List B) (n : ℕ) (x : A)
+    → n < length found → take n (map f found) ≡ take n items → slice_get items n ≡ Some (f x)
+    → take (n + 1) (map f (set found n x)) ≡ take (n + 1) items
+looked_up f found items n x within same here =
+    ap (λ l. take (n + 1) l) (map-set f found n x)
+    ∙ take_more_set (map f found) n (f x) (omega (arith, length-map found f))
+    ∙ ap (λ front. front ++ f x ∷ []) same
+    ∙ sym (
+    take_more items n (f x) (slice_get_within items n (f x) here)
+    ∙ ap (λ y. take n items ++ y ∷ []) (get_or_from_slice_get items n (f x) (f x) here))

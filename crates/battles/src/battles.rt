@@ -11,6 +11,7 @@ ghost use Rattle.battles.specs.Carrying.{EachFits, EachIsAt};
 ghost use Rattle.battles.specs.Pairing.{paired, robots_of};
 
 use crate::outcome::Outcome;
+use crate::pilots::Pilots;
 use crate::programs::Programs;
 use crate::runners::{Machines, Runner};
 use crate::scheduler::play;
@@ -35,22 +36,23 @@ pub fn battle(
     ensures manned { length result.damages ≡ length (paired programs.now) }
     ensures most { All (λ d. d ≤ 100) result.damages }
 {
-    let robots = programs.robots();
+    let pilots = Pilots::new(programs);
+    let robots = pilots.len();
     let mut arena = Arena::new(seed, u64::from(number), robots);
     let runners = &mut machines.runners[..robots];
-    begin(runners, programs);
-    let cycles = play(runners, programs, &mut arena, limit);
+    begin(runners, &pilots);
+    let cycles = play(runners, &pilots, &mut arena, limit);
     Outcome::new(cycles, damages(&arena, robots))
 }
 
 /// Starts each robot's runner at the begin of its program.
-fn begin(runners: &mut [Runner], programs: &Programs)
-    requires { length runners.old ≡ length (paired programs.now) }
-    ensures fits { EachFits runners.new (paired programs.now) }
-    ensures begins { EachIsAt runners.new (paired programs.now) (replicate (length (paired programs.now)) []) }
+fn begin(runners: &mut [Runner], pilots: &Pilots)
+    requires { length runners.old ≡ length pilots.now }
+    ensures fits { EachFits runners.new pilots.now }
+    ensures begins { EachIsAt runners.new pilots.now (replicate (length pilots.now) []) }
 {
     for robot in 0..runners.len() {
-        runners[robot].begin(programs.pilot(robot));
+        runners[robot].begin(pilots.pilot(robot));
     }
 }
 

@@ -6,6 +6,7 @@ mod known;
 mod next_turns;
 mod outcome;
 mod passing;
+mod pilots;
 mod programs;
 mod runners;
 mod scheduler;

@@ -5,11 +5,10 @@ ghost use Rattle.arena.specs.Ground.{most_updates};
 ghost use Rattle.battles.specs.Battle.{Behaviour, Stage, stage_after, last_cycle};
 ghost use Rattle.battles.specs.Carrying.{AreRobotsOf, HasReached};
 ghost use Rattle.battles.specs.Keeping.{AreManned, HasUpdated};
-ghost use Rattle.battles.specs.Pairing.{paired};
 ghost use Rattle.battles.specs.Windows.{segment};
 
 use crate::passing::{pass, skip};
-use crate::programs::Programs;
+use crate::pilots::Pilots;
 use crate::runners::Runner;
 use crate::windows::{UPDATE_CYCLES, window};
 use arena::Arena;
@@ -19,51 +18,46 @@ use settings::CYCLES_MAX;
 const MOST_AHEAD: u32 = 960;
 
 /// Runs the cycles up to the next update, and the update. Reports whether that decided the battle.
-fn segment(runners: &mut [Runner], programs: &Programs, arena: &mut Arena, farthest: u32) -> bool
-    requires manned { AreManned (paired programs.now) runners.old arena.old }
+fn segment(runners: &mut [Runner], pilots: &Pilots, arena: &mut Arena, farthest: u32) -> bool
+    requires manned { AreManned pilots.now runners.old arena.old }
     requires updates { arena.old.updates < most_updates }
     requires far { UPDATE_CYCLES ≤ farthest }
-    ensures stage { (robots : List Behaviour) (s : Stage) → AreRobotsOf (paired programs.now) robots
-        → HasReached runners.old (paired programs.now) arena.old s
-        → HasUpdated (paired programs.now) runners.new arena.new (segment robots s) result }
-    ensures manned { AreManned (paired programs.now) runners.new arena.new }
+    ensures stage { (robots : List Behaviour) (s : Stage) → AreRobotsOf pilots.now robots
+        → HasReached runners.old pilots.now arena.old s
+        → HasUpdated pilots.now runners.new arena.new (segment robots s) result }
+    ensures manned { AreManned pilots.now runners.new arena.new }
     ensures updates { arena.new.updates ≡ arena.old.updates + 1 }
 {
     if !pass(runners, arena, UPDATE_CYCLES) {
-        window(runners, programs, arena, UPDATE_CYCLES, farthest);
+        window(runners, pilots, arena, UPDATE_CYCLES, farthest);
     }
     arena.update();
     arena.live_count() <= 1
 }
 
 /// Runs cycles until the battle is decided, or the limit is reached. Returns how many they were.
-pub(crate) fn play(
-    runners: &mut [Runner],
-    programs: &Programs,
-    arena: &mut Arena,
-    limit: u32,
-) -> u32
-    requires manned { AreManned (paired programs.now) runners.old arena.old }
+pub(crate) fn play(runners: &mut [Runner], pilots: &Pilots, arena: &mut Arena, limit: u32) -> u32
+    requires manned { AreManned pilots.now runners.old arena.old }
     requires updates { arena.old.updates ≡ 0 }
     requires within { limit ≤ CYCLES_MAX }
-    ensures stage { (robots : List Behaviour) (s : Stage) → AreRobotsOf (paired programs.now) robots
-        → HasReached runners.old (paired programs.now) arena.old s
-        → HasReached runners.new (paired programs.now) arena.new (stage_after robots s result) }
-    ensures cycles { (robots : List Behaviour) (s : Stage) → AreRobotsOf (paired programs.now) robots
-        → HasReached runners.old (paired programs.now) arena.old s → result ≡ last_cycle robots s limit }
-    ensures manned { length arena.new.robots ≡ length (paired programs.now) }
+    ensures stage { (robots : List Behaviour) (s : Stage) → AreRobotsOf pilots.now robots
+        → HasReached runners.old pilots.now arena.old s
+        → HasReached runners.new pilots.now arena.new (stage_after robots s result) }
+    ensures cycles { (robots : List Behaviour) (s : Stage) → AreRobotsOf pilots.now robots
+        → HasReached runners.old pilots.now arena.old s → result ≡ last_cycle robots s limit }
+    ensures manned { length arena.new.robots ≡ length pilots.now }
 {
     let windows = limit / UPDATE_CYCLES;
     let mut number = 0;
     while number < windows {
         let farthest = (limit - UPDATE_CYCLES * number).min(MOST_AHEAD);
-        if segment(runners, programs, arena, farthest) {
+        if segment(runners, pilots, arena, farthest) {
             return UPDATE_CYCLES * (number + 1);
         }
         number += 1;
         number += skip(runners, arena, windows - number);
     }
     let rest = limit % UPDATE_CYCLES;
-    window(runners, programs, arena, rest, rest);
+    window(runners, pilots, arena, rest, rest);
     limit
 }

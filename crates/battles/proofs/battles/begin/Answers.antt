@@ -1,6 +1,5 @@
 use Rattle.std.proofs.Common.{◌≡◌, ◌<◌, length, take, arith}
 use Rattle.std.proofs.lemmas.List.{take_all, take_more_set}
-use Rattle.battles.specs.Pairing.{paired}
 use Rattle.battles.proofs.Beginnings.{fits_more, stands_more}
 use Rattle.battles.proofs.battles.begin.Goals as goal
 
@@ -10,24 +9,24 @@ loop-robot-preserved c =
     let more = take_more_set c.loop-robot.runners c.loop-robot.robot c.begin.new.self inside in
     record {
       fits = rw more
-          (fits_more _ (paired c.args.programs.now) _ _ _ c.loop-robot.invariant.fits c.pilot.ensures
+          (fits_more _ c.args.pilots.now _ _ _ c.loop-robot.invariant.fits c.pilot.ensures
           c.begin.ensures.fits);
       begins = rw more
-          (stands_more _ (paired c.args.programs.now) _ _ _ c.loop-robot.invariant.begins c.pilot.ensures
+          (stands_more _ c.args.pilots.now _ _ _ c.loop-robot.invariant.begins c.pilot.ensures
           c.begin.ensures.begins);
     }
 
 pub returns-clause-fits : goal.returns-clause-fits
 returns-clause-fits c =
     let here : take c.loop-robot.robot c.loop-robot.runners ≡ c.loop-robot.runners = take_all _ _ (omega arith) in
-    let there : take c.loop-robot.robot (paired c.args.programs.now) ≡ paired c.args.programs.now =
+    let there : take c.loop-robot.robot c.args.pilots.now ≡ c.args.pilots.now =
     take_all _ _ (omega arith) in
     rw (here, there) at c.loop-robot.invariant.fits
 
 pub returns-clause-begins : goal.returns-clause-begins
 returns-clause-begins c =
     let here : take c.loop-robot.robot c.loop-robot.runners ≡ c.loop-robot.runners = take_all _ _ (omega arith) in
-    let there : take c.loop-robot.robot (paired c.args.programs.now) ≡ paired c.args.programs.now =
+    let there : take c.loop-robot.robot c.args.pilots.now ≡ c.args.pilots.now =
     take_all _ _ (omega arith) in
-    let all : c.loop-robot.robot ≡ length (paired c.args.programs.now) = omega arith in
+    let all : c.loop-robot.robot ≡ length c.args.pilots.now = omega arith in
     rw (here, there, all) at c.loop-robot.invariant.begins

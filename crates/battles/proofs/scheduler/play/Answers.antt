@@ -3,7 +3,6 @@ use Rattle.std.specs.Prelude.{nat_le}
 use Rattle.arena.specs.Field.{live_count}
 use Rattle.battles.specs.Battle.{Behaviour, Stage, stage_after}
 use Rattle.battles.specs.Carrying.{AreRobotsOf, HasReached}
-use Rattle.battles.specs.Pairing.{paired}
 use Rattle.battles.proofs.Cycles.{stage_none, first_begins}
 use Rattle.battles.proofs.Spans.{stage_segment, stage_segments, stage_rest, first_decided, first_undecided, first_skipped, first_limit}
 use Rattle.battles.proofs.Manned.{have_places}
@@ -32,12 +31,12 @@ returns-then-segment-clause-cycles c = λ robots s are reached.
 
 pub skip-number-requires-clause-places : goal.skip-number-requires-clause-places
 skip-number-requires-clause-places c =
-    have_places (paired c.args.programs.now) c.segment.new.runners c.segment.new.arena c.segment.ensures.manned
+    have_places c.args.pilots.now c.segment.new.runners c.segment.new.arena c.segment.ensures.manned
 
 pub loop-number-preserved : goal.loop-number-preserved
 loop-number-preserved c =
     let within : c.loop-number.number < c.args.limit / 15 = c.loop-number-test.true in
-    let codes = paired c.args.programs.now in
+    let codes = c.args.pilots.now in
     let n = c.loop-number.number in
     let k = c.skip-number.result in
     let most : n + 1 + k ≤ c.args.limit / 15 = omega (arith, c.skip-number.ensures.most) in
