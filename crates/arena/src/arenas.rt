@@ -297,6 +297,13 @@ impl Arena {
         living(self.robots.as_slice())
     }
 
+    /// Reports whether at least two robots live. It looks no further than the second one.
+    pub fn two_live(&self) -> bool
+        ensures { (f : Field) → StandsFor self.now f → result ≡ nat_lt 1 (live_count f) }
+    {
+        two_live(self.robots.as_slice())
+    }
+
     /// Proves that no robot has more than two missiles in the air.
     pub(crate) fn keeps_two(&self)
         ensures { All (λ s. length s ≤ 2) self.now.slots }
@@ -349,6 +356,22 @@ fn living(robots: &[Robot]) -> usize
     ensures { result ≡ count_by (λ (b : Body). nat_lt b.damage 100) robots.now }
 {
     robots.iter().filter(|robot| robot.is_alive()).count()
+}
+
+/// Reports whether at least two of some robots live.
+fn two_live(robots: &[Robot]) -> bool
+    ensures { result ≡ nat_lt 1 (count_by (λ (b : Body). nat_lt b.damage 100) robots.now) }
+{
+    let mut one_lives = false;
+    for robot in robots {
+        if robot.is_alive() {
+            if one_lives {
+                return true;
+            }
+            one_lives = true;
+        }
+    }
+    false
 }
 
 /// Returns a number from 0 to `most` as it is, and the nearer end of that range for any other.
