@@ -12,6 +12,7 @@ pub mod SlotLaws
 pub mod DueBursts
 pub mod AddsUp
 pub mod Nearest
+pub mod Sight
 pub mod InPlace
 pub mod Roots
 pub mod Newton

@@ -5,8 +5,6 @@ use Rattle.std.proofs.lemmas.List.{map-append, take_more, take_all, drop_all, ta
 use Rattle.std.proofs.lemmas.List.Elements.{filter-append}
 use Rattle.std.proofs.lemmas.List.Sums.{fold-append}
 use Rattle.std.proofs.lemmas.Bool.{ne_eqb, cases_lt}
-use Rattle.std.proofs.lemmas.Nat.{mul-le}
-use Rattle.std.specs.Int.{abs_diff}
 use Rattle.arith.specs.Root.{root_of}
 use Rattle.arena.proofs.Roots.{root_grows, root_of_0, root_of_1}
 use Rattle.arena.specs.Field.{Robot, Field, robot_at, metres_x, metres_y}
@@ -109,11 +107,6 @@ pub none_more : {X : Type 0} (f : X → ℕ) (p : X → Bool) (xs : List X) (k i
 none_more f p xs k i d so_far inside same e =
     e ∙ ap (λ l. fold nearer 0 (map f (filter p l))) (sym (others_same xs k i d inside same))
 
--- whether one that isn't nearer is seen doesn't matter
-pub either_way : (p : Bool) (next so_far : ℕ) → next ≡ so_far → so_far ≡ cond p next so_far
-either_way true next so_far e = sym e
-either_way false next so_far e = refl
-
 -- no range is 0, so going on with the nearer one finds the least
 
 nearer_is : (n r : ℕ) → 1 ≤ n → nearer n r ≡ min n r
@@ -195,14 +188,3 @@ scan_is field i degree resolution least range e r =
     let from = robot_at field i in
     let seen = filter (sees from degree resolution) (others field.robots i) in
     r ∙ ap whole (e ∙ sym (nearest_is (square_to from) (some_square from) seen)) ∙ ranges_are from seen
-
-pub square_fits : (x y to_x to_y : ℕ) → x ≤ 999 → y ≤ 999 → to_x ≤ 999 → to_y ≤ 999 → square x y to_x to_y ≤ 2000000
-unfolding square
-square_fits x y to_x to_y a b c d =
-    let east : abs_diff x to_x ≤ 999 = omega arith in
-    let north : abs_diff y to_y ≤ 999 = omega arith in
-    omega (
-      arith,
-      mul-le (abs_diff x to_x) (abs_diff x to_x) 999 999 east east,
-      mul-le (abs_diff y to_y) (abs_diff y to_y) 999 999 north north,
-    )

@@ -1,5 +1,5 @@
 -- Squares of signed differences.
-use Rattle.std.proofs.Common.{◌≡◌, ℕ, suc, ◌-◌, ◌*◌, ◌<◌, ◌≤◌, ◌⊎◌, inl, inr, pos, negsuc, ◌-ℤ◌, ◌*ℤ◌, ap, ◌∙◌, arith}
+use Rattle.std.proofs.Common.{◌≡◌, ℕ, ℤ, suc, unsigned_abs, ◌-◌, ◌*◌, ◌<◌, ◌≤◌, ◌⊎◌, inl, inr, pos, negsuc, ◌-ℤ◌, ◌*ℤ◌, ap, ◌∙◌, arith}
 use Rattle.std.specs.Int.{abs_diff}
 use Rattle.std.proofs.lemmas.Bool.{cases_lt}
 use Rattle.std.proofs.lemmas.Int.{ints, to_z-of_z, to_z_pos}
@@ -25,6 +25,16 @@ signed_square a b = elim (cases_lt a b) [
 
 pub square_most : (a b : ℕ) → a ≤ 9999 → b ≤ 9999 → abs_diff a b * abs_diff a b ≤ 99980001
 square_most a b ha hb = mul-le (abs_diff a b) (abs_diff a b) 9999 9999 (omega arith) (omega arith)
+
+-- the same of a number of metres, so that it needn't know which places it lies between
+pub own_square : (z : ℤ) → z *ℤ z ≡ pos (unsigned_abs z * unsigned_abs z)
+own_square (pos n) = pos-*ℤ-pos n n
+own_square (negsuc n) = negsuc-*ℤ-negsuc n n
+
+pub own_square_most : (z : ℤ) → unsigned_abs z ≤ 999 → unsigned_abs z * unsigned_abs z ≤ 998001
+own_square_most z h = mul-le (unsigned_abs z) (unsigned_abs z) 999 999 h h
+
+pub ruleset own_square_steps = (to_z-of_z, to_z_pos, own_square, own_square_most)
 
 pub ruleset square_steps = (to_z-of_z, to_z_pos, signed_square, square_most)
 

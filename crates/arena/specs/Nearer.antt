@@ -1,11 +1,24 @@
--- The nearest robot of a scan, found by comparing squared distances.
-use Rattle.std.specs.Prelude.{ℕ, ◌≤◌, min, max, ◌==◌, if◌then◌else◌}
+-- The nearest robot of a scan, found by comparing squared distances along ways.
+use Rattle.std.specs.Prelude.{◌≡◌, ℕ, ◌+◌, ◌*◌, Bool, ◌&&◌, ◌||◌, nat_le, min, max, ◌==◌, if◌then◌else◌, ℤ, pos, unsigned_abs}
+use Rattle.std.specs.Ordering.{int_eq}
+use Rattle.arith.specs.Degree.{apart}
+use Rattle.arith.specs.Bearing.{bearing_of}
 use Rattle.arena.specs.Field.{Robot, metres_x, metres_y}
 use Rattle.arena.specs.Collisions.{square}
 
--- a point of the field, in whole metres
-abbrev pub IsPoint : ℕ → ℕ → Type 0
-IsPoint x y = (x ≤ 999) × (y ≤ 999)
+-- a robot is at this place, in whole metres
+pub record IsAt (x y : ℕ) (robot : Robot) : Type 0 where
+  pub east : x ≡ metres_x robot
+  pub north : y ≡ metres_y robot
+
+-- a way of so many metres east and north leads into an arc, or nowhere
+unfoldable pub leads_into : ℤ → ℤ → ℕ → ℕ → Bool
+leads_into east north degree resolution =
+    (int_eq east (pos 0) && int_eq north (pos 0)) || nat_le (apart (bearing_of east north) degree) resolution
+
+-- its squared length, and at least 1
+unfoldable pub square_of : ℤ → ℤ → ℕ
+square_of east north = max 1 (unsigned_abs east * unsigned_abs east + unsigned_abs north * unsigned_abs north)
 
 -- ranges compare as these do: the squared distance in whole metres, and at least 1
 unfoldable pub square_to : Robot → Robot → ℕ

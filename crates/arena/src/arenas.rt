@@ -1,6 +1,6 @@
 //! The arena: a field in play, what it answers to robots, and its updates.
 
-ghost use Rattle.std.specs.Prelude.{◌≡◌, ℕ, ◌+◌, ◌<◌, ◌≤◌, true, nat_lt, ℤ, pos, All, count_by, length, slice_index_or};
+ghost use Rattle.std.specs.Prelude.{◌≡◌, ℕ, ◌+◌, ◌<◌, ◌≤◌, true, nat_lt, ℤ, pos, [], ◌∷◌, All, count_by, length, slice_index_or};
 ghost use Rattle.grammar.specs.declared.names.Intrinsic.TheVariants.{Scan, Cannon, Drive, Damage, Speed, LocX, LocY, Rand, Sqrt, Sin, Cos, Tan, Atan};
 ghost use Rattle.arith.specs.Degree.{degree_of};
 ghost use Rattle.arena.specs.Leg.{last_place, clamped, place_x, place_y};
@@ -112,6 +112,7 @@ impl Arena {
 
     /// Answers a live robot that calls an intrinsic function with two arguments, of which those that
     /// the function has no use for are 0. docs/field.md has each function's reply.
+    #[tactic(auto, using(crate::proofs::Represents::inside_if_lives))]
     pub fn ask(&mut self, robot: usize, intrinsic: Intrinsic, arguments: [i32; 2]) -> i32
         requires { lives self.old robot ≡ true }
         ensures reply { (f : Field) → StandsFor self.old f → result ≡ (answer f robot intrinsic arguments).0 }
@@ -131,13 +132,90 @@ impl Arena {
             Intrinsic::Speed => i32::from(self.robot(robot).speed()),
             Intrinsic::LocX => i32::from(self.robot(robot).x() / 10),
             Intrinsic::LocY => i32::from(self.robot(robot).y() / 10),
-            Intrinsic::Rand => random_number(&mut self.random, first),
+            Intrinsic::Rand => self.draw(first),
             Intrinsic::Sqrt => root(first),
             Intrinsic::Sin => sin(first),
             Intrinsic::Cos => cos(first),
             Intrinsic::Tan => tan(first),
             Intrinsic::Atan => atan(first),
         }
+    }
+
+    /// Returns the range in metres of the nearest live robot in an arc, or 0. The arc lies around a degree, as many
+    /// degrees to either side as the resolution, which is brought into 0 to 10. The robot that scans must live.
+    #[inline(never)]
+    #[tactic(auto, using(crate::proofs::Represents::inside_if_lives))]
+    pub fn scan(&self, robot: usize, degree: i32, resolution: i32) -> i32
+        requires { lives self.now robot ≡ true }
+        ensures { (f : Field) → StandsFor self.now f
+            → result ≡ (answer f robot Scan (degree ∷ resolution ∷ [])).0 }
+    {
+        let resolution = clamped(resolution, MOST_RESOLUTION);
+        i32::from(scan(
+            self.robots.as_slice(),
+            robot,
+            norm_degree(degree),
+            resolution,
+        ))
+    }
+
+    /// Has a live robot fire a missile to a degree, as far as a range in metres, which is brought into 0 to 700. Replies
+    /// 1, or 0 if two missiles of its own are in the air.
+    #[inline(never)]
+    #[tactic(auto, using(crate::proofs::Represents::inside_if_lives))]
+    pub fn cannon(&mut self, robot: usize, degree: i32, range: i32) -> i32
+        requires { lives self.old robot ≡ true }
+        ensures reply { (f : Field) → StandsFor self.old f
+            → result ≡ (answer f robot Cannon (degree ∷ range ∷ [])).0 }
+        ensures stands { (f : Field) → StandsFor self.old f
+            → StandsFor self.new (answer f robot Cannon (degree ∷ range ∷ [])).1 }
+        ensures updates { self.new.updates ≡ self.old.updates }
+        ensures manned { length self.new.robots ≡ length self.old.robots }
+        ensures alive { lives self.new robot ≡ true }
+    {
+        if !self.missiles.may_fire(robot) {
+            return 0;
+        }
+        let range = clamped(range, MOST_RANGE);
+        let (x, y) = self.place(robot);
+        let missile = Missile::new(self.updates, x, y, norm_degree(degree), range);
+        self.is_still = false;
+        self.missiles.fire(robot, missile);
+        1
+    }
+
+    /// Sets which degree a live robot wants to head for, and at which speed in percent, which is brought into 0 to 100.
+    /// Replies 1.
+    #[inline(never)]
+    #[tactic(auto, using(crate::proofs::Represents::inside_if_lives))]
+    pub fn drive(&mut self, robot: usize, degree: i32, speed: i32) -> i32
+        requires { lives self.old robot ≡ true }
+        ensures reply { (f : Field) → StandsFor self.old f
+            → result ≡ (answer f robot Drive (degree ∷ speed ∷ [])).0 }
+        ensures stands { (f : Field) → StandsFor self.old f
+            → StandsFor self.new (answer f robot Drive (degree ∷ speed ∷ [])).1 }
+        ensures updates { self.new.updates ≡ self.old.updates }
+        ensures manned { length self.new.robots ≡ length self.old.robots }
+        ensures alive { lives self.new robot ≡ true }
+    {
+        let speed = clamped(speed, MOST_SPEED) as u8;
+        self.is_still = false;
+        self.robots[robot].want(norm_degree(degree), speed);
+        1
+    }
+
+    /// Draws a random number from 0 on and below a limit, which is first brought into 1 to 32,767. Whichever robot asks
+    /// for it, it takes the next word of the match.
+    #[inline(always)]
+    pub fn draw(&mut self, limit: i32) -> i32
+        ensures reply { (f : Field) → StandsFor self.old f → (robot : ℕ) → result ≡ (answer f robot Rand (limit ∷ [])).0 }
+        ensures stands { (f : Field) → StandsFor self.old f → (robot : ℕ)
+            → StandsFor self.new (answer f robot Rand (limit ∷ [])).1 }
+        ensures updates { self.new.updates ≡ self.old.updates }
+        ensures manned { length self.new.robots ≡ length self.old.robots }
+        ensures alive { (robot : ℕ) → lives self.new robot ≡ lives self.old robot }
+    {
+        random_number(&mut self.random, limit)
     }
 
     /// Does one update: moves all live robots, and lets the missiles burst that are due.
@@ -219,6 +297,13 @@ impl Arena {
         living(self.robots.as_slice())
     }
 
+    /// Reports whether at least two robots live. It looks no further than the second one.
+    pub fn two_live(&self) -> bool
+        ensures { (f : Field) → StandsFor self.now f → result ≡ nat_lt 1 (live_count f) }
+    {
+        two_live(self.robots.as_slice())
+    }
+
     /// Proves that no robot has more than two missiles in the air.
     pub(crate) fn keeps_two(&self)
         ensures { All (λ s. length s ≤ 2) self.now.slots }
@@ -264,58 +349,6 @@ impl Arena {
     {
         &self.robots[robot]
     }
-
-    /// Returns the range in metres of the nearest robot in an arc, or 0.
-    fn scan(&self, robot: usize, degree: i32, resolution: i32) -> i32
-        requires { robot < length self.now.robots }
-        ensures { (f : Field) → StandsFor self.now f
-            → result ≡ pos (scanned f robot (degree_of degree) (clamped 10 resolution)) }
-    {
-        let resolution = clamped(resolution, MOST_RESOLUTION);
-        i32::from(scan(
-            self.robots.as_slice(),
-            robot,
-            norm_degree(degree),
-            resolution,
-        ))
-    }
-
-    /// Fires a missile, and reports by 1 or 0 whether the robot may.
-    fn cannon(&mut self, robot: usize, degree: i32, range: i32) -> i32
-        requires { robot < length self.old.robots }
-        ensures reply { (f : Field) → StandsFor self.old f
-            → result ≡ (fired f robot (degree_of degree) (clamped 700 range)).0 }
-        ensures stands { (f : Field) → StandsFor self.old f
-            → StandsFor self.new (fired f robot (degree_of degree) (clamped 700 range)).1 }
-        ensures updates { self.new.updates ≡ self.old.updates }
-        ensures robots { self.new.robots ≡ self.old.robots }
-    {
-        if !self.missiles.may_fire(robot) {
-            return 0;
-        }
-        let range = clamped(range, MOST_RANGE);
-        let (x, y) = self.place(robot);
-        let missile = Missile::new(self.updates, x, y, norm_degree(degree), range);
-        self.is_still = false;
-        self.missiles.fire(robot, missile);
-        1
-    }
-
-    /// Sets what a robot wants, and replies 1.
-    fn drive(&mut self, robot: usize, degree: i32, speed: i32) -> i32
-        requires { robot < length self.old.robots }
-        ensures reply { result ≡ pos 1 }
-        ensures stands { (f : Field) → StandsFor self.old f
-            → StandsFor self.new (directed f robot (degree_of degree) (clamped 100 speed)) }
-        ensures updates { self.new.updates ≡ self.old.updates }
-        ensures manned { length self.new.robots ≡ length self.old.robots }
-        ensures alive { lives self.new robot ≡ lives self.old robot }
-    {
-        let speed = clamped(speed, MOST_SPEED) as u8;
-        self.is_still = false;
-        self.robots[robot].want(norm_degree(degree), speed);
-        1
-    }
 }
 
 /// Returns how many of some robots live.
@@ -323,6 +356,22 @@ fn living(robots: &[Robot]) -> usize
     ensures { result ≡ count_by (λ (b : Body). nat_lt b.damage 100) robots.now }
 {
     robots.iter().filter(|robot| robot.is_alive()).count()
+}
+
+/// Reports whether at least two of some robots live.
+fn two_live(robots: &[Robot]) -> bool
+    ensures { result ≡ nat_lt 1 (count_by (λ (b : Body). nat_lt b.damage 100) robots.now) }
+{
+    let mut one_lives = false;
+    for robot in robots {
+        if robot.is_alive() {
+            if one_lives {
+                return true;
+            }
+            one_lives = true;
+        }
+    }
+    false
 }
 
 /// Returns a number from 0 to `most` as it is, and the nearer end of that range for any other.

@@ -2,6 +2,7 @@
 //! intrinsic functions.
 #![tactic(auto)]
 
+mod arcs;
 mod arenas;
 mod axes;
 mod bursts;
@@ -19,6 +20,7 @@ mod scans;
 mod slots;
 mod starts;
 mod updates;
+mod ways;
 
 pub use arenas::Arena;
 pub use bursts::Burst;

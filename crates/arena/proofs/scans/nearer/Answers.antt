@@ -1,19 +1,30 @@
-use Rattle.std.proofs.Common.{◌≡◌, true, false, sym, ◌∙◌, refl}
-use Rattle.arena.specs.Scan.{sees}
-use Rattle.arena.proofs.Nearest.{either_way}
+use Rattle.std.proofs.Common.{◌≡◌, true, false, sym, ◌∙◌, ap, refl, nat_lt}
+use Rattle.arena.specs.Field.{is_alive}
+use Rattle.arena.specs.Ground.{Body, body_of}
+use Rattle.arena.proofs.Sight.{dead_unseen, beside_unseen, seen_so_far}
 use Rattle.arena.proofs.scans.nearer.Goals as goal
 
-pub returns-then-is_farther-clause-value : goal.returns-then-is_farther-clause-value
-returns-then-is_farther-clause-value c = λ a b e o.
-    either_way (sees a c.args.degree c.args.resolution b) _ c.args.so_far
-    (c.is_farther.ensures.farther c.if-is_farther.true a b e o)
+pub returns-then-not-is_alive-clause-value : goal.returns-then-not-is_alive-clause-value
+unfolding is_alive body_of
+returns-then-not-is_alive-clause-value c = λ a b at is.
+    let arc = c.args.arc.now in
+    let dead : is_alive b ≡ false =
+    sym (c.is_alive.ensures ∙ ap (λ (x : Body). nat_lt x.damage 100) is) ∙ c.if-not-is_alive.true in
+    rw (dead_unseen a arc.degree arc.resolution b dead) refl
 
-pub returns-then-not-sees-clause-value : goal.returns-then-not-sees-clause-value
-returns-then-not-sees-clause-value c = λ a b e o.
-    let unseen : sees a c.args.degree c.args.resolution b ≡ false = sym (c.sees.ensures a b e o) ∙ c.if-not-sees.true in
-    rw unseen refl
+pub returns-then-is_beside-clause-value : goal.returns-then-is_beside-clause-value
+returns-then-is_beside-clause-value c = λ a b at is.
+    let arc = c.args.arc.now in
+    let way = c.way_to-way.ensures in
+    let beside = rw (way.east a b at is, way.north a b at is) at (c.is_beside.ensures c.if-is_beside.true) in
+    rw (beside_unseen a arc.degree arc.resolution b beside) refl
 
 pub returns-clause-value : goal.returns-clause-value
-returns-clause-value c = λ a b e o.
-    let seen : sees a c.args.degree c.args.resolution b ≡ true = sym (c.sees.ensures a b e o) ∙ c.if-not-sees.false in
-    rw seen (c.square_to.ensures.value a b e o ∙ sym (c.is_farther.ensures.nearer c.if-is_farther.false a b e o))
+unfolding is_alive body_of
+returns-clause-value c = λ a b at is.
+    let arc = c.args.arc.now in
+    let way = c.way_to-way.ensures in
+    let live : is_alive b ≡ true =
+    sym (c.is_alive.ensures ∙ ap (λ (x : Body). nat_lt x.damage 100) is) ∙ c.if-not-is_alive.false in
+    let shorter = rw (way.east a b at is, way.north a b at is) at c.shorter.ensures.value in
+    shorter ∙ sym (seen_so_far a arc.degree arc.resolution b c.args.so_far live)

@@ -37,7 +37,9 @@ loop-i-preserved c = record {
       mapped_is body_of _ field.robots _ _ no_robot e (omega (arith, size, inside)) c.index-robots-i.is in
       let so_far = c.loop-i.invariant.nearest field e in
       elim c.if-i-robot.branch [
-        | then-i-robot w ↦ w.nearest-is ∙ w.nearer-nearest.ensures.value from _ here there ∙
+        | then-i-robot w ↦ w.nearest-is ∙
+            (rw (c.around-arc.ensures.degree, c.around-arc.ensures.resolution) at
+            (w.nearer-nearest.ensures.value from _ (c.of-from.ensures from here) there)) ∙
             one_more (square_to from) p field.robots c.loop-i.i i no_robot c.loop-i.nearest inside w.if-i-robot.true
             so_far
         | else-i-robot w ↦ w.nearest-is ∙

@@ -8,27 +8,6 @@ use Rattle.arena.specs.contracts.arenas.Arena.{the_view}
 use Rattle.arena.proofs.Represents.{inside_if_lives, same_live}
 use Rattle.arena.proofs.arenas.Arena.ask.Goals as goal
 
-pub scan-requires : goal.scan-requires
-scan-requires c = inside_if_lives c.args.self.now c.args.robot c.requires
-
-pub cannon-requires : goal.cannon-requires
-cannon-requires c = inside_if_lives c.args.self.now c.args.robot c.requires
-
-pub drive-requires : goal.drive-requires
-drive-requires c = inside_if_lives c.args.self.now c.args.robot c.requires
-
-pub robot-requires : goal.robot-requires
-robot-requires c = inside_if_lives c.args.self.now c.args.robot c.requires
-
-pub robot-requires-in-Speed : goal.robot-requires-in-Speed
-robot-requires-in-Speed c = inside_if_lives c.args.self.now c.args.robot c.requires
-
-pub robot-requires-in-LocX : goal.robot-requires-in-LocX
-robot-requires-in-LocX c = inside_if_lives c.args.self.now c.args.robot c.requires
-
-pub robot-requires-in-LocY : goal.robot-requires-in-LocY
-robot-requires-in-LocY c = inside_if_lives c.args.self.now c.args.robot c.requires
-
 pub returns-in-Scan-clause-reply : goal.returns-in-Scan-clause-reply
 unfolding answer argument
 returns-in-Scan-clause-reply c = λ f s.
@@ -56,15 +35,11 @@ returns-in-Cannon-clause-stands c = λ f s.
     let second : FitsSigned w32 (get_or c.args.arguments 1 (pos 0)) = search rules in
     rw c.in-Cannon.is (simp to_z-of_z at (c.cannon.ensures.stands f s))
 
-pub returns-in-Cannon-clause-alive : goal.returns-in-Cannon-clause-alive
-returns-in-Cannon-clause-alive c =
-    same_live c.args.self.now c.cannon.new.self c.args.robot c.cannon.ensures.robots ∙ c.requires
-
 pub returns-in-Drive-clause-reply : goal.returns-in-Drive-clause-reply
 unfolding answer argument
 returns-in-Drive-clause-reply c = λ f s.
     let fits : FitsSigned w32 c.drive.result = search rules in
-    rw c.in-Drive.is (simp to_z-of_z (c.drive.ensures.reply))
+    rw c.in-Drive.is (simp to_z-of_z (c.drive.ensures.reply f s))
 
 pub returns-in-Drive-clause-stands : goal.returns-in-Drive-clause-stands
 unfolding answer argument
@@ -130,27 +105,12 @@ pub returns-in-Rand-clause-reply : goal.returns-in-Rand-clause-reply
 unfolding answer argument
 returns-in-Rand-clause-reply c = λ f s.
     let first : FitsSigned w32 (get_or c.args.arguments 0 (pos 0)) = search rules in
-    let fits : FitsSigned w32 c.random_number.result = search rules in
-    rw c.in-Rand.is
-    (simp to_z-of_z
-    (simp to_z-of_z at
-    (c.random_number.ensures.value f (ap (λ (g : Ground). g.random) c.self.view_is ∙ s.random))))
+    let fits : FitsSigned w32 c.draw.result = search rules in
+    rw c.in-Rand.is (simp to_z-of_z (simp to_z-of_z at (c.draw.ensures.reply f s c.args.robot)))
 
 pub returns-in-Rand-clause-stands : goal.returns-in-Rand-clause-stands
 unfolding answer argument
-returns-in-Rand-clause-stands c = λ f s.
-    let now : StandsFor (the_view c.self.inside) f = rw c.self.view_is s in
-    rw c.in-Rand.is
-    (record {
-      updates = now.updates;
-      robots = now.robots;
-      missiles = now.missiles;
-      random = c.random_number.ensures.next _ _ _ now.random;
-    })
-
-pub returns-in-Rand-clause-alive : goal.returns-in-Rand-clause-alive
-returns-in-Rand-clause-alive c =
-    same_live c.args.self.now _ c.args.robot (ap (λ (g : Ground). g.robots) c.self.view_is) ∙ c.requires
+returns-in-Rand-clause-stands c = λ f s. rw c.in-Rand.is (c.draw.ensures.stands f s c.args.robot)
 
 pub returns-in-Sqrt-clause-reply : goal.returns-in-Sqrt-clause-reply
 unfolding answer argument

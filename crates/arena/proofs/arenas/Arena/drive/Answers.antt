@@ -1,14 +1,15 @@
-use Rattle.std.proofs.Common.{◌<◌, get_or, sym, ap, subst, ◌∙◌, length, arith}
+use Rattle.std.proofs.Common.{◌<◌, get_or, sym, ap, subst, refl, ◌∙◌, length, arith}
 use Rattle.std.proofs.lemmas.List.{get_or_read, length-set}
 use Rattle.std.proofs.lemmas.Int.{to_z-of_z}
 use Rattle.arena.specs.Field.{no_robot, robot_at}
+use Rattle.arena.specs.Answer.{answer, argument}
 use Rattle.arena.specs.Ground.{Ground, Body, body_of, lives}
 use Rattle.arena.specs.Standing.{StandsFor}
 use Rattle.arena.specs.contracts.arenas.Arena.{the_view}
 use Rattle.arena.specs.Calm.{IsAtPlace}
 use Rattle.arena.proofs.Calm.{far_set}
 use Rattle.arena.proofs.Loops.{mapped_is}
-use Rattle.arena.proofs.Represents.{put_is, directs, lives_as}
+use Rattle.arena.proofs.Represents.{inside_if_lives, put_is, directs, lives_as}
 use Rattle.arena.proofs.arenas.Arena.drive.Goals as goal
 
 pub invariant_of-self : goal.invariant_of-self
@@ -17,7 +18,8 @@ invariant_of-self c =
     let items = c.self.inside.robots.items in
     let robots = ap (λ (g : Ground). g.robots) c.self.view_is in
     let lent = c.deref_mut.ensures.value in
-    let inside : c.args.robot < length items = omega (arith, ap length robots) in
+    let among = inside_if_lives c.args.self.now c.args.robot c.requires in
+    let inside : c.args.robot < length items = omega (arith, ap length robots, among) in
     let same =
     sym c.index-deref_mut-robot.is ∙
     get_or_read c.deref_mut.result.now c.args.robot _ (omega (arith, inside, ap length lent))
@@ -34,8 +36,12 @@ invariant_of-self c =
       far,
     )
 
+pub returns-clause-reply : goal.returns-clause-reply
+unfolding answer
+returns-clause-reply c = λ f s. refl
+
 pub returns-clause-stands : goal.returns-clause-stands
-unfolding robot_at
+unfolding answer argument robot_at
 returns-clause-stands c = λ f s.
     let degree_fits = c.ranges.degree in
     let speed_fits = c.ranges.speed in
@@ -43,7 +49,8 @@ returns-clause-stands c = λ f s.
     let now : StandsFor (the_view c.self.inside) f = rw c.self.view_is s in
     let robots = ap (λ (g : Ground). g.robots) c.self.view_is in
     let lent = c.deref_mut.ensures.value in
-    let inside : c.args.robot < length items = omega (arith, ap length robots) in
+    let among = inside_if_lives c.args.self.now c.args.robot c.requires in
+    let inside : c.args.robot < length items = omega (arith, ap length robots, among) in
     let here =
     sym c.index-deref_mut-robot.is ∙
     mapped_is body_of c.deref_mut.result.now f.robots c.args.robot _ no_robot (lent ∙ now.robots)
@@ -59,7 +66,8 @@ returns-clause-alive c =
     let items = c.self.inside.robots.items in
     let robots = ap (λ (g : Ground). g.robots) c.self.view_is in
     let lent = c.deref_mut.ensures.value in
-    let inside : c.args.robot < length items = omega (arith, ap length robots) in
+    let among = inside_if_lives c.args.self.now c.args.robot c.requires in
+    let inside : c.args.robot < length items = omega (arith, ap length robots, among) in
     let same =
     sym c.index-deref_mut-robot.is ∙
     get_or_read c.deref_mut.result.now c.args.robot _ (omega (arith, inside, ap length lent))
@@ -67,4 +75,4 @@ returns-clause-alive c =
     let damage = c.want.ensures.damage ∙ ap (λ (b : Body). b.damage) same in
     rw (put_is items c.deref_mut.result.now c.args.robot c.want.new.self lent)
     (lives_as (the_view c.self.inside) c.args.robot c.want.new.self inside damage ∙
-    ap (λ (g : Ground). lives g c.args.robot) c.self.view_is)
+    ap (λ (g : Ground). lives g c.args.robot) c.self.view_is ∙ c.requires)

@@ -1,9 +1,12 @@
-use Rattle.std.proofs.Common.{ap, ◌∙◌, pos, FitsSigned, w32, rules}
+use Rattle.std.proofs.Common.{◌<◌, ap, ◌∙◌, pos, length, subst, sym, FitsSigned, w32, rules}
 use Rattle.std.proofs.lemmas.Int.{to_z-of_z}
+use Rattle.arena.specs.Answer.{answer, argument}
 use Rattle.arena.specs.Ground.{Ground}
+use Rattle.arena.proofs.Represents.{inside_if_lives}
 use Rattle.arena.proofs.arenas.Arena.scan.Goals as goal
 
 pub returns : goal.returns
+unfolding answer argument
 returns c = λ f s.
     let robots = c.as_slice.ensures.value ∙ ap (λ (g : Ground). g.robots) c.self.view_is ∙ s.robots in
     let fd = c.ranges.degree in

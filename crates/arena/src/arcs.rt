@@ -1,0 +1,125 @@
+//! The arc of a scan, and which ways lead into it.
+
+ghost use Rattle.std.specs.Prelude.{◌≡◌, ◌+◌, ◌-◌, ◌%◌, ◌<◌, ◌≤◌, true, false, unsigned_abs};
+ghost use Rattle.arith.specs.Circle.{sine_at, cosine_at};
+ghost use Rattle.arith.specs.Bearing.{reach_of};
+ghost use Rattle.arena.specs.Nearer.{leads_into};
+
+use crate::ways::Way;
+use arith::{bears_within, cosine_at, sine_at};
+
+/// How many degrees from an arc's end a direction lies in which no point of the arc reaches backwards.
+const SIDE: u16 = 89;
+
+/// So far, scaled by 100,000, no point outside of an arc reaches forward in both of these directions: 35 metres.
+const DEEP: i32 = 3_500_000;
+
+/// A direction: a degree, with its cosine and its sine, both scaled by 100,000.
+#[derive(Clone, Copy, Drop)]
+struct Direction {
+    degree: u16,
+    cosine: i32,
+    sine: i32,
+    ghost round: { degree < 360 },
+    ghost cosine_of_degree: { cosine ≡ cosine_at degree },
+    ghost sine_of_degree: { sine ≡ sine_at degree },
+    ghost cosine_in_scale: { unsigned_abs cosine ≤ 100000 },
+    ghost sine_in_scale: { unsigned_abs sine ≤ 100000 },
+}
+
+impl Direction {
+    /// Makes the direction of a degree.
+    fn of(degree: u16) -> Direction
+        requires { degree < 360 }
+        ensures { result.degree ≡ degree }
+    {
+        Direction {
+            degree,
+            cosine: cosine_at(degree),
+            sine: sine_at(degree),
+        }
+    }
+
+    /// Returns how far a way reaches in this direction, scaled by 100,000.
+    #[tactic(auto, using(arith::proofs::BearingLemmas::reach_steps), unfolding(arith::specs::Bearing::reach_of))]
+    fn reach(&self, way: &Way) -> i32
+        ensures { result ≡ reach_of way.now.east way.now.north self.now.degree }
+    {
+        way.east * self.cosine + way.north * self.sine
+    }
+}
+
+/// The arc around a degree, as far as the resolution of at most 10 degrees to either side. Beside it are the two
+/// directions that are 89 degrees from the arc's end on the other side.
+#[derive(Clone, Copy, Drop)]
+pub struct Arc {
+    degree: u16,
+    resolution: u16,
+    left: Direction,
+    right: Direction,
+    ghost round: { degree < 360 },
+    ghost narrow: { resolution ≤ 10 },
+    ghost to_left: { left.degree ≡ (degree + (89 - resolution)) % 360 },
+    ghost to_right: { right.degree ≡ (degree + (271 + resolution)) % 360 },
+}
+
+impl Arc {
+    /// Makes the arc around a degree, with this resolution in degrees.
+    pub fn around(degree: u16, resolution: u16) -> Arc
+        requires degree { degree < 360 }
+        requires resolution { resolution ≤ 10 }
+        ensures degree { result.degree ≡ degree }
+        ensures resolution { result.resolution ≡ resolution }
+    {
+        Arc {
+            degree,
+            resolution,
+            left: Direction::of(turned(degree, SIDE - resolution)),
+            right: Direction::of(turned(degree, 360 - SIDE + resolution)),
+        }
+    }
+
+    /// Reports whether a way leads beside the arc: it reaches backwards in one of the two directions.
+    pub fn is_beside(&self, way: &Way) -> bool
+        ensures { result ≡ true
+            → leads_into way.now.east way.now.north self.now.degree self.now.resolution ≡ false }
+    {
+        self.left.reach(way) < 0 || self.right.reach(way) < 0
+    }
+
+    /// Reports whether a way leads into the arc, or nowhere. A rough test decides on those that lead deep into it.
+    pub fn holds(&self, way: &Way) -> bool
+        ensures { result ≡ leads_into way.now.east way.now.north self.now.degree self.now.resolution }
+    {
+        self.is_deep(way) || lies_within(way, self.degree, self.resolution)
+    }
+
+    /// Reports whether a way leads deep into the arc: it reaches forward by 35 metres in both directions, or more.
+    fn is_deep(&self, way: &Way) -> bool
+        ensures { result ≡ true → leads_into way.now.east way.now.north self.now.degree self.now.resolution ≡ true }
+    {
+        self.left.reach(way) >= DEEP && self.right.reach(way) >= DEEP
+    }
+}
+
+/// Reports whether a way leads into an arc around a degree, or nowhere. This is asked only of a way near the arc's
+/// border: it stays out of the way of the rough tests.
+#[inline(never)]
+fn lies_within(way: &Way, degree: u16, resolution: u16) -> bool
+    requires degree { degree < 360 }
+    requires resolution { resolution ≤ 10 }
+    ensures { result ≡ leads_into way.now.east way.now.north degree resolution }
+{
+    way.is_none() || bears_within(way.east, way.north, degree, resolution)
+}
+
+/// Returns the degree that lies so many degrees further round the circle.
+fn turned(degree: u16, by: u16) -> u16
+    requires degree { degree < 360 }
+    requires by { by < 360 }
+    ensures value { result ≡ (degree + by) % 360 }
+    ensures round { result < 360 }
+{
+    let sum = degree + by;
+    if sum < 360 { sum } else { sum - 360 }
+}

@@ -1,0 +1,72 @@
+//! Ways from a robot to the others, in whole metres.
+
+ghost use Rattle.std.specs.Prelude.{◌≡◌, ◌≤◌, true, false, pos, unsigned_abs};
+ghost use Rattle.arena.specs.Field.{Robot as FieldRobot};
+ghost use Rattle.arena.specs.Scan.{east_to, north_to};
+ghost use Rattle.arena.specs.Nearer.{IsAt, square_of};
+ghost use Rattle.arena.specs.Ground.{body_of};
+
+use crate::robots::Robot;
+
+/// A robot's place, in whole metres rounded down.
+#[derive(Clone, Copy, Drop)]
+pub struct Spot {
+    x: u16,
+    y: u16,
+    ghost x_in_field: { x ≤ 999 },
+    ghost y_in_field: { y ≤ 999 },
+}
+
+impl Spot {
+    /// Returns the place of a robot.
+    pub fn of(robot: &Robot) -> Spot
+        ensures { (a : FieldRobot) → robot.now ≡ body_of a → IsAt result.x result.y a }
+    {
+        Spot {
+            x: robot.metres_x(),
+            y: robot.metres_y(),
+        }
+    }
+
+    /// Returns the way from here to a robot.
+    pub fn way_to(&self, robot: &Robot) -> Way
+        ensures east { (a b : FieldRobot) → IsAt self.now.x self.now.y a → robot.now ≡ body_of b
+            → result.east ≡ east_to a b }
+        ensures north { (a b : FieldRobot) → IsAt self.now.x self.now.y a → robot.now ≡ body_of b
+            → result.north ≡ north_to a b }
+    {
+        Way {
+            east: i32::from(robot.metres_x()) - i32::from(self.x),
+            north: i32::from(robot.metres_y()) - i32::from(self.y),
+        }
+    }
+}
+
+/// A way from one place of the field to another, in whole metres.
+#[derive(Clone, Copy, Drop)]
+pub struct Way {
+    pub east: i32,
+    pub north: i32,
+    pub ghost east_in_field: { unsigned_abs east ≤ 999 },
+    pub ghost north_in_field: { unsigned_abs north ≤ 999 },
+}
+
+impl Way {
+    /// Reports whether the way leads nowhere.
+    pub fn is_none(&self) -> bool
+        ensures none { result ≡ true → (self.now.east ≡ pos 0) × (self.now.north ≡ pos 0) }
+        ensures some { result ≡ false → self.now.east ≡ pos 0 → self.now.north ≡ pos 0 → ⊥ }
+    {
+        self.east == 0 && self.north == 0
+    }
+
+    /// Returns the squared length, at least 1.
+    #[tactic(auto, using(crate::proofs::Squares::own_square_steps), unfolding(crate::specs::Nearer::square_of))]
+    pub fn square(&self) -> u32
+        ensures value { result ≡ square_of self.now.east self.now.north }
+        ensures most { result ≤ 2000000 }
+    {
+        let square = (self.east * self.east + self.north * self.north) as u32;
+        square.max(1)
+    }
+}
