@@ -32,7 +32,7 @@ fn segment(runners: &mut [Runner], pilots: &Pilots, arena: &mut Arena, farthest:
         window(runners, pilots, arena, UPDATE_CYCLES, farthest);
     }
     arena.update();
-    arena.live_count() <= 1
+    !arena.two_live()
 }
 
 /// Runs cycles until the battle is decided, or the limit is reached. Returns how many they were.
