@@ -10,6 +10,7 @@ pub mod Passed
 pub mod Skipping
 pub mod Spans
 pub mod Running
+pub mod Asking
 pub mod Alone
 pub mod Beginnings
 pub mod KnownBattles

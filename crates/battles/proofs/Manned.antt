@@ -1,10 +1,13 @@
 -- Robots, one by one, of machines and an arena that are manned.
-use Rattle.std.proofs.Common.{◌≡◌, ℕ, ◌<◌, List, length, set, get_or, Some, sym, ◌∙◌, arith}
+use Rattle.std.proofs.Common.{◌≡◌, ◌≢◌, ℕ, ◌<◌, List, length, set, get_or, Some, inl, inr, sym, subst, ap, ◌∙◌, arith}
+use Rattle.std.proofs.lemmas.Bool.{cases_eq}
+use Rattle.std.proofs.lemmas.List.{get_or-set_same, get_or-set_other}
 use Rattle.std.specs.Prelude.{slice_get}
 use Rattle.arena.specs.Ground.{Ground}
 use Rattle.code.specs.Generation.{ObjectCode}
 use Rattle.battles.specs.Carrying.{Runner}
 use Rattle.battles.specs.Keeping.{AreManned, CanRun, HavePlaces, Keeps}
+use Rattle.battles.specs.Windows.{Waits}
 use Rattle.battles.proofs.Stages.{fits_at, fits_length, fits_set}
 
 pub have_places : (codes : List ObjectCode) (runners : List Runner) (arena : Ground) → AreManned codes runners arena →
@@ -33,3 +36,30 @@ manned_set codes runners before after i code runner manned here kept = record {
   fits = fits_set runners codes i runner code manned.fits here kept.fits;
   robots = kept.robots ∙ manned.robots;
 }
+
+same_code : (codes : List ObjectCode) (i j : ℕ) (code other : ObjectCode) → j ≡ i → slice_get codes i ≡ Some code →
+    slice_get codes j ≡ Some other → code ≡ other
+same_code codes i j code other same here there =
+    let e : slice_get codes j ≡ slice_get codes i = ap (λ k. slice_get codes k) same in cc
+
+-- after a robot's turns each robot that has turns left before an end waits
+pub waits_set : (codes : List ObjectCode) (next : List ℕ) (end : ℕ) (runners : List Runner) (i number : ℕ)
+    (code : ObjectCode) (runner : Runner) (j : ℕ) (other : ObjectCode) (none : Runner)
+    → i < length next → i < length runners → slice_get codes i ≡ Some code → slice_get codes j ≡ Some other
+    → (number < end → Waits code runner)
+    → (j ≢ i → get_or next j 0 < end → Waits other (get_or runners j none))
+    → get_or (set next i number) j 0 < end → Waits other (get_or (set runners i runner) j none)
+waits_set codes next end runners i number code runner j other none inside within here there waits before left =
+    elim (cases_eq j i) as (λ s. Waits other (get_or (set runners i runner) j none)) [
+      | inl same ↦
+          let own : get_or (set next i number) j 0 ≡ number =
+          ap (λ k. get_or (set next i number) k 0) same ∙ get_or-set_same next i number 0 inside in
+          let set_here : get_or (set runners i runner) j none ≡ runner =
+          ap (λ k. get_or (set runners i runner) k none) same ∙ get_or-set_same runners i runner none within in
+          subst (λ (r : Runner). Waits other r) (sym set_here)
+          (subst (λ (c : ObjectCode). Waits c runner) (same_code codes i j code other same here there)
+          (waits (omega (arith, own, left))))
+      | inr distinct ↦
+          subst (λ (r : Runner). Waits other r) (sym (get_or-set_other runners i j runner none distinct))
+          (before distinct (rw (get_or-set_other next i j number 0 distinct) at left))
+    ]

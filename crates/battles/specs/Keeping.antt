@@ -7,7 +7,7 @@ use Rattle.code.specs.Machine.{State}
 use Rattle.code.specs.Standing.{FitsProgram}
 use Rattle.battles.specs.Battle.{Behaviour, Stage}
 use Rattle.battles.specs.Carrying.{Runner, EachFits, HasReached}
-use Rattle.battles.specs.Windows.{AreTurnNumbers, AreStopped, segments}
+use Rattle.battles.specs.Windows.{AreTurnNumbers, AreWaiting, Waits, segments}
 
 -- at most four machines, and a robot of the field for each
 pub record HavePlaces (runners : List Runner) (arena : Ground) : Type 0 where
@@ -32,10 +32,10 @@ pub record Keeps (code : ObjectCode) (machine : State) (before after : Ground) :
   pub robots : length after.robots ≡ length before.robots
   pub updates : after.updates ≡ before.updates
 
--- A robot ran for n cycles of at most so many. If it stopped before these were over, its machine isn't ahead.
-pub record RanWithin (limit n : ℕ) (runner : Runner) : Type 0 where
+-- A robot ran for n cycles of at most so many. If it stopped before these were over, it waits to draw.
+pub record RanWithin (limit n : ℕ) (code : ObjectCode) (runner : Runner) : Type 0 where
   pub most : n ≤ limit
-  pub stopped : n < limit → runner.ahead ≡ 0
+  pub waits : n < limit → Waits code runner
 
 -- A window of w cycles: each robot has the number of its next turn. Those that aren't there have no turn in it.
 pub record IsWindow (codes : List ObjectCode) (next : List ℕ) (w : ℕ) (runners : List Runner)
@@ -50,11 +50,11 @@ pub record Opens (codes : List ObjectCode) (next : List ℕ) (w : ℕ) (runners 
   pub window : IsWindow codes next w runners arena
   pub first : (i : ℕ) → i < length codes → slice_index_or next i 0 ≡ i
 
--- later each robot that has turns left has stopped
+-- later each robot that has turns left waits
 pub record IsUnderWay (codes : List ObjectCode) (next : List ℕ) (w : ℕ) (runners : List Runner)
     (arena : Ground) : Type 0 where
   pub window : IsWindow codes next w runners arena
-  pub stopped : AreStopped w next runners
+  pub waiting : AreWaiting w next codes runners
 
 -- the stage after an update, and whether that decides the battle: at most one robot is alive
 pub record HasUpdated (codes : List ObjectCode) (runners : List Runner) (arena : Ground) (stage : Stage)

@@ -5,12 +5,18 @@ use Rattle.grammar.specs.Profile.{Profile}
 use Rattle.grammar.specs.Resolved.{IsResolved}
 use Rattle.grammar.specs.Tree.{File}
 use Rattle.code.specs.Generation.{code_of}
+use Rattle.code.specs.Machine.{want_code}
 use Rattle.code.specs.Meaning.{want, want_within}
 
 -- The code of a file has as many instructions as its actions make, and the last NOP.
 abbrev pub HasLengthOfActions : Type 0
 HasLengthOfActions = (p : Profile) (file : File) → IsResolved file
     → length (code_of p file).instructions ≡ code_length p (actions file) + 1
+
+-- The code of a file wants what its trees want, along all replies.
+abbrev pub WantsWhatTreesWant : Type 0
+WantsWhatTreesWant = (p : Profile) (file : File) → IsResolved file
+    → (trace : List ℤ) → want_code (code_of p file) trace ≡ want p file trace
 
 -- What a file wants along some replies is the same with any bound on turns and calls that is greater than their number.
 abbrev pub MoreTurnsChangeNothing : Type 0

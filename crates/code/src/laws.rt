@@ -1,11 +1,16 @@
 //! Laws of code, each stated as the contract of a function.
 
-ghost use Rattle.code.specs.Laws.{HasLengthOfActions, MoreTurnsChangeNothing};
+ghost use Rattle.code.specs.Laws.{HasLengthOfActions, MoreTurnsChangeNothing, WantsWhatTreesWant};
 
 /// Proves that the code of a file that may be compiled has, by every profile, as many instructions as its actions make,
 /// and one NOP.
 pub fn length_of_code()
     ensures { HasLengthOfActions }
+{}
+
+/// Proves that the code of a file that may be compiled wants what the file's trees want, along all replies.
+pub fn code_means_trees()
+    ensures { WantsWhatTreesWant }
 {}
 
 /// Proves that what a file wants doesn't depend on the bound on turns and calls by which it is defined, if that is
