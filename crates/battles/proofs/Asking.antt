@@ -25,6 +25,10 @@ asks_not_quiet Quiet i asks = absurd (cc)
 asks_not_quiet (Ask j words) i asks = λ quiet. absurd (cc)
 asks_not_quiet Restart i asks = absurd (cc)
 
+-- one want asks with the same words
+pub same_words : (w : Want) (i j : Intrinsic) (a b : List ℤ) → w ≡ Ask i a → w ≡ Ask j b → a ≡ b
+same_words w i j a b one other = cc
+
 -- what asks none, and something is wanted, is a restart
 pub asks_none : (w : Want) → intrinsic_of w ≡ None → w ≢ Quiet → w ≡ Restart
 asks_none Quiet none wants = absurd (wants refl)

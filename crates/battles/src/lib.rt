@@ -8,6 +8,7 @@ mod outcome;
 mod passing;
 mod pilots;
 mod programs;
+mod replies;
 mod runners;
 mod scheduler;
 mod windows;
