@@ -14,20 +14,11 @@ use Rattle.battles.specs.Battle.{Behaviour, granted, step}
 use Rattle.battles.specs.Carrying.{IsRobotOf}
 use Rattle.battles.specs.Windows.{IsAlone, draws}
 
--- an intrinsic function is asked with some words
-pub asks_some : (w : Want) (i : Intrinsic) → intrinsic_of w ≡ Some i → (words : List ℤ) × (w ≡ Ask i words)
-asks_some Quiet i asks = absurd (cc)
-asks_some (Ask j words) i asks = (words, cc)
-asks_some Restart i asks = absurd (cc)
-
+-- what asks an intrinsic function wants something
 pub asks_not_quiet : (w : Want) (i : Intrinsic) → intrinsic_of w ≡ Some i → w ≢ Quiet
 asks_not_quiet Quiet i asks = absurd (cc)
 asks_not_quiet (Ask j words) i asks = λ quiet. absurd (cc)
 asks_not_quiet Restart i asks = absurd (cc)
-
--- one want asks with the same words
-pub same_words : (w : Want) (i j : Intrinsic) (a b : List ℤ) → w ≡ Ask i a → w ≡ Ask j b → a ≡ b
-same_words w i j a b one other = cc
 
 -- what asks none, and something is wanted, is a restart
 pub asks_none : (w : Want) → intrinsic_of w ≡ None → w ≢ Quiet → w ≡ Restart
