@@ -132,17 +132,18 @@ touches_are_met f i inside =
 
 -- the bursts that are due take what all shots take
 due_takes : (f : Field) (x y : ℕ) → All (λ s. s.owner < length f.robots) f.shots →
-    sum (map (λ b. ring (square x y b.x b.y)) (due f)) ≡ sum (bursts (f.updates + 1) f.shots x y)
+    sum (map (λ b. ring (square x y b.at.x b.at.y)) (due f)) ≡ sum (bursts (f.updates + 1) f.shots x y)
 unfolding due harm
 due_takes f x y owned = harm_like_shots f.updates (f.updates + 1) (length f.robots) f.shots refl owned x y
 
 taken_are : (f : Field) (i : ℕ) (bs : List Burst) → is_live f i ≡ true →
-    map (taken_by f i) bs ≡ map (λ b. ring (square (place_x (next_leg f i)) (place_y (next_leg f i)) b.x b.y)) bs
+    map (taken_by f i) bs ≡ map (λ b. ring (square (place_x (next_leg f i)) (place_y (next_leg f i)) b.at.x b.at.y)) bs
 unfolding taken_by
 taken_are f i [] live = refl
 taken_are f i (b ∷ bs) live =
     rw live
-    (ap (λ l. ring (square (place_x (next_leg f i)) (place_y (next_leg f i)) b.x b.y) ∷ l) (taken_are f i bs live))
+    (ap (λ l. ring (square (place_x (next_leg f i)) (place_y (next_leg f i)) b.at.x b.at.y) ∷ l)
+    (taken_are f i bs live))
 
 live_adds_up : (f : Field) (i : ℕ) → i < length f.robots → All (λ s. s.owner < length f.robots) f.shots →
     is_live f i ≡ true → damage_of (robot_at (moved f) i) ≡ min (damage_of (robot_at f i) + taken f i) 100

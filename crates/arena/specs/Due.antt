@@ -7,7 +7,7 @@ use Rattle.arena.specs.Outlook.{Burst}
 
 -- the damage of a burst at a place
 unfoldable pub harm : ℕ → ℕ → Burst → ℕ
-harm x y burst = ring (square x y burst.x burst.y)
+harm x y burst = ring (square x y burst.at.x burst.at.y)
 
 -- at every place these bursts do what all shots do in an update
 abbrev pub HarmLikeShots : ℕ → List Shot → List Burst → Type 0

@@ -177,8 +177,8 @@ impl Arena {
             return 0;
         }
         let range = clamped(range, MOST_RANGE);
-        let (x, y) = self.place(robot);
-        let missile = Missile::new(self.updates, x, y, norm_degree(degree), range);
+        let from = self.robot(robot).place();
+        let missile = Missile::new(self.updates, from, norm_degree(degree), range);
         self.is_still = false;
         self.missiles.fire(robot, missile);
         1

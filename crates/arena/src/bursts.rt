@@ -6,9 +6,8 @@ ghost use Rattle.arena.specs.Leg.{last_place};
 ghost use Rattle.arena.specs.Shots.{ring};
 ghost use Rattle.arena.specs.Due.{harm};
 
-use crate::collisions::square;
 use crate::limits::{MOST_BURSTS, MOST_ROBOTS};
-use std::marker::Model;
+use crate::points::Point;
 
 /// The radius of the widest ring of a burst, in tenths of a metre.
 const LAST_RING: i32 = 400;
@@ -17,36 +16,18 @@ const LAST_RING: i32 = 400;
 #[derive(Clone, Copy, Default, Drop)]
 pub struct Burst {
     robot: u8,
-    x: u16,
-    y: u16,
-}
-
-impl Model for Burst {
-    ghost use Rattle.std.specs.Prelude.{◌≤◌};
-    ghost use Rattle.arena.specs.Leg.{last_place};
-    ghost use Rattle.arena.specs.Outlook.{Burst};
-
-    ghost Value = { Burst };
-
-    ghost view = { λ b. record { robot = b.robot; x = b.x; y = b.y } };
-
-    ghost inverse = { λ b. record { robot = b.robot; x = b.x; y = b.y } };
-
-    ghost invariant = { λ b. (b.x ≤ last_place) × (b.y ≤ last_place) };
+    at: Point,
 }
 
 impl Burst {
-    /// Makes the burst of a robot's missile at a place in tenths of a metre.
-    pub(crate) fn new(robot: usize, x: u16, y: u16) -> Burst
-        requires robot { robot < MOST_ROBOTS }
-        requires x { x ≤ last_place }
-        requires y { y ≤ last_place }
-        ensures { result ≡ record { robot = robot; x = x; y = y } }
+    /// Makes the burst of a robot's missile at a place.
+    pub(crate) fn new(robot: usize, at: Point) -> Burst
+        requires { robot < MOST_ROBOTS }
+        ensures { result ≡ record { robot = robot; at = at } }
     {
         Burst {
             robot: robot as u8,
-            x,
-            y,
+            at,
         }
     }
 
@@ -59,52 +40,48 @@ impl Burst {
 
     /// Returns the place on the axis to the east, in tenths of a metre.
     pub fn x(&self) -> u16
-        ensures value { result ≡ self.now.x }
+        ensures value { result ≡ self.now.at.x }
         ensures most { result ≤ last_place }
     {
-        self.x
+        self.at.x()
     }
 
     /// Returns the place on the axis to the north, in tenths of a metre.
     pub fn y(&self) -> u16
-        ensures value { result ≡ self.now.y }
+        ensures value { result ≡ self.now.at.y }
         ensures most { result ≤ last_place }
     {
-        self.y
+        self.at.y()
     }
 
-    /// Returns the damage in percent that it does at a place in tenths of a metre.
+    /// Returns the damage in percent that it does at a place.
     #[tactic(auto, unfolding(crate::specs::Due::harm))]
-    pub(crate) fn harm(&self, x: u16, y: u16) -> u8
-        requires x { x ≤ last_place }
-        requires y { y ≤ last_place }
-        ensures value { result ≡ harm x y self.now }
+    pub(crate) fn harm(&self, place: Point) -> u8
+        ensures value { result ≡ harm place.x place.y self.now }
         ensures most { result ≤ 10 }
     {
-        ring(square(x, y, self.x, self.y))
+        ring(place.square_to(self.at))
     }
 
     /// Reports whether it is so far from a place that it does no damage there.
     #[tactic(auto, using(crate::proofs::Squares::far_harm), unfolding(crate::specs::Due::harm))]
-    fn misses(&self, x: u16, y: u16) -> bool
-        ensures { result ≡ true → harm x y self.now ≡ 0 }
+    fn misses(&self, place: Point) -> bool
+        ensures { result ≡ true → harm place.x place.y self.now ≡ 0 }
     {
-        is_far(x, self.x) || is_far(y, self.y)
+        is_far(place.x(), self.at.x()) || is_far(place.y(), self.at.y())
     }
 }
 
-/// Returns the damage in percent that some bursts do at a place in tenths of a metre.
-pub(crate) fn harm_by(bursts: &[Burst], x: u16, y: u16) -> u8
-    requires few { length bursts.now ≤ MOST_BURSTS }
-    requires x { x ≤ last_place }
-    requires y { y ≤ last_place }
-    ensures value { result ≡ sum (map (harm x y) bursts.now) }
+/// Returns the damage in percent that some bursts do at a place.
+pub(crate) fn harm_by(bursts: &[Burst], place: Point) -> u8
+    requires { length bursts.now ≤ MOST_BURSTS }
+    ensures value { result ≡ sum (map (harm place.x place.y) bursts.now) }
     ensures most { result ≤ 80 }
 {
     let mut damage = 0;
     for burst in bursts {
-        if !burst.misses(x, y) {
-            damage += burst.harm(x, y);
+        if !burst.misses(place) {
+            damage += burst.harm(place);
         }
     }
     damage

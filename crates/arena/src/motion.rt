@@ -12,6 +12,7 @@ ghost use Rattle.arena.specs.Still.{Rests, OnlyTurns};
 ghost use Rattle.arena.specs.Calm.{IsNearby, IsAtPlace, gap, sum_gap};
 
 use crate::axes::{leaves, metres_of, place_near, place_of, step, sum_at};
+use crate::points::Point;
 use arith::{cosine_at, sine_at};
 use std::marker::Model;
 
@@ -116,6 +117,13 @@ impl Motion {
         ensures most { result ≤ last_place }
     {
         place_of(self.north)
+    }
+
+    /// Returns the place.
+    pub fn place(&self) -> Point
+        ensures { result ≡ record { x = self.now.x; y = self.now.y } }
+    {
+        Point::new(self.x(), self.y())
     }
 
     /// Returns the place on the axis to the east, in whole metres rounded down.

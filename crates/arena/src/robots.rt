@@ -15,6 +15,7 @@ ghost use Rattle.arena.specs.Still.{Stays};
 use crate::collisions::Mover;
 use crate::limits::DEADLY;
 use crate::motion::Motion;
+use crate::points::Point;
 use std::marker::Model;
 
 /// What a wall takes, and each robot that one collides with.
@@ -209,6 +210,13 @@ impl Robot {
         ensures { result ≡ record { track = motion; damage = damage } }
     {
         Robot { motion, damage }
+    }
+
+    /// Returns the place.
+    pub fn place(&self) -> Point
+        ensures { result ≡ record { x = self.now.track.x; y = self.now.track.y } }
+    {
+        self.motion.place()
     }
 
     /// Returns the place on the axis to the east, in tenths of a metre.

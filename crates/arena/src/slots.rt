@@ -14,6 +14,7 @@ ghost use Rattle.arena.specs.Standing.{HoldsShots};
 use crate::bursts::Burst;
 use crate::limits::{MOST_BURSTS, MOST_MISSILES, MOST_ROBOTS};
 use crate::places::{along, clamped};
+use crate::points::Point;
 use arith::{cosine_at, sine_at};
 use arrayvec::ArrayVec;
 use std::marker::Model;
@@ -21,49 +22,32 @@ use std::marker::Model;
 /// How far a missile flies in an update, in metres.
 const FLIGHT: u16 = 50;
 
-/// A missile in the air: the update in which it bursts, and the place of the burst in tenths of a
-/// metre.
+/// A missile in the air: the update in which it bursts, and the place of the burst.
 #[derive(Clone, Copy, Default, Drop)]
 pub struct Missile {
     burst: u32,
-    x: u16,
-    y: u16,
-}
-
-impl Model for Missile {
-    ghost use Rattle.std.specs.Prelude.{◌≤◌};
-    ghost use Rattle.arena.specs.Leg.{last_place};
-    ghost use Rattle.arena.specs.Ground.{Missile};
-
-    ghost Value = { Missile };
-
-    ghost view = { λ m. record { burst = m.burst; x = m.x; y = m.y } };
-
-    ghost inverse = { λ m. record { burst = m.burst; x = m.x; y = m.y } };
-
-    ghost invariant = { λ m. (m.x ≤ last_place) × (m.y ≤ last_place) };
+    at: Point,
 }
 
 impl Missile {
-    /// Makes a missile that is fired after so many updates from a place in tenths of a metre, in the direction of a
-    /// degree and at a range in metres.
+    /// Makes a missile that is fired after so many updates from a place, in the direction of a degree and at a range in
+    /// metres.
     #[tactic(auto, unfolding(crate::specs::Shots::aimed_x, crate::specs::Shots::aimed_y))]
-    pub fn new(updates: u32, x: u16, y: u16, degree: u16, range: u16) -> Missile
+    pub fn new(updates: u32, from: Point, degree: u16, range: u16) -> Missile
         requires updates { updates ≤ most_updates }
-        requires x { x ≤ last_place }
-        requires y { y ≤ last_place }
         requires degree { degree < 360 }
         requires range { range ≤ 700 }
         ensures { result ≡ record {
           burst = updates + flight range;
-          x = aimed_x x degree range;
-          y = aimed_y y degree range;
+          at = record { x = aimed_x from.x degree range; y = aimed_y from.y degree range };
         } }
     {
         Missile {
             burst: updates + flight(range),
-            x: aimed(x, range, cosine_at(degree)),
-            y: aimed(y, range, sine_at(degree)),
+            at: Point::new(
+                aimed(from.x(), range, cosine_at(degree)),
+                aimed(from.y(), range, sine_at(degree)),
+            ),
         }
     }
 
@@ -166,7 +150,7 @@ impl Slots {
     {
         for missile in self.missiles.as_slice() {
             if missile.burst == update {
-                bursts.push(Burst::new(robot, missile.x, missile.y));
+                bursts.push(Burst::new(robot, missile.at));
             }
         }
     }

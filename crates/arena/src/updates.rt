@@ -74,7 +74,7 @@ fn finished(robot: &Robot, seen: &Mover, touched: usize, bursts: &[Burst]) -> Ro
         return *robot;
     }
     let motion = robot.motion_after(seen, touched);
-    let harm = harm_by(bursts, motion.x(), motion.y());
+    let harm = harm_by(bursts, motion.place());
     Robot::new(motion, worn(robot.damage(), touched, harm))
 }
 
@@ -130,7 +130,7 @@ fn hurt(robots: &mut [Robot], missiles: &Missiles, update: u32)
 {
     let bursts = missiles.bursts(update);
     for robot in robots {
-        let harm = harm_by(bursts.as_slice(), robot.x(), robot.y());
+        let harm = harm_by(bursts.as_slice(), robot.place());
         robot.hurt(harm);
     }
 }

@@ -6,5 +6,5 @@ use Rattle.arena.proofs.bursts.harm_by.Given as goal
 abbrev pub invariant-loop-burst : goal.invariant-loop-burst
 invariant-loop-burst l = record {
   most : l.damage ≤ 10 * l.burst-index;
-  harms : l.damage ≡ sum (map (harm l.x l.y) (take l.burst-index l.bursts));
+  harms : l.damage ≡ sum (map (harm l.place.x l.place.y) (take l.burst-index l.bursts));
 }

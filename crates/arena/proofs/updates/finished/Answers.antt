@@ -17,8 +17,7 @@ unfolding mover ahead
 returns c = λ r update shots same e m.
     let live : is_alive r ≡ true = sym (c.is_live.ensures ∙ ap (λ (m : Mover). m.live) m) ∙ c.if-not-is_live.false in
     let leg = c.motion_after-motion.ensures r e m live in
-    let burst = rw (c.x.ensures.value, c.y.ensures.value) at
-    (c.harm_by-harm.ensures.value ∙ same c.x.result c.y.result) in
+    let burst = rw c.place.ensures at (c.harm_by-harm.ensures.value ∙ same c.place.result.x c.place.result.y) in
     let walled = c.damage.ensures.value ∙ ap (λ (b : Body). b.damage) e in
     c.new.ensures ∙
     alive_is r c.motion_after-motion.result update shots c.args.touched c.damage.result

@@ -14,4 +14,4 @@ pub returns-clause-stands : goal.returns-clause-stands
 unfolding taken_by harm
 returns-clause-stands c = λ f s.
     let live : is_live f c.args.robot ≡ true = sym (c.alive.ensures.stands f s) ∙ c.if-not-alive.false in
-    rw live (rw (c.next_place-x.ensures.x f s, c.next_place-x.ensures.y f s) at c.harm.ensures.value)
+    rw live (rw (c.next_place.ensures.x f s, c.next_place.ensures.y f s) at c.harm.ensures.value)
