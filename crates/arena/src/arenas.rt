@@ -130,8 +130,8 @@ impl Arena {
             Intrinsic::Drive => self.drive(robot, first, second),
             Intrinsic::Damage => i32::from(self.robot(robot).damage()),
             Intrinsic::Speed => i32::from(self.robot(robot).speed()),
-            Intrinsic::LocX => i32::from(self.robot(robot).x() / 10),
-            Intrinsic::LocY => i32::from(self.robot(robot).y() / 10),
+            Intrinsic::LocX => i32::from(self.robot(robot).metres_x()),
+            Intrinsic::LocY => i32::from(self.robot(robot).metres_y()),
             Intrinsic::Rand => self.draw(first),
             Intrinsic::Sqrt => root(first),
             Intrinsic::Sin => sin(first),
@@ -286,8 +286,8 @@ impl Arena {
         ensures most_x { result.0 ≤ last_place }
         ensures most_y { result.1 ≤ last_place }
     {
-        let robot = self.robot(robot);
-        (robot.x(), robot.y())
+        let place = self.robot(robot).place();
+        (place.x(), place.y())
     }
 
     /// Returns how many robots live.

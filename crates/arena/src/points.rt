@@ -1,10 +1,10 @@
 //! Points of the field.
 
-ghost use Rattle.std.specs.Prelude.{◌≡◌, ◌≤◌};
+ghost use Rattle.std.specs.Prelude.{◌≡◌, ◌*◌, ◌≤◌};
+ghost use Rattle.std.specs.Int.{abs_diff};
 ghost use Rattle.arena.specs.Leg.{last_place};
 ghost use Rattle.arena.specs.Collisions.{square};
 
-use crate::collisions::square;
 use std::marker::Model;
 
 /// A point of the field, east and north in tenths of a metre from 0 to 9,999.
@@ -55,9 +55,22 @@ impl Point {
     }
 
     /// Returns the squared distance of two points, in tenths of a metre.
+    #[tactic(auto, unfolding(crate::specs::Collisions::square))]
     pub fn square_to(&self, to: Point) -> u32
         ensures { result ≡ square self.now.x self.now.y to.x to.y }
     {
-        square(self.x, self.y, to.x, to.y)
+        axis_square(self.x, to.x()) + axis_square(self.y, to.y())
     }
+}
+
+/// Returns the square of what lies between two coordinates in tenths of a metre.
+#[tactic(auto, using(crate::proofs::Squares::square_steps))]
+fn axis_square(from: u16, to: u16) -> u32
+    requires from { from ≤ last_place }
+    requires to { to ≤ last_place }
+    ensures value { result ≡ abs_diff from to * abs_diff from to }
+    ensures most { result ≤ 99980001 }
+{
+    let difference = i32::from(from) - i32::from(to);
+    (difference * difference) as u32
 }

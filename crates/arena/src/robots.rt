@@ -45,20 +45,18 @@ impl Model for Robot {
 
 impl Default for Robot {
     fn default() -> Robot {
-        Robot::standing(0, 0)
+        Robot::standing(Point::default())
     }
 }
 
 impl Robot {
-    /// Makes a robot that stands at a place in tenths of a metre, at rest and unhurt.
+    /// Makes a robot that stands at a place, at rest and unhurt.
     #[tactic(auto, unfolding(crate::specs::Ground::body_of, crate::specs::Field::damage_of, crate::specs::Start::standing))]
-    pub fn standing(x: u16, y: u16) -> Robot
-        requires x { x ≤ last_place }
-        requires y { y ≤ last_place }
-        ensures { result ≡ body_of (standing x y) }
+    pub fn standing(place: Point) -> Robot
+        ensures { result ≡ body_of (standing place.x place.y) }
     {
         Robot {
-            motion: Motion::standing(x, y),
+            motion: Motion::standing(place),
             damage: 0,
         }
     }
@@ -153,10 +151,9 @@ impl Robot {
         ensures mover { (robot : FieldRobot) → self.old ≡ body_of robot → result ≡ mover robot }
     {
         let live = self.is_alive();
-        let from_x = self.x();
-        let from_y = self.y();
+        let from = self.place();
         self.drive();
-        Mover::new(live, from_x, from_y, self.x(), self.y())
+        Mover::new(live, from, self.place())
     }
 
     /// Returns what collisions of the next update have to know.
@@ -199,7 +196,7 @@ impl Robot {
             → is_alive robot ≡ true → result ≡ track_of (leg_after robot.leg touched) }
     {
         if touched > 0 {
-            return self.motion.put_back(seen.from_x(), seen.from_y());
+            return self.motion.put_back(seen.from());
         }
         self.motion
     }
@@ -217,22 +214,6 @@ impl Robot {
         ensures { result ≡ record { x = self.now.track.x; y = self.now.track.y } }
     {
         self.motion.place()
-    }
-
-    /// Returns the place on the axis to the east, in tenths of a metre.
-    pub fn x(&self) -> u16
-        ensures value { result ≡ self.now.track.x }
-        ensures most { result ≤ last_place }
-    {
-        self.motion.x()
-    }
-
-    /// Returns the place on the axis to the north, in tenths of a metre.
-    pub fn y(&self) -> u16
-        ensures value { result ≡ self.now.track.y }
-        ensures most { result ≤ last_place }
-    {
-        self.motion.y()
     }
 }
 

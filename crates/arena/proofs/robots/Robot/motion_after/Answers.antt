@@ -1,5 +1,6 @@
 use Rattle.std.proofs.Common.{◌≡◌, true, false, nat_lt, refl, ap, ◌∙◌, arith}
 use Rattle.std.proofs.lemmas.Bool.Decides.{nat_tests}
+use Rattle.arena.specs.Point.{Point}
 use Rattle.arena.specs.Leg.{driven, place_x, place_y}
 use Rattle.arena.specs.Collisions.{Mover, candidate, mover}
 use Rattle.arena.specs.Moved.{leg_after}
@@ -13,8 +14,9 @@ returns-then-touched-gt0 c = λ robot e m live.
     let drove : candidate robot ≡ driven robot.leg = rw live refl in
     let track : c.self.inside.motion ≡ track_of (driven robot.leg) =
     ap (λ (b : Body). b.track) (c.self.view_is ∙ e) ∙ ap track_of drove in
-    let x : c.from_x.result ≡ place_x robot.leg = c.from_x.ensures.value ∙ ap (λ (m : Mover). m.from_x) m in
-    let y : c.from_y.result ≡ place_y robot.leg = c.from_y.ensures.value ∙ ap (λ (m : Mover). m.from_y) m in
+    let from = c.from.ensures ∙ ap (λ (m : Mover). m.from) m in
+    let x : c.from.result.x ≡ place_x robot.leg = ap (λ (p : Point). p.x) from in
+    let y : c.from.result.y ≡ place_y robot.leg = ap (λ (p : Point). p.y) from in
     let some : nat_lt 0 c.args.touched ≡ true = grind (arith, nat_tests) in
     rw some (c.put_back.ensures robot.leg (driven robot.leg) x y track)
 
