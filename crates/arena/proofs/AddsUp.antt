@@ -1,19 +1,18 @@
 -- The damage adds up: what walls, other robots and bursts take is what an update takes.
 use Rattle.std.proofs.Common.{◌≡◌, ℕ, zero, suc, ◌+◌, ◌*◌, ◌<◌, Bool, true, false, not, ◌&&◌, ◌==◌, cond, min, List, [], ◌∷◌, ◌++◌, length, map, filter, take, drop, sum, get_or, refl, sym, ap, ◌∙◌, arith}
-use Rattle.std.specs.List.{All, count_by, flat_map, range_with_len}
+use Rattle.std.specs.List.{All, count_by, range_with_len}
 use Rattle.std.proofs.lemmas.Bool.Decides.{nat_tests}
-use Rattle.std.proofs.lemmas.List.{map-append, get_or-map, length-map}
+use Rattle.std.proofs.lemmas.List.{get_or-map, length-map}
 use Rattle.std.proofs.lemmas.List.FromFn.{get_or-map-range_with_len}
-use Rattle.std.proofs.lemmas.List.Sums.{sum_by-append, length-filter}
-use Rattle.std.proofs.lemmas.Simd.{map-map}
+use Rattle.std.proofs.lemmas.List.Sums.{length-filter}
 use Rattle.arena.specs.Leg.{place_x, place_y, tried, hits_wall}
 use Rattle.arena.specs.Field.{Shot, Robot, Field, damage_of, is_alive, no_robot, robot_at, is_live}
 use Rattle.arena.specs.Collisions.{mover, collides, square, others, touches}
-use Rattle.arena.specs.Shots.{ring, in_air, due_at, bursts}
+use Rattle.arena.specs.Shots.{ring, bursts}
 use Rattle.arena.specs.Moved.{leg_after, moved_robot, moved}
 use Rattle.arena.specs.Due.{harm}
-use Rattle.arena.specs.Outlook.{Burst, burst_of, own_bursts, due, meets_wall, meets, next_leg, taken_by, taken, AddsUp}
-use Rattle.arena.proofs.SlotLaws.{sum-cons, totals, totals_same, both_more, shares}
+use Rattle.arena.specs.Outlook.{Burst, due, meets_wall, meets, next_leg, taken_by, taken, AddsUp}
+use Rattle.arena.proofs.SlotLaws.{sum-cons, totals, totals_same, both_more}
 use Rattle.arena.proofs.DueBursts.{harm_like_shots}
 use Rattle.arena.proofs.Wear.{dead_is, worn_is}
 

@@ -8,36 +8,15 @@ use crate::points::Point;
 /// Robots collide when they are nearer than this on both axes, in tenths of a metre.
 const NEAR: u16 = 10;
 
-/// A robot's place before an update and its candidate for the place after it.
+/// A robot, live or not before an update: its place then, and its candidate for the place after the update.
 #[derive(Clone, Copy, Default, Drop)]
 pub struct Mover {
-    live: bool,
-    from: Point,
-    to: Point,
+    pub live: bool,
+    pub from: Point,
+    pub to: Point,
 }
 
 impl Mover {
-    /// Makes the mover of a robot, live or not, from its place and its candidate for the next one.
-    pub fn new(live: bool, from: Point, to: Point) -> Mover
-        ensures { result ≡ record { live = live; from = from; to = to } }
-    {
-        Mover { live, from, to }
-    }
-
-    /// Reports whether the robot lived before the update.
-    pub fn is_live(&self) -> bool
-        ensures { result ≡ self.now.live }
-    {
-        self.live
-    }
-
-    /// Returns the place before the update.
-    pub fn from(&self) -> Point
-        ensures { result ≡ self.now.from }
-    {
-        self.from
-    }
-
     /// Reports whether the robot would leave its place.
     #[tactic(auto, unfolding(crate::specs::Collisions::moves))]
     fn moves(&self) -> bool

@@ -153,7 +153,11 @@ impl Robot {
         let live = self.is_alive();
         let from = self.place();
         self.drive();
-        Mover::new(live, from, self.place())
+        Mover {
+            live,
+            from,
+            to: self.place(),
+        }
     }
 
     /// Returns what collisions of the next update have to know.
@@ -196,7 +200,7 @@ impl Robot {
             → is_alive robot ≡ true → result ≡ track_of (leg_after robot.leg touched) }
     {
         if touched > 0 {
-            return self.motion.put_back(seen.from());
+            return self.motion.put_back(seen.from);
         }
         self.motion
     }

@@ -70,7 +70,7 @@ fn finished(robot: &Robot, seen: &Mover, touched: usize, bursts: &[Burst]) -> Ro
     ensures { (r : FieldRobot) (update : ℕ) (shots : List Shot) → HarmLikeShots update shots bursts.now
         → robot.now ≡ ahead r → seen.now ≡ mover r → result ≡ body_of (moved_robot update shots touched r) }
 {
-    if !seen.is_live() {
+    if !seen.live {
         return *robot;
     }
     let motion = robot.motion_after(seen, touched);

@@ -1,10 +1,7 @@
 use Rattle.std.proofs.Common.{ap, ◌∙◌, pos, get_or, FitsSigned, w32, rules}
 use Rattle.std.proofs.lemmas.Int.{to_z-of_z}
 use Rattle.arena.specs.Answer.{argument, answer}
-use Rattle.arena.specs.Ground.{Ground, Body, track_of, body_of}
-use Rattle.arena.specs.Standing.{StandsFor}
-use Rattle.arena.specs.contracts.arenas.Arena.{the_view}
-use Rattle.arena.proofs.Represents.{inside_if_lives, same_live}
+use Rattle.arena.specs.Ground.{Body, track_of, body_of}
 use Rattle.arena.proofs.arenas.Arena.ask.Goals as goal
 
 pub returns-in-Scan-clause-reply : goal.returns-in-Scan-clause-reply

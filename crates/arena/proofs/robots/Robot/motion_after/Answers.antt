@@ -1,6 +1,5 @@
 use Rattle.std.proofs.Common.{◌≡◌, true, false, nat_lt, refl, ap, ◌∙◌, arith}
 use Rattle.std.proofs.lemmas.Bool.Decides.{nat_tests}
-use Rattle.arena.specs.Point.{Point}
 use Rattle.arena.specs.Leg.{driven, place_x, place_y}
 use Rattle.arena.specs.Collisions.{Mover, candidate, mover}
 use Rattle.arena.specs.Moved.{leg_after}
@@ -14,9 +13,8 @@ returns-then-touched-gt0 c = λ robot e m live.
     let drove : candidate robot ≡ driven robot.leg = rw live refl in
     let track : c.self.inside.motion ≡ track_of (driven robot.leg) =
     ap (λ (b : Body). b.track) (c.self.view_is ∙ e) ∙ ap track_of drove in
-    let from = c.from.ensures ∙ ap (λ (m : Mover). m.from) m in
-    let x : c.from.result.x ≡ place_x robot.leg = ap (λ (p : Point). p.x) from in
-    let y : c.from.result.y ≡ place_y robot.leg = ap (λ (p : Point). p.y) from in
+    let x : c.args.seen.now.from.x ≡ place_x robot.leg = ap (λ (m : Mover). m.from.x) m in
+    let y : c.args.seen.now.from.y ≡ place_y robot.leg = ap (λ (m : Mover). m.from.y) m in
     let some : nat_lt 0 c.args.touched ≡ true = grind (arith, nat_tests) in
     rw some (c.put_back.ensures robot.leg (driven robot.leg) x y track)
 
