@@ -1,16 +1,14 @@
 //! The arena: a field in play, what it answers to robots, and its updates.
 
-ghost use Rattle.std.specs.Prelude.{◌≡◌, ℕ, ◌+◌, ◌<◌, ◌≤◌, true, nat_lt, ℤ, pos, [], ◌∷◌, All, count_by, length, slice_index_or};
-ghost use Rattle.grammar.specs.declared.names.Intrinsic.TheVariants.{Scan, Cannon, Drive, Damage, Speed, LocX, LocY, Rand, Sqrt, Sin, Cos, Tan, Atan};
-ghost use Rattle.arith.specs.Degree.{degree_of};
+ghost use Rattle.std.specs.Prelude.{◌≡◌, ℕ, ◌+◌, ◌<◌, ◌≤◌, true, nat_lt, [], ◌∷◌, All, count_by, length, slice_index_or};
+ghost use Rattle.grammar.specs.declared.names.Intrinsic.TheVariants.{Scan, Cannon, Drive, Rand};
 ghost use Rattle.arena.specs.Leg.{last_place, clamped, place_x, place_y};
 ghost use Rattle.arena.specs.Field.{Field, no_robot, damage_of, robot_at, is_live, live_count};
 ghost use Rattle.arena.specs.Moved.{moved};
 ghost use Rattle.arena.specs.Still.{IsStill, moved_times};
-ghost use Rattle.arena.specs.Scan.{scanned};
 ghost use Rattle.arena.specs.Start.{start};
 ghost use Rattle.arena.specs.Placed.{placed, IsPlace};
-ghost use Rattle.arena.specs.Answer.{answer, fired, directed, random_number};
+ghost use Rattle.arena.specs.Answer.{answer};
 ghost use Rattle.arena.specs.Ground.{most_updates, Body, body_of, lives};
 ghost use Rattle.arena.specs.Standing.{StandsFor};
 

@@ -2,7 +2,7 @@
 
 ghost use Rattle.std.specs.Prelude.{◌≡◌, true, ◌<◌, ◌≤◌, ◌/◌, pos, ◌*ℤ◌, unsigned_abs};
 ghost use Rattle.arith.specs.Circle.{sine_at, cosine_at};
-ghost use Rattle.arena.specs.Leg.{Leg, last_place, place_x, place_y, approached, leg_anew, steered, sped, grown, walled, hits_wall, tried, driven};
+ghost use Rattle.arena.specs.Leg.{Leg, place_x, place_y, approached, leg_anew, steered, sped, grown, walled, hits_wall, tried, driven};
 ghost use Rattle.arena.specs.Sums.{sum_from, place_of, place_near, IsInField};
 ghost use Rattle.arena.specs.Start.{standing};
 ghost use Rattle.arena.specs.Moved.{put_back};

@@ -1,8 +1,8 @@
 //! What the next update will do, asked before it is done: it changes nothing.
 
-ghost use Rattle.std.specs.Prelude.{◌≡◌, ℕ, ◌<◌, ◌≤◌, true, List, map, length};
-ghost use Rattle.arena.specs.Leg.{last_place, place_x, place_y};
-ghost use Rattle.arena.specs.Field.{Robot as FieldRobot, Field, robot_at, is_live};
+ghost use Rattle.std.specs.Prelude.{◌≡◌, ◌<◌, ◌≤◌, true, List, map, length};
+ghost use Rattle.arena.specs.Leg.{place_x, place_y};
+ghost use Rattle.arena.specs.Field.{Robot as FieldRobot, Field, robot_at};
 ghost use Rattle.arena.specs.Collisions.{mover, touches};
 ghost use Rattle.arena.specs.Ground.{body_of, lives};
 ghost use Rattle.arena.specs.Standing.{StandsFor};

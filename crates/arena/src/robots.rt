@@ -1,7 +1,7 @@
 //! Robots: how they move and how much they were hurt.
 
 ghost use Rattle.std.specs.Prelude.{◌≡◌, ◌+◌, ◌*◌, ◌/◌, ◌<◌, ◌≤◌, ◌&&◌, true, min, nat_lt};
-ghost use Rattle.arena.specs.Leg.{last_place, tried, hits_wall};
+ghost use Rattle.arena.specs.Leg.{tried, hits_wall};
 ghost use Rattle.arena.specs.Field.{Robot as FieldRobot, is_alive, metres_x, metres_y};
 ghost use Rattle.arena.specs.Collisions.{mover};
 ghost use Rattle.arena.specs.Start.{standing};

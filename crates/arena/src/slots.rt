@@ -1,6 +1,6 @@
 //! Missiles: where and when they burst, and which of each robot's are in the air.
 
-ghost use Rattle.std.specs.Prelude.{◌≡◌, ℕ, ◌+◌, ◌*◌, ◌<◌, ◌≤◌, ◌++◌, ◌∷◌, [], ◌==◌, ℤ, pos, ◌*ℤ◌, unsigned_abs, List, All, filter, map, flat_map, sum, true, false, nat_lt, length, slice_index_or};
+ghost use Rattle.std.specs.Prelude.{◌≡◌, ℕ, ◌+◌, ◌*◌, ◌<◌, ◌≤◌, ◌++◌, ◌∷◌, [], ◌==◌, ℤ, pos, ◌*ℤ◌, unsigned_abs, List, All, filter, map, flat_map, true, false, nat_lt, length, slice_index_or};
 ghost use Rattle.std.specs.List.{range_with_len};
 ghost use Rattle.arena.specs.Leg.{last_place, clamped, along};
 ghost use Rattle.arena.specs.Field.{Shot};
