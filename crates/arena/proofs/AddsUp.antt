@@ -1,18 +1,19 @@
 -- The damage adds up: what walls, other robots and bursts take is what an update takes.
 use Rattle.std.proofs.Common.{◌≡◌, ℕ, zero, suc, ◌+◌, ◌*◌, ◌<◌, Bool, true, false, not, ◌&&◌, ◌==◌, cond, min, List, [], ◌∷◌, ◌++◌, length, map, filter, take, drop, sum, get_or, refl, sym, ap, ◌∙◌, arith}
-use Rattle.std.specs.List.{All, count_by, flat_map, range_with_len}
+use Rattle.std.specs.List.{All, count_by, range_with_len}
 use Rattle.std.proofs.lemmas.Bool.Decides.{nat_tests}
-use Rattle.std.proofs.lemmas.List.{map-append, get_or-map, length-map}
+use Rattle.std.proofs.lemmas.List.{get_or-map, length-map}
 use Rattle.std.proofs.lemmas.List.FromFn.{get_or-map-range_with_len}
-use Rattle.std.proofs.lemmas.List.Sums.{sum_by-append, length-filter}
-use Rattle.std.proofs.lemmas.Simd.{map-map}
+use Rattle.std.proofs.lemmas.List.Sums.{length-filter}
 use Rattle.arena.specs.Leg.{place_x, place_y, tried, hits_wall}
 use Rattle.arena.specs.Field.{Shot, Robot, Field, damage_of, is_alive, no_robot, robot_at, is_live}
 use Rattle.arena.specs.Collisions.{mover, collides, square, others, touches}
-use Rattle.arena.specs.Shots.{ring, in_air, due_at, bursts}
+use Rattle.arena.specs.Shots.{ring, bursts}
 use Rattle.arena.specs.Moved.{leg_after, moved_robot, moved}
-use Rattle.arena.specs.Outlook.{Burst, burst_of, own_bursts, due, meets_wall, meets, next_leg, taken_by, taken, AddsUp}
-use Rattle.arena.proofs.SlotLaws.{sum-cons, totals, totals_same, both_more, shares}
+use Rattle.arena.specs.Due.{harm}
+use Rattle.arena.specs.Outlook.{Burst, due, meets_wall, meets, next_leg, taken_by, taken, AddsUp}
+use Rattle.arena.proofs.SlotLaws.{sum-cons, totals, totals_same, both_more}
+use Rattle.arena.proofs.DueBursts.{harm_like_shots}
 use Rattle.arena.proofs.Wear.{dead_is, worn_is}
 
 -- a robot after the update
@@ -129,45 +130,19 @@ touches_are_met f i inside =
     ∙ sym (count_range (meets f i) 0 n) ∙ length-filter (meets f i) (range_with_len 0 n)
 
 -- the bursts that are due take what all shots take
-flat_sum : (g : Burst → ℕ) (h : ℕ → List Burst) (a n : ℕ) →
-    sum (map g (flat_map h (range_with_len a n))) ≡ totals (λ k. sum (map g (h (a + k)))) n
-flat_sum g h a zero = refl
-flat_sum g h a (suc n) =
-    let parts : sum (map g (flat_map h (range_with_len a (suc n)))) ≡
-    sum (map g (h a)) + sum (map g (flat_map h (range_with_len (a + 1) n))) =
-    ap sum (map-append g (h a) (flat_map h (range_with_len (a + 1) n))) ∙
-    sum_by-append (λ (x : ℕ). x) (map g (h a)) (map g (flat_map h (range_with_len (a + 1) n))) in
-    let same : a ≡ a + 0 = omega arith in
-    let here = ap (λ (j : ℕ). sum (map g (h j))) same in
-    let rest = flat_sum g h (a + 1) n in
-    let on =
-    totals_same (λ k. sum (map g (h (a + 1 + k)))) (λ k. sum (map g (h (a + suc k)))) n
-    (λ k l. let next : a + 1 + k ≡ a + suc k = omega arith in ap (λ (j : ℕ). sum (map g (h j))) next) in
-    omega (arith, parts, here, rest, on)
-
 due_takes : (f : Field) (x y : ℕ) → All (λ s. s.owner < length f.robots) f.shots →
-    sum (map (λ b. ring (square x y b.x b.y)) (due f)) ≡ sum (bursts (f.updates + 1) f.shots x y)
-unfolding due own_bursts burst_of bursts
-due_takes f x y owned =
-    let update = f.updates + 1 in
-    let n = length f.robots in
-    let g = λ (b : Burst). ring (square x y b.x b.y) in
-    flat_sum g (own_bursts update f.updates f.shots) 0 n
-    ∙
-    totals_same (λ k. sum (map g (own_bursts update f.updates f.shots (0 + k))))
-    (λ k. sum (bursts update (in_air f.updates k f.shots) x y)) n
-    (λ k l.
-    let same : 0 + k ≡ k = omega arith in ap (λ (j : ℕ). sum (map g (own_bursts update f.updates f.shots j))) same ∙
-    ap sum (map-map g burst_of (due_at update (in_air f.updates k f.shots))))
-    ∙ shares f.updates update x y n f.shots refl owned
+    sum (map (λ b. ring (square x y b.at.x b.at.y)) (due f)) ≡ sum (bursts (f.updates + 1) f.shots x y)
+unfolding due harm
+due_takes f x y owned = harm_like_shots f.updates (f.updates + 1) (length f.robots) f.shots refl owned x y
 
 taken_are : (f : Field) (i : ℕ) (bs : List Burst) → is_live f i ≡ true →
-    map (taken_by f i) bs ≡ map (λ b. ring (square (place_x (next_leg f i)) (place_y (next_leg f i)) b.x b.y)) bs
+    map (taken_by f i) bs ≡ map (λ b. ring (square (place_x (next_leg f i)) (place_y (next_leg f i)) b.at.x b.at.y)) bs
 unfolding taken_by
 taken_are f i [] live = refl
 taken_are f i (b ∷ bs) live =
     rw live
-    (ap (λ l. ring (square (place_x (next_leg f i)) (place_y (next_leg f i)) b.x b.y) ∷ l) (taken_are f i bs live))
+    (ap (λ l. ring (square (place_x (next_leg f i)) (place_y (next_leg f i)) b.at.x b.at.y) ∷ l)
+    (taken_are f i bs live))
 
 live_adds_up : (f : Field) (i : ℕ) → i < length f.robots → All (λ s. s.owner < length f.robots) f.shots →
     is_live f i ≡ true → damage_of (robot_at (moved f) i) ≡ min (damage_of (robot_at f i) + taken f i) 100

@@ -105,30 +105,30 @@ and_false true = refl
 and_false false = refl
 
 -- two that were far, and moved a little, aren't close
-far_on_x : (a b : Mover) → 10 ≤ abs_diff a.x b.x → is_close a b ≡ false
+far_on_x : (a b : Mover) → 10 ≤ abs_diff a.to.x b.to.x → is_close a b ≡ false
 unfolding is_close
-far_on_x a b far = let off : nat_lt (abs_diff a.x b.x) 10 ≡ false = grind (arith, nat_tests) in rw off refl
+far_on_x a b far = let off : nat_lt (abs_diff a.to.x b.to.x) 10 ≡ false = grind (arith, nat_tests) in rw off refl
 
-far_on_y : (a b : Mover) → 10 ≤ abs_diff a.y b.y → is_close a b ≡ false
+far_on_y : (a b : Mover) → 10 ≤ abs_diff a.to.y b.to.y → is_close a b ≡ false
 unfolding is_close
 far_on_y a b far =
-    let off : nat_lt (abs_diff a.y b.y) 10 ≡ false = grind (arith, nat_tests) in
-    rw off (and_false (nat_lt (abs_diff a.x b.x) 10))
+    let off : nat_lt (abs_diff a.to.y b.to.y) 10 ≡ false = grind (arith, nat_tests) in
+    rw off (and_false (nat_lt (abs_diff a.to.x b.to.x) 10))
 
-not_close : (a b : Mover) (from_a from_b to_a to_b : Track) → a.x ≡ to_a.x → a.y ≡ to_a.y → b.x ≡ to_b.x →
-    b.y ≡ to_b.y → IsNearby from_a to_a → IsNearby from_b to_b → 210 ≤ gap from_a from_b → is_close a b ≡ false
-not_close a b from_a from_b to_a to_b ax ay bx by_ near_a near_b far = by_axis (cases_lt (abs_diff a.x b.x) 10)
+not_close : (a b : Mover) (from_a from_b to_a to_b : Track) → a.to.x ≡ to_a.x → a.to.y ≡ to_a.y → b.to.x ≡ to_b.x →
+    b.to.y ≡ to_b.y → IsNearby from_a to_a → IsNearby from_b to_b → 210 ≤ gap from_a from_b → is_close a b ≡ false
+not_close a b from_a from_b to_a to_b ax ay bx by_ near_a near_b far = by_axis (cases_lt (abs_diff a.to.x b.to.x) 10)
   where
-    by_axis : ((abs_diff a.x b.x < 10) ⊎ (10 ≤ abs_diff a.x b.x)) → is_close a b ≡ false
+    by_axis : ((abs_diff a.to.x b.to.x < 10) ⊎ (10 ≤ abs_diff a.to.x b.to.x)) → is_close a b ≡ false
     by_axis (inl near) = far_on_y a b (omega (arith, near_a.on_x, near_b.on_x, near_a.on_y, near_b.on_y))
     by_axis (inr wide) = far_on_x a b wide
 
 -- where a robot drives
-goes_to : (r : Robot) (m : Mover) (b : Body) → m ≡ mover r → b ≡ ahead r → (m.x ≡ b.track.x) × (m.y ≡ b.track.y)
+goes_to : (r : Robot) (m : Mover) (b : Body) → m ≡ mover r → b ≡ ahead r → (m.to.x ≡ b.track.x) × (m.to.y ≡ b.track.y)
 unfolding mover ahead track_of
 goes_to r m b p q = (
-  ap (λ (m : Mover). m.x) p ∙ sym (ap (λ (b : Body). b.track.x) q),
-  ap (λ (m : Mover). m.y) p ∙ sym (ap (λ (b : Body). b.track.y) q),
+  ap (λ (m : Mover). m.to.x) p ∙ sym (ap (λ (b : Body). b.track.x) q),
+  ap (λ (m : Mover). m.to.y) p ∙ sym (ap (λ (b : Body). b.track.y) q),
 )
 
 -- if all are far from each other, none touches another

@@ -1,15 +1,18 @@
 -- The bursts of an update, robot by robot, from the slots and from all shots.
-use Rattle.std.proofs.Common.{◌≡◌, ℕ, zero, suc, ◌+◌, ◌<◌, Bool, true, false, ◌==◌, cond, List, [], ◌∷◌, ◌++◌, length, map, filter, take, get_or, refl, sym, ap, ◌∙◌, append-nil, arith}
-use Rattle.std.specs.List.{flat_map, range_with_len}
+use Rattle.std.proofs.Common.{◌≡◌, ℕ, zero, suc, ◌+◌, ◌<◌, Bool, true, false, ◌==◌, cond, List, [], ◌∷◌, ◌++◌, length, map, filter, take, sum, get_or, refl, sym, ap, ◌∙◌, append-nil, arith}
+use Rattle.std.specs.List.{All, flat_map, range_with_len}
 use Rattle.std.proofs.lemmas.Grind.{flat_map-append}
 use Rattle.std.proofs.lemmas.List.{map-append, take_more}
 use Rattle.std.proofs.lemmas.List.Elements.{filter-append}
+use Rattle.std.proofs.lemmas.List.Sums.{sum_by-append}
+use Rattle.std.proofs.lemmas.Simd.{map-map}
 use Rattle.arena.specs.Field.{Shot}
-use Rattle.arena.specs.Shots.{due_at}
+use Rattle.arena.specs.Shots.{in_air, due_at, bursts}
+use Rattle.arena.specs.Due.{harm, HarmLikeShots}
 use Rattle.arena.specs.Ground.{Missile, shot_of}
 use Rattle.arena.specs.Standing.{HoldsShots}
 use Rattle.arena.specs.Outlook.{Burst, burst_of, burst_by, own_bursts}
-use Rattle.arena.proofs.SlotLaws.{inside_is}
+use Rattle.arena.proofs.SlotLaws.{inside_is, totals, totals_same, shares}
 
 -- those of a robot's missiles
 abbrev pub slot_bursts : ℕ → List (List Missile) → ℕ → List Burst
@@ -87,3 +90,37 @@ all_bursts update updates slots shots holds =
     flat_same (slot_bursts update slots) (own_bursts update updates shots) 0 (length slots)
     (λ i l. own_is update i (get_or slots i []) ∙
     ap (λ ss. map burst_of (due_at update ss)) (holds.in_air i (omega arith)))
+
+-- they do what all shots do
+flat_sum : (g : Burst → ℕ) (h : ℕ → List Burst) (a n : ℕ) →
+    sum (map g (flat_map h (range_with_len a n))) ≡ totals (λ k. sum (map g (h (a + k)))) n
+flat_sum g h a zero = refl
+flat_sum g h a (suc n) =
+    let parts : sum (map g (flat_map h (range_with_len a (suc n)))) ≡
+    sum (map g (h a)) + sum (map g (flat_map h (range_with_len (a + 1) n))) =
+    ap sum (map-append g (h a) (flat_map h (range_with_len (a + 1) n))) ∙
+    sum_by-append (λ (x : ℕ). x) (map g (h a)) (map g (flat_map h (range_with_len (a + 1) n))) in
+    let same : a ≡ a + 0 = omega arith in
+    let here = ap (λ (j : ℕ). sum (map g (h j))) same in
+    let rest = flat_sum g h (a + 1) n in
+    let on =
+    totals_same (λ k. sum (map g (h (a + 1 + k)))) (λ k. sum (map g (h (a + suc k)))) n
+    (λ k l. let next : a + 1 + k ≡ a + suc k = omega arith in ap (λ (j : ℕ). sum (map g (h j))) next) in
+    omega (arith, parts, here, rest, on)
+
+pub harm_like_shots : (updates update n : ℕ) (shots : List Shot) → update ≡ updates + 1 → All (λ s. s.owner < n) shots →
+    HarmLikeShots update shots (flat_map (own_bursts update updates shots) (range_with_len 0 n))
+unfolding own_bursts burst_of bursts harm
+harm_like_shots updates update n shots e owned x y =
+    let own = own_bursts update updates shots in
+    flat_sum (harm x y) own 0 n ∙
+    totals_same (λ k. sum (map (harm x y) (own (0 + k)))) (λ k. sum (bursts update (in_air updates k shots) x y)) n
+    (λ k l.
+    let same : 0 + k ≡ k = omega arith in ap (λ (j : ℕ). sum (map (harm x y) (own j))) same ∙
+    ap sum (map-map (harm x y) burst_of (due_at update (in_air updates k shots))))
+    ∙ shares updates update x y n shots e owned
+
+-- a list of the same bursts does the same
+pub same_harm : (update : ℕ) (shots : List Shot) (now due : List Burst) → now ≡ due → HarmLikeShots update shots due →
+    HarmLikeShots update shots now
+same_harm update shots now due e h x y = ap (λ bs. sum (map (harm x y) bs)) e ∙ h x y

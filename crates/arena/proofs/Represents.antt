@@ -81,8 +81,10 @@ shot_is : (g : Ground) (f : Field) (i degree range : ℕ) (missile : Missile) �
     missile ≡
     record {
       burst = g.updates + flight range;
-      x = aimed_x (place_x (robot_at f i).leg) degree range;
-      y = aimed_y (place_y (robot_at f i).leg) degree range;
+      at = record {
+        x = aimed_x (place_x (robot_at f i).leg) degree range;
+        y = aimed_y (place_y (robot_at f i).leg) degree range;
+      };
     } →
     shot_of i missile ≡ shot f.updates i (robot_at f i).leg degree range
 unfolding shot shot_of
@@ -99,8 +101,10 @@ pub fires : (g : Ground) (f : Field) (i degree range : ℕ) (slots : List (List 
     missile ≡
     record {
       burst = g.updates + flight range;
-      x = aimed_x (place_x (robot_at f i).leg) degree range;
-      y = aimed_y (place_y (robot_at f i).leg) degree range;
+      at = record {
+        x = aimed_x (place_x (robot_at f i).leg) degree range;
+        y = aimed_y (place_y (robot_at f i).leg) degree range;
+      };
     } →
     ((updates : ℕ) (shots : List Shot) → updates < missile.burst → HoldsShots updates g.slots shots →
     HoldsShots updates slots (shots ++ shot_of i missile ∷ [])) →

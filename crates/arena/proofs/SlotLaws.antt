@@ -12,7 +12,6 @@ use Rattle.arena.specs.Shots.{ring, in_air, due_at, bursts}
 use Rattle.arena.specs.Ground.{Missile, shot_of}
 use Rattle.arena.specs.Still.{NoneBefore}
 use Rattle.arena.specs.Standing.{HoldsShots}
-use Rattle.arena.specs.Due.{harm}
 
 pub sum-cons : (n : ℕ) (ns : List ℕ) → sum (n ∷ ns) ≡ n + sum ns
 sum-cons n ns = let e = sum_by-append (λ x. x) (n ∷ []) ns in omega arith
@@ -20,18 +19,6 @@ sum-cons n ns = let e = sum_by-append (λ x. x) (n ∷ []) ns in omega arith
 -- what the missiles of one robot take from a robot at a place
 abbrev pub hurt_by : ℕ → ℕ → ℕ → List Missile → ℕ
 hurt_by update x y missiles = sum (bursts update (map (shot_of 0) missiles) x y)
-
--- one missile more
-pub one_more : (owner update x y : ℕ) (ms : List Missile) (i : ℕ) (m : Missile) → i < length ms → m ≡ get_or ms i m →
-    sum (bursts update (map (shot_of owner) (take (i + 1) ms)) x y) ≡
-    sum (bursts update (map (shot_of owner) (take i ms)) x y) + sum (bursts update (shot_of owner m ∷ []) x y)
-unfolding bursts due_at
-one_more owner update x y ms i m h e =
-    let front = map (shot_of owner) (take i ms) in
-    let due = λ (s : Shot). s.burst == update in
-    let hurt = λ (s : Shot). ring (square x y s.x s.y) in
-    rw (take_more ms i m h, ← e, map-append, filter-append, map-append)
-    (sum_by-append (λ x. x) (map hurt (filter due front)) (map hurt (filter due (shot_of owner m ∷ []))))
 
 -- the shots of one robot, in its slots and among all shots
 ends_with : (updates owner : ℕ) (shots : List Shot) (s : Shot) → s.owner ≡ owner → updates < s.burst →
@@ -301,19 +288,6 @@ two_landed update slots landed size each two k d l =
     let most = two k [] inside in
     rw (inside_is landed k d [] l, each k inside) (omega arith)
 
--- a missile that bursts in another update takes nothing
-pub not_due : (owner update x y : ℕ) (m : Missile) → (m.burst ≡ update → ⊥) →
-    sum (bursts update (shot_of owner m ∷ []) x y) ≡ 0
-unfolding bursts due_at shot_of
-not_due owner update x y m h = rw (ne_eqb m.burst update h) refl
-
--- one robot more
-pub robot_more : (f : List Missile → ℕ) (slots : List (List Missile)) (i : ℕ) (ms : List Missile) → i < length slots →
-    ms ≡ get_or slots i ms → sum (map f (take (i + 1) slots)) ≡ sum (map f (take i slots)) + f ms
-robot_more f slots i ms h e =
-    rw (take_more slots i ms h, ← e, map-append)
-    (omega (arith, sum_by-append (λ x. x) (map f (take i slots)) (f ms ∷ [])))
-
 -- one missile more that still flies
 pub flies_more : (update : ℕ) (ms : List Missile) (i : ℕ) (m : Missile) → i < length ms → m ≡ get_or ms i m →
     nat_lt update m.burst ≡ true → filter (λ m. nat_lt update m.burst) (take i ms) ≡ take i ms →
@@ -421,40 +395,3 @@ before_none n update slots e = subst (λ (slots : List (List Missile)). NoneBefo
     at_none zero k d l = absurd (omega (arith, l))
     at_none (suc n) zero d l = refl
     at_none (suc n) (suc k) d l = at_none n k d (omega (arith, l))
-
--- what the missiles of one robot that burst do
-due_own : (update x y : ℕ) (ms : List Missile) →
-    map (λ s. ring (square x y s.x s.y)) (filter (λ s. s.burst == update) (map (shot_of 0) ms)) ≡
-    map (harm x y) (filter (λ m. m.burst == update) ms)
-unfolding harm shot_of
-due_own update x y [] = refl
-due_own update x y (m ∷ ms) = by_burst (m.burst == update) (due_own update x y ms)
-  where
-    by_burst : (b : Bool) →
-        map (λ s. ring (square x y s.x s.y)) (filter (λ s. s.burst == update) (map (shot_of 0) ms)) ≡
-        map (harm x y) (filter (λ m. m.burst == update) ms) →
-        map (λ (s : Shot). ring (square x y s.x s.y))
-        (cond b (shot_of 0 m ∷ filter (λ s. s.burst == update) (map (shot_of 0) ms))
-        (filter (λ s. s.burst == update) (map (shot_of 0) ms))) ≡
-        map (harm x y) (cond b (m ∷ filter (λ m. m.burst == update) ms) (filter (λ m. m.burst == update) ms))
-    by_burst true e = ap (λ l. ring (square x y m.x m.y) ∷ l) e
-    by_burst false e = e
-
-own_hurts : (update x y : ℕ) (ms : List Missile) →
-    sum (map (harm x y) (filter (λ m. m.burst == update) ms)) ≡ hurt_by update x y ms
-unfolding bursts due_at
-own_hurts update x y ms = ap sum (sym (due_own update x y ms))
-
--- one robot's missiles more
-pub due_more : (update x y : ℕ) (slots : List (List Missile)) (i : ℕ) (ms due more : List Missile) → i < length slots →
-    ms ≡ get_or slots i ms → sum (map (harm x y) due) ≡ sum (map (hurt_by update x y) (take i slots)) →
-    more ≡ due ++ filter (λ m. m.burst == update) ms →
-    sum (map (harm x y) more) ≡ sum (map (hurt_by update x y) (take (i + 1) slots))
-due_more update x y slots i ms due more inside at before m =
-    let own = filter (λ m. m.burst == update) ms in
-    let parts : sum (map (harm x y) (due ++ own)) ≡ sum (map (harm x y) due) + sum (map (harm x y) own) =
-    ap sum (map-append (harm x y) due own) ∙ sum_by-append (λ x. x) (map (harm x y) due) (map (harm x y) own) in
-    let one = robot_more (hurt_by update x y) slots i ms inside at in
-    let mine = own_hurts update x y ms in
-    let whole = ap (λ l. sum (map (harm x y) l)) m in
-    omega arith

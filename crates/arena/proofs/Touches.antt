@@ -42,9 +42,10 @@ touches_none movers i before after =
 close_both : (a b : Mover) → is_close a b ≡ is_close b a
 unfolding is_close
 close_both a b =
-    let x : abs_diff a.x b.x ≡ abs_diff b.x a.x = omega arith in
-    let y : abs_diff a.y b.y ≡ abs_diff b.y a.y = omega arith in
-    ap (λ n. nat_lt n 10 && nat_lt (abs_diff a.y b.y) 10) x ∙ ap (λ n. nat_lt (abs_diff b.x a.x) 10 && nat_lt n 10) y
+    let x : abs_diff a.to.x b.to.x ≡ abs_diff b.to.x a.to.x = omega arith in
+    let y : abs_diff a.to.y b.to.y ≡ abs_diff b.to.y a.to.y = omega arith in
+    ap (λ n. nat_lt n 10 && nat_lt (abs_diff a.to.y b.to.y) 10) x ∙
+    ap (λ n. nat_lt (abs_diff b.to.x a.to.x) 10 && nat_lt n 10) y
 
 blocked : (a b c d : Bool) → (a && b && false && c && d) ≡ false
 blocked false b c d = refl

@@ -1,6 +1,7 @@
 -- Which robots collide in an update. Every pair is judged by where both were and where both would be next.
 use Rattle.std.specs.Prelude.{ℕ, ◌+◌, ◌*◌, Bool, not, ◌&&◌, ◌||◌, ◌==◌, nat_lt, nat_le, if◌then◌else◌, List, ◌++◌, take, drop, count_by, slice_index_or}
 use Rattle.std.specs.Int.{abs_diff}
+pub use Rattle.arena.specs.declared.collisions.Mover.{Mover}
 use Rattle.arena.specs.Leg.{Leg, place_x, place_y, driven}
 use Rattle.arena.specs.Field.{Robot, is_alive, no_robot}
 
@@ -9,24 +10,15 @@ unfoldable pub candidate : Robot → Leg
 candidate robot = if is_alive robot then driven robot.leg else robot.leg
 
 -- a robot's place before the update, and its candidate for the place after it
-pub record Mover : Type 0 where
-  pub live : Bool
-  pub from_x : ℕ
-  pub from_y : ℕ
-  pub x : ℕ
-  pub y : ℕ
-
 unfoldable pub mover : Robot → Mover
 mover robot = record {
   live = is_alive robot;
-  from_x = place_x robot.leg;
-  from_y = place_y robot.leg;
-  x = place_x (candidate robot);
-  y = place_y (candidate robot);
+  from = record { x = place_x robot.leg; y = place_y robot.leg };
+  to = record { x = place_x (candidate robot); y = place_y (candidate robot) };
 }
 
 unfoldable pub moves : Mover → Bool
-moves m = not (m.x == m.from_x) || not (m.y == m.from_y)
+moves m = not (m.to.x == m.from.x) || not (m.to.y == m.from.y)
 
 -- the squared distance of two points
 unfoldable pub square : ℕ → ℕ → ℕ → ℕ → ℕ
@@ -34,11 +26,12 @@ square x y to_x to_y = abs_diff x to_x * abs_diff x to_x + abs_diff y to_y * abs
 
 -- the candidates are less than a metre apart on both axes
 unfoldable pub is_close : Mover → Mover → Bool
-is_close a b = nat_lt (abs_diff a.x b.x) 10 && nat_lt (abs_diff a.y b.y) 10
+is_close a b = nat_lt (abs_diff a.to.x b.to.x) 10 && nat_lt (abs_diff a.to.y b.to.y) 10
 
 -- the two don't come further apart
 unfoldable pub is_no_further : Mover → Mover → Bool
-is_no_further a b = nat_le (square a.x a.y b.x b.y) (square a.from_x a.from_y b.from_x b.from_y)
+is_no_further a b =
+    nat_le (square a.to.x a.to.y b.to.x b.to.y) (square a.from.x a.from.y b.from.x b.from.y)
 
 unfoldable pub collides : Mover → Mover → Bool
 collides a b = a.live && b.live && is_close a b && (moves a || moves b) && is_no_further a b

@@ -1,6 +1,7 @@
 -- What an arena keeps of a field: sums of each way, one number of damage for each robot, and the missiles in the air.
 use Rattle.std.specs.Prelude.{ℕ, ◌==◌, ◌&&◌, Bool, List, nat_lt, ℤ, slice_index_or}
 use Rattle.rand_pcg.specs.Lcg.{Lcg}
+pub use Rattle.arena.specs.declared.slots.Missile.{Missile}
 use Rattle.arena.specs.Leg.{Leg, place_x, place_y}
 use Rattle.arena.specs.Sums.{sum_east, sum_north, step_east, step_north}
 use Rattle.arena.specs.Field.{Shot, Robot, damage_of, no_robot}
@@ -46,14 +47,9 @@ pub record Body : Type 0 where
 unfoldable pub body_of : Robot → Body
 body_of robot = record { track = track_of robot.leg; damage = damage_of robot }
 
--- of a shot in the air
-pub record Missile : Type 0 where
-  pub burst : ℕ
-  pub x : ℕ
-  pub y : ℕ
-
+-- a shot in the air
 unfoldable pub shot_of : ℕ → Missile → Shot
-shot_of owner missile = record { owner = owner; burst = missile.burst; x = missile.x; y = missile.y }
+shot_of owner missile = record { owner = owner; burst = missile.burst; x = missile.at.x; y = missile.at.y }
 
 -- an arena counts so many updates at most: those of 1,000,000,000 cycles
 abbrev pub most_updates : ℕ

@@ -1,3 +1,4 @@
+pub mod Point
 pub mod Leg
 pub mod Field
 pub mod Collisions

@@ -1,6 +1,7 @@
 -- What the next update will do: which bursts come, who meets a wall or another robot, and what each takes.
 use Rattle.std.specs.Prelude.{◌≡◌, ℕ, ◌+◌, ◌*◌, ◌<◌, min, Bool, not, ◌&&◌, ◌==◌, if◌then◌else◌, List, length, map, flat_map, sum, count_by}
 use Rattle.std.specs.List.{range_with_len}
+pub use Rattle.arena.specs.declared.bursts.Burst.{Burst}
 use Rattle.arena.specs.Leg.{Leg, place_x, place_y, tried, hits_wall}
 use Rattle.arena.specs.Field.{Shot, Field, damage_of, robot_at, is_live}
 use Rattle.arena.specs.Collisions.{mover, collides, square, touches}
@@ -8,14 +9,9 @@ use Rattle.arena.specs.Shots.{ring, in_air, due_at}
 use Rattle.arena.specs.Moved.{leg_after, moved}
 use Rattle.arena.specs.Ground.{Missile, shot_of}
 
--- a burst: the robot that fired it, and its place
-pub record Burst : Type 0 where
-  pub robot : ℕ
-  pub x : ℕ
-  pub y : ℕ
-
+-- the burst of a shot
 unfoldable pub burst_of : Shot → Burst
-burst_of shot = record { robot = shot.owner; x = shot.x; y = shot.y }
+burst_of shot = record { robot = shot.owner; at = record { x = shot.x; y = shot.y } }
 
 -- that of a missile
 unfoldable pub burst_by : ℕ → Missile → Burst
@@ -46,7 +42,7 @@ next_leg field i = leg_after (robot_at field i).leg (touches (map mover field.ro
 unfoldable pub taken_by : Field → ℕ → Burst → ℕ
 taken_by field i burst =
     if is_live field i then
-    ring (square (place_x (next_leg field i)) (place_y (next_leg field i)) burst.x burst.y)
+    ring (square (place_x (next_leg field i)) (place_y (next_leg field i)) burst.at.x burst.at.y)
     else 0
 
 -- all that the update takes from a robot

@@ -91,7 +91,7 @@ impl Arc {
     pub fn holds(&self, way: &Way) -> bool
         ensures { result ≡ leads_into way.now.east way.now.north self.now.degree self.now.resolution }
     {
-        self.is_deep(way) || lies_within(way, self.degree, self.resolution)
+        self.is_deep(way) || lies_within(*way, self.degree, self.resolution)
     }
 
     /// Reports whether a way leads deep into the arc: it reaches forward by 35 metres in both directions, or more.
@@ -105,10 +105,10 @@ impl Arc {
 /// Reports whether a way leads into an arc around a degree, or nowhere. This is asked only of a way near the arc's
 /// border: it stays out of the way of the rough tests.
 #[inline(never)]
-fn lies_within(way: &Way, degree: u16, resolution: u16) -> bool
+fn lies_within(way: Way, degree: u16, resolution: u16) -> bool
     requires degree { degree < 360 }
     requires resolution { resolution ≤ 10 }
-    ensures { result ≡ leads_into way.now.east way.now.north degree resolution }
+    ensures { result ≡ leads_into way.east way.north degree resolution }
 {
     way.is_none() || bears_within(way.east, way.north, degree, resolution)
 }

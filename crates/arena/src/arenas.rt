@@ -1,16 +1,14 @@
 //! The arena: a field in play, what it answers to robots, and its updates.
 
-ghost use Rattle.std.specs.Prelude.{◌≡◌, ℕ, ◌+◌, ◌<◌, ◌≤◌, true, nat_lt, ℤ, pos, [], ◌∷◌, All, count_by, length, slice_index_or};
-ghost use Rattle.grammar.specs.declared.names.Intrinsic.TheVariants.{Scan, Cannon, Drive, Damage, Speed, LocX, LocY, Rand, Sqrt, Sin, Cos, Tan, Atan};
-ghost use Rattle.arith.specs.Degree.{degree_of};
+ghost use Rattle.std.specs.Prelude.{◌≡◌, ℕ, ◌+◌, ◌<◌, ◌≤◌, true, nat_lt, [], ◌∷◌, All, count_by, length, slice_index_or};
+ghost use Rattle.grammar.specs.declared.names.Intrinsic.TheVariants.{Scan, Cannon, Drive, Rand};
 ghost use Rattle.arena.specs.Leg.{last_place, clamped, place_x, place_y};
 ghost use Rattle.arena.specs.Field.{Field, no_robot, damage_of, robot_at, is_live, live_count};
 ghost use Rattle.arena.specs.Moved.{moved};
 ghost use Rattle.arena.specs.Still.{IsStill, moved_times};
-ghost use Rattle.arena.specs.Scan.{scanned};
 ghost use Rattle.arena.specs.Start.{start};
 ghost use Rattle.arena.specs.Placed.{placed, IsPlace};
-ghost use Rattle.arena.specs.Answer.{answer, fired, directed, random_number};
+ghost use Rattle.arena.specs.Answer.{answer};
 ghost use Rattle.arena.specs.Ground.{most_updates, Body, body_of, lives};
 ghost use Rattle.arena.specs.Standing.{StandsFor};
 
@@ -130,8 +128,8 @@ impl Arena {
             Intrinsic::Drive => self.drive(robot, first, second),
             Intrinsic::Damage => i32::from(self.robot(robot).damage()),
             Intrinsic::Speed => i32::from(self.robot(robot).speed()),
-            Intrinsic::LocX => i32::from(self.robot(robot).x() / 10),
-            Intrinsic::LocY => i32::from(self.robot(robot).y() / 10),
+            Intrinsic::LocX => i32::from(self.robot(robot).metres_x()),
+            Intrinsic::LocY => i32::from(self.robot(robot).metres_y()),
             Intrinsic::Rand => self.draw(first),
             Intrinsic::Sqrt => root(first),
             Intrinsic::Sin => sin(first),
@@ -177,8 +175,8 @@ impl Arena {
             return 0;
         }
         let range = clamped(range, MOST_RANGE);
-        let (x, y) = self.place(robot);
-        let missile = Missile::new(self.updates, x, y, norm_degree(degree), range);
+        let from = self.robot(robot).place();
+        let missile = Missile::new(self.updates, from, norm_degree(degree), range);
         self.is_still = false;
         self.missiles.fire(robot, missile);
         1
@@ -286,8 +284,8 @@ impl Arena {
         ensures most_x { result.0 ≤ last_place }
         ensures most_y { result.1 ≤ last_place }
     {
-        let robot = self.robot(robot);
-        (robot.x(), robot.y())
+        let place = self.robot(robot).place();
+        (place.x(), place.y())
     }
 
     /// Returns how many robots live.

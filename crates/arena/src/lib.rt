@@ -14,6 +14,7 @@ mod missiles;
 mod motion;
 mod outlook;
 mod places;
+mod points;
 mod random;
 mod robots;
 mod scans;

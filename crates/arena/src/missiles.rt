@@ -1,21 +1,19 @@
 //! The missiles of all robots that are in the air, and the update before which none of them bursts.
 
-ghost use Rattle.std.specs.Prelude.{◌≡◌, ℕ, ◌+◌, ◌-◌, ◌^◌, ◌<◌, ◌≤◌, ◌++◌, ◌∷◌, [], List, All, map, flat_map, sum, true, false, nat_lt, length, slice_index_or};
+ghost use Rattle.std.specs.Prelude.{◌≡◌, ℕ, ◌+◌, ◌-◌, ◌^◌, ◌<◌, ◌≤◌, ◌++◌, ◌∷◌, [], List, All, flat_map, sum, true, false, nat_lt, length, slice_index_or};
 ghost use Rattle.std.specs.List.{range_with_len};
-ghost use Rattle.arena.specs.Leg.{last_place};
 ghost use Rattle.arena.specs.Field.{Shot};
 ghost use Rattle.arena.specs.Shots.{bursts, in_air};
 ghost use Rattle.arena.specs.Ground.{shot_of};
 ghost use Rattle.arena.specs.Standing.{HoldsShots};
-ghost use Rattle.arena.specs.Due.{harm};
+ghost use Rattle.arena.specs.Due.{HarmLikeShots};
 ghost use Rattle.arena.specs.Still.{NoneBefore};
 ghost use Rattle.arena.specs.Outlook.{own_bursts};
 
 use crate::bursts::Burst;
 use crate::limits::{MOST_BURSTS, MOST_ROBOTS};
 use crate::slots::{
-    Missile, Slots, bursts, damage_at, due, fire, land, may_fire, next_burst, no_missiles,
-    none_flies,
+    Missile, Slots, bursts, fire, land, may_fire, next_burst, no_missiles, none_flies,
 };
 use arrayvec::ArrayVec;
 use std::marker::Model;
@@ -99,32 +97,12 @@ impl Missiles {
         update < self.next
     }
 
-    /// Returns the damage in percent that the bursts of an update do at a place in tenths of a metre.
-    pub fn damage_at(&self, update: u32, x: u16, y: u16) -> u8
-        requires x { x ≤ last_place }
-        requires y { y ≤ last_place }
-        ensures most { result ≤ 80 }
-        ensures shots { (updates : ℕ) (shots : List Shot) → update ≡ updates + 1 → HoldsShots updates self.now shots
-            → result ≡ sum (bursts update shots x y) }
-    {
-        if self.is_quiet(update) {
-            return 0;
-        }
-        damage_at(self.slots.as_slice(), update, x, y)
-    }
-
-    /// Returns the missiles that burst in an update.
-    pub fn due(&self, update: u32) -> ArrayVec<Missile, MOST_BURSTS>
-        ensures shots { (updates : ℕ) (shots : List Shot) (x y : ℕ) → update ≡ updates + 1
-            → HoldsShots updates self.now shots → sum (map (harm x y) result.items) ≡ sum (bursts update shots x y) }
-    {
-        due(self.slots.as_slice(), update)
-    }
-
     /// Returns the bursts of an update, robot by robot.
     pub fn bursts(&self, update: u32) -> ArrayVec<Burst, MOST_BURSTS>
-        ensures { (updates : ℕ) (shots : List Shot) → HoldsShots updates self.now shots
+        ensures bursts { (updates : ℕ) (shots : List Shot) → HoldsShots updates self.now shots
             → result.items ≡ flat_map (own_bursts update updates shots) (range_with_len 0 (length self.now)) }
+        ensures harm { (updates : ℕ) (shots : List Shot) → update ≡ updates + 1 → HoldsShots updates self.now shots
+            → HarmLikeShots update shots result.items }
     {
         bursts(self.slots.as_slice(), update)
     }

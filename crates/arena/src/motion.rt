@@ -2,7 +2,7 @@
 
 ghost use Rattle.std.specs.Prelude.{◌≡◌, true, ◌<◌, ◌≤◌, ◌/◌, pos, ◌*ℤ◌, unsigned_abs};
 ghost use Rattle.arith.specs.Circle.{sine_at, cosine_at};
-ghost use Rattle.arena.specs.Leg.{Leg, last_place, place_x, place_y, approached, leg_anew, steered, sped, grown, walled, hits_wall, tried, driven};
+ghost use Rattle.arena.specs.Leg.{Leg, place_x, place_y, approached, leg_anew, steered, sped, grown, walled, hits_wall, tried, driven};
 ghost use Rattle.arena.specs.Sums.{sum_from, place_of, place_near, IsInField};
 ghost use Rattle.arena.specs.Start.{standing};
 ghost use Rattle.arena.specs.Moved.{put_back};
@@ -12,6 +12,7 @@ ghost use Rattle.arena.specs.Still.{Rests, OnlyTurns};
 ghost use Rattle.arena.specs.Calm.{IsNearby, IsAtPlace, gap, sum_gap};
 
 use crate::axes::{leaves, metres_of, place_near, place_of, step, sum_at};
+use crate::points::Point;
 use arith::{cosine_at, sine_at};
 use std::marker::Model;
 
@@ -77,16 +78,14 @@ impl Model for Motion {
 
 impl Default for Motion {
     fn default() -> Motion {
-        Motion::standing(0, 0)
+        Motion::standing(Point::default())
     }
 }
 
 impl Motion {
-    /// Makes the motion of a robot that stands at a place in tenths of a metre, at rest.
-    pub fn standing(x: u16, y: u16) -> Motion
-        requires x { x ≤ last_place }
-        requires y { y ≤ last_place }
-        ensures { result ≡ track_of (standing x y).leg }
+    /// Makes the motion of a robot that stands at a place, at rest.
+    pub fn standing(place: Point) -> Motion
+        ensures { result ≡ track_of (standing place.x place.y).leg }
     {
         let still = Motion {
             east: 0,
@@ -99,23 +98,14 @@ impl Motion {
             wanted_speed: 0,
             steady: true,
         };
-        still.on_new_leg(x, y)
+        still.on_new_leg(place)
     }
 
-    /// Returns the place on the axis to the east, in tenths of a metre.
-    pub fn x(&self) -> u16
-        ensures value { result ≡ self.now.x }
-        ensures most { result ≤ last_place }
+    /// Returns the place.
+    pub fn place(&self) -> Point
+        ensures { result ≡ record { x = self.now.x; y = self.now.y } }
     {
-        place_of(self.east)
-    }
-
-    /// Returns the place on the axis to the north, in tenths of a metre.
-    pub fn y(&self) -> u16
-        ensures value { result ≡ self.now.y }
-        ensures most { result ≤ last_place }
-    {
-        place_of(self.north)
+        Point::new(place_of(self.east), place_of(self.north))
     }
 
     /// Returns the place on the axis to the east, in whole metres rounded down.
@@ -196,14 +186,12 @@ impl Motion {
     }
 
     /// Begins a new leg at a place, with its heading and speed.
-    fn on_new_leg(self, x: u16, y: u16) -> Motion
-        requires x { x ≤ last_place }
-        requires y { y ≤ last_place }
+    fn on_new_leg(self, from: Point) -> Motion
         ensures { result ≡ record self {
-          east = sum_from x (cosine_at self.heading) (pos 0);
-          north = sum_from y (sine_at self.heading) (pos 0);
-          x = x;
-          y = y;
+          east = sum_from from.x (cosine_at self.heading) (pos 0);
+          north = sum_from from.y (sine_at self.heading) (pos 0);
+          x = from.x;
+          y = from.y;
           step_east = pos self.speed *ℤ cosine_at self.heading;
           step_north = pos self.speed *ℤ sine_at self.heading;
           steady = is_steady self.heading self.wanted_heading self.speed self.wanted_speed;
@@ -212,8 +200,8 @@ impl Motion {
         let cosine = cosine_at(self.heading);
         let sine = sine_at(self.heading);
         let begun = Motion {
-            east: sum_at(x, cosine),
-            north: sum_at(y, sine),
+            east: sum_at(from.x(), cosine),
+            north: sum_at(from.y(), sine),
             step_east: step(self.speed, cosine),
             step_north: step(self.speed, sine),
             ..self
@@ -231,7 +219,7 @@ impl Motion {
             heading: self.wanted_heading,
             ..self
         };
-        turned.on_new_leg(self.x(), self.y())
+        turned.on_new_leg(self.place())
     }
 
     /// Turns at a low speed, and brakes for the turn at a high one.
@@ -291,24 +279,22 @@ impl Motion {
     }
 
     /// Stops at a place, which is the origin of a new leg with the same heading.
-    fn stopped_at(self, x: u16, y: u16) -> Motion
-        requires x { x ≤ last_place }
-        requires y { y ≤ last_place }
+    fn stopped_at(self, place: Point) -> Motion
         ensures leg { (leg : Leg) → self ≡ track_of leg → result ≡ track_of (record leg {
-          origin_x = x;
-          origin_y = y;
+          origin_x = place.x;
+          origin_y = place.y;
           distance = 0;
           speed = 0;
           wanted_speed = 0;
         }) }
-        ensures place { (result.x ≡ x) × (result.y ≡ y) }
+        ensures place { (result.x ≡ place.x) × (result.y ≡ place.y) }
     {
         let still = Motion {
             speed: 0,
             wanted_speed: 0,
             ..self
         };
-        still.on_new_leg(x, y)
+        still.on_new_leg(place)
     }
 
     /// Stops at the place of the field that is nearest to where these sums lead. This is rare, as adjusting is.
@@ -323,7 +309,7 @@ impl Motion {
         }) }
         ensures place { (self.new.x ≡ place_near east) × (self.new.y ≡ place_near north) }
     {
-        *self = self.stopped_at(place_near(east), place_near(north));
+        *self = self.stopped_at(Point::new(place_near(east), place_near(north)));
     }
 
     /// Drives on for an update at the present speed, up to a wall, and reports whether one stopped it.
@@ -361,13 +347,11 @@ impl Motion {
 
     /// Stops at the place where it was before the update.
     #[tactic(auto, unfolding(crate::specs::Moved::put_back))]
-    pub fn put_back(self, x: u16, y: u16) -> Motion
-        requires x { x ≤ last_place }
-        requires y { y ≤ last_place }
-        ensures { (old leg : Leg) → x ≡ place_x old → y ≡ place_y old → self ≡ track_of leg
+    pub fn put_back(self, place: Point) -> Motion
+        ensures { (old leg : Leg) → place.x ≡ place_x old → place.y ≡ place_y old → self ≡ track_of leg
             → result ≡ track_of (put_back old leg) }
     {
-        self.stopped_at(x, y)
+        self.stopped_at(place)
     }
 }
 

@@ -1,8 +1,8 @@
 //! What the next update will do, asked before it is done: it changes nothing.
 
-ghost use Rattle.std.specs.Prelude.{◌≡◌, ℕ, ◌<◌, ◌≤◌, true, List, map, length};
-ghost use Rattle.arena.specs.Leg.{last_place, place_x, place_y};
-ghost use Rattle.arena.specs.Field.{Robot as FieldRobot, Field, robot_at, is_live};
+ghost use Rattle.std.specs.Prelude.{◌≡◌, ◌<◌, ◌≤◌, true, List, map, length};
+ghost use Rattle.arena.specs.Leg.{place_x, place_y};
+ghost use Rattle.arena.specs.Field.{Robot as FieldRobot, Field, robot_at};
 ghost use Rattle.arena.specs.Collisions.{mover, touches};
 ghost use Rattle.arena.specs.Ground.{body_of, lives};
 ghost use Rattle.arena.specs.Standing.{StandsFor};
@@ -12,6 +12,7 @@ use crate::arenas::Arena;
 use crate::bursts::Burst;
 use crate::collisions::{Mover, touches};
 use crate::limits::{MOST_BURSTS, MOST_ROBOTS};
+use crate::points::Point;
 use crate::robots::Robot;
 use arrayvec::ArrayVec;
 
@@ -78,24 +79,21 @@ impl Arena {
         if !self.alive(robot) {
             return 0;
         }
-        let (x, y) = self.next_place(robot);
-        burst.harm(x, y)
+        burst.harm(self.next_place(robot))
     }
 
-    /// Returns where a live robot is after the next update, east and north, in tenths of a metre.
-    fn next_place(&self, robot: usize) -> (u16, u16)
+    /// Returns where a live robot is after the next update.
+    fn next_place(&self, robot: usize) -> Point
         requires inside { robot < length self.now.robots }
         requires live { lives self.now robot ≡ true }
-        ensures x { (f : Field) → StandsFor self.now f → result.0 ≡ place_x (next_leg f robot) }
-        ensures y { (f : Field) → StandsFor self.now f → result.1 ≡ place_y (next_leg f robot) }
-        ensures most_x { result.0 ≤ last_place }
-        ensures most_y { result.1 ≤ last_place }
+        ensures x { (f : Field) → StandsFor self.now f → result.x ≡ place_x (next_leg f robot) }
+        ensures y { (f : Field) → StandsFor self.now f → result.y ≡ place_y (next_leg f robot) }
     {
         let movers = movers(self.robots());
         let mut ahead = *self.robot(robot);
         let seen = ahead.drive_on();
         let motion = ahead.motion_after(&seen, touches(movers.as_slice(), robot));
-        (motion.x(), motion.y())
+        motion.place()
     }
 }
 

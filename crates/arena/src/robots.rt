@@ -1,7 +1,7 @@
 //! Robots: how they move and how much they were hurt.
 
 ghost use Rattle.std.specs.Prelude.{◌≡◌, ◌+◌, ◌*◌, ◌/◌, ◌<◌, ◌≤◌, ◌&&◌, true, min, nat_lt};
-ghost use Rattle.arena.specs.Leg.{last_place, tried, hits_wall};
+ghost use Rattle.arena.specs.Leg.{tried, hits_wall};
 ghost use Rattle.arena.specs.Field.{Robot as FieldRobot, is_alive, metres_x, metres_y};
 ghost use Rattle.arena.specs.Collisions.{mover};
 ghost use Rattle.arena.specs.Start.{standing};
@@ -15,6 +15,7 @@ ghost use Rattle.arena.specs.Still.{Stays};
 use crate::collisions::Mover;
 use crate::limits::DEADLY;
 use crate::motion::Motion;
+use crate::points::Point;
 use std::marker::Model;
 
 /// What a wall takes, and each robot that one collides with.
@@ -44,20 +45,18 @@ impl Model for Robot {
 
 impl Default for Robot {
     fn default() -> Robot {
-        Robot::standing(0, 0)
+        Robot::standing(Point::default())
     }
 }
 
 impl Robot {
-    /// Makes a robot that stands at a place in tenths of a metre, at rest and unhurt.
+    /// Makes a robot that stands at a place, at rest and unhurt.
     #[tactic(auto, unfolding(crate::specs::Ground::body_of, crate::specs::Field::damage_of, crate::specs::Start::standing))]
-    pub fn standing(x: u16, y: u16) -> Robot
-        requires x { x ≤ last_place }
-        requires y { y ≤ last_place }
-        ensures { result ≡ body_of (standing x y) }
+    pub fn standing(place: Point) -> Robot
+        ensures { result ≡ body_of (standing place.x place.y) }
     {
         Robot {
-            motion: Motion::standing(x, y),
+            motion: Motion::standing(place),
             damage: 0,
         }
     }
@@ -152,10 +151,13 @@ impl Robot {
         ensures mover { (robot : FieldRobot) → self.old ≡ body_of robot → result ≡ mover robot }
     {
         let live = self.is_alive();
-        let from_x = self.x();
-        let from_y = self.y();
+        let from = self.place();
         self.drive();
-        Mover::new(live, from_x, from_y, self.x(), self.y())
+        Mover {
+            live,
+            from,
+            to: self.place(),
+        }
     }
 
     /// Returns what collisions of the next update have to know.
@@ -198,7 +200,7 @@ impl Robot {
             → is_alive robot ≡ true → result ≡ track_of (leg_after robot.leg touched) }
     {
         if touched > 0 {
-            return self.motion.put_back(seen.from_x(), seen.from_y());
+            return self.motion.put_back(seen.from);
         }
         self.motion
     }
@@ -211,20 +213,11 @@ impl Robot {
         Robot { motion, damage }
     }
 
-    /// Returns the place on the axis to the east, in tenths of a metre.
-    pub fn x(&self) -> u16
-        ensures value { result ≡ self.now.track.x }
-        ensures most { result ≤ last_place }
+    /// Returns the place.
+    pub fn place(&self) -> Point
+        ensures { result ≡ record { x = self.now.track.x; y = self.now.track.y } }
     {
-        self.motion.x()
-    }
-
-    /// Returns the place on the axis to the north, in tenths of a metre.
-    pub fn y(&self) -> u16
-        ensures value { result ≡ self.now.track.y }
-        ensures most { result ≤ last_place }
-    {
-        self.motion.y()
+        self.motion.place()
     }
 }
 

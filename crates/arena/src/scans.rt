@@ -1,6 +1,6 @@
 //! What a scan sees.
 
-ghost use Rattle.std.specs.Prelude.{◌≡◌, ℕ, ◌+◌, ◌*◌, ◌<◌, ◌≤◌, true, false, if◌then◌else◌, map, filter, fold, length, pos, unsigned_abs};
+ghost use Rattle.std.specs.Prelude.{◌≡◌, ◌+◌, ◌*◌, ◌<◌, ◌≤◌, true, false, if◌then◌else◌, map, filter, fold, length, pos, unsigned_abs};
 ghost use Rattle.arith.specs.Root.{root_of};
 ghost use Rattle.arena.specs.Field.{Robot as FieldRobot, Field, robot_at};
 ghost use Rattle.arena.specs.Collisions.{others};

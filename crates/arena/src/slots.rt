@@ -1,21 +1,20 @@
 //! Missiles: where and when they burst, and which of each robot's are in the air.
 
-ghost use Rattle.std.specs.Prelude.{◌≡◌, ℕ, ◌+◌, ◌*◌, ◌<◌, ◌≤◌, ◌++◌, ◌∷◌, [], ◌==◌, ℤ, pos, ◌*ℤ◌, unsigned_abs, List, All, filter, map, flat_map, sum, true, false, nat_lt, length, slice_index_or};
+ghost use Rattle.std.specs.Prelude.{◌≡◌, ℕ, ◌+◌, ◌*◌, ◌<◌, ◌≤◌, ◌++◌, ◌∷◌, [], ◌==◌, ℤ, pos, ◌*ℤ◌, unsigned_abs, List, All, filter, map, flat_map, true, false, nat_lt, length, slice_index_or};
 ghost use Rattle.std.specs.List.{range_with_len};
-ghost use Rattle.std.specs.Int.{abs_diff};
 ghost use Rattle.arena.specs.Leg.{last_place, clamped, along};
 ghost use Rattle.arena.specs.Field.{Shot};
-ghost use Rattle.arena.specs.Shots.{aimed_x, aimed_y, bursts, flight, in_air, ring};
+ghost use Rattle.arena.specs.Shots.{aimed_x, aimed_y, flight, in_air};
 ghost use Rattle.arena.specs.Ground.{most_updates, shot_of};
 ghost use Rattle.arena.specs.Still.{NoneBefore};
-ghost use Rattle.arena.specs.Due.{harm};
+ghost use Rattle.arena.specs.Due.{HarmLikeShots};
 ghost use Rattle.arena.specs.Outlook.{burst_by, own_bursts};
 ghost use Rattle.arena.specs.Standing.{HoldsShots};
 
 use crate::bursts::Burst;
-use crate::collisions::square;
 use crate::limits::{MOST_BURSTS, MOST_MISSILES, MOST_ROBOTS};
 use crate::places::{along, clamped};
+use crate::points::Point;
 use arith::{cosine_at, sine_at};
 use arrayvec::ArrayVec;
 use std::marker::Model;
@@ -23,52 +22,32 @@ use std::marker::Model;
 /// How far a missile flies in an update, in metres.
 const FLIGHT: u16 = 50;
 
-/// The radius of the widest ring of a burst, in tenths of a metre.
-const LAST_RING: i32 = 400;
-
-/// A missile in the air: the update in which it bursts, and the place of the burst in tenths of a
-/// metre.
+/// A missile in the air: the update in which it bursts, and the place of the burst.
 #[derive(Clone, Copy, Default, Drop)]
 pub struct Missile {
     burst: u32,
-    x: u16,
-    y: u16,
-}
-
-impl Model for Missile {
-    ghost use Rattle.std.specs.Prelude.{◌≤◌};
-    ghost use Rattle.arena.specs.Leg.{last_place};
-    ghost use Rattle.arena.specs.Ground.{Missile};
-
-    ghost Value = { Missile };
-
-    ghost view = { λ m. record { burst = m.burst; x = m.x; y = m.y } };
-
-    ghost inverse = { λ m. record { burst = m.burst; x = m.x; y = m.y } };
-
-    ghost invariant = { λ m. (m.x ≤ last_place) × (m.y ≤ last_place) };
+    at: Point,
 }
 
 impl Missile {
-    /// Makes a missile that is fired after so many updates from a place in tenths of a metre, in the direction of a
-    /// degree and at a range in metres.
+    /// Makes a missile that is fired after so many updates from a place, in the direction of a degree and at a range in
+    /// metres.
     #[tactic(auto, unfolding(crate::specs::Shots::aimed_x, crate::specs::Shots::aimed_y))]
-    pub fn new(updates: u32, x: u16, y: u16, degree: u16, range: u16) -> Missile
+    pub fn new(updates: u32, from: Point, degree: u16, range: u16) -> Missile
         requires updates { updates ≤ most_updates }
-        requires x { x ≤ last_place }
-        requires y { y ≤ last_place }
         requires degree { degree < 360 }
         requires range { range ≤ 700 }
         ensures { result ≡ record {
           burst = updates + flight range;
-          x = aimed_x x degree range;
-          y = aimed_y y degree range;
+          at = record { x = aimed_x from.x degree range; y = aimed_y from.y degree range };
         } }
     {
         Missile {
             burst: updates + flight(range),
-            x: aimed(x, range, cosine_at(degree)),
-            y: aimed(y, range, sine_at(degree)),
+            at: Point::new(
+                aimed(from.x(), range, cosine_at(degree)),
+                aimed(from.y(), range, sine_at(degree)),
+            ),
         }
     }
 
@@ -85,49 +64,6 @@ impl Missile {
     {
         update < self.burst
     }
-
-    /// Returns the damage in percent that the missile does at a place when it bursts.
-    #[tactic(auto, unfolding(crate::specs::Due::harm))]
-    fn harm(&self, x: u16, y: u16) -> u8
-        requires x { x ≤ last_place }
-        requires y { y ≤ last_place }
-        ensures value { result ≡ harm x y self.now }
-        ensures most { result ≤ 10 }
-    {
-        ring(square(x, y, self.x, self.y))
-    }
-
-    /// Reports whether the missile bursts so far from a place that it does no damage there.
-    #[tactic(auto, using(crate::proofs::Squares::far_harm), unfolding(crate::specs::Due::harm))]
-    fn misses(&self, x: u16, y: u16) -> bool
-        ensures { result ≡ true → harm x y self.now ≡ 0 }
-    {
-        is_far(x, self.x) || is_far(y, self.y)
-    }
-
-    /// Returns the damage in percent that the missile does in an update at a place.
-    #[tactic(auto, unfolding(crate::specs::Shots::bursts, crate::specs::Shots::due_at, crate::specs::Ground::shot_of))]
-    fn damage_at(&self, update: u32, x: u16, y: u16) -> u8
-        requires x { x ≤ last_place }
-        requires y { y ≤ last_place }
-        ensures most { result ≤ 10 }
-        ensures bursts { (owner : ℕ) → result ≡ sum (bursts update (shot_of owner self.now ∷ []) x y) }
-    {
-        if self.burst == update {
-            ring(square(x, y, self.x, self.y))
-        } else {
-            0
-        }
-    }
-}
-
-/// Reports whether two coordinates lie so far apart that no burst at one of them hurts at the other.
-pub fn is_far(from: u16, to: u16) -> bool
-    ensures far { result ≡ true → 400 < abs_diff from to }
-    ensures near { result ≡ false → abs_diff from to ≤ 400 }
-{
-    let difference = i32::from(from) - i32::from(to);
-    difference < -LAST_RING || difference > LAST_RING
 }
 
 /// Returns how many updates a missile flies to this range in metres.
@@ -151,21 +87,6 @@ fn aimed(from: u16, range: u16, part: i32) -> u16
 {
     let way = i32::from(10 * range) * part;
     clamped(along(from, way))
-}
-
-/// Returns the damage in percent of a burst at a squared distance in tenths of a metre: by the smallest ring of 5, 20
-/// and 40 metres.
-#[tactic(auto, unfolding(crate::specs::Shots::ring))]
-pub fn ring(square: u32) -> u8
-    ensures value { result ≡ ring square }
-    ensures most { result ≤ 10 }
-{
-    match square {
-        0..=2_500 => 10,
-        2_501..=40_000 => 5,
-        40_001..=160_000 => 3,
-        _ => 0,
-    }
 }
 
 /// The missiles of one robot that are in the air, at most two.
@@ -218,44 +139,18 @@ impl Slots {
         self.missiles.push(missile);
     }
 
-    /// Returns the damage in percent that the missiles do in an update at a place.
-    fn damage_at(&self, update: u32, x: u16, y: u16) -> u8
-        requires x { x ≤ last_place }
-        requires y { y ≤ last_place }
-        ensures most { result ≤ 20 }
-        ensures bursts { (owner : ℕ) → result ≡ sum (bursts update (map (shot_of owner) self.now) x y) }
-    {
-        let mut damage = 0;
-        for missile in self.missiles.as_slice() {
-            damage += missile.damage_at(update, x, y);
-        }
-        damage
-    }
-
-    /// Adds the missiles that burst in an update.
-    fn add_due(&self, update: u32, due: &mut ArrayVec<Missile, MOST_BURSTS>)
-        requires { length due.old.items + 2 ≤ MOST_BURSTS }
-        ensures due { due.new.items ≡ due.old.items ++ filter (λ m. m.burst == update) self.now }
-        ensures most { length due.new.items ≤ length due.old.items + 2 }
-    {
-        for missile in self.missiles.as_slice() {
-            if missile.burst == update {
-                due.push(*missile);
-            }
-        }
-    }
-
     /// Adds the bursts of an update, of missiles that this robot fired.
     #[tactic(auto, using(crate::proofs::DueBursts::missile_more), unfolding(crate::specs::Outlook::burst_by, crate::specs::Outlook::burst_of, crate::specs::Ground::shot_of))]
     fn add_bursts(&self, robot: usize, update: u32, bursts: &mut ArrayVec<Burst, MOST_BURSTS>)
-        requires { length bursts.old.items + 2 ≤ MOST_BURSTS }
+        requires robot { robot < MOST_ROBOTS }
+        requires room { length bursts.old.items + 2 ≤ MOST_BURSTS }
         ensures bursts { bursts.new.items
             ≡ bursts.old.items ++ map (burst_by robot) (filter (λ m. m.burst == update) self.now) }
         ensures most { length bursts.new.items ≤ length bursts.old.items + 2 }
     {
         for missile in self.missiles.as_slice() {
             if missile.burst == update {
-                bursts.push(Burst::new(robot, missile.x, missile.y));
+                bursts.push(Burst::new(robot, missile.at));
             }
         }
     }
@@ -360,63 +255,19 @@ pub fn next_burst(slots: &[Slots]) -> u32
     next
 }
 
-/// Returns the damage in percent that the bursts of an update do at a place in tenths of a metre.
-pub fn damage_at(slots: &[Slots], update: u32, x: u16, y: u16) -> u8
-    requires robots { length slots.now ≤ MOST_ROBOTS }
-    requires x { x ≤ last_place }
-    requires y { y ≤ last_place }
-    ensures most { result ≤ 80 }
-    ensures shots { (updates : ℕ) (shots : List Shot) → update ≡ updates + 1 → HoldsShots updates slots.now shots
-        → result ≡ sum (bursts update shots x y) }
-{
-    let mut damage = 0;
-    for own in slots {
-        damage += own.damage_at(update, x, y);
-    }
-    damage
-}
-
-/// Returns the missiles that burst in an update.
-pub fn due(slots: &[Slots], update: u32) -> ArrayVec<Missile, MOST_BURSTS>
-    requires { length slots.now ≤ MOST_ROBOTS }
-    ensures shots { (updates : ℕ) (shots : List Shot) (x y : ℕ) → update ≡ updates + 1
-        → HoldsShots updates slots.now shots → sum (map (harm x y) result.items) ≡ sum (bursts update shots x y) }
-{
-    let mut due = ArrayVec::new();
-    for own in slots {
-        own.add_due(update, &mut due);
-    }
-    due
-}
-
 /// Returns the bursts of an update, robot by robot.
 pub fn bursts(slots: &[Slots], update: u32) -> ArrayVec<Burst, MOST_BURSTS>
     requires { length slots.now ≤ MOST_ROBOTS }
-    ensures { (updates : ℕ) (shots : List Shot) → HoldsShots updates slots.now shots
+    ensures bursts { (updates : ℕ) (shots : List Shot) → HoldsShots updates slots.now shots
         → result.items ≡ flat_map (own_bursts update updates shots) (range_with_len 0 (length slots.now)) }
+    ensures harm { (updates : ℕ) (shots : List Shot) → update ≡ updates + 1 → HoldsShots updates slots.now shots
+        → HarmLikeShots update shots result.items }
 {
     let mut bursts = ArrayVec::new();
     for (robot, own) in slots.iter().enumerate() {
         own.add_bursts(robot, update, &mut bursts);
     }
     bursts
-}
-
-/// Returns the damage in percent that missiles which burst do at a place in tenths of a metre.
-pub fn harm_by(due: &[Missile], x: u16, y: u16) -> u8
-    requires few { length due.now ≤ MOST_BURSTS }
-    requires x { x ≤ last_place }
-    requires y { y ≤ last_place }
-    ensures value { result ≡ sum (map (harm x y) due.now) }
-    ensures most { result ≤ 80 }
-{
-    let mut damage = 0;
-    for missile in due {
-        if !missile.misses(x, y) {
-            damage += missile.harm(x, y);
-        }
-    }
-    damage
 }
 
 /// Frees the missiles that burst in an update or before.

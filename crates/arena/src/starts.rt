@@ -8,6 +8,7 @@ ghost use Rattle.arena.specs.Placed.{placed, IsPlace};
 ghost use Rattle.arena.specs.Ground.{body_of};
 
 use crate::limits::MOST_ROBOTS;
+use crate::points::Point;
 use crate::random::draw;
 use crate::robots::Robot;
 use arrayvec::ArrayVec;
@@ -51,7 +52,7 @@ fn drawn_robot(random: &mut Pcg32, quadrant: u32) -> Robot
 {
     let x = drawn_place(quadrant % 2, draw(random));
     let y = drawn_place(quadrant / 2, draw(random));
-    Robot::standing(x, y)
+    Robot::standing(Point::new(x, y))
 }
 
 /// Returns the place of a word in the low half of an axis, or in the high one.
@@ -74,7 +75,8 @@ pub(crate) fn placed_robots(
 {
     let mut robots = ArrayVec::new();
     for place in places.as_slice() {
-        robots.push(Robot::standing(coordinate(place.0), coordinate(place.1)));
+        let place = Point::new(coordinate(place.0), coordinate(place.1));
+        robots.push(Robot::standing(place));
     }
     robots
 }

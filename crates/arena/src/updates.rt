@@ -6,16 +6,17 @@ ghost use Rattle.arena.specs.Collisions.{mover, touches};
 ghost use Rattle.arena.specs.Moved.{moved_robot, moved};
 ghost use Rattle.arena.specs.Ground.{body_of};
 ghost use Rattle.arena.specs.Drive.{ahead};
+ghost use Rattle.arena.specs.Due.{HarmLikeShots};
 ghost use Rattle.arena.specs.Calm.{body_at, gap, IsNearby, IsAtPlace, FarFor};
 ghost use Rattle.arena.specs.Still.{Stays, IsStill};
 ghost use Rattle.arena.specs.Standing.{HoldsShots};
 
 use crate::axes::{LAST_SUM, SCALE};
+use crate::bursts::{Burst, harm_by};
 use crate::collisions::{Mover, any_near, touches};
-use crate::limits::MOST_ROBOTS;
+use crate::limits::{MOST_BURSTS, MOST_ROBOTS};
 use crate::missiles::Missiles;
 use crate::robots::{Robot, worn};
-use crate::slots::harm_by;
 use arrayvec::ArrayVec;
 
 /// Robots are close if their sums are less than this from each other on both axes: a metre.
@@ -61,19 +62,20 @@ fn drive_on(robots: &mut [Robot]) -> ArrayVec<Mover, MOST_ROBOTS>
     movers
 }
 
-/// Returns one robot after the update, from where it has moved on, given how many others it collides with.
-fn finished(robot: &Robot, seen: &Mover, touched: usize, missiles: &Missiles, update: u32) -> Robot
-    requires { touched ≤ 4 }
-    ensures { (r : FieldRobot) (updates : ℕ) (shots : List Shot) → update ≡ updates + 1
-        → HoldsShots updates missiles.now shots → robot.now ≡ ahead r → seen.now ≡ mover r
-        → result ≡ body_of (moved_robot update shots touched r) }
+/// Returns one robot after the update, from where it has moved on, given how many others it collides with and the bursts
+/// of the update.
+fn finished(robot: &Robot, seen: &Mover, touched: usize, bursts: &[Burst]) -> Robot
+    requires touched { touched ≤ 4 }
+    requires few { length bursts.now ≤ MOST_BURSTS }
+    ensures { (r : FieldRobot) (update : ℕ) (shots : List Shot) → HarmLikeShots update shots bursts.now
+        → robot.now ≡ ahead r → seen.now ≡ mover r → result ≡ body_of (moved_robot update shots touched r) }
 {
-    if !seen.is_live() {
+    if !seen.live {
         return *robot;
     }
     let motion = robot.motion_after(seen, touched);
-    let bursts = missiles.damage_at(update, motion.x(), motion.y());
-    Robot::new(motion, worn(robot.damage(), touched, bursts))
+    let harm = harm_by(bursts, motion.place());
+    Robot::new(motion, worn(robot.damage(), touched, harm))
 }
 
 /// Puts robots back that collide, and hurts those and the ones near a burst.
@@ -84,9 +86,10 @@ fn finish(robots: &mut [Robot], movers: &[Mover], missiles: &Missiles, update: u
         → movers.now ≡ map mover f.robots → HoldsShots f.updates missiles.now f.shots
         → robots.new ≡ map body_of (moved f).robots }
 {
+    let bursts = missiles.bursts(update);
     for i in 0..robots.len() {
         let touched = touches(movers, i);
-        robots[i] = finished(&robots[i], &movers[i], touched, missiles, update);
+        robots[i] = finished(&robots[i], &movers[i], touched, bursts.as_slice());
     }
 }
 
@@ -125,10 +128,10 @@ fn hurt(robots: &mut [Robot], missiles: &Missiles, update: u32)
     ensures places { (k : ℕ) → k < length robots.old
         → IsAtPlace (body_at robots.old k).track (body_at robots.new k).track }
 {
-    let due = missiles.due(update);
+    let bursts = missiles.bursts(update);
     for robot in robots {
-        let bursts = harm_by(due.as_slice(), robot.x(), robot.y());
-        robot.hurt(bursts);
+        let harm = harm_by(bursts.as_slice(), robot.place());
+        robot.hurt(harm);
     }
 }
 

@@ -10,7 +10,7 @@ returns-then-is_none c =
 
 pub returns-else-is_none : goal.returns-else-is_none
 returns-else-is_none c =
-    let east_fits : FitsSigned w32 c.args.way.now.east = search rules in
-    let north_fits : FitsSigned w32 c.args.way.now.north = search rules in
+    let east_fits : FitsSigned w32 c.args.way.east = search rules in
+    let north_fits : FitsSigned w32 c.args.way.north = search rules in
     let within = simp to_z-of_z at c.bears_within.ensures in
     within ∙ sym (leads_somewhere _ _ c.args.degree c.args.resolution (c.is_none.ensures.some c.if-is_none.false))

@@ -1,6 +1,6 @@
 use Rattle.std.proofs.Common.{◌≡◌, ◌∙◌, ap, length, arith}
 use Rattle.std.specs.List.{flat_map, range_with_len}
-use Rattle.arena.proofs.DueBursts.{slot_bursts, robot_more, all_bursts}
+use Rattle.arena.proofs.DueBursts.{slot_bursts, robot_more, all_bursts, harm_like_shots, same_harm}
 use Rattle.arena.proofs.slots.bursts.Goals as goal
 
 pub loop-robot-preserved : goal.loop-robot-preserved
@@ -11,9 +11,14 @@ loop-robot-preserved c = record {
       c.loop-robot.invariant.bursts c.add_bursts.ensures.bursts;
 }
 
-pub returns : goal.returns
-returns c = λ updates shots holds.
+pub returns-clause-bursts : goal.returns-clause-bursts
+returns-clause-bursts c = λ updates shots holds.
     let all : c.loop-robot.robot ≡ length c.args.slots.now = omega arith in
     c.loop-robot.invariant.bursts ∙
     ap (λ n. flat_map (slot_bursts c.args.update c.args.slots.now) (range_with_len 0 n)) all ∙
     all_bursts c.args.update updates c.args.slots.now shots holds
+
+pub returns-clause-harm : goal.returns-clause-harm
+returns-clause-harm c = λ updates shots u holds.
+    same_harm c.args.update shots _ _ (returns-clause-bursts c updates shots holds)
+    (harm_like_shots updates c.args.update (length c.args.slots.now) shots u holds.owned)

@@ -22,7 +22,8 @@ loop-place-preserved c = record {
       let y_fits : FitsSigned w32 (get_or items c.loop-place.place-index (pos 0, pos 0)).1 = search rules in
       let x = simp to_z-of_z at c.coordinate.ensures.value in
       let y = simp to_z-of_z at c.coordinate-in-loop-place.ensures.value in
-      let body = rw (x, y) at c.standing.ensures in
+      let point = rw (x, y) at c.new-place.ensures in
+      let body = rw point at c.standing.ensures in
       c.push.ensures.items ∙ ap (λ (l : List Body). l ++ c.standing.result ∷ []) c.loop-place.invariant.robots ∙
       ap (λ (b : Body). map (λ place. body_of (robot_at_place place)) (take c.loop-place.place-index items) ++ b ∷ [])
       body ∙

@@ -4,6 +4,7 @@ use Rattle.arena.specs.Field.{no_robot}
 use Rattle.arena.specs.Collisions.{mover, touches}
 use Rattle.arena.specs.Drive.{ahead}
 use Rattle.arena.proofs.Loops.{mapped_is, after_at, at_is}
+use Rattle.arena.proofs.DueBursts.{same_harm}
 use Rattle.arena.proofs.InPlace.{none, one_more, others_stay, all_after}
 use Rattle.arena.proofs.updates.finish.Goals as goal
 
@@ -28,9 +29,12 @@ loop-i-preserved c =
           get_or-map ahead f.robots i no_robot none within in
           let seen =
           mapped_is mover _ f.robots _ _ no_robot m (omega (arith, first, c.requires.count)) c.index-movers-i.is in
+          let bursts =
+          same_harm c.args.update f.shots _ _ c.as_slice.ensures.value
+          (c.bursts-bursts.ensures.harm f.updates f.shots u holds) in
           let touched = c.touches-touched.ensures.value ∙ ap (λ l. touches l i) m in
           one_more (λ k b. b ≡ after_at f k) robots i new inside (inv.robots f u e m holds)
-          (c.finished.ensures (get_or f.robots i no_robot) f.updates f.shots u holds body seen ∙
+          (c.finished.ensures (get_or f.robots i no_robot) c.args.update f.shots bursts body seen ∙
           at_is f i _ _ u touched);
     }
 

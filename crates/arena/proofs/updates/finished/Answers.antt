@@ -6,19 +6,19 @@ use Rattle.arena.specs.Drive.{ahead}
 use Rattle.arena.proofs.Wear.{dead_is, dead_stays, alive_is}
 use Rattle.arena.proofs.updates.finished.Goals as goal
 
-pub returns-then-not-is_live : goal.returns-then-not-is_live
+pub returns-then-not-seen : goal.returns-then-not-seen
 unfolding mover
-returns-then-not-is_live c = λ r updates shots u holds e m.
-    let dead : is_alive r ≡ false = sym (c.is_live.ensures ∙ ap (λ (m : Mover). m.live) m) ∙ c.if-not-is_live.true in
-    e ∙ dead_stays r dead ∙ ap body_of (dead_is r c.args.update shots c.args.touched dead)
+returns-then-not-seen c = λ r update shots same e m.
+    let dead : is_alive r ≡ false = sym (ap (λ (m : Mover). m.live) m) ∙ c.if-not-seen.true in
+    e ∙ dead_stays r dead ∙ ap body_of (dead_is r update shots c.args.touched dead)
 
 pub returns : goal.returns
 unfolding mover ahead
-returns c = λ r updates shots u holds e m.
-    let live : is_alive r ≡ true = sym (c.is_live.ensures ∙ ap (λ (m : Mover). m.live) m) ∙ c.if-not-is_live.false in
+returns c = λ r update shots same e m.
+    let live : is_alive r ≡ true = sym (ap (λ (m : Mover). m.live) m) ∙ c.if-not-seen.false in
     let leg = c.motion_after-motion.ensures r e m live in
-    let burst = rw (c.x.ensures.value, c.y.ensures.value) at (c.damage_at-bursts.ensures.shots updates shots u holds) in
+    let burst = rw c.place.ensures at (c.harm_by-harm.ensures.value ∙ same c.place.result.x c.place.result.y) in
     let walled = c.damage.ensures.value ∙ ap (λ (b : Body). b.damage) e in
     c.new.ensures ∙
-    alive_is r c.motion_after-motion.result c.args.update shots c.args.touched c.damage.result
-    c.damage_at-bursts.result c.worn.result live leg walled burst c.worn.ensures.value
+    alive_is r c.motion_after-motion.result update shots c.args.touched c.damage.result
+    c.harm_by-harm.result c.worn.result live leg walled burst c.worn.ensures.value

@@ -30,10 +30,10 @@ loop-robot-preserved c =
           let body : get_or items i old ≡ ahead (get_or f.robots i no_robot) =
           there ∙ ap (λ l. get_or l i none) e ∙ get_or-map ahead f.robots i no_robot none first in
           let harms =
-          c.harm_by-bursts.ensures.value ∙
-          ap (λ ms. sum (map (harm c.x.result c.y.result) ms)) c.as_slice.ensures.value ∙
-          c.due-due.ensures.shots f.updates f.shots c.x.result c.y.result u holds in
-          let burst = rw (c.x.ensures.value, c.y.ensures.value) at harms in
+          c.harm_by-harm.ensures.value ∙
+          ap (λ bs. sum (map (harm c.place.result.x c.place.result.y) bs)) c.as_slice.ensures.value ∙
+          c.bursts-bursts.ensures.harm f.updates f.shots u holds c.place.result.x c.place.result.y in
+          let burst = rw c.place.ensures at harms in
           one_more (λ k b. b ≡ after_at f k) items i new inside (inv.robots f u e holds untouched)
           (c.hurt.ensures ∙ hurt_at (get_or f.robots i no_robot) _ c.args.update f.shots _ body burst ∙
           at_is f i _ 0 u (sym (untouched i first)));

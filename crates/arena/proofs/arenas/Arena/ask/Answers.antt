@@ -1,11 +1,7 @@
-use Rattle.std.proofs.Common.{ap, ◌∙◌, ◌/◌, ℕ, pos, get_or, FitsSigned, w32, rules}
+use Rattle.std.proofs.Common.{ap, ◌∙◌, pos, get_or, FitsSigned, w32, rules}
 use Rattle.std.proofs.lemmas.Int.{to_z-of_z}
-use Rattle.arena.specs.Field.{metres_x, metres_y}
 use Rattle.arena.specs.Answer.{argument, answer}
-use Rattle.arena.specs.Ground.{Ground, Body, track_of, body_of}
-use Rattle.arena.specs.Standing.{StandsFor}
-use Rattle.arena.specs.contracts.arenas.Arena.{the_view}
-use Rattle.arena.proofs.Represents.{inside_if_lives, same_live}
+use Rattle.arena.specs.Ground.{Body, track_of, body_of}
 use Rattle.arena.proofs.arenas.Arena.ask.Goals as goal
 
 pub returns-in-Scan-clause-reply : goal.returns-in-Scan-clause-reply
@@ -74,28 +70,24 @@ unfolding answer
 returns-in-Speed-clause-stands c = λ f s. rw c.in-Speed.is s
 
 pub returns-in-LocX-clause-reply : goal.returns-in-LocX-clause-reply
-unfolding answer argument body_of track_of metres_x
+unfolding answer argument
 returns-in-LocX-clause-reply c = λ f s.
     let fits : FitsSigned w32 c.from-in-LocX.result = search rules in
     rw c.in-LocX.is
     (simp to_z-of_z
-    (c.from-in-LocX.ensures ∙
-    ap (λ (n : ℕ). pos (n / 10))
-    (c.x.ensures.value ∙ ap (λ (b : Body). b.track.x) (c.robot-in-LocX.ensures.stands f s))))
+    (c.from-in-LocX.ensures ∙ ap pos (c.metres_x.ensures.value _ (c.robot-in-LocX.ensures.stands f s))))
 
 pub returns-in-LocX-clause-stands : goal.returns-in-LocX-clause-stands
 unfolding answer
 returns-in-LocX-clause-stands c = λ f s. rw c.in-LocX.is s
 
 pub returns-in-LocY-clause-reply : goal.returns-in-LocY-clause-reply
-unfolding answer argument body_of track_of metres_y
+unfolding answer argument
 returns-in-LocY-clause-reply c = λ f s.
     let fits : FitsSigned w32 c.from-in-LocY.result = search rules in
     rw c.in-LocY.is
     (simp to_z-of_z
-    (c.from-in-LocY.ensures ∙
-    ap (λ (n : ℕ). pos (n / 10))
-    (c.y.ensures.value ∙ ap (λ (b : Body). b.track.y) (c.robot-in-LocY.ensures.stands f s))))
+    (c.from-in-LocY.ensures ∙ ap pos (c.metres_y.ensures.value _ (c.robot-in-LocY.ensures.stands f s))))
 
 pub returns-in-LocY-clause-stands : goal.returns-in-LocY-clause-stands
 unfolding answer

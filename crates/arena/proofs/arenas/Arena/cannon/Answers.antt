@@ -2,7 +2,7 @@ use Rattle.std.proofs.Common.{sym, ap, subst, ◌∙◌}
 use Rattle.std.proofs.lemmas.Int.{to_z-of_z}
 use Rattle.arena.specs.Field.{Field}
 use Rattle.arena.specs.Answer.{answer, argument}
-use Rattle.arena.specs.Ground.{Ground}
+use Rattle.arena.specs.Ground.{Ground, track_of, body_of}
 use Rattle.arena.specs.contracts.arenas.Arena.{the_view}
 use Rattle.arena.specs.Standing.{StandsFor}
 use Rattle.arena.proofs.Represents.{same_live, keeps_fire, fires_reply, fires}
@@ -36,7 +36,7 @@ returns-clause-reply c = λ f s.
     fires_reply f _ _ _ free
 
 pub returns-clause-stands : goal.returns-clause-stands
-unfolding answer argument
+unfolding answer argument body_of track_of
 returns-clause-stands c = λ f s.
     let degree_fits = c.ranges.degree in
     let range_fits = c.ranges.range in
@@ -44,8 +44,8 @@ returns-clause-stands c = λ f s.
     let free = sym (c.may_fire.ensures.shots f.updates f.shots now.missiles) ∙ c.if-not-may_fire.false in
     let missile =
     simp (
-      c.place-x.ensures.x f s,
-      c.place-x.ensures.y f s,
+      c.place-from.ensures,
+      c.robot.ensures.stands f s,
       c.norm_degree.ensures.value,
       c.clamped-range.ensures.value,
       to_z-of_z,

@@ -1,4 +1,4 @@
-use Rattle.std.proofs.Common.{ap, ◌∙◌, pos, FitsSigned, w32, rules}
+use Rattle.std.proofs.Common.{ap, ◌∙◌, FitsSigned, w32, rules}
 use Rattle.std.proofs.lemmas.Int.{to_z-of_z}
 use Rattle.arena.specs.Answer.{answer, argument}
 use Rattle.arena.specs.Ground.{Ground}

@@ -15,6 +15,6 @@ returns c = λ f s.
     s.missiles in
     let update : c.next_update.result ≡ f.updates + 1 = c.next_update.ensures ∙ ap (λ n. n + 1) s.updates in
     let count : length slots ≡ length f.robots = c.missiles.ensures.count ∙ manned c.args.self.now f s in
-    c.bursts.ensures f.updates f.shots held ∙
+    c.bursts.ensures.bursts f.updates f.shots held ∙
     ap (λ u. flat_map (own_bursts u f.updates f.shots) (range_with_len 0 (length slots))) update
     ∙ ap (λ n. flat_map (own_bursts (f.updates + 1) f.updates f.shots) (range_with_len 0 n)) count

@@ -1,4 +1,5 @@
 use Rattle.std.proofs.Common.{ap, ◌∙◌}
+use Rattle.arena.specs.Point.{Point}
 use Rattle.arena.specs.Leg.{place_x, place_y}
 use Rattle.arena.specs.Field.{robot_at}
 use Rattle.arena.specs.Collisions.{touches}
@@ -20,7 +21,8 @@ returns-clause-x c = λ f s.
     let track =
     c.motion_after-motion.ensures r (c.drive_on-seen.ensures.ahead r body) (c.drive_on-seen.ensures.mover r body)
     live in
-    c.x.ensures.value ∙ ap (λ (t : Track). t.x) track ∙ ap (λ n. place_x (leg_after r.leg n)) touched
+    ap (λ (p : Point). p.x) c.place.ensures ∙ ap (λ (t : Track). t.x) track ∙
+    ap (λ n. place_x (leg_after r.leg n)) touched
 
 pub returns-clause-y : goal.returns-clause-y
 unfolding next_leg track_of
@@ -34,4 +36,5 @@ returns-clause-y c = λ f s.
     let track =
     c.motion_after-motion.ensures r (c.drive_on-seen.ensures.ahead r body) (c.drive_on-seen.ensures.mover r body)
     live in
-    c.y.ensures.value ∙ ap (λ (t : Track). t.y) track ∙ ap (λ n. place_y (leg_after r.leg n)) touched
+    ap (λ (p : Point). p.y) c.place.ensures ∙ ap (λ (t : Track). t.y) track ∙
+    ap (λ n. place_y (leg_after r.leg n)) touched

@@ -1,8 +1,7 @@
-use Rattle.std.proofs.Common.{◌<◌, ap, ◌∙◌, pos, length, subst, sym, FitsSigned, w32, rules}
+use Rattle.std.proofs.Common.{ap, ◌∙◌, pos, FitsSigned, w32, rules}
 use Rattle.std.proofs.lemmas.Int.{to_z-of_z}
 use Rattle.arena.specs.Answer.{answer, argument}
 use Rattle.arena.specs.Ground.{Ground}
-use Rattle.arena.proofs.Represents.{inside_if_lives}
 use Rattle.arena.proofs.arenas.Arena.scan.Goals as goal
 
 pub returns : goal.returns

@@ -1,5 +1,6 @@
 use Rattle.std.proofs.Common.{◌≡◌, true, false, refl, sym, ◌∙◌}
 use Rattle.arena.specs.Field.{is_live}
+use Rattle.arena.specs.Due.{harm}
 use Rattle.arena.specs.Outlook.{taken_by}
 use Rattle.arena.proofs.arenas.Arena.taken_by.Goals as goal
 
@@ -10,7 +11,7 @@ returns-then-not-alive-clause-stands c = λ f s.
     rw dead refl
 
 pub returns-clause-stands : goal.returns-clause-stands
-unfolding taken_by
+unfolding taken_by harm
 returns-clause-stands c = λ f s.
     let live : is_live f c.args.robot ≡ true = sym (c.alive.ensures.stands f s) ∙ c.if-not-alive.false in
-    rw live (rw (c.next_place-x.ensures.x f s, c.next_place-x.ensures.y f s) at c.harm.ensures.value)
+    rw live (rw (c.next_place.ensures.x f s, c.next_place.ensures.y f s) at c.harm.ensures.value)

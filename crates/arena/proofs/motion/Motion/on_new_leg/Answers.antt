@@ -6,6 +6,6 @@ use Rattle.arena.proofs.motion.Motion.on_new_leg.Goals as goal
 
 pub returns : goal.returns
 returns c =
-    let x = at_place c.args.x (cosine_at c.args.self.heading) in
-    let y = at_place c.args.y (sine_at c.args.self.heading) in
+    let x = at_place c.args.from.x (cosine_at c.args.self.heading) in
+    let y = at_place c.args.from.y (sine_at c.args.self.heading) in
     grind (arith, to_z-of_z)

@@ -8,6 +8,8 @@ pub returns : goal.returns
 unfolding put_back
 returns c = λ old leg p q e.
     c.stopped_at.ensures.leg leg e ∙
-    ap (λ n. track_of (record leg { origin_x = n; origin_y = c.args.y; distance = 0; speed = 0; wanted_speed = 0 })) p ∙
+    ap
+    (λ n. track_of
+    (record leg { origin_x = n; origin_y = c.args.place.y; distance = 0; speed = 0; wanted_speed = 0 })) p ∙
     ap
     (λ n. track_of (record leg { origin_x = place_x old; origin_y = n; distance = 0; speed = 0; wanted_speed = 0 })) q

@@ -3,4 +3,4 @@ use Rattle.arena.proofs.Tracks.{standing_is}
 use Rattle.arena.proofs.motion.Motion.standing.Goals as goal
 
 pub returns : goal.returns
-returns c = c.on_new_leg.ensures ∙ standing_is c.args.x c.args.y
+returns c = c.on_new_leg.ensures ∙ standing_is c.args.place.x c.args.place.y

@@ -13,8 +13,8 @@ returns-then-touched-gt0 c = λ robot e m live.
     let drove : candidate robot ≡ driven robot.leg = rw live refl in
     let track : c.self.inside.motion ≡ track_of (driven robot.leg) =
     ap (λ (b : Body). b.track) (c.self.view_is ∙ e) ∙ ap track_of drove in
-    let x : c.from_x.result ≡ place_x robot.leg = c.from_x.ensures.value ∙ ap (λ (m : Mover). m.from_x) m in
-    let y : c.from_y.result ≡ place_y robot.leg = c.from_y.ensures.value ∙ ap (λ (m : Mover). m.from_y) m in
+    let x : c.args.seen.now.from.x ≡ place_x robot.leg = ap (λ (m : Mover). m.from.x) m in
+    let y : c.args.seen.now.from.y ≡ place_y robot.leg = ap (λ (m : Mover). m.from.y) m in
     let some : nat_lt 0 c.args.touched ≡ true = grind (arith, nat_tests) in
     rw some (c.put_back.ensures robot.leg (driven robot.leg) x y track)
 

@@ -1,4 +1,4 @@
-use Rattle.std.proofs.Common.{◌≤◌, List, ap, subst, ◌∙◌, arith}
+use Rattle.std.proofs.Common.{◌≤◌, List, subst, ◌∙◌, arith}
 use Rattle.std.specs.List.{All}
 use Rattle.std.proofs.lemmas.List.{take_all}
 use Rattle.arena.specs.Ground.{Missile}
@@ -7,9 +7,8 @@ use Rattle.arena.proofs.slots.Slots.next_burst.Goals as goal
 
 pub loop-missile-preserved : goal.loop-missile-preserved
 loop-missile-preserved c =
-    let burst = ap (λ (m : Missile). m.burst) c.missile.view_is in
     least_more c.as_slice-missile-items.result.now c.loop-missile.missile-index c.missile-item.result
-    c.loop-missile.next _ c.loop-missile-test.true c.missile-item.is (omega arith) (omega (arith, burst))
+    c.loop-missile.next _ c.loop-missile-test.true c.missile-item.is (omega arith) (omega arith)
     c.loop-missile.invariant
 
 pub returns : goal.returns
