@@ -8,7 +8,7 @@ use arena::{Arena, MOST_ROBOTS};
 use arrayvec::ArrayVec;
 use code::Intrinsic;
 use playing::{Pilot, Question, Turn, UPDATE_CYCLES, Watcher};
-use tools::Wish;
+use settings::Settings;
 use trails::{Path, Place, Shot, Shots};
 
 /// The damage in percent at which a robot is dead.
@@ -118,7 +118,7 @@ impl Recording {
 }
 
 /// Plays the match that is wished for, and records what of it is drawn.
-pub fn record(pilots: &mut [Pilot<'_>], wish: &Wish<'_>, view: View) -> Recording
+pub fn record(pilots: &mut [Pilot<'_>], wish: &Settings<'_>, view: View) -> Recording
     requires some { 2 ≤ length pilots.old }
     requires most { length pilots.old ≤ MOST_ROBOTS }
     ensures { result.cycles ≤ wish.now.limit }
@@ -132,7 +132,7 @@ pub fn record(pilots: &mut [Pilot<'_>], wish: &Wish<'_>, view: View) -> Recordin
         pilots,
         &mut recorder,
         wish.seed(),
-        wish.number(),
+        wish.first(),
         wish.limit(),
     );
     Recording {
