@@ -6,7 +6,6 @@ ghost use Rattle.std.specs.Option.{option_or};
 use crate::requests::View;
 use arena::{Arena, MOST_ROBOTS};
 use arrayvec::ArrayVec;
-use code::Intrinsic;
 use playing::{Pilot, Question, Turn, UPDATE_CYCLES, Watcher};
 use settings::Settings;
 use trails::{Path, Place, Shot, Shots};
@@ -189,9 +188,9 @@ impl Watcher for Recorder {
         self.watch(arena, 0);
     }
 
-    fn asked(&mut self, turn: Turn, _pilot: &Pilot<'_>, question: Question, arena: &Arena) {
+    fn shot(&mut self, turn: Turn, question: Question, arena: &Arena) {
         let is_drawn = self.view.has_shots && self.view.span.has(turn.cycle, turn.robot);
-        if is_drawn && question.intrinsic == Intrinsic::Cannon && question.reply == 1 {
+        if is_drawn && question.reply == 1 {
             let updates = turn.cycle.saturating_sub(1) / UPDATE_CYCLES;
             let from = Place::of(arena, turn.robot);
             self.shots
