@@ -1,8 +1,10 @@
-//! What is found out about a match: runs of a film, what a robot lost by, where its time went, and where it waits.
+//! What is found out about a match: its events, runs of a film, what a robot lost by, where its time went, and where it
+//! waits.
 #![tactic(auto)]
 
 mod counts;
 mod directions;
+mod events;
 mod hurts;
 mod runs;
 mod seen;
@@ -11,6 +13,7 @@ mod streaks;
 
 pub use counts::{function_at, largest};
 pub use directions::{DIRECTION_DEGREES, DIRECTIONS, direction_of};
+pub use events::{Event, Field, Listener, MOST_FIELDS};
 pub use hurts::{Loss, MOST_LOSSES, Source, losses};
 pub use runs::{News, Run, Stance, Step};
 pub use seen::Seen;

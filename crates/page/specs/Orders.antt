@@ -2,9 +2,11 @@
 use Rattle.std.specs.Prelude.{ℕ, ◌≤◌, ◌==◌, List, if◌then◌else◌}
 use Rattle.settings.specs.declared.settings.Mode.{Mode}
 use Rattle.settings.specs.declared.settings.Mode.TheVariants.{Listing, Matches}
+use Rattle.settings.specs.declared.settings.Numbers.{Numbers}
 use Rattle.settings.specs.Given.{profile_by}
 use Rattle.settings.specs.Limits.{matches_max, cycles_max, first_max}
 use Rattle.settings.specs.Setup.{Setup}
+use Rattle.settings.specs.Setup as setup
 use Rattle.page.specs.declared.orders.Order.{Order}
 use Rattle.page.specs.declared.stretches.Stretch.{Stretch}
 
@@ -27,14 +29,15 @@ mode_by n = if n == 0 then Listing else Matches
 abbrev pub stretch_of : Order → Stretch
 stretch_of order = record { from = order.from; windows = order.windows }
 
--- what an order asks for of the files that these words name
-abbrev pub setup_of : Order → List (List ℕ) → Setup
-setup_of order words = record {
-  mode = mode_by order.mode;
+abbrev pub numbers_of : Order → Numbers
+numbers_of order = record {
   matches = order.matches;
   limit = order.limit;
   seed = order.seed;
   profile = profile_by order.profile;
   first = order.first;
-  words = words;
 }
+
+-- what an order asks for of the files that these words name
+abbrev pub setup_of : Order → List (List ℕ) → Setup
+setup_of order words = setup.setup_of (numbers_of order) (mode_by order.mode) words

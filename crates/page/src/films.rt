@@ -1,19 +1,19 @@
 //! Films of matches: what there is to see of one, row by row.
 
-ghost use Rattle.std.specs.Prelude.{◌≡◌, ◌<◌, ◌≤◌, length};
+ghost use Rattle.std.specs.Prelude.{◌≡◌};
 
 use crate::missiles::Missile;
-use crate::rows::{Field, Row};
+use crate::rows::Row;
 use crate::sheets::Sheet;
 use crate::stretches::Stretch;
 use arena::{Arena, MOST_BURSTS, MOST_ROBOTS};
 use arrayvec::ArrayVec;
-use code::{Cause, Intrinsic};
+use code::Cause;
 use derivations::Places;
-use findings::{Loss, Seen, Source, Stance, function_at, losses};
+use findings::{Event, Field, Listener, Seen, Stance, function_at};
 use grammar::MOST_NAMES;
-use playing::{Pilot, Question, Turn, UPDATE_CYCLES, Watcher};
-use series::CYCLES_MAX;
+use playing::{Pilot, Question, Turn, UPDATE_CYCLES, Watcher, word_of};
+use std::str;
 use tokens::Name;
 use trails::Place;
 
@@ -82,8 +82,8 @@ impl<'a> Film<'a> {
             if let Some(end) = seen.run.end() {
                 self.tell_stance(robot, &end);
             }
-            let damage = Field::Number(i32::from(seen.damage));
-            self.tell(cycle, robot, b"end", &[damage]);
+            let damage = i32::from(seen.damage);
+            self.tell(cycle, robot, &Event::of_numbers("end", &[damage]));
         }
     }
 
@@ -95,21 +95,13 @@ impl<'a> Film<'a> {
         }
     }
 
-    /// Writes a row if what happens now is told.
-    fn tell(&mut self, cycle: u32, robot: usize, kind: &[u8], fields: &[Field<'_>]) {
-        if self.is_told() {
-            self.put(cycle, robot, kind, fields);
-        }
-    }
-
     /// Writes a row, unless it is one of the first ones that are left out.
-    fn put(&mut self, cycle: u32, robot: usize, kind: &[u8], fields: &[Field<'_>]) {
+    fn put(&mut self, cycle: u32, robot: usize, event: &Event<'_>) {
         if self.skipped > 0 {
             self.skipped -= 1;
             return;
         }
-        self.sheet
-            .add(Row::new(cycle, robot, kind, fields).as_slice());
+        self.sheet.add(Row::new(cycle, robot, event).as_slice());
     }
 
     /// Returns the line that the instruction of an address comes from, 0 if it isn't known. A single file's program is that
@@ -124,7 +116,7 @@ impl<'a> Film<'a> {
 
     /// Writes where a robot is.
     fn tell_stance(&mut self, robot: usize, stance: &Stance) {
-        self.tell(stance.cycle, robot, b"at", &stance_fields(stance));
+        self.tell(stance.cycle, robot, &Event::stance("at", stance));
     }
 
     /// Writes where the robots are at a border of the stretch, and which missiles are in the air at its begin.
@@ -137,7 +129,7 @@ impl<'a> Film<'a> {
         }
         for robot in 0..arena.robot_count() {
             let stance = Stance::of(cycle, robot, arena);
-            self.put(cycle, robot, b"stands", &stance_fields(&stance));
+            self.put(cycle, robot, &Event::stance("stands", &stance));
         }
         if self.updates == stretch.from {
             self.tell_missiles();
@@ -149,8 +141,11 @@ impl<'a> Film<'a> {
         for slot in 0..MOST_BURSTS {
             let missile = self.missiles[slot];
             if missile.flies(self.updates) {
-                let fields = missile_fields(&missile);
-                self.put(missile.cycle, missile.robot, b"flies", &fields);
+                self.put(
+                    missile.cycle,
+                    missile.robot,
+                    &missile_event("flies", &missile),
+                );
             }
         }
     }
@@ -161,68 +156,6 @@ impl<'a> Film<'a> {
             if !self.missiles[slot].flies(self.updates) {
                 self.missiles[slot] = missile;
                 return;
-            }
-        }
-    }
-
-    /// Keeps and writes a missile that a robot fires: refused shots are left out.
-    fn shoot(&mut self, turn: Turn, question: &Question, arena: &Arena)
-        requires inside { turn.robot < length arena.now.robots }
-        requires cycle { turn.cycle ≤ CYCLES_MAX }
-    {
-        if question.reply == 0 {
-            return;
-        }
-        let Turn { cycle, robot } = turn;
-        let missile = Missile::new(robot, cycle, Place::of(arena, robot), question.arguments);
-        self.tell(cycle, robot, b"shot", &missile_fields(&missile));
-        self.keep(missile);
-    }
-
-    /// Writes the first scan of a robot since the last update.
-    fn scan(&mut self, turn: Turn, question: &Question) {
-        let Some(seen) = self.seen.get_mut(turn.robot) else {
-            return;
-        };
-        if !seen.scan() {
-            return;
-        }
-        let [degree, resolution] = question.arguments;
-        let fields = [
-            Field::Number(degree),
-            Field::Number(resolution),
-            Field::Number(question.reply),
-        ];
-        self.tell(turn.cycle, turn.robot, b"scan", &fields);
-    }
-
-    /// Writes the bursts of an update.
-    fn tell_bursts(&mut self, cycle: u32, arena: &Arena) {
-        for burst in &arena.due() {
-            let place = [
-                Field::Number(i32::from(burst.x())),
-                Field::Number(i32::from(burst.y())),
-            ];
-            self.tell(cycle, burst.robot(), b"burst", &place);
-        }
-    }
-
-    /// Writes what an update takes from a robot.
-    fn tell_loss(&mut self, cycle: u32, robot: usize, loss: &Loss) {
-        let percent = Field::Number(i32::from(loss.percent));
-        match loss.source {
-            Source::Wall => self.tell(cycle, robot, b"wall", &[percent]),
-            Source::Collision(other) => {
-                self.tell(cycle, robot, b"collision", &[percent, number_of(other)]);
-            }
-            Source::Shot(by, x, y) => {
-                let place = [
-                    percent,
-                    number_of(by),
-                    Field::Number(i32::from(x)),
-                    Field::Number(i32::from(y)),
-                ];
-                self.tell(cycle, robot, b"hurt", &place);
             }
         }
     }
@@ -243,13 +176,22 @@ impl<'a> Film<'a> {
         let died = seen.look(stance.damage, is_alive);
         let news = seen.run.go_on(stance);
         if died {
-            self.tell(stance.cycle, robot, b"death", &[]);
+            self.tell(stance.cycle, robot, &Event::new("death", &[]));
         }
         if let Some(end) = news.end {
             self.tell_stance(robot, &end);
         }
         if let Some(begin) = news.begin {
             self.tell_stance(robot, &begin);
+        }
+    }
+}
+
+impl Listener for Film<'_> {
+    /// Writes a row if what happens now is told.
+    fn tell(&mut self, cycle: u32, robot: usize, event: &Event<'_>) {
+        if self.is_told() {
+            self.put(cycle, robot, event);
         }
     }
 }
@@ -261,11 +203,26 @@ impl Watcher for Film<'_> {
         self.look(0, arena);
     }
 
-    fn asked(&mut self, turn: Turn, _pilot: &Pilot<'_>, question: Question, arena: &Arena) {
-        match question.intrinsic {
-            Intrinsic::Cannon => self.shoot(turn, &question, arena),
-            Intrinsic::Scan => self.scan(turn, &question),
-            _ => {}
+    /// Keeps and writes a missile that a robot fires: refused shots are left out.
+    fn shot(&mut self, turn: Turn, question: Question, arena: &Arena) {
+        if question.reply == 0 {
+            return;
+        }
+        let Turn { cycle, robot } = turn;
+        let missile = Missile::new(robot, cycle, Place::of(arena, robot), question.arguments);
+        self.tell(cycle, robot, &missile_event("shot", &missile));
+        self.keep(missile);
+    }
+
+    /// Writes the first scan of a robot since the last update.
+    fn scanned(&mut self, turn: Turn, question: Question) {
+        let Some(seen) = self.seen.get_mut(turn.robot) else {
+            return;
+        };
+        if seen.scan() {
+            let [degree, resolution] = question.arguments;
+            let event = Event::of_numbers("scan", &[degree, resolution, question.reply]);
+            self.tell(turn.cycle, turn.robot, &event);
         }
     }
 
@@ -279,20 +236,14 @@ impl Watcher for Film<'_> {
         let fields = [
             Field::Text(word_of(cause)),
             Field::Text(function),
-            Field::Count(self.line(turn.robot, address)),
+            Field::Number(i64::from(self.line(turn.robot, address))),
         ];
-        self.tell(turn.cycle, turn.robot, b"restart", &fields);
+        self.tell(turn.cycle, turn.robot, &Event::new("restart", &fields));
     }
 
     fn updates(&mut self, cycle: u32, arena: &Arena) {
-        if !self.is_told() {
-            return;
-        }
-        self.tell_bursts(cycle, arena);
-        for robot in 0..arena.robot_count() {
-            for loss in &losses(arena, robot) {
-                self.tell_loss(cycle, robot, loss);
-            }
+        if self.is_told() {
+            self.tell_update(cycle, arena);
         }
     }
 
@@ -312,45 +263,16 @@ impl Watcher for Film<'_> {
 }
 
 /// Returns the name of a robot's function of this number. A single file is both robots'.
-fn function_name(files: &[Functions], robot: usize, number: usize) -> &[u8] {
+fn function_name(files: &[Functions], robot: usize, number: usize) -> &str {
     let file = if files.len() == 1 { 0 } else { robot };
     match files.get(file).and_then(|functions| functions.get(number)) {
-        Some(name) => name.as_bytes(),
-        None => b"?",
+        Some(name) => str::from_utf8(name.as_bytes()).unwrap_or("?"),
+        None => "?",
     }
 }
 
-/// Returns the fields of where a robot is.
-fn stance_fields(stance: &Stance) -> [Field<'static>; 5] {
-    [
-        Field::Number(i32::from(stance.x)),
-        Field::Number(i32::from(stance.y)),
-        Field::Number(i32::from(stance.heading)),
-        Field::Number(i32::from(stance.speed)),
-        Field::Number(i32::from(stance.damage)),
-    ]
-}
-
-/// Returns the fields of a missile: what it was fired with, and where.
-fn missile_fields(missile: &Missile) -> [Field<'static>; 4] {
-    [
-        Field::Number(missile.degree),
-        Field::Number(missile.range),
-        Field::Number(i32::from(missile.x)),
-        Field::Number(i32::from(missile.y)),
-    ]
-}
-
-/// Returns the word of a cause.
-fn word_of(cause: Cause) -> &'static [u8] {
-    match cause {
-        Cause::Words => b"words",
-        Cause::Frames => b"frames",
-        Cause::Returned => b"returned",
-    }
-}
-
-/// Returns the field of a robot's number, which counts from 1.
-fn number_of(robot: usize) -> Field<'static> {
-    Field::Number((robot % 100) as i32 + 1)
+/// Returns the event of a missile: what it was fired with, and where.
+fn missile_event(kind: &'static str, missile: &Missile) -> Event<'static> {
+    let (x, y) = (i32::from(missile.x), i32::from(missile.y));
+    Event::of_numbers(kind, &[missile.degree, missile.range, x, y])
 }

@@ -37,8 +37,8 @@ impl Missile {
             cycle,
             degree,
             range,
-            x: place.x(),
-            y: place.y(),
+            x: place.x,
+            y: place.y,
             burst: Shot::new(robot, updates, place, arguments).burst,
         }
     }

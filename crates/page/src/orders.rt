@@ -2,12 +2,12 @@
 
 ghost use Rattle.std.specs.Prelude.{◌≡◌, ◌<◌, ◌≤◌, true, length, map, IfSome, IsSome};
 ghost use Rattle.settings.specs.Given.{profile_by};
-ghost use Rattle.page.specs.Orders.{AreWithin, mode_by, setup_of, stretch_of};
+ghost use Rattle.page.specs.Orders.{AreWithin, mode_by, numbers_of, setup_of, stretch_of};
 
 use crate::stretches::Stretch;
 use arrayvec::ArrayVec;
 use grammar::Profile;
-use series::{CYCLES_MAX, FILES_MAX, FIRST_MAX, MATCHES_MAX, Mode, Settings};
+use series::{CYCLES_MAX, FILES_MAX, FIRST_MAX, MATCHES_MAX, Mode, Numbers, Settings};
 
 /// What a run is asked to do.
 #[repr(C)]
@@ -46,15 +46,7 @@ impl Order {
             return None;
         }
         let words = ArrayVec::try_from(words).ok()?;
-        Some(Settings::new(
-            self.mode(),
-            self.matches,
-            self.limit,
-            self.seed,
-            self.profile(),
-            self.first,
-            words,
-        ))
+        Some(Settings::new(self.mode(), self.numbers(), words))
     }
 
     /// Returns the windows that are filmed.
@@ -77,6 +69,19 @@ impl Order {
         let profile = 1 <= self.profile && self.profile <= 2;
         let first = 1 <= self.first && self.first <= FIRST_MAX;
         self.mode <= 1 && matches && cycles && profile && first
+    }
+
+    /// Returns the numbers of a run.
+    fn numbers(&self) -> Numbers
+        ensures { result ≡ numbers_of self.now }
+    {
+        Numbers {
+            matches: self.matches,
+            limit: self.limit,
+            seed: self.seed,
+            profile: self.profile(),
+            first: self.first,
+        }
     }
 
     /// Returns the mode.

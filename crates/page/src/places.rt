@@ -3,11 +3,12 @@
 ghost use Rattle.std.specs.Prelude.{◌≡◌, ◌≤◌, All, IfSome, length};
 
 use crate::robots::RobotFile;
-use crate::rows::{Field, Row};
+use crate::rows::Row;
 use crate::sheets::Sheet;
 use arrayvec::ArrayVec;
 use code::Program;
 use derivations::{Places, lines};
+use findings::{Event, Field};
 use series::{FILES_MAX, Programs};
 
 /// The first line of a list of places: the names of its columns.
@@ -53,7 +54,11 @@ pub(crate) fn tell_places(files: &[Option<Places>], sheet: &mut Sheet) {
 /// Writes the places of a file's instructions.
 fn tell_file(robot: usize, places: &Places, sheet: &mut Sheet) {
     for (address, place) in places.places().iter().enumerate() {
-        let fields = [Field::Count(place.line), Field::Count(place.column)];
-        sheet.add(Row::new(address as u32, robot, b"code", &fields).as_slice());
+        let fields = [
+            Field::Number(i64::from(place.line)),
+            Field::Number(i64::from(place.column)),
+        ];
+        let event = Event::new("code", &fields);
+        sheet.add(Row::new(address as u32, robot, &event).as_slice());
     }
 }

@@ -3,20 +3,10 @@
 ghost use Rattle.std.specs.Prelude.{◌≤◌, length};
 
 use arrayvec::ArrayVec;
+use findings::{Event, Field};
 
 /// The most bytes of a row; what is longer is cut off. A row of five numbers is never so long.
 pub(crate) const ROW_BYTES: usize = 200;
-
-/// A field of a row.
-#[derive(Clone, Copy)]
-pub(crate) enum Field<'a> {
-    /// A number.
-    Number(i32),
-    /// A number that is not below 0.
-    Count(u32),
-    /// A text.
-    Text(&'a [u8]),
-}
 
 /// A row.
 #[derive(Drop)]
@@ -26,16 +16,16 @@ pub(crate) struct Row {
 
 impl Row {
     /// Makes the row of an event: its cycle, its robot, counted from 0, its kind and its fields.
-    pub(crate) fn new(cycle: u32, robot: usize, kind: &[u8], fields: &[Field<'_>]) -> Row {
+    pub(crate) fn new(cycle: u32, robot: usize, event: &Event<'_>) -> Row {
         let mut row = Row {
             bytes: ArrayVec::new(),
         };
-        row.digits(cycle);
+        row.digits(u64::from(cycle));
         row.add(b"\t");
-        row.digits((robot % 100) as u32 + 1);
+        row.digits((robot % 100) as u64 + 1);
         row.add(b"\t");
-        row.add(kind);
-        for field in fields {
+        row.add(event.kind.as_bytes());
+        for field in &event.fields {
             row.add(b"\t");
             row.field(*field);
         }
@@ -52,13 +42,12 @@ impl Row {
     fn field(&mut self, field: Field<'_>) {
         match field {
             Field::Number(number) => self.number(number),
-            Field::Count(number) => self.digits(number),
-            Field::Text(text) => self.add(text),
+            Field::Text(text) => self.add(text.as_bytes()),
         }
     }
 
     /// Adds a number, with a sign if it is below 0.
-    fn number(&mut self, number: i32) {
+    fn number(&mut self, number: i64) {
         if number < 0 {
             self.add(b"-");
         }
@@ -66,7 +55,7 @@ impl Row {
     }
 
     /// Adds a number in decimal.
-    fn digits(&mut self, number: u32) {
+    fn digits(&mut self, number: u64) {
         if number >= 10 {
             self.digits(number / 10);
         }

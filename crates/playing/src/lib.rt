@@ -7,4 +7,4 @@ mod watcher;
 
 pub use games::{Ending, UPDATE_CYCLES, play};
 pub use pilot::{Pilot, pilots};
-pub use watcher::{Question, Turn, Watcher};
+pub use watcher::{Question, Turn, Watcher, word_of};

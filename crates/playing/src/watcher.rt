@@ -27,6 +27,15 @@ pub struct Question {
     pub reply: i32,
 }
 
+/// Returns the word of what a robot restarts for.
+pub fn word_of(cause: Cause) -> &'static str {
+    match cause {
+        Cause::Words => "words",
+        Cause::Frames => "frames",
+        Cause::Returned => "returned",
+    }
+}
+
 /// What sees a match as it is played. A call that isn't written does nothing.
 pub trait Watcher {
     /// The match begins: the robots have their places.
@@ -35,11 +44,27 @@ pub trait Watcher {
     /// A live robot is about to run a cycle.
     fn turn(&mut self, turn: Turn, pilot: &Pilot<'_>) {}
 
-    /// In its turn a robot has asked the field. Its machine doesn't have the reply yet.
+    /// In its turn a robot has asked the field. Its machine doesn't have the reply yet. If this isn't written, it passes
+    /// on shots and scans.
     fn asked(&mut self, turn: Turn, pilot: &Pilot<'_>, question: Question, arena: &Arena)
         requires inside { turn.robot < length arena.now.robots }
         requires cycle { turn.cycle ≤ CYCLES_MAX }
+    {
+        match question.intrinsic {
+            Intrinsic::Cannon => self.shot(turn, question, arena),
+            Intrinsic::Scan => self.scanned(turn, question),
+            _ => {}
+        }
+    }
+
+    /// In its turn a robot has called `cannon`. The shot may be refused.
+    fn shot(&mut self, turn: Turn, question: Question, arena: &Arena)
+        requires inside { turn.robot < length arena.now.robots }
+        requires cycle { turn.cycle ≤ CYCLES_MAX }
     {}
+
+    /// In its turn a robot has called `scan`.
+    fn scanned(&mut self, turn: Turn, question: Question) {}
 
     /// In its turn a robot is about to restart.
     fn restarts(&mut self, turn: Turn, pilot: &Pilot<'_>, cause: Cause) {}

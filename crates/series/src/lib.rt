@@ -19,7 +19,8 @@ pub use listings::put_listing;
 pub use runs::{compile_files, run};
 pub use series::Series;
 pub use settings::{
-    CYCLES_DEFAULT, CYCLES_MAX, FILES_MAX, FIRST_MAX, MATCHES_MAX, Mode, SEED_DEFAULT, Settings,
+    CYCLES_DEFAULT, CYCLES_MAX, FILES_MAX, FIRST_MAX, MATCHES_MAX, Mode, Numbers, SEED_DEFAULT,
+    Settings,
 };
 pub use sinks::{PAGE, Pen, Recorder, Sink, name_of, put_all, put_diagnostic};
 pub use tokens::{DeviceFault, Feed};

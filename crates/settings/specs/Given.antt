@@ -4,10 +4,11 @@ use Rattle.grammar.specs.Profile.{Profile, IsProfile, first_profile, second_prof
 use Rattle.settings.specs.declared.faults.UseFault.{UseFault}
 use Rattle.settings.specs.declared.faults.UseFault.TheVariants.{Number, TooMany, NoMode}
 use Rattle.settings.specs.declared.settings.Mode.{Mode}
+use Rattle.settings.specs.declared.settings.Numbers.{Numbers}
 use Rattle.settings.specs.declared.settings.Mode.TheVariants.{Listing, Matches}
 use Rattle.settings.specs.Limits.{matches_max, matches_default, cycles_max, cycles_default, seed_max, seed_default, first_max, first_default, files_max}
 use Rattle.settings.specs.Numbers.{number_of}
-use Rattle.settings.specs.Setup.{Setup}
+use Rattle.settings.specs.Setup.{Setup, setup_of}
 
 -- whether `-c` was given, the texts of `-m`, `-l`, `-s`, `-p` and `-f`, and the words that name files
 pub record Given : Type 0 where
@@ -32,15 +33,7 @@ profile_by n = if n == 1 then first_profile else second_profile
 abbrev pub mode_of : Given → Option Mode
 mode_of given = if given.listing then Some Listing else option_map (λ _. Matches) given.matches
 
--- the numbers of a command line
-pub record Numbers : Type 0 where
-  pub matches : ℕ
-  pub limit : ℕ
-  pub seed : ℕ
-  pub profile : Profile
-  pub first : ℕ
-
--- each is within its limits
+-- each number is within its limits
 pub record AreWithin (numbers : Numbers) : Type 0 where
   pub matches : (1 ≤ numbers.matches) × (numbers.matches ≤ matches_max)
   pub limit : (1 ≤ numbers.limit) × (numbers.limit ≤ cycles_max)
@@ -62,17 +55,6 @@ numbers_of given =
     with_number (value_of 1 2 1 given.profile) (λ profile.
     with_number (value_of 1 first_max first_default given.first) (λ first.
     Some (record { matches = matches; limit = limit; seed = seed; profile = profile_by profile; first = first }))))))
-
-abbrev pub setup_of : Numbers → Mode → List (List ℕ) → Setup
-setup_of numbers mode files = record {
-  mode = mode;
-  matches = numbers.matches;
-  limit = numbers.limit;
-  seed = numbers.seed;
-  profile = numbers.profile;
-  first = numbers.first;
-  words = files;
-}
 
 -- the settings, with these numbers and this mode, or the first fault: a value, then how many files there are, then the
 -- mode

@@ -2,6 +2,7 @@
 use Rattle.std.specs.Prelude.{ℕ, ◌≤◌, List, length}
 use Rattle.grammar.specs.Profile.{Profile, IsProfile}
 use Rattle.settings.specs.declared.settings.Mode.{Mode}
+use Rattle.settings.specs.declared.settings.Numbers.{Numbers}
 use Rattle.settings.specs.Limits.{matches_max, cycles_max, seed_max, first_max, files_max}
 
 -- the mode, the matches and the most cycles of each, the seed, the language profile, the number of the first match, and
@@ -27,3 +28,15 @@ pub record IsSetup (setup : Setup) : Type 0 where
   pub most_first : setup.first ≤ first_max
   pub some_file : 1 ≤ length setup.words
   pub most_files : length setup.words ≤ files_max
+
+-- the setup of these numbers, this mode and these files
+abbrev pub setup_of : Numbers → Mode → List (List ℕ) → Setup
+setup_of numbers mode files = record {
+  mode = mode;
+  matches = numbers.matches;
+  limit = numbers.limit;
+  seed = numbers.seed;
+  profile = numbers.profile;
+  first = numbers.first;
+  words = files;
+}

@@ -1,12 +1,12 @@
 //! What the command line gave, and the settings that follow from it.
 
 ghost use Rattle.std.specs.Prelude.{◌≡◌, ◌<◌, ◌≤◌, length, map, option_map, IfSome};
-ghost use Rattle.settings.specs.Given.{mode_of, numbers_of, profile_by, asked_by, setup_of, value_of};
+ghost use Rattle.settings.specs.Given.{AreWithin, mode_of, numbers_of, profile_by, asked_by, value_of};
 
 use crate::faults::UseFault;
 use crate::limits::{CYCLES_DEFAULT, CYCLES_MAX, FILES_MAX, FIRST_MAX, MATCHES_MAX, SEED_DEFAULT};
 use crate::numbers::number;
-use crate::settings::{Mode, Settings};
+use crate::settings::{Mode, Numbers, Settings};
 use arrayvec::ArrayVec;
 use grammar::Profile;
 use std::marker::Model;
@@ -66,63 +66,14 @@ pub fn settle<'a>(given: Given<'_, 'a>) -> Result<Settings<'a>, UseFault>
     let Some(mode) = mode(&given) else {
         return Err(UseFault::NoMode);
     };
-    Ok(numbers.settings(mode, words))
-}
-
-/// The numbers that a command line asks for, each within its limits.
-#[derive(Drop)]
-struct Numbers {
-    matches: u32,
-    limit: u32,
-    seed: u64,
-    profile: Profile,
-    first: u32,
-}
-
-impl Model for Numbers {
-    ghost use Rattle.settings.specs.Given.{Numbers, AreWithin};
-
-    ghost Value = { Numbers };
-
-    ghost view = { λ n. record {
-      matches = n.matches;
-      limit = n.limit;
-      seed = n.seed;
-      profile = n.profile;
-      first = n.first;
-    } };
-
-    ghost invariant = { λ n. AreWithin (record {
-      matches = n.matches;
-      limit = n.limit;
-      seed = n.seed;
-      profile = n.profile;
-      first = n.first;
-    }) };
-}
-
-impl Numbers {
-    /// Makes the settings of these numbers, this mode and these files.
-    fn settings<'a>(self, mode: Mode, words: ArrayVec<&'a str, FILES_MAX>) -> Settings<'a>
-        requires { 0 < length words.items }
-        ensures { result ≡ setup_of self mode (map (λ word. word.now) words.entry.items) }
-    {
-        Settings::new(
-            mode,
-            self.matches,
-            self.limit,
-            self.seed,
-            self.profile,
-            self.first,
-            words,
-        )
-    }
+    Ok(Settings::new(mode, numbers, words))
 }
 
 /// Returns the numbers that are asked for, if each value is one within its limits.
 #[tactic(auto, unfolding(crate::specs::Given::numbers_of))]
 fn read_numbers(given: &Given<'_, '_>) -> Option<Numbers>
-    ensures { result ≡ numbers_of given.now }
+    ensures value { result ≡ numbers_of given.now }
+    ensures within { IfSome result AreWithin }
 {
     Some(Numbers {
         matches: value(given.matches, 1, u64::from(MATCHES_MAX), 1)? as u32,

@@ -13,4 +13,4 @@ pub use given::{Given, settle};
 pub use known::known_settings;
 pub use limits::{CYCLES_DEFAULT, CYCLES_MAX, FILES_MAX, FIRST_MAX, MATCHES_MAX, SEED_DEFAULT};
 pub use numbers::number;
-pub use settings::{Mode, Settings};
+pub use settings::{Mode, Numbers, Settings};

@@ -1,7 +1,7 @@
 //! What a run is asked to do.
 
 ghost use Rattle.std.specs.Prelude.{◌≡◌, map};
-ghost use Rattle.settings.specs.Setup.{Setup, IsSetup};
+ghost use Rattle.settings.specs.Setup.{Setup, IsSetup, setup_of};
 
 use crate::limits::FILES_MAX;
 use arrayvec::ArrayVec;
@@ -17,80 +17,46 @@ pub enum Mode {
     Matches,
 }
 
-/// What a run is asked to do: its mode, how many matches of at most how many cycles it plays, the seed of its random
-/// numbers, the language profile of its files, the number of its first match, and the words that name its files.
+/// The numbers of a run, and the language profile of all its files.
+#[derive(Clone, Copy, Debug)]
+pub struct Numbers {
+    /// How many matches are played, 1 to 1,000,000.
+    pub matches: u32,
+    /// The most cycles of a match, 1 to 1,000,000,000.
+    pub limit: u32,
+    /// The seed of the random numbers.
+    pub seed: u64,
+    /// The language profile.
+    pub profile: Profile,
+    /// The number of the first match, 1 to 1,000,000.
+    pub first: u32,
+}
+
+/// What a run is asked to do: its mode, its numbers, and the words that name its files.
 #[derive(Drop)]
 pub struct Settings<'a> {
     mode: Mode,
-    matches: u32,
-    limit: u32,
-    seed: u64,
-    profile: Profile,
-    first: u32,
+    numbers: Numbers,
     words: ArrayVec<&'a str, FILES_MAX>,
 }
 
 impl<'a> Model for Settings<'a> {
     ghost Value = { Setup };
 
-    ghost view = { λ s. record {
-      mode = s.mode;
-      matches = s.matches;
-      limit = s.limit;
-      seed = s.seed;
-      profile = s.profile;
-      first = s.first;
-      words = map (λ word. word.now) s.words.items;
-    } };
+    ghost view = { λ s. setup_of s.numbers s.mode (map (λ word. word.now) s.words.items) };
 
-    ghost invariant = { λ s. IsSetup (record {
-      mode = s.mode;
-      matches = s.matches;
-      limit = s.limit;
-      seed = s.seed;
-      profile = s.profile;
-      first = s.first;
-      words = map (λ word. word.now) s.words.items;
-    }) };
+    ghost invariant = { λ s. IsSetup (view s) };
 }
 
 impl<'a> Settings<'a> {
-    /// Makes the settings of these parts.
-    pub fn new(
-        mode: Mode,
-        matches: u32,
-        limit: u32,
-        seed: u64,
-        profile: Profile,
-        first: u32,
-        words: ArrayVec<&'a str, FILES_MAX>,
-    ) -> Settings<'a>
-        requires { IsSetup (record {
-          mode = mode;
-          matches = matches;
-          limit = limit;
-          seed = seed;
-          profile = profile;
-          first = first;
-          words = map (λ word. word.now) words.items;
-        }) }
-        ensures { result ≡ record {
-          mode = mode;
-          matches = matches;
-          limit = limit;
-          seed = seed;
-          profile = profile;
-          first = first;
-          words = map (λ word. word.now) words.entry.items;
-        } }
+    /// Makes the settings of this mode, these numbers and these files.
+    pub fn new(mode: Mode, numbers: Numbers, words: ArrayVec<&'a str, FILES_MAX>) -> Settings<'a>
+        requires { IsSetup (setup_of numbers mode (map (λ word. word.now) words.items)) }
+        ensures { result ≡ setup_of numbers mode (map (λ word. word.now) words.entry.items) }
     {
         Settings {
             mode,
-            matches,
-            limit,
-            seed,
-            profile,
-            first,
+            numbers,
             words,
         }
     }
@@ -108,7 +74,7 @@ impl<'a> Settings<'a> {
         ensures value { result ≡ self.now.matches }
         ensures within { IsSetup self.now }
     {
-        self.matches
+        self.numbers.matches
     }
 
     /// Returns the most cycles of a match, 1 to 1,000,000,000.
@@ -116,7 +82,7 @@ impl<'a> Settings<'a> {
         ensures value { result ≡ self.now.limit }
         ensures within { IsSetup self.now }
     {
-        self.limit
+        self.numbers.limit
     }
 
     /// Returns the seed of the random numbers.
@@ -124,7 +90,7 @@ impl<'a> Settings<'a> {
         ensures value { result ≡ self.now.seed }
         ensures within { IsSetup self.now }
     {
-        self.seed
+        self.numbers.seed
     }
 
     /// Returns the language profile of all files.
@@ -132,7 +98,7 @@ impl<'a> Settings<'a> {
         ensures value { result ≡ self.now.profile }
         ensures within { IsSetup self.now }
     {
-        self.profile
+        self.numbers.profile
     }
 
     /// Returns the number of the first match, 1 to 1,000,000.
@@ -140,7 +106,7 @@ impl<'a> Settings<'a> {
         ensures value { result ≡ self.now.first }
         ensures within { IsSetup self.now }
     {
-        self.first
+        self.numbers.first
     }
 
     /// Returns the words that name the files, one to four.

@@ -1,3 +1,2 @@
-pub mod Wish
 pub mod Span
 pub mod Compiling

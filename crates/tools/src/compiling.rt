@@ -6,22 +6,22 @@ ghost use Rattle.tools.specs.Compiling.{CompilesTo};
 
 use crate::faults::Fault;
 use crate::files::opened;
-use crate::wishes::Wish;
 use code::{Maker, Profile, Program};
 use grammar::{Diagnostic, ParseFault, Pools};
 use parser::parse;
+use settings::Settings;
 use tokens::{DeviceFault, Feed, FileFeed};
 
 /// Compiles the files of a wish, and writes the diagnostic of each faulty one, or a line about the first that can't be
 /// opened or read, with the name of the program that asks.
-pub fn programs(rt: &HostRuntime, program: &str, wish: &Wish<'_>) -> Result<Vec<Program>, Fault>
-    ensures each { IfOk result (λ programs. length programs.items ≡ length wish.now.files) }
+pub fn programs(rt: &HostRuntime, program: &str, wish: &Settings<'_>) -> Result<Vec<Program>, Fault>
+    ensures each { IfOk result (λ programs. length programs.items ≡ length wish.now.words) }
     ensures some { IfOk result (λ programs. 0 < length programs.items) }
     ensures most { IfOk result (λ programs. length programs.items ≤ 4) }
 {
     let mut programs = Vec::new(rt.alloc());
     let mut is_faulty = false;
-    for word in wish.files() {
+    for word in wish.words() {
         let file = opened(rt, program, word)?;
         match compile(wish.profile(), &mut FileFeed::new(file)) {
             Ok(Ok(made)) => programs.push(made.program).map_err(|_| Fault::Memory)?,

@@ -19,7 +19,7 @@ pub use frames::{Frame, Work};
 pub use options::{Known, Options, read_options};
 pub use outputs::{Output, write_text};
 pub use spans::{SPAN_OPTIONS, Span};
-pub use wishes::{MATCH_OPTIONS, Wish, number_of, profile};
+pub use wishes::{MATCH_OPTIONS, file_of, number_of, profile, wish};
 
 #[cfg(test)]
 mod tests;

@@ -4,12 +4,12 @@ ghost use Rattle.std.specs.Prelude.{◌<◌, length};
 
 use crate::notes::{Note, note_of, place_of};
 use crate::requests::Request;
-use crate::rows::{Field, Rows};
+use crate::rows::Rows;
 use crate::tellers::Teller;
 use arena::{Arena, MOST_ROBOTS};
-use code::{Cause, Intrinsic};
-use findings::{Loss, Seen, Source, Stance, losses};
-use playing::{Pilot, Question, Turn, Watcher};
+use code::Cause;
+use findings::{Event, Field, Listener, Seen, Stance};
+use playing::{Pilot, Question, Turn, Watcher, word_of};
 use tools::{Fault, Span};
 
 /// The names of the columns.
@@ -39,13 +39,6 @@ impl<'a> Events<'a> {
         }
     }
 
-    /// Writes an event, if its cycle and its robot are looked at.
-    fn tell(&mut self, cycle: u32, robot: usize, kind: &str, fields: &[Field<'_>]) {
-        if self.span.has(cycle, robot) {
-            self.rows.event(cycle, robot, kind, fields);
-        }
-    }
-
     /// Writes the names of the robots that are looked at.
     fn name_robots(&mut self) {
         let notes = self.notes;
@@ -53,82 +46,8 @@ impl<'a> Events<'a> {
             if let Some(note) = note_of(notes, robot)
                 && self.span.has_robot(robot)
             {
-                self.rows
-                    .event(0, robot, "name", &[Field::Text(note.name.as_str())]);
-            }
-        }
-    }
-
-    /// Writes what a robot that shoots is told.
-    fn shoot(&mut self, turn: Turn, question: &Question, arena: &Arena)
-        requires { turn.robot < length arena.now.robots }
-    {
-        let [degree, range] = question.arguments;
-        let aim = [
-            Field::Number(i64::from(degree)),
-            Field::Number(i64::from(range)),
-        ];
-        if question.reply == 0 {
-            self.tell(turn.cycle, turn.robot, "refused", &aim);
-            return;
-        }
-        let (x, y) = arena.place(turn.robot);
-        let [a, b] = aim;
-        let fields = [
-            a,
-            b,
-            Field::Number(i64::from(x)),
-            Field::Number(i64::from(y)),
-        ];
-        self.tell(turn.cycle, turn.robot, "shot", &fields);
-    }
-
-    /// Writes the first scan of a robot since the last update.
-    fn scan(&mut self, turn: Turn, question: &Question) {
-        let Some(seen) = self.seen.get_mut(turn.robot) else {
-            return;
-        };
-        if !self.is_film || !seen.scan() {
-            return;
-        }
-        let [degree, resolution] = question.arguments;
-        let fields = [
-            Field::Number(i64::from(degree)),
-            Field::Number(i64::from(resolution)),
-            Field::Number(i64::from(question.reply)),
-        ];
-        self.tell(turn.cycle, turn.robot, "scan", &fields);
-    }
-
-    /// Writes the bursts of an update.
-    fn tell_bursts(&mut self, cycle: u32, arena: &Arena) {
-        for burst in &arena.due() {
-            let place = [
-                Field::Number(i64::from(burst.x())),
-                Field::Number(i64::from(burst.y())),
-            ];
-            self.tell(cycle, burst.robot(), "burst", &place);
-        }
-    }
-
-    /// Writes what an update takes from a robot.
-    fn tell_losses(&mut self, cycle: u32, robot: usize, losses: &[Loss]) {
-        for loss in losses {
-            let percent = Field::Number(i64::from(loss.percent));
-            match loss.source {
-                Source::Wall => self.tell(cycle, robot, "wall", &[percent]),
-                Source::Collision(other) => {
-                    self.tell(cycle, robot, "collision", &[percent, number_of(other)]);
-                }
-                Source::Shot(by, x, y) => {
-                    let place = [
-                        percent,
-                        number_of(by),
-                        Field::Number(i64::from(x)),
-                        Field::Number(i64::from(y)),
-                    ];
-                    self.tell(cycle, robot, "hurt", &place);
-                }
+                let name = [Field::Text(note.name.as_str())];
+                self.rows.event(0, robot, &Event::new("name", &name));
             }
         }
     }
@@ -150,7 +69,7 @@ impl<'a> Events<'a> {
         if let Some(seen) = self.seen.get_mut(robot) {
             let died = seen.look(arena.damage(robot), arena.alive(robot));
             if died {
-                self.tell(cycle, robot, "death", &[]);
+                self.tell(cycle, robot, &Event::new("death", &[]));
             }
         }
         if self.is_film && self.span.has(cycle, robot) {
@@ -166,11 +85,11 @@ impl<'a> Events<'a> {
         let news = seen.run.go_on(stance);
         if let Some(end) = news.end {
             self.rows
-                .event_before(end.cycle, robot, "at", &fields_of(&end));
+                .event_before(end.cycle, robot, &Event::stance("at", &end));
         }
         if let Some(begin) = news.begin {
             self.rows
-                .event(begin.cycle, robot, "at", &fields_of(&begin));
+                .event(begin.cycle, robot, &Event::stance("at", &begin));
         }
     }
 
@@ -182,7 +101,7 @@ impl<'a> Events<'a> {
                 && let Some(end) = seen.run.end()
             {
                 self.rows
-                    .event_before(end.cycle, robot, "at", &fields_of(&end));
+                    .event_before(end.cycle, robot, &Event::stance("at", &end));
             }
         }
         if self.is_film && self.span.to < cycle {
@@ -193,12 +112,21 @@ impl<'a> Events<'a> {
     }
 
     /// Writes the robots' damages after a cycle, as this kind.
-    fn tell_damages(&mut self, cycle: u32, kind: &str) {
+    fn tell_damages(&mut self, cycle: u32, kind: &'static str) {
         for robot in 0..self.robots {
             if let Some(seen) = self.seen.get(robot) {
-                let damage = Field::Number(i64::from(seen.damage));
-                self.tell(cycle, robot, kind, &[damage]);
+                let damage = i32::from(seen.damage);
+                self.tell(cycle, robot, &Event::of_numbers(kind, &[damage]));
             }
+        }
+    }
+}
+
+impl Listener for Events<'_> {
+    /// Writes an event, if its cycle and its robot are looked at.
+    fn tell(&mut self, cycle: u32, robot: usize, event: &Event<'_>) {
+        if self.span.has(cycle, robot) {
+            self.rows.event(cycle, robot, event);
         }
     }
 }
@@ -212,11 +140,25 @@ impl Watcher for Events<'_> {
         self.look(0, arena);
     }
 
-    fn asked(&mut self, turn: Turn, _pilot: &Pilot<'_>, question: Question, arena: &Arena) {
-        match question.intrinsic {
-            Intrinsic::Cannon => self.shoot(turn, &question, arena),
-            Intrinsic::Scan => self.scan(turn, &question),
-            _ => {}
+    fn shot(&mut self, turn: Turn, question: Question, arena: &Arena) {
+        let [degree, range] = question.arguments;
+        let event = if question.reply == 0 {
+            Event::of_numbers("refused", &[degree, range])
+        } else {
+            let (x, y) = arena.place(turn.robot);
+            Event::of_numbers("shot", &[degree, range, i32::from(x), i32::from(y)])
+        };
+        self.tell(turn.cycle, turn.robot, &event);
+    }
+
+    fn scanned(&mut self, turn: Turn, question: Question) {
+        let Some(seen) = self.seen.get_mut(turn.robot) else {
+            return;
+        };
+        if self.is_film && seen.scan() {
+            let [degree, resolution] = question.arguments;
+            let event = Event::of_numbers("scan", &[degree, resolution, question.reply]);
+            self.tell(turn.cycle, turn.robot, &event);
         }
     }
 
@@ -228,15 +170,11 @@ impl Watcher for Events<'_> {
             Field::Text(function),
             Field::Number(i64::from(line)),
         ];
-        self.tell(turn.cycle, turn.robot, "restart", &fields);
+        self.tell(turn.cycle, turn.robot, &Event::new("restart", &fields));
     }
 
     fn updates(&mut self, cycle: u32, arena: &Arena) {
-        self.tell_bursts(cycle, arena);
-        for robot in 0..arena.robot_count() {
-            let losses = losses(arena, robot);
-            self.tell_losses(cycle, robot, losses.as_slice());
-        }
+        self.tell_update(cycle, arena);
     }
 
     fn updated(&mut self, cycle: u32, arena: &Arena) {
@@ -253,29 +191,4 @@ impl Teller for Events<'_> {
         self.end(cycles);
         self.rows.finish()
     }
-}
-
-/// Returns the word of a cause.
-pub fn word_of(cause: Cause) -> &'static str {
-    match cause {
-        Cause::Words => "words",
-        Cause::Frames => "frames",
-        Cause::Returned => "returned",
-    }
-}
-
-/// Returns the field of a robot's number, which counts from 1.
-fn number_of(robot: usize) -> Field<'static> {
-    Field::Number(robot.min(MOST_ROBOTS) as i64 + 1)
-}
-
-/// Returns the fields of where a robot is.
-fn fields_of(stance: &Stance) -> [Field<'static>; 5] {
-    [
-        Field::Number(i64::from(stance.x)),
-        Field::Number(i64::from(stance.y)),
-        Field::Number(i64::from(stance.heading)),
-        Field::Number(i64::from(stance.speed)),
-        Field::Number(i64::from(stance.damage)),
-    ]
 }

@@ -6,10 +6,11 @@ use code::{Profile, Program};
 use derivations::{Places, lines};
 use findings::function_at;
 use grammar::Pools;
+use settings::Settings;
 use std::alloc::{AllocError, Global};
 use std::str;
 use tokens::{Pieces, WINDOW};
-use tools::{Compiled, Fault, Wish, compile, name_of, source_of, tell_diagnostic};
+use tools::{Compiled, Fault, compile, name_of, source_of, tell_diagnostic};
 
 /// What is known of a file beside its program.
 #[derive(Drop)]
@@ -90,14 +91,14 @@ pub struct Sources {
 
 /// Compiles the files of a wish, and writes the diagnostic of each faulty one, or a line about the first that can't be
 /// opened or read, with the name of the program that asks.
-pub fn compiled(rt: &HostRuntime, program: &str, wish: &Wish<'_>) -> Result<Sources, Fault>
+pub fn compiled(rt: &HostRuntime, program: &str, wish: &Settings<'_>) -> Result<Sources, Fault>
     ensures some { IfOk result (λ sources. 0 < length sources.programs.items) }
     ensures most { IfOk result (λ sources. length sources.programs.items ≤ 4) }
 {
     let mut programs = Vec::new(rt.alloc());
     let mut notes = Vec::new(rt.alloc());
     let mut is_faulty = false;
-    for word in wish.files() {
+    for word in wish.words() {
         match compiled_file(rt, program, wish, word)? {
             Some((made, note)) => {
                 programs.push(made).map_err(|_| Fault::Memory)?;
@@ -116,7 +117,7 @@ pub fn compiled(rt: &HostRuntime, program: &str, wish: &Wish<'_>) -> Result<Sour
 fn compiled_file(
     rt: &HostRuntime,
     program: &str,
-    wish: &Wish<'_>,
+    wish: &Settings<'_>,
     word: &str,
 ) -> Result<Option<(Program, Note)>, Fault> {
     let text = source_of(rt, program, word)?;

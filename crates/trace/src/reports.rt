@@ -28,7 +28,7 @@ pub fn add_report(
     pilots: &[Pilot<'_>],
     tallies: &[Tally],
 ) -> Result<(), AllocError> {
-    let number = request.wish.number();
+    let number = request.wish.first();
     write!(text, "Match {number}: cycles = {cycles}\n")?;
     for (robot, tally) in tallies.iter().enumerate() {
         add_end(text, robot, tally, name_of(notes, robot))?;

@@ -1,6 +1,7 @@
 //! What is asked for: a match, a form, and a span of it.
 
-use tools::{Fault, Known, Options, Span, Wish};
+use settings::Settings;
+use tools::{Fault, Known, Options, Span, wish};
 
 /// The options that a form is asked for by.
 pub const FORM_OPTIONS: [Known; 5] = [
@@ -39,7 +40,7 @@ const FORMS: [(&str, Form); 5] = [
 #[derive(Drop)]
 pub struct Request<'a> {
     /// The match.
-    pub wish: Wish<'a>,
+    pub wish: Settings<'a>,
     /// The form.
     pub form: Form,
     /// What is looked at.
@@ -49,9 +50,9 @@ pub struct Request<'a> {
 impl<'a> Request<'a> {
     /// Reads what options ask for: a match, a span of it, and a form, sums by default. Two forms are wrong usage.
     pub fn read(options: &Options<'a>) -> Result<Request<'a>, Fault> {
-        let wish = Wish::read(options)?;
+        let wish = wish(options)?;
         let form = options.only(&FORMS)?.unwrap_or(Form::Sum);
-        let span = Span::read(options, wish.files().len().max(2))?;
+        let span = Span::read(options, wish.words().len().max(2))?;
         Ok(Request { wish, form, span })
     }
 

@@ -1,19 +1,8 @@
 //! Rows of fields with tabs between them, on standard output.
 
+use findings::{Event, Field, MOST_FIELDS};
 use std::alloc::AllocError;
 use tools::{Fault, Output};
-
-/// How many fields a row of events has after its kind.
-const FIELDS: usize = 5;
-
-/// A field of a row.
-#[derive(Clone, Copy)]
-pub enum Field<'a> {
-    /// A number.
-    Number(i64),
-    /// A text.
-    Text(&'a str),
-}
 
 /// Rows that are written on standard output. After a fault nothing more is written, and `finish` answers it.
 #[derive(Drop)]
@@ -43,15 +32,15 @@ impl<'a> Rows<'a> {
         self.fault.is_none()
     }
 
-    /// Adds a row of an event: its cycle, its robot, its kind, and up to five fields.
-    pub fn event(&mut self, cycle: u32, robot: usize, kind: &str, fields: &[Field<'_>]) {
-        let added = added_event(&mut self.pending, cycle, robot, kind, fields);
+    /// Adds a row of an event: its cycle, its robot, its kind, and its fields.
+    pub fn event(&mut self, cycle: u32, robot: usize, event: &Event<'_>) {
+        let added = added_event(&mut self.pending, cycle, robot, event);
         self.note(added.map_err(Fault::from));
     }
 
     /// Adds a row of an event in front of those that were added since the last `pass`.
-    pub fn event_before(&mut self, cycle: u32, robot: usize, kind: &str, fields: &[Field<'_>]) {
-        let added = added_event(self.output.text(), cycle, robot, kind, fields);
+    pub fn event_before(&mut self, cycle: u32, robot: usize, event: &Event<'_>) {
+        let added = added_event(self.output.text(), cycle, robot, event);
         self.note(added.map_err(Fault::from));
     }
 
@@ -108,14 +97,13 @@ fn added_event(
     text: &mut String,
     cycle: u32,
     robot: usize,
-    kind: &str,
-    fields: &[Field<'_>],
+    event: &Event<'_>,
 ) -> Result<(), AllocError> {
-    let number = robot.saturating_add(1);
+    let (number, kind) = (robot.saturating_add(1), event.kind);
     write!(text, "{cycle}\t{number}\t{kind}")?;
-    for n in 0..FIELDS {
+    for n in 0..MOST_FIELDS {
         text.push('\t')?;
-        match fields.get(n) {
+        match event.fields.as_slice().get(n) {
             Some(Field::Number(number)) => write!(text, "{number}")?,
             Some(Field::Text(field)) => text.push_str(field)?,
             None => {}

@@ -24,12 +24,6 @@ pub fn tell<T: Teller>(
     requires most { length pilots.old ≤ MOST_ROBOTS }
 {
     let wish = &request.wish;
-    let ending = play(
-        pilots,
-        &mut teller,
-        wish.seed(),
-        wish.number(),
-        wish.limit(),
-    );
+    let ending = play(pilots, &mut teller, wish.seed(), wish.first(), wish.limit());
     teller.finish(request, ending.cycles, pilots)
 }

@@ -22,7 +22,7 @@ const SIGNS: &str =
 
 /// Adds the legend.
 pub fn add_legend(text: &mut String, scene: &Scene<'_>) -> Result<(), AllocError> {
-    let (number, cycles) = (scene.request.wish.number(), scene.recording.cycles);
+    let (number, cycles) = (scene.request.wish.first(), scene.recording.cycles);
     write!(
         text,
         "<g fill=\"#222222\">\n<text x=\"1080\" y=\"70\" font-size=\"22\">Match {number}: cycles = {cycles}</text>\n"

@@ -6,9 +6,8 @@ ghost use Rattle.std.specs.Option.{option_or};
 use crate::requests::View;
 use arena::{Arena, MOST_ROBOTS};
 use arrayvec::ArrayVec;
-use code::Intrinsic;
 use playing::{Pilot, Question, Turn, UPDATE_CYCLES, Watcher};
-use tools::Wish;
+use settings::Settings;
 use trails::{Path, Place, Shot, Shots};
 
 /// The damage in percent at which a robot is dead.
@@ -118,7 +117,7 @@ impl Recording {
 }
 
 /// Plays the match that is wished for, and records what of it is drawn.
-pub fn record(pilots: &mut [Pilot<'_>], wish: &Wish<'_>, view: View) -> Recording
+pub fn record(pilots: &mut [Pilot<'_>], wish: &Settings<'_>, view: View) -> Recording
     requires some { 2 ≤ length pilots.old }
     requires most { length pilots.old ≤ MOST_ROBOTS }
     ensures { result.cycles ≤ wish.now.limit }
@@ -132,7 +131,7 @@ pub fn record(pilots: &mut [Pilot<'_>], wish: &Wish<'_>, view: View) -> Recordin
         pilots,
         &mut recorder,
         wish.seed(),
-        wish.number(),
+        wish.first(),
         wish.limit(),
     );
     Recording {
@@ -189,9 +188,9 @@ impl Watcher for Recorder {
         self.watch(arena, 0);
     }
 
-    fn asked(&mut self, turn: Turn, _pilot: &Pilot<'_>, question: Question, arena: &Arena) {
+    fn shot(&mut self, turn: Turn, question: Question, arena: &Arena) {
         let is_drawn = self.view.has_shots && self.view.span.has(turn.cycle, turn.robot);
-        if is_drawn && question.intrinsic == Intrinsic::Cannon && question.reply == 1 {
+        if is_drawn && question.reply == 1 {
             let updates = turn.cycle.saturating_sub(1) / UPDATE_CYCLES;
             let from = Place::of(arena, turn.robot);
             self.shots

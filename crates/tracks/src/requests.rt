@@ -1,6 +1,7 @@
 //! What is asked for: a match, and what of it is drawn.
 
-use tools::{Fault, Known, Options, Span, Wish};
+use settings::Settings;
+use tools::{Fault, Known, Options, Span, wish};
 
 /// The options of what is drawn besides a span.
 pub const VIEW_OPTIONS: [Known; 1] = [Known::Flag("no-shots")];
@@ -9,7 +10,7 @@ pub const VIEW_OPTIONS: [Known; 1] = [Known::Flag("no-shots")];
 #[derive(Drop)]
 pub struct Request<'a> {
     /// The match.
-    pub wish: Wish<'a>,
+    pub wish: Settings<'a>,
     /// What of it is drawn.
     pub view: View,
 }
@@ -17,8 +18,8 @@ pub struct Request<'a> {
 impl<'a> Request<'a> {
     /// Reads what options ask for.
     pub fn read(options: &Options<'a>) -> Result<Request<'a>, Fault> {
-        let wish = Wish::read(options)?;
-        let span = Span::read(options, wish.files().len().max(2))?;
+        let wish = wish(options)?;
+        let span = Span::read(options, wish.words().len().max(2))?;
         let has_shots = !options.has("no-shots");
         let view = View { span, has_shots };
         Ok(Request { wish, view })

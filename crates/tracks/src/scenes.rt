@@ -4,7 +4,7 @@ use crate::ink::{Period, add_name, colour};
 use crate::matches::{Recording, Track};
 use crate::requests::Request;
 use std::alloc::AllocError;
-use tools::name_of;
+use tools::{file_of, name_of};
 
 /// A match that was recorded, with what is asked for of it and the updates that are drawn.
 #[derive(Clone, Copy)]
@@ -31,7 +31,7 @@ impl<'a> Scene<'a> {
     pub fn robot(&self, index: usize, track: &'a Track) -> Robot<'a> {
         Robot {
             index,
-            name: name_of(self.request.wish.file_of(index)),
+            name: name_of(file_of(&self.request.wish, index)),
             track,
         }
     }

@@ -5,24 +5,24 @@ use Rattle.std.proofs.lemmas.Bool.{cases_lt, cases_eq, cases_order}
 use Rattle.std.proofs.lemmas.List.{length-append}
 use Rattle.std.proofs.lemmas.Option.{slice_get_past}
 use Rattle.std.proofs.Math.Nat.{suc-mul, mul_assoc, mul-le-mul_right, le_of_mul-le-mul_right}
-use Rattle.trails.specs.Spot.{Spot}
+use Rattle.trails.specs.declared.places.Place.{Place}
 use Rattle.trails.specs.Path.{Trail, Keeps}
 
-get_before : (xs : List Spot) (x : Spot) (n : ℕ) → n < length xs → slice_get (xs ++ x ∷ []) n ≡ slice_get xs n
+get_before : (xs : List Place) (x : Place) (n : ℕ) → n < length xs → slice_get (xs ++ x ∷ []) n ≡ slice_get xs n
 get_before [] x n h = absurd (omega arith)
 get_before (y ∷ ys) x zero h = refl
 get_before (y ∷ ys) x (suc n) h = get_before ys x n (omega arith)
 
-get_last : (xs : List Spot) (x : Spot) → slice_get (xs ++ x ∷ []) (length xs) ≡ Some x
+get_last : (xs : List Place) (x : Place) → slice_get (xs ++ x ∷ []) (length xs) ≡ Some x
 get_last [] x = refl
 get_last (y ∷ ys) x = get_last ys x
 
-get_beyond : (xs : List Spot) (x : Spot) (n : ℕ) → length xs < n → slice_get (xs ++ x ∷ []) n ≡ slice_get xs n
+get_beyond : (xs : List Place) (x : Place) (n : ℕ) → length xs < n → slice_get (xs ++ x ∷ []) n ≡ slice_get xs n
 get_beyond xs x n h =
     slice_get_past (xs ++ x ∷ []) n (omega (arith, length-append xs (x ∷ []))) ∙ sym (slice_get_past xs n (omega arith))
 
 -- one more place changes no other
-get_other : (xs : List Spot) (x : Spot) (n : ℕ) → (n ≡ length xs → ⊥) → slice_get (xs ++ x ∷ []) n ≡ slice_get xs n
+get_other : (xs : List Place) (x : Place) (n : ℕ) → (n ≡ length xs → ⊥) → slice_get (xs ++ x ∷ []) n ≡ slice_get xs n
 get_other xs x n off = elim (cases_order n (length xs)) [
   | inl e ↦ absurd (off e)
   | inr (inl h) ↦ get_before xs x n h
@@ -47,7 +47,7 @@ same_multiple n k stride some e =
     omega (arith, up, down)
 
 -- a place that isn't due
-pub keeps_skipped : (t u : Trail) (ps : List Spot) (p : Spot) → Keeps t ps → t.skip < t.stride → u.places ≡ t.places →
+pub keeps_skipped : (t u : Trail) (ps : List Place) (p : Place) → Keeps t ps → t.skip < t.stride → u.places ≡ t.places →
     u.stride ≡ t.stride
     → u.skip + 1 ≡ t.skip → Keeps u (ps ++ p ∷ [])
 keeps_skipped t u ps p k small same stride skip = record {
@@ -65,7 +65,7 @@ keeps_skipped t u ps p k small same stride skip = record {
 }
 
 -- a place that is due
-pub keeps_pushed : (t u : Trail) (ps : List Spot) (p : Spot) → Keeps t ps → t.skip ≡ 0 → 0 < t.stride →
+pub keeps_pushed : (t u : Trail) (ps : List Place) (p : Place) → Keeps t ps → t.skip ≡ 0 → 0 < t.stride →
     u.places ≡ t.places ++ p ∷ []
     → u.stride ≡ t.stride → u.skip + 1 ≡ t.stride → Keeps u (ps ++ p ∷ [])
 keeps_pushed t u ps p k due some more stride skip =
@@ -93,7 +93,7 @@ keeps_pushed t u ps p k due some more stride skip =
     }
 
 -- a full trail of which each second place is dropped
-pub keeps_thinned : (t u : Trail) (ps : List Spot) → Keeps t ps → t.skip ≡ 0 → u.skip ≡ 0 → length t.places ≡ 2000
+pub keeps_thinned : (t u : Trail) (ps : List Place) → Keeps t ps → t.skip ≡ 0 → u.skip ≡ 0 → length t.places ≡ 2000
     → ((n : ℕ) → n < length t.places / 2 → slice_get u.places n ≡ slice_get t.places (2 * n)) →
     length u.places ≡ length t.places / 2
     → u.stride ≡ 2 * t.stride → Keeps u ps

@@ -2,7 +2,7 @@
 
 ghost use Rattle.std.specs.Prelude.{◌≡◌, ℕ, ◌*◌, ◌/◌, ◌≤◌, ◌<◌, List, [], ◌∷◌, ◌++◌, length, slice_get};
 ghost use Rattle.trails.specs.Path.{Keeps};
-ghost use Rattle.trails.specs.Spot.{Spot};
+ghost use Rattle.trails.specs.declared.places.Place.{Place};
 
 use crate::places::Place;
 use arrayvec::ArrayVec;
@@ -55,7 +55,7 @@ impl Path {
 
     /// Adds the robot's next place, and keeps it if it is due.
     pub fn add(&mut self, place: Place)
-        ensures { (places : List Spot) → self.old.stride ≤ MOST_STRIDE / 2 → Keeps self.old places
+        ensures { (places : List Place) → self.old.stride ≤ MOST_STRIDE / 2 → Keeps self.old places
             → Keeps self.new (places ++ place ∷ []) }
     {
         if self.skip > 0 {

@@ -18,7 +18,7 @@ pub fn column(place: Place) -> u32
     ensures value { result ≡ MARGIN + place.x / 10 }
     ensures inside { result ≤ MARGIN + SIDE }
 {
-    MARGIN + u32::from(place.x() / 10)
+    MARGIN + u32::from(place.x / 10)
 }
 
 /// Returns the place's row in the picture, in units from the top: north is up.
@@ -27,7 +27,7 @@ pub fn row(place: Place) -> u32
     ensures inside { MARGIN ≤ result }
     ensures most { result ≤ MARGIN + SIDE }
 {
-    MARGIN + (SIDE - u32::from(place.y() / 10))
+    MARGIN + (SIDE - u32::from(place.y / 10))
 }
 
 /// Returns the opacity in percent of what happened after so many of the match's updates: the older, the fainter.

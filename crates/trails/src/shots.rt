@@ -6,7 +6,7 @@ ghost use Rattle.arena.specs.Leg.{along, clamped, last_place};
 ghost use Rattle.arena.specs.Collisions.{square};
 ghost use Rattle.arena.specs.Shots.{aimed_x, aimed_y, flight, ring};
 ghost use Rattle.arena.specs.Ground.{most_updates};
-ghost use Rattle.trails.specs.Shots.{marked, shot_of};
+ghost use Rattle.trails.specs.Shots.{IsShotOf, marked};
 
 use crate::places::Place;
 use arena::LAST_PLACE;
@@ -53,18 +53,18 @@ impl Shot {
     #[tactic(auto, unfolding(arena::specs::Shots::aimed_x, arena::specs::Shots::aimed_y))]
     pub fn new(robot: usize, updates: u32, from: Place, arguments: [i32; 2]) -> Shot
         requires { updates ≤ most_updates }
-        ensures { (d r : ℤ) → arguments ≡ d ∷ r ∷ [] → result ≡ shot_of robot updates from d r }
+        ensures { (d r : ℤ) → arguments ≡ d ∷ r ∷ [] → IsShotOf robot updates from d r result }
     {
         let degree = norm_degree(arguments[0]);
         let range = range(arguments[1]);
-        let x = aimed(from.x(), range, cosine_at(degree));
-        let y = aimed(from.y(), range, sine_at(degree));
+        let x = aimed(from.x, range, cosine_at(degree));
+        let y = aimed(from.y, range, sine_at(degree));
         Shot {
             robot,
             fired: updates,
             from,
             burst: updates + flight(range),
-            to: Place::new(x, y),
+            to: Place { x, y },
             hit: false,
         }
     }
@@ -74,8 +74,8 @@ impl Shot {
     pub fn hurts(&self, place: Place) -> bool
         ensures { result ≡ nat_lt 0 (ring (square place.x place.y self.now.to.x self.now.to.y)) }
     {
-        let east = u32::from(place.x().abs_diff(self.to.x()));
-        let north = u32::from(place.y().abs_diff(self.to.y()));
+        let east = u32::from(place.x.abs_diff(self.to.x));
+        let north = u32::from(place.y.abs_diff(self.to.y));
         east * east + north * north <= REACH * REACH
     }
 

@@ -3,6 +3,7 @@
 ghost use Rattle.std.specs.Prelude.{◌≡◌, ◌<◌, ◌≤◌, length, IfOk};
 ghost use Rattle.battles.specs.Programs.{AreOfProfile};
 ghost use Rattle.series.specs.Failures.{AreReady};
+ghost use Rattle.settings.specs.Given.{AreWithin};
 ghost use Rattle.sinks.specs.Recording.{written_of};
 ghost use Rattle.tokens.specs.Pieces.{device_of};
 
@@ -11,8 +12,8 @@ use code::{Maker, Program};
 use grammar::Profile;
 use lang::parse;
 use series::{
-    CYCLES_DEFAULT, CYCLES_MAX, FILES_MAX, FIRST_MAX, MATCHES_MAX, Mode, Programs, Recorder,
-    RunFault, SEED_DEFAULT, Settings, Status, run,
+    CYCLES_DEFAULT, CYCLES_MAX, FILES_MAX, FIRST_MAX, MATCHES_MAX, Mode, Numbers, Programs,
+    Recorder, RunFault, SEED_DEFAULT, Settings, Status, run,
 };
 use std::alloc::{AllocError, Global};
 use std::process::Abort;
@@ -77,15 +78,7 @@ pub fn listing<'a>(words: ArrayVec<&'a str, FILES_MAX>) -> Settings<'a>
     ensures words { length result.words ≡ length words.entry.items }
     ensures mode { result.mode ≡ Mode.Listing }
 {
-    Settings::new(
-        Mode::Listing,
-        1,
-        CYCLES_DEFAULT,
-        SEED_DEFAULT,
-        Profile::first(),
-        1,
-        words,
-    )
+    Settings::new(Mode::Listing, numbers_of(ONE_MATCH), words)
 }
 
 /// Makes the settings of a run that lists one file.
@@ -254,25 +247,30 @@ pub fn short_matches(matches: u32) -> Game {
     }
 }
 
-/// Makes the settings of a game of these files, and brings its numbers within their limits.
-pub fn game_of<'a>(game: Game, words: ArrayVec<&'a str, FILES_MAX>) -> Settings<'a>
-    requires some { 0 < length words.items }
-    ensures words { length result.words ≡ length words.entry.items }
+/// Returns the numbers of a game, brought within their limits.
+fn numbers_of(game: Game) -> Numbers
+    ensures { AreWithin result }
 {
     let profile = if game.short_circuit {
         Profile::second()
     } else {
         Profile::first()
     };
-    Settings::new(
-        Mode::Matches,
-        game.matches.max(1).min(MATCHES_MAX),
-        game.limit.max(1).min(CYCLES_MAX),
-        SEED_DEFAULT,
+    Numbers {
+        matches: game.matches.max(1).min(MATCHES_MAX),
+        limit: game.limit.max(1).min(CYCLES_MAX),
+        seed: SEED_DEFAULT,
         profile,
-        game.first.max(1).min(FIRST_MAX),
-        words,
-    )
+        first: game.first.max(1).min(FIRST_MAX),
+    }
+}
+
+/// Makes the settings of a game of these files, and brings its numbers within their limits.
+pub fn game_of<'a>(game: Game, words: ArrayVec<&'a str, FILES_MAX>) -> Settings<'a>
+    requires some { 0 < length words.items }
+    ensures words { length result.words ≡ length words.entry.items }
+{
+    Settings::new(Mode::Matches, numbers_of(game), words)
 }
 
 /// Makes the settings of a game of one file.

@@ -1,13 +1,13 @@
 use Rattle.std.proofs.Common.{◌≡◌, ◌∙◌, ap, subst, sym, arith, refl, length, List}
 use Rattle.std.proofs.lemmas.Bool.{eqb-true}
 use Rattle.trails.specs.Path.{Trail, Keeps}
-use Rattle.trails.specs.Spot.{Spot}
+use Rattle.trails.specs.declared.places.Place.{Place}
 use Rattle.trails.specs.contracts.paths.Path.{the_view}
 use Rattle.trails.proofs.Trails.{keeps_skipped, keeps_pushed, keeps_thinned}
 use Rattle.trails.proofs.paths.Path.add.Goals as goal
 use Rattle.trails.proofs.paths.Path.add.Goals.{then-is_full+else-self, else-is_full}
 
-along : (t u : Trail) (places : List Spot) → t ≡ u → Keeps t places → Keeps u places
+along : (t u : Trail) (places : List Place) → t ≡ u → Keeps t places → Keeps u places
 along t u places e keeps = subst (λ v. Keeps v places) e keeps
 
 pub returns-then-self-gt0 : goal.returns-then-self-gt0
