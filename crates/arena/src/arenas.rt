@@ -141,7 +141,6 @@ impl Arena {
 
     /// Returns the range in metres of the nearest live robot in an arc, or 0. The arc lies around a degree, as many
     /// degrees to either side as the resolution, which is brought into 0 to 10. The robot that scans must live.
-    #[inline(never)]
     #[tactic(auto, using(crate::proofs::Represents::inside_if_lives))]
     pub fn scan(&self, robot: usize, degree: i32, resolution: i32) -> i32
         requires { lives self.now robot ≡ true }
@@ -159,7 +158,6 @@ impl Arena {
 
     /// Has a live robot fire a missile to a degree, as far as a range in metres, which is brought into 0 to 700. Replies
     /// 1, or 0 if two missiles of its own are in the air.
-    #[inline(never)]
     #[tactic(auto, using(crate::proofs::Represents::inside_if_lives))]
     pub fn cannon(&mut self, robot: usize, degree: i32, range: i32) -> i32
         requires { lives self.old robot ≡ true }
@@ -184,7 +182,6 @@ impl Arena {
 
     /// Sets which degree a live robot wants to head for, and at which speed in percent, which is brought into 0 to 100.
     /// Replies 1.
-    #[inline(never)]
     #[tactic(auto, using(crate::proofs::Represents::inside_if_lives))]
     pub fn drive(&mut self, robot: usize, degree: i32, speed: i32) -> i32
         requires { lives self.old robot ≡ true }
