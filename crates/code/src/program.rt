@@ -68,7 +68,7 @@ impl Program {
 
     /// Returns the words of a machine's stack.
     #[inline(always)]
-    pub(crate) fn words(&self) -> usize
+    pub fn words(&self) -> usize
         ensures words { result ≡ self.now.profile.words }
         ensures most { result ≤ MOST_WORDS }
     {
@@ -77,7 +77,7 @@ impl Program {
 
     /// Returns the most frames that are open at once.
     #[inline(always)]
-    pub(crate) fn frames(&self) -> usize
+    pub fn frames(&self) -> usize
         ensures frames { result ≡ self.now.profile.frames }
         ensures most { result ≤ MOST_FRAMES }
     {
@@ -146,7 +146,7 @@ impl Program {
     /// Returns the counts of the function of this number.
     #[inline(always)]
     #[tactic(auto, using(crate::proofs::ProgramLaws::counts_is))]
-    pub(crate) fn counts(&self, number: u8) -> Counts
+    pub fn counts(&self, number: u8) -> Counts
         requires { number < length self.now.functions }
         ensures { result ≡ counts_at self.now number }
     {
@@ -155,7 +155,7 @@ impl Program {
 
     /// Returns the address of the function of this number.
     #[inline(always)]
-    pub(crate) fn address(&self, number: u8) -> u16
+    pub fn address(&self, number: u8) -> u16
         requires { number < length self.now.functions }
         ensures { result ≡ address_at self.now number }
     {
