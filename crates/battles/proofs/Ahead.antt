@@ -7,7 +7,7 @@ use Rattle.arena.specs.Field.{Field}
 use Rattle.arena.specs.Ground.{Ground}
 use Rattle.arena.specs.Standing.{StandsFor as IsGroundOf}
 use Rattle.code.specs.declared.want.Want.TheVariants.{Quiet}
-use Rattle.code.specs.Generation.{ObjectCode}
+use Rattle.engine.specs.Executables.{Executable}
 use Rattle.battles.specs.Battle.{Behaviour, Stage, step, turn, robot_of}
 use Rattle.battles.specs.Carrying.{Runner, AreRobotsOf, EachIsAt, HasReached, IsAt, IsRobotOf}
 use Rattle.battles.specs.Windows.{AreTurnNumbers, HasCome, HasRun, IsLike, OthersArePast, alone, RunsAlone, turns_left, is_left, rounds}
@@ -100,39 +100,39 @@ run_taken robots next i end (suc n) s are small inside within ready =
     stages_trans _ _ _ last (run_taken robots next i end n s are small inside (omega arith) fewer)
 
 -- What a robot that runs alone makes of its machine and of the arena, whatever its trace and the field are.
-pub record Runs (free : Type 0) (i : ℕ) (code : ObjectCode) (n : ℕ) (runner after : Runner) (arena grown : Ground) :
+pub record Runs (free : Type 0) (i : ℕ) (exe : Executable) (n : ℕ) (runner after : Runner) (arena grown : Ground) :
     Type 0 where
-  pub on : (r : Behaviour) (f : Field) (trace : List ℤ) → IsRobotOf code r → IsGroundOf arena f → IsAt runner code trace
-      → HasRun free r i f trace n code after grown
+  pub on : (r : Behaviour) (f : Field) (trace : List ℤ) → IsRobotOf exe r → IsGroundOf arena f → IsAt runner exe trace
+      → HasRun free r i f trace n exe after grown
 
 -- And one that takes the turn that is next before it runs.
-pub record GoesOn (free : Type 0) (i : ℕ) (code : ObjectCode) (n : ℕ) (runner after : Runner) (arena grown : Ground) :
+pub record GoesOn (free : Type 0) (i : ℕ) (exe : Executable) (n : ℕ) (runner after : Runner) (arena grown : Ground) :
     Type 0 where
-  pub on : (r : Behaviour) (f : Field) (trace : List ℤ) → IsRobotOf code r → IsGroundOf arena f → IsAt runner code trace
-      → HasRun free r i (step r i f trace).0 (step r i f trace).1 n code after grown
+  pub on : (r : Behaviour) (f : Field) (trace : List ℤ) → IsRobotOf exe r → IsGroundOf arena f → IsAt runner exe trace
+      → HasRun free r i (step r i f trace).0 (step r i f trace).1 n exe after grown
 
-traces_length : (runners : List Runner) (codes : List ObjectCode) (traces : List (List ℤ)) →
-    EachIsAt runners codes traces → length traces ≡ length codes
+traces_length : (runners : List Runner) (exes : List Executable) (traces : List (List ℤ)) →
+    EachIsAt runners exes traces → length traces ≡ length exes
 traces_length [] [] [] stands = refl
-traces_length (runner ∷ runners) (code ∷ codes) (trace ∷ traces) stands =
-    ap suc (traces_length runners codes traces stands.1)
+traces_length (runner ∷ runners) (exe ∷ exes) (trace ∷ traces) stands =
+    ap suc (traces_length runners exes traces stands.1)
 traces_length _ _ _ stands = absurd stands
 
-pub come_alone : (robots : List Behaviour) (codes : List ObjectCode) (next : List ℕ) (w n i : ℕ) (runners : List Runner)
+pub come_alone : (robots : List Behaviour) (exes : List Executable) (next : List ℕ) (w n i : ℕ) (runners : List Runner)
     (arena grown : Ground) (opened : Stage)
-    (code : ObjectCode) (none after : Runner) (free : Type 0)
-    → AreRobotsOf codes robots → AreTurnNumbers next → i < 4 → i < length codes → get_or next i 0 + 4 * n < 4 * w + 4
-    → (free → OthersArePast (4 * w) i next) → HasCome robots codes next w runners arena opened →
-    slice_get codes i ≡ Some code
-    → Runs free i code n (get_or runners i none) after arena grown
-    → HasCome robots codes (set next i (get_or next i 0 + 4 * n)) w (set runners i after) grown opened
+    (exe : Executable) (none after : Runner) (free : Type 0)
+    → AreRobotsOf exes robots → AreTurnNumbers next → i < 4 → i < length exes → get_or next i 0 + 4 * n < 4 * w + 4
+    → (free → OthersArePast (4 * w) i next) → HasCome robots exes next w runners arena opened →
+    slice_get exes i ≡ Some exe
+    → Runs free i exe n (get_or runners i none) after arena grown
+    → HasCome robots exes (set next i (get_or next i 0 + 4 * n)) w (set runners i after) grown opened
 unfolding robot_of ran
-come_alone robots codes next w n i runners arena grown opened code none after free are turn_numbers small inside within
+come_alone robots exes next w n i runners arena grown opened exe none after free are turn_numbers small inside within
     past come here gone =
     let s = come.stage in
-    let robot = robot_at codes robots i code (λ trace. Quiet) are here in
-    let at = stands_at runners codes s.traces i code none come.reached.traces here in
-    let lengths = traces_length runners codes s.traces come.reached.traces in
+    let robot = robot_at exes robots i exe (λ trace. Quiet) are here in
+    let at = stands_at runners exes s.traces i exe none come.reached.traces here in
+    let lengths = traces_length runners exes s.traces come.reached.traces in
     let on = gone.on (robot_of robots i) s.field (get_or s.traces i []) robot come.reached.field at in
     let ready : RunsAlone (robot_of robots i) i s.field (get_or s.traces i []) n ⊎ OthersArePast (4 * w) i next =
     elim on.steps as
@@ -144,29 +144,29 @@ come_alone robots codes next w n i runners arena grown opened code none after fr
       stage = ran robots i s n;
       reached = record {
         field = on.stands;
-        traces = stands_set runners codes s.traces i after code _ come.reached.traces here on.at;
+        traces = stands_set runners exes s.traces i after exe _ come.reached.traces here on.at;
       };
       ends = stages_trans _ _ _
           (run_taken robots next i (4 * w) n s turn_numbers small (omega (arith, lengths, inside)) within ready)
           come.ends;
     }
 
-pub come_on : (robots : List Behaviour) (codes : List ObjectCode) (next : List ℕ) (w n i : ℕ) (runners : List Runner)
+pub come_on : (robots : List Behaviour) (exes : List Executable) (next : List ℕ) (w n i : ℕ) (runners : List Runner)
     (arena grown : Ground) (opened : Stage)
-    (code : ObjectCode) (none after : Runner) (free : Type 0)
-    → AreRobotsOf codes robots → AreTurnNumbers next → i < 4 → i < length codes →
+    (exe : Executable) (none after : Runner) (free : Type 0)
+    → AreRobotsOf exes robots → AreTurnNumbers next → i < 4 → i < length exes →
     get_or next i 0 + 4 * (1 + n) < 4 * w + 4
     → ((j : ℕ) → j < 4 → get_or next i 0 ≤ get_or next j 0) → (free → OthersArePast (4 * w) i next)
-    → HasCome robots codes next w runners arena opened → slice_get codes i ≡ Some code
-    → GoesOn free i code n (get_or runners i none) after arena grown
-    → HasCome robots codes (set next i (get_or next i 0 + 4 * (1 + n))) w (set runners i after) grown opened
+    → HasCome robots exes next w runners arena opened → slice_get exes i ≡ Some exe
+    → GoesOn free i exe n (get_or runners i none) after arena grown
+    → HasCome robots exes (set next i (get_or next i 0 + 4 * (1 + n))) w (set runners i after) grown opened
 unfolding turn robot_of ran
-come_on robots codes next w n i runners arena grown opened code none after free are turn_numbers small inside within
+come_on robots exes next w n i runners arena grown opened exe none after free are turn_numbers small inside within
     first past come here gone =
     let s = come.stage in
-    let robot = robot_at codes robots i code (λ trace. Quiet) are here in
-    let at = stands_at runners codes s.traces i code none come.reached.traces here in
-    let lengths = traces_length runners codes s.traces come.reached.traces in
+    let robot = robot_at exes robots i exe (λ trace. Quiet) are here in
+    let at = stands_at runners exes s.traces i exe none come.reached.traces here in
+    let lengths = traces_length runners exes s.traces come.reached.traces in
     let trace = get_or s.traces i [] in
     let stepped = step (robot_of robots i) i s.field trace in
     let on = gone.on (robot_of robots i) s.field trace robot come.reached.field at in
@@ -198,7 +198,7 @@ come_on robots codes next w n i runners arena grown opened code none after free 
       stage = ran robots i (turn robots i s) n;
       reached = record {
         field = rw same on.stands;
-        traces = rw moved (stands_set runners codes s.traces i after code _ come.reached.traces here on.at);
+        traces = rw moved (stands_set runners exes s.traces i after exe _ come.reached.traces here on.at);
       };
       ends = stages_trans _ _ _ (stages_trans _ _ _ (rw twice at taken)
           (next_taken robots next i (4 * w) s turn_numbers small (omega (arith, within)) (inr first))) come.ends;
@@ -224,29 +224,29 @@ left_less end (a ∷ []) i n four small within some = absurd (omega arith)
 left_less end [] i n four small within some = absurd (omega arith)
 
 -- the window begins
-pub opens : (robots : List Behaviour) (codes : List ObjectCode) (next : List ℕ) (w : ℕ) (runners : List Runner)
+pub opens : (robots : List Behaviour) (exes : List Executable) (next : List ℕ) (w : ℕ) (runners : List Runner)
     (arena : Ground) (s : Stage)
-    → AreRobotsOf codes robots → AreTurnNumbers next → length codes ≤ 4
-    → ((i : ℕ) → i < length codes → i < 4 → get_or next i 0 ≡ i) →
-    ((i : ℕ) → length codes ≤ i → i < 4 → 4 * w ≤ get_or next i 0)
-    → HasReached runners codes arena s → HasCome robots codes next w runners arena s
-opens robots codes next w runners arena s are turn_numbers most first past reached =
-    let all = robots_length codes robots are in
+    → AreRobotsOf exes robots → AreTurnNumbers next → length exes ≤ 4
+    → ((i : ℕ) → i < length exes → i < 4 → get_or next i 0 ≡ i) →
+    ((i : ℕ) → length exes ≤ i → i < 4 → 4 * w ≤ get_or next i 0)
+    → HasReached runners exes arena s → HasCome robots exes next w runners arena s
+opens robots exes next w runners arena s are turn_numbers most first past reached =
+    let all = robots_length exes robots are in
     record {
       stage = s;
       reached = reached;
       ends =
           like_same _ _
-          (rest_all robots next (length codes) w s turn_numbers (sym all) most
+          (rest_all robots next (length exes) w s turn_numbers (sym all) most
           (λ i low. first i low (omega arith)) past);
     }
 
 -- and ends
-pub closes : (robots : List Behaviour) (codes : List ObjectCode) (next : List ℕ) (w : ℕ) (runners : List Runner)
+pub closes : (robots : List Behaviour) (exes : List Executable) (next : List ℕ) (w : ℕ) (runners : List Runner)
     (arena : Ground) (s : Stage)
     → ((i : ℕ) → i < 4 → 4 * w ≤ get_or next i 0)
-    → HasCome robots codes next w runners arena s → HasReached runners codes arena (rounds robots w s)
-closes robots codes next w runners arena s past come =
+    → HasCome robots exes next w runners arena s → HasReached runners exes arena (rounds robots w s)
+closes robots exes next w runners arena s past come =
     let done : turns_left robots (is_left next) 0 (4 * w) come.stage ≡ come.stage =
     rest_none robots (is_left next) 0 (4 * w) come.stage
     (λ t from to. left_not next t (omega (arith, past (t % 4) (omega arith), to))) in

@@ -10,10 +10,11 @@ use Rattle.code.specs.declared.want.Want.TheVariants.{Quiet}
 use Rattle.grammar.specs.Profile.{Profile}
 use Rattle.grammar.specs.Resolved.{IsResolved}
 use Rattle.grammar.specs.Tree.{File}
-use Rattle.code.specs.Generation.{ObjectCode, IsProgramOf}
+use Rattle.code.specs.Generation.{IsProgramOf}
 use Rattle.code.specs.Meaning.{want}
-use Rattle.code.specs.Machine.{State}
-use Rattle.code.specs.Standing.{IsReached}
+use Rattle.engine.specs.declared.engines.Engine.{Engine}
+use Rattle.engine.specs.Executables.{Executable}
+use Rattle.engine.specs.Engines.{IsReached}
 use Rattle.battles.specs.Carrying.{Runner, IsRobotOf, IsAt}
 use Rattle.battles.specs.Battle.{Behaviour, granted, step}
 use Rattle.battles.specs.Windows.{IsAlone, StepsAlone, RunsAlone, HasRun, alone}
@@ -105,10 +106,10 @@ dead_alone r i f trace zero dead = refl
 dead_alone r i f trace (suc n) dead =
     ap (λ (t : Field × List ℤ). step r i t.0 t.1) (dead_alone r i f trace n dead) ∙ dead_step r i f trace dead
 
-pub dead_runs : (free : Type 0) (r : Behaviour) (i : ℕ) (f : Field) (trace : List ℤ) (n : ℕ) (code : ObjectCode)
+pub dead_runs : (free : Type 0) (r : Behaviour) (i : ℕ) (f : Field) (trace : List ℤ) (n : ℕ) (exe : Executable)
     (runner : Runner) (arena : Ground)
-    → is_live f i ≡ false → IsGroundOf arena f → IsAt runner code trace → HasRun free r i f trace n code runner arena
-dead_runs free r i f trace n code runner arena dead ground at = record {
+    → is_live f i ≡ false → IsGroundOf arena f → IsAt runner exe trace → HasRun free r i f trace n exe runner arena
+dead_runs free r i f trace n exe runner arena dead ground at = record {
   steps = inl (λ k within live. absurd (false≢true (sym dead ∙ sym (alone_lives r i f trace k) ∙ live)));
   stands = rw (dead_alone r i f trace n dead) ground;
   at = rw (dead_alone r i f trace n dead) at;
@@ -116,16 +117,16 @@ dead_runs free r i f trace n code runner arena dead ground at = record {
 
 -- A robot has run, and its machine is at this cycle, which may be a later one: in between nothing is asked.
 pub record RunsTo (free : Type 0) (r : Behaviour) (i : ℕ) (f : Field) (trace : List ℤ) (cycle most : ℕ)
-    (code : ObjectCode) (machine : State) (arena : Ground) : Type 0 where
+    (exe : Executable) (machine : Engine) (arena : Ground) : Type 0 where
   pub run : ℕ
   pub within : run ≤ cycle
   pub below : run ≤ most
-  pub ran : HasRun free r i f trace run code (record { machine = machine; ahead = cycle - run }) arena
+  pub ran : HasRun free r i f trace run exe (record { machine = machine; ahead = cycle - run }) arena
 
-pub to_begin : (free : Type 0) (r : Behaviour) (i : ℕ) (f : Field) (trace : List ℤ) (most : ℕ) (code : ObjectCode)
+pub to_begin : (free : Type 0) (r : Behaviour) (i : ℕ) (f : Field) (trace : List ℤ) (most : ℕ) (exe : Executable)
     (runner : Runner) (arena : Ground)
-    → IsGroundOf arena f → IsAt runner code trace → RunsTo free r i f trace runner.ahead most code runner.machine arena
-to_begin free r i f trace most code runner arena ground at =
+    → IsGroundOf arena f → IsAt runner exe trace → RunsTo free r i f trace runner.ahead most exe runner.machine arena
+to_begin free r i f trace most exe runner arena ground at =
     let all : runner.ahead - 0 ≡ runner.ahead = omega arith in
     record {
       run = 0;
@@ -140,10 +141,10 @@ to_begin free r i f trace most code runner arena ground at =
 
 -- the machine coasts for so many cycles
 pub to_coast : (free : Type 0) (r : Behaviour) (i : ℕ) (f : Field) (trace : List ℤ) (cycle most n : ℕ)
-    (code : ObjectCode) (machine after : State) (arena : Ground)
-    → Coasts code machine n after → RunsTo free r i f trace cycle most code machine arena →
-    RunsTo free r i f trace (cycle + n) most code after arena
-to_coast free r i f trace cycle most n code machine after arena on to =
+    (exe : Executable) (machine after : Engine) (arena : Ground)
+    → Coasts exe machine n after → RunsTo free r i f trace cycle most exe machine arena →
+    RunsTo free r i f trace (cycle + n) most exe after arena
+to_coast free r i f trace cycle most n exe machine after arena on to =
     let further : cycle + n - to.run ≡ cycle - to.run + n = omega (arith, to.within) in
     record {
       run = to.run;
@@ -152,17 +153,17 @@ to_coast free r i f trace cycle most n code machine after arena on to =
       ran = record {
         steps = to.ran.steps;
         stands = to.ran.stands;
-        at = rw further (at_more machine after (cycle - to.run) n code (alone r i f trace to.run).1 to.ran.at on);
+        at = rw further (at_more machine after (cycle - to.run) n exe (alone r i f trace to.run).1 to.ran.at on);
       };
     }
 
 -- the robot follows its machine up to a cycle
 pub to_cycle : (free : Type 0) (r : Behaviour) (i : ℕ) (f : Field) (trace : List ℤ) (cycle most end : ℕ)
-    (code : ObjectCode) (machine : State) (arena : Ground)
-    → IsRobotOf code r → is_live f i ≡ true → (to : RunsTo free r i f trace cycle most code machine arena) →
+    (exe : Executable) (machine : Engine) (arena : Ground)
+    → IsRobotOf exe r → is_live f i ≡ true → (to : RunsTo free r i f trace cycle most exe machine arena) →
     to.run ≤ end → end ≤ cycle
-    → HasRun free r i f trace end code (record { machine = machine; ahead = cycle - end }) arena
-to_cycle free r i f trace cycle most end code machine arena is live to from within =
+    → HasRun free r i f trace end exe (record { machine = machine; ahead = cycle - end }) arena
+to_cycle free r i f trace cycle most end exe machine arena is live to from within =
     let n = to.run in
     let k = end - n in
     let field = (alone r i f trace n).0 in
@@ -180,27 +181,27 @@ to_cycle free r i f trace cycle most end code machine arena is live to from with
       ];
       stands = rw all to.ran.stands;
       at = rw (all, sym less)
-          (at_less (record { machine = machine; ahead = cycle - n }) k code replies (omega arith) to.ran.at);
+          (at_less (record { machine = machine; ahead = cycle - n }) k exe replies (omega arith) to.ran.at);
     }
 
 -- up to where the machine is
-pub to_stop : (free : Type 0) (r : Behaviour) (i : ℕ) (f : Field) (trace : List ℤ) (cycle most : ℕ) (code : ObjectCode)
-    (machine : State) (arena : Ground)
-    → IsRobotOf code r → is_live f i ≡ true → RunsTo free r i f trace cycle most code machine arena
-    → HasRun free r i f trace cycle code (record { machine = machine; ahead = 0 }) arena
-to_stop free r i f trace cycle most code machine arena is live to =
+pub to_stop : (free : Type 0) (r : Behaviour) (i : ℕ) (f : Field) (trace : List ℤ) (cycle most : ℕ) (exe : Executable)
+    (machine : Engine) (arena : Ground)
+    → IsRobotOf exe r → is_live f i ≡ true → RunsTo free r i f trace cycle most exe machine arena
+    → HasRun free r i f trace cycle exe (record { machine = machine; ahead = 0 }) arena
+to_stop free r i f trace cycle most exe machine arena is live to =
     let none : cycle - cycle ≡ 0 = omega arith in
-    rw none at (to_cycle free r i f trace cycle most cycle code machine arena is live to to.within (omega arith))
+    rw none at (to_cycle free r i f trace cycle most cycle exe machine arena is live to to.within (omega arith))
 
 -- and takes a turn
-pub to_next : (free : Type 0) (r : Behaviour) (i : ℕ) (f : Field) (trace : List ℤ) (cycle most : ℕ) (code : ObjectCode)
-    (machine : State) (arena : Ground)
+pub to_next : (free : Type 0) (r : Behaviour) (i : ℕ) (f : Field) (trace : List ℤ) (cycle most : ℕ) (exe : Executable)
+    (machine : Engine) (arena : Ground)
     → cycle < most → RunsAlone r i f trace cycle ⊎ free
     → StepsAlone r i (alone r i f trace cycle).0 (alone r i f trace cycle).1 ⊎ free
     → IsGroundOf arena (step r i (alone r i f trace cycle).0 (alone r i f trace cycle).1).0
-    → IsReached machine code (step r i (alone r i f trace cycle).0 (alone r i f trace cycle).1).1
-    → RunsTo free r i f trace (cycle + 1) most code machine arena
-to_next free r i f trace cycle most code machine arena below runs steps ground stands = record {
+    → IsReached machine exe (step r i (alone r i f trace cycle).0 (alone r i f trace cycle).1).1
+    → RunsTo free r i f trace (cycle + 1) most exe machine arena
+to_next free r i f trace cycle most exe machine arena below runs steps ground stands = record {
   run = cycle + 1;
   within = omega arith;
   below = omega arith;
@@ -213,7 +214,7 @@ to_next free r i f trace cycle most code machine arena below runs steps ground s
       | inr drawn ↦ inr drawn
     ];
     stands = rw (alone_next r i f trace cycle) ground;
-    at = rw (alone_next r i f trace cycle) (at_end machine (cycle + 1 - (cycle + 1)) code _ (omega arith) stands);
+    at = rw (alone_next r i f trace cycle) (at_end machine (cycle + 1 - (cycle + 1)) exe _ (omega arith) stands);
   };
 }
 
@@ -221,8 +222,8 @@ pub want_alone : (want other : Want) → want ≡ other → IsAlone other → Is
 want_alone want other same is = rw same is
 
 -- what a machine wants that is at the end of a robot's trace
-pub wants_next : (r : Behaviour) (code : ObjectCode) (trace : List ℤ) (wanted : Want) → IsRobotOf code r
-    → ((p : Profile) (file : File) → IsResolved file → IsProgramOf code p file → wanted ≡ want p file trace) →
+pub wants_next : (r : Behaviour) (exe : Executable) (trace : List ℤ) (wanted : Want) → IsRobotOf exe r
+    → ((p : Profile) (file : File) → IsResolved file → IsProgramOf exe.program p file → wanted ≡ want p file trace) →
     r trace ≡ wanted
-wants_next r code trace wanted is source =
+wants_next r exe trace wanted is source =
     ap (λ (q : Behaviour). q trace) is.wants ∙ sym (source is.profile is.file is.resolved is.program)

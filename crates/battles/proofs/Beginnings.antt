@@ -10,8 +10,9 @@ use Rattle.grammar.specs.Profile.{Profile}
 use Rattle.grammar.specs.Resolved.{IsResolved}
 use Rattle.grammar.specs.Tree.{File}
 use Rattle.code.specs.Generation.{ObjectCode, code_of}
+use Rattle.engine.specs.Executables.{Executable}
 use Rattle.code.specs.Meaning.{want}
-use Rattle.code.specs.Standing.{FitsProgram}
+use Rattle.engine.specs.Engines.{FitsProgram}
 use Rattle.battles.specs.Battle.{Behaviour, Outcome, opening, damages_of, stage_after, last_cycle, battle}
 use Rattle.battles.specs.Carrying.{Runner, AreRobotsOf, IsAt, EachFits, EachIsAt, HasReached}
 use Rattle.code.specs.Codes.{AreCodesOf}
@@ -19,38 +20,38 @@ use Rattle.battles.specs.Pairing.{paired, robots_of}
 use Rattle.battles.proofs.Stages.{robots_length}
 
 -- one runner more
-fits_then : (runners : List Runner) (codes : List ObjectCode) (i : ℕ) (runner : Runner) (code : ObjectCode)
-    → EachFits runners (take i codes) → slice_get codes i ≡ Some code → FitsProgram runner.machine code
-    → EachFits (runners ++ runner ∷ []) (take (suc i) codes)
-fits_then runners [] i runner code fits here new = cc
-fits_then [] (code' ∷ codes) zero runner code fits here new =
-    let same : code ≡ code' = cc in (rw same at new, tt)
-fits_then (runner' ∷ runners) (code' ∷ codes) zero runner code fits here new = absurd fits
-fits_then [] (code' ∷ codes) (suc i) runner code fits here new = absurd fits
-fits_then (runner' ∷ runners) (code' ∷ codes) (suc i) runner code fits here new =
-    (fits.0, fits_then runners codes i runner code fits.1 here new)
+fits_then : (runners : List Runner) (exes : List Executable) (i : ℕ) (runner : Runner) (exe : Executable)
+    → EachFits runners (take i exes) → slice_get exes i ≡ Some exe → FitsProgram runner.machine exe
+    → EachFits (runners ++ runner ∷ []) (take (suc i) exes)
+fits_then runners [] i runner exe fits here new = cc
+fits_then [] (exe' ∷ exes) zero runner exe fits here new =
+    let same : exe ≡ exe' = cc in (rw same at new, tt)
+fits_then (runner' ∷ runners) (exe' ∷ exes) zero runner exe fits here new = absurd fits
+fits_then [] (exe' ∷ exes) (suc i) runner exe fits here new = absurd fits
+fits_then (runner' ∷ runners) (exe' ∷ exes) (suc i) runner exe fits here new =
+    (fits.0, fits_then runners exes i runner exe fits.1 here new)
 
-pub fits_more : (runners : List Runner) (codes : List ObjectCode) (i : ℕ) (runner : Runner) (code : ObjectCode)
-    → EachFits runners (take i codes) → slice_get codes i ≡ Some code → FitsProgram runner.machine code
-    → EachFits (runners ++ runner ∷ []) (take (i + 1) codes)
-fits_more runners codes i runner code fits here new = rw add-one (fits_then runners codes i runner code fits here new)
+pub fits_more : (runners : List Runner) (exes : List Executable) (i : ℕ) (runner : Runner) (exe : Executable)
+    → EachFits runners (take i exes) → slice_get exes i ≡ Some exe → FitsProgram runner.machine exe
+    → EachFits (runners ++ runner ∷ []) (take (i + 1) exes)
+fits_more runners exes i runner exe fits here new = rw add-one (fits_then runners exes i runner exe fits here new)
 
-stands_then : (runners : List Runner) (codes : List ObjectCode) (i : ℕ) (runner : Runner) (code : ObjectCode)
-    → EachIsAt runners (take i codes) (replicate i []) → slice_get codes i ≡ Some code → IsAt runner code []
-    → EachIsAt (runners ++ runner ∷ []) (take (suc i) codes) (replicate (suc i) [])
-stands_then runners [] i runner code stands here new = cc
-stands_then [] (code' ∷ codes) zero runner code stands here new =
-    let same : code ≡ code' = cc in (rw same at new, tt)
-stands_then (runner' ∷ runners) (code' ∷ codes) zero runner code stands here new = absurd stands
-stands_then [] (code' ∷ codes) (suc i) runner code stands here new = absurd stands
-stands_then (runner' ∷ runners) (code' ∷ codes) (suc i) runner code stands here new =
-    (stands.0, stands_then runners codes i runner code stands.1 here new)
+stands_then : (runners : List Runner) (exes : List Executable) (i : ℕ) (runner : Runner) (exe : Executable)
+    → EachIsAt runners (take i exes) (replicate i []) → slice_get exes i ≡ Some exe → IsAt runner exe []
+    → EachIsAt (runners ++ runner ∷ []) (take (suc i) exes) (replicate (suc i) [])
+stands_then runners [] i runner exe stands here new = cc
+stands_then [] (exe' ∷ exes) zero runner exe stands here new =
+    let same : exe ≡ exe' = cc in (rw same at new, tt)
+stands_then (runner' ∷ runners) (exe' ∷ exes) zero runner exe stands here new = absurd stands
+stands_then [] (exe' ∷ exes) (suc i) runner exe stands here new = absurd stands
+stands_then (runner' ∷ runners) (exe' ∷ exes) (suc i) runner exe stands here new =
+    (stands.0, stands_then runners exes i runner exe stands.1 here new)
 
-pub stands_more : (runners : List Runner) (codes : List ObjectCode) (i : ℕ) (runner : Runner) (code : ObjectCode)
-    → EachIsAt runners (take i codes) (replicate i []) → slice_get codes i ≡ Some code → IsAt runner code []
-    → EachIsAt (runners ++ runner ∷ []) (take (i + 1) codes) (replicate (i + 1) [])
-stands_more runners codes i runner code stands here new =
-    rw add-one (stands_then runners codes i runner code stands here new)
+pub stands_more : (runners : List Runner) (exes : List Executable) (i : ℕ) (runner : Runner) (exe : Executable)
+    → EachIsAt runners (take i exes) (replicate i []) → slice_get exes i ≡ Some exe → IsAt runner exe []
+    → EachIsAt (runners ++ runner ∷ []) (take (i + 1) exes) (replicate (i + 1) [])
+stands_more runners exes i runner exe stands here new =
+    rw add-one (stands_then runners exes i runner exe stands here new)
 
 -- the codes of the files of robots are those of robots of the files
 pub paired_codes : (p : Profile) (files : List File) → paired (map (code_of p) files) ≡ map (code_of p) (paired files)
@@ -68,18 +69,26 @@ paired_resolved [] all = all
 paired_resolved (file ∷ []) all = both_resolved file (all 0 file (omega arith))
 paired_resolved (file ∷ other ∷ files) all = all
 
-robots_are_each : (p : Profile) (files : List File) → All IsResolved files →
-    AreRobotsOf (map (code_of p) files) (map (want p) files)
-robots_are_each p [] all = tt
-robots_are_each p (file ∷ files) all = (
-  record { profile = p; file = file; resolved = all 0 file (omega arith); program = refl; wants = refl },
-  robots_are_each p files (λ k none within. all (suc k) none (omega arith)),
-)
+-- each robot wants what its file wants
+robots_are_each : (exes : List Executable) (p : Profile) (files : List File) →
+    map (λ (e : Executable). e.program) exes ≡ map (code_of p) files → All IsResolved files →
+    AreRobotsOf exes (map (want p) files)
+robots_are_each [] p [] same all = tt
+robots_are_each [] p (file ∷ files) same all = absurd (cc)
+robots_are_each (exe ∷ exes) p [] same all = absurd (cc)
+robots_are_each (exe ∷ exes) p (file ∷ files) same all =
+    let here : exe.program ≡ code_of p file = cc in
+    let there : map (λ (e : Executable). e.program) exes ≡ map (code_of p) files = cc in (
+      record { profile = p; file = file; resolved = all 0 file (omega arith); program = here; wants = refl },
+      robots_are_each exes p files there (λ k none within. all (suc k) none (omega arith)),
+    )
 
-pub robots_are : (codes : List ObjectCode) (p : Profile) (files : List File) → AreCodesOf codes p files
-    → AreRobotsOf (paired codes) (robots_of p files)
-robots_are codes p files are =
-    rw (are.are, paired_codes p files) (robots_are_each p (paired files) (paired_resolved files are.resolved))
+pub robots_are : (exes : List Executable) (codes : List ObjectCode) (p : Profile) (files : List File) →
+    map (λ (e : Executable). e.program) exes ≡ paired codes → AreCodesOf codes p files →
+    AreRobotsOf exes (robots_of p files)
+robots_are exes codes p files same are =
+    robots_are_each exes p (paired files) (same ∙ ap paired are.are ∙ paired_codes p files)
+    (paired_resolved files are.resolved)
 
 -- the damages of one robot more
 pub damages_none : (f : Field) → damages_of 0 f ≡ []
@@ -91,14 +100,14 @@ unfolding damages_of
 damages_more n f = map-range_with_len_more (λ i. damage_of (robot_at f i)) 0 n n (omega arith)
 
 -- a battle begins with no replies
-pub opening_reached : (runners : List Runner) (codes : List ObjectCode) (arena : Ground) (robots : List Behaviour)
+pub opening_reached : (runners : List Runner) (exes : List Executable) (arena : Ground) (robots : List Behaviour)
     (n seed number : ℕ)
-    → AreRobotsOf codes robots → n ≡ length codes → IsGroundOf arena (start seed number n)
-    → EachIsAt runners codes (replicate (length codes) [])
-    → HasReached runners codes arena (opening (length robots) seed number)
+    → AreRobotsOf exes robots → n ≡ length exes → IsGroundOf arena (start seed number n)
+    → EachIsAt runners exes (replicate (length exes) [])
+    → HasReached runners exes arena (opening (length robots) seed number)
 unfolding opening
-opening_reached runners codes arena robots n seed number are e begun stands =
-    let all : length robots ≡ n = robots_length codes robots are ∙ sym e in
+opening_reached runners exes arena robots n seed number are e begun stands =
+    let all : length robots ≡ n = robots_length exes robots are ∙ sym e in
     record { field = rw all begun; traces = rw (all, e) stands }
 
 -- a battle's outcome is made of its last cycle and the damages after it

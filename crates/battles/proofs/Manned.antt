@@ -4,52 +4,52 @@ use Rattle.std.proofs.lemmas.Bool.{cases_eq}
 use Rattle.std.proofs.lemmas.List.{get_or-set_same, get_or-set_other}
 use Rattle.std.specs.Prelude.{slice_get}
 use Rattle.arena.specs.Ground.{Ground}
-use Rattle.code.specs.Generation.{ObjectCode}
+use Rattle.engine.specs.Executables.{Executable}
 use Rattle.battles.specs.Carrying.{Runner}
 use Rattle.battles.specs.Keeping.{AreManned, CanRun, HavePlaces, Keeps}
 use Rattle.battles.specs.Windows.{Waits}
 use Rattle.battles.proofs.Stages.{fits_at, fits_length, fits_set}
 
-pub have_places : (codes : List ObjectCode) (runners : List Runner) (arena : Ground) → AreManned codes runners arena →
+pub have_places : (exes : List Executable) (runners : List Runner) (arena : Ground) → AreManned exes runners arena →
     HavePlaces runners arena
-have_places codes runners arena manned =
-    let same = fits_length runners codes manned.fits in
+have_places exes runners arena manned =
+    let same = fits_length runners exes manned.fits in
     record { few = omega (arith, same, manned.few); robots = manned.robots ∙ sym same }
 
-pub can_run : (codes : List ObjectCode) (runners : List Runner) (arena : Ground) (i : ℕ) (code : ObjectCode)
+pub can_run : (exes : List Executable) (runners : List Runner) (arena : Ground) (i : ℕ) (exe : Executable)
     (none : Runner)
-    → AreManned codes runners arena → i < length codes → slice_get codes i ≡ Some code →
-    CanRun i code (get_or runners i none).machine arena
-can_run codes runners arena i code none manned inside here = record {
+    → AreManned exes runners arena → i < length exes → slice_get exes i ≡ Some exe →
+    CanRun i exe (get_or runners i none).machine arena
+can_run exes runners arena i exe none manned inside here = record {
   turn_number = omega (arith, manned.few, inside);
   inside = omega (arith, manned.robots, inside);
-  fits = fits_at runners codes i code none manned.fits here;
+  fits = fits_at runners exes i exe none manned.fits here;
 }
 
 -- after a robot's turns all are manned still
-pub manned_set : (codes : List ObjectCode) (runners : List Runner) (before after : Ground) (i : ℕ) (code : ObjectCode)
+pub manned_set : (exes : List Executable) (runners : List Runner) (before after : Ground) (i : ℕ) (exe : Executable)
     (runner : Runner)
-    → AreManned codes runners before → slice_get codes i ≡ Some code → Keeps code runner.machine before after →
-    AreManned codes (set runners i runner) after
-manned_set codes runners before after i code runner manned here kept = record {
+    → AreManned exes runners before → slice_get exes i ≡ Some exe → Keeps exe runner.machine before after →
+    AreManned exes (set runners i runner) after
+manned_set exes runners before after i exe runner manned here kept = record {
   few = manned.few;
-  fits = fits_set runners codes i runner code manned.fits here kept.fits;
+  fits = fits_set runners exes i runner exe manned.fits here kept.fits;
   robots = kept.robots ∙ manned.robots;
 }
 
-same_code : (codes : List ObjectCode) (i j : ℕ) (code other : ObjectCode) → j ≡ i → slice_get codes i ≡ Some code →
-    slice_get codes j ≡ Some other → code ≡ other
-same_code codes i j code other same here there =
-    let e : slice_get codes j ≡ slice_get codes i = ap (λ k. slice_get codes k) same in cc
+same_code : (exes : List Executable) (i j : ℕ) (exe other : Executable) → j ≡ i → slice_get exes i ≡ Some exe →
+    slice_get exes j ≡ Some other → exe ≡ other
+same_code exes i j exe other same here there =
+    let e : slice_get exes j ≡ slice_get exes i = ap (λ k. slice_get exes k) same in cc
 
 -- after a robot's turns each robot that has turns left before an end waits
-pub waits_set : (codes : List ObjectCode) (next : List ℕ) (end : ℕ) (runners : List Runner) (i number : ℕ)
-    (code : ObjectCode) (runner : Runner) (j : ℕ) (other : ObjectCode) (none : Runner)
-    → i < length next → i < length runners → slice_get codes i ≡ Some code → slice_get codes j ≡ Some other
-    → (number < end → Waits code runner)
+pub waits_set : (exes : List Executable) (next : List ℕ) (end : ℕ) (runners : List Runner) (i number : ℕ)
+    (exe : Executable) (runner : Runner) (j : ℕ) (other : Executable) (none : Runner)
+    → i < length next → i < length runners → slice_get exes i ≡ Some exe → slice_get exes j ≡ Some other
+    → (number < end → Waits exe runner)
     → (j ≢ i → get_or next j 0 < end → Waits other (get_or runners j none))
     → get_or (set next i number) j 0 < end → Waits other (get_or (set runners i runner) j none)
-waits_set codes next end runners i number code runner j other none inside within here there waits before left =
+waits_set exes next end runners i number exe runner j other none inside within here there waits before left =
     elim (cases_eq j i) as (λ s. Waits other (get_or (set runners i runner) j none)) [
       | inl same ↦
           let own : get_or (set next i number) j 0 ≡ number =
@@ -57,7 +57,7 @@ waits_set codes next end runners i number code runner j other none inside within
           let set_here : get_or (set runners i runner) j none ≡ runner =
           ap (λ k. get_or (set runners i runner) k none) same ∙ get_or-set_same runners i runner none within in
           subst (λ (r : Runner). Waits other r) (sym set_here)
-          (subst (λ (c : ObjectCode). Waits c runner) (same_code codes i j code other same here there)
+          (subst (λ (c : Executable). Waits c runner) (same_code exes i j exe other same here there)
           (waits (omega (arith, own, left))))
       | inr distinct ↦
           subst (λ (r : Runner). Waits other r) (sym (get_or-set_other runners i j runner none distinct))

@@ -7,8 +7,8 @@ use Rattle.std.proofs.lemmas.Bool.Decides.{nat_tests}
 use Rattle.arena.specs.Field.{Field, is_live}
 use Rattle.arena.specs.Ground.{Ground, lives}
 use Rattle.arena.specs.Standing.{StandsFor as IsGroundOf}
-use Rattle.code.specs.Generation.{ObjectCode}
-use Rattle.code.specs.Standing.{FitsProgram}
+use Rattle.engine.specs.Executables.{Executable}
+use Rattle.engine.specs.Engines.{FitsProgram}
 use Rattle.battles.specs.Battle.{Behaviour, Stage}
 use Rattle.battles.specs.Carrying.{Runner, AreRobotsOf, EachFits, EachIsAt, HasReached, IsAt, IsRobotOf}
 use Rattle.battles.specs.Windows.{AreAhead, AreTurnNumbers, HasCome, HasRun, rounds}
@@ -19,16 +19,16 @@ use Rattle.battles.proofs.Stages.{fits_at, fits_length, fits_set}
 use Rattle.battles.proofs.Turns.{turn_numbers_set}
 
 -- a live robot goes on
-pub goes_ahead : (runner : Runner) (code : ObjectCode) (r : Behaviour) (i : ℕ) (f : Field) (trace : List ℤ) (n : ℕ)
+pub goes_ahead : (runner : Runner) (exe : Executable) (r : Behaviour) (i : ℕ) (f : Field) (trace : List ℤ) (n : ℕ)
     (arena : Ground)
-    → n ≤ runner.ahead → is_live f i ≡ true → IsRobotOf code r → IsGroundOf arena f → IsAt runner code trace
-    → HasRun ⊥ r i f trace n code (record { machine = runner.machine; ahead = runner.ahead - n }) arena
-goes_ahead runner code r i f trace n arena within live is ground at =
+    → n ≤ runner.ahead → is_live f i ≡ true → IsRobotOf exe r → IsGroundOf arena f → IsAt runner exe trace
+    → HasRun ⊥ r i f trace n exe (record { machine = runner.machine; ahead = runner.ahead - n }) arena
+goes_ahead runner exe r i f trace n arena within live is ground at =
     let quiet = quiet_less r trace n runner.ahead within (at.quiet r is) in
     record {
       steps = inl (quiet_runs r i f trace n live quiet);
       stands = rw (quiet_alone r i f trace n live quiet) ground;
-      at = rw (quiet_alone r i f trace n live quiet) (at_less runner n code trace within at);
+      at = rw (quiet_alone r i f trace n live quiet) (at_less runner n exe trace within at);
     }
 
 -- one robot more is ahead
@@ -43,14 +43,14 @@ ahead_more n cycles arena runners before here i none within lives = elim (cases_
 ]
 
 -- So many robots have passed the window; the others are at its begin.
-pub record HavePassed (robots : List Behaviour) (codes : List ObjectCode) (k w : ℕ) (runners : List Runner)
+pub record HavePassed (robots : List Behaviour) (exes : List Executable) (k w : ℕ) (runners : List Runner)
     (arena : Ground) (opened : Stage) : Type 0 where
   pub next : List ℕ
   pub turn_numbers : AreTurnNumbers next
   pub done : (i : ℕ) → i < k → 4 * w ≤ get_or next i 0
-  pub begin : (i : ℕ) → k ≤ i → i < length codes → get_or next i 0 ≡ i
-  pub past : (i : ℕ) → length codes ≤ i → i < 4 → 4 * w ≤ get_or next i 0
-  pub come : HasCome robots codes next w runners arena opened
+  pub begin : (i : ℕ) → k ≤ i → i < length exes → get_or next i 0 ≡ i
+  pub past : (i : ℕ) → length exes ≤ i → i < 4 → 4 * w ≤ get_or next i 0
+  pub come : HasCome robots exes next w runners arena opened
 
 turn_number_of : ℕ → ℕ → ℕ → ℕ
 turn_number_of n w i = if nat_lt i n then i else 4 * w + i
@@ -88,12 +88,12 @@ turn_numbers_are n w = record {
   own = λ i small. rw (turn_numbers_at n w i small) (turn_number_own n w i small);
 }
 
-pub none_passed : (robots : List Behaviour) (codes : List ObjectCode) (w : ℕ) (runners : List Runner) (arena : Ground)
+pub none_passed : (robots : List Behaviour) (exes : List Executable) (w : ℕ) (runners : List Runner) (arena : Ground)
     (s : Stage)
-    → AreRobotsOf codes robots → length codes ≤ 4 → HasReached runners codes arena s →
-    HavePassed robots codes 0 w runners arena s
-none_passed robots codes w runners arena s are few reached =
-    let n = length codes in
+    → AreRobotsOf exes robots → length exes ≤ 4 → HasReached runners exes arena s →
+    HavePassed robots exes 0 w runners arena s
+none_passed robots exes w runners arena s are few reached =
+    let n = length exes in
     let first : (i : ℕ) → i < n → i < 4 → get_or (turn_numbers_of n w) i 0 ≡ i =
     λ i inside small. turn_numbers_at n w i small ∙ turn_number_in n w i inside in
     let past : (i : ℕ) → n ≤ i → i < 4 → 4 * w ≤ get_or (turn_numbers_of n w) i 0 =
@@ -104,17 +104,17 @@ none_passed robots codes w runners arena s are few reached =
       done = λ i low. absurd (omega arith);
       begin = λ i from inside. first i inside (omega arith);
       past = past;
-      come = opens robots codes (turn_numbers_of n w) w runners arena s are (turn_numbers_are n w) few first past
+      come = opens robots exes (turn_numbers_of n w) w runners arena s are (turn_numbers_are n w) few first past
           reached;
     }
 
-pub one_passes : (robots : List Behaviour) (codes : List ObjectCode) (k w : ℕ) (runners : List Runner) (arena : Ground)
+pub one_passes : (robots : List Behaviour) (exes : List Executable) (k w : ℕ) (runners : List Runner) (arena : Ground)
     (s : Stage)
-    (code : ObjectCode) (none after : Runner)
-    → AreRobotsOf codes robots → length codes ≤ 4 → k < length codes → slice_get codes k ≡ Some code
-    → HavePassed robots codes k w runners arena s → Runs ⊥ k code w (get_or runners k none) after arena arena
-    → HavePassed robots codes (k + 1) w (set runners k after) arena s
-one_passes robots codes k w runners arena s code none after are few inside here passed gone =
+    (exe : Executable) (none after : Runner)
+    → AreRobotsOf exes robots → length exes ≤ 4 → k < length exes → slice_get exes k ≡ Some exe
+    → HavePassed robots exes k w runners arena s → Runs ⊥ k exe w (get_or runners k none) after arena arena
+    → HavePassed robots exes (k + 1) w (set runners k after) arena s
+one_passes robots exes k w runners arena s exe none after are few inside here passed gone =
     let here' : get_or passed.next k 0 ≡ k = passed.begin k (omega arith) inside in
     let four = passed.turn_numbers.four in
     let next = set passed.next k (get_or passed.next k 0 + 4 * w) in
@@ -136,39 +136,39 @@ one_passes robots codes k w runners arena s code none after are few inside here 
           let distinct : i ≢ k = omega arith in
           rw (other i distinct) (passed.past i from small);
       come =
-          come_alone robots codes passed.next w w k runners arena arena s code none after ⊥ are passed.turn_numbers
+          come_alone robots exes passed.next w w k runners arena arena s exe none after ⊥ are passed.turn_numbers
           (omega arith) inside
           (omega (arith, here')) (λ free. absurd free) passed.come here gone;
     }
 
-pub all_passed : (robots : List Behaviour) (codes : List ObjectCode) (w : ℕ) (runners : List Runner) (arena : Ground)
+pub all_passed : (robots : List Behaviour) (exes : List Executable) (w : ℕ) (runners : List Runner) (arena : Ground)
     (s : Stage)
-    → HavePassed robots codes (length codes) w runners arena s → HasReached runners codes arena (rounds robots w s)
-all_passed robots codes w runners arena s passed =
-    closes robots codes passed.next w runners arena s (λ i small. elim (cases_lt i (length codes)) [
+    → HavePassed robots exes (length exes) w runners arena s → HasReached runners exes arena (rounds robots w s)
+all_passed robots exes w runners arena s passed =
+    closes robots exes passed.next w runners arena s (λ i small. elim (cases_lt i (length exes)) [
       | inl inside ↦ passed.done i inside
       | inr outside ↦ passed.past i outside small
     ]) passed.come
 
--- a robot's code, and its runner
-pub code_at : (codes : List ObjectCode) (k : ℕ) → k < length codes →
-    (code : ObjectCode) × (slice_get codes k ≡ Some code)
+-- a robot's exe, and its runner
+pub code_at : (exes : List Executable) (k : ℕ) → k < length exes →
+    (exe : Executable) × (slice_get exes k ≡ Some exe)
 code_at [] k inside = absurd (omega arith)
-code_at (code ∷ codes) zero inside = (code, refl)
-code_at (code ∷ codes) (suc k) inside = code_at codes k (omega arith)
+code_at (exe ∷ exes) zero inside = (exe, refl)
+code_at (exe ∷ exes) (suc k) inside = code_at exes k (omega arith)
 
 -- one machine stays as it is
-pub fits_still : (runners : List Runner) (codes : List ObjectCode) (k : ℕ) (none after : Runner) → k < length runners
-    → after.machine ≡ (get_or runners k none).machine → EachFits runners codes → EachFits (set runners k after) codes
-fits_still runners codes k none after inside same fits =
-    let here = code_at codes k (omega (arith, inside, fits_length runners codes fits)) in
-    let still : FitsProgram after.machine here.0 = rw same (fits_at runners codes k here.0 none fits here.1) in
-    fits_set runners codes k after here.0 fits here.1 still
+pub fits_still : (runners : List Runner) (exes : List Executable) (k : ℕ) (none after : Runner) → k < length runners
+    → after.machine ≡ (get_or runners k none).machine → EachFits runners exes → EachFits (set runners k after) exes
+fits_still runners exes k none after inside same fits =
+    let here = code_at exes k (omega (arith, inside, fits_length runners exes fits)) in
+    let still : FitsProgram after.machine here.0 = rw same (fits_at runners exes k here.0 none fits here.1) in
+    fits_set runners exes k after here.0 fits here.1 still
 
--- there is a runner for each code
-pub runners_length : (runners : List Runner) (codes : List ObjectCode) (traces : List (List ℤ)) →
-    EachIsAt runners codes traces
-    → length runners ≡ length codes
+-- there is a runner for each exe
+pub runners_length : (runners : List Runner) (exes : List Executable) (traces : List (List ℤ)) →
+    EachIsAt runners exes traces
+    → length runners ≡ length exes
 runners_length [] [] [] at = refl
-runners_length (runner ∷ runners) (code ∷ codes) (trace ∷ traces) at = ap suc (runners_length runners codes traces at.1)
+runners_length (runner ∷ runners) (exe ∷ exes) (trace ∷ traces) at = ap suc (runners_length runners exes traces at.1)
 runners_length _ _ _ at = absurd at

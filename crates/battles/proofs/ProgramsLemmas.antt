@@ -4,6 +4,7 @@ use Rattle.std.proofs.lemmas.List.{length-map, map-set, take_more, take_more_set
 use Rattle.std.proofs.lemmas.Option.{get_or_from_slice_get, slice_get_within}
 use Rattle.std.specs.Prelude.{slice_get, flat_map}
 use Rattle.std.specs.Option.{option_to_list}
+use Rattle.battles.specs.Pairing.{paired}
 use Rattle.battles.specs.Programs.{AllSome}
 
 -- what is kept at a place is the program of that place
@@ -39,3 +40,9 @@ looked_up f found items n x within same here =
     ∙ sym (
     take_more items n (f x) (slice_get_within items n (f x) here)
     ∙ ap (λ y. take n items ++ y ∷ []) (get_or_from_slice_get items n (f x) (f x) here))
+
+-- there is a robot if there is a program
+pub some_robot : {A : Type 0} (items : List A) → 0 < length items → 0 < length (paired items)
+some_robot [] none = none
+some_robot (x ∷ []) some = omega arith
+some_robot (x ∷ y ∷ items) some = some

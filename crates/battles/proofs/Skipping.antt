@@ -12,7 +12,7 @@ use Rattle.arena.specs.Standing.{StandsFor as IsGroundOf}
 use Rattle.arena.proofs.Represents.{body_at, living}
 use Rattle.arena.proofs.Still.{only_rests}
 use Rattle.code.specs.declared.want.Want.TheVariants.{Quiet}
-use Rattle.code.specs.Generation.{ObjectCode}
+use Rattle.engine.specs.Executables.{Executable}
 use Rattle.battles.specs.Battle.{Behaviour, Stage, granted, step, robot_of, turn, turns}
 use Rattle.battles.specs.Carrying.{Runner, AreRobotsOf, EachIsAt, HasReached, IsQuiet}
 use Rattle.battles.specs.Windows.{AreAhead, rounds, segment, segments}
@@ -195,24 +195,24 @@ segments_wait g robots (suc k) s ground still all quiet =
     ap (λ m. waits (lives g) (length robots) m s.traces) sum)
 
 -- The machines are ahead by cycles in which the robots are quiet.
-traces_length : (runners : List Runner) (codes : List ObjectCode) (traces : List (List ℤ)) →
-    EachIsAt runners codes traces
-    → length traces ≡ length codes
+traces_length : (runners : List Runner) (exes : List Executable) (traces : List (List ℤ)) →
+    EachIsAt runners exes traces
+    → length traces ≡ length exes
 traces_length [] [] [] at = refl
-traces_length (runner ∷ runners) (code ∷ codes) (trace ∷ traces) at = ap suc (traces_length runners codes traces at.1)
+traces_length (runner ∷ runners) (exe ∷ exes) (trace ∷ traces) at = ap suc (traces_length runners exes traces at.1)
 traces_length _ _ _ at = absurd at
 
-are_quiet : (codes : List ObjectCode) (robots : List Behaviour) (runners : List Runner) (none : Runner) (g : Ground)
+are_quiet : (exes : List Executable) (robots : List Behaviour) (runners : List Runner) (none : Runner) (g : Ground)
     (s : Stage) (cycles : ℕ)
-    → AreRobotsOf codes robots → HasReached runners codes g s → AreAhead (length runners) cycles g runners
+    → AreRobotsOf exes robots → HasReached runners exes g s → AreAhead (length runners) cycles g runners
     → AreQuiet g robots s.traces cycles
 unfolding robot_of
-are_quiet codes robots runners none g s cycles are reached ahead i low live =
-    let here = code_at codes i (omega (arith, low, robots_length codes robots are)) in
+are_quiet exes robots runners none g s cycles are reached ahead i low live =
+    let here = code_at exes i (omega (arith, low, robots_length exes robots are)) in
     let inside : i < length runners =
-    omega (arith, low, robots_length codes robots are, runners_length runners codes s.traces reached.traces) in
-    let is = robot_at codes robots i here.0 (λ trace. Quiet) are here.1 in
-    let at = stands_at runners codes s.traces i here.0 none reached.traces here.1 in
+    omega (arith, low, robots_length exes robots are, runners_length runners exes s.traces reached.traces) in
+    let is = robot_at exes robots i here.0 (λ trace. Quiet) are here.1 in
+    let at = stands_at runners exes s.traces i here.0 none reached.traces here.1 in
     quiet_less (robot_of robots i) (get_or s.traces i []) cycles (get_or runners i none).ahead
     (ahead i none inside live) (at.quiet _ is)
 
@@ -224,46 +224,46 @@ ahead_fewer n most cycles arena runners fewer ahead i none inside live =
     let here : most ≤ (get_or runners i none).ahead = ahead i none inside live in
     omega arith
 
-some_quiet : (codes : List ObjectCode) (robots : List Behaviour) (runners : List Runner) (g : Ground) (s : Stage)
+some_quiet : (exes : List Executable) (robots : List Behaviour) (runners : List Runner) (g : Ground) (s : Stage)
     (cycles : ℕ)
-    → AreRobotsOf codes robots → HasReached runners codes g s → AreAhead (length runners) cycles g runners
+    → AreRobotsOf exes robots → HasReached runners exes g s → AreAhead (length runners) cycles g runners
     → AreQuiet g robots s.traces cycles
 some_quiet [] [] [] g s cycles are reached ahead = λ i low live. absurd (omega arith)
-some_quiet codes robots (runner ∷ runners) g s cycles are reached ahead =
-    are_quiet codes robots (runner ∷ runners) runner g s cycles are reached ahead
-some_quiet (code ∷ codes) robots [] g s cycles are reached ahead =
-    absurd (omega (arith, runners_length [] (code ∷ codes) s.traces reached.traces))
+some_quiet exes robots (runner ∷ runners) g s cycles are reached ahead =
+    are_quiet exes robots (runner ∷ runners) runner g s cycles are reached ahead
+some_quiet (exe ∷ exes) robots [] g s cycles are reached ahead =
+    absurd (omega (arith, runners_length [] (exe ∷ exes) s.traces reached.traces))
 some_quiet [] (robot ∷ robots) [] g s cycles are reached ahead = absurd are
 
-enough : (codes : List ObjectCode) (robots : List Behaviour) (runners : List Runner) (g : Ground) (s : Stage)
-    → AreRobotsOf codes robots → HasReached runners codes g s → length robots ≤ length s.traces
-enough codes robots runners g s are reached =
-    omega (arith, robots_length codes robots are, traces_length runners codes s.traces reached.traces)
+enough : (exes : List Executable) (robots : List Behaviour) (runners : List Runner) (g : Ground) (s : Stage)
+    → AreRobotsOf exes robots → HasReached runners exes g s → length robots ≤ length s.traces
+enough exes robots runners g s are reached =
+    omega (arith, robots_length exes robots are, traces_length runners exes s.traces reached.traces)
 
 -- Where the cycles of some windows lead, and as many updates: to where the windows lead.
-pub skips : (codes : List ObjectCode) (robots : List Behaviour) (runners after : List Runner) (g : Ground) (s : Stage)
+pub skips : (exes : List Executable) (robots : List Behaviour) (runners after : List Runner) (g : Ground) (s : Stage)
     (k : ℕ)
-    → AreRobotsOf codes robots → HasReached runners codes g s → IsStill g.robots g.slots
-    → AreAhead (length runners) (15 * k) g runners → HasReached after codes g (rounds robots (15 * k) s)
-    → HasReached after codes (record g { updates = g.updates + k }) (segments robots k s)
-skips codes robots runners after g s k are reached still ahead gone =
-    let all = enough codes robots runners g s are reached in
-    let quiet = some_quiet codes robots runners g s (15 * k) are reached ahead in
+    → AreRobotsOf exes robots → HasReached runners exes g s → IsStill g.robots g.slots
+    → AreAhead (length runners) (15 * k) g runners → HasReached after exes g (rounds robots (15 * k) s)
+    → HasReached after exes (record g { updates = g.updates + k }) (segments robots k s)
+skips exes robots runners after g s k are reached still ahead gone =
+    let all = enough exes robots runners g s are reached in
+    let quiet = some_quiet exes robots runners g s (15 * k) are reached ahead in
     let run = rounds_wait g robots (15 * k) s reached.field all quiet in
-    let traces : EachIsAt after codes (waits (lives g) (length robots) (15 * k) s.traces) = rw run at gone.traces in
+    let traces : EachIsAt after exes (waits (lives g) (length robots) (15 * k) s.traces) = rw run at gone.traces in
     rw (segments_wait g robots k s reached.field still all quiet) (record {
       field = only_rests g s.field k reached.field still;
       traces = traces;
     })
 
 -- as many robots live
-pub skips_alive : (codes : List ObjectCode) (robots : List Behaviour) (runners : List Runner) (g : Ground) (s : Stage)
+pub skips_alive : (exes : List Executable) (robots : List Behaviour) (runners : List Runner) (g : Ground) (s : Stage)
     (k n : ℕ)
-    → AreRobotsOf codes robots → HasReached runners codes g s → IsStill g.robots g.slots
+    → AreRobotsOf exes robots → HasReached runners exes g s → IsStill g.robots g.slots
     → AreAhead (length runners) (15 * k) g runners → n ≤ k → live_count (segments robots n s).field ≡ live_count s.field
-skips_alive codes robots runners g s k n are reached still ahead within =
-    let all = enough codes robots runners g s are reached in
-    let quiet = some_quiet codes robots runners g s (15 * n) are reached
+skips_alive exes robots runners g s k n are reached still ahead within =
+    let all = enough exes robots runners g s are reached in
+    let quiet = some_quiet exes robots runners g s (15 * n) are reached
     (ahead_fewer (length runners) (15 * k) (15 * n) g runners (omega arith) ahead) in
     ap (λ (t : Stage). live_count t.field) (segments_wait g robots n s reached.field still all quiet)
     ∙

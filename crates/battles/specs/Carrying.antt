@@ -6,28 +6,29 @@ use Rattle.grammar.specs.Profile.{Profile}
 use Rattle.grammar.specs.Resolved.{IsResolved}
 use Rattle.grammar.specs.Tree.{File}
 use Rattle.code.specs.declared.want.Want.TheVariants.{Quiet}
-use Rattle.code.specs.Generation.{ObjectCode, IsProgramOf}
-use Rattle.code.specs.Machine.{State}
+use Rattle.code.specs.Generation.{IsProgramOf}
+use Rattle.engine.specs.declared.engines.Engine.{Engine}
 use Rattle.code.specs.Meaning.{want}
-use Rattle.code.specs.Standing.{IsReached, FitsProgram}
+use Rattle.engine.specs.Executables.{Executable}
+use Rattle.engine.specs.Engines.{IsReached, FitsProgram}
 use Rattle.battles.specs.Battle.{Behaviour, Stage}
 
 -- the robot wants what the trees of the program's file want
-pub record IsRobotOf (code : ObjectCode) (robot : Behaviour) : Type 0 where
+pub record IsRobotOf (exe : Executable) (robot : Behaviour) : Type 0 where
   pub profile : Profile
   pub file : File
   pub resolved : IsResolved file
-  pub program : IsProgramOf code profile file
+  pub program : IsProgramOf exe.program profile file
   pub wants : robot ≡ want profile file
 
-abbrev pub AreRobotsOf : List ObjectCode → List Behaviour → Type 0
+abbrev pub AreRobotsOf : List Executable → List Behaviour → Type 0
 AreRobotsOf [] [] = Unit {0}
-AreRobotsOf (code ∷ codes) (robot ∷ robots) = IsRobotOf code robot × AreRobotsOf codes robots
+AreRobotsOf (exe ∷ exes) (robot ∷ robots) = IsRobotOf exe robot × AreRobotsOf exes robots
 AreRobotsOf _ _ = ⊥
 
 -- A robot's machine, and how many cycles it is ahead of the robot.
 pub record Runner : Type 0 where
-  pub machine : State
+  pub machine : Engine
   pub ahead : ℕ
 
 -- the robot asks nothing in its next so many cycles
@@ -35,22 +36,22 @@ abbrev pub IsQuiet : Behaviour → List ℤ → ℕ → Type 0
 IsQuiet robot trace n = (k : ℕ) → k < n → robot (trace ++ replicate k (pos 0)) ≡ Quiet
 
 -- the machine got the replies of the robot's trace, and is ahead by quiet cycles alone
-pub record IsAt (runner : Runner) (code : ObjectCode) (trace : List ℤ) : Type 0 where
-  pub stands : IsReached runner.machine code (trace ++ replicate runner.ahead (pos 0))
-  pub quiet : (robot : Behaviour) → IsRobotOf code robot → IsQuiet robot trace runner.ahead
+pub record IsAt (runner : Runner) (exe : Executable) (trace : List ℤ) : Type 0 where
+  pub stands : IsReached runner.machine exe (trace ++ replicate runner.ahead (pos 0))
+  pub quiet : (robot : Behaviour) → IsRobotOf exe robot → IsQuiet robot trace runner.ahead
 
 -- each machine can go on with its program
-abbrev pub EachFits : List Runner → List ObjectCode → Type 0
+abbrev pub EachFits : List Runner → List Executable → Type 0
 EachFits [] [] = Unit {0}
-EachFits (runner ∷ runners) (code ∷ codes) = FitsProgram runner.machine code × EachFits runners codes
+EachFits (runner ∷ runners) (exe ∷ exes) = FitsProgram runner.machine exe × EachFits runners exes
 EachFits _ _ = ⊥
 
 -- each robot has come to the end of its trace
-abbrev pub EachIsAt : List Runner → List ObjectCode → List (List ℤ) → Type 0
+abbrev pub EachIsAt : List Runner → List Executable → List (List ℤ) → Type 0
 EachIsAt [] [] [] = Unit {0}
-EachIsAt (runner ∷ runners) (code ∷ codes) (trace ∷ traces) = IsAt runner code trace × EachIsAt runners codes traces
+EachIsAt (runner ∷ runners) (exe ∷ exes) (trace ∷ traces) = IsAt runner exe trace × EachIsAt runners exes traces
 EachIsAt _ _ _ = ⊥
 
-pub record HasReached (runners : List Runner) (codes : List ObjectCode) (arena : Ground) (stage : Stage) : Type 0 where
+pub record HasReached (runners : List Runner) (exes : List Executable) (arena : Ground) (stage : Stage) : Type 0 where
   pub field : IsGroundOf arena stage.field
-  pub traces : EachIsAt runners codes stage.traces
+  pub traces : EachIsAt runners exes stage.traces

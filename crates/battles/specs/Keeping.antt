@@ -1,10 +1,13 @@
 -- What those who run a window need of the machines and the arena, and what they keep.
-use Rattle.std.specs.Prelude.{◌≡◌, ℕ, ◌<◌, ◌≤◌, ◌*◌, List, Bool, length, slice_index_or, nat_le}
+use Rattle.std.specs.Prelude.{◌≡◌, ◌≢◌, ℕ, ℤ, ◌<◌, ◌≤◌, ◌*◌, List, Bool, length, slice_index_or, nat_le}
 use Rattle.arena.specs.Field.{live_count}
 use Rattle.arena.specs.Ground.{Ground}
-use Rattle.code.specs.Generation.{ObjectCode}
-use Rattle.code.specs.Machine.{State}
-use Rattle.code.specs.Standing.{FitsProgram}
+use Rattle.engine.specs.Executables.{Executable}
+use Rattle.engine.specs.declared.engines.Engine.{Engine}
+use Rattle.engine.specs.Engines.{FitsProgram, IsReached, IsStopped}
+use Rattle.code.specs.declared.want.Want.{Want}
+use Rattle.code.specs.declared.want.Want.TheVariants.{Quiet}
+use Rattle.code.specs.Machine.{want_code}
 use Rattle.battles.specs.Battle.{Behaviour, Stage}
 use Rattle.battles.specs.Carrying.{Runner, EachFits, HasReached}
 use Rattle.battles.specs.Windows.{AreTurnNumbers, AreWaiting, Waits, segments}
@@ -15,55 +18,61 @@ pub record HavePlaces (runners : List Runner) (arena : Ground) : Type 0 where
   pub robots : length arena.robots ≡ length runners
 
 -- each of at most four programs has a machine that can go on with it, and a robot of the field
-pub record AreManned (codes : List ObjectCode) (runners : List Runner) (arena : Ground) : Type 0 where
-  pub few : length codes ≤ 4
-  pub fits : EachFits runners codes
-  pub robots : length arena.robots ≡ length codes
+pub record AreManned (exes : List Executable) (runners : List Runner) (arena : Ground) : Type 0 where
+  pub few : length exes ≤ 4
+  pub fits : EachFits runners exes
+  pub robots : length arena.robots ≡ length exes
 
 -- a robot of the field, whose machine can go on with its program
-pub record CanRun (i : ℕ) (code : ObjectCode) (machine : State) (arena : Ground) : Type 0 where
+pub record CanRun (i : ℕ) (exe : Executable) (machine : Engine) (arena : Ground) : Type 0 where
   pub turn_number : i < 4
   pub inside : i < length arena.robots
-  pub fits : FitsProgram machine code
+  pub fits : FitsProgram machine exe
+
+-- a machine stopped, and this is what its program wants
+pub record HasStopped (machine : Engine) (exe : Executable) (want : Want) : Type 0 where
+  pub stopped : IsStopped exe machine
+  pub wants : (trace : List ℤ) → IsReached machine exe trace → want_code exe.program trace ≡ want
+  pub some : want ≢ Quiet
 
 -- a robot's turns keep that, the robots of the field, and the number of updates
-pub record Keeps (code : ObjectCode) (machine : State) (before after : Ground) : Type 0 where
-  pub fits : FitsProgram machine code
+pub record Keeps (exe : Executable) (machine : Engine) (before after : Ground) : Type 0 where
+  pub fits : FitsProgram machine exe
   pub robots : length after.robots ≡ length before.robots
   pub updates : after.updates ≡ before.updates
 
 -- A robot ran for n cycles of at most so many. If it stopped before these were over, it waits to draw.
-pub record RanWithin (limit n : ℕ) (code : ObjectCode) (runner : Runner) : Type 0 where
+pub record RanWithin (limit n : ℕ) (exe : Executable) (runner : Runner) : Type 0 where
   pub most : n ≤ limit
-  pub waits : n < limit → Waits code runner
+  pub waits : n < limit → Waits exe runner
 
 -- A window of w cycles: each robot has the number of its next turn. Those that aren't there have no turn in it.
-pub record IsWindow (codes : List ObjectCode) (next : List ℕ) (w : ℕ) (runners : List Runner)
+pub record IsWindow (exes : List Executable) (next : List ℕ) (w : ℕ) (runners : List Runner)
     (arena : Ground) : Type 0 where
-  pub manned : AreManned codes runners arena
+  pub manned : AreManned exes runners arena
   pub turn_numbers : AreTurnNumbers next
-  pub past : (i : ℕ) → length codes ≤ i → i < 4 → 4 * w ≤ slice_index_or next i 0
+  pub past : (i : ℕ) → length exes ≤ i → i < 4 → 4 * w ≤ slice_index_or next i 0
 
 -- at its begin each robot has all its turns before it
-pub record Opens (codes : List ObjectCode) (next : List ℕ) (w : ℕ) (runners : List Runner)
+pub record Opens (exes : List Executable) (next : List ℕ) (w : ℕ) (runners : List Runner)
     (arena : Ground) : Type 0 where
-  pub window : IsWindow codes next w runners arena
-  pub first : (i : ℕ) → i < length codes → slice_index_or next i 0 ≡ i
+  pub window : IsWindow exes next w runners arena
+  pub first : (i : ℕ) → i < length exes → slice_index_or next i 0 ≡ i
 
 -- later each robot that has turns left waits
-pub record IsUnderWay (codes : List ObjectCode) (next : List ℕ) (w : ℕ) (runners : List Runner)
+pub record IsUnderWay (exes : List Executable) (next : List ℕ) (w : ℕ) (runners : List Runner)
     (arena : Ground) : Type 0 where
-  pub window : IsWindow codes next w runners arena
-  pub waiting : AreWaiting w next codes runners
+  pub window : IsWindow exes next w runners arena
+  pub waiting : AreWaiting w next exes runners
 
 -- the stage after an update, and whether that decides the battle: at most one robot is alive
-pub record HasUpdated (codes : List ObjectCode) (runners : List Runner) (arena : Ground) (stage : Stage)
+pub record HasUpdated (exes : List Executable) (runners : List Runner) (arena : Ground) (stage : Stage)
     (decides : Bool) : Type 0 where
-  pub reached : HasReached runners codes arena stage
+  pub reached : HasReached runners exes arena stage
   pub decided : decides ≡ nat_le (live_count stage.field) 1
 
 -- the stage after n windows, each with its update, in none of which a robot died
-pub record HasRested (robots : List Behaviour) (codes : List ObjectCode) (n : ℕ)
+pub record HasRested (robots : List Behaviour) (exes : List Executable) (n : ℕ)
     (runners : List Runner) (arena : Ground) (stage : Stage) : Type 0 where
-  pub reached : HasReached runners codes arena (segments robots n stage)
+  pub reached : HasReached runners exes arena (segments robots n stage)
   pub alive : (k : ℕ) → k ≤ n → live_count (segments robots k stage).field ≡ live_count stage.field

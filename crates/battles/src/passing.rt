@@ -5,7 +5,7 @@ ghost use Rattle.std.specs.Prelude.{◌≡◌, ◌<◌, ◌≤◌, ◌+◌, ◌*
 ghost use Rattle.arena.specs.Field.{Field};
 ghost use Rattle.arena.specs.Ground.{lives, most_updates};
 ghost use Rattle.arena.specs.Standing.{StandsFor as IsGroundOf};
-ghost use Rattle.code.specs.Generation.{ObjectCode};
+ghost use Rattle.engine.specs.Executables.{Executable};
 ghost use Rattle.battles.specs.Battle.{Behaviour, Stage};
 ghost use Rattle.battles.specs.Carrying.{IsRobotOf, IsAt, AreRobotsOf, EachFits, HasReached};
 ghost use Rattle.battles.specs.Keeping.{AreManned, HasRested, HavePlaces};
@@ -19,11 +19,11 @@ use arena::Arena;
 #[inline(always)]
 pub(crate) fn pass(runners: &mut [Runner], arena: &Arena, cycles: u32) -> bool
     requires { HavePlaces runners.old arena.now }
-    ensures stage { result ≡ true → (codes : List ObjectCode) (robots : List Behaviour) (s : Stage)
-        → AreRobotsOf codes robots → HasReached runners.old codes arena.now s
-        → HasReached runners.new codes arena.now (rounds robots cycles s) }
+    ensures stage { result ≡ true → (exes : List Executable) (robots : List Behaviour) (s : Stage)
+        → AreRobotsOf exes robots → HasReached runners.old exes arena.now s
+        → HasReached runners.new exes arena.now (rounds robots cycles s) }
     ensures stays { result ≡ false → runners.new ≡ runners.old }
-    ensures fits { (codes : List ObjectCode) → EachFits runners.old codes → EachFits runners.new codes }
+    ensures fits { (exes : List Executable) → EachFits runners.old exes → EachFits runners.new exes }
 {
     if !are_ahead(runners, arena, cycles) {
         return false;
@@ -39,11 +39,11 @@ pub(crate) fn pass(runners: &mut [Runner], arena: &Arena, cycles: u32) -> bool
 pub(crate) fn skip(runners: &mut [Runner], arena: &mut Arena, most: u32) -> u32
     requires places { HavePlaces runners.old arena.old }
     requires updates { arena.old.updates + most ≤ most_updates }
-    ensures stage { (codes : List ObjectCode) (robots : List Behaviour) (s : Stage)
-        → AreRobotsOf codes robots → HasReached runners.old codes arena.old s
-        → HasRested robots codes result runners.new arena.new s }
-    ensures manned { (codes : List ObjectCode) → AreManned codes runners.old arena.old
-        → AreManned codes runners.new arena.new }
+    ensures stage { (exes : List Executable) (robots : List Behaviour) (s : Stage)
+        → AreRobotsOf exes robots → HasReached runners.old exes arena.old s
+        → HasRested robots exes result runners.new arena.new s }
+    ensures manned { (exes : List Executable) → AreManned exes runners.old arena.old
+        → AreManned exes runners.new arena.new }
     ensures updates { arena.new.updates ≡ arena.old.updates + result }
     ensures most { result ≤ most }
 {
@@ -94,10 +94,10 @@ fn are_ahead(runners: &[Runner], arena: &Arena, cycles: u32) -> bool
 fn go_on(runners: &mut [Runner], arena: &Arena, cycles: u32)
     requires places { HavePlaces runners.old arena.now }
     requires ahead { AreAhead (length runners.old) cycles arena.now runners.old }
-    ensures stage { (codes : List ObjectCode) (robots : List Behaviour) (s : Stage)
-        → AreRobotsOf codes robots → HasReached runners.old codes arena.now s
-        → HasReached runners.new codes arena.now (rounds robots cycles s) }
-    ensures fits { (codes : List ObjectCode) → EachFits runners.old codes → EachFits runners.new codes }
+    ensures stage { (exes : List Executable) (robots : List Behaviour) (s : Stage)
+        → AreRobotsOf exes robots → HasReached runners.old exes arena.now s
+        → HasReached runners.new exes arena.now (rounds robots cycles s) }
+    ensures fits { (exes : List Executable) → EachFits runners.old exes → EachFits runners.new exes }
 {
     for robot in 0..runners.len() {
         go_on_alone(&mut runners[robot], arena, robot, cycles);
@@ -109,9 +109,9 @@ fn go_on(runners: &mut [Runner], arena: &Arena, cycles: u32)
 fn go_on_alone(runner: &mut Runner, arena: &Arena, robot: usize, cycles: u32)
     requires inside { robot < length arena.now.robots }
     requires ahead { lives arena.now robot ≡ true → cycles ≤ runner.old.ahead }
-    ensures alone { (code : ObjectCode) (r : Behaviour) (f : Field) (trace : List ℤ) → IsRobotOf code r
-        → IsGroundOf arena.now f → IsAt runner.old code trace
-        → HasRun ⊥ r robot f trace cycles code runner.new arena.now }
+    ensures alone { (exe : Executable) (r : Behaviour) (f : Field) (trace : List ℤ) → IsRobotOf exe r
+        → IsGroundOf arena.now f → IsAt runner.old exe trace
+        → HasRun ⊥ r robot f trace cycles exe runner.new arena.now }
     ensures machine { runner.new.machine ≡ runner.old.machine }
 {
     if arena.alive(robot) {

@@ -1,38 +1,38 @@
-//! The pilots of a battle: the program of each robot, looked up once.
+//! The pilots of a battle: what each robot runs, looked up once.
 
-ghost use Rattle.std.specs.Prelude.{◌≡◌, ◌<◌, ◌≤◌, length, slice_get, Some};
+ghost use Rattle.std.specs.Prelude.{◌≡◌, ◌<◌, ◌≤◌, length, map, slice_get, Some};
 ghost use Rattle.battles.specs.Pairing.{paired};
-ghost use Rattle.code.specs.Generation.{ObjectCode};
+ghost use Rattle.engine.specs.Executables.{Executable};
 
 use crate::programs::Programs;
-use code::Program;
+use engine::Executable;
 use settings::FILES_MAX;
 use std::marker::Model;
 
-/// The programs of the robots in a battle, by the robots' numbers.
+/// The executables of the robots in a battle, by the robots' numbers.
 #[derive(Drop)]
 pub(crate) struct Pilots<'a> {
-    programs: [&'a Program; FILES_MAX],
-    // how many robots there are: past these the first program stands once more
+    exes: [&'a Executable; FILES_MAX],
+    // how many robots there are: past these the first executable stands once more
     robots: usize,
 }
 
 impl<'a> Model for Pilots<'a> {
     ghost use Rattle.std.specs.Prelude.{◌≤◌, List, map, take};
-    ghost use Rattle.code.specs.Generation.{ObjectCode};
+    ghost use Rattle.engine.specs.Executables.{Executable};
 
-    ghost Value = { List ObjectCode };
+    ghost Value = { List Executable };
 
-    ghost view = { λ p. take p.robots (map (λ q. q.now) p.programs) };
+    ghost view = { λ p. take p.robots (map (λ q. q.now) p.exes) };
 
     ghost invariant = { λ p. p.robots ≤ 4 };
 }
 
 impl<'a> Pilots<'a> {
-    /// Looks up the program of each robot: one of each file, and two of a single one.
+    /// Looks up the executable of each robot: one of each file, and two of a single one.
     pub(crate) fn new(programs: &'a Programs) -> Pilots<'a>
         requires { 0 < length programs.now }
-        ensures { result ≡ paired programs.now }
+        ensures { map (λ e. e.program) result ≡ paired programs.now }
     {
         let robots = programs.robots();
         let mut pilots = [programs.pilot(0); FILES_MAX];
@@ -40,7 +40,7 @@ impl<'a> Pilots<'a> {
             pilots[robot] = programs.pilot(robot);
         }
         Pilots {
-            programs: pilots,
+            exes: pilots,
             robots,
         }
     }
@@ -53,13 +53,13 @@ impl<'a> Pilots<'a> {
         self.robots
     }
 
-    /// Returns the program of the robot with this number.
+    /// Returns the executable of the robot with this number.
     #[inline(always)]
-    pub(crate) fn pilot(&self, robot: usize) -> &'a Program
+    pub(crate) fn pilot(&self, robot: usize) -> &'a Executable
         requires { robot < length self.now }
         ensures { slice_get self.now robot ≡ Some result.now }
     {
-        let programs = &self.programs[..];
-        programs[robot]
+        let exes = &self.exes[..];
+        exes[robot]
     }
 }

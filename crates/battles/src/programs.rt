@@ -1,6 +1,6 @@
 //! The programs of a series.
 
-ghost use Rattle.std.specs.Prelude.{◌≡◌, ◌<◌, ◌≤◌, [], ◌∷◌, ◌++◌, List, length, flat_map, slice_get, Some};
+ghost use Rattle.std.specs.Prelude.{◌≡◌, ◌<◌, ◌≤◌, [], ◌∷◌, ◌++◌, List, length, map, flat_map, slice_get, Some};
 ghost use Rattle.std.specs.Option.{option_to_list};
 ghost use Rattle.battles.specs.Pairing.{paired};
 ghost use Rattle.battles.specs.Programs.{AllSome, AreOfProfile};
@@ -8,21 +8,22 @@ ghost use Rattle.code.specs.Generation.{ObjectCode};
 
 use arrayvec::ArrayVec;
 use code::Program;
+use engine::Executable;
 use settings::FILES_MAX;
 use std::marker::Model;
 
 /// The programs of a series, one to four of one profile, in the order of their files.
 #[derive(Drop)]
 pub struct Programs {
-    programs: ArrayVec<Option<Program>, FILES_MAX>,
+    exes: ArrayVec<Option<Executable>, FILES_MAX>,
 }
 
 impl Model for Programs {
     ghost Value = { List ObjectCode };
 
-    ghost view = { λ p. flat_map option_to_list p.programs.items };
+    ghost view = { λ p. map (λ e. e.program) (flat_map option_to_list p.exes.items) };
 
-    ghost invariant = { λ p. AllSome p.programs.items };
+    ghost invariant = { λ p. AllSome p.exes.items };
 }
 
 impl Programs {
@@ -31,7 +32,7 @@ impl Programs {
         ensures { result ≡ [] }
     {
         Programs {
-            programs: ArrayVec::new(),
+            exes: ArrayVec::new(),
         }
     }
 
@@ -40,16 +41,16 @@ impl Programs {
         ensures programs { result ≡ length self.now }
         ensures most { result ≤ FILES_MAX }
     {
-        self.programs.len()
+        self.exes.len()
     }
 
-    /// Adds a program, of the profile of those that are there.
+    /// Adds a program, of the profile of those that are there, and translates it for the battles.
     pub fn push(&mut self, program: Program)
         requires room { length self.old < FILES_MAX }
         requires alike { AreOfProfile program.profile self.old }
         ensures { self.new ≡ self.old ++ program ∷ [] }
     {
-        self.programs.push(Some(program));
+        self.exes.push(Some(Executable::new(program)));
     }
 
     /// Returns the program of the file with this index.
@@ -58,8 +59,17 @@ impl Programs {
         requires { file < length self.now }
         ensures { slice_get self.now file ≡ Some result.now }
     {
-        match &self.programs.as_slice()[file] {
-            Some(program) => program,
+        self.exe(file).program()
+    }
+
+    /// Returns the executable of the file with this index.
+    #[inline(always)]
+    fn exe(&self, file: usize) -> &Executable
+        requires { file < length self.now }
+        ensures { slice_get self.now file ≡ Some result.now.program }
+    {
+        match &self.exes.as_slice()[file] {
+            Some(exe) => exe,
             None => unreachable!(),
         }
     }
@@ -72,12 +82,12 @@ impl Programs {
         if self.len() == 1 { 2 } else { self.len() }
     }
 
-    /// Returns the program of the robot with this index.
+    /// Returns the executable of the robot with this index.
     #[inline(always)]
-    pub fn pilot(&self, robot: usize) -> &Program
+    pub(crate) fn pilot(&self, robot: usize) -> &Executable
         requires { robot < length (paired self.now) }
-        ensures { slice_get (paired self.now) robot ≡ Some result.now }
+        ensures { slice_get (paired self.now) robot ≡ Some result.now.program }
     {
-        self.program(if self.len() == 1 { 0 } else { robot })
+        self.exe(if self.len() == 1 { 0 } else { robot })
     }
 }

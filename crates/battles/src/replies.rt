@@ -1,64 +1,70 @@
 //! Replies: what the field answers to a live robot, and the turn that its machine takes with that.
 
-ghost use Rattle.std.specs.Prelude.{◌≡◌, ◌≢◌, true, ℤ, List};
+ghost use Rattle.std.specs.Prelude.{◌≡◌, true, ℤ, List, [], ◌∷◌, ◌++◌};
+ghost use Rattle.arena.specs.Answer.{answer};
 ghost use Rattle.arena.specs.Field.{Field, is_live};
 ghost use Rattle.arena.specs.Ground.{lives};
 ghost use Rattle.arena.specs.Standing.{StandsFor as IsGroundOf};
-ghost use Rattle.code.specs.declared.want.Want.TheVariants.{Quiet};
-ghost use Rattle.code.specs.Machine.{want_next};
-ghost use Rattle.code.specs.Questions.{intrinsic_of};
-ghost use Rattle.code.specs.Standing.{IsReached};
+ghost use Rattle.engine.specs.Engines.{IsReached};
 ghost use Rattle.battles.specs.Battle.{Behaviour, step};
-ghost use Rattle.battles.specs.Keeping.{CanRun, Keeps};
+ghost use Rattle.battles.specs.Keeping.{CanRun, HasStopped, Keeps};
 
 use arena::Arena;
-use code::{Machine, Program};
+use code::Want;
+use engine::{Engine, Executable};
 use grammar::Intrinsic;
 
-/// Takes the next turn of a live robot: its machine asks this intrinsic function, or wants a restart if it asks none.
-/// No turn hurts a robot. A function that moves, shoots, looks or draws is called by its name, with the arguments that it
-/// takes. Each call has a reply of its own: one reply after all of them takes longer.
+/// Takes the next turn of a live robot, whose machine stopped and wants this. No turn hurts a robot.
 #[inline(always)]
 pub(crate) fn turn(
-    machine: &mut Machine,
-    program: &Program,
+    machine: &mut Engine,
+    exe: &Executable,
     arena: &mut Arena,
     robot: usize,
-    asked: Option<Intrinsic>,
+    want: Want,
 )
-    requires runs { CanRun robot program.now machine.old arena.old }
-    requires asks { asked ≡ intrinsic_of (want_next program.now machine.old) }
-    requires stopped { want_next program.now machine.old ≢ Quiet }
+    requires runs { CanRun robot exe.now machine.old arena.old }
+    requires stopped { HasStopped machine.old exe.now want }
     requires lives { lives arena.old robot ≡ true }
-    ensures field { (r : Behaviour) (f : Field) (trace : List ℤ) → r trace ≡ want_next program.now machine.old
+    ensures field { (r : Behaviour) (f : Field) (trace : List ℤ) → r trace ≡ want
         → is_live f robot ≡ true → IsGroundOf arena.old f → IsGroundOf arena.new (step r robot f trace).0 }
-    ensures trace { (r : Behaviour) (f : Field) (trace : List ℤ) → r trace ≡ want_next program.now machine.old
-        → is_live f robot ≡ true → IsGroundOf arena.old f → IsReached machine.old program.now trace
-        → IsReached machine.new program.now (step r robot f trace).1 }
-    ensures keeps { Keeps program.now machine.new arena.old arena.new }
+    ensures trace { (r : Behaviour) (f : Field) (trace : List ℤ) → r trace ≡ want
+        → is_live f robot ≡ true → IsGroundOf arena.old f → IsReached machine.old exe.now trace
+        → IsReached machine.new exe.now (step r robot f trace).1 }
+    ensures keeps { Keeps exe.now machine.new arena.old arena.new }
     ensures alive { lives arena.new robot ≡ true }
 {
-    match asked {
-        Some(Intrinsic::Rand) => {
-            let [limit, _] = machine.arguments(program, Intrinsic::Rand);
-            machine.reply(program, arena.draw(limit));
-        }
-        Some(Intrinsic::Scan) => {
-            let [degree, resolution] = machine.arguments(program, Intrinsic::Scan);
-            machine.reply(program, arena.scan(robot, degree, resolution));
-        }
-        Some(Intrinsic::Cannon) => {
-            let [degree, range] = machine.arguments(program, Intrinsic::Cannon);
-            machine.reply(program, arena.cannon(robot, degree, range));
-        }
-        Some(Intrinsic::Drive) => {
-            let [degree, speed] = machine.arguments(program, Intrinsic::Drive);
-            machine.reply(program, arena.drive(robot, degree, speed));
-        }
-        Some(intrinsic) => {
-            let arguments = machine.arguments(program, intrinsic);
-            machine.reply(program, arena.ask(robot, intrinsic, arguments));
-        }
-        None => machine.restart(program),
+    match want {
+        Want::Ask(intrinsic, words) => ask(machine, exe, arena, robot, intrinsic, words),
+        _ => machine.restart(exe),
+    }
+}
+
+/// Answers what a live robot asks. A function that moves, shoots, looks or draws is called by its name, with the arguments
+/// that it takes. Each call has a reply of its own: one reply after all of them takes longer.
+#[inline(always)]
+fn ask(
+    machine: &mut Engine,
+    exe: &Executable,
+    arena: &mut Arena,
+    robot: usize,
+    intrinsic: Intrinsic,
+    words: [i32; 2],
+)
+    requires runs { CanRun robot exe.now machine.old arena.old }
+    requires stopped { HasStopped machine.old exe.now (Want.Ask intrinsic words) }
+    requires lives { lives arena.old robot ≡ true }
+    ensures field { (f : Field) → IsGroundOf arena.old f → IsGroundOf arena.new (answer f robot intrinsic words).1 }
+    ensures trace { (f : Field) (trace : List ℤ) → IsGroundOf arena.old f → IsReached machine.old exe.now trace
+        → IsReached machine.new exe.now (trace ++ (answer f robot intrinsic words).0 ∷ []) }
+    ensures keeps { Keeps exe.now machine.new arena.old arena.new }
+    ensures alive { lives arena.new robot ≡ true }
+{
+    match intrinsic {
+        Intrinsic::Rand => machine.reply(exe, arena.draw(words[0])),
+        Intrinsic::Scan => machine.reply(exe, arena.scan(robot, words[0], words[1])),
+        Intrinsic::Cannon => machine.reply(exe, arena.cannon(robot, words[0], words[1])),
+        Intrinsic::Drive => machine.reply(exe, arena.drive(robot, words[0], words[1])),
+        _ => machine.reply(exe, arena.ask(robot, intrinsic, words)),
     }
 }

@@ -1,10 +1,10 @@
 //! The robots' machines, each of which may be some cycles ahead of its robot.
 
 ghost use Rattle.std.specs.Prelude.{[]};
-ghost use Rattle.code.specs.Standing.{FitsProgram};
+ghost use Rattle.engine.specs.Engines.{FitsProgram};
 ghost use Rattle.battles.specs.Carrying.{IsAt};
 
-use code::{Machine, Program};
+use engine::{Engine, Executable};
 use settings::FILES_MAX;
 use std::marker::Model;
 
@@ -32,7 +32,7 @@ impl Default for Machines {
 /// they were run before.
 #[derive(Drop)]
 pub(crate) struct Runner {
-    pub(crate) machine: Machine,
+    pub(crate) machine: Engine,
     pub(crate) ahead: u32,
 }
 
@@ -47,7 +47,7 @@ impl Model for Runner {
 impl Default for Runner {
     fn default() -> Runner {
         Runner {
-            machine: Machine::default(),
+            machine: Engine::default(),
             ahead: 0,
         }
     }
@@ -55,11 +55,11 @@ impl Default for Runner {
 
 impl Runner {
     /// Begins at the start of a program, whatever it did before.
-    pub(crate) fn begin(&mut self, program: &Program)
-        ensures fits { FitsProgram self.new.machine program.now }
-        ensures begins { IsAt self.new program.now [] }
+    pub(crate) fn begin(&mut self, exe: &Executable)
+        ensures fits { FitsProgram self.new.machine exe.now }
+        ensures begins { IsAt self.new exe.now [] }
     {
-        self.machine.restart(program);
+        self.machine.restart(exe);
         self.ahead = 0;
     }
 }

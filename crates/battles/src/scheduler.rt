@@ -10,18 +10,16 @@ ghost use Rattle.battles.specs.Windows.{segment};
 use crate::passing::{pass, skip};
 use crate::pilots::Pilots;
 use crate::runners::Runner;
-use crate::windows::{UPDATE_CYCLES, window};
+use crate::windows::{MOST_AHEAD, UPDATE_CYCLES, window};
 use arena::Arena;
 use settings::CYCLES_MAX;
-
-/// How far a machine runs that asks nothing: a robot that dies doesn't use the cycles that its machine is ahead.
-const MOST_AHEAD: u32 = 960;
 
 /// Runs the cycles up to the next update, and the update. Reports whether that decided the battle.
 fn segment(runners: &mut [Runner], pilots: &Pilots, arena: &mut Arena, farthest: u32) -> bool
     requires manned { AreManned pilots.now runners.old arena.old }
     requires updates { arena.old.updates < most_updates }
     requires far { UPDATE_CYCLES ≤ farthest }
+    requires near { farthest ≤ MOST_AHEAD }
     ensures stage { (robots : List Behaviour) (s : Stage) → AreRobotsOf pilots.now robots
         → HasReached runners.old pilots.now arena.old s
         → HasUpdated pilots.now runners.new arena.new (segment robots s) result }

@@ -1,5 +1,4 @@
-use Rattle.std.proofs.Common.{◌≡◌, List, length, sym, subst, ◌∙◌}
-use Rattle.code.specs.Generation.{ObjectCode}
+use Rattle.std.proofs.Common.{◌≡◌, length, sym, ◌∙◌}
 use Rattle.battles.specs.Battle.{opening}
 use Rattle.battles.specs.Carrying.{AreRobotsOf, HasReached}
 use Rattle.battles.specs.Pairing.{robots_of}
@@ -10,17 +9,16 @@ use Rattle.battles.proofs.battles.battle.Goals as goal
 pub returns-clause-battle : goal.returns-clause-battle
 returns-clause-battle c = λ p files are.
     let robots = robots_of p files in
-    let codes = c.new-pilots.result in
-    let each : AreRobotsOf codes robots =
-    subst (λ (codes : List ObjectCode). AreRobotsOf codes robots) (sym c.new-pilots.ensures)
-    (robots_are c.args.programs.now p files are) in
-    let reached : HasReached c.begin.new.runners codes c.new-arena.result
+    let exes = c.new-pilots.result in
+    let each : AreRobotsOf exes robots =
+    robots_are exes c.args.programs.now p files c.new-pilots.ensures are in
+    let reached : HasReached c.begin.new.runners exes c.new-arena.result
     (opening (length robots) c.args.seed c.args.number) =
-    opening_reached c.begin.new.runners codes c.new-arena.result robots _ c.args.seed c.args.number each
+    opening_reached c.begin.new.runners exes c.new-arena.result robots _ c.args.seed c.args.number each
     c.len-robots.ensures.robots (rw c.from.ensures at c.new-arena.ensures.stands) c.begin.ensures.begins in
     let ended = c.play-cycles.ensures.stage robots _ each reached in
     let all : c.len-robots.result ≡ length robots =
-    c.len-robots.ensures.robots ∙ sym (robots_length codes robots each) in
+    c.len-robots.ensures.robots ∙ sym (robots_length exes robots each) in
     c.new.ensures
     ∙ battle_is robots c.args.seed c.args.number c.args.limit _ _ (c.play-cycles.ensures.cycles robots _ each reached)
     (rw all at (c.damages.ensures.damages _ ended.field))

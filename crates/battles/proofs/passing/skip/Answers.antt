@@ -6,7 +6,7 @@ use Rattle.battles.proofs.Skipping.{skips, skips_alive, skips_none}
 use Rattle.battles.proofs.passing.skip.Goals as goal
 
 pub returns-then-not-is_still-clause-stage : goal.returns-then-not-is_still-clause-stage
-returns-then-not-is_still-clause-stage c = λ codes robots s are reached. record {
+returns-then-not-is_still-clause-stage c = λ exes robots s are reached. record {
   reached = rw (skips_none robots s) reached;
   alive = λ n within.
       let none : n ≡ 0 = omega arith in
@@ -14,20 +14,20 @@ returns-then-not-is_still-clause-stage c = λ codes robots s are reached. record
 }
 
 pub returns-clause-stage : goal.returns-clause-stage
-returns-clause-stage c = λ codes robots s are reached. record {
+returns-clause-stage c = λ exes robots s are reached. record {
   reached = rw c.update_times.ensures.value
-      (skips codes robots c.args.runners.now c.go_on.new.runners c.args.arena.now s c.windows_ahead-windows.result are
+      (skips exes robots c.args.runners.now c.go_on.new.runners c.args.arena.now s c.windows_ahead-windows.result are
       reached
       (c.is_still.ensures c.if-not-is_still.false) c.windows_ahead-windows.ensures.ahead
-      (c.go_on.ensures.stage codes robots s are reached));
+      (c.go_on.ensures.stage exes robots s are reached));
   alive = λ n within.
-      skips_alive codes robots c.args.runners.now c.args.arena.now s c.windows_ahead-windows.result n are reached
+      skips_alive exes robots c.args.runners.now c.args.arena.now s c.windows_ahead-windows.result n are reached
       (c.is_still.ensures c.if-not-is_still.false) c.windows_ahead-windows.ensures.ahead within;
 }
 
 pub returns-clause-manned : goal.returns-clause-manned
-returns-clause-manned c = λ codes manned. record {
+returns-clause-manned c = λ exes manned. record {
   few = manned.few;
-  fits = c.go_on.ensures.fits codes manned.fits;
+  fits = c.go_on.ensures.fits exes manned.fits;
   robots = ap (λ (g : Ground). length g.robots) c.update_times.ensures.value ∙ manned.robots;
 }

@@ -36,24 +36,24 @@ skip-number-requires-clause-places c =
 pub loop-number-preserved : goal.loop-number-preserved
 loop-number-preserved c =
     let within : c.loop-number.number < c.args.limit / 15 = c.loop-number-test.true in
-    let codes = c.args.pilots.now in
+    let exes = c.args.pilots.now in
     let n = c.loop-number.number in
     let k = c.skip-number.result in
     let most : n + 1 + k ≤ c.args.limit / 15 = omega (arith, c.skip-number.ensures.most) in
-    let segmented : (robots : List Behaviour) (s : Stage) → AreRobotsOf codes robots →
-    HasReached c.args.runners.now codes c.args.arena.now s
-    → HasReached c.segment.new.runners codes c.segment.new.arena (stage_after robots s (15 * (n + 1))) =
+    let segmented : (robots : List Behaviour) (s : Stage) → AreRobotsOf exes robots →
+    HasReached c.args.runners.now exes c.args.arena.now s
+    → HasReached c.segment.new.runners exes c.segment.new.arena (stage_after robots s (15 * (n + 1))) =
     λ robots s are reached.
     rw (stage_segment robots s n)
     (c.segment.ensures.stage robots _ are (c.loop-number.invariant.stage robots s are reached)).reached in
     record {
       within = most;
-      manned = c.skip-number.ensures.manned codes c.segment.ensures.manned;
+      manned = c.skip-number.ensures.manned exes c.segment.ensures.manned;
       updates = omega
           (arith, c.skip-number.ensures.updates, c.segment.ensures.updates, c.loop-number.invariant.updates);
       stage = λ robots s are reached.
           rw (stage_segments robots s (n + 1) k)
-          (c.skip-number.ensures.stage codes robots _ are (segmented robots s are reached)).reached;
+          (c.skip-number.ensures.stage exes robots _ are (segmented robots s are reached)).reached;
       cycles = λ robots s are reached.
           let now = c.loop-number.invariant.stage robots s are reached in
           let undecided = sym (c.if-segment.ensures.stage robots _ are now).decided in
@@ -63,7 +63,7 @@ loop-number-preserved c =
           let few = λ (t : Stage). nat_le (live_count t.field) 1 in
           first_skipped robots s (n + 1) k c.args.limit _ (omega arith) next
           (λ j low. ap (λ count. nat_le count 1)
-          ((c.skip-number.ensures.stage codes robots _ are (segmented robots s are reached)).alive j low)
+          ((c.skip-number.ensures.stage exes robots _ are (segmented robots s are reached)).alive j low)
           ∙ ap few (stage_segment robots s n) ∙ undecided);
     }
 
