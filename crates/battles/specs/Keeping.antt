@@ -1,13 +1,10 @@
 -- What those who run a window need of the machines and the arena, and what they keep.
-use Rattle.std.specs.Prelude.{◌≡◌, ◌≢◌, ℕ, ℤ, ◌<◌, ◌≤◌, ◌*◌, List, Bool, length, slice_index_or, nat_le}
+use Rattle.std.specs.Prelude.{◌≡◌, ℕ, ◌<◌, ◌≤◌, ◌*◌, List, Bool, length, slice_index_or, nat_le}
 use Rattle.arena.specs.Field.{live_count}
 use Rattle.arena.specs.Ground.{Ground}
 use Rattle.engine.specs.Executables.{Executable}
 use Rattle.engine.specs.declared.engines.Engine.{Engine}
-use Rattle.engine.specs.Engines.{FitsProgram, IsReached, IsStopped}
-use Rattle.code.specs.declared.want.Want.{Want}
-use Rattle.code.specs.declared.want.Want.TheVariants.{Quiet}
-use Rattle.code.specs.Machine.{want_code}
+use Rattle.engine.specs.Engines.{FitsProgram}
 use Rattle.battles.specs.Battle.{Behaviour, Stage}
 use Rattle.battles.specs.Carrying.{Runner, EachFits, HasReached}
 use Rattle.battles.specs.Windows.{AreTurnNumbers, AreWaiting, Waits, segments}
@@ -28,12 +25,6 @@ pub record CanRun (i : ℕ) (exe : Executable) (machine : Engine) (arena : Groun
   pub turn_number : i < 4
   pub inside : i < length arena.robots
   pub fits : FitsProgram machine exe
-
--- a machine stopped, and this is what its program wants
-pub record HasStopped (machine : Engine) (exe : Executable) (want : Want) : Type 0 where
-  pub stopped : IsStopped exe machine
-  pub wants : (trace : List ℤ) → IsReached machine exe trace → want_code exe.program trace ≡ want
-  pub some : want ≢ Quiet
 
 -- a robot's turns keep that, the robots of the field, and the number of updates
 pub record Keeps (exe : Executable) (machine : Engine) (before after : Ground) : Type 0 where
