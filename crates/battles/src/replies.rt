@@ -1,7 +1,6 @@
 //! Replies: what the field answers to a live robot, and the turn that its machine takes with that.
 
-ghost use Rattle.std.specs.Prelude.{◌≡◌, ◌≢◌, true, pos, ℤ, List, [], ◌∷◌, ◌++◌};
-ghost use Rattle.arena.specs.Answer.{answer};
+ghost use Rattle.std.specs.Prelude.{◌≡◌, ◌≢◌, true, ℤ, List};
 ghost use Rattle.arena.specs.Field.{Field, is_live};
 ghost use Rattle.arena.specs.Ground.{lives};
 ghost use Rattle.arena.specs.Standing.{StandsFor as IsGroundOf};
@@ -14,11 +13,9 @@ ghost use Rattle.battles.specs.Keeping.{CanRun, Keeps};
 use arena::Arena;
 use code::Want;
 use engine::{Engine, Executable, Question};
-use grammar::Intrinsic;
 
-/// Takes the next turn of a live robot, whose machine asks this. No turn hurts a robot. A function that moves, shoots or
-/// looks is called by its name, with the arguments that it takes. Each call has a reply of its own: one reply after all
-/// of them takes longer.
+/// Takes the next turn of a live robot, whose machine asks this. No turn hurts a robot. A function that moves, shoots,
+/// looks or draws is called by its name. Each call has a reply of its own: one reply after all of them takes longer.
 #[inline(always)]
 pub(crate) fn turn(
     machine: &mut Engine,
@@ -40,8 +37,9 @@ pub(crate) fn turn(
     ensures alive { lives arena.new robot ≡ true }
 {
     match question {
+        Question::Draw(_, limit) => machine.reply(exe, question, arena.draw(limit)),
         Question::Ask(_, intrinsic, word) => {
-            ask(machine, exe, arena, robot, question, intrinsic, word);
+            machine.reply(exe, question, arena.ask(robot, intrinsic, [word, 0]));
         }
         Question::Scan(_, degree, resolution) => {
             machine.reply(exe, question, arena.scan(robot, degree, resolution));
@@ -54,34 +52,6 @@ pub(crate) fn turn(
         }
         Question::Restart => machine.restart(exe),
         Question::Plain(want) => turn_plainly(machine, exe, arena, robot, want),
-    }
-}
-
-/// Answers a question with at most one argument, which is 0 if there is none.
-#[inline(always)]
-fn ask(
-    machine: &mut Engine,
-    exe: &Executable,
-    arena: &mut Arena,
-    robot: usize,
-    question: Question,
-    intrinsic: Intrinsic,
-    word: i32,
-)
-    requires runs { CanRun robot exe.now machine.old arena.old }
-    requires asked { IsAsked exe.now machine.old question }
-    requires asks { want_of question ≡ Want.Ask intrinsic (word ∷ pos 0 ∷ []) }
-    requires lives { lives arena.old robot ≡ true }
-    ensures field { (f : Field) → IsGroundOf arena.old f
-        → IsGroundOf arena.new (answer f robot intrinsic (word ∷ pos 0 ∷ [])).1 }
-    ensures trace { (f : Field) (trace : List ℤ) → IsGroundOf arena.old f → IsReached machine.old exe.now trace
-        → IsReached machine.new exe.now (trace ++ (answer f robot intrinsic (word ∷ pos 0 ∷ [])).0 ∷ []) }
-    ensures keeps { Keeps exe.now machine.new arena.old arena.new }
-    ensures alive { lives arena.new robot ≡ true }
-{
-    match intrinsic {
-        Intrinsic::Rand => machine.reply(exe, question, arena.draw(word)),
-        _ => machine.reply(exe, question, arena.ask(robot, intrinsic, [word, 0])),
     }
 }
 
