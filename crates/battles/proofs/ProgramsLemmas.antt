@@ -1,11 +1,15 @@
 -- How programs are kept, and looked up.
-use Rattle.std.proofs.Common.{◌≡◌, ℕ, ◌<◌, ◌+◌, zero, suc, List, [], ◌∷◌, ◌++◌, length, map, set, take, Option, Some, None, get_or, arith, refl, sym, ap, ◌∙◌}
-use Rattle.std.proofs.lemmas.List.{length-map, map-set, take_more, take_more_set}
+use Rattle.std.proofs.Common.{◌≡◌, ℕ, ◌<◌, ◌+◌, zero, suc, List, [], ◌∷◌, ◌++◌, length, map, set, take, Option, Some, None, get_or, arith, refl, sym, ap, subst, ◌≤◌, ◌-◌, ◌∙◌}
+use Rattle.std.proofs.lemmas.List.{map-append, take_more}
+use Rattle.std.proofs.lemmas.Grind.{flat_map-append}
 use Rattle.std.proofs.lemmas.Option.{get_or_from_slice_get, slice_get_within}
-use Rattle.std.specs.Prelude.{slice_get, flat_map}
+use Rattle.std.specs.Prelude.{slice_get, flat_map, min}
 use Rattle.std.specs.Option.{option_to_list}
 use Rattle.battles.specs.Pairing.{paired}
-use Rattle.battles.specs.Programs.{AllSome}
+use Rattle.code.specs.Generation.{ObjectCode}
+use Rattle.operations.specs.declared.labels.Operations.{Operations}
+use Rattle.engine.specs.Executables.{Executable, IsTranslated, made_of}
+use Rattle.battles.specs.Programs.{AllSome, AreTranslated}
 
 -- what is kept at a place is the program of that place
 pub kept_here : {A : Type 0} (items : List A) (place : ℕ) (d : Option A) → place < length items
@@ -29,20 +33,55 @@ kept_at {A} kept shelf items place found all are same within here =
     let each : shelf ≡ map (λ (x : A). Some x) items = same ∙ all ∙ ap (λ l. map (λ (x : A). Some x) l) are in
     sym (kept_here items place found within) ∙ ap (λ l. get_or l place found) (sym each) ∙ sym here
 
--- One more is looked up: what f shows of the first ones is what is listed.
-pub looked_up : {A : Type 0} {B : Type 0} (f : A → B) (found : List A) (items : List B) (n : ℕ) (x : A)
-    → n < length found → take n (map f found) ≡ take n items → slice_get items n ≡ Some (f x)
-    → take (n + 1) (map f (set found n x)) ≡ take (n + 1) items
-looked_up f found items n x within same here =
-    ap (λ l. take (n + 1) l) (map-set f found n x)
-    ∙ take_more_set (map f found) n (f x) (omega (arith, length-map found f))
-    ∙ ap (λ front. front ++ f x ∷ []) same
-    ∙ sym (
-    take_more items n (f x) (slice_get_within items n (f x) here)
-    ∙ ap (λ y. take n items ++ y ∷ []) (get_or_from_slice_get items n (f x) (f x) here))
+-- one more is kept
+pub list_more : {A : Type 0} (kept : List (Option A)) (x : A) →
+    flat_map option_to_list (kept ++ Some x ∷ []) ≡ flat_map option_to_list kept ++ x ∷ []
+list_more kept x = flat_map-append option_to_list kept (Some x ∷ [])
 
--- there is a robot if there is a program
-pub some_robot : {A : Type 0} (items : List A) → 0 < length items → 0 < length (paired items)
-some_robot [] none = none
-some_robot (x ∷ []) some = omega arith
-some_robot (x ∷ y ∷ items) some = some
+pub kept_more : {A : Type 0} (kept : List (Option A)) (x : A) → AllSome kept → AllSome (kept ++ Some x ∷ [])
+kept_more {A} kept x all =
+    ap (λ l. l ++ Some x ∷ []) all
+    ∙ sym (map-append (λ (x : A). Some x) (flat_map option_to_list kept) (x ∷ []))
+    ∙ ap (λ l. map (λ (x : A). Some x) l) (sym (list_more kept x))
+
+-- one more program, with its operations
+pub translated_more : (codes : List ObjectCode) (operations : List (Option Operations)) (code : ObjectCode)
+    (o : Option Operations) → AreTranslated codes operations → IsTranslated (made_of code o) →
+    AreTranslated (codes ++ code ∷ []) (operations ++ o ∷ [])
+translated_more [] [] code o are one = (one, tt)
+translated_more [] (p ∷ others) code o are one = absurd are
+translated_more (c ∷ codes) [] code o are one = absurd are
+translated_more (c ∷ codes) (p ∷ others) code o are one = (are.0, translated_more codes others code o are.1 one)
+
+pub translated_length : (codes : List ObjectCode) (operations : List (Option Operations)) →
+    AreTranslated codes operations → length operations ≡ length codes
+translated_length [] [] are = refl
+translated_length [] (p ∷ others) are = absurd are
+translated_length (c ∷ codes) [] are = absurd are
+translated_length (c ∷ codes) (p ∷ others) are = ap suc (translated_length codes others are.1)
+
+-- those of one program
+pub translated_at : (codes : List ObjectCode) (operations : List (Option Operations)) (place : ℕ) (code : ObjectCode)
+    (o : Option Operations) → AreTranslated codes operations → slice_get codes place ≡ Some code →
+    place < length operations → o ≡ get_or operations place o → IsTranslated (made_of code o)
+translated_at [] [] place code o are here low there = absurd (cc)
+translated_at [] (p ∷ others) place code o are here low there = absurd are
+translated_at (c ∷ codes) [] place code o are here low there = absurd are
+translated_at (c ∷ codes) (p ∷ others) zero code o are here low there =
+    let same : c ≡ code = cc in
+    subst (λ (o : Option Operations). IsTranslated (made_of code o)) (sym there)
+    (subst (λ (c : ObjectCode). IsTranslated (made_of c p)) same are.0)
+translated_at (c ∷ codes) (p ∷ others) (suc place) code o are here low there =
+    translated_at codes others place code o are.1 here (omega arith) there
+
+-- one more is looked up
+pub looked_up : (exes : List Executable) (codes : List ObjectCode) (n : ℕ) (exe : Executable)
+    → map (λ (e : Executable). e.program) exes ≡ take n codes → slice_get codes n ≡ Some exe.program
+    → map (λ (e : Executable). e.program) (exes ++ exe ∷ []) ≡ take (n + 1) codes
+looked_up exes codes n exe same here =
+    map-append (λ (e : Executable). e.program) exes (exe ∷ [])
+    ∙ ap (λ front. front ++ exe.program ∷ []) same
+    ∙ sym (
+    take_more codes n exe.program (slice_get_within codes n exe.program here)
+    ∙ ap (λ y. take n codes ++ y ∷ [])
+    (get_or_from_slice_get codes n exe.program exe.program here))

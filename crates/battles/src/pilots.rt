@@ -5,6 +5,7 @@ ghost use Rattle.battles.specs.Pairing.{paired};
 ghost use Rattle.engine.specs.Executables.{Executable};
 
 use crate::programs::Programs;
+use arrayvec::ArrayVec;
 use engine::Executable;
 use settings::FILES_MAX;
 use std::marker::Model;
@@ -12,37 +13,32 @@ use std::marker::Model;
 /// The executables of the robots in a battle, by the robots' numbers.
 #[derive(Drop)]
 pub(crate) struct Pilots<'a> {
-    exes: [&'a Executable; FILES_MAX],
-    // how many robots there are: past these the first executable stands once more
-    robots: usize,
+    exes: ArrayVec<Option<Executable<'a>>, FILES_MAX>,
 }
 
 impl<'a> Model for Pilots<'a> {
-    ghost use Rattle.std.specs.Prelude.{◌≤◌, List, map, take};
+    ghost use Rattle.std.specs.Prelude.{List, flat_map};
+    ghost use Rattle.std.specs.Option.{option_to_list};
     ghost use Rattle.engine.specs.Executables.{Executable};
+    ghost use Rattle.battles.specs.Programs.{AllSome};
 
     ghost Value = { List Executable };
 
-    ghost view = { λ p. take p.robots (map (λ q. q.now) p.exes) };
+    ghost view = { λ p. flat_map option_to_list p.exes.items };
 
-    ghost invariant = { λ p. p.robots ≤ 4 };
+    ghost invariant = { λ p. AllSome p.exes.items };
 }
 
 impl<'a> Pilots<'a> {
     /// Looks up the executable of each robot: one of each file, and two of a single one.
     pub(crate) fn new(programs: &'a Programs) -> Pilots<'a>
-        requires { 0 < length programs.now }
         ensures { map (λ e. e.program) result ≡ paired programs.now }
     {
-        let robots = programs.robots();
-        let mut pilots = [programs.pilot(0); FILES_MAX];
-        for robot in 1..robots {
-            pilots[robot] = programs.pilot(robot);
+        let mut exes = ArrayVec::new();
+        for robot in 0..programs.robots() {
+            exes.push(Some(programs.pilot(robot)));
         }
-        Pilots {
-            exes: pilots,
-            robots,
-        }
+        Pilots { exes }
     }
 
     /// Returns how many robots there are.
@@ -50,16 +46,18 @@ impl<'a> Pilots<'a> {
         ensures robots { result ≡ length self.now }
         ensures most { result ≤ FILES_MAX }
     {
-        self.robots
+        self.exes.len()
     }
 
     /// Returns the executable of the robot with this number.
     #[inline(always)]
-    pub(crate) fn pilot(&self, robot: usize) -> &'a Executable
+    pub(crate) fn pilot(&self, robot: usize) -> &Executable<'a>
         requires { robot < length self.now }
         ensures { slice_get self.now robot ≡ Some result.now }
     {
-        let exes = &self.exes[..];
-        exes[robot]
+        match &self.exes.as_slice()[robot] {
+            Some(exe) => exe,
+            None => unreachable!(),
+        }
     }
 }

@@ -1,29 +1,33 @@
 //! The programs of a series.
 
-ghost use Rattle.std.specs.Prelude.{◌≡◌, ◌<◌, ◌≤◌, [], ◌∷◌, ◌++◌, List, length, map, flat_map, slice_get, Some};
+ghost use Rattle.std.specs.Prelude.{◌≡◌, ◌<◌, ◌≤◌, [], ◌∷◌, ◌++◌, List, length, flat_map, slice_get, Some, option_map};
 ghost use Rattle.std.specs.Option.{option_to_list};
 ghost use Rattle.battles.specs.Pairing.{paired};
-ghost use Rattle.battles.specs.Programs.{AllSome, AreOfProfile};
+ghost use Rattle.battles.specs.Programs.{AllSome, AreOfProfile, AreTranslated};
 ghost use Rattle.code.specs.Generation.{ObjectCode};
+ghost use Rattle.engine.specs.Executables.{IsTranslated, made_of};
 
 use arrayvec::ArrayVec;
 use code::Program;
 use engine::Executable;
+use operations::{Operations, translate};
 use settings::FILES_MAX;
 use std::marker::Model;
 
 /// The programs of a series, one to four of one profile, in the order of their files.
 #[derive(Drop)]
 pub struct Programs {
-    exes: ArrayVec<Option<Executable>, FILES_MAX>,
+    programs: ArrayVec<Option<Program>, FILES_MAX>,
+    // those of each program: none if it couldn't be translated
+    operations: ArrayVec<Option<Operations>, FILES_MAX>,
 }
 
 impl Model for Programs {
     ghost Value = { List ObjectCode };
 
-    ghost view = { λ p. map (λ e. e.program) (flat_map option_to_list p.exes.items) };
+    ghost view = { λ p. flat_map option_to_list p.programs.items };
 
-    ghost invariant = { λ p. AllSome p.exes.items };
+    ghost invariant = { λ p. AllSome p.programs.items × AreTranslated (view p) p.operations.items };
 }
 
 impl Programs {
@@ -32,7 +36,8 @@ impl Programs {
         ensures { result ≡ [] }
     {
         Programs {
-            exes: ArrayVec::new(),
+            programs: ArrayVec::new(),
+            operations: ArrayVec::new(),
         }
     }
 
@@ -41,7 +46,7 @@ impl Programs {
         ensures programs { result ≡ length self.now }
         ensures most { result ≤ FILES_MAX }
     {
-        self.exes.len()
+        self.programs.len()
     }
 
     /// Adds a program, of the profile of those that are there, and translates it for the battles.
@@ -50,7 +55,8 @@ impl Programs {
         requires alike { AreOfProfile program.profile self.old }
         ensures { self.new ≡ self.old ++ program ∷ [] }
     {
-        self.exes.push(Some(Executable::new(program)));
+        self.operations.push(translate(&program));
+        self.programs.push(Some(program));
     }
 
     /// Returns the program of the file with this index.
@@ -59,18 +65,21 @@ impl Programs {
         requires { file < length self.now }
         ensures { slice_get self.now file ≡ Some result.now }
     {
-        self.exe(file).program()
+        match &self.programs.as_slice()[file] {
+            Some(program) => program,
+            None => unreachable!(),
+        }
     }
 
-    /// Returns the executable of the file with this index.
-    #[inline(always)]
-    fn exe(&self, file: usize) -> &Executable
+    /// Returns the operations of the file with this index, if there are any.
+    fn translation(&self, file: usize) -> Option<&Operations>
         requires { file < length self.now }
-        ensures { slice_get self.now file ≡ Some result.now.program }
+        ensures { (code : ObjectCode) → slice_get self.now file ≡ Some code
+            → IsTranslated (made_of code (option_map (λ o. o.now) result)) }
     {
-        match &self.exes.as_slice()[file] {
-            Some(exe) => exe,
-            None => unreachable!(),
+        match &self.operations.as_slice()[file] {
+            Some(operations) => Some(operations),
+            None => None,
         }
     }
 
@@ -82,12 +91,12 @@ impl Programs {
         if self.len() == 1 { 2 } else { self.len() }
     }
 
-    /// Returns the executable of the robot with this index.
-    #[inline(always)]
-    pub(crate) fn pilot(&self, robot: usize) -> &Executable
+    /// Returns what the robot with this index runs.
+    pub(crate) fn pilot(&self, robot: usize) -> Executable<'_>
         requires { robot < length (paired self.now) }
-        ensures { slice_get (paired self.now) robot ≡ Some result.now.program }
+        ensures { slice_get (paired self.now) robot ≡ Some result.program }
     {
-        self.exe(if self.len() == 1 { 0 } else { robot })
+        let file = if self.len() == 1 { 0 } else { robot };
+        Executable::new(self.program(file), self.translation(file))
     }
 }

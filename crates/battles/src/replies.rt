@@ -19,7 +19,7 @@ use engine::{Engine, Executable, Question};
 #[inline(always)]
 pub(crate) fn turn(
     machine: &mut Engine,
-    exe: &Executable,
+    exe: &Executable<'_>,
     arena: &mut Arena,
     robot: usize,
     question: Question,
@@ -60,7 +60,7 @@ pub(crate) fn turn(
 #[inline(never)]
 fn turn_plainly(
     machine: &mut Engine,
-    exe: &Executable,
+    exe: &Executable<'_>,
     arena: &mut Arena,
     robot: usize,
     want: Want,

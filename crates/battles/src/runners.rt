@@ -55,7 +55,7 @@ impl Default for Runner {
 
 impl Runner {
     /// Begins at the start of a program, whatever it did before.
-    pub(crate) fn begin(&mut self, exe: &Executable)
+    pub(crate) fn begin(&mut self, exe: &Executable<'_>)
         ensures fits { FitsProgram self.new.machine exe.now }
         ensures begins { IsAt self.new exe.now [] }
     {
