@@ -5,40 +5,37 @@ ghost use Rattle.grammar.specs.Profile.{first_profile, second_profile, IsProfile
 
 use std::marker::Model;
 
-/// A language profile: what `&&` and `||` evaluate, and how much a program may use. There are two.
+/// How much a program may use, and what `&&` and `||` evaluate.
 #[derive(Clone, Copy, Debug, PartialEq, Eq)]
-pub struct Profile {
+struct Limits {
+    // the most instructions of a file's code, with the last NOP
     instructions: u16,
+    // the words of a robot's stack
     words: u16,
+    // the most frames that are open at once
     frames: u16,
+    // whether `&&` and `||` leave out their right side, as in C
     short_circuit: bool,
 }
 
+/// A language profile: what `&&` and `||` evaluate, and how much a program may use. There are two.
+#[derive(Clone, Copy, Debug, PartialEq, Eq)]
+pub struct Profile {
+    limits: Limits,
+}
+
 impl Model for Profile {
-    ghost use Rattle.grammar.specs.Profile.{Profile, IsProfile};
+    ghost use Rattle.grammar.specs.declared.profiles.Limits.{Limits};
 
-    ghost Value = { Profile };
+    ghost Value = { Limits };
 
-    ghost view = { λ p. record {
-      instructions = p.instructions;
-      words = p.words;
-      frames = p.frames;
-      short_circuit = p.short_circuit;
-    } };
+    ghost use Rattle.grammar.specs.Profile.{IsProfile};
 
-    ghost invariant = { λ p. IsProfile (record {
-      instructions = p.instructions;
-      words = p.words;
-      frames = p.frames;
-      short_circuit = p.short_circuit;
-    }) };
+    ghost view = { λ p. p.limits };
 
-    ghost inverse = { λ p. record {
-      instructions = p.instructions;
-      words = p.words;
-      frames = p.frames;
-      short_circuit = p.short_circuit;
-    } };
+    ghost invariant = { λ p. IsProfile p.limits };
+
+    ghost inverse = { λ limits. record { limits = limits } };
 }
 
 impl Profile {
@@ -49,10 +46,12 @@ impl Profile {
         ensures { result ≡ first_profile }
     {
         Profile {
-            instructions: 2000,
-            words: 500,
-            frames: 64,
-            short_circuit: false,
+            limits: Limits {
+                instructions: 2000,
+                words: 500,
+                frames: 64,
+                short_circuit: false,
+            },
         }
     }
 
@@ -63,10 +62,12 @@ impl Profile {
         ensures { result ≡ second_profile }
     {
         Profile {
-            instructions: 4000,
-            words: 1000,
-            frames: 128,
-            short_circuit: true,
+            limits: Limits {
+                instructions: 4000,
+                words: 1000,
+                frames: 128,
+                short_circuit: true,
+            },
         }
     }
 
@@ -75,7 +76,7 @@ impl Profile {
         ensures value { result ≡ self.instructions }
         ensures known { IsProfile self }
     {
-        self.instructions
+        self.limits.instructions
     }
 
     /// Returns the words of a robot's stack.
@@ -83,7 +84,7 @@ impl Profile {
         ensures value { result ≡ self.words }
         ensures known { IsProfile self }
     {
-        self.words
+        self.limits.words
     }
 
     /// Returns the most frames that are open at once.
@@ -91,7 +92,7 @@ impl Profile {
         ensures value { result ≡ self.frames }
         ensures known { IsProfile self }
     {
-        self.frames
+        self.limits.frames
     }
 
     /// Reports whether `&&` and `||` leave out their right side.
@@ -99,6 +100,6 @@ impl Profile {
         ensures value { result ≡ self.short_circuit }
         ensures known { IsProfile self }
     {
-        self.short_circuit
+        self.limits.short_circuit
     }
 }
