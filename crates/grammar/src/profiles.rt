@@ -5,37 +5,30 @@ ghost use Rattle.grammar.specs.Profile.{first_profile, second_profile, IsProfile
 
 use std::marker::Model;
 
-/// How much a program may use, and what `&&` and `||` evaluate.
-#[derive(Clone, Copy, Debug, PartialEq, Eq)]
-struct Limits {
-    // the most instructions of a file's code, with the last NOP
-    instructions: u16,
-    // the words of a robot's stack
-    words: u16,
-    // the most frames that are open at once
-    frames: u16,
-    // whether `&&` and `||` leave out their right side, as in C
-    short_circuit: bool,
-}
-
 /// A language profile: what `&&` and `||` evaluate, and how much a program may use. There are two.
 #[derive(Clone, Copy, Debug, PartialEq, Eq)]
 pub struct Profile {
-    limits: Limits,
+    instructions: u16,
+    words: u16,
+    frames: u16,
+    short_circuit: bool,
 }
 
 impl Model for Profile {
-    ghost use Rattle.grammar.specs.declared.profiles.Limits.{Limits};
+    ghost use Rattle.grammar.specs.Profile.{Profile, IsProfile, profile_of};
 
-    ghost Value = { Limits };
+    ghost Value = { Profile };
 
-    ghost use Rattle.grammar.specs.Profile.{IsProfile};
+    ghost view = { λ p. profile_of p.instructions p.words p.frames p.short_circuit };
 
-    ghost view = { λ p. p.limits };
+    ghost invariant = { λ p. IsProfile (view p) };
 
-    ghost invariant = { λ p. IsProfile p.limits };
-
-    ghost inverse = { λ limits. record { limits = limits } };
+    ghost inverse = { λ p. record {
+      instructions = p.instructions;
+      words = p.words;
+      frames = p.frames;
+      short_circuit = p.short_circuit;
+    } };
 }
 
 impl Profile {
@@ -46,12 +39,10 @@ impl Profile {
         ensures { result ≡ first_profile }
     {
         Profile {
-            limits: Limits {
-                instructions: 2000,
-                words: 500,
-                frames: 64,
-                short_circuit: false,
-            },
+            instructions: 2000,
+            words: 500,
+            frames: 64,
+            short_circuit: false,
         }
     }
 
@@ -62,12 +53,10 @@ impl Profile {
         ensures { result ≡ second_profile }
     {
         Profile {
-            limits: Limits {
-                instructions: 4000,
-                words: 1000,
-                frames: 128,
-                short_circuit: true,
-            },
+            instructions: 4000,
+            words: 1000,
+            frames: 128,
+            short_circuit: true,
         }
     }
 
@@ -76,7 +65,7 @@ impl Profile {
         ensures value { result ≡ self.instructions }
         ensures known { IsProfile self }
     {
-        self.limits.instructions
+        self.instructions
     }
 
     /// Returns the words of a robot's stack.
@@ -84,7 +73,7 @@ impl Profile {
         ensures value { result ≡ self.words }
         ensures known { IsProfile self }
     {
-        self.limits.words
+        self.words
     }
 
     /// Returns the most frames that are open at once.
@@ -92,7 +81,7 @@ impl Profile {
         ensures value { result ≡ self.frames }
         ensures known { IsProfile self }
     {
-        self.limits.frames
+        self.frames
     }
 
     /// Reports whether `&&` and `||` leave out their right side.
@@ -100,6 +89,6 @@ impl Profile {
         ensures value { result ≡ self.short_circuit }
         ensures known { IsProfile self }
     {
-        self.limits.short_circuit
+        self.short_circuit
     }
 }
