@@ -44,7 +44,7 @@ fn declaration<F: Feed>(
     ensures stays { OnOk result (StaysAt declared (scope_of parser.old) (scope_of parser.new)) }
     ensures kept { Advances result parser.old parser.new }
 {
-    parser.expect_word(Word::Type)?;
+    parser.expect_type()?;
     type_words(parser)?;
     names(parser, declared)
 }
@@ -57,7 +57,7 @@ pub fn type_words<F: Feed>(parser: &mut Parser<'_, '_, F>) -> Result<(), ParseFa
     ensures kept { Keeps result parser.old parser.new }
 {
     while is_word(&parser.peek().token, Word::Type) {
-        parser.expect_word(Word::Type)?;
+        parser.expect_type()?;
     }
     Ok(())
 }
