@@ -221,9 +221,9 @@ impl<'s, 'a, F: Feed> Parser<'s, 'a, F> {
     pub fn define(&mut self) -> Result<u8, ParseFault>
         requires ready { IsReady self.old }
         ensures matches { Matches result (AName Defined ∷ []) (λ _. []) self.old self.new }
+        ensures kept { Advances result self.old self.new }
         ensures begun { IfOk result (λ number.
             BeginsDefinition number self.old.place.position self.new.place.position) }
-        ensures kept { Advances result self.old self.new }
     {
         let name = name(&self.cursor)?;
         let next = self.cursor.peek();
