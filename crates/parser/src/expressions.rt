@@ -12,13 +12,11 @@ ghost use Rattle.parser.specs.Expressions.{Parses, ParsesArgs, ParsesLevels, Par
 ghost use Rattle.parser.specs.Signs.{sign_punctuator};
 ghost use Rattle.parser.specs.Starts.{StartsAssignment, StartsCall, StartsNoAssignment, StartsOperand};
 
-use crate::parser::{MOST_LEVELS, Parser};
+use crate::parser::Parser;
 use crate::reader::Reader;
 use crate::signs::{Sign, sign_of, step_of};
 use crate::token_predicates::is_punctuator;
-use grammar::{
-    Binary, Build, BuildFault, Code, Op, ParseFault, StoreOp, operator_from, store_operator,
-};
+use grammar::{Binary, Build, BuildFault, Op, ParseFault, StoreOp, operator_from, store_operator};
 use tokens::{Feed, Punctuator, Token};
 
 impl<F: Feed, B: Build> Reader<'_, '_, '_, F, B> {
@@ -46,9 +44,7 @@ impl<F: Feed, B: Build> Reader<'_, '_, '_, F, B> {
         ensures parses { Parses result B.denied B.stands 1 Expression self.old self.new }
         ensures kept { Proceeds result self.old self.new }
     {
-        if self.depth >= MOST_LEVELS {
-            return Err(self.parser.refusal(Code::NestedTooDeeply));
-        }
+        self.check_level()?;
         let var = self.parser.mention()?;
         self.parser.advance()?;
         self.depth += 1;
@@ -145,9 +141,7 @@ impl<F: Feed, B: Build> Reader<'_, '_, '_, F, B> {
         ensures parses { Parses result B.denied B.stands 11 Unary self.old self.new }
         ensures kept { Proceeds result self.old self.new }
     {
-        if self.depth >= MOST_LEVELS {
-            return Err(self.parser.refusal(Code::NestedTooDeeply));
-        }
+        self.check_level()?;
         self.parser.advance()?;
         sign.begin(self.build)?;
         self.depth += 1;
@@ -187,9 +181,7 @@ impl<F: Feed, B: Build> Reader<'_, '_, '_, F, B> {
         ensures parses { Parses result B.denied B.stands 11 Primary self.old self.new }
         ensures kept { Proceeds result self.old self.new }
     {
-        if self.depth >= MOST_LEVELS {
-            return Err(self.parser.refusal(Code::NestedTooDeeply));
-        }
+        self.check_level()?;
         let callee = self.parser.callee()?;
         self.build.begin_call()?;
         self.parser.expect(Punctuator::OpenRound)?;
@@ -227,9 +219,7 @@ impl<F: Feed, B: Build> Reader<'_, '_, '_, F, B> {
         ensures parses { Parses result B.denied B.stands 11 Primary self.old self.new }
         ensures kept { Proceeds result self.old self.new }
     {
-        if self.depth >= MOST_LEVELS {
-            return Err(self.parser.refusal(Code::NestedTooDeeply));
-        }
+        self.check_level()?;
         self.parser.advance()?;
         self.depth += 1;
         self.expression()?;
