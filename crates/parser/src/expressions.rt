@@ -50,8 +50,7 @@ impl<F: Feed, B: Build> Reader<'_, '_, '_, F, B> {
         self.depth += 1;
         self.right_side()?;
         self.depth -= 1;
-        self.build.store(var, op)?;
-        Ok(())
+        Ok(self.build.store(var, op)?)
     }
 
     /// `expr`, behind the operator of an assignment: most often no further assignment, which is parsed with no further call
@@ -95,8 +94,7 @@ impl<F: Feed, B: Build> Reader<'_, '_, '_, F, B> {
         self.parser.advance()?;
         tell_middle(self.build, binary.op)?;
         self.levels(binary.level + 1)?;
-        self.build.binop(binary.op)?;
-        Ok(())
+        Ok(self.build.binop(binary.op)?)
     }
 
     /// `level11 → operator level11`, `level11 → operator name` and `level11 → primary`
@@ -147,8 +145,7 @@ impl<F: Feed, B: Build> Reader<'_, '_, '_, F, B> {
         self.depth += 1;
         self.unary()?;
         self.depth -= 1;
-        sign.end(self.build)?;
-        Ok(())
+        Ok(sign.end(self.build)?)
     }
 
     /// `primary → constant`, `name ( args )`, `name operator`, `name` and `( expr )`
@@ -160,17 +157,16 @@ impl<F: Feed, B: Build> Reader<'_, '_, '_, F, B> {
         ensures kept { Proceeds result self.old self.new }
     {
         match self.parser.peek().token {
-            Token::Constant(value) => self.constant(value)?,
+            Token::Constant(value) => self.constant(value),
             Token::Name(_) if is_punctuator(self.parser.after(), Punctuator::OpenRound) => {
-                self.call()?;
+                self.call()
             }
-            Token::Name(_) => self.variable()?,
+            Token::Name(_) => self.variable(),
             _ if is_punctuator(&self.parser.peek().token, Punctuator::OpenRound) => {
-                self.bracketed()?;
+                self.bracketed()
             }
-            _ => return Err(self.parser.misfit()),
+            _ => Err(self.parser.misfit()),
         }
-        Ok(())
     }
 
     /// `primary → name ( args )`
@@ -189,8 +185,7 @@ impl<F: Feed, B: Build> Reader<'_, '_, '_, F, B> {
         self.arguments()?;
         self.depth -= 1;
         self.parser.expect(Punctuator::CloseRound)?;
-        self.build.end_call(callee)?;
-        Ok(())
+        Ok(self.build.end_call(callee)?)
     }
 
     /// `args → expr moreargs`, and empty at the closing bracket; `moreargs → , expr moreargs`

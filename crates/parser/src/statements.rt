@@ -83,8 +83,7 @@ impl<F: Feed, B: Build> Reader<'_, '_, '_, F, B> {
         self.statement()?;
         self.else_part()?;
         self.depth -= 1;
-        self.build.end_if()?;
-        Ok(())
+        Ok(self.build.end_if()?)
     }
 
     /// `elsepart → else stmt`, and empty where no `else` is next
@@ -118,8 +117,7 @@ impl<F: Feed, B: Build> Reader<'_, '_, '_, F, B> {
         self.build.while_test()?;
         self.statement()?;
         self.depth -= 1;
-        self.build.end_while()?;
-        Ok(())
+        Ok(self.build.end_while()?)
     }
 
     /// `( expr )`, behind `if` or `while`
@@ -144,8 +142,7 @@ impl<F: Feed, B: Build> Reader<'_, '_, '_, F, B> {
         self.parser.advance()?;
         self.back()?;
         self.parser.expect(Punctuator::Semicolon)?;
-        self.build.give_back()?;
-        Ok(())
+        Ok(self.build.give_back()?)
     }
 
     /// `back → expr`, and empty at the semicolon
@@ -170,7 +167,6 @@ impl<F: Feed, B: Build> Reader<'_, '_, '_, F, B> {
     {
         self.expression()?;
         self.parser.expect(Punctuator::Semicolon)?;
-        self.build.chop()?;
-        Ok(())
+        Ok(self.build.chop()?)
     }
 }
