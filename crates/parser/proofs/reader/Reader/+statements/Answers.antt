@@ -26,7 +26,8 @@ block-returns-in_err-check_level-clause-parses g t c =
     let refused = c.in_err-check_level.ensures.refused in
     let p = err_from_is_err_and c.from_residual.result c.from_residual.ensures.1 in
     rw (p.1, p.2, refused.is) (record {
-      refused = block_too_deep _ _ c.requires.at.ready.near c.args.self.now.depth c.requires.at.ready.sound c.requires.at.is
+      refused =
+          block_too_deep _ _ c.requires.at.ready.near c.args.self.now.depth c.requires.at.ready.sound c.requires.at.is
           (omega arith);
       grown = λ device. absurd (cc);
     })
@@ -93,7 +94,8 @@ branch-returns-in_err-check_level-clause-parses g t c =
     let refused = c.in_err-check_level.ensures.refused in
     let p = err_from_is_err_and c.from_residual.result c.from_residual.ensures.1 in
     rw (p.1, p.2, refused.is) (record {
-      refused = if_too_deep _ _ c.requires.at.ready.near c.args.self.now.depth c.requires.at.ready.sound c.requires.at.is
+      refused =
+          if_too_deep _ _ c.requires.at.ready.near c.args.self.now.depth c.requires.at.ready.sound c.requires.at.is
           (omega arith);
       grown = λ device. absurd (cc);
     })
@@ -186,7 +188,8 @@ repetition-returns-in_err-check_level-clause-parses g t c =
     let refused = c.in_err-check_level.ensures.refused in
     let p = err_from_is_err_and c.from_residual.result c.from_residual.ensures.1 in
     rw (p.1, p.2, refused.is) (record {
-      refused = while_too_deep _ _ c.requires.at.ready.near c.args.self.now.depth c.requires.at.ready.sound c.requires.at.is
+      refused =
+          while_too_deep _ _ c.requires.at.ready.near c.args.self.now.depth c.requires.at.ready.sound c.requires.at.is
           (omega arith);
       grown = λ device. absurd (cc);
     })
